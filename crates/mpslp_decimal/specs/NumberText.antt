@@ -1,0 +1,20 @@
+-- The canonical text of a decimal.
+use Rattle.std.specs.Prelude.{ℕ, ◌+◌, ◌-◌, ℤ, pos, negsuc, unsigned_abs, nat_lt, nat_le, if◌then◌else◌, List, [], ◌∷◌, ◌++◌, length, take, drop, replicate, codes}
+use Rattle.std.specs.Fmt.{decimal}
+use Rattle.mpslp_decimal.specs.Decimal.{Number, is_zero, is_negative}
+
+-- digits with a point before the last `places`, and zeros in front so that a digit stands before it
+abbrev pub with_point : ℕ → List ℕ → List ℕ
+with_point places digits =
+    let padded = replicate (places + 1 - length digits) 48 ++ digits in
+    take (length padded - places) padded ++ 46 ∷ drop (length padded - places) padded
+
+-- digits times ten to the exponent
+abbrev pub scaled_text : List ℕ → ℤ → List ℕ
+scaled_text digits (pos n) = if nat_le n 5 then digits ++ replicate n 48 else digits ++ codes "e" ++ decimal n
+scaled_text digits (negsuc n) = if nat_lt n 18 then with_point (n + 1) digits else digits ++ codes "e-" ++ decimal (n + 1)
+
+abbrev pub number_text : Number → List ℕ
+number_text d =
+    if is_zero d then codes "0"
+    else (if is_negative d then codes "-" else []) ++ scaled_text (decimal (unsigned_abs d.mantissa)) d.exponent

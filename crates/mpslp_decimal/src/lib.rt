@@ -1,0 +1,11 @@
+//! Exact decimals: the numbers of model files, read and printed with no rounding.
+//!
+//! A [`Decimal`] is a whole number of at most [`MAX_DIGITS`] digits times a power of ten, in one
+//! normal form, so two decimals are equal exactly if they are the same pair.
+#![tactic(auto)]
+
+mod literal;
+mod number;
+
+pub use literal::{MAX_LITERAL_LEN, NumberFault};
+pub use number::{Decimal, MAX_DIGITS, MAX_EXPONENT, MIN_EXPONENT};

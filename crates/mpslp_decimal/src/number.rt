@@ -1,0 +1,83 @@
+//! The type of decimals, and what can be asked of one.
+
+ghost use Rattle.std.specs.Prelude.{◌≡◌, ◌↔◌, IsTrue};
+ghost use Rattle.mpslp_decimal.specs.Decimal.{Number, zero_number, is_zero, negated, is_infinite_size, IsDecimal};
+
+use std::marker::Model;
+
+/// The most digits that the mantissa of a decimal has.
+pub const MAX_DIGITS: u32 = 18;
+
+/// The least exponent of a decimal.
+pub const MIN_EXPONENT: i32 = -500;
+
+/// The greatest exponent of a decimal.
+pub const MAX_EXPONENT: i32 = 500;
+
+/// An exact decimal, a mantissa times a power of ten.
+///
+/// The mantissa has at most [`MAX_DIGITS`] digits and does not end in a zero, and the exponent lies
+/// between [`MIN_EXPONENT`] and [`MAX_EXPONENT`]; zero is the mantissa 0 with the exponent 0. So each
+/// value has one form, and `==` compares values.
+#[derive(Clone, Copy, Debug, PartialEq, Eq)]
+pub struct Decimal {
+    mantissa: i128,
+    exponent: i32,
+}
+
+impl Model for Decimal {
+    ghost use Rattle.mpslp_decimal.specs.Decimal.{Number, number_code, IsDecimal};
+
+    ghost Value = { Number };
+
+    ghost coded = { number_code };
+
+    ghost view = { λ d. record { mantissa = d.mantissa; exponent = d.exponent } };
+
+    ghost invariant = { λ d. IsDecimal (record { mantissa = d.mantissa; exponent = d.exponent }) };
+
+    ghost inverse = { λ n. record { mantissa = n.mantissa; exponent = n.exponent } };
+}
+
+impl Decimal {
+    /// The number 0.
+    pub fn zero() -> Decimal
+        ensures { result ≡ zero_number }
+    {
+        Decimal {
+            mantissa: 0,
+            exponent: 0,
+        }
+    }
+
+    /// Whether this is 0.
+    pub fn is_zero(self) -> bool
+        ensures { result ≡ is_zero self }
+    {
+        self.mantissa == 0
+    }
+
+    /// The whole number that is multiplied by the power of ten.
+    pub fn mantissa(self) -> i128
+        ensures { result ≡ self.mantissa }
+    {
+        self.mantissa
+    }
+
+    /// The power of ten.
+    pub fn exponent(self) -> i32
+        ensures { result ≡ self.exponent }
+    {
+        self.exponent
+    }
+
+    /// The same size with the other sign.
+    pub fn negate(self) -> Decimal
+        ensures { result ≡ negated self }
+    {
+        Decimal {
+            mantissa: -self.mantissa,
+            exponent: self.exponent,
+        }
+    }
+}
