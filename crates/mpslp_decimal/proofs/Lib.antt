@@ -3,4 +3,6 @@ pub mod NormalLemmas
 pub mod NumberTextLemmas
 pub mod ScaleLemmas
 pub mod OrderLemmas
+pub mod SignificandLemmas
+pub mod ScanLemmas
 pub mod WorkedNumbers
