@@ -5,4 +5,7 @@ pub mod ScaleLemmas
 pub mod OrderLemmas
 pub mod SignificandLemmas
 pub mod ScanLemmas
+pub mod GrammarLemmas
+pub mod MantissaLemmas
+pub mod NumberOfLemmas
 pub mod WorkedNumbers

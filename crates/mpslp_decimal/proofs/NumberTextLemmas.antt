@@ -149,7 +149,7 @@ digits-pointed left right h k n =
       after = after;
     }
 
-are-digits : (ds : List ℕ) → AreDigits ds → 0 < length ds → are_digits ds ≡ true
+pub are-digits : (ds : List ℕ) → AreDigits ds → 0 < length ds → are_digits ds ≡ true
 are-digits ds h n = let some : nat_lt 0 (length ds) ≡ true = lt-ltb 0 (length ds) n in rw (some, list_all-digits ds h) refl
 
 -- ---- the four forms of text
