@@ -8,4 +8,5 @@ pub mod ScanLemmas
 pub mod GrammarLemmas
 pub mod MantissaLemmas
 pub mod NumberOfLemmas
+pub mod PointLemmas
 pub mod WorkedNumbers

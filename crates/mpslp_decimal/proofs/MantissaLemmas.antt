@@ -62,12 +62,12 @@ fraction-cut text rest e some point = ap (λ (r : List ℕ). digits_front (after
         pointed h = rw h refl
 
 -- no more zeros than bytes
-pub zeros-front : (text : List ℕ) (zeros : ℕ) → zeros ≤ 0 + prefix_len is_digit text → zeros ≤ length text
-zeros-front text zeros h = omega (arith, prefix_len-le-length is_digit text)
+pub zeros-front : (text : List ℕ) (count : ℕ) → count ≤ 0 + prefix_len is_digit text → count ≤ length text
+zeros-front text count h = omega (arith, prefix_len-le-length is_digit text)
 
-pub zeros-behind : (text rest : List ℕ) (whole zeros : ℕ) → rest ≡ after_digits text → 1 ≤ length rest → whole ≤ 0 + prefix_len is_digit text
-    → zeros ≤ whole + prefix_len is_digit (take (length rest - 1) (drop 1 rest)) → zeros ≤ length text
-zeros-behind text rest whole zeros e some first more =
+pub zeros-behind : (text rest : List ℕ) (whole count : ℕ) → rest ≡ after_digits text → 1 ≤ length rest → whole ≤ 0 + prefix_len is_digit text
+    → count ≤ whole + prefix_len is_digit (take (length rest - 1) (drop 1 rest)) → count ≤ length text
+zeros-behind text rest whole count e some first more =
     let cut : length rest ≡ length text - prefix_len is_digit text = ap length e ∙ length-drop (prefix_len is_digit text) text in
     let within = prefix_len-le-length is_digit text in
     let front = prefix_len-le-length is_digit (take (length rest - 1) (drop 1 rest)) in

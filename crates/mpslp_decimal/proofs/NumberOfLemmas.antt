@@ -108,3 +108,143 @@ few-zeros n m z len s some small = by (nat_lt z len) refl
       where
         at_least : (m p : ℕ) → 0 < m → p ≤ m * p
         at_least m p h = grind arith
+
+-- ---- the exponent
+
+far-out : (m e : ℤ) → 500 < unsigned_abs e → has_small_exponent (record { mantissa = m; exponent = e }) ≡ false
+far-out m (pos n) h = ap (λ (b : Bool). true && b) (above n h)
+  where
+    above : (n : ℕ) → 500 < n → nat_le n 500 ≡ false
+    above n h = grind (arith, nat_tests)
+far-out m (negsuc n) h = ap (λ (b : Bool). b && true) (above n h)
+  where
+    above : (n : ℕ) → 500 < suc n → nat_le n 499 ≡ false
+    above n h = grind (arith, nat_tests)
+
+shifted-up : (n f z : ℕ) → f ≤ n → (pos n -ℤ pos f) +ℤ pos z ≡ pos (n + z - f)
+shifted-up n f z h = omega (arith, ints)
+
+shifted-down : (n f z : ℕ) → z ≤ n → (neg_ℤ (pos n) -ℤ pos f) +ℤ pos z ≡ neg_ℤ (pos (n + f - z))
+shifted-down n f z h = omega (arith, ints)
+
+size-negative : (n : ℕ) → unsigned_abs (neg_ℤ (pos n)) ≡ n
+size-negative n = size-signed true n
+
+-- a large exponent stays out of range, whatever point and zeros add to it
+still-far : (minus : Bool) (n f z : ℕ) (m : ℤ) → 100000 ≤ n → f ≤ 255 → z ≤ 255 → has_small_exponent (record { mantissa = m; exponent = (signed minus n -ℤ pos f) +ℤ pos z }) ≡ false
+still-far false n f z m far short few =
+    let is : (pos n -ℤ pos f) +ℤ pos z ≡ pos (n + z - f) = shifted-up n f z (omega arith) in
+    far-out m ((pos n -ℤ pos f) +ℤ pos z) (rw is (omega arith))
+still-far true n f z m far short few =
+    let is : (neg_ℤ (pos n) -ℤ pos f) +ℤ pos z ≡ neg_ℤ (pos (n + f - z)) = shifted-down n f z (omega arith) in
+    far-out m ((neg_ℤ (pos n) -ℤ pos f) +ℤ pos z) (rw (is, size-negative (n + f - z)) (omega arith))
+
+regroup : (x : ℤ) (f z : ℕ) → (x +ℤ pos z) -ℤ pos f ≡ (x -ℤ pos f) +ℤ pos z
+regroup x f z = omega (arith, ints)
+
+in_range-out : (d : Number) → has_small_exponent d ≡ false → in_range d ≡ Err ExponentRange
+in_range-out d h = rw h refl
+
+-- the cap changes nothing of the answer
+capped-range : (minus : Bool) (n f z : ℕ) (m : ℤ) → f ≤ 255 → z ≤ 255
+    → in_range (record { mantissa = m; exponent = (signed minus (min n 100000) -ℤ pos f) +ℤ pos z }) ≡ in_range (record { mantissa = m; exponent = (signed minus n -ℤ pos f) +ℤ pos z })
+capped-range minus n f z m short few = by (nat_lt n 100000) refl
+  where
+    lesser : nat_lt n 100000 ≡ true → min n 100000 ≡ n
+    lesser h = let l : n < 100000 = ltb-true n 100000 h in omega arith
+
+    by : (b : Bool) → nat_lt n 100000 ≡ b
+        → in_range (record { mantissa = m; exponent = (signed minus (min n 100000) -ℤ pos f) +ℤ pos z }) ≡ in_range (record { mantissa = m; exponent = (signed minus n -ℤ pos f) +ℤ pos z })
+    by true h = λ i. in_range (record { mantissa = m; exponent = (signed minus (lesser h i) -ℤ pos f) +ℤ pos z })
+    by false h =
+        let l : 100000 ≤ n = ltb-false n 100000 h in
+        let least : 100000 ≤ min n 100000 = omega arith in
+        in_range-out (record { mantissa = m; exponent = (signed minus (min n 100000) -ℤ pos f) +ℤ pos z }) (still-far minus (min n 100000) f z m least short few)
+        ∙ sym (in_range-out (record { mantissa = m; exponent = (signed minus n -ℤ pos f) +ℤ pos z }) (still-far minus n f z m l short few))
+
+-- ---- the answers of `parse`
+
+positive-product : (m p n : ℕ) → 0 < m → 0 < p → m * p ≡ n → 0 < n
+positive-product m p n h k e = let b : 0 < m * p = product m p h k in omega (arith, e, b)
+  where
+    product : (m p : ℕ) → 0 < m → 0 < p → 0 < m * p
+    product m p h k = grind arith
+
+not-zero : (m : ℕ) → (m ≡ 0 → ⊥) → 0 < m
+not-zero zero h = absurd (h refl)
+not-zero (suc m) h = omega arith
+
+pub scan-ends : (scan : Scan) (text : List ℕ) (m z : ℕ) → IsScanOf scan text → scan.significand ≡ Few m z → (m ≡ 0 → ⊥) → 0 < m % 10
+scan-ends scan text m z s e some =
+    let parts = subst (λ (t : Significand). IsSignificandOf t (digits_sum (mantissa_digits text))) e s.significand in
+    parts.0.ends (positive-product m (10 ^ z) (digits_sum (mantissa_digits text)) (not-zero m some) (pow_positive z) parts.0.value)
+
+pub number-many : (scan : Scan) (text : List ℕ) → IsScanOf scan text → scan.significand ≡ Many → length text ≤ 255 → Err TooManyDigits ≡ number_of text
+number-many scan text s e short = by parts
+  where
+    n : ℕ
+    n = digits_sum (mantissa_digits text)
+
+    minus : Bool
+    minus = is_minus text
+
+    parts : (m : ℕ) × (z : ℕ) × (IsStripped n m z × (10 ^ 18 ≤ m))
+    parts = subst (λ (t : Significand). IsSignificandOf t n) e s.significand
+
+    digits : AreDigits (mantissa_digits text)
+    digits = digits-each (mantissa_digits text) (second_so (nat_lt 0 (length (mantissa_digits text))) (list_all is_digit (mantissa_digits text)) (first_so (are_digits (mantissa_digits text)) _ s.literal))
+
+    by : (m : ℕ) × (z : ℕ) × (IsStripped n m z × (10 ^ 18 ≤ m)) → Err TooManyDigits ≡ number_of text
+    by (m, z, (is, long)) =
+        let exponent = (signed_value (exponent_part text) -ℤ pos (length (fraction_digits text))) +ℤ pos z in
+        let few : z < length (mantissa_digits text) = few-zeros n m z (length (mantissa_digits text)) is (omega arith) (digits_sum-small (mantissa_digits text) digits) in
+        let some : 0 < n = positive-product m (10 ^ z) n (omega arith) (pow_positive z) is.value in
+        let value : normal (literal_value text) ≡ record { mantissa = signed minus m; exponent = exponent } =
+        stripped-normal minus n m z (signed_value (exponent_part text) -ℤ pos (length (fraction_digits text))) is some (omega (arith, s.digits_within)) in
+        let not_few : nat_lt m (10 ^ 18) ≡ false = le-ltb m (10 ^ 18) long in
+        sym (number-value text (record { mantissa = signed minus m; exponent = exponent }) s.literal short value
+        ∙ many-answer (record { mantissa = signed minus m; exponent = exponent }) (few_digits-signed minus m exponent false not_few))
+
+pub number-few : (scan : Scan) (text : List ℕ) (m z : ℕ) (exponent : ℤ) → IsScanOf scan text → scan.significand ≡ Few m z → (m ≡ 0 → ⊥) → length text ≤ 255
+    → exponent ≡ (scan.exponent +ℤ pos z) -ℤ pos scan.places → in_range (record { mantissa = signed scan.is_negative m; exponent = exponent }) ≡ number_of text
+number-few scan text m z exponent s e nonzero short is =
+    (λ i. in_range (record { mantissa = signed (s.negative i) m; exponent = told i }))
+    ∙ capped-range (is_minus power) size places z (signed minus m) places_short zeros_short
+    ∙ sym (number-value text value s.literal short (stripped-normal minus n m z raw_exponent parts.0 some (omega (arith, zeros_short)))
+    ∙ few-answer value (few_digits-signed minus m (raw_exponent +ℤ pos z) true (lt-ltb m (10 ^ 18) parts.1)))
+  where
+    power : List ℕ
+    power = exponent_part text
+
+    size : ℕ
+    size = digits_sum (without_sign (exponent_part text))
+
+    places : ℕ
+    places = length (fraction_digits text)
+
+    n : ℕ
+    n = digits_sum (mantissa_digits text)
+
+    minus : Bool
+    minus = is_minus text
+
+    raw_exponent : ℤ
+    raw_exponent = signed_value (exponent_part text) -ℤ pos (length (fraction_digits text))
+
+    value : Number
+    value = record { mantissa = signed minus m; exponent = raw_exponent +ℤ pos z }
+
+    parts : IsStripped n m z × (m < 10 ^ 18)
+    parts = subst (λ (t : Significand). IsSignificandOf t n) e s.significand
+
+    zeros_short : z ≤ 255
+    zeros_short = let same : zeros_of scan.significand ≡ z = ap zeros_of e in omega (arith, s.zeros_within)
+
+    places_short : places ≤ 255
+    places_short = omega (arith, s.places, s.places_within)
+
+    some : 0 < n
+    some = positive-product m (10 ^ z) n (not-zero m nonzero) (pow_positive z) parts.0.value
+
+    told : exponent ≡ (signed (is_minus power) (min size 100000) -ℤ pos places) +ℤ pos z
+    told = is ∙ (λ i. (s.exponent i +ℤ pos z) -ℤ pos (s.places i)) ∙ regroup (signed (is_minus power) (min size 100000)) places z

@@ -235,8 +235,10 @@ pub(crate) fn parse(text: &[u8]) -> Result<Decimal, NumberFault>
     }
     match scan.significand {
         Significand::Many => Err(NumberFault::TooManyDigits),
-        Significand::Few(0, _) => Ok(Decimal::zero()),
         Significand::Few(mantissa, zeros) => {
+            if mantissa == 0 {
+                return Ok(Decimal::zero());
+            }
             let exponent = normal_exponent(scan.exponent, zeros, scan.places);
             in_range(scan.is_negative, mantissa, exponent)
         }
