@@ -1,21 +1,21 @@
 -- What the parts of a literal give as its decimal.
-use Rattle.std.proofs.Common.{◌≡◌, refl, sym, ap, subst, ◌∙◌, List, [], ◌∷◌, length, ℕ, zero, suc, Bool, true, false, cond, arith, ◌<◌, ◌≤◌, ◌+◌, ◌-◌, ◌*◌, ◌^◌, ◌%◌, pow-suc, lit<}
-use Rattle.std.specs.Prelude.{ℤ, pos, negsuc, ◌+ℤ◌, ◌-ℤ◌, neg_ℤ, unsigned_abs, int_le, min, ◌&&◌, ◌||◌, not, ◌==◌, nat_lt, nat_le, if◌then◌else◌, Result, Ok, Err}
+use Rattle.std.proofs.Common.{◌≡◌, refl, sym, ap, subst, ◌∙◌, List, [], ◌∷◌, length, ℕ, zero, suc, Bool, true, false, arith, ◌<◌, ◌≤◌, ◌+◌, ◌-◌, ◌*◌, ◌^◌, ◌%◌, pow-suc, lit<}
+use Rattle.std.specs.Prelude.{ℤ, pos, negsuc, ◌+ℤ◌, ◌-ℤ◌, neg_ℤ, unsigned_abs, min, ◌&&◌, not, ◌==◌, nat_lt, nat_le, if◌then◌else◌, Result, Ok, Err}
 use Rattle.std.specs.List.{list_all}
 use Rattle.std.specs.Cmp.{first_so, second_so}
 use Rattle.std.proofs.Math.Nat.{pow-le-pow_right}
 use Rattle.std.proofs.lemmas.Int.{ints}
 use Rattle.std.proofs.lemmas.Bool.{le-ltb, lt-ltb, ltb-true, ltb-false}
 use Rattle.std.proofs.lemmas.Bool.Decides.{nat_tests}
-use Rattle.mpslp_decimal.specs.Decimal.{Number, is_zero, normal, has_few_digits, has_small_exponent, zero_number}
+use Rattle.mpslp_decimal.specs.Decimal.{Number, normal, has_few_digits, has_small_exponent, zero_number}
 use Rattle.mpslp_decimal.specs.Literal.{is_digit, is_minus, without_sign, digits_sum, are_digits, signed, signed_value, fraction_digits, mantissa_digits, exponent_part, is_literal, literal_value, number_of}
-use Rattle.mpslp_decimal.specs.Scan.{IsStripped, IsSignificandOf, zeros_of, capped_exponent, in_range, IsScanOf}
+use Rattle.mpslp_decimal.specs.Scan.{IsStripped, IsSignificandOf, zeros_of, in_range, IsScanOf}
 use Rattle.mpslp_decimal.specs.declared.literal.NumberFault.{NumberFault}
 use Rattle.mpslp_decimal.specs.declared.literal.NumberFault.TheVariants.{BadNumber, LongNumber, TooManyDigits, ExponentRange}
 use Rattle.mpslp_decimal.specs.declared.literal.Scan.{Scan}
 use Rattle.mpslp_decimal.specs.declared.literal.Significand.{Significand}
 use Rattle.mpslp_decimal.specs.declared.literal.Significand.TheVariants.{Few, Many}
-use Rattle.mpslp_decimal.proofs.CutLemmas.{Each, AreDigits}
+use Rattle.mpslp_decimal.proofs.CutLemmas.{AreDigits}
 use Rattle.mpslp_decimal.proofs.NormalLemmas.{normal-tens, size-signed, pow_positive}
 
 -- ---- the tests in turn

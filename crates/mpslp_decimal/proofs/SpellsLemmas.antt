@@ -1,5 +1,5 @@
 -- A text is read as a decimal exactly if it is a literal within the limit that has the decimal's value.
-use Rattle.std.proofs.Common.{◌≡◌, refl, sym, ap, subst, ◌∙◌, List, [], ◌∷◌, ◌++◌, length, take, drop, length-append, length-drop, ℕ, zero, suc, Bool, true, false, cond, arith, ◌<◌, ◌≤◌, ◌+◌, ◌-◌, ◌*◌, ◌^◌, ◌%◌, ◌/◌, pow-suc, lit<}
+use Rattle.std.proofs.Common.{◌≡◌, refl, sym, ap, subst, ◌∙◌, List, [], ◌∷◌, ◌++◌, length, take, drop, length-append, length-drop, ℕ, zero, suc, Bool, true, false, arith, ◌<◌, ◌≤◌, ◌+◌, ◌*◌, ◌^◌, ◌%◌, ◌/◌, pow-suc}
 use Rattle.std.specs.Prelude.{ℤ, pos, negsuc, ◌+ℤ◌, ◌-ℤ◌, ◌*ℤ◌, unsigned_abs, int_le, ◌&&◌, not, ◌==◌, nat_lt, if◌then◌else◌, Result, Ok, Err}
 use Rattle.std.specs.List.{list_all, before_first, position_or_len}
 use Rattle.std.specs.Cmp.{first_so, second_so}
@@ -12,7 +12,6 @@ use Rattle.mpslp_decimal.specs.Literal.{is_digit, is_sign, is_point, is_exponent
 use Rattle.mpslp_decimal.specs.Scan.{IsStripped}
 use Rattle.mpslp_decimal.specs.declared.literal.NumberFault.{NumberFault}
 use Rattle.mpslp_decimal.specs.declared.literal.NumberFault.TheVariants.{BadNumber, LongNumber, TooManyDigits, ExponentRange}
-use Rattle.mpslp_decimal.proofs.CutLemmas.{AreDigits}
 use Rattle.mpslp_decimal.proofs.NormalLemmas.{normal-tens, size-signed, pow_positive}
 use Rattle.mpslp_decimal.proofs.NumberTextLemmas.{signed-size, nonzero-ends, zero-is}
 use Rattle.mpslp_decimal.proofs.ScaleLemmas.{signed_times}

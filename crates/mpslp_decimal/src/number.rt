@@ -32,7 +32,7 @@ pub struct Decimal {
 
 impl Model for Decimal {
     ghost use Rattle.mpslp_decimal.specs.Literal.{number_of};
-ghost use Rattle.mpslp_decimal.specs.Decimal.{Number, number_code, IsDecimal};
+    ghost use Rattle.mpslp_decimal.specs.Decimal.{Number, number_code, IsDecimal};
 
     ghost Value = { Number };
 

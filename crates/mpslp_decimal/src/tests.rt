@@ -1,7 +1,6 @@
 //! Worked literals, texts and questions, through the public calls.
 
-use crate::laws;
-use crate::{Decimal, DecimalText, NumberFault};
+use crate::{Decimal, DecimalText, NumberFault, laws};
 use std::test::Fail;
 
 /// A literal, and its canonical text.
@@ -45,7 +44,10 @@ const REFUSED: [(&str, NumberFault); 16] = [
     ("1000000000000000001e600", NumberFault::TooManyDigits),
     ("1e501", NumberFault::ExponentRange),
     ("10e500", NumberFault::ExponentRange),
-    ("1e-99999999999999999999999999999999999", NumberFault::ExponentRange),
+    (
+        "1e-99999999999999999999999999999999999",
+        NumberFault::ExponentRange,
+    ),
 ];
 
 #[test]
@@ -56,7 +58,10 @@ fn reads_and_prints_worked_literals(rt: HostRuntime) -> Result<(), Fail> {
         assert_eq!(rt; text.put(value), want.as_bytes(), "at {literal}");
     }
     for (literal, want) in REFUSED {
-        assert!(rt; Decimal::parse(literal.as_bytes()) == Err(want), "at {literal}");
+        assert!(rt;
+            Decimal::parse(literal.as_bytes()) == Err(want),
+            "at {literal}"
+        );
     }
     Ok(())
 }
@@ -92,7 +97,11 @@ fn answers_what_is_asked_of_a_decimal(rt: HostRuntime) -> Result<(), Fail> {
         ("-1e30", true),
         ("1e-500", false),
     ] {
-        assert_eq!(rt; Decimal::parse(literal.as_bytes())?.is_infinite_size(), is_infinite, "at {literal}");
+        assert_eq!(rt;
+            Decimal::parse(literal.as_bytes())?.is_infinite_size(),
+            is_infinite,
+            "at {literal}"
+        );
     }
     Ok(())
 }
