@@ -398,7 +398,7 @@ def hostile_row_line(name):
 
 
 def write_hostile(out, row_names, columns):
-    """A file without right sides of the given rows, and columns of rows and literals."""
+    """A thin file of these row names and these columns, each a name and its pairs."""
     out.write(name_line() + "ROWS\n" + row_line("N", OBJECTIVE))
     out.writelines(map(hostile_row_line, row_names))
     out.write("COLUMNS\n")
@@ -434,14 +434,22 @@ HOSTILE = {"one-column": write_one_column, "many-names": write_many_names}
 
 
 def arguments():
-    parser = argparse.ArgumentParser(description=__doc__, formatter_class=argparse.RawDescriptionHelpFormatter)
-    parser.add_argument("--size", type=size_in_bytes, default="10M", help="bytes, perhaps with k, M or G for thousands, millions, milliards")
+    parser = argparse.ArgumentParser(
+        description=__doc__, formatter_class=argparse.RawDescriptionHelpFormatter)
+    parser.add_argument("--size", type=size_in_bytes, default="10M",
+                        help="bytes; k, M and G stand for 10^3, 10^6 and 10^9")
     parser.add_argument("--seed", type=int, default=1)
-    parser.add_argument("--thin", action="store_true", help="only NAME, ROWS, COLUMNS, RHS and ENDATA, and no markers")
-    parser.add_argument("--minimise", action="store_true", help="no OBJSENSE section, which glpsol does not read")
-    parser.add_argument("--shuffle", action="store_true", help="rows, columns, right sides, ranges and bounds in random order")
-    parser.add_argument("--sorted", action="store_true", help="the rows of each column in the order of ROWS")
-    parser.add_argument("--hostile", choices=sorted(HOSTILE), help="one column with very many rows in falling order, or names with long common fronts")
+    parser.add_argument("--thin", action="store_true",
+                        help="only NAME, ROWS, COLUMNS, RHS and ENDATA, and no markers")
+    parser.add_argument("--minimise", action="store_true",
+                        help="no OBJSENSE section, which glpsol does not read")
+    parser.add_argument("--shuffle", action="store_true",
+                        help="rows, columns, right sides, ranges and bounds in random order")
+    parser.add_argument("--sorted", action="store_true",
+                        help="the rows of each column in the order of ROWS")
+    parser.add_argument("--hostile", choices=sorted(HOSTILE),
+                        help="in place of all this, but with size and seed: one column that has "
+                        "very many rows in falling order, or names with long common fronts")
     return parser.parse_args()
 
 

@@ -188,10 +188,13 @@ def listed(text):
 
 
 def arguments():
-    parser = argparse.ArgumentParser(description=__doc__, formatter_class=argparse.RawDescriptionHelpFormatter)
+    parser = argparse.ArgumentParser(
+        description=__doc__, formatter_class=argparse.RawDescriptionHelpFormatter)
     parser.add_argument("--sizes", type=listed, default=["10M"], help="as 10M,100M; default 10M")
-    parser.add_argument("--kinds", type=listed, default=["thin", "full"], help="some of " + ",".join(KINDS) + "; default thin,full")
-    parser.add_argument("--hostile", action="store_true", help="the hostile files in place of the kinds")
+    parser.add_argument("--kinds", type=listed, default=["thin", "full"],
+                        help="some of " + ",".join(KINDS) + "; default thin,full")
+    parser.add_argument("--hostile", action="store_true",
+                        help="the hostile files in place of the kinds")
     parser.add_argument("--seed", type=int, default=1)
     parser.add_argument("--runs", type=int, default=3)
     parser.add_argument("--program", default=DEFAULT_PROGRAM, help="the path of mpslp")
