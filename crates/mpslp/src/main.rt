@@ -3,10 +3,9 @@
 
 use mpslp_convert::{ThinFault, thin_run};
 use std::alloc::AllocError;
-use std::env;
-use std::io;
 use std::process::ExitCode;
 use std::rt::Env;
+use std::{env, io};
 
 /// The most bytes that an input may have.
 const MAX_BYTES: u64 = 1_073_741_824;
@@ -34,7 +33,11 @@ fn is_canon<R: Env + AllocGlobal>(rt: &R) -> Result<bool, AllocError> {
         Ok(words) => words,
         Err(error) => {
             let is_memory = error.kind() == io::ErrorKind::OutOfMemory;
-            return if is_memory { Err(AllocError) } else { Ok(false) };
+            return if is_memory {
+                Err(AllocError)
+            } else {
+                Ok(false)
+            };
         }
     };
     let mut words = words.skip(1);
