@@ -68,8 +68,9 @@ fn write_whole<W: Write>(text: &[u8], output: &mut W) -> Result<(), ThinFault>
 
 /// Reads a thin MPS file to its end, and writes its canonical text, flushed once.
 ///
-/// At most `max_bytes` bytes are taken, and nothing is written before all of them were accepted. A
-/// read or write that answers `Interrupted` has failed.
+/// At most one byte more than `max_bytes` is taken, and nothing is written before all bytes were
+/// accepted. A read or a write that answers `Interrupted` has failed, and so has a write that takes
+/// no byte.
 ///
 /// # Errors
 ///
