@@ -250,6 +250,7 @@ const REFUSED: &[(&str, &str, &str)] = &[
     ("right sides of six fields", "MYG  1\n", "MYG  1  LIM1\n"),
     ("byte 127", "SMALL", "\x7f"),
     ("a carriage return in a line", "SMALL", "SM\rALL"),
+    ("a carriage return at the end", "ENDATA\n", "ENDATA\r"),
     (
         "two columns and no line",
         "    X  COST  1.0  LIM1  1\n    Y  COST  2  MYG  1.50\n",
