@@ -1,0 +1,1 @@
+//! Laws of declarations and models, each the contract of a function that does nothing.
