@@ -1,0 +1,145 @@
+-- Sums and differences at one scale: and that a difference is taken back.
+use Rattle.std.proofs.Common.{◌≡◌, refl, sym, ap, ◌∙◌, ℕ, zero, suc, Bool, true, false, cond, arith, ◌<◌, ◌≤◌, ◌*◌, ◌^◌, ◌%◌, ◌/◌, pow-suc}
+use Rattle.std.specs.Prelude.{◌==◌, ℤ, pos, negsuc, ◌+ℤ◌, ◌-ℤ◌, ◌*ℤ◌, neg_ℤ, unsigned_abs, int_div, int_le, ◌&&◌, if◌then◌else◌, Some, None}
+use Rattle.std.specs.Ordering.{int_eq}
+use Rattle.std.specs.Cmp.{first_so, second_so}
+use Rattle.std.proofs.lemmas.Int.{ints}
+use Rattle.std.proofs.lemmas.Bool.{leb-true}
+use Rattle.std.proofs.lemmas.Bool.Decides.{Decides-int_eq}
+use Rattle.mpslp_decimal.specs.Decimal.{Number, IsDecimal, is_decimal, is_zero, is_normal, normal, negated, zero_number, height, scaled, at_scale, sum_of, difference_of, has_few_digits, has_small_exponent, trailing_zeros, zeros_within}
+use Rattle.mpslp_decimal.specs.Literal.{signed}
+use Rattle.mpslp_decimal.proofs.NormalLemmas.{normal-tens, pow_positive, zero_mantissa}
+use Rattle.mpslp_decimal.proofs.NumberTextLemmas.{signed-size, nonzero-ends, zero-is}
+
+height_back : (e : ℤ) → int_le (negsuc 499) e ≡ true → e -ℤ pos (height e) ≡ negsuc 499
+height_back (pos n) h = omega (arith, ints)
+height_back (negsuc n) h = let l : n ≤ 499 = leb-true n 499 h in omega (arith, ints)
+
+height_below : (e : ℤ) → int_le e (pos 500) ≡ true → height e < 1100
+height_below (pos n) h = let l : n ≤ 500 = leb-true n 500 h in omega arith
+height_below (negsuc n) h = omega arith
+
+pub signed_times : (minus : Bool) (m p : ℕ) → signed minus m *ℤ pos p ≡ signed minus (m * p)
+signed_times false m p = refl
+signed_times true zero p = omega (arith, ints)
+signed_times true (suc m) p = omega (arith, ints)
+
+exponents : (d : Number) → IsDecimal d → (int_le (negsuc 499) d.exponent ≡ true) × (int_le d.exponent (pos 500) ≡ true)
+exponents d ok =
+    let e = first_so (has_small_exponent d) (is_normal d) (second_so (has_few_digits d) (has_small_exponent d && is_normal d) ok) in
+    (first_so (int_le (negsuc 499) d.exponent) (int_le d.exponent (pos 500)) e, second_so (int_le (negsuc 499) d.exponent) (int_le d.exponent (pos 500)) e)
+
+-- the decimal of its mantissa at the least exponent is itself
+pub normal-scaled : (d : Number) → IsDecimal d → normal (at_scale (scaled d)) ≡ d
+normal-scaled d ok = by (is_zero d) refl
+  where
+    minus : Bool
+    minus = int_le d.mantissa (negsuc 0)
+
+    size : ℕ
+    size = unsigned_abs d.mantissa
+
+    by : (b : Bool) → is_zero d ≡ b → normal (at_scale (scaled d)) ≡ d
+    by true z =
+        let e = zero-is d ok z in
+        ap (λ (x : Number). normal (at_scale (scaled x))) e ∙ refl ∙ sym e
+    by false z =
+        let s : scaled d ≡ signed minus (size * 10 ^ height d.exponent) = ap (λ (m : ℤ). m *ℤ pos (10 ^ height d.exponent)) (sym (signed-size d.mantissa)) ∙ signed_times minus size (10 ^ height d.exponent) in
+        (λ i. normal (record { mantissa = s i; exponent = sym (height_back d.exponent (exponents d ok).0) i }))
+        ∙ normal-tens minus size (height d.exponent) d.exponent (nonzero-ends d ok z) (height_below d.exponent (exponents d ok).1)
+        ∙ (λ i. record { mantissa = signed-size d.mantissa i; exponent = d.exponent })
+
+-- decimals of one value are one
+pub one_form : (a b : Number) → IsDecimal a → IsDecimal b → scaled a ≡ scaled b → a ≡ b
+one_form a b p q e = sym (normal-scaled a p) ∙ ap (λ (m : ℤ). normal (at_scale m)) e ∙ normal-scaled b q
+
+-- the zeros that are stripped were there
+quotient : (m p : ℕ) → 0 < p → (m * p) / p ≡ m
+quotient m p h = grind arith
+
+regroup : (k p : ℕ) → (k * p) * 10 ≡ k * (p * 10)
+regroup k p = grind arith
+
+tenfold : (n : ℕ) → n % 10 ≡ 0 → (n / 10) * 10 ≡ n
+tenfold n h = omega (arith, h)
+
+divided_by : (k n p : ℕ) → 0 < p → k * p ≡ n → (n / p) * p ≡ n
+divided_by k n p h e = ap (λ (x : ℕ). x * p) (ap (λ (x : ℕ). x / p) (sym e) ∙ quotient k p h) ∙ e
+
+divided_more : (z n : ℕ) → n % 10 ≡ 0 → ((n / 10) / 10 ^ z) * 10 ^ z ≡ n / 10 → (n / 10 ^ suc z) * 10 ^ suc z ≡ n
+divided_more z n h e =
+    let k : ℕ = (n / 10) / 10 ^ z in
+    let p : 10 ^ suc z ≡ 10 ^ z * 10 = rw pow-suc refl in
+    let whole : ((n / 10) / 10 ^ z) * 10 ^ suc z ≡ n = ap (λ (x : ℕ). ((n / 10) / 10 ^ z) * x) p ∙ sym (regroup ((n / 10) / 10 ^ z) (10 ^ z)) ∙ ap (λ (x : ℕ). x * 10) e ∙ tenfold n h in
+    divided_by ((n / 10) / 10 ^ z) n (10 ^ suc z) (pow_positive (suc z)) whole
+
+divided_none : (n : ℕ) → (n / 10 ^ 0) * 10 ^ 0 ≡ n
+divided_none n = omega arith
+
+divided : (most n : ℕ) → (n / 10 ^ zeros_within most n) * 10 ^ zeros_within most n ≡ n
+divided zero n = divided_none n
+divided (suc most) n = by (n % 10) refl (divided most (n / 10))
+  where
+    by : (r : ℕ) → n % 10 ≡ r → ((n / 10) / 10 ^ zeros_within most (n / 10)) * 10 ^ zeros_within most (n / 10) ≡ n / 10
+        → (n / 10 ^ (elim r as (λ _. ℕ) [ zero ↦ suc (zeros_within most (n / 10)) | suc _ ↦ 0 ])) * 10 ^ (elim r as (λ _. ℕ) [ zero ↦ suc (zeros_within most (n / 10)) | suc _ ↦ 0 ]) ≡ n
+    by zero e more = divided_more (zeros_within most (n / 10)) n e more
+    by (suc r) e more = divided_none n
+
+divided_all : (n : ℕ) → (n / 10 ^ trailing_zeros n) * 10 ^ trailing_zeros n ≡ n
+unfolding trailing_zeros
+divided_all n = divided 1100 n
+
+neg_neg : (n : ℕ) → neg_ℤ (neg_ℤ (pos n)) ≡ pos n
+neg_neg zero = refl
+neg_neg (suc n) = refl
+
+neg_times : (m : ℤ) (p : ℕ) → neg_ℤ m *ℤ pos p ≡ neg_ℤ (m *ℤ pos p)
+neg_times (pos n) p = signed_times true n p
+neg_times (negsuc n) p = sym (ap neg_ℤ (signed_times true (suc n) p) ∙ neg_neg (suc n * p))
+
+int_divided : (m : ℤ) (p : ℕ) → (unsigned_abs m / p) * p ≡ unsigned_abs m → int_div m (pos p) *ℤ pos p ≡ m
+int_divided (pos n) p e = ap pos e
+int_divided (negsuc n) p e = neg_times (pos (suc n / p)) p ∙ ap (λ (x : ℕ). neg_ℤ (pos x)) e
+
+height_sum : (z : ℕ) → height (negsuc 499 +ℤ pos z) ≡ z
+height_sum z = by (negsuc 499 +ℤ pos z) refl
+  where
+    by : (e : ℤ) → negsuc 499 +ℤ pos z ≡ e → height e ≡ z
+    by (pos n) e = omega (arith, ints)
+    by (negsuc n) e = omega (arith, ints)
+
+-- stripping zeros keeps the value
+pub scaled-normal : (m : ℤ) → scaled (normal (at_scale m)) ≡ m
+scaled-normal m = by (unsigned_abs m == 0) refl
+  where
+    by : (b : Bool) → (unsigned_abs m == 0) ≡ b → scaled (normal (at_scale m)) ≡ m
+    by true e = ap (λ (x : ℤ). scaled (normal (at_scale x))) (zero_mantissa m e) ∙ refl ∙ sym (zero_mantissa m e)
+    by false e =
+        let z : ℕ = trailing_zeros (unsigned_abs m) in
+        let is : normal (at_scale m) ≡ record { mantissa = int_div m (pos (10 ^ trailing_zeros (unsigned_abs m))); exponent = negsuc 499 +ℤ pos (trailing_zeros (unsigned_abs m)) } =
+        ap (λ (b : Bool). cond b zero_number (record { mantissa = int_div m (pos (10 ^ trailing_zeros (unsigned_abs m))); exponent = negsuc 499 +ℤ pos (trailing_zeros (unsigned_abs m)) })) e in
+        ap scaled is ∙ ap (λ (h : ℕ). int_div m (pos (10 ^ trailing_zeros (unsigned_abs m))) *ℤ pos (10 ^ h)) (height_sum (trailing_zeros (unsigned_abs m)))
+        ∙ int_divided m (10 ^ trailing_zeros (unsigned_abs m)) (divided_all (unsigned_abs m))
+
+pub negated_scaled : (d : Number) → scaled (negated d) ≡ neg_ℤ (scaled d)
+negated_scaled d = neg_times d.mantissa (10 ^ height d.exponent)
+
+cancel : (x y : ℤ) → x +ℤ (y +ℤ neg_ℤ x) ≡ y
+cancel x y = omega (arith, ints)
+
+-- lower plus (upper minus lower) is upper
+pub sum-difference : (a b d : Number) → IsDecimal a → IsDecimal b → difference_of b a ≡ Some d → sum_of a d ≡ Some b
+sum-difference a b d p q e = by (is_decimal (normal (at_scale (scaled b +ℤ scaled (negated a))))) e
+  where
+    same_Some : (x y : Number) → Some x ≡ Some y → x ≡ y
+    same_Some x y e = cc
+
+    by : (t : Bool) → cond t (Some (normal (at_scale (scaled b +ℤ scaled (negated a))))) None ≡ Some d → sum_of a d ≡ Some b
+    by false is = cc
+    by true is =
+        let d_is : d ≡ normal (at_scale (scaled b +ℤ scaled (negated a))) = sym (same_Some _ _ is) in
+        let value : scaled d ≡ scaled b +ℤ scaled (negated a) = ap scaled d_is ∙ scaled-normal (scaled b +ℤ scaled (negated a)) in
+        let minus : scaled (negated a) ≡ neg_ℤ (scaled a) = negated_scaled a in
+        let total : scaled a +ℤ scaled d ≡ scaled b = ap (λ (x : ℤ). scaled a +ℤ x) value ∙ ap (λ (x : ℤ). scaled a +ℤ (scaled b +ℤ x)) minus ∙ cancel (scaled a) (scaled b) in
+        let back : normal (at_scale (scaled a +ℤ scaled d)) ≡ b = ap (λ (m : ℤ). normal (at_scale m)) total ∙ normal-scaled b q in
+        ap (λ (x : Number). if is_decimal x then Some x else None) back ∙ ap (λ (t : Bool). cond t (Some b) None) q
