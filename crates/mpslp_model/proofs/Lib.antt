@@ -1,1 +1,11 @@
+pub mod BoolLemmas
+pub mod SlotLemmas
+pub mod RefusalLemmas
+pub mod RowSoundness
+pub mod DraftEntries
+pub mod WellFormed
+pub mod FileFaultLemmas
+pub mod MeaningFromNoFault
+pub mod NoFaultFromMeaning
+pub mod Acceptance
 pub mod WorkedModels
