@@ -8,4 +8,5 @@ pub mod FileFaultLemmas
 pub mod MeaningFromNoFault
 pub mod NoFaultFromMeaning
 pub mod Acceptance
+pub mod MadeDrafts
 pub mod WorkedModels

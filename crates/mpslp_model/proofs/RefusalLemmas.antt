@@ -27,7 +27,7 @@ pub record Extends (before after : Draft) : Type 0 where
   pub row : (name : List ℕ) (form : RowForm) → at_name before.rows name ≡ Some form → at_name after.rows name ≡ Some form
   pub column : (name : List ℕ) → has_column before name ≡ true → has_column after name ≡ true
 
-itself : (all : Draft) → Extends all all
+pub itself : (all : Draft) → Extends all all
 itself all = record { objective = λ _ h. h; constant = λ h. h; right_side = λ _ h. h; row = λ _ _ h. h; column = λ _ h. h }
 
 then_on : (a b c : Draft) → Extends a b → Extends b c → Extends a c
@@ -89,7 +89,7 @@ pub objective_is : (o : Option (List ℕ)) (q : List ℕ) → option_map_or (sam
 objective_is None q h = cc
 objective_is (Some name) q h = ap (λ (n : List ℕ). Some n) (sym (same_name q name h))
 
-value_in : {X : Type 0} (o : Option X) → is_some o ≡ true → (x : X) × (o ≡ Some x)
+pub value_in : {X : Type 0} (o : Option X) → is_some o ≡ true → (x : X) × (o ≡ Some x)
 value_in None h = absurd cc
 value_in (Some x) h = (x, refl)
 
@@ -99,7 +99,7 @@ itself_named q = nat_list_eq_equiv.refl q
 is_objective-after : (before after : Draft) (q : List ℕ) → Extends before after → is_objective before q ≡ true → is_objective after q ≡ true
 is_objective-after before after q e h = ap (λ (o : Option (List ℕ)). option_map_or (same_bytes q) o false) (e.objective q (objective_is before.objective q h)) ∙ itself_named q
 
-has_row-after : (before after : Draft) (q : List ℕ) → Extends before after → has_row before q ≡ true → has_row after q ≡ true
+pub has_row-after : (before after : Draft) (q : List ℕ) → Extends before after → has_row before q ≡ true → has_row after q ≡ true
 has_row-after before after q e h =
     elim (is_objective before q) as (λ b. is_objective before q ≡ b → (b || has_name before.rows q) ≡ true → has_row after q ≡ true) [
       | true ↦ λ o _. or_left (is_objective after q) (has_name after.rows q) (is_objective-after before after q e o)
@@ -107,7 +107,7 @@ has_row-after before after q e h =
           or_right (is_objective after q) (has_name after.rows q) (ap is_some (e.row q found.0 found.1))
     ] refl h
 
-known-after : (before after : Draft) (d : Declaration) → Extends before after → is_known before d ≡ true → is_known after d ≡ true
+pub known-after : (before after : Draft) (d : Declaration) → Extends before after → is_known before d ≡ true → is_known after d ≡ true
 known-after before after (declare_right_side row v) e h = has_row-after before after row e h
 known-after before after (declare_range row v) e h = has_row-after before after row e h
 known-after before after (declare_coefficient place v) e h =
@@ -165,15 +165,15 @@ well-adding all _ w h k = record { apart = w.apart; right_sides = w.right_sides;
 
 -- ---- a declaration that is not refused
 
-first_none : (b : Bool) (x : BuildFault) (more : List (Bool × BuildFault)) → those_of ((b, x) ∷ more) ≡ [] → b ≡ false
+pub first_none : (b : Bool) (x : BuildFault) (more : List (Bool × BuildFault)) → those_of ((b, x) ∷ more) ≡ [] → b ≡ false
 first_none true x more h = cc
 first_none false x more h = refl
 
-rest_none : (b : Bool) (x : BuildFault) (more : List (Bool × BuildFault)) → those_of ((b, x) ∷ more) ≡ [] → those_of more ≡ []
+pub rest_none : (b : Bool) (x : BuildFault) (more : List (Bool × BuildFault)) → those_of ((b, x) ∷ more) ≡ [] → those_of more ≡ []
 rest_none true x more h = cc
 rest_none false x more h = h
 
-pass : (b : Bool) (x : BuildFault) (more : List (Bool × BuildFault)) → b ≡ false → those_of more ≡ [] → those_of ((b, x) ∷ more) ≡ []
+pub pass : (b : Bool) (x : BuildFault) (more : List (Bool × BuildFault)) → b ≡ false → those_of more ≡ [] → those_of ((b, x) ∷ more) ≡ []
 pass true x more h r = cc
 pass false x more h r = r
 
@@ -200,7 +200,7 @@ no_limits all name h = limits_need_row (at_name all.rows name) (nor (is_objectiv
 abbrev Tests : Type 0
 Tests = List (Bool × BuildFault)
 
-fine-from_none : (all : Draft) (d : Declaration) → IsWellMade all → refusals all d ≡ [] → IsFine all d
+pub fine-from_none : (all : Draft) (d : Declaration) → IsWellMade all → refusals all d ≡ [] → IsFine all d
 fine-from_none all (declare_sense s) w h = record { fresh = one_slot (is_some all.sense) (first_none (is_some all.sense) builds.DuplicateSense [] h); known = refl; allowed = refl }
 fine-from_none all (declare_objective name) w h =
     let a = first_none (is_some all.objective) builds.SecondObjective (((has_row all name), builds.DuplicateRow) ∷ []) h in
@@ -280,15 +280,15 @@ fine-from_none all (declare_binary c) w h = record { fresh = refl; known = is_fa
 
 -- ---- the constant
 
-left_none : {X : Type 0} (xs ys : List X) → xs ++ ys ≡ [] → xs ≡ []
+pub left_none : {X : Type 0} (xs ys : List X) → xs ++ ys ≡ [] → xs ≡ []
 left_none [] ys h = refl
 left_none (x ∷ xs) ys h = cc
 
-right_none : {X : Type 0} (xs ys : List X) → xs ++ ys ≡ [] → ys ≡ []
+pub right_none : {X : Type 0} (xs ys : List X) → xs ++ ys ≡ [] → ys ≡ []
 right_none [] ys h = h
 right_none (x ∷ xs) ys h = cc
 
-join_none : {X : Type 0} (xs ys : List X) → xs ≡ [] → ys ≡ [] → xs ++ ys ≡ []
+pub join_none : {X : Type 0} (xs ys : List X) → xs ≡ [] → ys ≡ [] → xs ++ ys ≡ []
 join_none [] ys p q = q
 join_none (x ∷ xs) ys p q = cc
 
@@ -363,7 +363,7 @@ free_of_constant all row v one = from all.objective one
         ap (λ (b : Bool). b && is_some all.constant) (nat_list_eq_equiv.symm row o)
         ∙ tested (is_some all.constant) (same_bytes o row) (has_name all.right_sides o) (ap (λ (b : Bool). not (is_some all.constant && b)) (sym (has-put o row v all.right_sides)) ∙ h)
 
-allowed-before : (before after : Draft) (d : Declaration) → Extends before after → is_allowed after d ≡ true → is_allowed before d ≡ true
+pub allowed-before : (before after : Draft) (d : Declaration) → Extends before after → is_allowed after d ≡ true → is_allowed before d ≡ true
 allowed-before before after (declare_range row v) e h =
     let free = is_objective after row || is_free_row after row in
     let none = nor (is_objective after row) (is_free_row after row) (not_so free (first_so (not free) (not (is_infinite_size v)) h)) in
@@ -381,7 +381,7 @@ allowed-before before after (declare_lower c l) e h = h
 allowed-before before after (declare_upper c l) e h = h
 allowed-before before after _ e h = refl
 
-none-from_fine : (all : Draft) (d : Declaration) → IsFine all d → has_one_constant (adding all d) ≡ true → refusals all d ≡ []
+pub none-from_fine : (all : Draft) (d : Declaration) → IsFine all d → has_one_constant (adding all d) ≡ true → refusals all d ≡ []
 none-from_fine all (declare_sense s) f one = pass (is_some all.sense) builds.DuplicateSense [] (one_slot_of (is_some all.sense) f.fresh) refl
 none-from_fine all (declare_objective name) f one =
     pass (is_some all.objective) builds.SecondObjective ((has_row all name, builds.DuplicateRow) ∷ []) (not_so (is_some all.objective) (first_so (not (is_some all.objective)) (not (has_row all name) && true) f.fresh))
@@ -442,7 +442,7 @@ pub record AreFineInTurn (before : Draft) (declarations : Declarations) : Type 0
   pub one_constant : has_one_constant (adding_all before declarations) ≡ true
   pub well_made : IsWellMade (adding_all before declarations)
 
-allowed-after : (before after : Draft) (d : Declaration) → Extends before after → IsWellMade after → is_known before d ≡ true → is_allowed before d ≡ true → is_allowed after d ≡ true
+pub allowed-after : (before after : Draft) (d : Declaration) → Extends before after → IsWellMade after → is_known before d ≡ true → is_allowed before d ≡ true → is_allowed after d ≡ true
 allowed-after before after (declare_range row v) e w known h =
     let free = is_objective before row || is_free_row before row in
     let none = nor (is_objective before row) (is_free_row before row) (not_so free (first_so (not free) (not (is_infinite_size v)) h)) in
@@ -476,7 +476,7 @@ none-fine (d ∷ more) before w one h =
       well_made = r.well_made;
     }
 
-empty_well : IsWellMade empty_draft
+pub empty_well : IsWellMade empty_draft
 empty_well = record { apart = λ q h. refl; right_sides = λ q h. h; ranges = λ q h. h }
 
 pub all_fresh : (slots : List Slot) → are_fresh empty_draft slots ≡ true
