@@ -1,4 +1,12 @@
 pub mod BoolLemmas
+pub mod EachLemmas
+pub mod PutsLemmas
+pub mod PartedLemmas
+pub mod DistinctLemmas
+pub mod DraftLemmas
+pub mod CoefficientLemmas
+pub mod BoundsLemmas
+pub mod RowLemmas
 pub mod SlotLemmas
 pub mod RefusalLemmas
 pub mod RowSoundness

@@ -165,11 +165,11 @@ apart-cons x xs (y ∷ later) =
     mixed' false false true d = refl
     mixed' false false false d = refl
 
-pub distinct-append : (earlier later : List Slot) → are_distinct same_slot (earlier ++ later) ≡ (are_distinct same_slot earlier && (are_apart earlier later && are_distinct same_slot later))
-distinct-append [] later = ap (λ (b : Bool). b && are_distinct same_slot later) (sym (all_true later))
-distinct-append (x ∷ xs) later =
+pub are_distinct-append : (earlier later : List Slot) → are_distinct same_slot (earlier ++ later) ≡ (are_distinct same_slot earlier && (are_apart earlier later && are_distinct same_slot later))
+are_distinct-append [] later = ap (λ (b : Bool). b && are_distinct same_slot later) (sym (all_true later))
+are_distinct-append (x ∷ xs) later =
     ap (λ (b : Bool). not b && are_distinct same_slot (xs ++ later)) (list_any-append (λ slot. same_slot slot x) xs later)
-    ∙ ap (λ (b : Bool). not (list_any (λ slot. same_slot slot x) xs || list_any (λ slot. same_slot slot x) later) && b) (distinct-append xs later)
+    ∙ ap (λ (b : Bool). not (list_any (λ slot. same_slot slot x) xs || list_any (λ slot. same_slot slot x) later) && b) (are_distinct-append xs later)
     ∙ mixed_more (list_any (λ slot. same_slot slot x) xs) (list_any (λ slot. same_slot slot x) later) (are_distinct same_slot xs) (are_apart xs later) (are_distinct same_slot later)
     ∙ ap (λ (b : Bool). (not (list_any (λ slot. same_slot slot x) xs) && are_distinct same_slot xs) && (b && are_distinct same_slot later)) (sym (apart-cons x xs later))
 
@@ -206,7 +206,7 @@ fresh_in_turn-is (d ∷ more) before =
           ∙ ap (λ (b : Bool). b && are_distinct same_slot rest) (fresh-adding before d rest h)
           ∙ swapped (are_apart mine rest) (are_fresh before rest) (are_distinct same_slot rest)
           ∙ ap (λ (b : Bool). are_fresh before rest && (b && (are_apart mine rest && are_distinct same_slot rest))) (sym (distinct_own d))
-          ∙ ap (λ (b : Bool). are_fresh before rest && b) (sym (distinct-append mine rest))
+          ∙ ap (λ (b : Bool). are_fresh before rest && b) (sym (are_distinct-append mine rest))
     ] refl
     ∙ ap (λ (b : Bool). b && are_distinct same_slot (mine ++ rest)) (sym (list_all-append (λ slot. not (is_filled before slot)) mine rest))
   where
