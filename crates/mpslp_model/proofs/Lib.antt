@@ -17,4 +17,7 @@ pub mod MeaningFromNoFault
 pub mod NoFaultFromMeaning
 pub mod Acceptance
 pub mod MadeDrafts
+pub mod PutOrderLemmas
+pub mod PermutationLemmas
+pub mod OrderOfDeclarations
 pub mod WorkedModels

@@ -27,7 +27,7 @@ is_some-cond false v o = refl
 pub has-put : {X : Type 0} (q k : List ℕ) (v : X) (es : List (List ℕ × X)) → has_name (put bytes_cmp k v es) q ≡ (same_bytes q k || has_name es q)
 has-put q k v es = ap is_some (at-put q k v es) ∙ is_some-cond (same_bytes q k) v (at_name es q)
 
-place_ties : (a b : Place) → (same_bytes a.row b.row && same_bytes a.column b.column) ≡ eq_by_cmp place_cmp a b
+pub place_ties : (a b : Place) → (same_bytes a.row b.row && same_bytes a.column b.column) ≡ eq_by_cmp place_cmp a b
 place_ties a b = both_tied _ _ (bytes_cmp a.row b.row) (bytes_cmp a.column b.column) (texts_ties a.row b.row) (texts_ties a.column b.column)
 
 has-put_place : {X : Type 0} (q k : Place) (v : X) (es : List (Place × X))
@@ -152,7 +152,7 @@ filled-adding all _ _ h = refl
 abbrev pub are_apart : List Slot → List Slot → Bool
 are_apart earlier later = list_all (λ slot. not (list_any (same_slot slot) earlier)) later
 
-apart-cons : (x : Slot) (xs later : List Slot) → are_apart (x ∷ xs) later ≡ (not (list_any (λ slot. same_slot slot x) later) && are_apart xs later)
+pub apart-cons : (x : Slot) (xs later : List Slot) → are_apart (x ∷ xs) later ≡ (not (list_any (λ slot. same_slot slot x) later) && are_apart xs later)
 apart-cons x xs [] = refl
 apart-cons x xs (y ∷ later) =
     ap (λ (b : Bool). not (same_slot y x || list_any (same_slot y) xs) && b) (apart-cons x xs later)

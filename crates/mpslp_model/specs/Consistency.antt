@@ -83,12 +83,12 @@ has_objective_side all = option_map_or (has_name all.right_sides) all.objective 
 abbrev pub has_one_constant : Draft → Bool
 has_one_constant all = not (is_some all.constant && has_objective_side all)
 
+abbrev pub declares_objective : Declaration → Bool
+declares_objective (declare_objective _) = true
+declares_objective _ = false
+
 abbrev pub has_objective : Declarations → Bool
-has_objective declarations = list_any is_declared_objective declarations
-  where
-    is_declared_objective : Declaration → Bool
-    is_declared_objective (declare_objective _) = true
-    is_declared_objective _ = false
+has_objective declarations = list_any declares_objective declarations
 
 -- Each slot is filled once at most, the objective's is filled, and all that is named is declared somewhere.
 pub record AreConsistent (declarations : Declarations) : Type 0 where
