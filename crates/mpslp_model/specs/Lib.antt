@@ -9,3 +9,4 @@ pub mod Refusal
 pub mod Made
 pub mod Meaning
 pub mod FaultOrder
+pub mod Laws

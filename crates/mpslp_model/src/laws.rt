@@ -1,1 +1,16 @@
-//! Laws of declarations and models, each the contract of a function that does nothing.
+//! Laws of declarations and the models that they mean. Each is the contract of a function that does
+//! nothing: to call it is to cite the law.
+
+ghost use Rattle.mpslp_model.specs.Laws.{MeanOneModel, MeanTheSameInAnyOrder};
+
+/// Declarations mean one model at most.
+pub fn declarations_mean_one_model()
+    ensures { MeanOneModel }
+{
+}
+
+/// The order of declarations is of no account: declarations that mean a model mean it in any order.
+pub fn order_is_of_no_account()
+    ensures { MeanTheSameInAnyOrder }
+{
+}
