@@ -20,4 +20,6 @@ pub mod MadeDrafts
 pub mod PutOrderLemmas
 pub mod PermutationLemmas
 pub mod OrderOfDeclarations
-pub mod WorkedModels
+mod WorkedNames
+mod WorkedRows
+mod WorkedModels

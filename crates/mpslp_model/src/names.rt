@@ -83,3 +83,27 @@ impl Name {
         &self.bytes
     }
 }
+
+#[cfg(test)]
+mod tests {
+    use super::*;
+    use std::test::Fail;
+
+    #[test]
+    fn takes_names(rt: HostRuntime) -> Result<(), Fail> {
+        let name = Name::new(rt.alloc(), b"LIM1".as_slice())?;
+        assert_eq!(rt; name.as_bytes(), b"LIM1".as_slice());
+        let longest = Name::new(rt.alloc(), [b'a'; 255].as_slice())?;
+        assert_eq!(rt; longest.as_bytes().len(), 255);
+        Ok(())
+    }
+
+    #[test]
+    fn refuses_what_is_no_name(rt: HostRuntime) {
+        let alloc = rt.alloc();
+        assert_eq!(rt; Name::new(alloc, b"".as_slice()).err(), Some(NameFault::NameLength));
+        assert_eq!(rt; Name::new(alloc, [b'a'; 256].as_slice()).err(), Some(NameFault::NameLength));
+        assert_eq!(rt; Name::new(alloc, b"a b".as_slice()).err(), Some(NameFault::NameByte));
+        assert_eq!(rt; Name::new(alloc, b"'MARKER'".as_slice()).err(), Some(NameFault::NameMarker));
+    }
+}
