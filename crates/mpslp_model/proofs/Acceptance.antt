@@ -9,7 +9,6 @@ use Rattle.mpslp_model.specs.Refusal.{refusals_in_turn}
 use Rattle.mpslp_model.specs.Made.{is_legal}
 use Rattle.mpslp_model.specs.Meaning.{model_of, file_fault, Means}
 use Rattle.mpslp_model.proofs.RefusalLemmas.{are_known_in_turn, consistent-from_none, none-from_consistent}
-
 use Rattle.mpslp_model.proofs.MeaningFromNoFault.{means-from_no_fault}
 use Rattle.mpslp_model.proofs.NoFaultFromMeaning.{no_fault-from_means}
 

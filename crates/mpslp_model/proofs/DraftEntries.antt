@@ -14,7 +14,7 @@ use Rattle.std.specs.FinMap.Entries.{by_order, is_sorted-put}
 use Rattle.mpslp_decimal.specs.Decimal.{Number, is_decimal}
 use Rattle.mpslp_model.specs.Name.{is_mps_name}
 use Rattle.mpslp_model.specs.Model.{Place, bytes_cmp, place_cmp}
-use Rattle.mpslp_model.specs.Declaration.{RowForm, by_type, by_limits, Declaration, declare_sense, declare_objective, declare_constant, declare_row, declare_right_side, declare_range, declare_column, declare_coefficient, declare_lower, declare_upper, Declarations, Draft, empty_draft, adding, adding_all, has_row, has_column}
+use Rattle.mpslp_model.specs.Declaration.{RowForm, Declaration, declare_objective, declare_constant, declare_row, declare_right_side, declare_column, declare_coefficient, declare_lower, declare_upper, Declarations, Draft, empty_draft, adding, adding_all, has_row, has_column}
 use Rattle.mpslp_model.specs.Made.{is_given, are_given, is_legal}
 use Rattle.mpslp_model.specs.Sides.{is_plus_infinite, is_minus_infinite, have_infinite_side}
 use Rattle.mpslp_model.specs.Consistency.{is_known, is_allowed}

@@ -1,6 +1,6 @@
 -- A file has no fault of the whole exactly where no row and no column passes a test of one.
-use Rattle.std.proofs.Common.{◌≡◌, refl, ap, ◌∙◌, ℕ, List, [], ◌∷◌, length, Bool, true, false, not, cond, map}
-use Rattle.std.specs.Prelude.{◌&&◌, ◌==◌, Option, Some, None, filter, filter_map}
+use Rattle.std.proofs.Common.{◌≡◌, refl, ap, ◌∙◌, ℕ, List, [], ◌∷◌, Bool, true, false, not, cond, map}
+use Rattle.std.specs.Prelude.{◌&&◌, Option, Some, None, filter, filter_map}
 use Rattle.std.specs.List.{list_all, cons_option}
 use Rattle.std.specs.Option.{option_map, option_map_or}
 use Rattle.std.specs.Cmp.{first_so, second_so}
@@ -11,7 +11,7 @@ use Rattle.mpslp_model.specs.Declaration.{RowForm, Draft, at_name, names_in}
 use Rattle.mpslp_model.specs.Limits.{limits_of, has_infinite_right_side, is_inexact, is_too_large, is_crossed}
 use Rattle.mpslp_model.specs.Bounds.{has_negative_upper, has_crossed_bounds, has_binary_bounds}
 use Rattle.mpslp_model.specs.Refusal.{is_nonempty}
-use Rattle.mpslp_model.specs.Meaning.{whole_fault, right_side_or_zero, row_passes, head_of, rows_where, names_with, named_faults, file_fault}
+use Rattle.mpslp_model.specs.Meaning.{whole_fault, row_passes, head_of, rows_where, names_with, named_faults, file_fault}
 use Rattle.mpslp_model.specs.declared.faults.Fault.{Fault}
 use Rattle.mpslp_model.specs.declared.faults.FaultKind.{FaultKind}
 use Rattle.mpslp_model.specs.declared.faults.FaultKind.TheVariants.{NoColumns, InfiniteLimit, RangeInexact, LimitTooLarge, LimitsCrossed, NegativeUpper, BoundsCrossed, BinaryBounds}

@@ -18,7 +18,7 @@ use Rattle.mpslp_model.specs.declared.kinds.Limit.{Limit}
 use Rattle.mpslp_model.specs.declared.faults.BuildFault.{BuildFault}
 use Rattle.mpslp_model.specs.declared.faults.BuildFault.TheVariants.{UnknownColumn, DuplicateBound, InfiniteValue}
 use Rattle.mpslp_model.proofs.BoolLemmas.{both_so, nor}
-use Rattle.mpslp_model.proofs.RefusalLemmas.{first_none, rest_none, pass, left_none, right_none, join_none, empty_well, AreFineInTurn, none-fine, consistent-from_none}
+use Rattle.mpslp_model.proofs.RefusalLemmas.{first_none, rest_none, pass, join_none, empty_well, none-fine, consistent-from_none}
 use Rattle.mpslp_model.proofs.DraftEntries.{IsGood, good-adding_all, empty_good}
 use Rattle.mpslp_model.proofs.WellFormed.{IsWellFormed, well_formed-from_consistent}
 use Rattle.mpslp_model.proofs.MeaningFromNoFault.{meant-from_no_fault}

@@ -1,6 +1,6 @@
 -- What means a model has no fault of the whole file.
 use Rattle.std.proofs.Common.{◌≡◌, ◌<◌, refl, sym, ap, subst, ◌∙◌, ℕ, List, [], ◌∷◌, length, Bool, true, false, not, cond, map, arith}
-use Rattle.std.specs.Prelude.{◌&&◌, ◌||◌, ◌==◌, Option, Some, None, is_some, is_none, unwrap_or}
+use Rattle.std.specs.Prelude.{◌&&◌, ◌||◌, Option, Some, None, is_some, is_none, unwrap_or}
 use Rattle.std.specs.List.{list_all}
 use Rattle.std.specs.Option.{option_map_or}
 use Rattle.std.specs.Cmp.{first_so, second_so}
@@ -9,7 +9,7 @@ use Rattle.std.specs.FinMap as maps
 use Rattle.mpslp_decimal.specs.Decimal.{Number, zero_number, is_decimal, is_negative, is_infinite_size, size_of, sum_of, difference_of}
 use Rattle.mpslp_model.specs.Name.{is_mps_name}
 use Rattle.mpslp_model.specs.Model.{LinearModel, Row, Column, bytes_cmp, IsSound, are_sides, is_at_most, is_lower_side, is_upper_side, has_bounded_distance, is_bounded_decimal, is_sound_row, is_sound_column, limit_of}
-use Rattle.mpslp_model.specs.Declaration.{RowForm, by_type, by_limits, Declarations, Draft, empty_draft, draft_of, at_name, names_in}
+use Rattle.mpslp_model.specs.Declaration.{RowForm, by_type, by_limits, Declarations, Draft, draft_of, at_name, names_in}
 use Rattle.mpslp_model.specs.Limits.{sides, plain_limits, limits_of, has_infinite_right_side, is_inexact, is_too_large, is_large_limit, is_crossed}
 use Rattle.mpslp_model.specs.Bounds.{lower_bound, upper_bound, column_of, has_crossed_bounds}
 use Rattle.mpslp_model.specs.Made.{is_legal}

@@ -1,19 +1,18 @@
 -- Worked declarations, the calls of a builder and the models that they mean, by computation.
-use Rattle.std.proofs.Common.{◌≡◌, refl, true, false, cond, map}
-use Rattle.std.specs.Prelude.{ℕ, ℤ, pos, negsuc, Option, Some, None, List, [], ◌∷◌, ◌++◌, codes}
+use Rattle.std.proofs.Common.{◌≡◌, refl, cond}
+use Rattle.std.specs.Prelude.{ℕ, pos, negsuc, Option, Some, None, List, [], ◌∷◌, codes}
 use Rattle.std.specs.FinMap as maps
 use Rattle.mpslp_decimal.specs.Decimal.{Number, trailing_zeros}
-use Rattle.mpslp_model.specs.Model.{Row, Column, Place, bytes_cmp, place_cmp, limit_of}
+use Rattle.mpslp_model.specs.Model.{Place, bytes_cmp, place_cmp, limit_of}
 use Rattle.mpslp_model.specs.Declaration.{by_type, by_limits, Declaration, declare_sense, declare_objective, declare_constant, declare_row, declare_right_side, declare_range, declare_column, declare_coefficient, declare_lower, declare_upper, declare_marked, declare_integer, declare_binary, Declarations, Draft, empty_draft, adding, adding_all, draft_of, right_side_declared, bounds_declared}
 use Rattle.mpslp_model.specs.Bounds.{zero_limit, one_limit, column_of}
 use Rattle.mpslp_model.specs.Refusal.{is_nonempty, refusals, refusals_in_turn, bounds_refusals}
 use Rattle.mpslp_model.specs.Meaning.{head_of, whole_fault, file_fault, model_of}
-use Rattle.mpslp_model.specs.declared.kinds.Sense.TheVariants.{Maximize, Minimize}
-use Rattle.mpslp_model.specs.declared.kinds.Kind.{Kind}
+use Rattle.mpslp_model.specs.declared.kinds.Sense.TheVariants.{Maximize}
 use Rattle.mpslp_model.specs.declared.kinds.Kind.TheVariants.{Continuous, Integer}
 use Rattle.mpslp_model.specs.declared.kinds.Limit.{Limit}
 use Rattle.mpslp_model.specs.declared.kinds.Limit.TheVariants.{MinusInf, Finite, PlusInf}
-use Rattle.mpslp_model.specs.declared.kinds.RowType.TheVariants.{Free, AtMost, AtLeast, Equal}
+use Rattle.mpslp_model.specs.declared.kinds.RowType.TheVariants.{Free, AtMost, AtLeast}
 use Rattle.mpslp_model.specs.declared.faults.BuildFault.{BuildFault}
 use Rattle.mpslp_model.specs.declared.faults.BuildFault.TheVariants as builds
 use Rattle.mpslp_model.specs.declared.faults.FaultKind.TheVariants as kinds

@@ -6,11 +6,9 @@ ghost use Rattle.mpslp_model.specs.Laws.{MeanOneModel, MeanTheSameInAnyOrder};
 /// Declarations mean one model at most.
 pub fn declarations_mean_one_model()
     ensures { MeanOneModel }
-{
-}
+{}
 
 /// The order of declarations is of no account: declarations that mean a model mean it in any order.
 pub fn order_is_of_no_account()
     ensures { MeanTheSameInAnyOrder }
-{
-}
+{}

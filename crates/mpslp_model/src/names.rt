@@ -101,9 +101,21 @@ mod tests {
     #[test]
     fn refuses_what_is_no_name(rt: HostRuntime) {
         let alloc = rt.alloc();
-        assert_eq!(rt; Name::new(alloc, b"".as_slice()).err(), Some(NameFault::NameLength));
-        assert_eq!(rt; Name::new(alloc, [b'a'; 256].as_slice()).err(), Some(NameFault::NameLength));
-        assert_eq!(rt; Name::new(alloc, b"a b".as_slice()).err(), Some(NameFault::NameByte));
-        assert_eq!(rt; Name::new(alloc, b"'MARKER'".as_slice()).err(), Some(NameFault::NameMarker));
+        assert_eq!(rt;
+            Name::new(alloc, b"".as_slice()).err(),
+            Some(NameFault::NameLength)
+        );
+        assert_eq!(rt;
+            Name::new(alloc, [b'a'; 256].as_slice()).err(),
+            Some(NameFault::NameLength)
+        );
+        assert_eq!(rt;
+            Name::new(alloc, b"a b".as_slice()).err(),
+            Some(NameFault::NameByte)
+        );
+        assert_eq!(rt;
+            Name::new(alloc, b"'MARKER'".as_slice()).err(),
+            Some(NameFault::NameMarker)
+        );
     }
 }
