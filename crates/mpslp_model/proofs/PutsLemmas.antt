@@ -10,7 +10,7 @@ use Rattle.std.specs.FinMap.Entries.{find-put, same_entries, is_sorted-put, belo
 use Rattle.std.proofs.Math.Dec.{T}
 use Rattle.mpslp_model.proofs.EachLemmas.{Each}
 
-equal_from : (r : Ordering) → is_eq r ≡ true → r ≡ Equal
+pub equal_from : (r : Ordering) → is_eq r ≡ true → r ≡ Equal
 equal_from Less h = cc
 equal_from Equal h = refl
 equal_from Greater h = cc
@@ -50,7 +50,7 @@ module _ {K X : Type 0} (R : K → K → Ordering) where
   IsPartOf base target = (q : K) (x : X) → find R q base ≡ Some x → find R q target ≡ Some x
 
   module _ (o : IsTotalOrder R) (same : (x y : K) → R x y ≡ Equal → x ≡ y) where
-    is_sorted-puts : (es base : List (K × X)) → T (is_sorted R base) → T (is_sorted R (puts es base))
+    pub is_sorted-puts : (es base : List (K × X)) → T (is_sorted R base) → T (is_sorted R (puts es base))
     is_sorted-puts [] base h = h
     is_sorted-puts (e ∷ es) base h = is_sorted-puts es (put R e.0 e.1 base) (is_sorted-put R o e.0 e.1 base h)
 
