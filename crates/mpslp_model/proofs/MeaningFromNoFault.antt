@@ -29,7 +29,8 @@ use Rattle.mpslp_model.proofs.RefusalLemmas.{itself_named}
 use Rattle.mpslp_model.proofs.RowSoundness.{IsSoundForm, sound-from_no_fault, is_legal_form}
 use Rattle.mpslp_model.proofs.DraftEntries.{IsGood}
 use Rattle.mpslp_model.proofs.WellFormed.{IsWellFormed, well_formed-from_consistent}
-use Rattle.mpslp_model.proofs.FileFaultLemmas.{HasNoFault, no_fault-from_none, imp_all, and_all, map_all, found_all}
+use Rattle.mpslp_model.proofs.EachLemmas.{imp_all, and_all, map_all}
+use Rattle.mpslp_model.proofs.FileFaultLemmas.{HasNoFault, no_fault-from_none, found_all}
 
 -- ---- the objective
 
@@ -57,6 +58,7 @@ below-mapped : {X Y : Type 0} (g : List ℕ × X → Y) (x : List ℕ) (es : Lis
 below-mapped g x [] = refl
 below-mapped g x (e ∷ es) = ap (λ (b : Bool). is_lt (bytes_cmp x e.0) && b) (below-mapped g x es)
 
+-- entries with other values at the same names are sorted alike, and have the same names
 pub sorted-mapped : {X Y : Type 0} (g : List ℕ × X → Y) (es : List (List ℕ × X)) → is_sorted bytes_cmp (map (λ e. (e.0, g e)) es) ≡ is_sorted bytes_cmp es
 sorted-mapped g [] = refl
 sorted-mapped g (e ∷ es) = λ i. below-mapped g e.0 es i && sorted-mapped g es i

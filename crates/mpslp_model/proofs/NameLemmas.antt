@@ -9,8 +9,9 @@ use Rattle.mpslp_decimal.specs.Literal.{is_digit}
 use Rattle.mpslp_model.specs.Name.{same_bytes, has_name_length, is_visible, marker, is_mps_name, name_refusal, is_upper, is_letter, is_lp_symbol, is_lp_byte, begins_a_number, is_like_exponent, is_reserved, is_lp_name}
 use Rattle.mpslp_model.specs.declared.names.NameFault.TheVariants.{NameLength, NameByte, NameMarker}
 use Rattle.mpslp_model.proofs.BoolLemmas.{both_so}
-use Rattle.mpslp_model.proofs.FileFaultLemmas.{imp_all}
+use Rattle.mpslp_model.proofs.EachLemmas.{imp_all}
 
+-- bytes are refused exactly where they are no name
 pub is_none-name_refusal : (name : List ℕ) → is_none (name_refusal name) ≡ is_mps_name name
 is_none-name_refusal name = by (has_name_length name) (list_all is_visible name) (same_bytes name marker)
   where
@@ -45,6 +46,7 @@ visible_byte byte =
     (either (is_upper byte) (nat_le 97 byte && nat_le byte 122) (is_visible byte) (λ h. within 65 90 byte h refl refl) (λ h. within 97 122 byte h refl refl))
     (either (is_digit byte) (is_lp_symbol byte) (is_visible byte) (λ h. within 48 57 byte h refl refl) (λ h. visible_among (codes "!\"#$%&()/,.;?@_'{}|~`") byte refl h))
 
+-- a name in LP is one in MPS
 pub mps_name-from_lp : (name : List ℕ) → is_lp_name name ≡ true → is_mps_name name ≡ true
 mps_name-from_lp name h =
     let no_marker = not (same_bytes name marker) in

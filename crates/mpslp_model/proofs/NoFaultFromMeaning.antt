@@ -20,7 +20,8 @@ use Rattle.mpslp_model.specs.declared.kinds.Limit.TheVariants.{MinusInf, Finite,
 use Rattle.mpslp_model.specs.declared.kinds.RowType.TheVariants.{Free, AtMost, AtLeast, Equal}
 use Rattle.mpslp_model.proofs.BoolLemmas.{not_so, so_not, both_false}
 use Rattle.mpslp_model.proofs.WellFormed.{IsWellFormed, well_formed-from_consistent}
-use Rattle.mpslp_model.proofs.FileFaultLemmas.{none-from_no_fault, imp_all, and_all, map_all}
+use Rattle.mpslp_model.proofs.EachLemmas.{imp_all, and_all, map_all}
+use Rattle.mpslp_model.proofs.FileFaultLemmas.{none-from_no_fault}
 use Rattle.mpslp_model.proofs.MeaningFromNoFault.{sorted-mapped, names-mapped}
 
 abbrev sides_hold : Option Row → Bool
@@ -108,6 +109,7 @@ near MinusInf (Finite b) h k d = (refl, both_false (is_infinite_size b) false (f
 near MinusInf PlusInf h k d = (refl, refl)
 near PlusInf u h k d = absurd cc
 
+-- a row that has no fault
 pub record PassesTests (form : RowForm) (b : Number) (r : Option Number) : Type 0 where
   pub finite : not (has_infinite_right_side form b r) ≡ true
   pub exact : not (is_inexact (limits_of form b r)) ≡ true

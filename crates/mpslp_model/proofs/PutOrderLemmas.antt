@@ -42,6 +42,7 @@ module _ {K X : Type 0} (R : K → K → Ordering) (o : IsTotalOrder R) where
           absurd cc
       by Greater Greater p q rest = rw (p, q) (ap (λ (more : List (K × X)). e ∷ more) rest)
 
+  -- at different keys, in either order
   pub put-put : (j k : K) (w v : X) (es : List (K × X)) → eq_by_cmp R j k ≡ false → put R k v (put R j w es) ≡ put R j w (put R k v es)
   put-put j k w v es apart = by (R j k) refl apart
     where
