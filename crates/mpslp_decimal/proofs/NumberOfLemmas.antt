@@ -62,7 +62,7 @@ zero-normal text n e h = let none : (unsigned_abs (signed (is_minus text) n) == 
 back : (e : ℤ) (z : ℕ) → e ≡ (e +ℤ pos z) -ℤ pos z
 back e z = omega (arith, ints)
 
-stripped-normal : (minus : Bool) (n m z : ℕ) (e : ℤ) → IsStripped n m z → 0 < n → z < 1100 → normal (record { mantissa = signed minus n; exponent = e }) ≡ record { mantissa = signed minus m; exponent = e +ℤ pos z }
+pub stripped-normal : (minus : Bool) (n m z : ℕ) (e : ℤ) → IsStripped n m z → 0 < n → z < 1100 → normal (record { mantissa = signed minus n; exponent = e }) ≡ record { mantissa = signed minus m; exponent = e +ℤ pos z }
 stripped-normal minus n m z e s some few =
     (λ i. normal (record { mantissa = signed minus (sym s.value i); exponent = back e z i })) ∙ normal-tens minus m z (e +ℤ pos z) (s.ends some) few
 
@@ -88,14 +88,14 @@ digits_sum-small (d ∷ ds) h =
         most : (x p : ℕ) → x < 10 → x * p ≤ 9 * p
         most x p h = grind arith
 
-digits-each : (ds : List ℕ) → list_all is_digit ds ≡ true → AreDigits ds
+pub digits-each : (ds : List ℕ) → list_all is_digit ds ≡ true → AreDigits ds
 digits-each [] h = tt
 digits-each (d ∷ ds) h = (first_so (is_digit d) (list_all is_digit ds) h, digits-each ds (second_so (is_digit d) (list_all is_digit ds) h))
 
 ten_positive : 0 < 10
 ten_positive = lit< tt
 
-few-zeros : (n m z len : ℕ) → IsStripped n m z → 0 < m → n < 10 ^ len → z < len
+pub few-zeros : (n m z len : ℕ) → IsStripped n m z → 0 < m → n < 10 ^ len → z < len
 few-zeros n m z len s some small = by (nat_lt z len) refl
   where
     by : (b : Bool) → nat_lt z len ≡ b → z < len
