@@ -382,7 +382,7 @@ pub all_fresh : (slots : List Slot) → are_fresh empty_draft slots ≡ true
 all_fresh [] = refl
 all_fresh (slot ∷ slots) = both_so (not (is_filled empty_draft slot)) (are_fresh empty_draft slots) (empty_slot slot) (all_fresh slots)
 
--- 1. What is not refused in turn is consistent.
+-- What is not refused in turn is consistent.
 pub consistent-from_none : (declarations : Declarations) → has_objective declarations ≡ true → refusals_in_turn empty_draft declarations ≡ [] → AreConsistent declarations
 consistent-from_none declarations objective h =
     let f = none-fine declarations empty_draft empty_declared_names refl h in
@@ -411,7 +411,7 @@ none-from_fine_in_turn (d ∷ more) before fresh known allowed one =
     (none-from_fine before d f (one-before (adding before d) after (extends-in_turn more (adding before d) fresh_then) one))
     (none-from_fine_in_turn more (adding before d) fresh_then (second_so (is_known before d) (are_known_in_turn (adding before d) more) known) (second_so (is_allowed after d) (list_all (is_allowed after) more) allowed) one)
 
--- 2. What is consistent is not refused in turn, where nothing is named before it is declared.
+-- What is consistent is not refused in turn, where nothing is named before it is declared.
 pub none-from_consistent : (declarations : Declarations) → AreConsistent declarations → are_known_in_turn empty_draft declarations ≡ true → refusals_in_turn empty_draft declarations ≡ []
 none-from_consistent declarations c known =
     none-from_fine_in_turn declarations empty_draft
