@@ -12,4 +12,5 @@ pub mod PointLemmas
 pub mod InfinityLemmas
 pub mod ValueLemmas
 pub mod SpellsLemmas
+pub mod OrderOfValues
 pub mod WorkedNumbers

@@ -7,6 +7,7 @@
 pub mod laws;
 mod literal;
 mod number;
+mod order;
 mod text;
 
 pub use literal::{MAX_LITERAL_LEN, NumberFault};
