@@ -13,4 +13,5 @@ pub mod InfinityLemmas
 pub mod ValueLemmas
 pub mod SpellsLemmas
 pub mod OrderOfValues
+pub mod SumLemmas
 pub mod WorkedNumbers

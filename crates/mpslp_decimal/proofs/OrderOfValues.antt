@@ -74,14 +74,14 @@ order-decimal a b p q = by (int_cmp (scaled a) (scaled b)) refl
 once : (m : ℤ) → m *ℤ pos (10 ^ 0) ≡ m
 once m = omega (arith, ints)
 
-surplus-up : (e f : ℤ) → f ≤ℤ e → surplus e f ≡ unsigned_abs (e -ℤ f)
+pub surplus-up : (e f : ℤ) → f ≤ℤ e → surplus e f ≡ unsigned_abs (e -ℤ f)
 surplus-up e f h = by (e -ℤ f) refl
   where
     by : (z : ℤ) → e -ℤ f ≡ z → natural_part z ≡ unsigned_abs z
     by (pos n) g = refl
     by (negsuc n) g = absurd (omega (arith, ints))
 
-surplus-down : (e f : ℤ) → f ≤ℤ e → surplus f e ≡ 0
+pub surplus-down : (e f : ℤ) → f ≤ℤ e → surplus f e ≡ 0
 surplus-down e f h = by (f -ℤ e) refl
   where
     by : (z : ℤ) → f -ℤ e ≡ z → natural_part z ≡ 0
