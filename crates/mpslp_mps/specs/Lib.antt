@@ -1,0 +1,13 @@
+pub mod Line
+pub mod Section
+pub mod DataLine
+pub mod BoundLine
+pub mod Context
+pub mod LineMeaning
+pub mod FieldFault
+pub mod HeaderFault
+pub mod DataFault
+pub mod LineFault
+pub mod MpsText
+pub mod FirstFault
+pub mod Laws

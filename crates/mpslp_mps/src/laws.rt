@@ -1,0 +1,14 @@
+//! Laws of MPS text. Each is the contract of a function that does nothing: to call it is to cite the
+//! law.
+
+ghost use Rattle.mpslp_mps.specs.Laws.{DeclareOneModel, HaveOneFirstFault};
+
+/// No bytes declare two models.
+pub fn one_model()
+    ensures { DeclareOneModel }
+{}
+
+/// No bytes have two first faults.
+pub fn one_fault()
+    ensures { HaveOneFirstFault }
+{}
