@@ -1,1 +1,2 @@
 pub mod WorkedFaults
+pub mod WorkedFiles
