@@ -3,4 +3,10 @@ pub mod NormalLemmas
 pub mod NumberTextLemmas
 pub mod ScaleLemmas
 pub mod OrderLemmas
+pub mod SignificandLemmas
+pub mod ScanLemmas
+pub mod GrammarLemmas
+pub mod MantissaLemmas
+pub mod NumberOfLemmas
+pub mod PointLemmas
 pub mod WorkedNumbers

@@ -4,7 +4,7 @@ use Rattle.std.specs.Prelude.{ℤ, pos, negsuc, ◌-ℤ◌, neg_ℤ, unsigned_ab
 use Rattle.std.specs.List.{list_any, before_first, after_first}
 use Rattle.std.specs.Cmp.{first_so, second_so}
 use Rattle.std.specs.Ordering.{int_eq}
-use Rattle.std.specs.Fmt.{decimal}
+use Rattle.std.specs.Fmt.{decimal, digits}
 use Rattle.std.proofs.lemmas.Fmt.{length-decimal-le}
 use Rattle.std.proofs.lemmas.List.{append-nil, length-replicate}
 use Rattle.std.proofs.lemmas.Int.{ints}
@@ -149,7 +149,7 @@ digits-pointed left right h k n =
       after = after;
     }
 
-are-digits : (ds : List ℕ) → AreDigits ds → 0 < length ds → are_digits ds ≡ true
+pub are-digits : (ds : List ℕ) → AreDigits ds → 0 < length ds → are_digits ds ≡ true
 are-digits ds h n = let some : nat_lt 0 (length ds) ≡ true = lt-ltb 0 (length ds) n in rw (some, list_all-digits ds h) refl
 
 -- ---- the four forms of text
@@ -413,3 +413,27 @@ read-short text d e = by (is_literal text) (nat_lt 255 (length text)) refl e
     by false long l e = cc
     by true true l e = cc
     by true false l e = ltb-false 255 (length text) l
+
+-- ---- the pieces that are printed
+
+zero-pieces : sign_text (is_negative zero_number) ++ scaled_text (decimal (unsigned_abs zero_number.mantissa)) zero_number.exponent ≡ codes "0"
+unfolding digits
+zero-pieces = refl
+
+-- a text without its case for zero
+number_text-is : (d : Number) → IsDecimal d → sign_text (is_negative d) ++ scaled_text (decimal (unsigned_abs d.mantissa)) d.exponent ≡ number_text d
+number_text-is d ok = by (is_zero d) refl
+  where
+    chosen : (b : Bool) → is_zero d ≡ b → number_text d ≡ (if b then codes "0" else (sign_text (is_negative d) ++ scaled_text (decimal (unsigned_abs d.mantissa)) d.exponent))
+    chosen b e = ap (λ (c : Bool). if c then codes "0" else (sign_text (is_negative d) ++ scaled_text (decimal (unsigned_abs d.mantissa)) d.exponent)) e
+
+    by : (b : Bool) → is_zero d ≡ b → sign_text (is_negative d) ++ scaled_text (decimal (unsigned_abs d.mantissa)) d.exponent ≡ number_text d
+    by true z =
+        ap (λ (x : Number). sign_text (is_negative x) ++ scaled_text (decimal (unsigned_abs x.mantissa)) x.exponent) (zero-is d ok z)
+        ∙ zero-pieces ∙ sym (chosen true z)
+    by false z = sym (chosen false z)
+
+pub printed-pieces : (d : Number) (none sign all ds : List ℕ) (e : ℤ) → IsDecimal d → none ≡ [] → sign ≡ none ++ sign_text (is_negative d) → all ≡ sign ++ scaled_text ds e
+    → ds ≡ decimal (unsigned_abs d.mantissa) → e ≡ d.exponent → all ≡ number_text d
+printed-pieces d none sign all ds e ok a b c f g =
+    c ∙ (λ i. (b ∙ ap (λ (x : List ℕ). x ++ sign_text (is_negative d)) a) i ++ scaled_text (f i) (g i)) ∙ number_text-is d ok

@@ -14,7 +14,10 @@ abbrev pub scaled_text : List ℕ → ℤ → List ℕ
 scaled_text digits (pos n) = if nat_le n 5 then digits ++ replicate n 48 else digits ++ codes "e" ++ decimal n
 scaled_text digits (negsuc n) = if nat_lt n 18 then with_point (n + 1) digits else digits ++ codes "e-" ++ decimal (n + 1)
 
+abbrev pub sign_text : Number → List ℕ
+sign_text d = if is_negative d then codes "-" else []
+
 abbrev pub number_text : Number → List ℕ
 number_text d =
     if is_zero d then codes "0"
-    else (if is_negative d then codes "-" else []) ++ scaled_text (decimal (unsigned_abs d.mantissa)) d.exponent
+    else sign_text d ++ scaled_text (decimal (unsigned_abs d.mantissa)) d.exponent

@@ -6,6 +6,8 @@
 
 mod literal;
 mod number;
+mod text;
 
 pub use literal::{MAX_LITERAL_LEN, NumberFault};
 pub use number::{Decimal, MAX_DIGITS, MAX_EXPONENT, MIN_EXPONENT};
+pub use text::DecimalText;

@@ -1,7 +1,20 @@
-//! Number literals.
+//! Number literals, each byte read once.
+
+ghost use Rattle.std.specs.Prelude.{ℤ, pos, ◌+ℤ◌, ◌-ℤ◌, ◌%◌, unsigned_abs, ◌≡◌, ℕ, ◌+◌, ◌*◌, ◌^◌, ◌<◌, ◌≤◌, ◌↔◌, IsTrue, IsSome, IfSome, MatchOption, length, take, drop, not, false};
+ghost use Rattle.std.specs.List.{prefix_len};
+ghost use Rattle.mpslp_decimal.specs.Literal.{signed, is_digit, is_minus, without_sign, digits_sum, are_digits, is_literal, number_of};
+ghost use Rattle.mpslp_decimal.specs.Scan.{in_range, IsSignificandOf, zeros_of, exponent_of, exponent_after, digits_front, after_digits, mantissa_front, fraction_front, after_mantissa, IsScanOf};
+
+use crate::number::{Decimal, MAX_DIGITS, MAX_EXPONENT, MIN_EXPONENT};
 
 /// The most bytes that a literal has.
 pub const MAX_LITERAL_LEN: usize = 255;
+
+/// An exponent of this size is out of range, however many digits stand before or after the point.
+const EXPONENT_CAP: u32 = 100_000;
+
+/// Ten to the `MAX_DIGITS - 1`: a mantissa from here on takes no further digit. The proofs compare the two.
+const MANTISSA_ROOM: u64 = 100_000_000_000_000_000;
 
 /// Why a text is not taken as a decimal. Where several hold, the first of this list is told.
 #[derive(Clone, Copy, Debug, PartialEq, Eq)]
@@ -10,8 +23,224 @@ pub enum NumberFault {
     BadNumber,
     /// The literal has more than [`MAX_LITERAL_LEN`] bytes.
     LongNumber,
-    /// The value needs more than [`MAX_DIGITS`](crate::MAX_DIGITS) digits.
+    /// The value needs more than [`MAX_DIGITS`] digits.
     TooManyDigits,
     /// The exponent of the normal form lies outside its range.
     ExponentRange,
+}
+
+/// The number that digits write.
+#[derive(Clone, Copy)]
+enum Significand {
+    /// The number without the zeros at its end, and how many zeros these are.
+    Few(u64, usize),
+    /// Without the zeros at its end the number has more than `MAX_DIGITS` digits.
+    Many,
+}
+
+impl Significand {
+    /// The significand with one more digit behind it.
+    fn followed_by(self, digit: u8) -> Significand
+        requires digit { digit < 10 }
+        requires room { zeros_of self + 1 < 2 ^ 64 }
+        ensures value { (n : ℕ) → IsSignificandOf self n → IsSignificandOf result (n * 10 + digit) }
+        ensures zeros { zeros_of result ≤ zeros_of self + 1 }
+    {
+        let Significand::Few(mantissa, zeros) = self else {
+            return Significand::Many;
+        };
+        if digit == 0 {
+            return Significand::Few(mantissa, zeros + 1);
+        }
+        let mut mantissa = mantissa;
+        for _place in 0..zeros + 1 {
+            if mantissa >= MANTISSA_ROOM {
+                return Significand::Many;
+            }
+            mantissa *= 10;
+        }
+        Significand::Few(mantissa + u64::from(digit), 0)
+    }
+}
+
+/// The parts of a literal.
+#[derive(Clone, Copy)]
+struct Scan {
+    is_negative: bool,
+    significand: Significand,
+    /// How many digits stand after the point.
+    places: usize,
+    exponent: i32,
+}
+
+/// A text without its sign, and whether that is a minus.
+fn split_sign(text: &[u8]) -> (bool, &[u8])
+    ensures minus { result.0 ≡ is_minus text.now }
+    ensures rest { result.1.now ≡ without_sign text.now }
+{
+    match text {
+        [b'-', rest @ ..] => (true, rest),
+        [b'+', rest @ ..] => (false, rest),
+        _ => (false, text),
+    }
+}
+
+/// Puts the digits at the front of a text behind those that were read before, and tells what follows them.
+fn scan_digits(text: &[u8], before: Significand) -> (Significand, &[u8])
+    requires room { zeros_of before + length text.now < 2 ^ 64 }
+    ensures rest { result.1.now ≡ after_digits text.now }
+    ensures value {
+        let digits = digits_front text.now in
+        (n : ℕ) → IsSignificandOf before n → IsSignificandOf result.0 (n * 10 ^ length digits + digits_sum digits)
+    }
+    ensures zeros { zeros_of result.0 ≤ zeros_of before + prefix_len is_digit text.now }
+{
+    let mut significand = before;
+    for (at, byte) in text.iter().enumerate() {
+        if !byte.is_ascii_digit() {
+            return (significand, &text[at..]);
+        }
+        significand = significand.followed_by(byte - b'0');
+    }
+    (significand, &[])
+}
+
+/// The exponent that an optional sign and digits write, cut off at the cap; `None` where they are anything else.
+fn scan_exponent(text: &[u8]) -> Option<i32>
+    ensures { result ≡ exponent_of text.now }
+{
+    let (is_negative, digits) = split_sign(text);
+    if digits.is_empty() {
+        return None;
+    }
+    let mut size: u32 = 0;
+    for digit in digits {
+        if !digit.is_ascii_digit() {
+            return None;
+        }
+        size = (size * 10 + u32::from(digit - b'0')).min(EXPONENT_CAP);
+    }
+    let size = size as i32;
+    Some(if is_negative { -size } else { size })
+}
+
+/// The digits of a literal before its exponent part.
+#[derive(Clone, Copy)]
+struct Mantissa {
+    significand: Significand,
+    /// How many digits there are.
+    digits: usize,
+    /// How many of them stand after the point.
+    places: usize,
+}
+
+/// Reads the digits and the point at the front of a text without a sign, and tells what follows them.
+fn scan_mantissa(text: &[u8]) -> (Mantissa, &[u8])
+    ensures rest { result.1.now ≡ after_mantissa text.now }
+    ensures significand { IsSignificandOf result.0.significand (digits_sum (mantissa_front text.now)) }
+    ensures digits { result.0.digits ≡ length (mantissa_front text.now) }
+    ensures places { result.0.places ≡ length (fraction_front text.now) }
+    ensures zeros_within { zeros_of result.0.significand ≤ length text.now }
+    ensures digits_within { result.0.digits ≤ length text.now }
+    ensures places_within { result.0.places ≤ length text.now }
+{
+    let (whole, after_whole) = scan_digits(text, Significand::Few(0, 0));
+    let digits = text.len() - after_whole.len();
+    match after_whole {
+        [b'.', fraction @ ..] => {
+            let (significand, rest) = scan_digits(fraction, whole);
+            let places = fraction.len() - rest.len();
+            let mantissa = Mantissa {
+                significand,
+                digits: digits + places,
+                places,
+            };
+            (mantissa, rest)
+        }
+        _ => {
+            let mantissa = Mantissa {
+                significand: whole,
+                digits,
+                places: 0,
+            };
+            (mantissa, after_whole)
+        }
+    }
+}
+
+/// The exponent that stands after a mantissa, 0 where nothing does; `None` where it is no exponent part.
+fn scan_exponent_part(text: &[u8]) -> Option<i32>
+    ensures { result ≡ exponent_after text.now }
+{
+    match text {
+        [] => Some(0),
+        [b'e' | b'E', exponent @ ..] => scan_exponent(exponent),
+        _ => None,
+    }
+}
+
+impl Scan {
+    /// Reads a text as a literal; `None` where it is none.
+    fn of(text: &[u8]) -> Option<Scan>
+        ensures { MatchOption result (is_literal text.now ≡ false) (λ scan. IsScanOf scan text.now) }
+    {
+        let (is_negative, unsigned) = split_sign(text);
+        let (mantissa, rest) = scan_mantissa(unsigned);
+        if mantissa.digits == 0 {
+            return None;
+        }
+        let exponent = scan_exponent_part(rest)?;
+        Some(Scan {
+            is_negative,
+            significand: mantissa.significand,
+            places: mantissa.places,
+            exponent,
+        })
+    }
+}
+
+/// The exponent of a mantissa whose zeros are cut off and whose point is taken out.
+fn normal_exponent(exponent: i32, zeros: usize, places: usize) -> i32
+    requires exponent { unsigned_abs exponent ≤ EXPONENT_CAP }
+    requires zeros { zeros ≤ MAX_LITERAL_LEN }
+    requires places { places ≤ MAX_LITERAL_LEN }
+    ensures { result ≡ (exponent +ℤ pos zeros) -ℤ pos places }
+{
+    exponent + zeros as i32 - places as i32
+}
+
+/// The decimal of a mantissa that does not end in a zero, where its exponent is in range.
+fn in_range(is_negative: bool, mantissa: u64, exponent: i32) -> Result<Decimal, NumberFault>
+    requires ends { 0 < mantissa % 10 }
+    requires few { mantissa < 10 ^ MAX_DIGITS }
+    ensures { result ≡ in_range (record { mantissa = signed is_negative mantissa; exponent = exponent }) }
+{
+    if exponent < MIN_EXPONENT || exponent > MAX_EXPONENT {
+        return Err(NumberFault::ExponentRange);
+    }
+    let size = i128::from(mantissa);
+    let mantissa = if is_negative { -size } else { size };
+    Ok(Decimal::from_parts(mantissa, exponent))
+}
+
+/// The decimal that a literal spells, or the first fault.
+pub(crate) fn parse(text: &[u8]) -> Result<Decimal, NumberFault>
+    ensures { result ≡ number_of text.now }
+{
+    let Some(scan) = Scan::of(text) else {
+        return Err(NumberFault::BadNumber);
+    };
+    if text.len() > MAX_LITERAL_LEN {
+        return Err(NumberFault::LongNumber);
+    }
+    match scan.significand {
+        Significand::Many => Err(NumberFault::TooManyDigits),
+        Significand::Few(mantissa, zeros) => {
+            if mantissa == 0 {
+                return Ok(Decimal::zero());
+            }
+            let exponent = normal_exponent(scan.exponent, zeros, scan.places);
+            in_range(scan.is_negative, mantissa, exponent)
+        }
+    }
 }

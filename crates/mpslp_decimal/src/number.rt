@@ -1,8 +1,10 @@
 //! The type of decimals, and what can be asked of one.
 
 ghost use Rattle.std.specs.Prelude.{◌≡◌, ◌↔◌, IsTrue};
+ghost use Rattle.mpslp_decimal.specs.Literal.{number_of};
 ghost use Rattle.mpslp_decimal.specs.Decimal.{Number, zero_number, is_zero, negated, is_infinite_size, IsDecimal};
 
+use crate::literal::{self, NumberFault};
 use std::marker::Model;
 
 /// The most digits that the mantissa of a decimal has.
@@ -26,7 +28,8 @@ pub struct Decimal {
 }
 
 impl Model for Decimal {
-    ghost use Rattle.mpslp_decimal.specs.Decimal.{Number, number_code, IsDecimal};
+    ghost use Rattle.mpslp_decimal.specs.Literal.{number_of};
+ghost use Rattle.mpslp_decimal.specs.Decimal.{Number, number_code, IsDecimal};
 
     ghost Value = { Number };
 
@@ -48,6 +51,28 @@ impl Decimal {
             mantissa: 0,
             exponent: 0,
         }
+    }
+
+    /// The decimal of these two parts, in normal form already.
+    pub(crate) fn from_parts(mantissa: i128, exponent: i32) -> Decimal
+        requires { IsDecimal (record { mantissa = mantissa; exponent = exponent }) }
+        ensures { result ≡ record { mantissa = mantissa; exponent = exponent } }
+    {
+        Decimal { mantissa, exponent }
+    }
+
+    /// The exact decimal of a number literal: an optional sign, digits with an optional point and at
+    /// least one digit in all, and perhaps `e` or `E`, an optional sign and at least one digit.
+    ///
+    /// Nothing is rounded. Zero is taken with any exponent.
+    ///
+    /// # Errors
+    ///
+    /// The first [`NumberFault`] that holds, in the order in which they are listed there.
+    pub fn parse(text: &[u8]) -> Result<Decimal, NumberFault>
+        ensures { result ≡ number_of text.now }
+    {
+        literal::parse(text)
     }
 
     /// Whether this is 0.

@@ -12,6 +12,7 @@ use Rattle.std.proofs.lemmas.Bool.{eqb-true}
 use Rattle.std.proofs.lemmas.List.Concat.{flat_map-append}
 use Rattle.mpslp_model.specs.Name.{same_bytes}
 
+-- an entry that the filter drops, at a key that is not there, leaves what is kept as it is
 pub filter-put : {K X : Type 0} (R : K → K → Ordering) (p : K × X → Bool) (k : K) (v : X) (es : List (K × X)) → p (k, v) ≡ false → find R k es ≡ None
     → filter p (put R k v es) ≡ filter p es
 filter-put R p k v [] h none = rw h refl
@@ -23,6 +24,7 @@ filter-put {K} {X} R p k v (e ∷ es) h none =
       | Greater ↦ λ rest. ap (λ (xs : List (K × X)). cond (p e) (e ∷ xs) xs) (filter-put R p k v es h rest)
     ] none
 
+-- bytes that are the same are equal
 pub same_bytes-true : (a b : List ℕ) → same_bytes a b ≡ true → a ≡ b
 same_bytes-true [] [] h = refl
 same_bytes-true [] (y ∷ ys) h = cc
@@ -32,10 +34,12 @@ same_bytes-true (x ∷ xs) (y ∷ ys) h =
     let tail = same_bytes-true xs ys (second_so (nat_eq x y) (same_bytes xs ys) h) in
     λ i. head i ∷ tail i
 
+-- a list made in two steps
 pub flat_map-flat_map : {X Y Z : Type 0} (f : Y → List Z) (g : X → List Y) (xs : List X) → flat_map f (flat_map g xs) ≡ flat_map (λ x. flat_map f (g x)) xs
 flat_map-flat_map f g [] = refl
 flat_map-flat_map f g (x ∷ xs) = flat_map-append f (g x) (flat_map g xs) ∙ ap (λ (zs : List _). flat_map f (g x) ++ zs) (flat_map-flat_map f g xs)
 
+-- parts that are all empty
 pub flat_map-none : {X Y : Type 0} (xs : List X) → flat_map {A = Y} (λ (_ : X). []) xs ≡ []
 flat_map-none [] = refl
 flat_map-none (x ∷ xs) = flat_map-none xs

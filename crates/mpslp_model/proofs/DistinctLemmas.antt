@@ -46,6 +46,7 @@ module _ {K : Type 0} (same : K → K → Bool) where
   Apart f [] = Unit {0}
   Apart f (x ∷ xs) = Each (λ k. Each (λ y. IsNew k (f y)) xs) (f x) × Apart f xs
 
+  -- made of elements that are pairwise apart, each without two alike
   pub distinct-flat_map : {X : Type 0} (f : X → List K) (xs : List X) → Each (λ x. are_distinct same (f x) ≡ true) xs → Apart f xs → are_distinct same (flat_map f xs) ≡ true
   distinct-flat_map f [] h apart = refl
   distinct-flat_map f (x ∷ xs) h apart =

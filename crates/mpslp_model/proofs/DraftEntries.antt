@@ -14,7 +14,7 @@ use Rattle.std.specs.FinMap.Entries.{by_order, is_sorted-put}
 use Rattle.mpslp_decimal.specs.Decimal.{Number, is_decimal}
 use Rattle.mpslp_model.specs.Name.{is_mps_name}
 use Rattle.mpslp_model.specs.Model.{Place, bytes_cmp, place_cmp}
-use Rattle.mpslp_model.specs.Declaration.{RowForm, by_type, by_limits, Declaration, declare_sense, declare_objective, declare_constant, declare_row, declare_right_side, declare_range, declare_column, declare_coefficient, declare_lower, declare_upper, Declarations, Draft, empty_draft, adding, adding_all, has_row, has_column}
+use Rattle.mpslp_model.specs.Declaration.{RowForm, Declaration, declare_objective, declare_constant, declare_row, declare_right_side, declare_column, declare_coefficient, declare_lower, declare_upper, Declarations, Draft, empty_draft, adding, adding_all, has_row, has_column}
 use Rattle.mpslp_model.specs.Made.{is_given, are_given, is_legal}
 use Rattle.mpslp_model.specs.Sides.{is_plus_infinite, is_minus_infinite, have_infinite_side}
 use Rattle.mpslp_model.specs.Consistency.{is_known, is_allowed}
@@ -46,6 +46,7 @@ then_second orders.Less b h = cc
 then_second orders.Equal b h = h
 then_second orders.Greater b h = cc
 
+-- places that tie are equal
 pub same_place : (a b : Place) → place_cmp a b ≡ orders.Equal → a ≡ b
 same_place a b h =
     let rows = same_key a.row b.row (then_first (bytes_cmp a.row b.row) (bytes_cmp a.column b.column) h) in
@@ -60,6 +61,7 @@ put_places p k v es h all = put_all place_cmp p k v es (λ j tie. ap (λ (n : Pl
 
 -- ---- a draft whose entries are good, beside the draft of all
 
+-- the entries of a draft: names are legal, values are decimals, sides are given ones, coefficients are of what is declared; and sorted
 pub record IsGood (all draft : Draft) : Type 0 where
   pub objective : option_map_or is_mps_name draft.objective true ≡ true
   pub constant : option_map_or is_decimal draft.constant true ≡ true
@@ -203,5 +205,6 @@ good-adding_all all (d ∷ more) draft g legal known allowed =
     (good-adding all draft d g (first_so (is_legal d) (list_all is_legal more) legal) (first_so (is_known all d) (list_all (is_known all) more) known) (first_so (is_allowed all d) (list_all (is_allowed all) more) allowed))
     (second_so (is_legal d) (list_all is_legal more) legal) (second_so (is_known all d) (list_all (is_known all) more) known) (second_so (is_allowed all d) (list_all (is_allowed all) more) allowed)
 
+-- no entries
 pub empty_good : (all : Draft) → IsGood all empty_draft
 empty_good all = record { objective = refl; constant = refl; rows = refl; right_sides = refl; columns = refl; coefficients = refl; lowers = refl; uppers = refl; rows_sorted = tt; columns_sorted = tt; coefficients_sorted = tt }

@@ -1,6 +1,6 @@
 -- A file has no fault of the whole exactly where no row and no column passes a test of one.
-use Rattle.std.proofs.Common.{◌≡◌, refl, ap, ◌∙◌, ℕ, List, [], ◌∷◌, length, Bool, true, false, not, cond, map}
-use Rattle.std.specs.Prelude.{◌&&◌, ◌==◌, Option, Some, None, filter, filter_map}
+use Rattle.std.proofs.Common.{◌≡◌, refl, ap, ◌∙◌, ℕ, List, [], ◌∷◌, Bool, true, false, not, cond, map}
+use Rattle.std.specs.Prelude.{◌&&◌, Option, Some, None, filter, filter_map}
 use Rattle.std.specs.List.{list_all, cons_option}
 use Rattle.std.specs.Option.{option_map, option_map_or}
 use Rattle.std.specs.Cmp.{first_so, second_so}
@@ -11,7 +11,7 @@ use Rattle.mpslp_model.specs.Declaration.{RowForm, Draft, at_name, names_in}
 use Rattle.mpslp_model.specs.Limits.{limits_of, has_infinite_right_side, is_inexact, is_too_large, is_crossed}
 use Rattle.mpslp_model.specs.Bounds.{has_negative_upper, has_crossed_bounds, has_binary_bounds}
 use Rattle.mpslp_model.specs.Refusal.{is_nonempty}
-use Rattle.mpslp_model.specs.Meaning.{whole_fault, right_side_or_zero, row_passes, head_of, rows_where, names_with, named_faults, file_fault}
+use Rattle.mpslp_model.specs.Meaning.{whole_fault, row_passes, head_of, rows_where, names_with, named_faults, file_fault}
 use Rattle.mpslp_model.specs.declared.faults.Fault.{Fault}
 use Rattle.mpslp_model.specs.declared.faults.FaultKind.{FaultKind}
 use Rattle.mpslp_model.specs.declared.faults.FaultKind.TheVariants.{NoColumns, InfiniteLimit, RangeInexact, LimitTooLarge, LimitsCrossed, NegativeUpper, BoundsCrossed, BinaryBounds}
@@ -19,12 +19,14 @@ use Rattle.mpslp_model.proofs.BoolLemmas.{both_so}
 
 -- ---- the tests of the kinds
 
+-- no row passes the test, and no column
 abbrev pub passes_rows : Draft → (RowForm → Number → Option Number → Bool) → Bool
 passes_rows all test = list_all (λ row. not (row_passes all test row)) all.rows
 
 abbrev pub passes_columns : Draft → (Draft → List ℕ → Bool) → Bool
 passes_columns all test = list_all (λ name. not (test all name)) (names_in all.columns)
 
+-- No row and no column passes a test of a fault, and there is a column.
 pub record HasNoFault (all : Draft) : Type 0 where
   pub column : is_nonempty all.columns ≡ true
   pub right_sides : passes_rows all has_infinite_right_side ≡ true
@@ -103,6 +105,7 @@ branch_of : {X : Type 0} (b : Bool) (x : X) (o : Option X) → cond b o (Some x)
 branch_of true x o h = h
 branch_of false x o h = cc
 
+-- No fault is told, so there is none.
 pub no_fault-from_none : (all : Draft) → file_fault all ≡ None → HasNoFault all
 no_fault-from_none all h =
     let there = is_nonempty all.columns in
@@ -131,6 +134,7 @@ no_fault-from_none all h =
       binary = none_filtered (has_binary_bounds all) (names_in all.columns) (here all BinaryBounds [] h7);
     }
 
+-- There is none, so none is told.
 pub none-from_no_fault : (all : Draft) → HasNoFault all → file_fault all ≡ None
 none-from_no_fault all f =
     let k7 = BinaryBounds ∷ [] in
@@ -148,23 +152,7 @@ none-from_no_fault all f =
     (add all BoundsCrossed k7 (filtered_none (has_crossed_bounds all) (names_in all.columns) f.bounds)
     (add all BinaryBounds [] (filtered_none (has_binary_bounds all) (names_in all.columns) f.binary) refl))))))
 
--- ---- sums of facts on lists
-
-pub imp_all : {X : Type 0} (p q : X → Bool) (xs : List X) → ((x : X) → p x ≡ true → q x ≡ true) → list_all p xs ≡ true → list_all q xs ≡ true
-imp_all p q [] f h = refl
-imp_all p q (x ∷ xs) f h = both_so (q x) (list_all q xs) (f x (first_so (p x) (list_all p xs) h)) (imp_all p q xs f (second_so (p x) (list_all p xs) h))
-
-pub and_all : {X : Type 0} (p q : X → Bool) (xs : List X) → list_all p xs ≡ true → list_all q xs ≡ true → list_all (λ x. p x && q x) xs ≡ true
-and_all p q [] h k = refl
-and_all p q (x ∷ xs) h k =
-    both_so (p x && q x) (list_all (λ x. p x && q x) xs)
-    (both_so (p x) (q x) (first_so (p x) (list_all p xs) h) (first_so (q x) (list_all q xs) k))
-    (and_all p q xs (second_so (p x) (list_all p xs) h) (second_so (q x) (list_all q xs) k))
-
-pub map_all : {X Y : Type 0} (f : X → Y) (q : Y → Bool) (xs : List X) → list_all (λ x. q (f x)) xs ≡ list_all q (map f xs)
-map_all f q [] = refl
-map_all f q (x ∷ xs) = ap (λ (b : Bool). q (f x) && b) (map_all f q xs)
-
+-- what holds of all values of entries holds of the one that is found
 pub found_all : {X : Type 0} (p : X → Bool) (name : List ℕ) (es : List (List ℕ × X)) → list_all (λ e. p e.1) es ≡ true → option_map_or p (at_name es name) true ≡ true
 found_all p name [] h = refl
 found_all {X} p name (e ∷ es) h =

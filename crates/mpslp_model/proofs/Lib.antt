@@ -19,5 +19,9 @@ pub mod Acceptance
 pub mod MadeDrafts
 pub mod PutOrderLemmas
 pub mod PermutationLemmas
+pub mod SortedDrafts
 pub mod OrderOfDeclarations
-pub mod WorkedModels
+pub mod NameLemmas
+mod WorkedNames
+mod WorkedRows
+mod WorkedModels

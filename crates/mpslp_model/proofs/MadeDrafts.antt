@@ -18,7 +18,7 @@ use Rattle.mpslp_model.specs.declared.kinds.Limit.{Limit}
 use Rattle.mpslp_model.specs.declared.faults.BuildFault.{BuildFault}
 use Rattle.mpslp_model.specs.declared.faults.BuildFault.TheVariants.{UnknownColumn, DuplicateBound, InfiniteValue}
 use Rattle.mpslp_model.proofs.BoolLemmas.{both_so, nor}
-use Rattle.mpslp_model.proofs.RefusalLemmas.{first_none, rest_none, pass, left_none, right_none, join_none, empty_well, AreFineInTurn, none-fine, consistent-from_none}
+use Rattle.mpslp_model.proofs.RefusalLemmas.{first_none, rest_none, pass, join_none, empty_well, none-fine, consistent-from_none}
 use Rattle.mpslp_model.proofs.DraftEntries.{IsGood, good-adding_all, empty_good}
 use Rattle.mpslp_model.proofs.WellFormed.{IsWellFormed, well_formed-from_consistent}
 use Rattle.mpslp_model.proofs.MeaningFromNoFault.{meant-from_no_fault}
@@ -26,6 +26,7 @@ use Rattle.mpslp_model.proofs.NoFaultFromMeaning.{no_fault-from_meant}
 
 -- ---- several declarations after several
 
+-- the draft, and the refusals, of declarations after others
 pub adding_all-append : (xs ys : Declarations) (before : Draft) → adding_all before (xs ++ ys) ≡ adding_all (adding_all before xs) ys
 adding_all-append [] ys before = refl
 adding_all-append (x ∷ xs) ys before = adding_all-append xs ys (adding before x)
@@ -39,6 +40,7 @@ refusals_in_turn-append (x ∷ xs) ys before =
 
 -- ---- what keeps a draft one that a builder can hold
 
+-- a builder begins with nothing declared
 pub empty_made : IsMade empty_draft
 empty_made = record { declarations = []; legal = refl; unrefused = refl; draft = refl }
 
@@ -128,6 +130,7 @@ objective-declared [] before none there = absurd cc
 objective-declared (declare_objective name ∷ more) before none there = refl
 objective-declared (d ∷ more) before none there = objective-declared more (adding before d) none there
 
+-- with an objective, its declarations are consistent
 pub consistent-from_made : (all : Draft) (made : IsMade all) → is_some all.objective ≡ true → AreConsistent made.declarations
 consistent-from_made all made there =
     consistent-from_none made.declarations
@@ -141,14 +144,17 @@ good-from_made all made =
     subst (λ (draft : Draft). IsGood draft draft) (sym made.draft)
     (good-adding_all drafted made.declarations empty_draft (empty_good drafted) made.legal fine.known fine.allowed)
 
+-- with an objective, it is well formed
 pub well_formed-from_made : (all : Draft) → IsMade all → is_some all.objective ≡ true → IsWellFormed all
 well_formed-from_made all made there =
     subst IsWellFormed (sym made.draft) (well_formed-from_consistent made.declarations (consistent-from_made all made there) made.legal)
 
 -- ---- the end: a model is meant exactly where there is no fault of the whole
 
+-- no fault is told: the model of the draft is meant
 pub meant-from_made : (all : Draft) → IsMade all → is_some all.objective ≡ true → file_fault all ≡ None → DraftMeans all (model_of all)
 meant-from_made all made there none = meant-from_no_fault all (well_formed-from_made all made there) none
 
+-- a model is meant: no fault is told
 pub no_fault-from_made : (all : Draft) (m : LinearModel) → IsMade all → is_some all.objective ≡ true → DraftMeans all m → file_fault all ≡ None
 no_fault-from_made all m made there meant = no_fault-from_meant all m (well_formed-from_made all made there) meant

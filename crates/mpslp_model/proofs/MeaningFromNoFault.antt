@@ -1,6 +1,6 @@
 -- What has no fault of the whole file means its model.
 use Rattle.std.proofs.Common.{◌≡◌, ◌<◌, refl, sym, ap, subst, ◌∙◌, ℕ, zero, suc, List, [], ◌∷◌, length, Bool, true, false, not, cond, map, arith}
-use Rattle.std.specs.Prelude.{◌&&◌, ◌||◌, ◌==◌, ℤ, Option, Some, None, is_some, unwrap_or, filter, pos, negsuc}
+use Rattle.std.specs.Prelude.{◌&&◌, ◌||◌, ℤ, Option, Some, None, is_some, unwrap_or, filter, pos, negsuc}
 use Rattle.std.specs.List.{list_all}
 use Rattle.std.specs.Option.{option_map_or}
 use Rattle.std.specs.Cmp.{first_so, second_so}
@@ -13,24 +13,24 @@ use Rattle.std.specs.FinMap.Entries.{below_all}
 use Rattle.mpslp_decimal.specs.Decimal.{Number, zero_number, is_decimal, is_zero, negated}
 use Rattle.mpslp_model.specs.Name.{same_bytes, is_mps_name, is_one_of}
 use Rattle.mpslp_model.specs.Model.{LinearModel, Row, Column, Place, bytes_cmp, place_cmp, are_sides, is_at_most, is_lower_side, is_upper_side, has_bounded_distance, is_bounded_decimal, is_sound_row, is_sound_column, is_sound_coefficient}
-use Rattle.mpslp_model.specs.Declaration.{RowForm, by_type, by_limits, Declaration, declare_objective, declare_row, Declarations, Draft, empty_draft, adding, adding_all, draft_of, at_name, has_name, has_row, has_column, is_objective, names_in}
+use Rattle.mpslp_model.specs.Declaration.{RowForm, by_type, by_limits, Declarations, Draft, draft_of, at_name, has_name, has_row, has_column, names_in}
 use Rattle.mpslp_model.specs.Sides.{have_infinite_side, is_plus_infinite, is_minus_infinite}
 use Rattle.mpslp_model.specs.Limits.{limits_of, plain_limits, has_infinite_right_side, is_inexact, is_too_large, is_crossed}
 use Rattle.mpslp_model.specs.Bounds.{zero_limit, one_limit, lower_bound, upper_bound, has_no_side, column_of, has_crossed_bounds}
 use Rattle.mpslp_model.specs.Made.{is_given, are_given, is_legal}
 use Rattle.mpslp_model.specs.Refusal.{is_nonempty}
 use Rattle.mpslp_model.specs.Meaning.{right_side_or_zero, row_limits, row_entry, model_of, objective_name, file_fault, DraftMeans, Means}
-use Rattle.mpslp_model.specs.Consistency.{slots_of, has_objective, AreConsistent, all_slots, are_distinct, same_slot}
+use Rattle.mpslp_model.specs.Consistency.{AreConsistent}
 use Rattle.mpslp_model.specs.declared.kinds.Limit.{Limit}
 use Rattle.mpslp_model.specs.declared.kinds.Limit.TheVariants.{MinusInf, Finite, PlusInf}
 use Rattle.mpslp_model.specs.declared.kinds.RowType.TheVariants.{Free}
-use Rattle.mpslp_model.proofs.BoolLemmas.{both_so, or_left, or_right, not_so, back}
-use Rattle.mpslp_model.proofs.SlotLemmas.{has-put, same_name, are_fresh, are_fresh_in_turn, fresh_in_turn-is}
+use Rattle.mpslp_model.proofs.BoolLemmas.{both_so, or_right, not_so}
 use Rattle.mpslp_model.proofs.RefusalLemmas.{itself_named}
 use Rattle.mpslp_model.proofs.RowSoundness.{IsSoundForm, sound-from_no_fault, is_legal_form}
 use Rattle.mpslp_model.proofs.DraftEntries.{IsGood}
 use Rattle.mpslp_model.proofs.WellFormed.{IsWellFormed, well_formed-from_consistent}
-use Rattle.mpslp_model.proofs.FileFaultLemmas.{HasNoFault, no_fault-from_none, imp_all, and_all, map_all, found_all}
+use Rattle.mpslp_model.proofs.EachLemmas.{imp_all, and_all, map_all}
+use Rattle.mpslp_model.proofs.FileFaultLemmas.{HasNoFault, no_fault-from_none, found_all}
 
 -- ---- the objective
 
@@ -58,6 +58,7 @@ below-mapped : {X Y : Type 0} (g : List ℕ × X → Y) (x : List ℕ) (es : Lis
 below-mapped g x [] = refl
 below-mapped g x (e ∷ es) = ap (λ (b : Bool). is_lt (bytes_cmp x e.0) && b) (below-mapped g x es)
 
+-- entries with other values at the same names are sorted alike, and have the same names
 pub sorted-mapped : {X Y : Type 0} (g : List ℕ × X → Y) (es : List (List ℕ × X)) → is_sorted bytes_cmp (map (λ e. (e.0, g e)) es) ≡ is_sorted bytes_cmp es
 sorted-mapped g [] = refl
 sorted-mapped g (e ∷ es) = λ i. below-mapped g e.0 es i && sorted-mapped g es i

@@ -1,6 +1,6 @@
 -- What means a model has no fault of the whole file.
 use Rattle.std.proofs.Common.{◌≡◌, ◌<◌, refl, sym, ap, subst, ◌∙◌, ℕ, List, [], ◌∷◌, length, Bool, true, false, not, cond, map, arith}
-use Rattle.std.specs.Prelude.{◌&&◌, ◌||◌, ◌==◌, Option, Some, None, is_some, is_none, unwrap_or}
+use Rattle.std.specs.Prelude.{◌&&◌, ◌||◌, Option, Some, None, is_some, is_none, unwrap_or}
 use Rattle.std.specs.List.{list_all}
 use Rattle.std.specs.Option.{option_map_or}
 use Rattle.std.specs.Cmp.{first_so, second_so}
@@ -9,7 +9,7 @@ use Rattle.std.specs.FinMap as maps
 use Rattle.mpslp_decimal.specs.Decimal.{Number, zero_number, is_decimal, is_negative, is_infinite_size, size_of, sum_of, difference_of}
 use Rattle.mpslp_model.specs.Name.{is_mps_name}
 use Rattle.mpslp_model.specs.Model.{LinearModel, Row, Column, bytes_cmp, IsSound, are_sides, is_at_most, is_lower_side, is_upper_side, has_bounded_distance, is_bounded_decimal, is_sound_row, is_sound_column, limit_of}
-use Rattle.mpslp_model.specs.Declaration.{RowForm, by_type, by_limits, Declarations, Draft, empty_draft, draft_of, at_name, names_in}
+use Rattle.mpslp_model.specs.Declaration.{RowForm, by_type, by_limits, Declarations, Draft, draft_of, at_name, names_in}
 use Rattle.mpslp_model.specs.Limits.{sides, plain_limits, limits_of, has_infinite_right_side, is_inexact, is_too_large, is_large_limit, is_crossed}
 use Rattle.mpslp_model.specs.Bounds.{lower_bound, upper_bound, column_of, has_crossed_bounds}
 use Rattle.mpslp_model.specs.Made.{is_legal}
@@ -20,7 +20,8 @@ use Rattle.mpslp_model.specs.declared.kinds.Limit.TheVariants.{MinusInf, Finite,
 use Rattle.mpslp_model.specs.declared.kinds.RowType.TheVariants.{Free, AtMost, AtLeast, Equal}
 use Rattle.mpslp_model.proofs.BoolLemmas.{not_so, so_not, both_false}
 use Rattle.mpslp_model.proofs.WellFormed.{IsWellFormed, well_formed-from_consistent}
-use Rattle.mpslp_model.proofs.FileFaultLemmas.{none-from_no_fault, imp_all, and_all, map_all}
+use Rattle.mpslp_model.proofs.EachLemmas.{imp_all, and_all, map_all}
+use Rattle.mpslp_model.proofs.FileFaultLemmas.{none-from_no_fault}
 use Rattle.mpslp_model.proofs.MeaningFromNoFault.{sorted-mapped, names-mapped}
 
 abbrev sides_hold : Option Row → Bool
@@ -108,6 +109,7 @@ near MinusInf (Finite b) h k d = (refl, both_false (is_infinite_size b) false (f
 near MinusInf PlusInf h k d = (refl, refl)
 near PlusInf u h k d = absurd cc
 
+-- a row that has no fault
 pub record PassesTests (form : RowForm) (b : Number) (r : Option Number) : Type 0 where
   pub finite : not (has_infinite_right_side form b r) ≡ true
   pub exact : not (is_inexact (limits_of form b r)) ≡ true

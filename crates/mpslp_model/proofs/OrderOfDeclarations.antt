@@ -183,9 +183,11 @@ reorders = along_permutation Reorders reorders_same reorders_skip reorders_turn 
 
 -- ---- what does not depend on the order
 
+-- the draft
 pub draft-permutation : (xs ys : Declarations) → IsPermutation xs ys → AreConsistent xs → draft_of xs ≡ draft_of ys
 draft-permutation xs ys moved c = (reorders xs ys moved).draft c.once empty_draft
 
+-- whether they are consistent
 pub consistent-permutation : (xs ys : Declarations) → IsPermutation xs ys → AreConsistent xs → AreConsistent ys
 consistent-permutation xs ys moved c =
     let r = reorders xs ys moved in

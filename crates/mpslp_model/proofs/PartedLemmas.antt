@@ -34,6 +34,7 @@ module _ {K X Y : Type 0} (R : K → K → Ordering) (o : IsTotalOrder R) (same 
       by true e = some_append_left R o same (entry x).0 xs ys (g e)
       by false e = some_append_right R o same (entry x).0 xs ys (h (ap not e))
 
+  -- Entries of the elements that pass, and then of the others, give all elements' entries in order.
   pub parted-give : (p : Y → Bool) (xs : List Y) → T (is_sorted R (map entry xs)) → Each (λ x. is_some (find R (entry x).0 (f x)) ≡ true) xs
       → Each (λ x. Each (λ e. e ≡ entry x) (f x)) xs
       → puts R (flat_map f (filter p xs) ++ flat_map f (filter (λ x. not (p x)) xs)) [] ≡ map entry xs

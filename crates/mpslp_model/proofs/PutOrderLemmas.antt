@@ -1,11 +1,14 @@
--- Two entries at different keys are put in either order.
-use Rattle.std.proofs.Common.{◌≡◌, refl, sym, ap, ◌∙◌, List, [], ◌∷◌, Bool, true, false}
+-- Entries at different keys are put in either order, and an entry that is there is put without effect.
+use Rattle.std.proofs.Common.{◌≡◌, refl, sym, ap, ◌∙◌, List, [], ◌∷◌, false, cond}
+use Rattle.std.specs.Prelude.{Bool, true, Some}
 use Rattle.std.specs.Ordering.{eq_by_cmp, is_eq, ordering_reverse}
 use Rattle.std.specs.Cmp.{IsTotalOrder}
 use Rattle.std.specs.declared.cmp.Ordering.{Ordering}
 use Rattle.std.specs.declared.cmp.Ordering.TheVariants.{Less, Equal, Greater}
-use Rattle.std.specs.FinMap.{put}
-use Rattle.std.specs.FinMap.Entries.{by_order}
+use Rattle.std.specs.FinMap.{find, put, is_sorted}
+use Rattle.std.specs.FinMap.Entries.{by_order, find-put, same_entries, is_sorted-put}
+use Rattle.std.proofs.Math.Dec.{T}
+use Rattle.mpslp_model.proofs.PutsLemmas.{equal_from}
 
 module _ {K X : Type 0} (R : K → K → Ordering) (o : IsTotalOrder R) where
   -- the first key is below the second
@@ -39,6 +42,7 @@ module _ {K X : Type 0} (R : K → K → Ordering) (o : IsTotalOrder R) where
           absurd cc
       by Greater Greater p q rest = rw (p, q) (ap (λ (more : List (K × X)). e ∷ more) rest)
 
+  -- at different keys, in either order
   pub put-put : (j k : K) (w v : X) (es : List (K × X)) → eq_by_cmp R j k ≡ false → put R k v (put R j w es) ≡ put R j w (put R k v es)
   put-put j k w v es apart = by (R j k) refl apart
     where
@@ -46,3 +50,13 @@ module _ {K X : Type 0} (R : K → K → Ordering) (o : IsTotalOrder R) where
       by Less is a = put_below j k w v is es
       by Equal is a = absurd cc
       by Greater is a = sym (put_below k j v w (o.antisymm k j ∙ ap ordering_reverse is) es)
+
+  -- an entry that stands in sorted entries
+  pub put-again : (k : K) (v : X) (es : List (K × X)) → ((x y : K) → R x y ≡ Equal → x ≡ y) → T (is_sorted R es) → find R k es ≡ Some v → put R k v es ≡ es
+  put-again k v es same sorted there =
+      same_entries R o same (put R k v es) es (is_sorted-put R o k v es sorted) sorted
+      (λ q. find-put R o q k v es ∙ by q (eq_by_cmp R q k) refl)
+    where
+      by : (q : K) (b : Bool) → eq_by_cmp R q k ≡ b → cond b (Some v) (find R q es) ≡ find R q es
+      by q true is = sym (ap (λ (x : K). find R x es) (same q k (equal_from (R q k) is)) ∙ there)
+      by q false is = refl

@@ -10,7 +10,8 @@ use Rattle.std.specs.FinMap.Entries.{find-put, same_entries, is_sorted-put, belo
 use Rattle.std.proofs.Math.Dec.{T}
 use Rattle.mpslp_model.proofs.EachLemmas.{Each}
 
-equal_from : (r : Ordering) → is_eq r ≡ true → r ≡ Equal
+-- a tie, by its test
+pub equal_from : (r : Ordering) → is_eq r ≡ true → r ≡ Equal
 equal_from Less h = cc
 equal_from Equal h = refl
 equal_from Greater h = cc
@@ -18,6 +19,7 @@ equal_from Greater h = cc
 none_is : false ≡ true → ⊥
 none_is e = cc
 
+-- a test as a type and as an equation
 pub true_from : (b : Bool) → T b → b ≡ true
 true_from true h = refl
 true_from false h = absurd h
@@ -37,6 +39,7 @@ module _ {K : Type 0} (R : K → K → Ordering) (o : IsTotalOrder R) (same : (x
       let w : is_lt Equal ≡ true = ap is_lt (sym z ∙ e) ∙ below in cc
 
 module _ {K X : Type 0} (R : K → K → Ordering) where
+  -- entries put one after another
   abbrev pub puts : List (K × X) → List (K × X) → List (K × X)
   puts [] base = base
   puts (e ∷ es) base = puts es (put R e.0 e.1 base)
@@ -50,7 +53,8 @@ module _ {K X : Type 0} (R : K → K → Ordering) where
   IsPartOf base target = (q : K) (x : X) → find R q base ≡ Some x → find R q target ≡ Some x
 
   module _ (o : IsTotalOrder R) (same : (x y : K) → R x y ≡ Equal → x ≡ y) where
-    is_sorted-puts : (es base : List (K × X)) → T (is_sorted R base) → T (is_sorted R (puts es base))
+    -- sorted entries stay sorted
+    pub is_sorted-puts : (es base : List (K × X)) → T (is_sorted R base) → T (is_sorted R (puts es base))
     is_sorted-puts [] base h = h
     is_sorted-puts (e ∷ es) base h = is_sorted-puts es (put R e.0 e.1 base) (is_sorted-put R o e.0 e.1 base h)
 
@@ -118,6 +122,7 @@ module _ {K X : Type 0} (R : K → K → Ordering) where
     pub find-front : (k : K) (v : X) (es : List (K × X)) → is_some (find R k ((k, v) ∷ es)) ≡ true
     find-front k v es = ap (λ (b : Bool). is_some (cond b (Some v) (find R k es))) (tied R o same k)
 
+    -- a key that is found among some entries is found among more
     pub some_cons : (q k : K) (v : X) (es : List (K × X)) → is_some (find R q es) ≡ true → is_some (find R q ((k, v) ∷ es)) ≡ true
     some_cons q k v es h = by (eq_by_cmp R q k)
       where

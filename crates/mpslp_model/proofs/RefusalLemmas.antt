@@ -20,6 +20,7 @@ use Rattle.mpslp_model.proofs.SlotLemmas.{limits_need_row, at-put, has-put, are_
 
 -- ---- what a later draft keeps
 
+-- The later draft keeps what the earlier one has.
 pub record Extends (before after : Draft) : Type 0 where
   pub objective : (name : List ℕ) → before.objective ≡ Some name → after.objective ≡ Some name
   pub constant : is_some before.constant ≡ true → is_some after.constant ≡ true

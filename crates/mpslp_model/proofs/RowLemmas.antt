@@ -13,6 +13,7 @@ use Rattle.mpslp_model.specs.declared.kinds.Limit.TheVariants.{MinusInf, Finite,
 use Rattle.mpslp_model.specs.declared.kinds.RowType.{RowType}
 use Rattle.mpslp_model.specs.declared.kinds.RowType.TheVariants.{Free, AtMost, AtLeast, Equal}
 use Rattle.mpslp_decimal.proofs.ScaleLemmas.{sum-difference}
+use Rattle.mpslp_decimal.proofs.OrderLemmas.{same_decimal, difference_size}
 
 abbrev pub have_same_value : Number → Number → Bool
 have_same_value a b = is_eq (decimal_cmp a b)
@@ -55,21 +56,19 @@ apart_values : (a b : Number) (distance : Option Number) → difference_of b a �
 apart_values a b None e h p q s = cc
 apart_values a b (Some d) e h p q s = ap (λ (x : Number). sides (Some a) (sum_of a x)) (s d e) ∙ ap (sides (Some a)) (sum-difference a b d p q e)
 
--- the tests of a sound row give back what was printed
+-- A row's limits, where they are sound, are those of the type, right side and range that are told of it.
 pub row_back : (lower upper : Limit) → are_sides lower upper ≡ true → has_bounded_distance lower upper ≡ true
-    → ((a b : Number) → IsDecimal a → IsDecimal b → have_same_value a b ≡ true → a ≡ b)
-    → ((a b d : Number) → is_at_most (Finite a) (Finite b) ≡ true → difference_of b a ≡ Some d → size_of d ≡ d)
     → limits_of (by_type (printed_type lower upper)) (printed_side lower upper) (printed_range lower upper) ≡ Some (record { lower = lower; upper = upper })
-row_back MinusInf MinusInf h w same size = cc
-row_back MinusInf (Finite b) h w same size = λ i. Some (record { lower = MinusInf; upper = limit-finite b (first_so (is_bounded_decimal b) _ h) i })
-row_back MinusInf PlusInf h w same size = refl
-row_back (Finite a) MinusInf h w same size = absurd (never (is_bounded_decimal a) h)
+row_back MinusInf MinusInf h w = cc
+row_back MinusInf (Finite b) h w = λ i. Some (record { lower = MinusInf; upper = limit-finite b (first_so (is_bounded_decimal b) _ h) i })
+row_back MinusInf PlusInf h w = refl
+row_back (Finite a) MinusInf h w = absurd (never (is_bounded_decimal a) h)
   where
     never : (b : Bool) → (b && false) ≡ true → ⊥
     never true e = cc
     never false e = cc
-row_back (Finite a) PlusInf h w same size = λ i. Some (record { lower = limit-finite a (first_so (is_bounded_decimal a) _ h) i; upper = PlusInf })
-row_back (Finite a) (Finite b) h w same size = by (have_same_value a b) refl
+row_back (Finite a) PlusInf h w = λ i. Some (record { lower = limit-finite a (first_so (is_bounded_decimal a) _ h) i; upper = PlusInf })
+row_back (Finite a) (Finite b) h w = by (have_same_value a b) refl
   where
     good_a : is_bounded_decimal a ≡ true
     good_a = first_so (is_bounded_decimal a) (is_bounded_decimal b && is_at_most (Finite a) (Finite b)) h
@@ -84,6 +83,6 @@ row_back (Finite a) (Finite b) h w same size = by (have_same_value a b) refl
     dec_b = first_so (is_decimal b) (not (is_infinite_size b)) (first_so (is_bounded_decimal b) (is_at_most (Finite a) (Finite b)) rest)
 
     by : (t : Bool) → have_same_value a b ≡ t → limits_of (by_type (cond t Equal AtLeast)) a (cond t None (difference_of b a)) ≡ Some (record { lower = Finite a; upper = Finite b })
-    by true e = same_values a b e good_a (same a b dec_a dec_b e)
-    by false e = apart_values a b (difference_of b a) refl w dec_a dec_b (λ d is. size a b d (second_so (is_bounded_decimal b) (is_at_most (Finite a) (Finite b)) rest) is)
-row_back PlusInf upper h w same size = cc
+    by true e = same_values a b e good_a (same_decimal a b dec_a dec_b e)
+    by false e = apart_values a b (difference_of b a) refl w dec_a dec_b (λ d is. difference_size a b d (second_so (is_bounded_decimal b) (is_at_most (Finite a) (Finite b)) rest) is)
+row_back PlusInf upper h w = cc

@@ -167,3 +167,15 @@ from_limits (Some row) m a b c =
 pub sound-from_no_fault : (form : RowForm) (b : Number) (r : Option Number) → is_legal_form form ≡ true → is_decimal b ≡ true → has_infinite_right_side form b r ≡ false
     → is_inexact (limits_of form b r) ≡ false → is_too_large (limits_of form b r) ≡ false → is_crossed (limits_of form b r) ≡ false → IsSoundForm (limits_of form b r)
 sound-from_no_fault form b r f h k = from_limits (limits_of form b r) (sides-of_form form b r f h k)
+
+-- the side that a given value makes may be declared
+pub given-limit_of : (d : Number) → is_decimal d ≡ true → is_given (limit_of d) ≡ true
+given-limit_of d h = by (is_infinite_size d) refl
+  where
+    by_sign : (negative : Bool) → is_given (cond negative MinusInf PlusInf) ≡ true
+    by_sign true = refl
+    by_sign false = refl
+
+    by : (infinite : Bool) → is_infinite_size d ≡ infinite → is_given (cond infinite (cond (is_negative d) MinusInf PlusInf) (Finite d)) ≡ true
+    by true is = by_sign (is_negative d)
+    by false is = both_so (is_decimal d) (not (is_infinite_size d)) h (so_not (is_infinite_size d) is)

@@ -1,9 +1,14 @@
--- Laws of the meaning of declarations.
-use Rattle.std.specs.Prelude.{◌≡◌}
+-- Laws of names, declarations and their meaning.
+use Rattle.std.specs.Prelude.{◌≡◌, ℕ, List}
 use Rattle.std.specs.List.Sorted.{IsPermutation}
+use Rattle.mpslp_model.specs.Name.{IsMpsName, IsLpName}
 use Rattle.mpslp_model.specs.Model.{LinearModel}
 use Rattle.mpslp_model.specs.Declaration.{Declarations}
 use Rattle.mpslp_model.specs.Meaning.{Means}
+
+-- What is a name in LP is one in MPS.
+abbrev pub LpNamesAreMpsNames : Type 0
+LpNamesAreMpsNames = (name : List ℕ) → IsLpName name → IsMpsName name
 
 -- Two models that the same declarations mean are one.
 abbrev pub MeanOneModel : Type 0

@@ -1,33 +1,46 @@
 //! What is wrong with a file, or with a call of the builder.
 
 use crate::names::Name;
+use thiserror::Error;
 
 /// Why a declaration is refused by the builder. Where several hold, the call's own order decides.
-#[derive(Clone, Copy, Debug, PartialEq, Eq)]
+#[derive(Clone, Copy, Debug, PartialEq, Eq, Error)]
 pub enum BuildFault {
     /// The sense is declared already.
+    #[error("the sense is declared twice")]
     DuplicateSense,
     /// The objective has its name already.
+    #[error("the objective is named twice")]
     SecondObjective,
     /// No row and no objective of this name is declared.
+    #[error("no such row is declared")]
     UnknownRow,
     /// No column of this name is declared.
+    #[error("no such column is declared")]
     UnknownColumn,
     /// A row or the objective of this name is declared already.
+    #[error("the row is declared twice")]
     DuplicateRow,
     /// The coefficient of this row and column is declared already.
+    #[error("the coefficient is declared twice")]
     DuplicateEntry,
     /// The right side, or the objective's constant, is declared already.
+    #[error("the right side is declared twice")]
     DuplicateRhs,
     /// The range is declared already.
+    #[error("the range is declared twice")]
     DuplicateRange,
     /// The side of the column is declared already.
+    #[error("the bound is declared twice")]
     DuplicateBound,
     /// A range on the objective or on a row of type [`Free`](crate::RowType::Free).
+    #[error("the objective or a free row has no range")]
     RangeOnFree,
     /// A side that no value meets, or a range value of infinite size.
+    #[error("the value is infinite")]
     InfiniteValue,
     /// There was no memory for the declaration.
+    #[error("out of memory")]
     OutOfMemory,
 }
 

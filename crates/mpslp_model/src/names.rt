@@ -6,20 +6,25 @@ ghost use Rattle.mpslp_model.specs.Name.{is_visible, same_bytes, marker, name_re
 
 use std::alloc::Global;
 use std::marker::Model;
+use thiserror::Error;
 
 /// The most bytes that a name has.
 pub const MAX_NAME_LEN: usize = 255;
 
 /// Why bytes are not taken as a name. Where several hold, the first of this list is told.
-#[derive(Clone, Copy, Debug, PartialEq, Eq)]
+#[derive(Clone, Copy, Debug, PartialEq, Eq, Error)]
 pub enum NameFault {
     /// There are no bytes, or more than [`MAX_NAME_LEN`].
+    #[error("a name has 1 to 255 bytes")]
     NameLength,
     /// A byte is a blank, a control character or not ASCII.
+    #[error("a name has a byte that is no visible ASCII character")]
     NameByte,
     /// The text is `'MARKER'`, which stands for no name in MPS.
+    #[error("'MARKER' is no name")]
     NameMarker,
     /// There was no memory for the name.
+    #[error("out of memory")]
     OutOfMemory,
 }
 
@@ -81,5 +86,41 @@ impl Name {
         ensures { result.now ≡ self.now }
     {
         &self.bytes
+    }
+}
+
+#[cfg(test)]
+mod tests {
+    use super::*;
+    use std::test::Fail;
+
+    #[test]
+    fn takes_names(rt: HostRuntime) -> Result<(), Fail> {
+        let name = Name::new(rt.alloc(), b"LIM1".as_slice())?;
+        assert_eq!(rt; name.as_bytes(), b"LIM1".as_slice());
+        let longest = Name::new(rt.alloc(), [b'a'; 255].as_slice())?;
+        assert_eq!(rt; longest.as_bytes().len(), 255);
+        Ok(())
+    }
+
+    #[test]
+    fn refuses_what_is_no_name(rt: HostRuntime) {
+        let alloc = rt.alloc();
+        assert_eq!(rt;
+            Name::new(alloc, b"".as_slice()).err(),
+            Some(NameFault::NameLength)
+        );
+        assert_eq!(rt;
+            Name::new(alloc, [b'a'; 256].as_slice()).err(),
+            Some(NameFault::NameLength)
+        );
+        assert_eq!(rt;
+            Name::new(alloc, b"a b".as_slice()).err(),
+            Some(NameFault::NameByte)
+        );
+        assert_eq!(rt;
+            Name::new(alloc, b"'MARKER'".as_slice()).err(),
+            Some(NameFault::NameMarker)
+        );
     }
 }

@@ -1,0 +1,114 @@
+//! The canonical text of a decimal.
+
+ghost use Rattle.std.specs.Prelude.{◌≡◌, ◌+◌, ◌≤◌, ◌++◌, ◌<◌, ℕ, List, [], length, replicate, unsigned_abs};
+ghost use Rattle.mpslp_decimal.specs.NumberText.{number_text, sign_text, scaled_text, with_point};
+
+use crate::number::Decimal;
+use arrayvec::ArrayVec;
+use itoa::Buffer;
+use std::marker::Model;
+
+/// Room for any text: at most a sign, the digits, a point and zeros or an exponent.
+const CAPACITY: usize = 64;
+
+const ZEROS: &[u8] = b"00000000000000000000";
+
+/// The canonical text of one decimal after another, in a place that takes no memory.
+pub struct DecimalText {
+    bytes: ArrayVec<u8, CAPACITY>,
+}
+
+impl Model for DecimalText {
+    ghost Value = { List ℕ };
+
+    ghost view = { λ t. t.bytes.items };
+}
+
+impl DecimalText {
+    /// A place that holds no text yet.
+    pub fn new() -> DecimalText
+        ensures { result ≡ [] }
+    {
+        DecimalText {
+            bytes: ArrayVec::new(),
+        }
+    }
+
+    /// The canonical text of a decimal, which stays until the next call.
+    ///
+    /// Zero is `0`. Exponents from 0 to 5 are written as zeros, those from -18 to -1 by a point with a
+    /// digit before it, and any other one after an `e`, as in `15e-20`.
+    pub fn put(&mut self, value: Decimal) -> &[u8]
+        ensures { result.now ≡ number_text value }
+    {
+        self.clear();
+        self.append_sign(value);
+        let mut buffer = Buffer::new();
+        let digits = buffer.format(value.mantissa().unsigned_abs() as u64);
+        self.append_scaled(digits.as_bytes(), value.exponent());
+        self.bytes.as_slice()
+    }
+
+    fn clear(&mut self)
+        ensures { self.new ≡ [] }
+    {
+        self.bytes.clear();
+    }
+
+    fn append(&mut self, piece: &[u8])
+        requires { length self.old + length piece.now ≤ CAPACITY }
+        ensures { self.new ≡ self.old ++ piece.now }
+    {
+        let is_full = self.bytes.try_extend_from_slice(piece).is_err();
+        prove!(!is_full);
+    }
+
+    fn append_sign(&mut self, value: Decimal)
+        requires { length self.old ≡ 0 }
+        ensures { self.new ≡ self.old ++ sign_text value }
+    {
+        if value.mantissa() < 0 {
+            self.append(b"-");
+        }
+    }
+
+    /// Appends digits times ten to the exponent.
+    fn append_scaled(&mut self, digits: &[u8], exponent: i32)
+        requires room { length self.old ≤ 1 }
+        requires digits { length digits.now ≤ 20 }
+        requires exponent { unsigned_abs exponent ≤ 500 }
+        ensures { self.new ≡ self.old ++ scaled_text digits.now exponent }
+    {
+        match exponent {
+            0..=5 => {
+                self.append(digits);
+                self.append(&ZEROS[..exponent as usize]);
+            }
+            -18..=-1 => self.append_with_point(digits, -exponent as usize),
+            _ => {
+                self.append(digits);
+                self.append(b"e");
+                self.append(Buffer::new().format(exponent).as_bytes());
+            }
+        }
+    }
+
+    /// Appends digits with a point before the last places, and zeros in front where there are too few digits.
+    fn append_with_point(&mut self, digits: &[u8], places: usize)
+        requires room { length self.old ≤ 1 }
+        requires digits { length digits.now ≤ 20 }
+        requires places { places ≤ 18 }
+        ensures { self.new ≡ self.old ++ with_point places digits.now }
+    {
+        if digits.len() > places {
+            let (whole, fraction) = digits.split_at(digits.len() - places);
+            self.append(whole);
+            self.append(b".");
+            self.append(fraction);
+        } else {
+            self.append(b"0.");
+            self.append(&ZEROS[..places - digits.len()]);
+            self.append(digits);
+        }
+    }
+}
