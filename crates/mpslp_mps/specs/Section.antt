@@ -30,11 +30,10 @@ abbrev pub section_begun : Item → Option Section
 section_begun (header keyword _) = section_named keyword
 section_begun _ = None
 
--- whether a line is the header of the section
-abbrev pub begins : Section → Item → Bool
-begins section (header keyword _) = same_bytes keyword (keyword_of section)
-begins section _ = false
-
 abbrev pub is_section : Section → Option Section → Bool
 is_section section None = false
 is_section section (Some current) = same_bytes (keyword_of section) (keyword_of current)
+
+-- whether a line is the header of the section
+abbrev pub begins : Section → Item → Bool
+begins section item = is_section section (section_begun item)
