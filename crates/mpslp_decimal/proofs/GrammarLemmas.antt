@@ -1,6 +1,6 @@
 -- A literal is its mantissa, read from the front, and an exponent part.
-use Rattle.std.proofs.Common.{◌≡◌, refl, sym, ap, subst, ◌∙◌, List, [], ◌∷◌, ◌++◌, length, take, drop, ℕ, zero, suc, Bool, true, false, cond, arith, ◌<◌, ◌≤◌, ◌+◌, append_assoc, length-append}
-use Rattle.std.specs.Prelude.{ℤ, pos, Option, Some, None, is_some, ◌&&◌, ◌||◌, not, nat_lt, if◌then◌else◌}
+use Rattle.std.proofs.Common.{◌≡◌, refl, sym, ap, subst, ◌∙◌, List, [], ◌∷◌, ◌++◌, length, take, drop, ℕ, suc, Bool, true, false, cond, arith, ◌<◌, ◌≤◌, ◌+◌, append_assoc}
+use Rattle.std.specs.Prelude.{ℤ, pos, Option, Some, None, ◌&&◌, ◌||◌, not, nat_lt}
 use Rattle.std.specs.List.{list_all, list_any, prefix_len, position_or_len, before_first, after_first}
 use Rattle.std.proofs.lemmas.List.{append-nil}
 use Rattle.std.proofs.lemmas.Bool.Decides.{nat_tests}
@@ -8,7 +8,7 @@ use Rattle.mpslp_decimal.specs.Literal.{is_digit, is_sign, is_point, is_exponent
 use Rattle.mpslp_decimal.specs.Scan.{digits_front, after_digits, after_point, fraction_front, mantissa_front, after_fraction, after_mantissa, exponent_of, exponent_after, capped_exponent, IsSignificandOf, zeros_of, IsScanOf}
 use Rattle.mpslp_decimal.specs.declared.literal.Scan.{Scan}
 use Rattle.mpslp_decimal.proofs.NumberTextLemmas.{are-digits}
-use Rattle.mpslp_decimal.proofs.CutLemmas.{Each, Each-weaker, Each-append, AreDigits, list_all-digits, digit-no_mark, digit-no_point}
+use Rattle.mpslp_decimal.proofs.CutLemmas.{Each, Each-weaker, Each-append, AreDigits, digit-no_mark, digit-no_point}
 
 -- ---- cuts behind a front that holds no cut
 

@@ -9,4 +9,7 @@ pub mod GrammarLemmas
 pub mod MantissaLemmas
 pub mod NumberOfLemmas
 pub mod PointLemmas
+pub mod InfinityLemmas
+pub mod ValueLemmas
+pub mod SpellsLemmas
 pub mod WorkedNumbers

@@ -1,10 +1,10 @@
 -- The significand of digits before and after a point.
-use Rattle.std.proofs.Common.{◌≡◌, refl, sym, ap, subst, ◌∙◌, List, [], ◌∷◌, ◌++◌, length, take, drop, get_or, ℕ, zero, suc, length-drop, true, arith, ◌<◌, ◌≤◌, ◌+◌, ◌-◌, ◌*◌, ◌^◌, lit<}
+use Rattle.std.proofs.Common.{◌≡◌, refl, sym, ap, subst, ◌∙◌, List, [], ◌∷◌, ◌++◌, length, take, drop, get_or, ℕ, zero, suc, length-drop, true, arith, ◌≤◌, ◌+◌, ◌-◌, ◌*◌, ◌^◌, lit<}
 use Rattle.std.specs.List.{prefix_len}
 use Rattle.std.proofs.lemmas.List.Sums.{prefix_len-le-length}
 use Rattle.std.proofs.lemmas.List.{append-nil}
 use Rattle.mpslp_decimal.specs.Literal.{digits_sum, is_digit, is_point}
-use Rattle.mpslp_decimal.specs.Scan.{IsStripped, IsSignificandOf, digits_front, after_digits, after_point, fraction_front, mantissa_front}
+use Rattle.mpslp_decimal.specs.Scan.{IsSignificandOf, digits_front, after_digits, after_point, fraction_front, mantissa_front}
 use Rattle.mpslp_decimal.specs.declared.literal.Significand.{Significand}
 use Rattle.mpslp_decimal.specs.declared.literal.Significand.TheVariants.{Few}
 use Rattle.mpslp_decimal.proofs.CutLemmas.{digits_sum-append}

@@ -1,21 +1,21 @@
 -- What the parts of a literal give as its decimal.
-use Rattle.std.proofs.Common.{◌≡◌, refl, sym, ap, subst, ◌∙◌, List, [], ◌∷◌, length, ℕ, zero, suc, Bool, true, false, cond, arith, ◌<◌, ◌≤◌, ◌+◌, ◌-◌, ◌*◌, ◌^◌, ◌%◌, pow-suc, lit<}
-use Rattle.std.specs.Prelude.{ℤ, pos, negsuc, ◌+ℤ◌, ◌-ℤ◌, neg_ℤ, unsigned_abs, int_le, min, ◌&&◌, ◌||◌, not, ◌==◌, nat_lt, nat_le, if◌then◌else◌, Result, Ok, Err}
+use Rattle.std.proofs.Common.{◌≡◌, refl, sym, ap, subst, ◌∙◌, List, [], ◌∷◌, length, ℕ, zero, suc, Bool, true, false, arith, ◌<◌, ◌≤◌, ◌+◌, ◌-◌, ◌*◌, ◌^◌, ◌%◌, pow-suc, lit<}
+use Rattle.std.specs.Prelude.{ℤ, pos, negsuc, ◌+ℤ◌, ◌-ℤ◌, neg_ℤ, unsigned_abs, min, ◌&&◌, not, ◌==◌, nat_lt, nat_le, if◌then◌else◌, Result, Ok, Err}
 use Rattle.std.specs.List.{list_all}
 use Rattle.std.specs.Cmp.{first_so, second_so}
 use Rattle.std.proofs.Math.Nat.{pow-le-pow_right}
 use Rattle.std.proofs.lemmas.Int.{ints}
 use Rattle.std.proofs.lemmas.Bool.{le-ltb, lt-ltb, ltb-true, ltb-false}
 use Rattle.std.proofs.lemmas.Bool.Decides.{nat_tests}
-use Rattle.mpslp_decimal.specs.Decimal.{Number, is_zero, normal, has_few_digits, has_small_exponent, zero_number}
+use Rattle.mpslp_decimal.specs.Decimal.{Number, normal, has_few_digits, has_small_exponent, zero_number}
 use Rattle.mpslp_decimal.specs.Literal.{is_digit, is_minus, without_sign, digits_sum, are_digits, signed, signed_value, fraction_digits, mantissa_digits, exponent_part, is_literal, literal_value, number_of}
-use Rattle.mpslp_decimal.specs.Scan.{IsStripped, IsSignificandOf, zeros_of, capped_exponent, in_range, IsScanOf}
+use Rattle.mpslp_decimal.specs.Scan.{IsStripped, IsSignificandOf, zeros_of, in_range, IsScanOf}
 use Rattle.mpslp_decimal.specs.declared.literal.NumberFault.{NumberFault}
 use Rattle.mpslp_decimal.specs.declared.literal.NumberFault.TheVariants.{BadNumber, LongNumber, TooManyDigits, ExponentRange}
 use Rattle.mpslp_decimal.specs.declared.literal.Scan.{Scan}
 use Rattle.mpslp_decimal.specs.declared.literal.Significand.{Significand}
 use Rattle.mpslp_decimal.specs.declared.literal.Significand.TheVariants.{Few, Many}
-use Rattle.mpslp_decimal.proofs.CutLemmas.{Each, AreDigits}
+use Rattle.mpslp_decimal.proofs.CutLemmas.{AreDigits}
 use Rattle.mpslp_decimal.proofs.NormalLemmas.{normal-tens, size-signed, pow_positive}
 
 -- ---- the tests in turn
@@ -62,7 +62,7 @@ zero-normal text n e h = let none : (unsigned_abs (signed (is_minus text) n) == 
 back : (e : ℤ) (z : ℕ) → e ≡ (e +ℤ pos z) -ℤ pos z
 back e z = omega (arith, ints)
 
-stripped-normal : (minus : Bool) (n m z : ℕ) (e : ℤ) → IsStripped n m z → 0 < n → z < 1100 → normal (record { mantissa = signed minus n; exponent = e }) ≡ record { mantissa = signed minus m; exponent = e +ℤ pos z }
+pub stripped-normal : (minus : Bool) (n m z : ℕ) (e : ℤ) → IsStripped n m z → 0 < n → z < 1100 → normal (record { mantissa = signed minus n; exponent = e }) ≡ record { mantissa = signed minus m; exponent = e +ℤ pos z }
 stripped-normal minus n m z e s some few =
     (λ i. normal (record { mantissa = signed minus (sym s.value i); exponent = back e z i })) ∙ normal-tens minus m z (e +ℤ pos z) (s.ends some) few
 
@@ -88,14 +88,14 @@ digits_sum-small (d ∷ ds) h =
         most : (x p : ℕ) → x < 10 → x * p ≤ 9 * p
         most x p h = grind arith
 
-digits-each : (ds : List ℕ) → list_all is_digit ds ≡ true → AreDigits ds
+pub digits-each : (ds : List ℕ) → list_all is_digit ds ≡ true → AreDigits ds
 digits-each [] h = tt
 digits-each (d ∷ ds) h = (first_so (is_digit d) (list_all is_digit ds) h, digits-each ds (second_so (is_digit d) (list_all is_digit ds) h))
 
 ten_positive : 0 < 10
 ten_positive = lit< tt
 
-few-zeros : (n m z len : ℕ) → IsStripped n m z → 0 < m → n < 10 ^ len → z < len
+pub few-zeros : (n m z len : ℕ) → IsStripped n m z → 0 < m → n < 10 ^ len → z < len
 few-zeros n m z len s some small = by (nat_lt z len) refl
   where
     by : (b : Bool) → nat_lt z len ≡ b → z < len

@@ -437,3 +437,10 @@ pub printed-pieces : (d : Number) (none sign all ds : List ℕ) (e : ℤ) → Is
     → ds ≡ decimal (unsigned_abs d.mantissa) → e ≡ d.exponent → all ≡ number_text d
 printed-pieces d none sign all ds e ok a b c f g =
     c ∙ (λ i. (b ∙ ap (λ (x : List ℕ). x ++ sign_text (is_negative d)) a) i ++ scaled_text (f i) (g i)) ∙ number_text-is d ok
+
+-- decimals with one text are one
+pub one-text : (a b : Number) → IsDecimal a → IsDecimal b → number_text a ≡ number_text b → a ≡ b
+one-text a b p q same = same_Ok (sym (number-text a p) ∙ ap number_of same ∙ number-text b q)
+  where
+    same_Ok : ◌≡◌ {A = Result Number NumberFault} (Ok a) (Ok b) → a ≡ b
+    same_Ok e = cc

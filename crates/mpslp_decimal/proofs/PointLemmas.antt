@@ -1,5 +1,5 @@
 -- Digits that a point and zeros stand before.
-use Rattle.std.proofs.Common.{◌≡◌, refl, sym, ap, ◌∙◌, List, [], ◌∷◌, ◌++◌, length, take, drop, replicate, ℕ, zero, suc, arith, ◌≤◌, ◌+◌, ◌-◌, append_assoc, length-append}
+use Rattle.std.proofs.Common.{◌≡◌, refl, sym, ap, ◌∙◌, List, [], ◌∷◌, ◌++◌, length, take, drop, replicate, ℕ, suc, arith, ◌≤◌, ◌+◌, ◌-◌, append_assoc, length-append}
 use Rattle.std.proofs.lemmas.List.{take-replicate, length-replicate}
 use Rattle.mpslp_decimal.specs.NumberText.{with_point}
 

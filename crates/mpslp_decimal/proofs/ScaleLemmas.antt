@@ -1,11 +1,9 @@
 -- Sums and differences at one scale: and that a difference is taken back.
 use Rattle.std.proofs.Common.{◌≡◌, refl, sym, ap, ◌∙◌, ℕ, zero, suc, Bool, true, false, cond, arith, ◌<◌, ◌≤◌, ◌*◌, ◌^◌, ◌%◌, ◌/◌, pow-suc}
 use Rattle.std.specs.Prelude.{◌==◌, ℤ, pos, negsuc, ◌+ℤ◌, ◌-ℤ◌, ◌*ℤ◌, neg_ℤ, unsigned_abs, int_div, int_le, ◌&&◌, if◌then◌else◌, Some, None}
-use Rattle.std.specs.Ordering.{int_eq}
 use Rattle.std.specs.Cmp.{first_so, second_so}
 use Rattle.std.proofs.lemmas.Int.{ints}
 use Rattle.std.proofs.lemmas.Bool.{leb-true}
-use Rattle.std.proofs.lemmas.Bool.Decides.{Decides-int_eq}
 use Rattle.mpslp_decimal.specs.Decimal.{Number, IsDecimal, is_decimal, is_zero, is_normal, normal, negated, zero_number, height, scaled, at_scale, sum_of, difference_of, has_few_digits, has_small_exponent, trailing_zeros, zeros_within}
 use Rattle.mpslp_decimal.specs.Literal.{signed}
 use Rattle.mpslp_decimal.proofs.NormalLemmas.{normal-tens, pow_positive, zero_mantissa}

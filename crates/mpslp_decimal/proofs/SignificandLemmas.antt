@@ -1,5 +1,5 @@
 -- One more digit behind a number, and its significand.
-use Rattle.std.proofs.Common.{◌≡◌, refl, sym, ap, ◌∙◌, ℕ, zero, suc, arith, ◌<◌, ◌≤◌, ◌+◌, ◌*◌, ◌^◌, ◌%◌, pow-suc, add-one, lit<, subst}
+use Rattle.std.proofs.Common.{◌≡◌, refl, sym, ap, ◌∙◌, ℕ, zero, suc, arith, ◌<◌, ◌≤◌, ◌+◌, ◌*◌, ◌^◌, pow-suc, add-one, lit<, subst}
 use Rattle.std.proofs.Math.Nat.{pow-le-pow_right, mul-le-mul_left}
 use Rattle.mpslp_decimal.specs.Scan.{IsStripped, IsSignificandOf}
 use Rattle.mpslp_decimal.specs.declared.literal.Significand.{Significand}
@@ -36,7 +36,7 @@ at_least : (n m z : ℕ) → IsStripped n m z → m ≤ n
 at_least n m z s = let b : m ≤ m * 10 ^ z = below_product m (10 ^ z) (pow_positive z) in omega (arith, s.value)
 
 -- too many digits stay too many
-pub many-more : (n d : ℕ) → d < 10 → IsSignificandOf Many n → IsSignificandOf Many (n * 10 + d)
+many-more : (n d : ℕ) → d < 10 → IsSignificandOf Many n → IsSignificandOf Many (n * 10 + d)
 many-more n zero small (m, z, (s, long)) = (m, z + 1, (stripped-zero n m z s, long))
 many-more n (suc d) small (m, z, (s, long)) =
     let b = at_least n m z s in (n * 10 + suc d, 0, (stripped-digit n (suc d) (omega arith) small, omega arith))
@@ -83,3 +83,7 @@ pub zero-digit-at : (s : Significand) (n m z d : ℕ) → s ≡ Few m z → IsSi
 zero-digit-at s n m z d is h none =
     let parts = subst (λ (t : Significand). IsSignificandOf t n) is h in
     rw none (stripped-zero n m z parts.0, parts.1)
+
+pub many-stays : (s : Significand) (n d : ℕ) → s ≡ Many → IsSignificandOf s n → d < 10 → IsSignificandOf s (n * 10 + d)
+many-stays s n d is h small =
+    subst (λ (t : Significand). IsSignificandOf t (n * 10 + d)) (sym is) (many-more n d small (subst (λ (t : Significand). IsSignificandOf t n) is h))

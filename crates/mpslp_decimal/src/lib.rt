@@ -4,6 +4,7 @@
 //! normal form, so two decimals are equal exactly if they are the same pair.
 #![tactic(auto)]
 
+pub mod laws;
 mod literal;
 mod number;
 mod text;
@@ -11,3 +12,6 @@ mod text;
 pub use literal::{MAX_LITERAL_LEN, NumberFault};
 pub use number::{Decimal, MAX_DIGITS, MAX_EXPONENT, MIN_EXPONENT};
 pub use text::DecimalText;
+
+#[cfg(test)]
+mod tests;

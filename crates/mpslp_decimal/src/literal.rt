@@ -47,7 +47,7 @@ impl Significand {
         ensures zeros { zeros_of result ≤ zeros_of self + 1 }
     {
         let Significand::Few(mantissa, zeros) = self else {
-            return Significand::Many;
+            return self;
         };
         if digit == 0 {
             return Significand::Few(mantissa, zeros + 1);
@@ -89,10 +89,8 @@ fn split_sign(text: &[u8]) -> (bool, &[u8])
 fn scan_digits(text: &[u8], before: Significand) -> (Significand, &[u8])
     requires room { zeros_of before + length text.now < 2 ^ 64 }
     ensures rest { result.1.now ≡ after_digits text.now }
-    ensures value {
-        let digits = digits_front text.now in
-        (n : ℕ) → IsSignificandOf before n → IsSignificandOf result.0 (n * 10 ^ length digits + digits_sum digits)
-    }
+    ensures value { let digits = digits_front text.now in
+        (n : ℕ) → IsSignificandOf before n → IsSignificandOf result.0 (n * 10 ^ length digits + digits_sum digits) }
     ensures zeros { zeros_of result.0 ≤ zeros_of before + prefix_len is_digit text.now }
 {
     let mut significand = before;

@@ -1,8 +1,8 @@
 //! The type of decimals, and what can be asked of one.
 
-ghost use Rattle.std.specs.Prelude.{◌≡◌, ◌↔◌, IsTrue};
+ghost use Rattle.std.specs.Prelude.{◌≡◌, ◌*◌, ◌^◌, ◌<◌, nat_le};
 ghost use Rattle.mpslp_decimal.specs.Literal.{number_of};
-ghost use Rattle.mpslp_decimal.specs.Decimal.{Number, zero_number, is_zero, negated, is_infinite_size, IsDecimal};
+ghost use Rattle.mpslp_decimal.specs.Decimal.{Number, zero_number, is_zero, negated, is_infinite_size, height, IsDecimal};
 
 use crate::literal::{self, NumberFault};
 use std::marker::Model;
@@ -15,6 +15,9 @@ pub const MIN_EXPONENT: i32 = -500;
 
 /// The greatest exponent of a decimal.
 pub const MAX_EXPONENT: i32 = 500;
+
+/// Sizes from ten to this exponent on count as infinite where they are limits or bounds.
+const INFINITE_EXPONENT: i32 = 20;
 
 /// An exact decimal, a mantissa times a power of ten.
 ///
@@ -29,7 +32,7 @@ pub struct Decimal {
 
 impl Model for Decimal {
     ghost use Rattle.mpslp_decimal.specs.Literal.{number_of};
-ghost use Rattle.mpslp_decimal.specs.Decimal.{Number, number_code, IsDecimal};
+    ghost use Rattle.mpslp_decimal.specs.Decimal.{Number, number_code, IsDecimal};
 
     ghost Value = { Number };
 
@@ -105,4 +108,25 @@ impl Decimal {
             exponent: self.exponent,
         }
     }
+
+    /// Whether the size is at least 10^20. Model files write infinite limits and bounds so.
+    pub fn is_infinite_size(self) -> bool
+        ensures { result ≡ is_infinite_size self }
+    {
+        reaches_infinity(self.mantissa.unsigned_abs(), self.exponent)
+    }
+}
+
+/// Whether so many units of a power of ten are 10^20 or more.
+fn reaches_infinity(units: u128, exponent: i32) -> bool
+    requires few { units < 10 ^ MAX_DIGITS }
+    ensures { result ≡ nat_le (10 ^ 520) (units * 10 ^ height exponent) }
+{
+    if exponent >= INFINITE_EXPONENT {
+        return units != 0;
+    }
+    if exponent <= INFINITE_EXPONENT - MAX_DIGITS as i32 {
+        return false;
+    }
+    units >= 10u128.pow((INFINITE_EXPONENT - exponent) as u32)
 }

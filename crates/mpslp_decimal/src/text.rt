@@ -14,6 +14,7 @@ const CAPACITY: usize = 64;
 const ZEROS: &[u8] = b"00000000000000000000";
 
 /// The canonical text of one decimal after another, in a place that takes no memory.
+#[derive(Drop)]
 pub struct DecimalText {
     bytes: ArrayVec<u8, CAPACITY>,
 }

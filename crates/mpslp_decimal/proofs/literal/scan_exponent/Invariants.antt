@@ -1,4 +1,4 @@
-use Rattle.std.proofs.Common.{◌≡◌, ◌≤◌, true, take}
+use Rattle.std.proofs.Common.{◌≡◌, true, take}
 use Rattle.std.specs.Prelude.{min}
 use Rattle.std.specs.List.{list_all}
 use Rattle.mpslp_decimal.specs.Literal.{is_digit, digits_sum}
@@ -7,6 +7,6 @@ use Rattle.mpslp_decimal.proofs.literal.scan_exponent.Given as goal
 -- the digits so far
 abbrev pub invariant-loop-digit : goal.invariant-loop-digit
 invariant-loop-digit l = record {
-    size : l.size ≡ min (digits_sum (take l.digit-index l.digits)) 100000;
-    digits : list_all is_digit (take l.digit-index l.digits) ≡ true;
-  }
+  size : l.size ≡ min (digits_sum (take l.digit-index l.digits)) 100000;
+  digits : list_all is_digit (take l.digit-index l.digits) ≡ true;
+}

@@ -1,11 +1,9 @@
-use Rattle.std.proofs.Common.{subst, arith}
-use Rattle.mpslp_decimal.specs.Scan.{IsSignificandOf}
-use Rattle.mpslp_decimal.specs.declared.literal.Significand.{Significand}
-use Rattle.mpslp_decimal.proofs.SignificandLemmas.{many-more, zero-digit-at, many-digit-at, few-digit-at, one-more-zero}
+use Rattle.std.proofs.Common.{arith}
+use Rattle.mpslp_decimal.proofs.SignificandLemmas.{many-stays, zero-digit-at, many-digit-at, few-digit-at, one-more-zero}
 use Rattle.mpslp_decimal.proofs.literal.Significand.followed_by.Goals as goal
 
 pub returns-in_default-clause-value : goal.returns-in_default-clause-value
-returns-in_default-clause-value c = λ n is. many-more n c.args.digit c.requires.digit (subst (λ (s : Significand). IsSignificandOf s n) c.in_default.is is)
+returns-in_default-clause-value c = λ n is. many-stays c.args.self n c.args.digit c.in_default.is is c.requires.digit
 
 pub returns-then-digit-eq0-clause-value : goal.returns-then-digit-eq0-clause-value
 returns-then-digit-eq0-clause-value c = λ n is. zero-digit-at c.args.self n _ _ c.args.digit c.in-Few.is is c.if-digit-eq0.true

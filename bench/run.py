@@ -1,0 +1,225 @@
+#!/usr/bin/env python3
+"""Compare mpslp with other programs that read and write MPS files.
+
+Each program reads a generated file and writes the same model as MPS again,
+without solving it. The table has the least wall time of some runs and the
+largest resident memory of any. Files are kept in bench/data/.
+"""
+
+import argparse
+import os
+import resource
+import shutil
+import subprocess
+import sys
+import time
+from pathlib import Path
+
+from generate import HOSTILE, size_in_bytes
+
+HERE = Path(__file__).resolve().parent
+DATA = HERE / "data"
+OUTPUT = DATA / "output.mps"
+GENERATOR = HERE / "generate.py"
+SOURCES = (GENERATOR, HERE / "literals.py")
+DEFAULT_PROGRAM = HERE.parent / "crates" / "mpslp" / "out" / "mpslp"
+
+# The full kinds leave out OBJSENSE, which glpsol does not read.
+KINDS = {
+    "thin": ("--thin",),
+    "thin-shuffled": ("--thin", "--shuffle"),
+    "full": ("--minimise",),
+    "full-shuffled": ("--minimise", "--shuffle"),
+}
+
+
+class Program:
+    """A program, and its words for reading the input and writing OUTPUT."""
+
+    def __init__(self, name, path, words, by_streams=False):
+        self.name = name
+        self.path = path
+        self.words = words
+        self.by_streams = by_streams
+
+    def command(self, source):
+        return [self.path] + [str(source) if word == "INPUT" else word for word in self.words]
+
+    def start(self, source):
+        if not self.by_streams:
+            return subprocess.Popen(self.command(source), stdin=subprocess.DEVNULL,
+                                    stdout=subprocess.DEVNULL, stderr=subprocess.DEVNULL)
+        with open(source, "rb") as reader, open(OUTPUT, "wb") as writer:
+            return subprocess.Popen(self.command(source), stdin=reader, stdout=writer,
+                                    stderr=subprocess.DEVNULL)
+
+
+def programs(path_of_ours):
+    output = str(OUTPUT)
+    return [
+        Program("mpslp", found(path_of_ours), ("canon", "mps", "mps", "-"), by_streams=True),
+        Program("glpsol", found("glpsol"), ("--freemps", "INPUT", "--check", "--wfreemps", output)),
+        # Without "presolve off" clp writes the presolved model. Its format 4
+        # keeps all digits of a double; its usual one keeps fewer.
+        Program("clp", found("clp"), (
+            "INPUT", "-presolve", "off", "-outputFormat", "4", "-export", output, "-quit")),
+    ]
+
+
+def found(name):
+    """The program's whole path, or None where it is missing."""
+    path = shutil.which(str(name))
+    return os.path.abspath(path) if path else None
+
+
+class Result:
+    def __init__(self, seconds, memory_bytes, failure):
+        self.seconds = seconds
+        self.memory_bytes = memory_bytes
+        self.failure = failure
+
+
+def run_once(program, source):
+    OUTPUT.unlink(missing_ok=True)
+    start = time.perf_counter()
+    process = program.start(source)
+    _, status, usage = os.wait4(process.pid, 0)
+    seconds = time.perf_counter() - start
+    process.returncode = os.waitstatus_to_exitcode(status)
+    return Result(seconds, usage.ru_maxrss * 1024, failure_of(process.returncode))
+
+
+def failure_of(code):
+    if code < 0:
+        return f"stopped by signal {-code}"
+    if code > 0:
+        return f"failed with status {code}"
+    # clp answers 0 for a file that it refuses too, but then it writes none.
+    if not OUTPUT.exists() or OUTPUT.stat().st_size == 0:
+        return "wrote nothing"
+    return None
+
+
+def best_of(program, source, runs):
+    results = []
+    for _ in range(runs):
+        result = run_once(program, source)
+        if result.failure:
+            return result
+        results.append(result)
+    least = min(result.seconds for result in results)
+    most = max(result.memory_bytes for result in results)
+    return Result(least, most, None)
+
+
+def generated(name, words):
+    """The cached file of this name, made anew where the generator has changed."""
+    DATA.mkdir(exist_ok=True)
+    path = DATA / (name + ".mps")
+    newest_source = max(source.stat().st_mtime for source in SOURCES)
+    if path.exists() and path.stat().st_mtime > newest_source:
+        return path
+    print(f"generating {path.name}", file=sys.stderr)
+    # Under another name first, so that a stopped run leaves no half file. In
+    # another process, because the memory of this one would be counted into
+    # that of each program it starts.
+    part = path.with_suffix(".part")
+    with open(part, "wb") as writer:
+        subprocess.run([sys.executable, str(GENERATOR), *words], stdout=writer, check=True)
+    part.replace(path)
+    return path
+
+
+def read_once(path):
+    """Brings the file into the system's cache: disks are not measured."""
+    with open(path, "rb") as reader:
+        while reader.read(1 << 20):
+            pass
+
+
+def table_line(source, program, result):
+    size = source.stat().st_size
+    fields = [source.stem, f"{size / 1e6:.1f}", program.name]
+    if result.failure:
+        fields += [result.failure, "", ""]
+    else:
+        fields += [f"{result.seconds:.2f}", f"{size / 1e6 / result.seconds:.1f}",
+                   memory_text(result.memory_bytes)]
+    return "| " + " | ".join(fields) + " |"
+
+
+def memory_text(size):
+    """A program's peak counts that of this one, which starts it: less cannot be told."""
+    own = resource.getrusage(resource.RUSAGE_SELF).ru_maxrss * 1024
+    text = f"{size / 1e6:.0f}"
+    return text if size > own else "at most " + text
+
+
+def compare(sources, candidates, runs):
+    print("| file | MB | program | seconds | MB/s | peak memory, MB |")
+    print("|---|---|---|---|---|---|")
+    for name, words in sources:
+        source = generated(name, words)
+        read_once(source)
+        for program in candidates:
+            print(table_line(source, program, best_of(program, source, runs)), flush=True)
+    OUTPUT.unlink(missing_ok=True)
+
+
+def present(candidates):
+    for program in candidates:
+        if program.path is None:
+            print(f"{program.name} is not there: left out", file=sys.stderr)
+    return [program for program in candidates if program.path]
+
+
+def wanted_files(options):
+    """Names of files, and the generator's words for them."""
+    hostile = {name: ("--hostile", name) for name in sorted(HOSTILE)}
+    shapes = hostile if options.hostile else {kind: KINDS[kind] for kind in options.kinds}
+    return [
+        (f"{name}-{size}-seed-{options.seed}", words + ("--size", size, "--seed", str(options.seed)))
+        for size in options.sizes for name, words in shapes.items()
+    ]
+
+
+def listed(text):
+    return text.split(",")
+
+
+def arguments():
+    parser = argparse.ArgumentParser(
+        description=__doc__, formatter_class=argparse.RawDescriptionHelpFormatter)
+    parser.add_argument("--sizes", type=listed, default=["10M"], help="as 10M,100M; default 10M")
+    parser.add_argument("--kinds", type=listed, default=["thin", "full"],
+                        help="some of " + ",".join(KINDS) + "; default thin,full")
+    parser.add_argument("--hostile", action="store_true",
+                        help="the hostile files in place of the kinds")
+    parser.add_argument("--seed", type=int, default=1)
+    parser.add_argument("--runs", type=int, default=3)
+    parser.add_argument("--program", default=DEFAULT_PROGRAM, help="the path of mpslp")
+    options = parser.parse_args()
+    check(parser, options)
+    return options
+
+
+def check(parser, options):
+    for kind in options.kinds:
+        if kind not in KINDS:
+            parser.error(f"unknown kind: {kind}")
+    for size in options.sizes:
+        try:
+            size_in_bytes(size)
+        except ValueError:
+            parser.error(f"not a size: {size}")
+    if options.runs < 1:
+        parser.error("at least one run is needed")
+
+
+def main():
+    options = arguments()
+    compare(wanted_files(options), present(programs(options.program)), options.runs)
+
+
+if __name__ == "__main__":
+    main()

@@ -1,0 +1,70 @@
+//! Measures how fast number literals are read and printed.
+//!
+//! Standard input has one literal a line. How many numbers there are is told on standard output, and
+//! the speeds on standard error, in millions of numbers a second: the best of several rounds.
+#![tactic(auto)]
+
+use bstr::ByteSlice;
+use mpslp_decimal::{Decimal, DecimalText};
+use std::alloc::{AllocError, Global};
+use std::io;
+use std::io::Read;
+use std::rt::Clock;
+use std::time::Instant;
+
+const ROUNDS: usize = 5;
+
+/// The decimals of the lines that are literals, pushed behind those that are there.
+fn parse_lines(text: &[u8], numbers: &mut Vec<Decimal>) -> Result<(), AllocError> {
+    for line in text.lines() {
+        if let Ok(number) = Decimal::parse(line) {
+            numbers.push(number)?;
+        }
+    }
+    Ok(())
+}
+
+/// How many bytes the texts of the numbers have.
+fn put_all(numbers: &[Decimal]) -> usize {
+    let mut text = DecimalText::new();
+    let mut bytes = 0usize;
+    for number in numbers {
+        bytes = bytes.wrapping_add(text.put(*number).len());
+    }
+    bytes
+}
+
+fn micros(rt: &impl Clock, start: Instant) -> io::Result<u128> {
+    Ok(start.elapsed(rt)?.as_micros().max(1))
+}
+
+/// Tells a speed with one place after the point.
+fn report(rt: &impl Eprint, name: &str, count: usize, micros: u128) -> io::Result<()> {
+    let tenths = (count as u128).saturating_mul(10) / micros.max(1);
+    eprintln!(rt; "{name} {}.{} million/s", tenths / 10, tenths % 10)
+}
+
+fn run<R: Input + Print + Eprint + Clock + AllocGlobal>(rt: &R, alloc: Global) -> io::Result<()> {
+    let mut text = Vec::new(alloc);
+    rt.reader().read_to_end(&mut text)?;
+    let mut numbers = Vec::new(alloc);
+    let mut parse_time = u128::MAX;
+    let mut put_time = u128::MAX;
+    let mut bytes = 0;
+    for _ in 0..ROUNDS {
+        numbers.clear();
+        let start = Instant::now(rt)?;
+        parse_lines(text.as_slice(), &mut numbers)?;
+        parse_time = parse_time.min(micros(rt, start)?);
+        let start = Instant::now(rt)?;
+        bytes = put_all(numbers.as_slice());
+        put_time = put_time.min(micros(rt, start)?);
+    }
+    report(rt, "Decimal::parse", numbers.len(), parse_time)?;
+    report(rt, "DecimalText::put", numbers.len(), put_time)?;
+    println!(rt; "{} numbers, {bytes} bytes of canonical text", numbers.len())
+}
+
+fn main(rt: HostRuntime) -> io::Result<()> {
+    run(&rt, rt.alloc())
+}

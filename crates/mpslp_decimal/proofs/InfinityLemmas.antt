@@ -1,0 +1,86 @@
+-- When so many units of a power of ten are ten to the twentieth, counted in units of the least exponent.
+use Rattle.std.proofs.Common.{◌≡◌, refl, sym, ap, ◌∙◌, ℕ, zero, suc, Bool, true, false, arith, ◌<◌, ◌≤◌, ◌+◌, ◌*◌, ◌^◌, lit<}
+use Rattle.std.specs.Prelude.{ℤ, pos, negsuc, ◌≤ℤ◌, ◌<ℤ◌, ◌-ℤ◌, nat_le, unsigned_abs, ◌==◌, not}
+use Rattle.std.proofs.Math.Nat.{pow-le-pow_right}
+use Rattle.std.proofs.lemmas.Nat.{pow-add}
+use Rattle.std.proofs.lemmas.Int.{ints}
+use Rattle.std.proofs.lemmas.Bool.Decides.{nat_tests}
+use Rattle.mpslp_decimal.specs.Decimal.{height}
+use Rattle.mpslp_decimal.proofs.NormalLemmas.{pow_positive}
+
+ten_positive : 0 < 10
+ten_positive = lit< tt
+
+yes : (a b : ℕ) → a ≤ b → true ≡ nat_le a b
+yes a b h = grind (arith, nat_tests)
+
+no : (a b : ℕ) → b < a → false ≡ nat_le a b
+no a b h = grind (arith, nat_tests)
+
+at_least : (s p : ℕ) → 0 < s → p ≤ s * p
+at_least s p h = grind arith
+
+-- the power is infinite itself
+large : (s h t : ℕ) → t ≤ 10 ^ h → 0 < t → not (s == 0) ≡ nat_le t (s * 10 ^ h)
+large zero h t le some = no t (0 * 10 ^ h) (omega arith)
+large (suc s) h t le some = let b = at_least (suc s) (10 ^ h) (omega arith) in nonzero (suc s) (omega arith) ∙ yes t (suc s * 10 ^ h) (omega (arith, b))
+  where
+    nonzero : (n : ℕ) → 0 < n → not (n == 0) ≡ true
+    nonzero n h = grind (arith, nat_tests)
+
+-- no mantissa makes up for so small a power
+small : (s p q t : ℕ) → s < q → 0 < p → q * p ≤ t → false ≡ nat_le t (s * p)
+small s p q t h some le = no t (s * p) (let b = below s p q h some in omega arith)
+  where
+    below : (s p q : ℕ) → s < q → 0 < p → s * p < q * p
+    below s p q h some = grind arith
+
+-- between the two
+between : (s p q : ℕ) → 0 < p → nat_le q s ≡ nat_le (q * p) (s * p)
+between s p q some = by (nat_le q s) refl
+  where
+    more : (s p q : ℕ) → q ≤ s → q * p ≤ s * p
+    more s p q h = grind arith
+
+    less : (s p q : ℕ) → s < q → 0 < p → s * p < q * p
+    less s p q h some = grind arith
+
+    by : (b : Bool) → nat_le q s ≡ b → b ≡ nat_le (q * p) (s * p)
+    by true h = yes (q * p) (s * p) (more s p q (grind (arith, nat_tests)))
+    by false h = no (q * p) (s * p) (less s p q (grind (arith, nat_tests)) some)
+
+powers : (k h n : ℕ) → k + h ≡ n → 10 ^ k * 10 ^ h ≡ 10 ^ n
+powers k h n e = sym (pow-add 10 k h) ∙ ap (λ (m : ℕ). 10 ^ m) e
+
+pub infinite-large : (s : ℕ) (e : ℤ) → pos 20 ≤ℤ e → not (s == 0) ≡ nat_le (10 ^ 520) (s * 10 ^ height e)
+infinite-large s (pos n) h = let l : 520 ≤ n + 500 = above n h in large s (n + 500) (10 ^ 520) (pow-le-pow_right ten_positive l) (pow_positive 520)
+  where
+    above : (n : ℕ) → pos 20 ≤ℤ pos n → 520 ≤ n + 500
+    above n h = omega (arith, ints)
+infinite-large s (negsuc n) h = absurd (omega (arith, ints))
+
+height-small : (e : ℤ) → e ≤ℤ pos 2 → height e ≤ 502
+height-small (pos n) h = omega (arith, ints)
+height-small (negsuc n) h = omega arith
+
+pub infinite-small : (s : ℕ) (e : ℤ) → s < 10 ^ 18 → e ≤ℤ pos 2 → false ≡ nat_le (10 ^ 520) (s * 10 ^ height e)
+infinite-small s e few h =
+    let le : 10 ^ (18 + height e) ≤ 10 ^ 520 = let l : 18 + height e ≤ 520 = (let k = height-small e h in omega arith) in pow-le-pow_right ten_positive l in
+    let same : 10 ^ 18 * 10 ^ height e ≡ 10 ^ (18 + height e) = powers 18 (height e) (18 + height e) refl in
+    small s (10 ^ height e) (10 ^ 18) (10 ^ 520) few (pow_positive (height e)) (omega (arith, same, le))
+
+size-of_places : (e z : ℤ) → z ≡ pos 20 -ℤ e → e <ℤ pos 20 → pos (unsigned_abs z) ≡ pos 20 -ℤ e
+size-of_places e (pos k) is below = is
+size-of_places e (negsuc k) is below = absurd (omega (arith, ints))
+
+pub infinite-between : (s : ℕ) (e z : ℤ) (p : ℕ) → p ≡ 10 ^ unsigned_abs z → z ≡ pos 20 -ℤ e → e <ℤ pos 20 → pos 2 <ℤ e → nat_le p s ≡ nat_le (10 ^ 520) (s * 10 ^ height e)
+infinite-between s (pos n) z p power is below above =
+    let places : pos (unsigned_abs z) ≡ pos 20 -ℤ pos n = size-of_places (pos n) z is below in
+    let sum : unsigned_abs z + (n + 500) ≡ 520 = total (unsigned_abs z) n places in
+    ap (λ (q : ℕ). nat_le q s) power
+    ∙ between s (10 ^ (n + 500)) (10 ^ unsigned_abs z) (pow_positive (n + 500))
+    ∙ ap (λ (t : ℕ). nat_le t (s * 10 ^ (n + 500))) (powers (unsigned_abs z) (n + 500) 520 sum)
+  where
+    total : (k n : ℕ) → pos k ≡ pos 20 -ℤ pos n → k + (n + 500) ≡ 520
+    total k n h = omega (arith, ints)
+infinite-between s (negsuc n) z p power is below above = absurd (omega (arith, ints))

@@ -1,0 +1,27 @@
+//! What holds of all decimals and texts, said by functions that do nothing: their contracts are proved
+//! for every value.
+
+ghost use Rattle.std.specs.Prelude.{◌≡◌, ◌↔◌, ℕ, List, Ok};
+ghost use Rattle.mpslp_decimal.specs.Decimal.{Number, HasSameValue, IsDecimal};
+ghost use Rattle.mpslp_decimal.specs.Literal.{Spells, number_of};
+ghost use Rattle.mpslp_decimal.specs.NumberText.{number_text};
+
+/// Decimals of one value are one pair of mantissa and exponent.
+pub fn one_form()
+    ensures { (a b : Number) → IsDecimal a → IsDecimal b → HasSameValue a b → a ≡ b }
+{}
+
+/// A text is read as a decimal exactly if it is a literal of at most 255 bytes that has its value.
+pub fn literals_are_read_by_value()
+    ensures { (text : List ℕ) (d : Number) → (number_of text ≡ Ok d) ↔ Spells text d }
+{}
+
+/// The canonical text of a decimal is a literal that is read as this decimal.
+pub fn text_is_read_back()
+    ensures { (d : Number) → IsDecimal d → number_of (number_text d) ≡ Ok d }
+{}
+
+/// Decimals with one text are one.
+pub fn one_text()
+    ensures { (a b : Number) → IsDecimal a → IsDecimal b → number_text a ≡ number_text b → a ≡ b }
+{}

@@ -1,0 +1,115 @@
+//! Worked literals, texts and questions, through the public calls.
+
+use crate::{Decimal, DecimalText, NumberFault, laws};
+use std::test::Fail;
+
+/// A literal, and its canonical text.
+const ACCEPTED: [(&str, &str); 21] = [
+    ("-0.0", "0"),
+    ("0e999", "0"),
+    ("0e99999999999999999999999999999999999999", "0"),
+    (".5", "0.5"),
+    ("3.", "3"),
+    ("1.50", "1.5"),
+    ("+7", "7"),
+    ("000000000000000000000000000001", "1"),
+    ("123456789012345678", "123456789012345678"),
+    ("1234567890123456780", "1234567890123456780"),
+    ("1e5", "100000"),
+    ("1e6", "1e6"),
+    ("12.50e-20", "125e-21"),
+    ("-15e-18", "-0.000000000000000015"),
+    ("123456789012345678e-18", "0.123456789012345678"),
+    ("-123456789012345678e-17", "-1.23456789012345678"),
+    ("1e500", "1e500"),
+    ("1000e497", "1e500"),
+    ("1E-500", "1e-500"),
+    ("3.0000000000", "3"),
+    ("-1e+00", "-1"),
+];
+
+const REFUSED: [(&str, NumberFault); 16] = [
+    ("", NumberFault::BadNumber),
+    (".", NumberFault::BadNumber),
+    ("e5", NumberFault::BadNumber),
+    ("1e", NumberFault::BadNumber),
+    ("1e+", NumberFault::BadNumber),
+    ("+-1", NumberFault::BadNumber),
+    ("1 ", NumberFault::BadNumber),
+    ("1.2.3", NumberFault::BadNumber),
+    ("1x", NumberFault::BadNumber),
+    ("1e5.0", NumberFault::BadNumber),
+    ("inf", NumberFault::BadNumber),
+    ("1234567890123456789", NumberFault::TooManyDigits),
+    ("1000000000000000001e600", NumberFault::TooManyDigits),
+    ("1e501", NumberFault::ExponentRange),
+    ("10e500", NumberFault::ExponentRange),
+    (
+        "1e-99999999999999999999999999999999999",
+        NumberFault::ExponentRange,
+    ),
+];
+
+#[test]
+fn reads_and_prints_worked_literals(rt: HostRuntime) -> Result<(), Fail> {
+    let mut text = DecimalText::new();
+    for (literal, want) in ACCEPTED {
+        let value = Decimal::parse(literal.as_bytes())?;
+        assert_eq!(rt; text.put(value), want.as_bytes(), "at {literal}");
+    }
+    for (literal, want) in REFUSED {
+        assert!(rt;
+            Decimal::parse(literal.as_bytes()) == Err(want),
+            "at {literal}"
+        );
+    }
+    Ok(())
+}
+
+#[test]
+fn keeps_the_limit_of_length(rt: HostRuntime) -> Result<(), Fail> {
+    let mut literal = vec![in rt.alloc(); b'0'; 255]?;
+    literal[0] = b'1';
+    let mut text = DecimalText::new();
+    assert_eq!(rt; text.put(Decimal::parse(&literal)?), b"1e254".as_slice());
+    literal.push(b'0')?;
+    assert!(rt; Decimal::parse(&literal) == Err(NumberFault::LongNumber));
+    literal.push(b'x')?;
+    assert!(rt; Decimal::parse(&literal) == Err(NumberFault::BadNumber));
+    Ok(())
+}
+
+#[test]
+fn answers_what_is_asked_of_a_decimal(rt: HostRuntime) -> Result<(), Fail> {
+    let value = Decimal::parse(b"-12.50")?;
+    assert!(rt; value.mantissa() == -125 && value.exponent() == -1);
+    assert!(rt; value.negate() == Decimal::parse(b"12.5")?);
+    assert!(rt; !value.is_zero() && Decimal::zero().is_zero());
+    assert!(rt; Decimal::zero() == Decimal::parse(b"-0e5")?);
+    for (literal, is_infinite) in [
+        ("1e20", true),
+        ("-1e20", true),
+        ("99999999999999999900", false),
+        ("100000000000000001000", true),
+        ("1e19", false),
+        ("0", false),
+        ("1e500", true),
+        ("-1e30", true),
+        ("1e-500", false),
+    ] {
+        assert_eq!(rt;
+            Decimal::parse(literal.as_bytes())?.is_infinite_size(),
+            is_infinite,
+            "at {literal}"
+        );
+    }
+    Ok(())
+}
+
+#[test]
+fn laws_can_be_called() {
+    laws::one_form();
+    laws::literals_are_read_by_value();
+    laws::text_is_read_back();
+    laws::one_text();
+}
