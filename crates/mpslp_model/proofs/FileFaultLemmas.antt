@@ -15,7 +15,6 @@ use Rattle.mpslp_model.specs.Meaning.{whole_fault, row_passes, head_of, rows_whe
 use Rattle.mpslp_model.specs.declared.faults.Fault.{Fault}
 use Rattle.mpslp_model.specs.declared.faults.FaultKind.{FaultKind}
 use Rattle.mpslp_model.specs.declared.faults.FaultKind.TheVariants.{NoColumns, InfiniteLimit, RangeInexact, LimitTooLarge, LimitsCrossed, NegativeUpper, BoundsCrossed, BinaryBounds}
-use Rattle.mpslp_model.proofs.BoolLemmas.{both_so}
 
 -- ---- the tests of the kinds
 

@@ -8,6 +8,7 @@ pub mod CoefficientLemmas
 pub mod BoundsLemmas
 pub mod RowLemmas
 pub mod SlotLemmas
+pub mod LaterDrafts
 pub mod RefusalLemmas
 pub mod RowSoundness
 pub mod DraftEntries

@@ -18,7 +18,7 @@ use Rattle.mpslp_model.specs.declared.kinds.Limit.{Limit}
 use Rattle.mpslp_model.specs.declared.faults.BuildFault.{BuildFault}
 use Rattle.mpslp_model.specs.declared.faults.BuildFault.TheVariants.{UnknownColumn, DuplicateBound, InfiniteValue}
 use Rattle.mpslp_model.proofs.BoolLemmas.{both_so, nor}
-use Rattle.mpslp_model.proofs.RefusalLemmas.{first_none, rest_none, pass, join_none, empty_well, none-fine, consistent-from_none}
+use Rattle.mpslp_model.proofs.RefusalLemmas.{first_none, rest_none, pass, join_none, empty_declared_names, none-fine, consistent-from_none}
 use Rattle.mpslp_model.proofs.DraftEntries.{IsGood, good-adding_all, empty_good}
 use Rattle.mpslp_model.proofs.WellFormed.{IsWellFormed, well_formed-from_consistent}
 use Rattle.mpslp_model.proofs.MeaningFromNoFault.{meant-from_no_fault}
@@ -140,7 +140,7 @@ consistent-from_made all made there =
 pub good-from_made : (all : Draft) → IsMade all → IsGood all all
 good-from_made all made =
     let drafted = draft_of made.declarations in
-    let fine = none-fine made.declarations empty_draft empty_well refl made.unrefused in
+    let fine = none-fine made.declarations empty_draft empty_declared_names refl made.unrefused in
     subst (λ (draft : Draft). IsGood draft draft) (sym made.draft)
     (good-adding_all drafted made.declarations empty_draft (empty_good drafted) made.legal fine.known fine.allowed)
 

@@ -25,7 +25,7 @@ use Rattle.mpslp_model.specs.declared.kinds.Limit.{Limit}
 use Rattle.mpslp_model.specs.declared.kinds.Limit.TheVariants.{MinusInf, Finite, PlusInf}
 use Rattle.mpslp_model.specs.declared.kinds.RowType.TheVariants.{Free}
 use Rattle.mpslp_model.proofs.BoolLemmas.{both_so, or_right, not_so}
-use Rattle.mpslp_model.proofs.RefusalLemmas.{itself_named}
+use Rattle.mpslp_model.proofs.LaterDrafts.{itself_named}
 use Rattle.mpslp_model.proofs.RowSoundness.{IsSoundForm, sound-from_no_fault, is_legal_form}
 use Rattle.mpslp_model.proofs.DraftEntries.{IsGood}
 use Rattle.mpslp_model.proofs.WellFormed.{IsWellFormed, well_formed-from_consistent}

@@ -1,5 +1,5 @@
 -- Declarations of which none is refused after those before it are consistent; and the converse.
-use Rattle.std.proofs.Common.{◌≡◌, refl, sym, ap, ◌∙◌, ℕ, List, [], ◌∷◌, ◌++◌, Bool, true, false, not, cond}
+use Rattle.std.proofs.Common.{◌≡◌, refl, sym, ap, ◌∙◌, ℕ, List, [], ◌∷◌, ◌++◌, Bool, true, false, not}
 use Rattle.std.specs.Prelude.{◌&&◌, ◌||◌, Option, Some, None, is_some}
 use Rattle.std.specs.Option.{option_map_or}
 use Rattle.std.specs.List.{list_all}
@@ -16,115 +16,13 @@ use Rattle.mpslp_model.specs.Refusal.{has_constant, those_of, refusals, refusals
 use Rattle.mpslp_model.specs.declared.faults.BuildFault.{BuildFault}
 use Rattle.mpslp_model.specs.declared.faults.BuildFault.TheVariants as builds
 use Rattle.mpslp_model.proofs.BoolLemmas.{both_so, or_left, or_right, not_so, so_not, back, nor, both_false}
-use Rattle.mpslp_model.proofs.SlotLemmas.{limits_need_row, at-put, has-put, are_fresh, is_filled, are_fresh_in_turn, fresh_in_turn-is, same_name}
-
--- ---- what a later draft keeps
-
--- The later draft keeps what the earlier one has.
-pub record Extends (before after : Draft) : Type 0 where
-  pub objective : (name : List ℕ) → before.objective ≡ Some name → after.objective ≡ Some name
-  pub constant : is_some before.constant ≡ true → is_some after.constant ≡ true
-  pub right_side : (name : List ℕ) → has_name before.right_sides name ≡ true → has_name after.right_sides name ≡ true
-  pub row : (name : List ℕ) (form : RowForm) → at_name before.rows name ≡ Some form → at_name after.rows name ≡ Some form
-  pub column : (name : List ℕ) → has_column before name ≡ true → has_column after name ≡ true
-
-pub itself : (all : Draft) → Extends all all
-itself all = record { objective = λ _ h. h; constant = λ h. h; right_side = λ _ h. h; row = λ _ _ h. h; column = λ _ h. h }
-
-then_on : (a b c : Draft) → Extends a b → Extends b c → Extends a c
-then_on a b c f g = record {
-  objective = λ n h. g.objective n (f.objective n h);
-  constant = λ h. g.constant (f.constant h);
-  right_side = λ n h. g.right_side n (f.right_side n h);
-  row = λ n form h. g.row n form (f.row n form h);
-  column = λ n h. g.column n (f.column n h);
-}
-
-none_before : (o : Option (List ℕ)) (name : List ℕ) (rest : Bool) → (not (is_some o) && rest) ≡ true → o ≡ Some name → ⊥
-none_before None name rest h e = cc
-none_before (Some x) name rest h e = cc
-
-more_entries : {X : Type 0} (q k : List ℕ) (v : X) (es : List (List ℕ × X)) → has_name es q ≡ true → has_name (put bytes_cmp k v es) q ≡ true
-more_entries q k v es h = has-put q k v es ∙ or_right (same_bytes q k) (has_name es q) h
-
--- a row more, of a new name
-kept_row : (b : Bool) (new : RowForm) (o : Option RowForm) (form : RowForm) → (b ≡ true → o ≡ Some form → ⊥) → o ≡ Some form → cond b (Some new) o ≡ Some form
-kept_row true new o form apart h = absurd (apart refl h)
-kept_row false new o form apart h = h
-
-found_so : {X : Type 0} (o : Option X) (x : X) → o ≡ Some x → is_some o ≡ true
-found_so o x h = ap is_some h
-
-is_new_row : (all : Draft) (name q : List ℕ) (form : RowForm) (rest : Bool) → (not (has_row all name) && rest) ≡ true → same_bytes q name ≡ true → at_name all.rows q ≡ Some form → ⊥
-is_new_row all name q form rest h same found =
-    let there : has_name all.rows name ≡ true = ap (λ (k : List ℕ). has_name all.rows k) (sym (same_name q name same)) ∙ ap is_some found in
-    let none : has_row all name ≡ false = not_so (has_row all name) (first_so (not (has_row all name)) rest h) in
-    let so : has_row all name ≡ true = or_right (is_objective all name) (has_name all.rows name) there in
-    cc
-
-extends-adding : (all : Draft) (d : Declaration) → are_fresh all (slots_of d) ≡ true → Extends all (adding all d)
-extends-adding all (declare_sense s) h = record { objective = λ _ h. h; constant = λ h. h; right_side = λ _ h. h; row = λ _ _ h. h; column = λ _ h. h }
-extends-adding all (declare_objective name) h = record { objective = λ n e. absurd (none_before all.objective n (not (has_row all name) && true) h e); constant = λ h. h; right_side = λ _ h. h; row = λ _ _ h. h; column = λ _ h. h }
-extends-adding all (declare_constant v) h = record { objective = λ _ h. h; constant = λ h. refl; right_side = λ _ h. h; row = λ _ _ h. h; column = λ _ h. h }
-extends-adding all (declare_row name form) h = record {
-  objective = λ _ h. h;
-  constant = λ h. h;
-  right_side = λ _ h. h;
-  row = λ q was e. at-put q name form all.rows ∙ kept_row (same_bytes q name) form (at_name all.rows q) was (λ same found. is_new_row all name q was _ h same found) e;
-  column = λ _ h. h;
-}
-extends-adding all (declare_right_side row v) h = record { objective = λ _ h. h; constant = λ h. h; right_side = λ q e. more_entries q row v all.right_sides e; row = λ _ _ h. h; column = λ _ h. h }
-extends-adding all (declare_column name) h = record { objective = λ _ h. h; constant = λ h. h; right_side = λ _ h. h; row = λ _ _ h. h; column = λ q e. more_entries q name tt all.columns e }
-extends-adding all _ h = record { objective = λ _ h. h; constant = λ h. h; right_side = λ _ h. h; row = λ _ _ h. h; column = λ _ h. h }
-
-pub extends-in_turn : (declarations : Declarations) (before : Draft) → are_fresh_in_turn before declarations ≡ true → Extends before (adding_all before declarations)
-extends-in_turn [] before h = itself before
-extends-in_turn (d ∷ more) before h =
-    then_on before (adding before d) (adding_all (adding before d) more)
-    (extends-adding before d (first_so (are_fresh before (slots_of d)) (are_fresh_in_turn (adding before d) more) h))
-    (extends-in_turn more (adding before d) (second_so (are_fresh before (slots_of d)) (are_fresh_in_turn (adding before d) more) h))
-
--- ---- what follows for names
-
-pub objective_is : (o : Option (List ℕ)) (q : List ℕ) → option_map_or (same_bytes q) o false ≡ true → o ≡ Some q
-objective_is None q h = cc
-objective_is (Some name) q h = ap (λ (n : List ℕ). Some n) (sym (same_name q name h))
-
-pub value_in : {X : Type 0} (o : Option X) → is_some o ≡ true → (x : X) × (o ≡ Some x)
-value_in None h = absurd cc
-value_in (Some x) h = (x, refl)
-
-pub itself_named : (q : List ℕ) → same_bytes q q ≡ true
-itself_named q = nat_list_eq_equiv.refl q
-
-is_objective-after : (before after : Draft) (q : List ℕ) → Extends before after → is_objective before q ≡ true → is_objective after q ≡ true
-is_objective-after before after q e h = ap (λ (o : Option (List ℕ)). option_map_or (same_bytes q) o false) (e.objective q (objective_is before.objective q h)) ∙ itself_named q
-
-pub has_row-after : (before after : Draft) (q : List ℕ) → Extends before after → has_row before q ≡ true → has_row after q ≡ true
-has_row-after before after q e h =
-    elim (is_objective before q) as (λ b. is_objective before q ≡ b → (b || has_name before.rows q) ≡ true → has_row after q ≡ true) [
-      | true ↦ λ o _. or_left (is_objective after q) (has_name after.rows q) (is_objective-after before after q e o)
-      | false ↦ λ o r. let found = value_in (at_name before.rows q) r in
-          or_right (is_objective after q) (has_name after.rows q) (ap is_some (e.row q found.0 found.1))
-    ] refl h
-
-pub known-after : (before after : Draft) (d : Declaration) → Extends before after → is_known before d ≡ true → is_known after d ≡ true
-known-after before after (declare_right_side row v) e h = has_row-after before after row e h
-known-after before after (declare_range row v) e h = has_row-after before after row e h
-known-after before after (declare_coefficient place v) e h =
-    both_so (has_row after place.row) (has_column after place.column)
-    (has_row-after before after place.row e (first_so (has_row before place.row) (has_column before place.column) h))
-    (e.column place.column (second_so (has_row before place.row) (has_column before place.column) h))
-known-after before after (declare_lower c l) e h = e.column c h
-known-after before after (declare_upper c l) e h = e.column c h
-known-after before after (declare_marked c) e h = e.column c h
-known-after before after (declare_integer c) e h = e.column c h
-known-after before after (declare_binary c) e h = e.column c h
-known-after before after _ e h = refl
+use Rattle.mpslp_model.proofs.LaterDrafts.{Extends, extends-adding, extends-in_turn, value_in, is_objective-after, has_row-after, known-after}
+use Rattle.mpslp_model.proofs.SlotLemmas.{limits_need_row, has-put, are_fresh, is_filled, are_fresh_in_turn, fresh_in_turn-is, same_name}
 
 -- ---- drafts that are made of declarations none of which is refused
 
-pub record IsWellMade (all : Draft) : Type 0 where
+-- The objective's name is no row's, and right sides and ranges are of rows that are declared.
+pub record HasDeclaredNames (all : Draft) : Type 0 where
   pub apart : (name : List ℕ) → is_objective all name ≡ true → has_name all.rows name ≡ false
   pub right_sides : (name : List ℕ) → has_name all.right_sides name ≡ true → has_row all name ≡ true
   pub ranges : (name : List ℕ) → has_name all.ranges name ≡ true → has_row all name ≡ true
@@ -140,15 +38,15 @@ more_named {X} all q k v es known was h =
       | false ↦ λ _ there. was there
     ] refl (sym (has-put q k v es) ∙ h)
 
-well-adding : (all : Draft) (d : Declaration) → IsWellMade all → are_fresh all (slots_of d) ≡ true → is_known all d ≡ true → IsWellMade (adding all d)
-well-adding all (declare_objective name) w h k =
+declared_names-adding : (all : Draft) (d : Declaration) → HasDeclaredNames all → are_fresh all (slots_of d) ≡ true → is_known all d ≡ true → HasDeclaredNames (adding all d)
+declared_names-adding all (declare_objective name) w h k =
     let none : has_row all name ≡ false = not_so (has_row all name) (first_so (not (has_row all name)) true (second_so (not (is_some all.objective)) (not (has_row all name) && true) h)) in
     record {
       apart = λ q same. ap (λ (n : List ℕ). has_name all.rows n) (same_name q name same) ∙ back (has_name all.rows name) (has_row all name) (or_right (is_objective all name) (has_name all.rows name)) none;
       right_sides = λ q there. none_there all.objective q (same_bytes q name) (has_name all.rows q) (not (has_row all name) && true) h (w.right_sides q there);
       ranges = λ q there. none_there all.objective q (same_bytes q name) (has_name all.rows q) (not (has_row all name) && true) h (w.ranges q there);
     }
-well-adding all (declare_row name form) w h k =
+declared_names-adding all (declare_row name form) w h k =
     let after = adding all (declare_row name form) in
     let grows = extends-adding all (declare_row name form) h in
     let none : has_row all name ≡ false = not_so (has_row all name) (first_so (not (has_row all name)) _ h) in
@@ -160,9 +58,9 @@ well-adding all (declare_row name form) w h k =
       right_sides = λ q there. has_row-after all after q grows (w.right_sides q there);
       ranges = λ q there. has_row-after all after q grows (w.ranges q there);
     }
-well-adding all (declare_right_side row v) w h k = record { apart = w.apart; right_sides = λ q there. more_named all q row v all.right_sides k (w.right_sides q) there; ranges = w.ranges }
-well-adding all (declare_range row v) w h k = record { apart = w.apart; right_sides = w.right_sides; ranges = λ q there. more_named all q row v all.ranges k (w.ranges q) there }
-well-adding all _ w h k = record { apart = w.apart; right_sides = w.right_sides; ranges = w.ranges }
+declared_names-adding all (declare_right_side row v) w h k = record { apart = w.apart; right_sides = λ q there. more_named all q row v all.right_sides k (w.right_sides q) there; ranges = w.ranges }
+declared_names-adding all (declare_range row v) w h k = record { apart = w.apart; right_sides = w.right_sides; ranges = λ q there. more_named all q row v all.ranges k (w.ranges q) there }
+declared_names-adding all _ w h k = record { apart = w.apart; right_sides = w.right_sides; ranges = w.ranges }
 
 -- ---- a declaration that is not refused
 
@@ -201,7 +99,7 @@ no_limits all name h = limits_need_row (at_name all.rows name) (nor (is_objectiv
 abbrev Tests : Type 0
 Tests = List (Bool × BuildFault)
 
-pub fine-from_none : (all : Draft) (d : Declaration) → IsWellMade all → refusals all d ≡ [] → IsFine all d
+pub fine-from_none : (all : Draft) (d : Declaration) → HasDeclaredNames all → refusals all d ≡ [] → IsFine all d
 fine-from_none all (declare_sense s) w h = record { fresh = one_slot (is_some all.sense) (first_none (is_some all.sense) builds.DuplicateSense [] h); known = refl; allowed = refl }
 fine-from_none all (declare_objective name) w h =
     let a = first_none (is_some all.objective) builds.SecondObjective (((has_row all name), builds.DuplicateRow) ∷ []) h in
@@ -322,7 +220,7 @@ side_more all row v (Some o) h one =
     tested true false r h one = one
     tested false s r h one = refl
 
-one-adding : (all : Draft) (d : Declaration) → IsWellMade all → has_one_constant all ≡ true → refusals all d ≡ [] → has_one_constant (adding all d) ≡ true
+one-adding : (all : Draft) (d : Declaration) → HasDeclaredNames all → has_one_constant all ≡ true → refusals all d ≡ [] → has_one_constant (adding all d) ≡ true
 one-adding all (declare_objective name) w one h =
     let none = first_none (has_row all name) builds.DuplicateRow [] (rest_none (is_some all.objective) builds.SecondObjective ((has_row all name, builds.DuplicateRow) ∷ []) h) in
     no_side (is_some all.constant) (has_name all.right_sides name) (back (has_name all.right_sides name) (has_row all name) (w.right_sides name) none)
@@ -441,9 +339,9 @@ pub record AreFineInTurn (before : Draft) (declarations : Declarations) : Type 0
   pub known : list_all (is_known (adding_all before declarations)) declarations ≡ true
   pub allowed : list_all (is_allowed (adding_all before declarations)) declarations ≡ true
   pub one_constant : has_one_constant (adding_all before declarations) ≡ true
-  pub well_made : IsWellMade (adding_all before declarations)
+  pub declared_names : HasDeclaredNames (adding_all before declarations)
 
-pub allowed-after : (before after : Draft) (d : Declaration) → Extends before after → IsWellMade after → is_known before d ≡ true → is_allowed before d ≡ true → is_allowed after d ≡ true
+pub allowed-after : (before after : Draft) (d : Declaration) → Extends before after → HasDeclaredNames after → is_known before d ≡ true → is_allowed before d ≡ true → is_allowed after d ≡ true
 allowed-after before after (declare_range row v) e w known h =
     let free = is_objective before row || is_free_row before row in
     let none = nor (is_objective before row) (is_free_row before row) (not_so free (first_so (not free) (not (is_infinite_size v)) h)) in
@@ -460,11 +358,11 @@ allowed-after before after (declare_lower c l) e w known h = h
 allowed-after before after (declare_upper c l) e w known h = h
 allowed-after before after _ e w known h = refl
 
-pub none-fine : (declarations : Declarations) (before : Draft) → IsWellMade before → has_one_constant before ≡ true → refusals_in_turn before declarations ≡ [] → AreFineInTurn before declarations
-none-fine [] before w one h = record { fresh = refl; known = refl; allowed = refl; one_constant = one; well_made = w }
+pub none-fine : (declarations : Declarations) (before : Draft) → HasDeclaredNames before → has_one_constant before ≡ true → refusals_in_turn before declarations ≡ [] → AreFineInTurn before declarations
+none-fine [] before w one h = record { fresh = refl; known = refl; allowed = refl; one_constant = one; declared_names = w }
 none-fine (d ∷ more) before w one h =
     let f = fine-from_none before d w (left_none (refusals before d) (refusals_in_turn (adding before d) more) h) in
-    let w' = well-adding before d w f.fresh f.known in
+    let w' = declared_names-adding before d w f.fresh f.known in
     let r = none-fine more (adding before d) w' (one-adding before d w one (left_none (refusals before d) (refusals_in_turn (adding before d) more) h)) (right_none (refusals before d) (refusals_in_turn (adding before d) more) h) in
     let fresh = both_so (are_fresh before (slots_of d)) (are_fresh_in_turn (adding before d) more) f.fresh r.fresh in
     let after = adding_all (adding before d) more in
@@ -472,22 +370,22 @@ none-fine (d ∷ more) before w one h =
     record {
       fresh = fresh;
       known = both_so (is_known after d) (list_all (is_known after) more) (known-after before after d e f.known) r.known;
-      allowed = both_so (is_allowed after d) (list_all (is_allowed after) more) (allowed-after before after d e r.well_made f.known f.allowed) r.allowed;
+      allowed = both_so (is_allowed after d) (list_all (is_allowed after) more) (allowed-after before after d e r.declared_names f.known f.allowed) r.allowed;
       one_constant = r.one_constant;
-      well_made = r.well_made;
+      declared_names = r.declared_names;
     }
 
-pub empty_well : IsWellMade empty_draft
-empty_well = record { apart = λ q h. refl; right_sides = λ q h. h; ranges = λ q h. h }
+pub empty_declared_names : HasDeclaredNames empty_draft
+empty_declared_names = record { apart = λ q h. refl; right_sides = λ q h. h; ranges = λ q h. h }
 
 pub all_fresh : (slots : List Slot) → are_fresh empty_draft slots ≡ true
 all_fresh [] = refl
 all_fresh (slot ∷ slots) = both_so (not (is_filled empty_draft slot)) (are_fresh empty_draft slots) (empty_slot slot) (all_fresh slots)
 
--- 1. What is not refused in turn is consistent.
+-- What is not refused in turn is consistent.
 pub consistent-from_none : (declarations : Declarations) → has_objective declarations ≡ true → refusals_in_turn empty_draft declarations ≡ [] → AreConsistent declarations
 consistent-from_none declarations objective h =
-    let f = none-fine declarations empty_draft empty_well refl h in
+    let f = none-fine declarations empty_draft empty_declared_names refl h in
     record {
       objective = objective;
       once = second_so (are_fresh empty_draft (all_slots declarations)) (are_distinct same_slot (all_slots declarations)) (sym (fresh_in_turn-is declarations empty_draft) ∙ f.fresh);
@@ -513,7 +411,7 @@ none-from_fine_in_turn (d ∷ more) before fresh known allowed one =
     (none-from_fine before d f (one-before (adding before d) after (extends-in_turn more (adding before d) fresh_then) one))
     (none-from_fine_in_turn more (adding before d) fresh_then (second_so (is_known before d) (are_known_in_turn (adding before d) more) known) (second_so (is_allowed after d) (list_all (is_allowed after) more) allowed) one)
 
--- 2. What is consistent is not refused in turn, where nothing is named before it is declared.
+-- What is consistent is not refused in turn, where nothing is named before it is declared.
 pub none-from_consistent : (declarations : Declarations) → AreConsistent declarations → are_known_in_turn empty_draft declarations ≡ true → refusals_in_turn empty_draft declarations ≡ []
 none-from_consistent declarations c known =
     none-from_fine_in_turn declarations empty_draft

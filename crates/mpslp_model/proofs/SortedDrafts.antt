@@ -13,7 +13,7 @@ use Rattle.mpslp_model.specs.Made.{IsMade}
 use Rattle.mpslp_model.specs.declared.kinds.Limit.{Limit}
 use Rattle.mpslp_model.proofs.DraftEntries.{same_place}
 use Rattle.mpslp_model.proofs.DraftLemmas.{row_part, rows-all, right_side_part, right_sides-all, range_part, ranges-all, column_part, columns-all, coefficient_part, coefficients-all, lower_part, lowers-all, upper_part, uppers-all, marked_part, marked-all, integer_part, integers-all, binary_part, binaries-all}
-use Rattle.mpslp_model.proofs.PutsLemmas.{puts, is_sorted-puts}
+use Rattle.mpslp_model.proofs.PutsLemmas.{is_sorted-puts}
 
 -- ---- the orders of keys
 
