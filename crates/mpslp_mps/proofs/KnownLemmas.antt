@@ -14,7 +14,8 @@ use Rattle.mpslp_model.specs.declared.kinds.Limit.{Limit}
 use Rattle.mpslp_model.specs.declared.kinds.RowType.{RowType}
 use Rattle.mpslp_model.specs.declared.kinds.RowType.TheVariants.{Free, AtMost, AtLeast, Equal}
 use Rattle.mpslp_model.proofs.BoolLemmas.{both_so, or_left}
-use Rattle.mpslp_model.proofs.RefusalLemmas.{are_known_in_turn, itself_named}
+use Rattle.mpslp_model.proofs.RefusalLemmas.{are_known_in_turn}
+use Rattle.mpslp_model.proofs.LaterDrafts.{itself_named}
 use Rattle.mpslp_model.proofs.SlotLemmas.{has-put}
 use Rattle.mpslp_mps.specs.Line.{Fields, Item, skipped, header, data_line}
 use Rattle.mpslp_mps.specs.Section.{section_named, begins, is_section}

@@ -6,3 +6,5 @@ pub mod OrderLemmas
 pub mod KnownLemmas
 pub mod LegalLemmas
 pub mod NoFaultFromModel
+pub mod ModelOrFault
+pub mod RowsWalk

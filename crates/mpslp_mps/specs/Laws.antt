@@ -12,3 +12,7 @@ DeclareOneModel = (bytes : List ℕ) (m n : LinearModel) → DeclaresMps bytes m
 -- Two first faults of the same bytes are one.
 abbrev pub HaveOneFirstFault : Type 0
 HaveOneFirstFault = (bytes : List ℕ) (a b : Fault) → IsFirstMpsFault bytes a → IsFirstMpsFault bytes b → a ≡ b
+
+-- No bytes both declare a model and have a first fault.
+abbrev pub DeclareOrFail : Type 0
+DeclareOrFail = (bytes : List ℕ) (m : LinearModel) (fault : Fault) → DeclaresMps bytes m → IsFirstMpsFault bytes fault → ⊥

@@ -1,7 +1,7 @@
 //! Laws of MPS text. Each is the contract of a function that does nothing: to call it is to cite the
 //! law.
 
-ghost use Rattle.mpslp_mps.specs.Laws.{DeclareOneModel, HaveOneFirstFault};
+ghost use Rattle.mpslp_mps.specs.Laws.{DeclareOneModel, DeclareOrFail, HaveOneFirstFault};
 
 /// No bytes declare two models.
 pub fn one_model()
@@ -12,3 +12,9 @@ pub fn one_model()
 pub fn one_fault()
     ensures { HaveOneFirstFault }
 {}
+
+/// No bytes both declare a model and have a first fault.
+pub fn model_or_fault()
+    ensures { DeclareOrFail }
+{
+}
