@@ -8,3 +8,5 @@ pub mod LegalLemmas
 pub mod NoFaultFromModel
 pub mod ModelOrFault
 pub mod RowsWalk
+pub mod ColumnsWalk
+pub mod BoundsWalk

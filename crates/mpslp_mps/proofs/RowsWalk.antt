@@ -128,7 +128,7 @@ side_says : (set : List ℕ) (side : Side) (before : List Item) (earlier : Draft
     → declared (context_of before) earlier (side_item set side) ≡ side_decl side
 side_says set side before earlier s t f = rw (s, f, t) refl
 
-vector_good : (first : Option (List ℕ)) (set text : List ℕ) (value : Number) → number_of text ≡ Ok value → those_of (set_tests first set) ≡ []
+pub vector_good : (first : Option (List ℕ)) (set text : List ℕ) (value : Number) → number_of text ≡ Ok value → those_of (set_tests first set) ≡ []
     → those_of (number_tests (text ∷ []) ++ set_tests first set) ≡ []
 vector_good first set text value e h = rw e h
 
