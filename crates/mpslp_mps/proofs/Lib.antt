@@ -10,3 +10,4 @@ pub mod ModelOrFault
 pub mod RowsWalk
 pub mod ColumnsWalk
 pub mod BoundsWalk
+pub mod HeaderWalk
