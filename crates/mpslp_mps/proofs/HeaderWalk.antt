@@ -1,23 +1,23 @@
 -- Headers: what each declares, that it has a good form, and what the lines before say once it stands.
-use Rattle.std.proofs.Common.{◌≡◌, refl, sym, ap, ◌∙◌, List, [], ◌∷◌, ◌++◌, ℕ, Bool, true, false, map, append_assoc}
-use Rattle.std.specs.Prelude.{Option, Some, None, is_none, ◌&&◌, ◌||◌, not, codes}
-use Rattle.std.specs.List.{list_any}
-use Rattle.std.specs.Option.{option_or}
+use Rattle.std.proofs.Common.{◌≡◌, refl, sym, ap, ◌∙◌, List, [], ◌∷◌, ◌++◌, ℕ, Bool, true, false, map, cond, append_assoc}
+use Rattle.std.specs.Prelude.{Option, Some, None, is_none, ◌&&◌, ◌||◌, not, filter, codes}
+use Rattle.std.specs.List.{list_any, last_or}
+use Rattle.std.specs.Option.{option_or, option_map_or}
 use Rattle.std.proofs.lemmas.List.{append-nil}
 use Rattle.std.proofs.lemmas.List.Folds.{list_any-append}
 use Rattle.mpslp_model.specs.Declaration.{declare_objective, declare_sense, Declarations, Draft}
-use Rattle.mpslp_model.specs.Refusal.{is_nonempty}
 use Rattle.mpslp_model.specs.declared.kinds.Sense.TheVariants.{Maximize}
 use Rattle.mpslp_model.proofs.BoolLemmas.{nor, back}
 use Rattle.mpslp_mps.specs.Line.{Fields, Item, skipped, header, data_line}
 use Rattle.mpslp_mps.specs.Section.{keyword_of, section_begun, section_named, begins, is_section}
-use Rattle.mpslp_mps.specs.Context.{context_of, current_section, has_section, seen_in, has_seen, fields_under, data_lines_after, data_lines, is_bare_objsense, wants_sense}
+use Rattle.mpslp_mps.specs.Context.{context_of, current_section, has_section, seen_in, has_seen, fields_under, data_lines_after, data_lines, is_read, is_bare_objsense, wants_sense}
 use Rattle.mpslp_mps.specs.LineMeaning.{declared}
 use Rattle.mpslp_mps.specs.HeaderFault.{may_begin, is_out_of_order}
 use Rattle.mpslp_mps.specs.LineFault.{form_faults}
 use Rattle.mpslp_mps.specs.declared.sections.Section.{Section}
 use Rattle.mpslp_mps.specs.declared.sections.Section.TheVariants.{Name, ObjSense, Rows, Columns, Rhs, Ranges, Bounds, EndData}
-use Rattle.mpslp_mps.proofs.SectionLemmas.{current_section-push, has_section-push, data_lines-push}
+use Rattle.mpslp_mps.proofs.SectionLemmas.{current_section-push}
+use Rattle.mpslp_mps.proofs.ContextLemmas.{wants_sense-push}
 
 abbrev pub header_item : Section → Item
 header_item section = header (keyword_of section) []
@@ -144,21 +144,23 @@ no_bare (item ∷ before) h =
     let parts = nor (begins ObjSense item) (has_section before ObjSense) h in
     rw (back (is_bare_objsense item) (begins ObjSense item) (bare_begins item) parts.0) (no_bare before parts.1)
 
--- without OBJSENSE no word is wanted, and none once a line of it stands
+-- without OBJSENSE no word is wanted
 pub settled-without : (before : List Item) → has_section before ObjSense ≡ false → wants_sense before ≡ false
-settled-without before h = ap (λ (b : Bool). b && not (is_nonempty (data_lines ObjSense before))) (no_bare before h)
-
-pub settled-by_line : (before : List Item) → is_nonempty (data_lines ObjSense before) ≡ true → wants_sense before ≡ false
-settled-by_line before h = ap (λ (b : Bool). list_any is_bare_objsense before && not b) h ∙ none (list_any is_bare_objsense before)
+settled-without before h = by (filter is_read before) None (kept before (no_bare before h)) refl
   where
-    none : (b : Bool) → (b && false) ≡ false
-    none true = refl
-    none false = refl
+    kept : (xs : List Item) → list_any is_bare_objsense xs ≡ false → list_any is_bare_objsense (filter is_read xs) ≡ false
+    kept [] k = refl
+    kept (x ∷ xs) k =
+        let parts = nor (is_bare_objsense x) (list_any is_bare_objsense xs) k in
+        elim (is_read x) as (λ b. list_any is_bare_objsense (cond b (x ∷ filter is_read xs) (filter is_read xs)) ≡ false) [
+          | true ↦ rw parts.0 (kept xs parts.1)
+          | false ↦ kept xs parts.1
+        ]
 
--- lines stay
-pub lines-stay : (section : Section) (before : List Item) (item : Item) → is_nonempty (data_lines section before) ≡ true → is_nonempty (data_lines section (before ++ item ∷ [])) ≡ true
-lines-stay section before item h = ap is_nonempty (data_lines-push section before item) ∙ more (data_lines section before) (fields_under section (current_section before) item) h
-  where
-    more : (xs ys : List Fields) → is_nonempty xs ≡ true → is_nonempty (xs ++ ys) ≡ true
-    more [] ys k = cc
-    more (x ∷ xs) ys k = refl
+    by : (xs : List Item) (o : Option Item) → list_any is_bare_objsense xs ≡ false → option_map_or is_bare_objsense o false ≡ false → option_map_or is_bare_objsense (last_or o xs) false ≡ false
+    by [] o k e = e
+    by (x ∷ xs) o k e = let parts = nor (is_bare_objsense x) (list_any is_bare_objsense xs) k in by xs (Some x) parts.1 parts.0
+
+-- after a data line, and after a header that is no bare OBJSENSE
+pub settled-after : (before : List Item) (item : Item) → is_read item ≡ true → is_bare_objsense item ≡ false → wants_sense (before ++ item ∷ []) ≡ false
+settled-after before item r b = wants_sense-push before item ∙ rw r b

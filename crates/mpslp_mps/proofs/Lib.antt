@@ -10,4 +10,5 @@ pub mod ModelOrFault
 pub mod RowsWalk
 pub mod ColumnsWalk
 pub mod BoundsWalk
+pub mod ContextLemmas
 pub mod HeaderWalk

@@ -1,10 +1,10 @@
 -- What the lines before one say of it: each reading by itself of the list of these lines.
-use Rattle.std.specs.Prelude.{ℕ, Bool, false, ◌&&◌, not, List, [], ◌∷◌, ◌++◌, filter_map, Option, Some, None, if◌then◌else◌}
+use Rattle.std.specs.Prelude.{ℕ, Bool, true, false, List, [], ◌∷◌, ◌++◌, filter, filter_map, Option, Some, None, if◌then◌else◌}
 use Rattle.std.specs.List.{list_any, last_or}
 use Rattle.std.specs.Option.{option_map, option_map_or, option_or}
 use Rattle.mpslp_model.specs.Name.{same_bytes}
 use Rattle.mpslp_model.specs.Meaning.{head_of}
-use Rattle.mpslp_model.specs.Refusal.{is_nonempty, when}
+use Rattle.mpslp_model.specs.Refusal.{when}
 use Rattle.mpslp_mps.specs.Line.{Fields, Item, skipped, header, data_line}
 use Rattle.mpslp_mps.specs.Section.{section_begun, begins, is_section}
 use Rattle.mpslp_mps.specs.DataLine.{column_line, is_marker_line, marker_line, opening_word, vector_line}
@@ -74,13 +74,18 @@ data_lines section before = data_lines_after section None before
 
 -- ---- what the lines of a section say of a later one
 
--- an OBJSENSE stands alone on its line, and no data line has followed it
+abbrev pub is_read : Item → Bool
+is_read skipped = false
+is_read _ = true
+
+-- an OBJSENSE without its word
 abbrev pub is_bare_objsense : Item → Bool
 is_bare_objsense (header keyword []) = begins ObjSense (header keyword [])
 is_bare_objsense _ = false
 
+-- the last line is one, but for skipped lines: its word is to come
 abbrev pub wants_sense : List Item → Bool
-wants_sense before = list_any is_bare_objsense before && not (is_nonempty (data_lines ObjSense before))
+wants_sense before = option_map_or is_bare_objsense (last_or None (filter is_read before)) false
 
 -- the word of a line of COLUMNS, if it is a marker line; its column, if it is none
 abbrev pub marker_word : Fields → Option (List ℕ)

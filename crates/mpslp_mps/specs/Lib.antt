@@ -3,6 +3,7 @@ pub mod Section
 pub mod DataLine
 pub mod BoundLine
 pub mod Context
+pub mod NextContext
 pub mod LineMeaning
 pub mod FieldFault
 pub mod HeaderFault
