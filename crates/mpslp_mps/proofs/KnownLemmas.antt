@@ -40,7 +40,7 @@ no-rows-header : (context : Context) (earlier : Draft) (keyword : List ℕ) (mor
     → no_rows (header_declared earlier more o) ≡ true
 no-rows-header context earlier keyword more None h c = refl
 no-rows-header context earlier keyword more (Some Name) h c = refl
-no-rows-header context earlier keyword more (Some ObjSense) h c = sense-passes (λ d. not (declares_row d)) passes-no_rows more
+no-rows-header context earlier keyword more (Some ObjSense) h c = sense-passes (λ d. not (declares_row d)) (λ _. refl) more
 no-rows-header context earlier keyword more (Some Rows) h c = refl
 no-rows-header context earlier keyword more (Some Columns) h c = absurd (never context.seen.columns c (header-fresh context keyword more Columns h))
 no-rows-header context earlier keyword more (Some Rhs) h c = refl
@@ -51,7 +51,7 @@ no-rows-header context earlier keyword more (Some EndData) h c = refl
 no-rows-data : (context : Context) (earlier : Draft) (fields : Fields) (o : Option Section) → is_section Rows o ≡ false → no_rows (data_declared context earlier fields o) ≡ true
 no-rows-data context earlier fields None h = refl
 no-rows-data context earlier fields (Some Name) h = refl
-no-rows-data context earlier fields (Some ObjSense) h = sense-passes (λ d. not (declares_row d)) passes-no_rows fields
+no-rows-data context earlier fields (Some ObjSense) h = sense-passes (λ d. not (declares_row d)) (λ _. refl) fields
 no-rows-data context earlier fields (Some Rows) h = cc
 no-rows-data context earlier fields (Some Columns) h = columns-line-no-rows context fields
 no-rows-data context earlier fields (Some Rhs) h = sides-passes (λ d. not (declares_row d)) passes-no_rows earlier fields
@@ -68,7 +68,7 @@ no-rows-line before earlier (data_line fields) h past columns = no-rows-data (co
 no-columns-header : (earlier : Draft) (more : Fields) (o : Option Section) → no_columns (header_declared earlier more o) ≡ true
 no-columns-header earlier more None = refl
 no-columns-header earlier more (Some Name) = refl
-no-columns-header earlier more (Some ObjSense) = sense-passes (λ d. not (declares_column d)) passes-no_columns more
+no-columns-header earlier more (Some ObjSense) = sense-passes (λ d. not (declares_column d)) (λ _. refl) more
 no-columns-header earlier more (Some Rows) = refl
 no-columns-header earlier more (Some Columns) = elim (is_none earlier.objective) as (λ b. no_columns (cond b (declare_objective (codes "obj") ∷ []) []) ≡ true) [ true ↦ refl | false ↦ refl ]
 no-columns-header earlier more (Some Rhs) = refl
@@ -85,7 +85,7 @@ row-no-columns earlier name Equal = refl
 no-columns-data : (context : Context) (earlier : Draft) (fields : Fields) (o : Option Section) → is_section Columns o ≡ false → no_columns (data_declared context earlier fields o) ≡ true
 no-columns-data context earlier fields None h = refl
 no-columns-data context earlier fields (Some Name) h = refl
-no-columns-data context earlier fields (Some ObjSense) h = sense-passes (λ d. not (declares_column d)) passes-no_columns fields
+no-columns-data context earlier fields (Some ObjSense) h = sense-passes (λ d. not (declares_column d)) (λ _. refl) fields
 no-columns-data context earlier fields (Some Rows) h =
     each-declared (λ d. not (declares_column d)) (row_declared earlier) (row_line fields)
     (λ line. each-declared (λ d. not (declares_column d)) (row_of_type earlier line.name) (row_type line.letter) (λ type. row-no-columns earlier line.name type))

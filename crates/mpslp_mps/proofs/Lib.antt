@@ -12,3 +12,4 @@ pub mod ColumnsWalk
 pub mod BoundsWalk
 pub mod ContextLemmas
 pub mod HeaderWalk
+pub mod ModelFromNoFault

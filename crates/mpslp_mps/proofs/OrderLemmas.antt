@@ -269,21 +269,21 @@ pub each-mapped : {X : Type 0} (p : Declaration → Bool) (f : X → Declaration
 each-mapped p f [] h = refl
 each-mapped p f (x ∷ xs) h = both_so (p (f x)) (list_all p (map f xs)) (h x) (each-mapped p f xs h)
 
--- a test that all declarations of a line pass but those of ROWS, of a COLUMNS header and of a column line
+-- a test that what RHS, RANGES and BOUNDS declare passes
 pub record Passes (p : Declaration → Bool) : Type 0 where
-  pub sense : (s : Sense) → p (declare_sense s) ≡ true
   pub side : (r : List ℕ) (v : _) → p (declare_right_side r v) ≡ true
   pub range : (r : List ℕ) (v : _) → p (declare_range r v) ≡ true
   pub lower : (c : List ℕ) (l : Limit) → p (declare_lower c l) ≡ true
   pub upper : (c : List ℕ) (l : Limit) → p (declare_upper c l) ≡ true
   pub integer : (c : List ℕ) → p (declare_integer c) ≡ true
 
-module _ (p : Declaration → Bool) (passes : Passes p) where
-  pub sense-passes : (fields : Fields) → list_all p (declared_of sense_declared (sense_line fields)) ≡ true
-  sense-passes fields =
-      each-declared p sense_declared (sense_line fields)
-      (λ word. each-declared p (λ sense. declare_sense sense ∷ []) (sense_of word) (λ s. both_so (p (declare_sense s)) true (passes.sense s) refl))
+-- a sense that is declared
+pub sense-passes : (p : Declaration → Bool) → ((s : Sense) → p (declare_sense s) ≡ true) → (fields : Fields) → list_all p (declared_of sense_declared (sense_line fields)) ≡ true
+sense-passes p h fields =
+    each-declared p sense_declared (sense_line fields)
+    (λ word. each-declared p (λ sense. declare_sense sense ∷ []) (sense_of word) (λ s. both_so (p (declare_sense s)) true (h s) refl))
 
+module _ (p : Declaration → Bool) (passes : Passes p) where
   pub sides-passes : (earlier : Draft) (fields : Fields) → list_all p (declared_of (right_sides_declared earlier) (vector_line fields)) ≡ true
   sides-passes earlier fields =
       each-declared p (right_sides_declared earlier) (vector_line fields)
@@ -334,7 +334,7 @@ columns-line-no-rows context fields = by (is_marker_line fields)
     by false = each-declared (λ d. not (declares_row d)) (column_declared context) (column_line fields) line-no-rows
 
 pub passes-no_rows : Passes (λ d. not (declares_row d))
-passes-no_rows = record { sense = λ _. refl; side = λ _ _. refl; range = λ _ _. refl; lower = λ _ _. refl; upper = λ _ _. refl; integer = λ _. refl }
+passes-no_rows = record { side = λ _ _. refl; range = λ _ _. refl; lower = λ _ _. refl; upper = λ _ _. refl; integer = λ _. refl }
 
 pub passes-no_columns : Passes (λ d. not (declares_column d))
-passes-no_columns = record { sense = λ _. refl; side = λ _ _. refl; range = λ _ _. refl; lower = λ _ _. refl; upper = λ _ _. refl; integer = λ _. refl }
+passes-no_columns = record { side = λ _ _. refl; range = λ _ _. refl; lower = λ _ _. refl; upper = λ _ _. refl; integer = λ _. refl }
