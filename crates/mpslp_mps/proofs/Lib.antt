@@ -12,4 +12,5 @@ pub mod ColumnsWalk
 pub mod BoundsWalk
 pub mod ContextLemmas
 pub mod HeaderWalk
+pub mod ObjectiveLemmas
 pub mod ModelFromNoFault

@@ -27,7 +27,7 @@ use Rattle.mpslp_model.proofs.Acceptance.{means-from_none}
 use Rattle.mpslp_mps.specs.Line.{Fields, Item, skipped, header, data_line, item_of, has_legal_length, has_legal_bytes, is_legal_line}
 use Rattle.mpslp_mps.specs.Section.{section_named, begins, is_section}
 use Rattle.mpslp_mps.specs.DataLine.{RowLine, Pair, ColumnLine, sense_line, sense_of, row_line, row_type, column_line, is_marker_line}
-use Rattle.mpslp_mps.specs.Context.{Context, context_of, current_section, has_section, wants_sense}
+use Rattle.mpslp_mps.specs.Context.{Context, context_of, current_section, has_section, is_bare_objsense, wants_sense}
 use Rattle.mpslp_mps.specs.LineMeaning.{declared_of, sense_declared, row_of_type, row_declared, default_objective, coefficient_declared, column_declared, columns_line_declared, data_declared, header_declared, declared}
 use Rattle.mpslp_mps.specs.FieldFault.{judged_by}
 use Rattle.mpslp_mps.specs.HeaderFault.{word_tests, header_tests}
@@ -35,15 +35,18 @@ use Rattle.mpslp_mps.specs.DataFault.{data_tests}
 use Rattle.mpslp_mps.specs.LineFault.{form_faults, kind_of_refusal, declaring_faults}
 use Rattle.mpslp_mps.specs.MpsText.{Placed, is_end, read_lines, has_end, placed_after, declarations_of, DeclaresMps}
 use Rattle.mpslp_mps.specs.FirstFault.{item_fault, line_fault, fault_on_line, first_line_fault, whole_mps_fault, first_mps_fault}
+use Rattle.mpslp_mps.specs.Laws.{DeclareUnlessFaulty}
 use Rattle.mpslp_mps.specs.declared.sections.Section.{Section}
 use Rattle.mpslp_mps.specs.declared.sections.Section.TheVariants.{Name, ObjSense, Rows, Columns, Rhs, Ranges, Bounds, EndData}
 use Rattle.mpslp_mps.proofs.SectionLemmas.{has_section-push}
 use Rattle.mpslp_mps.proofs.ContextLemmas.{wants_sense-push}
+use Rattle.mpslp_mps.proofs.HeaderWalk.{settled-without}
 use Rattle.mpslp_mps.proofs.PlacedLemmas.{declared_items, have_good_form}
 use Rattle.mpslp_mps.proofs.OrderLemmas.{first_test, later_tests, header-fresh, header-begins, never, IsGood, each-declared, each-flat, Passes, sides-passes, ranges-passes, bounds-passes}
 use Rattle.mpslp_mps.proofs.KnownLemmas.{good-first, good-rest}
 use Rattle.mpslp_mps.proofs.LegalLemmas.{lines-legal}
 use Rattle.mpslp_mps.proofs.ModelOrFault.{read-decimal}
+use Rattle.mpslp_mps.proofs.ObjectiveLemmas.{objective-declared, named-lines}
 
 -- ---- refusals that are told
 
@@ -223,3 +226,257 @@ line-told : (before : List Item) (earlier : Draft) (item : Item) → IsGood befo
 line-told before earlier skipped h k = refl
 line-told before earlier (header keyword more) h k = header-told before earlier keyword more (section_named keyword) h k
 line-told before earlier (data_line fields) h k = data-told before earlier fields (current_section before) h k
+
+plain-sense : (all : Draft) (d : Declaration) → is_plain d ≡ true → (adding all d).sense ≡ all.sense
+plain-sense all (declare_sense s) h = cc
+plain-sense all (declare_objective n) h = cc
+plain-sense all (declare_constant v) h = refl
+plain-sense all (declare_row n f) h = refl
+plain-sense all (declare_right_side r v) h = refl
+plain-sense all (declare_range r v) h = refl
+plain-sense all (declare_column c) h = refl
+plain-sense all (declare_coefficient p v) h = refl
+plain-sense all (declare_lower c l) h = refl
+plain-sense all (declare_upper c l) h = refl
+plain-sense all (declare_marked c) h = refl
+plain-sense all (declare_integer c) h = refl
+plain-sense all (declare_binary c) h = refl
+
+plain-keeps : (ds : Declarations) (all : Draft) → list_all is_plain ds ≡ true → (adding_all all ds).sense ≡ all.sense
+plain-keeps [] all h = refl
+plain-keeps (d ∷ ds) all h = plain-keeps ds (adding all d) (second_so (is_plain d) (list_all is_plain ds) h) ∙ plain-sense all d (first_so (is_plain d) (list_all is_plain ds) h)
+
+rows-keep : (earlier : Draft) (fields : Fields) → (adding_all earlier (declared_of (row_declared earlier) (row_line fields))).sense ≡ earlier.sense
+rows-keep earlier fields = lined (row_line fields)
+  where
+    typed : (name : List ℕ) (o : Option RowType) → (adding_all earlier (declared_of (row_of_type earlier name) o)).sense ≡ earlier.sense
+    typed name None = refl
+    typed name (Some Free) =
+        elim (is_none earlier.objective) as (λ b. (adding_all earlier (cond b (declare_objective name ∷ []) (declare_row name (by_type Free) ∷ []))).sense ≡ earlier.sense) [ true ↦ refl | false ↦ refl ]
+    typed name (Some AtMost) = refl
+    typed name (Some AtLeast) = refl
+    typed name (Some Equal) = refl
+
+    lined : (o : Option RowLine) → (adding_all earlier (declared_of (row_declared earlier) o)).sense ≡ earlier.sense
+    lined None = refl
+    lined (Some line) = typed line.name (row_type line.letter)
+
+-- the sense after a data line of another section
+data-keeps : (context : Context) (earlier : Draft) (fields : Fields) (o : Option Section) → is_section ObjSense o ≡ false → (adding_all earlier (data_declared context earlier fields o)).sense ≡ earlier.sense
+data-keeps context earlier fields None h = refl
+data-keeps context earlier fields (Some Name) h = refl
+data-keeps context earlier fields (Some ObjSense) h = cc
+data-keeps context earlier fields (Some Rows) h = rows-keep earlier fields
+data-keeps context earlier fields (Some Columns) h = plain-keeps (columns_line_declared context fields) earlier (columns-line-plain context fields)
+data-keeps context earlier fields (Some Rhs) h = plain-keeps (data_declared context earlier fields (Some Rhs)) earlier (sides-passes is_plain plain-passes earlier fields)
+data-keeps context earlier fields (Some Ranges) h = plain-keeps (data_declared context earlier fields (Some Ranges)) earlier (ranges-passes is_plain plain-passes fields)
+data-keeps context earlier fields (Some Bounds) h = plain-keeps (data_declared context earlier fields (Some Bounds)) earlier (bounds-passes is_plain plain-passes fields)
+data-keeps context earlier fields (Some EndData) h = refl
+
+-- a bare OBJSENSE, by its keyword's section
+abbrev bare_by : Fields → Option Section → Bool
+bare_by [] o = is_section ObjSense o
+bare_by (word ∷ more) o = false
+
+bare-is : (keyword : List ℕ) (more : Fields) → is_bare_objsense (header keyword more) ≡ bare_by more (section_named keyword)
+bare-is keyword [] = refl
+bare-is keyword (word ∷ more) = refl
+
+-- after a header where a sense is declared: OBJSENSE has begun, and it is not bare
+header-after : (before : List Item) (earlier : Draft) (keyword : List ℕ) (more : Fields) (o : Option Section) → those_of (header_tests (context_of before) keyword more o) ≡ [] → SenseKept before earlier
+    → is_some (adding_all earlier (header_declared earlier more o)).sense ≡ true → ((has_section before ObjSense || is_section ObjSense o) ≡ true) × (bare_by more o ≡ false)
+header-after before earlier keyword more (Some ObjSense) h k e = by more e
+  where
+    none : is_some earlier.sense ≡ false
+    none = not_some (is_some earlier.sense) (λ s. never (has_section before ObjSense) (k.begun s) (header-fresh (context_of before) keyword more ObjSense h))
+
+    by : (m : Fields) → is_some (adding_all earlier (declared_of sense_declared (sense_line m))).sense ≡ true → ((has_section before ObjSense || true) ≡ true) × (bare_by m (Some ObjSense) ≡ false)
+    by [] s = absurd (never (is_some earlier.sense) s none)
+    by (word ∷ m) s = (or_right (has_section before ObjSense) true refl, refl)
+header-after before earlier keyword more None h k e = (or_left (has_section before ObjSense) false (k.begun e), bare_none more)
+  where
+    bare_none : (m : Fields) → bare_by m None ≡ false
+    bare_none [] = refl
+    bare_none (word ∷ m) = refl
+header-after before earlier keyword more (Some Name) h k e = (or_left (has_section before ObjSense) false (k.begun e), bare_none more)
+  where
+    bare_none : (m : Fields) → bare_by m (Some Name) ≡ false
+    bare_none [] = refl
+    bare_none (word ∷ m) = refl
+header-after before earlier keyword more (Some Rows) h k e = (or_left (has_section before ObjSense) false (k.begun e), bare_none more)
+  where
+    bare_none : (m : Fields) → bare_by m (Some Rows) ≡ false
+    bare_none [] = refl
+    bare_none (word ∷ m) = refl
+header-after before earlier keyword more (Some Columns) h k e = (or_left (has_section before ObjSense) false (k.begun (sym (ap is_some kept) ∙ e)), bare_none more)
+  where
+    kept : (adding_all earlier (default_objective earlier)).sense ≡ earlier.sense
+    kept = elim (is_none earlier.objective) as (λ b. (adding_all earlier (cond b (declare_objective (codes "obj") ∷ []) [])).sense ≡ earlier.sense) [ true ↦ refl | false ↦ refl ]
+
+    bare_none : (m : Fields) → bare_by m (Some Columns) ≡ false
+    bare_none [] = refl
+    bare_none (word ∷ m) = refl
+header-after before earlier keyword more (Some Rhs) h k e = (or_left (has_section before ObjSense) false (k.begun e), bare_none more)
+  where
+    bare_none : (m : Fields) → bare_by m (Some Rhs) ≡ false
+    bare_none [] = refl
+    bare_none (word ∷ m) = refl
+header-after before earlier keyword more (Some Ranges) h k e = (or_left (has_section before ObjSense) false (k.begun e), bare_none more)
+  where
+    bare_none : (m : Fields) → bare_by m (Some Ranges) ≡ false
+    bare_none [] = refl
+    bare_none (word ∷ m) = refl
+header-after before earlier keyword more (Some Bounds) h k e = (or_left (has_section before ObjSense) false (k.begun e), bare_none more)
+  where
+    bare_none : (m : Fields) → bare_by m (Some Bounds) ≡ false
+    bare_none [] = refl
+    bare_none (word ∷ m) = refl
+header-after before earlier keyword more (Some EndData) h k e = (or_left (has_section before ObjSense) false (k.begun e), bare_none more)
+  where
+    bare_none : (m : Fields) → bare_by m (Some EndData) ≡ false
+    bare_none [] = refl
+    bare_none (word ∷ m) = refl
+
+wants-begun : (before : List Item) → wants_sense before ≡ true → has_section before ObjSense ≡ true
+wants-begun before w =
+    elim (has_section before ObjSense) as (λ b. has_section before ObjSense ≡ b → b ≡ true) [
+      | true ↦ λ _. refl
+      | false ↦ λ none. absurd (never (wants_sense before) w (settled-without before none))
+    ] refl
+
+data-after : (before : List Item) (earlier : Draft) (fields : Fields) (o : Option Section) → those_of (data_tests (context_of before) earlier fields o) ≡ [] → SenseKept before earlier
+    → is_some (adding_all earlier (data_declared (context_of before) earlier fields o)).sense ≡ true → has_section before ObjSense ≡ true
+data-after before earlier fields o h k e =
+    elim (is_section ObjSense o) as (λ b. is_section ObjSense o ≡ b → has_section before ObjSense ≡ true) [
+      | true ↦ λ is. wants-begun before (of o is h)
+      | false ↦ λ is. k.begun (sym (ap is_some (data-keeps (context_of before) earlier fields o is)) ∙ e)
+    ] refl
+  where
+    of : (x : Option Section) → is_section ObjSense x ≡ true → those_of (data_tests (context_of before) earlier fields x) ≡ [] → wants_sense before ≡ true
+    of (Some ObjSense) is g = wanted before fields g
+    of None is g = cc
+    of (Some Name) is g = cc
+    of (Some Rows) is g = cc
+    of (Some Columns) is g = cc
+    of (Some Rhs) is g = cc
+    of (Some Ranges) is g = cc
+    of (Some Bounds) is g = cc
+    of (Some EndData) is g = cc
+
+sense-push : (before : List Item) (earlier : Draft) (item : Item) → IsGood before earlier item → SenseKept before earlier
+    → SenseKept (before ++ item ∷ []) (adding_all earlier (declared (context_of before) earlier item))
+sense-push before earlier skipped h k =
+    record {
+      begun = λ e. has_section-push ObjSense before skipped ∙ or_left (has_section before ObjSense) false (k.begun e);
+      told = λ e. wants_sense-push before skipped ∙ k.told e;
+    }
+sense-push before earlier (header keyword more) h k =
+    record {
+      begun = λ e. has_section-push ObjSense before (header keyword more) ∙ (header-after before earlier keyword more (section_named keyword) h k e).0;
+      told = λ e. wants_sense-push before (header keyword more) ∙ bare-is keyword more ∙ (header-after before earlier keyword more (section_named keyword) h k e).1;
+    }
+sense-push before earlier (data_line fields) h k =
+    record {
+      begun = λ e. has_section-push ObjSense before (data_line fields) ∙ or_left (has_section before ObjSense) false (data-after before earlier fields (current_section before) h k e);
+      told = λ e. wants_sense-push before (data_line fields);
+    }
+
+-- ---- lines without a fault
+
+least-none : (faults : List FaultKind) → least_kind faults ≡ None → faults ≡ []
+least-none [] h = refl
+least-none (kind ∷ faults) h = cc
+
+or-none : {X : Type 0} (o p : Option X) → option_or o p ≡ None → (o ≡ None) × (p ≡ None)
+or-none None p h = (refl, h)
+or-none (Some x) p h = cc
+
+mapped-none : {X Y : Type 0} (f : X → Y) (o : Option X) → option_map f o ≡ None → o ≡ None
+mapped-none f None h = refl
+mapped-none f (Some x) h = cc
+
+pub record IsFaultless (line : List ℕ) (placed : Placed) : Type 0 where
+  pub legal : is_legal_line line ≡ true
+  pub item : item_fault placed ≡ None
+
+faultless : (line : List ℕ) (placed : Placed) → line_fault line placed ≡ None → IsFaultless line placed
+faultless line placed h = by (has_legal_length line) (has_legal_bytes line) refl refl h
+  where
+    by : (a b : Bool) → has_legal_length line ≡ a → has_legal_bytes line ≡ b
+        → ◌≡◌ {A = Option FaultKind} (cond (not a) (Some LineTooLong) (cond (not b) (Some BadByte) (item_fault placed))) None → IsFaultless line placed
+    by true true p q k = record { legal = both_so (has_legal_length line) (has_legal_bytes line) p q; item = k }
+    by true false p q k = cc
+    by false b p q k = cc
+
+pub record AreFaultless (lines : List (List ℕ)) (before : List Item) (earlier : Draft) : Type 0 where
+  pub legal : list_all is_legal_line lines ≡ true
+  pub good : have_good_form before earlier (map item_of lines) ≡ true
+  pub unrefused : refusals_in_turn earlier (declared_items before earlier (map item_of lines)) ≡ []
+
+lines-faultless : (n : ℕ) (lines : List (List ℕ)) (before : List Item) (earlier : Draft) → first_line_fault n (zip lines (placed_after before earlier (map item_of lines))) ≡ None
+    → SenseKept before earlier → AreFaultless lines before earlier
+lines-faultless n [] before earlier h k = record { legal = refl; good = refl; unrefused = refl }
+lines-faultless n (line ∷ lines) before earlier h k =
+    let item = item_of line in
+    let here = declared (context_of before) earlier item in
+    let next = adding_all earlier here in
+    let placed : Placed = record { context = context_of before; earlier = earlier; item = item } in
+    let parts = or-none (option_map (fault_on_line n) (line_fault line placed)) (first_line_fault (n + 1) (zip lines (placed_after (before ++ item ∷ []) next (map item_of lines)))) h in
+    let fine = faultless line placed (mapped-none (fault_on_line n) (line_fault line placed) parts.0) in
+    let forms = form_faults (context_of before) earlier item in
+    let none = least-none (forms ++ declaring_faults earlier here) fine.item in
+    let good : forms ≡ [] = left_none forms (declaring_faults earlier here) none in
+    let unrefused = none-told (refusals_in_turn earlier here) (line-told before earlier item good k) (right_none forms (declaring_faults earlier here) none) in
+    let more = lines-faultless (n + 1) lines (before ++ item ∷ []) next parts.1 (sense-push before earlier item good k) in
+    record {
+      legal = both_so (is_legal_line line) (list_all is_legal_line lines) fine.legal more.legal;
+      good = both_so (not (is_nonempty forms)) (have_good_form (before ++ item ∷ []) next (map item_of lines)) (ap (λ (faults : List FaultKind). not (is_nonempty faults)) good) more.good;
+      unrefused = refusals_in_turn-append here (declared_items (before ++ item ∷ []) next (map item_of lines)) earlier
+      ∙ join_none (refusals_in_turn earlier here) (refusals_in_turn next (declared_items (before ++ item ∷ []) next (map item_of lines))) unrefused more.unrefused;
+    }
+
+-- ---- the whole
+
+-- the lines that are read hold the ENDATA that there is
+end-read : (ls : List (List ℕ)) → list_any is_end ls ≡ true → list_any is_end (take (suc (position_or_len is_end ls)) ls) ≡ true
+end-read [] h = cc
+end-read (l ∷ ls) h =
+    elim (is_end l) as (λ b. is_end l ≡ b → (b || list_any is_end ls) ≡ true → list_any is_end (take (suc (cond (not b) (1 + position_or_len is_end ls) 0)) (l ∷ ls)) ≡ true) [
+      | true ↦ λ e _. or_left (is_end l) (list_any is_end (take 0 ls)) e
+      | false ↦ λ _ k.
+        let next : 1 + position_or_len is_end ls ≡ suc (position_or_len is_end ls) = omega arith in
+        subst (λ (n : ℕ). list_any is_end (take (suc n) (l ∷ ls)) ≡ true) (sym next)
+        (or_right (is_end l) (list_any is_end (take (suc (position_or_len is_end ls)) ls)) (end-read ls k))
+    ] refl h
+
+pub record IsWholeFaultless (bytes : List ℕ) : Type 0 where
+  pub ends : has_end bytes ≡ true
+  pub file : file_fault (draft_of (declarations_of bytes)) ≡ None
+
+whole-faultless : (bytes : List ℕ) → whole_mps_fault bytes ≡ None → IsWholeFaultless bytes
+whole-faultless bytes h = by (has_end bytes) refl h
+  where
+    by : (b : Bool) → has_end bytes ≡ b → ◌≡◌ {A = Option Fault} (cond b (file_fault (draft_of (declarations_of bytes))) (Some (whole_fault MissingEnd None))) None → IsWholeFaultless bytes
+    by true e k = record { ends = e; file = k }
+    by false e k = cc
+
+-- Bytes without a first fault declare the model of what their lines declare.
+pub declares-from_no_fault : (bytes : List ℕ) → first_mps_fault bytes ≡ None → DeclaresMps bytes (model_of (draft_of (declarations_of bytes)))
+declares-from_no_fault bytes h =
+    let items = map item_of (read_lines bytes) in
+    let parts = or-none (first_line_fault 1 (zip (read_lines bytes) (placed_after [] empty_draft items))) (whole_mps_fault bytes) h in
+    let fine = lines-faultless 1 (read_lines bytes) [] empty_draft parts.0 (record { begun = λ e. cc; told = λ e. cc }) in
+    let whole = whole-faultless bytes parts.1 in
+    let named = named-lines (read_lines bytes) [] empty_draft (end-read (lines bytes) whole.ends) fine.good (λ e. cc) in
+    record {
+      text = both_so (has_end bytes) (list_all is_legal_line (read_lines bytes) && have_good_form [] empty_draft items) whole.ends
+      (both_so (list_all is_legal_line (read_lines bytes)) (have_good_form [] empty_draft items) fine.legal fine.good);
+      means = means-from_none (declarations_of bytes) (objective-declared (declarations_of bytes) empty_draft named) (lines-legal read-decimal items [] empty_draft fine.good) fine.unrefused whole.file;
+    }
+
+pub model-unless_faulty : DeclareUnlessFaulty
+model-unless_faulty bytes none = (model_of (draft_of (declarations_of bytes)), declares-from_no_fault bytes (by (first_mps_fault bytes) refl))
+  where
+    by : (o : Option Fault) → first_mps_fault bytes ≡ o → first_mps_fault bytes ≡ None
+    by None e = e
+    by (Some fault) e = absurd (none fault e)

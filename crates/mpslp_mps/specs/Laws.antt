@@ -16,3 +16,7 @@ HaveOneFirstFault = (bytes : List ℕ) (a b : Fault) → IsFirstMpsFault bytes a
 -- No bytes both declare a model and have a first fault.
 abbrev pub DeclareOrFail : Type 0
 DeclareOrFail = (bytes : List ℕ) (m : LinearModel) (fault : Fault) → DeclaresMps bytes m → IsFirstMpsFault bytes fault → ⊥
+
+-- Bytes that have no first fault declare a model.
+abbrev pub DeclareUnlessFaulty : Type 0
+DeclareUnlessFaulty = (bytes : List ℕ) → ((fault : Fault) → IsFirstMpsFault bytes fault → ⊥) → (m : LinearModel) × DeclaresMps bytes m

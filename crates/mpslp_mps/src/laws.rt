@@ -1,7 +1,7 @@
 //! Laws of MPS text. Each is the contract of a function that does nothing: to call it is to cite the
 //! law.
 
-ghost use Rattle.mpslp_mps.specs.Laws.{DeclareOneModel, DeclareOrFail, HaveOneFirstFault};
+ghost use Rattle.mpslp_mps.specs.Laws.{DeclareOneModel, DeclareOrFail, DeclareUnlessFaulty, HaveOneFirstFault};
 
 /// No bytes declare two models.
 pub fn one_model()
@@ -16,5 +16,11 @@ pub fn one_fault()
 /// No bytes both declare a model and have a first fault.
 pub fn model_or_fault()
     ensures { DeclareOrFail }
+{
+}
+
+/// Bytes that have no first fault declare a model.
+pub fn model_without_fault()
+    ensures { DeclareUnlessFaulty }
 {
 }
