@@ -1,6 +1,6 @@
 -- Lines of BOUNDS as they are printed: what each declares, and that it has a good form.
-use Rattle.std.proofs.Common.{◌≡◌, refl, ap, ◌∙◌, List, [], ◌∷◌, ◌++◌, ℕ}
-use Rattle.std.specs.Prelude.{Option, Some, None, codes, Ok}
+use Rattle.std.proofs.Common.{◌≡◌, refl, List, [], ◌∷◌, ℕ}
+use Rattle.std.specs.Prelude.{Some, Ok}
 use Rattle.mpslp_decimal.specs.Decimal.{Number}
 use Rattle.mpslp_decimal.specs.Literal.{number_of}
 use Rattle.mpslp_model.specs.Model.{limit_of}
@@ -11,12 +11,10 @@ use Rattle.mpslp_model.proofs.EachLemmas.{Each, Each-append}
 use Rattle.mpslp_mps.specs.Line.{Fields, Item, data_line}
 use Rattle.mpslp_mps.specs.BoundLine.{letters_of}
 use Rattle.mpslp_mps.specs.Context.{context_of, current_section, data_lines, bound_set, first_set}
-use Rattle.mpslp_mps.specs.LineMeaning.{declared, bound_declared}
-use Rattle.mpslp_mps.specs.FieldFault.{number_tests, set_tests}
+use Rattle.mpslp_mps.specs.LineMeaning.{declared}
+use Rattle.mpslp_mps.specs.FieldFault.{set_tests}
 use Rattle.mpslp_mps.specs.LineFault.{form_faults}
-use Rattle.mpslp_mps.specs.declared.bound_types.BoundType.{BoundType}
 use Rattle.mpslp_mps.specs.declared.bound_types.BoundType.TheVariants as bounds
-use Rattle.mpslp_mps.specs.declared.sections.Section.{Section}
 use Rattle.mpslp_mps.specs.declared.sections.Section.TheVariants.{Bounds}
 use Rattle.mpslp_mps.proofs.PlacedLemmas.{Step}
 use Rattle.mpslp_mps.proofs.RowsWalk.{HaveSet, set-good, vector_good, stays, lines-push}
@@ -106,7 +104,7 @@ bound_step set b rest before earlier h =
       next = record {
         section = stays Bounds (bound_fields set b) before h.section;
         one_set = rw (lines-push Bounds (bound_fields set b) before (Some Bounds) h.section)
-        (Each-append _ (data_lines Bounds before) (bound_fields set b ∷ []) h.one_set (set_at set b.form b.column b.text, tt));
+            (Each-append _ (data_lines Bounds before) (bound_fields set b ∷ []) h.one_set (set_at set b.form b.column b.text, tt));
         good = h.good.1;
       };
     }

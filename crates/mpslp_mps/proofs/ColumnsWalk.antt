@@ -19,9 +19,7 @@ use Rattle.mpslp_mps.specs.DataLine.{opening_word, closing_word}
 use Rattle.mpslp_mps.specs.Context.{context_of, current_section, data_lines, marker_word, in_integer_part, line_column, last_column}
 use Rattle.mpslp_mps.specs.LineMeaning.{declared}
 use Rattle.mpslp_mps.specs.FieldFault.{Tests, name_tests, number_tests}
-use Rattle.mpslp_mps.specs.DataFault.{is_split}
 use Rattle.mpslp_mps.specs.LineFault.{form_faults}
-use Rattle.mpslp_mps.specs.declared.sections.Section.{Section}
 use Rattle.mpslp_mps.specs.declared.sections.Section.TheVariants.{Columns}
 use Rattle.mpslp_mps.proofs.SectionLemmas.{last_or-append}
 use Rattle.mpslp_mps.proofs.PlacedLemmas.{Step}
@@ -181,11 +179,12 @@ goes_on earlier column = ap (λ (b : Bool). has_column earlier column && not b) 
 pub unsplit_more : (marked : Bool) (column : List ℕ) (cells rest : List Cell) (earlier : Draft) → AreOf column cells
     → Unsplit marked (Some column) (adding_all earlier (flat_map (cell_decl marked) cells)) rest → Unsplit marked (Some column) earlier (cells ++ rest)
 unsplit_more marked column [] rest earlier h more = more
-unsplit_more marked column (cell ∷ cells) rest earlier h more =
-    (ap (is_split_in (Some column) earlier) h.0 ∙ goes_on earlier column,
-    subst (λ (c : List ℕ). Unsplit marked (Some c) (adding_all earlier (cell_decl marked cell)) (cells ++ rest)) (sym h.0)
-    (unsplit_more marked column cells rest (adding_all earlier (cell_decl marked cell)) h.1
-    (subst (λ (all : Draft). Unsplit marked (Some column) all rest) (adding_all-append (cell_decl marked cell) (flat_map (cell_decl marked) cells) earlier) more)))
+unsplit_more marked column (cell ∷ cells) rest earlier h more = (
+  ap (is_split_in (Some column) earlier) h.0 ∙ goes_on earlier column,
+  subst (λ (c : List ℕ). Unsplit marked (Some c) (adding_all earlier (cell_decl marked cell)) (cells ++ rest)) (sym h.0)
+      (unsplit_more marked column cells rest (adding_all earlier (cell_decl marked cell)) h.1
+      (subst (λ (all : Draft). Unsplit marked (Some column) all rest) (adding_all-append (cell_decl marked cell) (flat_map (cell_decl marked) cells) earlier) more)),
+)
 
 -- the first line of a column that is not declared
 pub absent_unsplit : (last : Option (List ℕ)) (earlier : Draft) (column : List ℕ) → has_column earlier column ≡ false → is_split_in last earlier column ≡ false

@@ -1,5 +1,5 @@
 -- One line more changes the context as `next_context` says.
-use Rattle.std.proofs.Common.{◌≡◌, refl, sym, ap, ◌∙◌, ℕ, List, [], ◌∷◌, ◌++◌, Bool, true, false, cond}
+use Rattle.std.proofs.Common.{◌≡◌, refl, ap, ◌∙◌, ℕ, List, [], ◌∷◌, ◌++◌, Bool, true, false, cond}
 use Rattle.std.specs.Prelude.{Option, Some, None, filter, filter_map}
 use Rattle.std.specs.List.{last_or, cons_option}
 use Rattle.std.specs.Option.{option_map_or, option_or}
@@ -10,7 +10,7 @@ use Rattle.mpslp_model.specs.Meaning.{head_of}
 use Rattle.mpslp_mps.specs.Line.{Fields, Item, skipped, header, data_line}
 use Rattle.mpslp_mps.specs.Section.{is_section}
 use Rattle.mpslp_mps.specs.DataLine.{opening_word}
-use Rattle.mpslp_mps.specs.Context.{Seen, seen_in, is_read, is_bare_objsense, wants_sense, marker_word, line_column, vector_set, bound_set, first_set, current_section, fields_under, data_lines, in_integer_part, last_column, Context, context_of}
+use Rattle.mpslp_mps.specs.Context.{seen_in, is_read, is_bare_objsense, wants_sense, marker_word, line_column, vector_set, bound_set, first_set, current_section, fields_under, data_lines, context_of}
 use Rattle.mpslp_mps.specs.NextContext.{next_seen, changed_under, next_part, next_set, next_context}
 use Rattle.mpslp_mps.specs.declared.sections.Section.{Section}
 use Rattle.mpslp_mps.specs.declared.sections.Section.TheVariants.{Name, ObjSense, Rows, Columns, Rhs, Ranges, Bounds}

@@ -1,11 +1,11 @@
 -- Headers: what each declares, that it has a good form, and what the lines before say once it stands.
-use Rattle.std.proofs.Common.{◌≡◌, refl, sym, ap, ◌∙◌, List, [], ◌∷◌, ◌++◌, ℕ, Bool, true, false, map, cond, append_assoc}
-use Rattle.std.specs.Prelude.{Option, Some, None, is_none, ◌&&◌, ◌||◌, not, filter, codes}
+use Rattle.std.proofs.Common.{◌≡◌, refl, sym, ap, ◌∙◌, List, [], ◌∷◌, ◌++◌, Bool, true, false, map, cond, append_assoc}
+use Rattle.std.specs.Prelude.{Option, Some, None, is_none, ◌||◌, filter, codes}
 use Rattle.std.specs.List.{list_any, last_or}
 use Rattle.std.specs.Option.{option_or, option_map_or}
 use Rattle.std.proofs.lemmas.List.{append-nil}
 use Rattle.std.proofs.lemmas.List.Folds.{list_any-append}
-use Rattle.mpslp_model.specs.Declaration.{declare_objective, declare_sense, Declarations, Draft}
+use Rattle.mpslp_model.specs.Declaration.{declare_sense, Draft}
 use Rattle.mpslp_model.specs.declared.kinds.Sense.TheVariants.{Maximize}
 use Rattle.mpslp_model.proofs.BoolLemmas.{nor, back}
 use Rattle.mpslp_mps.specs.Line.{Fields, Item, skipped, header, data_line}

@@ -1,11 +1,10 @@
 -- In lines of a good form each row and column is declared before it is named.
-use Rattle.std.proofs.Common.{◌≡◌, refl, sym, ap, subst, ◌∙◌, List, [], ◌∷◌, ◌++◌, ℕ, Bool, true, false, cond, map}
-use Rattle.std.specs.Prelude.{Option, Some, None, is_none, ◌&&◌, ◌||◌, not, codes}
+use Rattle.std.proofs.Common.{◌≡◌, refl, sym, subst, ◌∙◌, List, [], ◌∷◌, ◌++◌, ℕ, Bool, true, false, cond}
+use Rattle.std.specs.Prelude.{Option, Some, None, is_none, ◌&&◌, not, codes}
 use Rattle.std.specs.List.{list_all, flat_map}
-use Rattle.std.specs.Option.{option_map_or}
 use Rattle.std.specs.Cmp.{first_so, second_so}
 use Rattle.std.proofs.lemmas.List.Folds.{list_all-append}
-use Rattle.mpslp_model.specs.Declaration.{by_type, Declaration, declare_sense, declare_objective, declare_row, declare_right_side, declare_range, declare_column, declare_coefficient, declare_marked, Declarations, Draft, adding, adding_all, has_row, has_column, has_name, is_free_row, right_side_declared}
+use Rattle.mpslp_model.specs.Declaration.{by_type, Declaration, declare_sense, declare_objective, declare_row, declare_right_side, declare_range, declare_column, declare_coefficient, declare_marked, Declarations, Draft, adding, adding_all, has_row, has_column, is_free_row, right_side_declared}
 use Rattle.mpslp_model.specs.Consistency.{is_known}
 use Rattle.mpslp_model.specs.Name.{same_bytes}
 use Rattle.mpslp_model.specs.Refusal.{those_of, is_nonempty, when}
@@ -22,7 +21,7 @@ use Rattle.mpslp_mps.specs.Section.{section_named, begins, is_section}
 use Rattle.mpslp_mps.specs.DataLine.{RowLine, Pair, ColumnLine, VectorLine, sense_line, sense_of, row_line, row_type, column_line, is_marker_line, vector_line}
 use Rattle.mpslp_mps.specs.BoundLine.{BoundLine, bound_type, bound_line}
 use Rattle.mpslp_mps.specs.Context.{Context, context_of, current_section, has_section}
-use Rattle.mpslp_mps.specs.LineMeaning.{declared_of, value_of, sense_declared, row_of_type, row_declared, default_objective, coefficient_declared, column_declared, columns_line_declared, right_sides_declared, ranges_declared, bound_declared, bound_value, bound_line_declared, data_declared, header_declared, declared}
+use Rattle.mpslp_mps.specs.LineMeaning.{declared_of, value_of, sense_declared, row_of_type, row_declared, coefficient_declared, column_declared, columns_line_declared, right_sides_declared, ranges_declared, bound_declared, bound_value, bound_line_declared, data_declared, header_declared, declared}
 use Rattle.mpslp_mps.specs.HeaderFault.{header_tests}
 use Rattle.mpslp_mps.specs.LineFault.{form_faults}
 use Rattle.mpslp_mps.specs.declared.sections.Section.{Section}
@@ -32,7 +31,7 @@ use Rattle.mpslp_mps.specs.declared.bound_types.BoundType.TheVariants as bounds
 use Rattle.mpslp_model.proofs.MadeDrafts.{adding_all-append}
 use Rattle.mpslp_mps.proofs.SectionLemmas.{has_section-push}
 use Rattle.mpslp_mps.proofs.PlacedLemmas.{declared_items, have_good_form, no_faults}
-use Rattle.mpslp_mps.proofs.OrderLemmas.{header-fresh, Past, past-rows, past-columns, never, IsGood, is_late, Ordered, ordered-push, declares_row, declares_column, no_rows, no_columns, rows-kept, columns-kept, each-declared, Passes, sense-passes, sides-passes, ranges-passes, bounds-passes, columns-line-no-rows, passes-no_rows, passes-no_columns}
+use Rattle.mpslp_mps.proofs.OrderLemmas.{header-fresh, Past, past-rows, past-columns, never, IsGood, is_late, Ordered, ordered-push, declares_row, declares_column, no_rows, no_columns, rows-kept, columns-kept, each-declared, sense-passes, sides-passes, ranges-passes, bounds-passes, columns-line-no-rows, passes-no_rows, passes-no_columns}
 
 -- ---- once ROWS is past no rows are declared, once COLUMNS is past no columns
 
@@ -192,8 +191,8 @@ sides-known earlier final before (pair ∷ pairs) rows h =
     elim (is_free_row earlier pair.row) as (λ b. AreKnown final (cond b [] (declare_right_side pair.row v ∷ []) ++ more) → are_known_in_turn before (cond b [] (declare_right_side pair.row v ∷ []) ++ more) ≡ true) [
       | true ↦ λ k. sides-known earlier final before pairs rows k
       | false ↦ λ k. both_so (has_row before pair.row) (are_known_in_turn (adding before (declare_right_side pair.row v)) more)
-        (rows pair.row (first_so (has_row final pair.row) (list_all (is_known final) more) k))
-        (sides-known earlier final (adding before (declare_right_side pair.row v)) pairs rows (second_so (has_row final pair.row) (list_all (is_known final) more) k))
+          (rows pair.row (first_so (has_row final pair.row) (list_all (is_known final) more) k))
+          (sides-known earlier final (adding before (declare_right_side pair.row v)) pairs rows (second_so (has_row final pair.row) (list_all (is_known final) more) k))
     ] h
 
 ranges-known : (final before : Draft) (pairs : List Pair) → HasRowsOf final before → AreKnown final (ranges_declared (record { set = []; pairs = pairs }))

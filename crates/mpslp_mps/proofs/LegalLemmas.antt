@@ -1,6 +1,6 @@
 -- What lines of a good form declare has legal names and decimals.
-use Rattle.std.proofs.Common.{◌≡◌, refl, sym, ap, ◌∙◌, List, [], ◌∷◌, ◌++◌, ℕ, Bool, true, false, cond, map}
-use Rattle.std.specs.Prelude.{Option, Some, None, is_none, ◌&&◌, ◌||◌, not, Result, Ok, Err, codes}
+use Rattle.std.proofs.Common.{◌≡◌, refl, ◌∙◌, List, [], ◌∷◌, ◌++◌, ℕ, Bool, true, false, cond}
+use Rattle.std.specs.Prelude.{Option, Some, None, is_none, not, Result, Ok, Err, codes}
 use Rattle.std.specs.List.{list_all, flat_map}
 use Rattle.std.specs.Option.{option_map_or}
 use Rattle.std.specs.Result.{result_unwrap_or}
@@ -9,22 +9,20 @@ use Rattle.mpslp_decimal.specs.Decimal.{Number, IsDecimal, is_decimal, zero_numb
 use Rattle.mpslp_decimal.specs.Literal.{number_of}
 use Rattle.mpslp_decimal.specs.declared.literal.NumberFault.{NumberFault}
 use Rattle.mpslp_model.specs.Name.{is_mps_name, has_name_length, is_visible, same_bytes, marker}
-use Rattle.mpslp_model.specs.Model.{limit_of, is_bounded_decimal}
-use Rattle.mpslp_model.specs.Declaration.{Declaration, by_type, declare_sense, declare_objective, declare_row, declare_right_side, declare_range, declare_column, declare_marked, Declarations, Draft, adding_all, is_free_row, right_side_declared}
+use Rattle.mpslp_model.specs.Model.{limit_of}
+use Rattle.mpslp_model.specs.Declaration.{by_type, declare_sense, declare_objective, declare_row, declare_right_side, declare_range, declare_marked, Draft, adding_all, is_free_row, right_side_declared}
 use Rattle.mpslp_model.specs.Bounds.{zero_limit}
 use Rattle.mpslp_model.specs.Made.{is_given, is_legal}
-use Rattle.mpslp_model.specs.Refusal.{those_of, when}
-use Rattle.mpslp_model.specs.declared.kinds.Sense.{Sense}
+use Rattle.mpslp_model.specs.Refusal.{those_of}
 use Rattle.mpslp_model.specs.declared.kinds.Limit.{Limit}
 use Rattle.mpslp_model.specs.declared.kinds.Limit.TheVariants.{MinusInf, Finite, PlusInf}
 use Rattle.mpslp_model.specs.declared.kinds.RowType.{RowType}
 use Rattle.mpslp_model.specs.declared.kinds.RowType.TheVariants.{Free, AtMost, AtLeast, Equal}
-use Rattle.mpslp_model.specs.declared.faults.FaultKind.{FaultKind}
 use Rattle.mpslp_model.specs.declared.faults.FaultKind.TheVariants as kinds
 use Rattle.mpslp_model.proofs.BoolLemmas.{both_so, so_not}
 use Rattle.mpslp_mps.specs.Line.{Fields, Item, skipped, header, data_line}
 use Rattle.mpslp_mps.specs.Section.{section_named}
-use Rattle.mpslp_mps.specs.DataLine.{RowLine, Pair, ColumnLine, VectorLine, sense_line, sense_of, row_line, row_type, column_line, is_marker_line, vector_line}
+use Rattle.mpslp_mps.specs.DataLine.{RowLine, Pair, ColumnLine, sense_line, sense_of, row_line, row_type, column_line, is_marker_line, vector_line}
 use Rattle.mpslp_mps.specs.BoundLine.{BoundLine, bound_type, bound_line}
 use Rattle.mpslp_mps.specs.Context.{Context, context_of, current_section}
 use Rattle.mpslp_mps.specs.LineMeaning.{declared_of, value_of, sense_declared, row_of_type, row_declared, coefficient_declared, column_declared, columns_line_declared, right_sides_declared, ranges_declared, bound_declared, bound_value, bound_line_declared, data_declared, header_declared, declared}
@@ -35,7 +33,7 @@ use Rattle.mpslp_mps.specs.declared.sections.Section.TheVariants.{Name, ObjSense
 use Rattle.mpslp_mps.specs.declared.bound_types.BoundType.{BoundType}
 use Rattle.mpslp_mps.specs.declared.bound_types.BoundType.TheVariants as bounds
 use Rattle.mpslp_mps.proofs.PlacedLemmas.{declared_items, have_good_form}
-use Rattle.mpslp_mps.proofs.OrderLemmas.{first_test, later_tests, IsGood, each-declared, each-flat, each-mapped}
+use Rattle.mpslp_mps.proofs.OrderLemmas.{later_tests, IsGood, each-declared, each-flat, each-mapped}
 use Rattle.mpslp_mps.proofs.KnownLemmas.{good-first, good-rest}
 
 -- ---- names

@@ -1,5 +1,5 @@
 -- Bytes that have no first fault declare a model.
-use Rattle.std.proofs.Common.{◌≡◌, refl, sym, ap, subst, ◌∙◌, List, [], ◌∷◌, ◌++◌, ℕ, zero, suc, ◌+◌, Bool, true, false, cond, map, arith, take}
+use Rattle.std.proofs.Common.{◌≡◌, refl, sym, ap, subst, ◌∙◌, List, [], ◌∷◌, ◌++◌, ℕ, suc, ◌+◌, Bool, true, false, cond, map, arith, take}
 use Rattle.std.specs.Prelude.{Option, Some, None, is_some, is_none, ◌&&◌, ◌||◌, not, filter_map, codes}
 use Rattle.std.specs.List.{list_all, list_any, flat_map, zip, position_or_len, cons_option}
 use Rattle.std.specs.Option.{option_map, option_or}
@@ -7,8 +7,7 @@ use Rattle.std.specs.Str.Lines.{lines}
 use Rattle.std.specs.Cmp.{first_so, second_so}
 use Rattle.std.proofs.lemmas.List.Folds.{list_all-append}
 use Rattle.mpslp_model.specs.Declaration.{by_type, Declaration, declare_sense, declare_objective, declare_constant, declare_row, declare_right_side, declare_range, declare_column, declare_coefficient, declare_lower, declare_upper, declare_marked, declare_integer, declare_binary, Declarations, Draft, adding, adding_all, empty_draft, draft_of, has_row}
-use Rattle.mpslp_model.specs.Consistency.{declares_objective, has_objective}
-use Rattle.mpslp_model.specs.Refusal.{those_of, is_nonempty, when, refusal_tests, refusals, refusals_in_turn}
+use Rattle.mpslp_model.specs.Refusal.{those_of, is_nonempty, refusal_tests, refusals, refusals_in_turn}
 use Rattle.mpslp_model.specs.Meaning.{model_of, whole_fault, file_fault}
 use Rattle.mpslp_model.specs.FaultOrder.{least_kind}
 use Rattle.mpslp_model.specs.declared.kinds.Sense.{Sense}
@@ -20,12 +19,12 @@ use Rattle.mpslp_model.specs.declared.faults.BuildFault.TheVariants as builds
 use Rattle.mpslp_model.specs.declared.faults.FaultKind.{FaultKind}
 use Rattle.mpslp_model.specs.declared.faults.FaultKind.TheVariants.{LineTooLong, BadByte, MissingEnd}
 use Rattle.mpslp_model.specs.declared.faults.FaultKind.TheVariants as kinds
-use Rattle.mpslp_model.proofs.BoolLemmas.{both_so, or_left, or_right, not_so}
+use Rattle.mpslp_model.proofs.BoolLemmas.{both_so, or_left, or_right}
 use Rattle.mpslp_model.proofs.RefusalLemmas.{left_none, right_none, join_none}
-use Rattle.mpslp_model.proofs.MadeDrafts.{adding_all-append, refusals_in_turn-append}
+use Rattle.mpslp_model.proofs.MadeDrafts.{refusals_in_turn-append}
 use Rattle.mpslp_model.proofs.Acceptance.{means-from_none}
 use Rattle.mpslp_mps.specs.Line.{Fields, Item, skipped, header, data_line, item_of, has_legal_length, has_legal_bytes, is_legal_line}
-use Rattle.mpslp_mps.specs.Section.{section_named, begins, is_section}
+use Rattle.mpslp_mps.specs.Section.{section_named, is_section}
 use Rattle.mpslp_mps.specs.DataLine.{RowLine, Pair, ColumnLine, sense_line, sense_of, row_line, row_type, column_line, is_marker_line}
 use Rattle.mpslp_mps.specs.Context.{Context, context_of, current_section, has_section, is_bare_objsense, wants_sense}
 use Rattle.mpslp_mps.specs.LineMeaning.{declared_of, sense_declared, row_of_type, row_declared, default_objective, coefficient_declared, column_declared, columns_line_declared, data_declared, header_declared, declared}
@@ -42,8 +41,7 @@ use Rattle.mpslp_mps.proofs.SectionLemmas.{has_section-push}
 use Rattle.mpslp_mps.proofs.ContextLemmas.{wants_sense-push}
 use Rattle.mpslp_mps.proofs.HeaderWalk.{settled-without}
 use Rattle.mpslp_mps.proofs.PlacedLemmas.{declared_items, have_good_form}
-use Rattle.mpslp_mps.proofs.OrderLemmas.{first_test, later_tests, header-fresh, header-begins, never, IsGood, each-declared, each-flat, Passes, sides-passes, ranges-passes, bounds-passes}
-use Rattle.mpslp_mps.proofs.KnownLemmas.{good-first, good-rest}
+use Rattle.mpslp_mps.proofs.OrderLemmas.{first_test, header-fresh, never, IsGood, each-declared, each-flat, Passes, sides-passes, ranges-passes, bounds-passes}
 use Rattle.mpslp_mps.proofs.LegalLemmas.{lines-legal}
 use Rattle.mpslp_mps.proofs.ModelOrFault.{read-decimal}
 use Rattle.mpslp_mps.proofs.ObjectiveLemmas.{objective-declared, named-lines}
@@ -282,6 +280,10 @@ bare-is : (keyword : List ℕ) (more : Fields) → is_bare_objsense (header keyw
 bare-is keyword [] = refl
 bare-is keyword (word ∷ more) = refl
 
+bare-other : (more : Fields) (o : Option Section) → is_section ObjSense o ≡ false → bare_by more o ≡ false
+bare-other [] o h = h
+bare-other (word ∷ more) o h = refl
+
 -- after a header where a sense is declared: OBJSENSE has begun, and it is not bare
 header-after : (before : List Item) (earlier : Draft) (keyword : List ℕ) (more : Fields) (o : Option Section) → those_of (header_tests (context_of before) keyword more o) ≡ [] → SenseKept before earlier
     → is_some (adding_all earlier (header_declared earlier more o)).sense ≡ true → ((has_section before ObjSense || is_section ObjSense o) ≡ true) × (bare_by more o ≡ false)
@@ -293,49 +295,17 @@ header-after before earlier keyword more (Some ObjSense) h k e = by more e
     by : (m : Fields) → is_some (adding_all earlier (declared_of sense_declared (sense_line m))).sense ≡ true → ((has_section before ObjSense || true) ≡ true) × (bare_by m (Some ObjSense) ≡ false)
     by [] s = absurd (never (is_some earlier.sense) s none)
     by (word ∷ m) s = (or_right (has_section before ObjSense) true refl, refl)
-header-after before earlier keyword more None h k e = (or_left (has_section before ObjSense) false (k.begun e), bare_none more)
-  where
-    bare_none : (m : Fields) → bare_by m None ≡ false
-    bare_none [] = refl
-    bare_none (word ∷ m) = refl
-header-after before earlier keyword more (Some Name) h k e = (or_left (has_section before ObjSense) false (k.begun e), bare_none more)
-  where
-    bare_none : (m : Fields) → bare_by m (Some Name) ≡ false
-    bare_none [] = refl
-    bare_none (word ∷ m) = refl
-header-after before earlier keyword more (Some Rows) h k e = (or_left (has_section before ObjSense) false (k.begun e), bare_none more)
-  where
-    bare_none : (m : Fields) → bare_by m (Some Rows) ≡ false
-    bare_none [] = refl
-    bare_none (word ∷ m) = refl
-header-after before earlier keyword more (Some Columns) h k e = (or_left (has_section before ObjSense) false (k.begun (sym (ap is_some kept) ∙ e)), bare_none more)
+header-after before earlier keyword more None h k e = (or_left (has_section before ObjSense) false (k.begun e), bare-other more None refl)
+header-after before earlier keyword more (Some Name) h k e = (or_left (has_section before ObjSense) false (k.begun e), bare-other more (Some Name) refl)
+header-after before earlier keyword more (Some Rows) h k e = (or_left (has_section before ObjSense) false (k.begun e), bare-other more (Some Rows) refl)
+header-after before earlier keyword more (Some Columns) h k e = (or_left (has_section before ObjSense) false (k.begun (sym (ap is_some kept) ∙ e)), bare-other more (Some Columns) refl)
   where
     kept : (adding_all earlier (default_objective earlier)).sense ≡ earlier.sense
     kept = elim (is_none earlier.objective) as (λ b. (adding_all earlier (cond b (declare_objective (codes "obj") ∷ []) [])).sense ≡ earlier.sense) [ true ↦ refl | false ↦ refl ]
-
-    bare_none : (m : Fields) → bare_by m (Some Columns) ≡ false
-    bare_none [] = refl
-    bare_none (word ∷ m) = refl
-header-after before earlier keyword more (Some Rhs) h k e = (or_left (has_section before ObjSense) false (k.begun e), bare_none more)
-  where
-    bare_none : (m : Fields) → bare_by m (Some Rhs) ≡ false
-    bare_none [] = refl
-    bare_none (word ∷ m) = refl
-header-after before earlier keyword more (Some Ranges) h k e = (or_left (has_section before ObjSense) false (k.begun e), bare_none more)
-  where
-    bare_none : (m : Fields) → bare_by m (Some Ranges) ≡ false
-    bare_none [] = refl
-    bare_none (word ∷ m) = refl
-header-after before earlier keyword more (Some Bounds) h k e = (or_left (has_section before ObjSense) false (k.begun e), bare_none more)
-  where
-    bare_none : (m : Fields) → bare_by m (Some Bounds) ≡ false
-    bare_none [] = refl
-    bare_none (word ∷ m) = refl
-header-after before earlier keyword more (Some EndData) h k e = (or_left (has_section before ObjSense) false (k.begun e), bare_none more)
-  where
-    bare_none : (m : Fields) → bare_by m (Some EndData) ≡ false
-    bare_none [] = refl
-    bare_none (word ∷ m) = refl
+header-after before earlier keyword more (Some Rhs) h k e = (or_left (has_section before ObjSense) false (k.begun e), bare-other more (Some Rhs) refl)
+header-after before earlier keyword more (Some Ranges) h k e = (or_left (has_section before ObjSense) false (k.begun e), bare-other more (Some Ranges) refl)
+header-after before earlier keyword more (Some Bounds) h k e = (or_left (has_section before ObjSense) false (k.begun e), bare-other more (Some Bounds) refl)
+header-after before earlier keyword more (Some EndData) h k e = (or_left (has_section before ObjSense) false (k.begun e), bare-other more (Some EndData) refl)
 
 wants-begun : (before : List Item) → wants_sense before ≡ true → has_section before ObjSense ≡ true
 wants-begun before w =
@@ -432,7 +402,7 @@ lines-faultless n (line ∷ lines) before earlier h k =
       legal = both_so (is_legal_line line) (list_all is_legal_line lines) fine.legal more.legal;
       good = both_so (not (is_nonempty forms)) (have_good_form (before ++ item ∷ []) next (map item_of lines)) (ap (λ (faults : List FaultKind). not (is_nonempty faults)) good) more.good;
       unrefused = refusals_in_turn-append here (declared_items (before ++ item ∷ []) next (map item_of lines)) earlier
-      ∙ join_none (refusals_in_turn earlier here) (refusals_in_turn next (declared_items (before ++ item ∷ []) next (map item_of lines))) unrefused more.unrefused;
+          ∙ join_none (refusals_in_turn earlier here) (refusals_in_turn next (declared_items (before ++ item ∷ []) next (map item_of lines))) unrefused more.unrefused;
     }
 
 -- ---- the whole
@@ -444,9 +414,9 @@ end-read (l ∷ ls) h =
     elim (is_end l) as (λ b. is_end l ≡ b → (b || list_any is_end ls) ≡ true → list_any is_end (take (suc (cond (not b) (1 + position_or_len is_end ls) 0)) (l ∷ ls)) ≡ true) [
       | true ↦ λ e _. or_left (is_end l) (list_any is_end (take 0 ls)) e
       | false ↦ λ _ k.
-        let next : 1 + position_or_len is_end ls ≡ suc (position_or_len is_end ls) = omega arith in
-        subst (λ (n : ℕ). list_any is_end (take (suc n) (l ∷ ls)) ≡ true) (sym next)
-        (or_right (is_end l) (list_any is_end (take (suc (position_or_len is_end ls)) ls)) (end-read ls k))
+          let next : 1 + position_or_len is_end ls ≡ suc (position_or_len is_end ls) = omega arith in
+          subst (λ (n : ℕ). list_any is_end (take (suc n) (l ∷ ls)) ≡ true) (sym next)
+          (or_right (is_end l) (list_any is_end (take (suc (position_or_len is_end ls)) ls)) (end-read ls k))
     ] refl h
 
 pub record IsWholeFaultless (bytes : List ℕ) : Type 0 where
@@ -470,7 +440,7 @@ declares-from_no_fault bytes h =
     let named = named-lines (read_lines bytes) [] empty_draft (end-read (lines bytes) whole.ends) fine.good (λ e. cc) in
     record {
       text = both_so (has_end bytes) (list_all is_legal_line (read_lines bytes) && have_good_form [] empty_draft items) whole.ends
-      (both_so (list_all is_legal_line (read_lines bytes)) (have_good_form [] empty_draft items) fine.legal fine.good);
+          (both_so (list_all is_legal_line (read_lines bytes)) (have_good_form [] empty_draft items) fine.legal fine.good);
       means = means-from_none (declarations_of bytes) (objective-declared (declarations_of bytes) empty_draft named) (lines-legal read-decimal items [] empty_draft fine.good) fine.unrefused whole.file;
     }
 

@@ -1,13 +1,10 @@
 -- Bytes declare a model or have a first fault, and not both.
 use Rattle.std.proofs.Common.{◌≡◌, sym, ◌∙◌, List, ℕ}
-use Rattle.std.specs.Prelude.{Option, Some, None, Ok}
+use Rattle.std.specs.Prelude.{Some, None, Ok}
 use Rattle.mpslp_decimal.specs.Decimal.{Number, IsDecimal}
 use Rattle.mpslp_decimal.specs.Literal.{number_of}
 use Rattle.mpslp_decimal.proofs.SpellsLemmas.{spells-from_number}
-use Rattle.mpslp_model.specs.Model.{LinearModel}
 use Rattle.mpslp_model.specs.declared.faults.Fault.{Fault}
-use Rattle.mpslp_mps.specs.MpsText.{DeclaresMps}
-use Rattle.mpslp_mps.specs.FirstFault.{first_mps_fault, IsFirstMpsFault}
 use Rattle.mpslp_mps.specs.Laws.{DeclareOrFail}
 use Rattle.mpslp_mps.proofs.NoFaultFromModel.{no_fault-from_declares}
 

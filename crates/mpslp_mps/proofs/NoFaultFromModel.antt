@@ -1,15 +1,14 @@
 -- Bytes that declare a model have no first fault.
-use Rattle.std.proofs.Common.{◌≡◌, refl, sym, ap, subst, ◌∙◌, List, [], ◌∷◌, ◌++◌, ℕ, ◌+◌, Bool, true, false, map}
-use Rattle.std.specs.Prelude.{Option, Some, None, ◌&&◌, not, filter_map, Ok}
-use Rattle.std.specs.List.{list_all, list_any, flat_map, zip}
+use Rattle.std.proofs.Common.{◌≡◌, refl, sym, ap, ◌∙◌, List, [], ◌∷◌, ◌++◌, ℕ, ◌+◌, true, map}
+use Rattle.std.specs.Prelude.{Option, None, ◌&&◌, filter_map, Ok}
+use Rattle.std.specs.List.{list_all, zip}
 use Rattle.std.specs.Option.{option_map, option_or}
 use Rattle.std.specs.Cmp.{first_so, second_so}
 use Rattle.mpslp_decimal.specs.Decimal.{Number, IsDecimal}
 use Rattle.mpslp_decimal.specs.Literal.{number_of}
 use Rattle.mpslp_model.specs.Model.{LinearModel}
-use Rattle.mpslp_model.specs.Declaration.{Declarations, Draft, empty_draft, adding_all, draft_of}
-use Rattle.mpslp_model.specs.Refusal.{is_nonempty, refusals_in_turn}
-use Rattle.mpslp_model.specs.Meaning.{Means, file_fault}
+use Rattle.mpslp_model.specs.Declaration.{Draft, empty_draft, adding_all}
+use Rattle.mpslp_model.specs.Refusal.{refusals_in_turn}
 use Rattle.mpslp_model.specs.FaultOrder.{least_kind}
 use Rattle.mpslp_model.specs.declared.faults.BuildFault.{BuildFault}
 use Rattle.mpslp_model.specs.declared.faults.FaultKind.{FaultKind}
@@ -19,8 +18,8 @@ use Rattle.mpslp_model.proofs.Acceptance.{none-from_means}
 use Rattle.mpslp_mps.specs.Line.{Item, item_of, has_legal_length, has_legal_bytes, is_legal_line}
 use Rattle.mpslp_mps.specs.Context.{context_of}
 use Rattle.mpslp_mps.specs.LineMeaning.{declared}
-use Rattle.mpslp_mps.specs.LineFault.{form_faults, kind_of_refusal, declaring_faults}
-use Rattle.mpslp_mps.specs.MpsText.{Placed, read_lines, has_end, declared_at, has_good_form, placed_after, placed_lines, declarations_of, is_mps_text, DeclaresMps}
+use Rattle.mpslp_mps.specs.LineFault.{kind_of_refusal, declaring_faults}
+use Rattle.mpslp_mps.specs.MpsText.{Placed, read_lines, has_end, has_good_form, placed_after, placed_lines, declarations_of, DeclaresMps}
 use Rattle.mpslp_mps.specs.FirstFault.{item_fault, line_fault, fault_on_line, first_line_fault, whole_mps_fault, first_mps_fault}
 use Rattle.mpslp_mps.proofs.PlacedLemmas.{declared_items, have_good_form}
 use Rattle.mpslp_mps.proofs.OrderLemmas.{IsGood, ordered-nil}

@@ -1,6 +1,6 @@
 -- By ENDATA the objective is declared: by the first row of type N, or by the header of COLUMNS.
 use Rattle.std.proofs.Common.{◌≡◌, refl, sym, ap, ◌∙◌, List, [], ◌∷◌, ◌++◌, ℕ, Bool, true, false, cond, map}
-use Rattle.std.specs.Prelude.{Option, Some, None, is_some, is_none, ◌&&◌, ◌||◌, not, codes}
+use Rattle.std.specs.Prelude.{Option, Some, None, is_some, is_none, ◌||◌, codes}
 use Rattle.std.specs.List.{list_any}
 use Rattle.mpslp_model.specs.Declaration.{Declaration, declare_sense, declare_objective, declare_constant, declare_row, declare_right_side, declare_range, declare_column, declare_coefficient, declare_lower, declare_upper, declare_marked, declare_integer, declare_binary, Declarations, Draft, adding, adding_all}
 use Rattle.mpslp_model.specs.Consistency.{has_objective}
@@ -117,7 +117,7 @@ named-lines (line ∷ lines) before earlier h g named =
     elim (is_end line) as (λ b. is_end line ≡ b → (b || list_any is_end lines) ≡ true → is_some (adding_all earlier (here ++ more)).objective ≡ true) [
       | true ↦ λ e _. named-after (here ++ more) earlier (named (at_end item e (good-first before earlier item (map item_of lines) g)))
       | false ↦ λ _ k. ap (λ (all : Draft). is_some all.objective) (adding_all-append here more earlier)
-        ∙ named-lines lines (before ++ item ∷ []) (adding_all earlier here) k (good-rest before earlier item (map item_of lines) g) (named-push before earlier item named)
+          ∙ named-lines lines (before ++ item ∷ []) (adding_all earlier here) k (good-rest before earlier item (map item_of lines) g) (named-push before earlier item named)
     ] refl h
   where
     at_end : (x : Item) → begins EndData x ≡ true → IsGood before earlier x → has_section before Columns ≡ true

@@ -1,23 +1,23 @@
 -- Where sections stand in lines of a good form, and so where rows and columns are declared.
 use Rattle.std.proofs.Common.{◌≡◌, refl, sym, ap, ◌∙◌, List, [], ◌∷◌, ◌++◌, ℕ, Bool, true, false, cond, map}
-use Rattle.std.specs.Prelude.{Option, Some, None, is_some, is_none, ◌&&◌, ◌||◌, not}
+use Rattle.std.specs.Prelude.{Option, Some, None, ◌||◌, not}
 use Rattle.std.specs.List.{list_all, flat_map}
-use Rattle.std.specs.Option.{option_or, option_map_or}
+use Rattle.std.specs.Option.{option_or}
 use Rattle.std.specs.Cmp.{first_so, second_so}
 use Rattle.std.proofs.lemmas.List.Folds.{list_all-append}
 use Rattle.mpslp_model.specs.Declaration.{Declaration, declare_sense, declare_objective, declare_constant, declare_row, declare_right_side, declare_range, declare_column, declare_coefficient, declare_lower, declare_upper, declare_marked, declare_integer, declare_binary, Declarations, Draft, adding, adding_all, is_free_row, has_row, has_column, right_side_declared}
-use Rattle.mpslp_model.specs.Refusal.{those_of, is_nonempty, when}
+use Rattle.mpslp_model.specs.Refusal.{those_of}
 use Rattle.mpslp_model.specs.declared.kinds.Sense.{Sense}
 use Rattle.mpslp_model.specs.declared.kinds.Limit.{Limit}
 use Rattle.mpslp_model.specs.declared.faults.FaultKind.{FaultKind}
 use Rattle.mpslp_model.specs.declared.faults.FaultKind.TheVariants as kinds
-use Rattle.mpslp_model.proofs.BoolLemmas.{both_so, or_left, or_right, not_so, nor}
+use Rattle.mpslp_model.proofs.BoolLemmas.{both_so, or_left, or_right, nor}
 use Rattle.mpslp_mps.specs.Line.{Fields, Item, skipped, header, data_line}
 use Rattle.mpslp_mps.specs.Section.{section_named, section_begun, begins, is_section}
-use Rattle.mpslp_mps.specs.DataLine.{Pair, ColumnLine, VectorLine, sense_line, sense_of, column_line, is_marker_line, vector_line}
+use Rattle.mpslp_mps.specs.DataLine.{Pair, ColumnLine, sense_line, sense_of, column_line, is_marker_line, vector_line}
 use Rattle.mpslp_mps.specs.BoundLine.{BoundLine, bound_type, bound_line}
 use Rattle.mpslp_mps.specs.Context.{Context, context_of, current_section, has_section, has_seen}
-use Rattle.mpslp_mps.specs.LineMeaning.{declared_of, value_of, sense_declared, coefficient_declared, column_declared, columns_line_declared, right_sides_declared, ranges_declared, bound_declared, bound_value, bound_line_declared, data_declared, header_declared, declared}
+use Rattle.mpslp_mps.specs.LineMeaning.{declared_of, value_of, sense_declared, coefficient_declared, column_declared, columns_line_declared, right_sides_declared, ranges_declared, bound_declared, bound_value, bound_line_declared}
 use Rattle.mpslp_mps.specs.FieldFault.{Tests}
 use Rattle.mpslp_mps.specs.HeaderFault.{may_begin, is_out_of_order, may_follow, header_word_tests, header_tests}
 use Rattle.mpslp_mps.specs.LineFault.{form_faults}
@@ -26,7 +26,6 @@ use Rattle.mpslp_mps.specs.declared.sections.Section.TheVariants.{Name, ObjSense
 use Rattle.mpslp_mps.specs.declared.bound_types.BoundType.{BoundType}
 use Rattle.mpslp_mps.specs.declared.bound_types.BoundType.TheVariants as bounds
 use Rattle.mpslp_mps.proofs.SectionLemmas.{current_section-push, has_section-push}
-use Rattle.mpslp_mps.proofs.PlacedLemmas.{declared_items, have_good_form, no_faults}
 
 -- ---- tests that do not hold
 

@@ -1,11 +1,11 @@
 -- Lines that follow others: what they declare, and that they have a good form.
-use Rattle.std.proofs.Common.{◌≡◌, refl, sym, ap, subst, ◌∙◌, List, [], ◌∷◌, ◌++◌, Bool, true, false, map, append_assoc}
+use Rattle.std.proofs.Common.{◌≡◌, refl, sym, ap, subst, ◌∙◌, List, [], ◌∷◌, ◌++◌, Bool, true, map, append_assoc}
 use Rattle.std.specs.Prelude.{◌&&◌, not}
 use Rattle.std.specs.List.{flat_map, list_all}
 use Rattle.std.specs.Cmp.{first_so, second_so}
 use mathlib.Core.Path.{subst₂}
 use Rattle.std.proofs.lemmas.List.{append-nil}
-use Rattle.mpslp_model.specs.Declaration.{Declarations, Draft, adding, adding_all}
+use Rattle.mpslp_model.specs.Declaration.{Declarations, Draft, adding_all}
 use Rattle.mpslp_model.specs.Refusal.{is_nonempty}
 use Rattle.mpslp_model.specs.declared.faults.FaultKind.{FaultKind}
 use Rattle.mpslp_model.proofs.BoolLemmas.{both_so}
@@ -14,7 +14,7 @@ use Rattle.mpslp_mps.specs.Line.{Item}
 use Rattle.mpslp_mps.specs.Context.{context_of}
 use Rattle.mpslp_mps.specs.LineMeaning.{declared}
 use Rattle.mpslp_mps.specs.LineFault.{form_faults}
-use Rattle.mpslp_mps.specs.MpsText.{Placed, declared_at, has_good_form, placed_after}
+use Rattle.mpslp_mps.specs.MpsText.{declared_at, has_good_form, placed_after}
 
 -- what items declare after these, which declared `earlier`; and whether they have a good form there
 abbrev pub declared_items : List Item → Draft → List Item → Declarations

@@ -1,8 +1,7 @@
 -- Lines of ROWS, RHS and RANGES as they are printed: what each declares, and that it has a good form.
 use Rattle.std.proofs.Common.{◌≡◌, refl, ap, ◌∙◌, List, [], ◌∷◌, ◌++◌, ℕ, Bool, true, false}
-use Rattle.std.specs.Prelude.{Option, Some, None, is_none, ◌&&◌, not, codes, Ok}
-use Rattle.std.specs.List.{list_all, last_or}
-use Rattle.std.specs.Option.{option_map_or, option_or}
+use Rattle.std.specs.Prelude.{Option, Some, is_none, ◌&&◌, not, Ok}
+use Rattle.std.specs.List.{list_all}
 use Rattle.mpslp_decimal.specs.Decimal.{Number}
 use Rattle.mpslp_decimal.specs.Literal.{number_of}
 use Rattle.mpslp_model.specs.Name.{is_mps_name, has_name_length, is_visible, same_bytes, marker}

@@ -1,8 +1,8 @@
 -- The context after one line more, from the context before it: what a reader keeps in place of the lines.
-use Rattle.std.specs.Prelude.{ℕ, Bool, true, false, ◌||◌, List, [], ◌∷◌, Option, Some, None, if◌then◌else◌}
+use Rattle.std.specs.Prelude.{ℕ, Bool, ◌||◌, List, Option, if◌then◌else◌}
 use Rattle.std.specs.Option.{option_map_or, option_or}
 use Rattle.mpslp_model.specs.Name.{same_bytes}
-use Rattle.mpslp_mps.specs.Line.{Fields, Item, skipped, header, data_line}
+use Rattle.mpslp_mps.specs.Line.{Fields, Item, data_line}
 use Rattle.mpslp_mps.specs.Section.{section_begun, begins, is_section}
 use Rattle.mpslp_mps.specs.DataLine.{opening_word}
 use Rattle.mpslp_mps.specs.Context.{Seen, is_read, is_bare_objsense, marker_word, line_column, vector_set, bound_set, Context}

@@ -1,7 +1,6 @@
 -- Headers, and the sections that they begin.
 use Rattle.std.specs.Prelude.{ℕ, Bool, false, List, [], ◌∷◌, Option, Some, None, codes}
 use Rattle.std.specs.List.{find}
-use Rattle.std.specs.Option.{option_or}
 use Rattle.mpslp_model.specs.Name.{same_bytes}
 use Rattle.mpslp_mps.specs.Line.{Item, header}
 use Rattle.mpslp_mps.specs.declared.sections.Section.{Section}

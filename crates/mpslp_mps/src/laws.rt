@@ -16,11 +16,9 @@ pub fn one_fault()
 /// No bytes both declare a model and have a first fault.
 pub fn model_or_fault()
     ensures { DeclareOrFail }
-{
-}
+{}
 
 /// Bytes that have no first fault declare a model.
 pub fn model_without_fault()
     ensures { DeclareUnlessFaulty }
-{
-}
+{}
