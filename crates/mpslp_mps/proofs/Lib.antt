@@ -14,3 +14,5 @@ pub mod ContextLemmas
 pub mod HeaderWalk
 pub mod ObjectiveLemmas
 pub mod ModelFromNoFault
+pub mod ReadingLemmas
+pub mod LeastLemmas

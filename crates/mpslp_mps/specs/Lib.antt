@@ -11,4 +11,5 @@ pub mod DataFault
 pub mod LineFault
 pub mod MpsText
 pub mod FirstFault
+pub mod Reading
 pub mod Laws
