@@ -9,9 +9,11 @@ use Rattle.mpslp_decimal.specs.Decimal.{Number}
 use Rattle.mpslp_decimal.specs.Literal.{number_of}
 use Rattle.mpslp_model.specs.Name.{is_mps_name, same_bytes, marker}
 use Rattle.mpslp_model.specs.Declaration.{declare_column, declare_marked, declare_coefficient, Declarations, Draft, adding_all, has_column}
-use Rattle.mpslp_model.specs.Refusal.{those_of, when}
+use Rattle.mpslp_model.specs.Refusal.{those_of, when, is_nonempty}
 use Rattle.mpslp_model.specs.declared.faults.FaultKind.TheVariants as kinds
+use Rattle.mpslp_model.proofs.BoolLemmas.{both_false}
 use Rattle.mpslp_model.proofs.LaterDrafts.{itself_named}
+use Rattle.mpslp_model.proofs.SlotLemmas.{has-put}
 use Rattle.mpslp_model.proofs.MadeDrafts.{adding_all-append}
 use Rattle.mpslp_model.proofs.EachLemmas.{Each}
 use Rattle.mpslp_mps.specs.Line.{Fields, Item, data_line}
@@ -189,3 +191,60 @@ unsplit_more marked column (cell ∷ cells) rest earlier h more = (
 -- the first line of a column that is not declared
 pub absent_unsplit : (last : Option (List ℕ)) (earlier : Draft) (column : List ℕ) → has_column earlier column ≡ false → is_split_in last earlier column ≡ false
 absent_unsplit last earlier column h = ap (λ (b : Bool). b && not (option_map_or (same_bytes column) last false)) h
+
+-- a column and its cells
+abbrev pub Group : Type 0
+Group = List ℕ × List Cell
+
+abbrev pub cells_of : List Group → List Cell
+cells_of groups = flat_map (λ group. group.1) groups
+
+-- one cell at least, each of the column
+pub record IsGroup (group : Group) : Type 0 where
+  pub some : is_nonempty group.1 ≡ true
+  pub own : AreOf group.0 group.1
+
+-- no two of one name
+abbrev pub AreApart : List Group → Type 0
+AreApart [] = Unit {0}
+AreApart (group ∷ groups) = Each (λ (later : Group). same_bytes later.0 group.0 ≡ false) groups × AreApart groups
+
+abbrev pub AreAbsent : Draft → List Group → Type 0
+AreAbsent earlier groups = Each (λ (group : Group). has_column earlier group.0 ≡ false) groups
+
+-- one cell declares its own column alone
+cell-column : (marked : Bool) (cell : Cell) (earlier : Draft) (n : List ℕ) → same_bytes n cell.column ≡ false → has_column earlier n ≡ false
+    → has_column (adding_all earlier (cell_decl marked cell)) n ≡ false
+cell-column true cell earlier n apart absent = has-put n cell.column tt earlier.columns ∙ both_false (same_bytes n cell.column) (has_column earlier n) apart absent
+cell-column false cell earlier n apart absent = has-put n cell.column tt earlier.columns ∙ both_false (same_bytes n cell.column) (has_column earlier n) apart absent
+
+cells-column : (marked : Bool) (column : List ℕ) (cells : List Cell) (earlier : Draft) (n : List ℕ) → AreOf column cells → same_bytes n column ≡ false → has_column earlier n ≡ false
+    → has_column (adding_all earlier (flat_map (cell_decl marked) cells)) n ≡ false
+cells-column marked column [] earlier n own apart absent = absent
+cells-column marked column (cell ∷ cells) earlier n own apart absent =
+    ap (λ (all : Draft). has_column all n) (adding_all-append (cell_decl marked cell) (flat_map (cell_decl marked) cells) earlier)
+    ∙ cells-column marked column cells (adding_all earlier (cell_decl marked cell)) n own.1 apart
+    (cell-column marked cell earlier n (ap (same_bytes n) own.0 ∙ apart) absent)
+
+still-absent : (marked : Bool) (column : List ℕ) (cells : List Cell) (earlier : Draft) (groups : List Group) → AreOf column cells → Each (λ (later : Group). same_bytes later.0 column ≡ false) groups
+    → AreAbsent earlier groups → AreAbsent (adding_all earlier (flat_map (cell_decl marked) cells)) groups
+still-absent marked column cells earlier [] own apart absent = tt
+still-absent marked column cells earlier (group ∷ groups) own apart absent =
+    (cells-column marked column cells earlier group.0 own apart.0 absent.0, still-absent marked column cells earlier groups own apart.1 absent.1)
+
+-- Columns that are printed one after another, none of which is declared before, are not split.
+pub groups_unsplit : (marked : Bool) (groups : List Group) (last : Option (List ℕ)) (earlier : Draft) → Each IsGroup groups → AreApart groups → AreAbsent earlier groups
+    → Unsplit marked last earlier (cells_of groups)
+groups_unsplit marked [] last earlier h apart absent = tt
+groups_unsplit marked (group ∷ groups) last earlier h apart absent =
+    by group.1 h.0.some h.0.own
+    (groups_unsplit marked groups (Some group.0) (adding_all earlier (flat_map (cell_decl marked) group.1)) h.1 apart.1 (still-absent marked group.0 group.1 earlier groups h.0.own apart.0 absent.1))
+  where
+    by : (cells : List Cell) → is_nonempty cells ≡ true → AreOf group.0 cells → Unsplit marked (Some group.0) (adding_all earlier (flat_map (cell_decl marked) cells)) (cells_of groups)
+        → Unsplit marked last earlier (cells ++ cells_of groups)
+    by [] some own more = cc
+    by (cell ∷ cells) some own more =
+        (ap (is_split_in last earlier) own.0 ∙ absent_unsplit last earlier group.0 absent.0,
+        subst (λ (c : List ℕ). Unsplit marked (Some c) (adding_all earlier (cell_decl marked cell)) (cells ++ cells_of groups)) (sym own.0)
+        (unsplit_more marked group.0 cells (cells_of groups) (adding_all earlier (cell_decl marked cell)) own.1
+        (subst (λ (all : Draft). Unsplit marked (Some group.0) all (cells_of groups)) (adding_all-append (cell_decl marked cell) (flat_map (cell_decl marked) cells) earlier) more)))
