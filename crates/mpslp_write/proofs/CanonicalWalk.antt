@@ -74,7 +74,7 @@ under-walk section s item decl (x ∷ xs) before earlier h f w =
     (header-good section before earlier (s.stands before earlier h f)) w
 
 -- the lines of a section that has not begun
-none-yet : (section : Section) (before : List Item) → begins section (header_item section) ≡ true → has_section before section ≡ false → data_lines section (before ++ header_item section ∷ []) ≡ []
+pub none-yet : (section : Section) (before : List Item) → begins section (header_item section) ≡ true → has_section before section ≡ false → data_lines section (before ++ header_item section ∷ []) ≡ []
 none-yet section before b f = data_lines-push section before (header_item section) ∙ append-nil (data_lines section before) ∙ no-lines section before f
 
 pub sides-walk : (set : List ℕ) (sides : List Side) (before : List Item) (earlier : Draft) → IsLate before earlier → has_section before Rhs ≡ false → Each ReadsAs sides

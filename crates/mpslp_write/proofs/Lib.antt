@@ -4,5 +4,6 @@ pub mod PrintableLemmas
 pub mod ReadLemmas
 pub mod CanonicalItems
 pub mod CanonicalWalk
+pub mod EarlyWalk
 pub mod DraftText
 pub mod WorkedTexts
