@@ -41,7 +41,7 @@ still-begun : (section other : Section) (before : List Item) → has_section bef
 still-begun section other before h = has_section-push section before (header_item other) ∙ ap (λ (b : Bool). b || begins section (header_item other)) h
 
 -- data lines want nothing
-data-settled : {X : Type 0} (item : X → Item) → ((x : X) → is_read (item x) ≡ true) → ((x : X) → is_bare_objsense (item x) ≡ false) → (xs : List X) (before : List Item)
+pub data-settled : {X : Type 0} (item : X → Item) → ((x : X) → is_read (item x) ≡ true) → ((x : X) → is_bare_objsense (item x) ≡ false) → (xs : List X) (before : List Item)
     → wants_sense before ≡ false → wants_sense (before ++ map item xs) ≡ false
 data-settled item reads bare [] before h = ap wants_sense (append-nil before) ∙ h
 data-settled item reads bare (x ∷ xs) before h =

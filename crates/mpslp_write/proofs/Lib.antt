@@ -5,5 +5,6 @@ pub mod ReadLemmas
 pub mod CanonicalItems
 pub mod CanonicalWalk
 pub mod EarlyWalk
+pub mod WholeWalk
 pub mod DraftText
 pub mod WorkedTexts
