@@ -24,7 +24,7 @@ abbrev pub items_in : Lines → List Item
 items_in lines = map item_in lines
 
 -- the items of what is printed of several things, one after another
-flat-items : {X Y : Type 0} (item : Y → Item) (lines : X → Lines) (parts : X → List Y) → ((x : X) → items_in (lines x) ≡ map item (parts x)) → (xs : List X)
+pub flat-items : {X Y : Type 0} (item : Y → Item) (lines : X → Lines) (parts : X → List Y) → ((x : X) → items_in (lines x) ≡ map item (parts x)) → (xs : List X)
     → items_in (flat_map lines xs) ≡ map item (flat_map parts xs)
 flat-items item lines parts h [] = refl
 flat-items item lines parts h (x ∷ xs) =

@@ -6,5 +6,6 @@ pub mod CanonicalItems
 pub mod CanonicalWalk
 pub mod EarlyWalk
 pub mod WholeWalk
+pub mod ListedItems
 pub mod DraftText
 pub mod WorkedTexts
