@@ -1,24 +1,24 @@
 -- The items that are read in canonical lines, as those that walks go over.
 use Rattle.std.proofs.Common.{◌≡◌, refl, sym, ap, ◌∙◌, List, [], ◌∷◌, ◌++◌, ℕ, Bool, true, false, cond, map}
-use Rattle.std.specs.Prelude.{Option, Some, None, codes, ◌&&◌}
-use Rattle.std.specs.List.{flat_map, list_all}
+use Rattle.std.specs.Prelude.{Option, Some, None, codes}
+use Rattle.std.specs.List.{flat_map}
 use Rattle.std.specs.Option.{option_map_or}
 use Rattle.std.proofs.lemmas.List.{map-append}
 use Rattle.mpslp_decimal.specs.Decimal.{Number, is_zero, negated, zero_number}
 use Rattle.mpslp_decimal.specs.NumberText.{number_text}
 use Rattle.mpslp_model.specs.Model.{Row, Column}
-use Rattle.mpslp_mps.specs.Line.{Item, header, data_line}
+use Rattle.mpslp_mps.specs.Line.{Item}
 use Rattle.mpslp_mps.specs.declared.sections.Section.{Section}
 use Rattle.mpslp_mps.specs.declared.bound_types.BoundType.{BoundType}
 use Rattle.mpslp_mps.specs.declared.bound_types.BoundType.TheVariants as bounds
 use Rattle.mpslp_mps.proofs.RowsWalk.{RowItem, row_item, Side, side_item}
 use Rattle.mpslp_mps.proofs.ColumnsWalk.{Cell, cell_item, Group, cells_of}
-use Rattle.mpslp_mps.proofs.BoundsWalk.{BoundForm, fixed, lower, upper, free, no_lower, no_upper, Bound, bound_item}
+use Rattle.mpslp_mps.proofs.BoundsWalk.{BoundForm, fixed, lower, upper, free, no_lower, no_upper, Bound}
 use Rattle.mpslp_mps.proofs.HeaderWalk.{header_item}
-use Rattle.mpslp_write.specs.Printed.{PrintedLine, item_in}
+use Rattle.mpslp_write.specs.Printed.{item_in}
 use Rattle.mpslp_write.specs.Listing.{Listing}
 use Rattle.mpslp_write.specs.PrintedValues.{printed_type, printed_side, printed_range, PrintedBound, printed_bounds}
-use Rattle.mpslp_write.specs.CanonicalMps.{Lines, under_header, row_line, vector_line, cell_line, column_cells, printed_cells, column_lines, side_lines, row_side_lines, range_lines, bound_line, column_bound_lines}
+use Rattle.mpslp_write.specs.CanonicalMps.{Lines, under_header, row_line, vector_line, cell_line, column_cells, printed_cells, column_lines, side_lines, row_side_lines, range_lines}
 
 abbrev pub items_in : Lines → List Item
 items_in lines = map item_in lines

@@ -1,21 +1,20 @@
 -- What the sections of canonical text declare, each after the lines before it.
-use Rattle.std.proofs.Common.{◌≡◌, refl, sym, ap, subst, ◌∙◌, List, [], ◌∷◌, ◌++◌, ℕ, Bool, true, false, map, append_assoc}
-use Rattle.std.specs.Prelude.{Option, Some, None, is_none, ◌||◌, codes}
+use Rattle.std.proofs.Common.{◌≡◌, refl, sym, ap, ◌∙◌, List, [], ◌∷◌, ◌++◌, ℕ, Bool, true, false, map, append_assoc}
+use Rattle.std.specs.Prelude.{is_none, ◌||◌}
 use Rattle.std.specs.List.{flat_map}
 use Rattle.std.proofs.lemmas.List.{append-nil}
-use Rattle.mpslp_model.specs.Declaration.{Declarations, Draft, adding_all, is_free_row}
+use Rattle.mpslp_model.specs.Declaration.{Declarations, Draft, is_free_row}
 use Rattle.mpslp_model.proofs.EachLemmas.{Each}
 use Rattle.mpslp_mps.specs.Line.{Item}
-use Rattle.mpslp_mps.specs.Section.{begins, is_section}
-use Rattle.mpslp_mps.specs.Context.{context_of, current_section, has_section, is_read, is_bare_objsense, wants_sense, data_lines}
+use Rattle.mpslp_mps.specs.Section.{begins}
+use Rattle.mpslp_mps.specs.Context.{has_section, is_read, is_bare_objsense, wants_sense, data_lines}
 use Rattle.mpslp_mps.specs.declared.sections.Section.{Section}
-use Rattle.mpslp_mps.specs.declared.sections.Section.TheVariants.{Name, ObjSense, Rows, Columns, Rhs, Ranges, Bounds, EndData}
+use Rattle.mpslp_mps.specs.declared.sections.Section.TheVariants.{Columns, Rhs, Ranges, Bounds, EndData}
 use Rattle.mpslp_mps.proofs.SectionLemmas.{has_section-push, data_lines-push}
-use Rattle.mpslp_mps.proofs.ContextLemmas.{wants_sense-push}
 use Rattle.mpslp_mps.proofs.PlacedLemmas.{Walk, walk-nil, walk-cons, section-walk}
 use Rattle.mpslp_mps.proofs.RowsWalk.{Side, side_item, side_decl, range_decl, ReadsAs, InSides, side_step, InRanges, range_step}
 use Rattle.mpslp_mps.proofs.BoundsWalk.{Bound, bound_item, bound_decl, GoodBound, InBounds, bound_step}
-use Rattle.mpslp_mps.proofs.HeaderWalk.{header_item, MayStand, header-good, header-says, current-header, no-lines, has_section-data, settled-after}
+use Rattle.mpslp_mps.proofs.HeaderWalk.{header_item, MayStand, header-good, header-says, current-header, no-lines, settled-after}
 use Rattle.mpslp_write.proofs.CanonicalItems.{under}
 
 -- ---- after COLUMNS: the sections that stand only where they have lines

@@ -1,6 +1,6 @@
 -- What NAME, OBJSENSE, ROWS and COLUMNS of canonical text declare.
-use Rattle.std.proofs.Common.{◌≡◌, refl, sym, ap, subst, ◌∙◌, List, [], ◌∷◌, ◌++◌, ℕ, Bool, true, false, map, append_assoc}
-use Rattle.std.specs.Prelude.{Option, Some, None, is_none, not, codes, filter_map}
+use Rattle.std.proofs.Common.{◌≡◌, refl, ap, subst, List, [], ◌∷◌, ◌++◌, ℕ, Bool, true, false, map}
+use Rattle.std.specs.Prelude.{Some, None, is_none, codes, filter_map}
 use Rattle.std.specs.List.{flat_map, last_or}
 use Rattle.std.specs.Option.{option_map_or}
 use Rattle.std.proofs.lemmas.List.{append-nil}
@@ -12,10 +12,9 @@ use Rattle.mpslp_model.specs.declared.kinds.RowType.TheVariants.{Free}
 use Rattle.mpslp_model.proofs.EachLemmas.{Each}
 use Rattle.mpslp_mps.specs.Line.{Fields, Item, data_line}
 use Rattle.mpslp_mps.specs.DataLine.{letter_of, opening_word}
-use Rattle.mpslp_mps.specs.Context.{context_of, current_section, has_section, data_lines, marker_word, line_column, in_integer_part, last_column}
+use Rattle.mpslp_mps.specs.Context.{context_of, current_section, data_lines, marker_word, line_column, in_integer_part, last_column}
 use Rattle.mpslp_mps.specs.LineMeaning.{declared}
 use Rattle.mpslp_mps.specs.LineFault.{form_faults}
-use Rattle.mpslp_mps.specs.declared.sections.Section.{Section}
 use Rattle.mpslp_mps.specs.declared.sections.Section.TheVariants.{Name, ObjSense, Rows, Columns}
 use Rattle.mpslp_mps.proofs.PlacedLemmas.{Walk, walk-nil, walk-cons, walk-append, section-walk}
 use Rattle.mpslp_mps.proofs.RowsWalk.{RowItem, row_item, row_decl, InRows, row_step, name-good, stays}

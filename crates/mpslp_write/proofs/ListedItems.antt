@@ -1,10 +1,10 @@
 -- The items that are read in the canonical lines of a listing are those of all its sections.
-use Rattle.std.proofs.Common.{◌≡◌, refl, sym, ap, ◌∙◌, List, [], ◌∷◌, ◌++◌, ℕ, Bool, true, false, cond, map}
+use Rattle.std.proofs.Common.{◌≡◌, refl, ap, ◌∙◌, List, [], ◌∷◌, ◌++◌, ℕ, true, false, cond, map}
 use Rattle.std.specs.Prelude.{Option, Some, None, filter, codes}
 use Rattle.std.specs.List.{flat_map}
 use Rattle.std.proofs.lemmas.List.{map-append}
 use Rattle.mpslp_decimal.specs.Decimal.{Number, is_zero, negated}
-use Rattle.mpslp_model.specs.Model.{Row, Column}
+use Rattle.mpslp_model.specs.Model.{Column}
 use Rattle.mpslp_model.specs.declared.kinds.Sense.{Sense}
 use Rattle.mpslp_model.specs.declared.kinds.Sense.TheVariants.{Minimize, Maximize}
 use Rattle.mpslp_model.specs.declared.kinds.Kind.{Kind}
@@ -20,7 +20,7 @@ use Rattle.mpslp_mps.specs.declared.bound_types.BoundType.TheVariants as bounds
 use Rattle.mpslp_mps.proofs.ColumnsWalk.{Cell, cell_item, cells_of}
 use Rattle.mpslp_mps.proofs.BoundsWalk.{bound_item}
 use Rattle.mpslp_mps.proofs.HeaderWalk.{header_item}
-use Rattle.mpslp_write.specs.Printed.{PrintedLine, item_in}
+use Rattle.mpslp_write.specs.Printed.{item_in}
 use Rattle.mpslp_write.specs.Listing.{Listing}
 use Rattle.mpslp_write.specs.PrintedValues.{have_same_value, PrintedBound, printed_lower, printed_upper, printed_bounds}
 use Rattle.mpslp_write.specs.CanonicalMps.{Lines, sense_lines, rows_section, column_lines, is_integer_column, is_continuous_column, marker_line, integer_part, columns_section, side_lines, row_side_lines, right_sides_section, range_lines, ranges_section, bound_line, column_bound_lines, bounds_section, header_line, listed_lines}

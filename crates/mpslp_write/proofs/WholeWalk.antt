@@ -1,7 +1,7 @@
 -- What canonical text declares, all sections one after another.
-use Rattle.std.proofs.Common.{◌≡◌, refl, sym, ap, subst, ◌∙◌, List, [], ◌∷◌, ◌++◌, ℕ, Bool, true, false, map, append_assoc}
+use Rattle.std.proofs.Common.{◌≡◌, refl, sym, ap, ◌∙◌, List, [], ◌∷◌, ◌++◌, ℕ, Bool, true, false, map, append_assoc}
 use Rattle.std.specs.Prelude.{Option, Some, None, is_some, is_none, ◌||◌, codes}
-use Rattle.std.specs.List.{flat_map, list_any}
+use Rattle.std.specs.List.{flat_map}
 use Rattle.std.proofs.lemmas.List.{append-nil}
 use Rattle.std.proofs.lemmas.List.Folds.{list_any-append}
 use Rattle.mpslp_model.specs.Name.{is_mps_name}
@@ -9,8 +9,7 @@ use Rattle.mpslp_model.specs.Declaration.{declare_objective, Declarations, Draft
 use Rattle.mpslp_model.specs.declared.kinds.Sense.{Sense}
 use Rattle.mpslp_model.specs.declared.kinds.Sense.TheVariants.{Minimize, Maximize}
 use Rattle.mpslp_model.proofs.EachLemmas.{Each}
-use Rattle.mpslp_model.proofs.MadeDrafts.{adding_all-append}
-use Rattle.mpslp_mps.specs.Line.{Item, data_line}
+use Rattle.mpslp_mps.specs.Line.{Item}
 use Rattle.mpslp_mps.specs.Section.{begins, section_begun}
 use Rattle.mpslp_mps.specs.Context.{has_section, is_read, is_bare_objsense, wants_sense}
 use Rattle.mpslp_mps.specs.declared.sections.Section.{Section}
