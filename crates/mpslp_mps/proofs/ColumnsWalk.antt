@@ -243,8 +243,9 @@ groups_unsplit marked (group ∷ groups) last earlier h apart absent =
     by : (cells : List Cell) → is_nonempty cells ≡ true → AreOf group.0 cells → Unsplit marked (Some group.0) (adding_all earlier (flat_map (cell_decl marked) cells)) (cells_of groups)
         → Unsplit marked last earlier (cells ++ cells_of groups)
     by [] some own more = cc
-    by (cell ∷ cells) some own more =
-        (ap (is_split_in last earlier) own.0 ∙ absent_unsplit last earlier group.0 absent.0,
-        subst (λ (c : List ℕ). Unsplit marked (Some c) (adding_all earlier (cell_decl marked cell)) (cells ++ cells_of groups)) (sym own.0)
-        (unsplit_more marked group.0 cells (cells_of groups) (adding_all earlier (cell_decl marked cell)) own.1
-        (subst (λ (all : Draft). Unsplit marked (Some group.0) all (cells_of groups)) (adding_all-append (cell_decl marked cell) (flat_map (cell_decl marked) cells) earlier) more)))
+    by (cell ∷ cells) some own more = (
+      ap (is_split_in last earlier) own.0 ∙ absent_unsplit last earlier group.0 absent.0,
+      subst (λ (c : List ℕ). Unsplit marked (Some c) (adding_all earlier (cell_decl marked cell)) (cells ++ cells_of groups)) (sym own.0)
+          (unsplit_more marked group.0 cells (cells_of groups) (adding_all earlier (cell_decl marked cell)) own.1
+          (subst (λ (all : Draft). Unsplit marked (Some group.0) all (cells_of groups)) (adding_all-append (cell_decl marked cell) (flat_map (cell_decl marked) cells) earlier) more)),
+    )
