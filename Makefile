@@ -4,17 +4,18 @@ PREFIX ?= /usr/local
 
 .PHONY: run test install bench
 
-# Builds what there is to run, proved, and runs it on numbers.
+# Builds the program, proved, and prints the canonical text of an example.
 run:
-	cd crates/bench_numbers && rt run < stdin
+	cd crates/mpslp && rt run -- canon mps mps - < ../../examples/small.mps
 
 # The merge gate: proves everything from nothing, tries the must-fail edits, and runs tests and programs.
 test:
 	rt ci
 
-# The program comes with the first conversion.
-install:
-	@echo "there is no program to install yet" >&2; exit 1
+# Builds the program where it is missing or its sources have changed.
+install: run
+	install -d $(DESTDIR)$(PREFIX)/bin
+	install crates/mpslp/out/mpslp $(DESTDIR)$(PREFIX)/bin/mpslp
 
 bench:
 	sh bench/numbers.sh
