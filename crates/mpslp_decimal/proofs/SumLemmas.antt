@@ -1,22 +1,21 @@
 -- Sums at one exponent, and their normal form.
-use Rattle.std.proofs.Common.{◌≡◌, refl, sym, ap, subst, ◌∙◌, ℕ, zero, suc, Bool, true, false, cond, arith, ◌<◌, ◌≤◌, ◌+◌, ◌-◌, ◌*◌, ◌^◌, ◌%◌, ◌/◌, pow-suc, lit<}
-use Rattle.std.specs.Prelude.{ℤ, pos, negsuc, ◌+ℤ◌, ◌-ℤ◌, ◌*ℤ◌, ◌≤ℤ◌, neg_ℤ, unsigned_abs, int_le, int_lt, ◌&&◌, ◌==◌, nat_lt, Option, Some, None, Result, Ok, Err, if◌then◌else◌}
+use Rattle.std.proofs.Common.{◌≡◌, refl, sym, ap, subst, ◌∙◌, ℕ, zero, suc, Bool, true, false, arith, ◌<◌, ◌≤◌, ◌+◌, ◌-◌, ◌*◌, ◌^◌, ◌%◌, ◌/◌, pow-suc, lit<}
+use Rattle.std.specs.Prelude.{ℤ, pos, negsuc, ◌+ℤ◌, ◌-ℤ◌, ◌*ℤ◌, ◌≤ℤ◌, neg_ℤ, unsigned_abs, int_le, int_lt, ◌&&◌, nat_lt, Some, None, Ok, Err, if◌then◌else◌}
 use Rattle.std.specs.Result.{result_ok}
 use Rattle.std.proofs.Math.Nat.{pow-le-pow_right, mul-le-mul}
 use Rattle.std.specs.Cmp.{first_so}
 use Rattle.std.proofs.Math.IntN.{*ℤ_comm, *ℤ-zero, suc_ℤ-*ℤ}
 use Rattle.std.proofs.lemmas.Int.{ints, unsigned_abs-mul}
 use Rattle.std.proofs.lemmas.Nat.{pow-add}
-use Rattle.std.proofs.lemmas.Bool.{ltb-true, ltb-false, lt-ltb, le-ltb, eqb-true, leb-true}
+use Rattle.std.proofs.lemmas.Bool.{ltb-true, ltb-false, lt-ltb, le-ltb, leb-true}
 use Rattle.std.proofs.lemmas.Bool.Decides.{nat_tests}
 use Rattle.mpslp_decimal.specs.Decimal.{Number, IsDecimal, is_decimal, is_zero, is_normal, zero_number, surplus, mantissa_beside, normal, decimal_of, height, scaled, at_scale, sum_of, has_few_digits, has_small_exponent}
 use Rattle.mpslp_decimal.specs.Literal.{signed}
 use Rattle.mpslp_decimal.specs.Scan.{IsStripped, in_range}
-use Rattle.mpslp_decimal.specs.declared.literal.NumberFault.{NumberFault}
 use Rattle.mpslp_decimal.specs.declared.literal.NumberFault.TheVariants.{ExponentRange}
-use Rattle.mpslp_decimal.proofs.NormalLemmas.{normal-tens, size-signed, pow_positive, zero_mantissa}
+use Rattle.mpslp_decimal.proofs.NormalLemmas.{normal-tens, size-signed}
 use Rattle.mpslp_decimal.proofs.NumberTextLemmas.{signed-size, nonzero-ends, zero-is}
-use Rattle.mpslp_decimal.proofs.ScaleLemmas.{signed_times, height_back, height_below, neg_times, exponents-of, normal-scaled}
+use Rattle.mpslp_decimal.proofs.ScaleLemmas.{signed_times, height_back, neg_times, exponents-of, normal-scaled}
 use Rattle.mpslp_decimal.proofs.NumberOfLemmas.{stripped-normal}
 use Rattle.mpslp_decimal.proofs.SpellsLemmas.{strip, ends-well}
 use Rattle.mpslp_decimal.proofs.ValueLemmas.{surplus-heights, least-exponent, scaled-beside, times_twice}

@@ -129,20 +129,31 @@ fn adds_and_subtracts_exactly(rt: HostRuntime) -> Result<(), Fail> {
             Some(literal) => Some(Decimal::parse(literal.as_bytes())?),
             None => None,
         };
-        assert!(rt; left_value.checked_add(right_value) == sum, "at {left} + {right}");
-        assert!(rt; left_value.checked_sub(right_value.negate()) == sum, "at {left} - -{right}");
+        assert!(rt;
+            left_value.checked_add(right_value) == sum,
+            "at {left} + {right}"
+        );
+        assert!(rt;
+            left_value.checked_sub(right_value.negate()) == sum,
+            "at {left} - -{right}"
+        );
     }
     Ok(())
 }
 
 #[test]
 fn orders_by_value(rt: HostRuntime) -> Result<(), Fail> {
-    let rising = ["-1e500", "-1", "-1e-500", "0", "1e-500", "0.5", "1", "1.5", "1e20", "1e500"];
+    let rising = [
+        "-1e500", "-1", "-1e-500", "0", "1e-500", "0.5", "1", "1.5", "1e20", "1e500",
+    ];
     for (place, literal) in rising.iter().enumerate() {
         let value = Decimal::parse(literal.as_bytes())?;
         for (other_place, other_literal) in rising.iter().enumerate() {
             let other = Decimal::parse(other_literal.as_bytes())?;
-            assert!(rt; value.cmp(&other) == place.cmp(&other_place), "at {literal} and {other_literal}");
+            assert!(rt;
+                value.cmp(&other) == place.cmp(&other_place),
+                "at {literal} and {other_literal}"
+            );
         }
     }
     Ok(())

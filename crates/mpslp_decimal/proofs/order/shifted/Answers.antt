@@ -1,4 +1,4 @@
-use Rattle.std.proofs.Common.{◌≡◌, ◌∙◌, ◌^◌, ◌≤◌, ℕ, ap, rules, arith, to_z, of_z, lit<}
+use Rattle.std.proofs.Common.{◌≡◌, ◌^◌, ◌≤◌, ℕ, rules, arith, to_z, of_z, lit<}
 use Rattle.std.specs.Prelude.{ℤ, pos, ◌*ℤ◌, ◌<◌, unsigned_abs, FitsSigned}
 use Rattle.std.proofs.Math.Nat.{pow-le-pow_right}
 use Rattle.std.proofs.lemmas.Int.{fits_signed_mul}

@@ -1,4 +1,4 @@
-use Rattle.std.proofs.Common.{◌≡◌, ◌∙◌, ◌^◌, sym, ap, false, true, rules, arith, to_z, of_z, w32}
+use Rattle.std.proofs.Common.{◌≡◌, ◌∙◌, ap, rules, arith, to_z, of_z, w32}
 use Rattle.std.specs.Prelude.{ℤ, pos, ◌+ℤ◌}
 use Rattle.std.specs.Result.{result_ok}
 use Rattle.mpslp_decimal.specs.Literal.{signed}
