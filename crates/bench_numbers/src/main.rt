@@ -62,7 +62,10 @@ fn run<R: Input + Print + Eprint + Clock + AllocGlobal>(rt: &R, alloc: Global) -
     }
     report(rt, "Decimal::parse", numbers.len(), parse_time)?;
     report(rt, "DecimalText::put", numbers.len(), put_time)?;
-    println!(rt; "{} numbers, {bytes} bytes of canonical text", numbers.len())
+    println!(rt;
+        "{} numbers, {bytes} bytes of canonical text",
+        numbers.len()
+    )
 }
 
 fn main(rt: HostRuntime) -> io::Result<()> {

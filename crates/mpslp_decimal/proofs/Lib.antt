@@ -12,4 +12,6 @@ pub mod PointLemmas
 pub mod InfinityLemmas
 pub mod ValueLemmas
 pub mod SpellsLemmas
+pub mod OrderOfValues
+pub mod SumLemmas
 pub mod WorkedNumbers

@@ -9,11 +9,11 @@ use Rattle.mpslp_decimal.specs.Literal.{signed}
 use Rattle.mpslp_decimal.proofs.NormalLemmas.{normal-tens, pow_positive, zero_mantissa}
 use Rattle.mpslp_decimal.proofs.NumberTextLemmas.{signed-size, nonzero-ends, zero-is}
 
-height_back : (e : ℤ) → int_le (negsuc 499) e ≡ true → e -ℤ pos (height e) ≡ negsuc 499
+pub height_back : (e : ℤ) → int_le (negsuc 499) e ≡ true → e -ℤ pos (height e) ≡ negsuc 499
 height_back (pos n) h = omega (arith, ints)
 height_back (negsuc n) h = let l : n ≤ 499 = leb-true n 499 h in omega (arith, ints)
 
-height_below : (e : ℤ) → int_le e (pos 500) ≡ true → height e < 1100
+pub height_below : (e : ℤ) → int_le e (pos 500) ≡ true → height e < 1100
 height_below (pos n) h = let l : n ≤ 500 = leb-true n 500 h in omega arith
 height_below (negsuc n) h = omega arith
 
@@ -22,8 +22,8 @@ signed_times false m p = refl
 signed_times true zero p = omega (arith, ints)
 signed_times true (suc m) p = omega (arith, ints)
 
-exponents : (d : Number) → IsDecimal d → (int_le (negsuc 499) d.exponent ≡ true) × (int_le d.exponent (pos 500) ≡ true)
-exponents d ok =
+pub exponents-of : (d : Number) → IsDecimal d → (int_le (negsuc 499) d.exponent ≡ true) × (int_le d.exponent (pos 500) ≡ true)
+exponents-of d ok =
     let e = first_so (has_small_exponent d) (is_normal d) (second_so (has_few_digits d) (has_small_exponent d && is_normal d) ok) in
     (first_so (int_le (negsuc 499) d.exponent) (int_le d.exponent (pos 500)) e, second_so (int_le (negsuc 499) d.exponent) (int_le d.exponent (pos 500)) e)
 
@@ -43,8 +43,8 @@ normal-scaled d ok = by (is_zero d) refl
         ap (λ (x : Number). normal (at_scale (scaled x))) e ∙ refl ∙ sym e
     by false z =
         let s : scaled d ≡ signed minus (size * 10 ^ height d.exponent) = ap (λ (m : ℤ). m *ℤ pos (10 ^ height d.exponent)) (sym (signed-size d.mantissa)) ∙ signed_times minus size (10 ^ height d.exponent) in
-        (λ i. normal (record { mantissa = s i; exponent = sym (height_back d.exponent (exponents d ok).0) i }))
-        ∙ normal-tens minus size (height d.exponent) d.exponent (nonzero-ends d ok z) (height_below d.exponent (exponents d ok).1)
+        (λ i. normal (record { mantissa = s i; exponent = sym (height_back d.exponent (exponents-of d ok).0) i }))
+        ∙ normal-tens minus size (height d.exponent) d.exponent (nonzero-ends d ok z) (height_below d.exponent (exponents-of d ok).1)
         ∙ (λ i. record { mantissa = signed-size d.mantissa i; exponent = d.exponent })
 
 -- decimals of one value are one
@@ -91,7 +91,7 @@ neg_neg : (n : ℕ) → neg_ℤ (neg_ℤ (pos n)) ≡ pos n
 neg_neg zero = refl
 neg_neg (suc n) = refl
 
-neg_times : (m : ℤ) (p : ℕ) → neg_ℤ m *ℤ pos p ≡ neg_ℤ (m *ℤ pos p)
+pub neg_times : (m : ℤ) (p : ℕ) → neg_ℤ m *ℤ pos p ≡ neg_ℤ (m *ℤ pos p)
 neg_times (pos n) p = signed_times true n p
 neg_times (negsuc n) p = sym (ap neg_ℤ (signed_times true (suc n) p) ∙ neg_neg (suc n * p))
 

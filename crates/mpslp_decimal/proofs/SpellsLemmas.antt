@@ -67,7 +67,7 @@ both : (a b : Bool) → a ≡ true → b ≡ true → (a && b) ≡ true
 both true b p q = q
 both false b p q = p
 
-ends-well : (m : ℤ) (e : ℤ) → 0 < unsigned_abs m % 10 → is_normal (record { mantissa = m; exponent = e }) ≡ true
+pub ends-well : (m : ℤ) (e : ℤ) → 0 < unsigned_abs m % 10 → is_normal (record { mantissa = m; exponent = e }) ≡ true
 ends-well m e h =
     let some : (unsigned_abs m == 0) ≡ false = nonzero (unsigned_abs m) h in
     let ends : not (unsigned_abs m % 10 == 0) ≡ true = no_zero (unsigned_abs m) h in

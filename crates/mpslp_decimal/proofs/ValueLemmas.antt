@@ -52,7 +52,7 @@ least-exponent d ok =
     (first_so (has_small_exponent d) (is_normal d) (second_so (has_few_digits d) (has_small_exponent d && is_normal d) ok))
 
 -- beside another decimal, and then down to the least exponent
-scaled-beside : (a b : Number) (c : ℕ) → surplus a.exponent b.exponent + c ≡ height a.exponent → scaled a ≡ mantissa_beside a b *ℤ pos (10 ^ c)
+pub scaled-beside : (a b : Number) (c : ℕ) → surplus a.exponent b.exponent + c ≡ height a.exponent → scaled a ≡ mantissa_beside a b *ℤ pos (10 ^ c)
 scaled-beside a b c e =
     ap (λ (h : ℕ). a.mantissa *ℤ pos (10 ^ h)) (sym e) ∙ ap (λ (p : ℕ). a.mantissa *ℤ pos p) (pow-add 10 (surplus a.exponent b.exponent) c)
     ∙ sym (times_twice a.mantissa (10 ^ surplus a.exponent b.exponent) (10 ^ c))

@@ -1,6 +1,6 @@
 -- Decimals and their values.
 use Rattle.std.specs.Prelude.{◌≡◌, ℕ, zero, suc, ◌+◌, ◌-◌, ◌/◌, ◌%◌, ◌^◌, ℤ, pos, negsuc, ◌+ℤ◌, ◌-ℤ◌, ◌*ℤ◌, ◌<ℤ◌, neg_ℤ, unsigned_abs, int_le, int_div, Bool, ◌&&◌, not, nat_lt, ◌==◌, if◌then◌else◌, IsTrue, Option, Some, None, refl}
-use Rattle.std.specs.Ordering.{int_cmp, int_eq}
+use Rattle.std.specs.Ordering.{int_cmp, int_eq, on, then_cmp}
 use Rattle.std.specs.declared.cmp.Ordering.{Ordering}
 use Rattle.std.specs.Coded.{Coded, code_by, coded×, coded_ℤ}
 use Rattle.mpslp_decimal.specs.declared.number.TheConstants.{MAX_DIGITS, MIN_EXPONENT, MAX_EXPONENT}
@@ -101,7 +101,11 @@ abbrev pub at_scale : ℤ → Number
 at_scale units = record { mantissa = units; exponent = MIN_EXPONENT }
 
 abbrev pub decimal_cmp : Number → Number → Ordering
-decimal_cmp a b = int_cmp (scaled a) (scaled b)
+decimal_cmp = on scaled int_cmp
+
+-- by value. Where the values are one, as those of different decimals never are, by the parts
+abbrev pub order_of : Number → Number → Ordering
+order_of = then_cmp decimal_cmp (then_cmp (on (λ d. d.mantissa) int_cmp) (on (λ d. d.exponent) int_cmp))
 
 abbrev pub negated : Number → Number
 negated d = record d { mantissa = neg_ℤ d.mantissa }

@@ -7,6 +7,8 @@
 pub mod laws;
 mod literal;
 mod number;
+mod order;
+mod sums;
 mod text;
 
 pub use literal::{MAX_LITERAL_LEN, NumberFault};

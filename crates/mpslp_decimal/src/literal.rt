@@ -208,7 +208,11 @@ fn normal_exponent(exponent: i32, zeros: usize, places: usize) -> i32
 }
 
 /// The decimal of a mantissa that does not end in a zero, where its exponent is in range.
-fn in_range(is_negative: bool, mantissa: u64, exponent: i32) -> Result<Decimal, NumberFault>
+pub(crate) fn in_range(
+    is_negative: bool,
+    mantissa: u64,
+    exponent: i32,
+) -> Result<Decimal, NumberFault>
     requires ends { 0 < mantissa % 10 }
     requires few { mantissa < 10 ^ MAX_DIGITS }
     ensures { result ≡ in_range (record { mantissa = signed is_negative mantissa; exponent = exponent }) }

@@ -23,8 +23,8 @@ const INFINITE_EXPONENT: i32 = 20;
 ///
 /// The mantissa has at most [`MAX_DIGITS`] digits and does not end in a zero, and the exponent lies
 /// between [`MIN_EXPONENT`] and [`MAX_EXPONENT`]; zero is the mantissa 0 with the exponent 0. So each
-/// value has one form, and `==` compares values.
-#[derive(Clone, Copy, Debug, PartialEq, Eq)]
+/// value has one form, and comparisons and hashes go by value.
+#[derive(Clone, Copy, Debug, PartialEq, Eq, Hash)]
 pub struct Decimal {
     mantissa: i128,
     exponent: i32,

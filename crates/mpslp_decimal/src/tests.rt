@@ -106,6 +106,59 @@ fn answers_what_is_asked_of_a_decimal(rt: HostRuntime) -> Result<(), Fail> {
     Ok(())
 }
 
+/// A sum of two literals: the third, or none.
+const SUMS: [(&str, &str, Option<&str>); 10] = [
+    ("0.1", "0.2", Some("0.3")),
+    ("999999999999999999", "1", Some("1e18")),
+    ("999999999999999999", "0.1", None),
+    ("5e500", "5e500", None),
+    ("1", "-1", Some("0")),
+    ("0", "1e-500", Some("1e-500")),
+    ("1e500", "0", Some("1e500")),
+    ("1e17", "1", Some("100000000000000001")),
+    ("1e18", "1", None),
+    ("1e500", "1e-500", None),
+];
+
+#[test]
+fn adds_and_subtracts_exactly(rt: HostRuntime) -> Result<(), Fail> {
+    for (left, right, want) in SUMS {
+        let left_value = Decimal::parse(left.as_bytes())?;
+        let right_value = Decimal::parse(right.as_bytes())?;
+        let sum = match want {
+            Some(literal) => Some(Decimal::parse(literal.as_bytes())?),
+            None => None,
+        };
+        assert!(rt;
+            left_value.checked_add(right_value) == sum,
+            "at {left} + {right}"
+        );
+        assert!(rt;
+            left_value.checked_sub(right_value.negate()) == sum,
+            "at {left} - -{right}"
+        );
+    }
+    Ok(())
+}
+
+#[test]
+fn orders_by_value(rt: HostRuntime) -> Result<(), Fail> {
+    let rising = [
+        "-1e500", "-1", "-1e-500", "0", "1e-500", "0.5", "1", "1.5", "1e20", "1e500",
+    ];
+    for (place, literal) in rising.iter().enumerate() {
+        let value = Decimal::parse(literal.as_bytes())?;
+        for (other_place, other_literal) in rising.iter().enumerate() {
+            let other = Decimal::parse(other_literal.as_bytes())?;
+            assert!(rt;
+                value.cmp(&other) == place.cmp(&other_place),
+                "at {literal} and {other_literal}"
+            );
+        }
+    }
+    Ok(())
+}
+
 #[test]
 fn laws_can_be_called() {
     laws::one_form();

@@ -1,0 +1,158 @@
+-- The order of values, counted in units of any exponent.
+use Rattle.std.proofs.Common.{◌≡◌, refl, sym, ap, ◌∙◌, ℕ, zero, suc, true, arith, ◌<◌, ◌≤◌, ◌-◌, ◌*◌, ◌^◌, lit<}
+use Rattle.std.specs.Prelude.{ℤ, pos, negsuc, ◌-ℤ◌, ◌*ℤ◌, ◌<ℤ◌, ◌≤ℤ◌, neg_ℤ, unsigned_abs}
+use Rattle.std.specs.Ordering.{int_cmp, on, then_cmp, ordering_reverse}
+use Rattle.std.specs.declared.cmp.Ordering.{Ordering}
+use Rattle.std.specs.declared.cmp.Ordering.TheVariants.{Less, Equal, Greater}
+use Rattle.std.specs.Cmp.{int_cmp_is}
+use Rattle.std.proofs.lemmas.Cmp.{int_ranked}
+use Rattle.std.proofs.lemmas.Int.{ints}
+use Rattle.std.proofs.Math.Nat.{pow-le-pow_right}
+use Rattle.mpslp_decimal.specs.Decimal.{Number, IsDecimal, natural_part, surplus, mantissa_beside, height, scaled, decimal_cmp, order_of}
+use Rattle.mpslp_decimal.proofs.NormalLemmas.{pow_positive}
+use Rattle.mpslp_decimal.proofs.ScaleLemmas.{signed_times, one_form}
+use Rattle.mpslp_decimal.proofs.ValueLemmas.{surplus-heights, least-exponent, scaled-beside}
+
+-- ---- a positive factor changes no order
+
+product_below : (a b p : ℕ) → a < b → 0 < p → a * p < b * p
+product_below a b p h some = grind arith
+
+product_some : (a p : ℕ) → 0 < p → 0 < suc a * p
+product_some a p some = grind arith
+
+times-below : (x y : ℤ) (p : ℕ) → 0 < p → x <ℤ y → (x *ℤ pos p) <ℤ (y *ℤ pos p)
+times-below (pos a) (pos b) p some h =
+    let l : a * p < b * p = product_below a b p (omega (arith, ints)) some in omega (arith, ints)
+times-below (negsuc a) (pos b) p some h =
+    let l : 0 < suc a * p = product_some a p some in
+    let e : negsuc a *ℤ pos p ≡ neg_ℤ (pos (suc a * p)) = signed_times true (suc a) p in
+    rw e (omega (arith, ints))
+times-below (pos a) (negsuc b) p some h = absurd (omega (arith, ints))
+times-below (negsuc a) (negsuc b) p some h =
+    let l : suc b * p < suc a * p = product_below (suc b) (suc a) p (omega (arith, ints)) some in
+    let e : negsuc a *ℤ pos p ≡ neg_ℤ (pos (suc a * p)) = signed_times true (suc a) p in
+    let f : negsuc b *ℤ pos p ≡ neg_ℤ (pos (suc b * p)) = signed_times true (suc b) p in
+    rw (e, f) (omega (arith, ints))
+
+pub int_cmp-times : (x y : ℤ) (p : ℕ) → 0 < p → int_cmp (x *ℤ pos p) (y *ℤ pos p) ≡ int_cmp x y
+int_cmp-times x y p some = sym (by (int_cmp x y) refl)
+  where
+    by : (r : Ordering) → int_cmp x y ≡ r → r ≡ int_cmp (x *ℤ pos p) (y *ℤ pos p)
+    by Less e = int_cmp_is (x *ℤ pos p) (y *ℤ pos p) Less (times-below x y p some (int_ranked x y Less (sym e)))
+    by Equal e = int_cmp_is (x *ℤ pos p) (y *ℤ pos p) Equal (ap (λ (z : ℤ). z *ℤ pos p) (int_ranked x y Equal (sym e)))
+    by Greater e = int_cmp_is (x *ℤ pos p) (y *ℤ pos p) Greater (times-below y x p some (int_ranked x y Greater (sym e)))
+
+pub reverse-int_cmp : (x y : ℤ) → ordering_reverse (int_cmp x y) ≡ int_cmp y x
+reverse-int_cmp x y = by (int_cmp x y) refl
+  where
+    by : (r : Ordering) → int_cmp x y ≡ r → ordering_reverse r ≡ int_cmp y x
+    by Less e = int_cmp_is y x Greater (int_ranked x y Less (sym e))
+    by Equal e = int_cmp_is y x Equal (sym (int_ranked x y Equal (sym e)))
+    by Greater e = int_cmp_is y x Less (int_ranked x y Greater (sym e))
+
+-- ---- the order of decimals
+
+-- different decimals have different values, so no part is asked for
+pub order-decimal : (a b : Number) → IsDecimal a → IsDecimal b → order_of a b ≡ decimal_cmp a b
+order-decimal a b p q = by (int_cmp (scaled a) (scaled b)) refl
+  where
+    ties : a ≡ b → then_cmp (on (λ (d : Number). d.mantissa) int_cmp) (on (λ (d : Number). d.exponent) int_cmp) a b ≡ Equal
+    ties e = ap (λ (d : Number). then_cmp (on (λ (d : Number). d.mantissa) int_cmp) (on (λ (d : Number). d.exponent) int_cmp) a d) (sym e) ∙ both
+      where
+        both : then_cmp (on (λ (d : Number). d.mantissa) int_cmp) (on (λ (d : Number). d.exponent) int_cmp) a a ≡ Equal
+        both = rw (sym (int_cmp_is a.mantissa a.mantissa Equal refl), sym (int_cmp_is a.exponent a.exponent Equal refl)) refl
+
+    by : (r : Ordering) → int_cmp (scaled a) (scaled b) ≡ r → order_of a b ≡ int_cmp (scaled a) (scaled b)
+    by Less e = rw e refl
+    by Greater e = rw e refl
+    by Equal e =
+        let same : a ≡ b = one_form a b p q (int_ranked (scaled a) (scaled b) Equal (sym e)) in
+        rw (e, ties same) refl
+
+once : (m : ℤ) → m *ℤ pos (10 ^ 0) ≡ m
+once m = omega (arith, ints)
+
+pub surplus-up : (e f : ℤ) → f ≤ℤ e → surplus e f ≡ unsigned_abs (e -ℤ f)
+surplus-up e f h = by (e -ℤ f) refl
+  where
+    by : (z : ℤ) → e -ℤ f ≡ z → natural_part z ≡ unsigned_abs z
+    by (pos n) g = refl
+    by (negsuc n) g = absurd (omega (arith, ints))
+
+pub surplus-down : (e f : ℤ) → f ≤ℤ e → surplus f e ≡ 0
+surplus-down e f h = by (f -ℤ e) refl
+  where
+    by : (z : ℤ) → f -ℤ e ≡ z → natural_part z ≡ 0
+    by (pos n) g = omega (arith, ints)
+    by (negsuc n) g = refl
+
+-- at the smaller exponent, the second one's
+pub compare-beside : (a b : Number) → IsDecimal a → IsDecimal b → b.exponent ≤ℤ a.exponent → int_cmp (a.mantissa *ℤ pos (10 ^ unsigned_abs (a.exponent -ℤ b.exponent))) b.mantissa ≡ decimal_cmp a b
+compare-beside a b p q h =
+    let up = surplus-up a.exponent b.exponent h in
+    let down = surplus-down a.exponent b.exponent h in
+    let over : surplus a.exponent b.exponent ≡ height a.exponent - height b.exponent = surplus-heights a.exponent b.exponent (least-exponent a p) (least-exponent b q) in
+    let under : surplus b.exponent a.exponent ≡ height b.exponent - height a.exponent = surplus-heights b.exponent a.exponent (least-exponent b q) (least-exponent a p) in
+    let left : scaled a ≡ mantissa_beside a b *ℤ pos (10 ^ height b.exponent) = scaled-beside a b (height b.exponent) (omega (arith, over, under, down)) in
+    let right : scaled b ≡ mantissa_beside b a *ℤ pos (10 ^ height b.exponent) = scaled-beside b a (height b.exponent) (omega (arith, down)) in
+    let one : mantissa_beside b a ≡ b.mantissa = ap (λ (n : ℕ). b.mantissa *ℤ pos (10 ^ n)) down ∙ once b.mantissa in
+    (λ i. int_cmp (a.mantissa *ℤ pos (10 ^ sym up i)) (sym one i))
+    ∙ sym (int_cmp-times (mantissa_beside a b) (mantissa_beside b a) (10 ^ height b.exponent) (pow_positive (height b.exponent)))
+    ∙ (λ i. int_cmp (sym left i) (sym right i))
+
+pub compare-left : (a b : Number) (r : Ordering) (places : ℕ) → IsDecimal a → IsDecimal b → b.exponent ≤ℤ a.exponent → places ≡ unsigned_abs (a.exponent -ℤ b.exponent)
+    → r ≡ int_cmp (a.mantissa *ℤ pos (10 ^ places)) b.mantissa → r ≡ order_of a b
+compare-left a b r places p q h e is =
+    is ∙ ap (λ (n : ℕ). int_cmp (a.mantissa *ℤ pos (10 ^ n)) b.mantissa) e ∙ compare-beside a b p q h ∙ sym (order-decimal a b p q)
+
+size-back : (e f : ℤ) → unsigned_abs (e -ℤ f) ≡ unsigned_abs (f -ℤ e)
+size-back e f = by (e -ℤ f) (f -ℤ e) refl refl
+  where
+    by : (y z : ℤ) → e -ℤ f ≡ y → f -ℤ e ≡ z → unsigned_abs y ≡ unsigned_abs z
+    by (pos m) (pos n) g h = omega (arith, ints)
+    by (pos m) (negsuc n) g h = omega (arith, ints)
+    by (negsuc m) (pos n) g h = omega (arith, ints)
+    by (negsuc m) (negsuc n) g h = absurd (omega (arith, ints))
+
+pub compare-right : (a b : Number) (r s : Ordering) (places : ℕ) → IsDecimal a → IsDecimal b → a.exponent ≤ℤ b.exponent → places ≡ unsigned_abs (a.exponent -ℤ b.exponent)
+    → s ≡ int_cmp (b.mantissa *ℤ pos (10 ^ places)) a.mantissa → r ≡ ordering_reverse s → r ≡ order_of a b
+compare-right a b r s places p q h e is back =
+    back ∙ ap ordering_reverse (is ∙ ap (λ (n : ℕ). int_cmp (b.mantissa *ℤ pos (10 ^ n)) a.mantissa) (e ∙ size-back a.exponent b.exponent) ∙ compare-beside b a q p h)
+    ∙ reverse-int_cmp (scaled b) (scaled a) ∙ sym (order-decimal a b p q)
+
+-- ---- a mantissa that the other one never reaches
+
+ten_positive : 0 < 10
+ten_positive = lit< tt
+
+far-above : (n places : ℕ) → 18 < places → 10 ^ 18 ≤ suc n * 10 ^ places
+far-above n places h =
+    let p : 10 ^ 18 ≤ 10 ^ places = (let l : 18 ≤ places = omega arith in pow-le-pow_right ten_positive l) in
+    let b : 10 ^ places ≤ suc n * 10 ^ places = at_least n (10 ^ places) in
+    omega arith
+  where
+    at_least : (n p : ℕ) → p ≤ suc n * p
+    at_least n p = grind arith
+
+within : (other : ℤ) → unsigned_abs other < 10 ^ 18 → (other <ℤ pos (10 ^ 18)) × (neg_ℤ (pos (10 ^ 18)) <ℤ other)
+within (pos n) h = (omega (arith, ints), omega (arith, ints))
+within (negsuc n) h = (omega (arith, ints), omega (arith, ints))
+
+pub compare-far : (m other : ℤ) (places : ℕ) → (m ≡ pos 0 → ⊥) → 18 < places → unsigned_abs other < 10 ^ 18 → int_cmp m (pos 0) ≡ int_cmp (m *ℤ pos (10 ^ places)) other
+compare-far (pos zero) other places nonzero far small = absurd (nonzero refl)
+compare-far (pos (suc n)) other places nonzero far small =
+    let l = far-above n places far in
+    let b = within other small in
+    sym (int_cmp_is (pos (suc n)) (pos 0) Greater (omega (arith, ints))) ∙ int_cmp_is (pos (suc n) *ℤ pos (10 ^ places)) other Greater (above (suc n * 10 ^ places) l b.0)
+  where
+    above : (p : ℕ) → 10 ^ 18 ≤ p → other <ℤ pos (10 ^ 18) → other <ℤ pos p
+    above p l h = omega (arith, ints)
+compare-far (negsuc n) other places nonzero far small =
+    let l = far-above n places far in
+    let b = within other small in
+    let e : negsuc n *ℤ pos (10 ^ places) ≡ neg_ℤ (pos (suc n * 10 ^ places)) = signed_times true (suc n) (10 ^ places) in
+    sym (int_cmp_is (negsuc n) (pos 0) Less (omega (arith, ints))) ∙ int_cmp_is (negsuc n *ℤ pos (10 ^ places)) other Less (rw e (below (suc n * 10 ^ places) l b.1))
+  where
+    below : (p : ℕ) → 10 ^ 18 ≤ p → neg_ℤ (pos (10 ^ 18)) <ℤ other → neg_ℤ (pos p) <ℤ other
+    below p l h = omega (arith, ints)

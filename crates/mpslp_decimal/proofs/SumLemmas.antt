@@ -1,0 +1,371 @@
+-- Sums at one exponent, and their normal form.
+use Rattle.std.proofs.Common.{◌≡◌, refl, sym, ap, subst, ◌∙◌, ℕ, zero, suc, Bool, true, false, arith, ◌<◌, ◌≤◌, ◌+◌, ◌-◌, ◌*◌, ◌^◌, ◌%◌, ◌/◌, pow-suc, lit<}
+use Rattle.std.specs.Prelude.{ℤ, pos, negsuc, ◌+ℤ◌, ◌-ℤ◌, ◌*ℤ◌, ◌≤ℤ◌, neg_ℤ, unsigned_abs, int_le, int_lt, ◌&&◌, nat_lt, Some, None, Ok, Err, if◌then◌else◌}
+use Rattle.std.specs.Result.{result_ok}
+use Rattle.std.proofs.Math.Nat.{pow-le-pow_right, mul-le-mul}
+use Rattle.std.specs.Cmp.{first_so}
+use Rattle.std.proofs.Math.IntN.{*ℤ_comm, *ℤ-zero, suc_ℤ-*ℤ}
+use Rattle.std.proofs.lemmas.Int.{ints, unsigned_abs-mul}
+use Rattle.std.proofs.lemmas.Nat.{pow-add}
+use Rattle.std.proofs.lemmas.Bool.{ltb-true, ltb-false, lt-ltb, le-ltb, leb-true}
+use Rattle.std.proofs.lemmas.Bool.Decides.{nat_tests}
+use Rattle.mpslp_decimal.specs.Decimal.{Number, IsDecimal, is_decimal, is_zero, is_normal, zero_number, surplus, mantissa_beside, normal, decimal_of, height, scaled, at_scale, sum_of, has_few_digits, has_small_exponent}
+use Rattle.mpslp_decimal.specs.Literal.{signed}
+use Rattle.mpslp_decimal.specs.Scan.{IsStripped, in_range}
+use Rattle.mpslp_decimal.specs.declared.literal.NumberFault.TheVariants.{ExponentRange}
+use Rattle.mpslp_decimal.proofs.NormalLemmas.{normal-tens, size-signed}
+use Rattle.mpslp_decimal.proofs.NumberTextLemmas.{signed-size, nonzero-ends, zero-is}
+use Rattle.mpslp_decimal.proofs.ScaleLemmas.{signed_times, height_back, neg_times, exponents-of, normal-scaled}
+use Rattle.mpslp_decimal.proofs.NumberOfLemmas.{stripped-normal}
+use Rattle.mpslp_decimal.proofs.SpellsLemmas.{strip, ends-well}
+use Rattle.mpslp_decimal.proofs.ValueLemmas.{surplus-heights, least-exponent, scaled-beside, times_twice}
+use Rattle.mpslp_decimal.proofs.OrderOfValues.{surplus-up, surplus-down}
+
+-- ---- the zeros at the end of a number
+
+ten_positive : 0 < 10
+ten_positive = lit< tt
+
+-- a number has no more zeros than digits
+pub zeros-below : (n m z len : ℕ) → m * 10 ^ z ≡ n → 0 < m → n < 10 ^ len → z < len
+zeros-below n m z len e some small = by (nat_lt z len) refl
+  where
+    by : (b : Bool) → nat_lt z len ≡ b → z < len
+    by true h = ltb-true z len h
+    by false h =
+        let within : len ≤ z = ltb-false z len h in
+        let p : 10 ^ len ≤ 10 ^ z = pow-le-pow_right ten_positive within in
+        let b : 10 ^ z ≤ m * 10 ^ z = at_least m (10 ^ z) some in
+        absurd (omega (arith, e))
+      where
+        at_least : (m p : ℕ) → 0 < m → p ≤ m * p
+        at_least m p h = grind arith
+
+pub one-zero-less : (d z n : ℕ) → d * 10 ^ z ≡ n → d % 10 ≡ 0 → (d / 10) * 10 ^ (z + 1) ≡ n
+one-zero-less d z n e ends = rw more (regroup (d / 10) (10 ^ z) ∙ ap (λ (x : ℕ). x * 10 ^ z) (whole d ends) ∙ e)
+  where
+    more : 10 ^ (z + 1) ≡ 10 ^ z * 10
+    more = pow-add 10 z 1
+
+    regroup : (k p : ℕ) → k * (p * 10) ≡ (k * 10) * p
+    regroup k p = grind arith
+
+    whole : (d : ℕ) → d % 10 ≡ 0 → (d / 10) * 10 ≡ d
+    whole d h = omega (arith, h)
+
+-- ---- the decimal of a number
+
+-- by the number without its zeros
+pub decimal_of-stripped : (minus : Bool) (n m z : ℕ) (e : ℤ) → IsStripped n m z → 0 < n → z < 1100
+    → decimal_of (record { mantissa = signed minus n; exponent = e })
+    ≡ (if nat_lt m (10 ^ 18) && has_small_exponent (record { mantissa = signed minus m; exponent = e +ℤ pos z }) then Some (record { mantissa = signed minus m; exponent = e +ℤ pos z }) else None)
+decimal_of-stripped minus n m z e s some few =
+    let is = stripped-normal minus n m z e s some few in
+    let ends : is_normal (record { mantissa = signed minus m; exponent = e +ℤ pos z }) ≡ true = ends-well (signed minus m) (e +ℤ pos z) (rw size-signed (s.ends some)) in
+    ap (λ (d : Number). if is_decimal d then Some d else None) is
+    ∙ ap (λ (b : Bool). if has_few_digits (record { mantissa = signed minus m; exponent = e +ℤ pos z }) && (has_small_exponent (record { mantissa = signed minus m; exponent = e +ℤ pos z }) && b) then Some (record { mantissa = signed minus m; exponent = e +ℤ pos z }) else None) ends
+    ∙ (λ i. if nat_lt (size-signed minus m i) (10 ^ 18) && and_true (has_small_exponent (record { mantissa = signed minus m; exponent = e +ℤ pos z })) i then Some (record { mantissa = signed minus m; exponent = e +ℤ pos z }) else None)
+  where
+    and_true : (b : Bool) → (b && true) ≡ b
+    and_true true = refl
+    and_true false = refl
+
+-- ---- sums in units of a power of ten
+
+times-suc : (x : ℤ) (p : ℕ) → x *ℤ pos (suc p) ≡ x *ℤ pos p +ℤ x
+times-suc x p = *ℤ_comm x (pos (suc p)) ∙ suc_ℤ-*ℤ (pos p) x ∙ ap (λ (z : ℤ). z +ℤ x) (*ℤ_comm (pos p) x)
+
+pub sum-times : (x y : ℤ) (p : ℕ) → (x +ℤ y) *ℤ pos p ≡ x *ℤ pos p +ℤ y *ℤ pos p
+sum-times x y zero = *ℤ-zero (x +ℤ y) ∙ (λ i. sym (*ℤ-zero x) i +ℤ sym (*ℤ-zero y) i)
+sum-times x y (suc p) =
+    times-suc (x +ℤ y) p ∙ ap (λ (z : ℤ). z +ℤ (x +ℤ y)) (sum-times x y p)
+    ∙ turn (x *ℤ pos p) (y *ℤ pos p) x y
+    ∙ (λ i. sym (times-suc x p) i +ℤ sym (times-suc y p) i)
+  where
+    turn : (a b c d : ℤ) → (a +ℤ b) +ℤ (c +ℤ d) ≡ (a +ℤ c) +ℤ (b +ℤ d)
+    turn a b c d = omega (arith, ints)
+
+once : (m : ℤ) → m *ℤ pos (10 ^ 0) ≡ m
+once m = omega (arith, ints)
+
+-- the normal form is the same, counted in units of the least exponent
+shift-exponent : (e : ℤ) (h z : ℕ) → e -ℤ pos h ≡ negsuc 499 → negsuc 499 ≡ (e +ℤ pos z) -ℤ pos (z + h)
+shift-exponent e h z g = omega (arith, ints)
+
+normal-shift : (minus : Bool) (n m z : ℕ) (e : ℤ) → IsStripped n m z → 0 < n → z < 99 → int_le (negsuc 499) e ≡ true → int_le e (pos 500) ≡ true
+    → normal (at_scale (signed minus n *ℤ pos (10 ^ height e))) ≡ normal (record { mantissa = signed minus n; exponent = e })
+normal-shift minus n m z e s some few low high =
+    let total : signed minus n *ℤ pos (10 ^ height e) ≡ signed minus (m * 10 ^ (z + height e)) =
+    signed_times minus n (10 ^ height e) ∙ ap (λ (k : ℕ). signed minus (k * 10 ^ height e)) (sym s.value) ∙ ap (signed minus) (powers m z (height e)) in
+    let height_few : z + height e < 1100 = (let b = height-most e high in omega arith) in
+    (λ i. normal (record { mantissa = total i; exponent = shift-exponent e (height e) z (height_back e low) i }))
+    ∙ normal-tens minus m (z + height e) (e +ℤ pos z) (s.ends some) height_few
+    ∙ sym (stripped-normal minus n m z e s some (omega arith))
+  where
+    powers : (m z h : ℕ) → (m * 10 ^ z) * 10 ^ h ≡ m * 10 ^ (z + h)
+    powers m z h = group m (10 ^ z) (10 ^ h) ∙ ap (λ (p : ℕ). m * p) (sym (pow-add 10 z h))
+      where
+        group : (m p q : ℕ) → (m * p) * q ≡ m * (p * q)
+        group m p q = grind arith
+
+    height-most : (e : ℤ) → int_le e (pos 500) ≡ true → height e ≤ 1000
+    height-most (pos n) h = let l : n ≤ 500 = leb-true n 500 h in omega arith
+    height-most (negsuc n) h = omega arith
+
+-- the sum of two decimals, at the smaller exponent
+
+sum-scaled : (a b : Number) → IsDecimal a → IsDecimal b → b.exponent ≤ℤ a.exponent
+    → scaled a +ℤ scaled b ≡ (a.mantissa *ℤ pos (10 ^ surplus a.exponent b.exponent) +ℤ b.mantissa) *ℤ pos (10 ^ height b.exponent)
+sum-scaled a b p q h =
+    let down = surplus-down a.exponent b.exponent h in
+    let over : surplus a.exponent b.exponent ≡ height a.exponent - height b.exponent = surplus-heights a.exponent b.exponent (least-exponent a p) (least-exponent b q) in
+    let under : surplus b.exponent a.exponent ≡ height b.exponent - height a.exponent = surplus-heights b.exponent a.exponent (least-exponent b q) (least-exponent a p) in
+    let left : scaled a ≡ mantissa_beside a b *ℤ pos (10 ^ height b.exponent) = scaled-beside a b (height b.exponent) (omega (arith, over, under, down)) in
+    ap (λ (z : ℤ). z +ℤ scaled b) left ∙ sym (sum-times (mantissa_beside a b) b.mantissa (10 ^ height b.exponent))
+
+-- the parts of a decimal at which its normal form is its own
+lone-sum : (a b : Number) → IsDecimal a → IsDecimal b → scaled a ≡ pos 0 → sum_of a b ≡ Some b
+lone-sum a b p q none =
+    ap (λ (z : ℤ). decimal_of (at_scale (z +ℤ scaled b))) none ∙ ap (λ (z : ℤ). decimal_of (at_scale z)) (zero_plus (scaled b))
+    ∙ ap (λ (d : Number). if is_decimal d then Some d else None) (normal-scaled b q) ∙ ap (λ (t : Bool). if t then Some b else None) q
+  where
+    zero_plus : (z : ℤ) → pos 0 +ℤ z ≡ z
+    zero_plus z = omega (arith, ints)
+
+sum-turn : (a b : Number) → sum_of a b ≡ sum_of b a
+sum-turn a b = ap (λ (z : ℤ). decimal_of (at_scale z)) (turn (scaled a) (scaled b))
+  where
+    turn : (x y : ℤ) → x +ℤ y ≡ y +ℤ x
+    turn x y = omega (arith, ints)
+
+scaled-zero : (d : Number) → IsDecimal d → is_zero d ≡ true → scaled d ≡ pos 0
+scaled-zero d ok z = ap scaled (zero-is d ok z) ∙ none
+  where
+    none : scaled zero_number ≡ pos 0
+    none = omega (arith, ints)
+
+pub sum-zero_first : (a b : Number) → IsDecimal a → IsDecimal b → is_zero a ≡ true → Some b ≡ sum_of a b
+sum-zero_first a b p q z = sym (lone-sum a b p q (scaled-zero a p z))
+
+pub sum-zero_second : (a b : Number) → IsDecimal a → IsDecimal b → is_zero b ≡ true → Some a ≡ sum_of a b
+sum-zero_second a b p q z = sym (sum-turn a b ∙ lone-sum b a q p (scaled-zero b q z))
+
+pub sum-other : (a b : Number) → sum_of b a ≡ sum_of a b
+sum-other a b = sum-turn b a
+
+-- the sum at the smaller exponent is none
+pub sum-none : (a b : Number) → IsDecimal a → IsDecimal b → b.exponent ≤ℤ a.exponent → a.mantissa *ℤ pos (10 ^ surplus a.exponent b.exponent) +ℤ b.mantissa ≡ pos 0 → Some zero_number ≡ sum_of a b
+sum-none a b p q h none =
+    sym (ap (λ (z : ℤ). decimal_of (at_scale z)) (sum-scaled a b p q h ∙ ap (λ (z : ℤ). z *ℤ pos (10 ^ height b.exponent)) none ∙ gone (10 ^ height b.exponent)) ∙ refl)
+  where
+    gone : (p : ℕ) → pos 0 *ℤ pos p ≡ pos 0
+    gone p = omega (arith, ints)
+
+signed-sum : (s : ℤ) → signed (int_le s (negsuc 0)) (unsigned_abs s) ≡ s
+signed-sum s = signed-size s
+
+-- the sum at the smaller exponent, and its decimal
+pub sum-stripped : (a b : Number) (minus : Bool) (n m z : ℕ) → IsDecimal a → IsDecimal b → b.exponent ≤ℤ a.exponent → a.mantissa *ℤ pos (10 ^ surplus a.exponent b.exponent) +ℤ b.mantissa ≡ signed minus n
+    → IsStripped n m z → 0 < n → z < 99 → decimal_of (record { mantissa = signed minus n; exponent = b.exponent }) ≡ sum_of a b
+sum-stripped a b minus n m z p q h is s some few =
+    let exponents = exponents-of b q in
+    ap (λ (d : Number). if is_decimal d then Some d else None) (sym (normal-shift minus n m z b.exponent s some few exponents.0 exponents.1))
+    ∙ ap (λ (x : ℤ). decimal_of (at_scale (x *ℤ pos (10 ^ height b.exponent)))) (sym is)
+    ∙ ap (λ (x : ℤ). decimal_of (at_scale x)) (sym (sum-scaled a b p q h))
+
+pub sum-some : (a b : Number) (minus : Bool) (n : ℕ) → IsDecimal a → IsDecimal b → b.exponent ≤ℤ a.exponent → a.mantissa *ℤ pos (10 ^ surplus a.exponent b.exponent) +ℤ b.mantissa ≡ signed minus n
+    → 0 < n → n < 10 ^ 37 → decimal_of (record { mantissa = signed minus n; exponent = b.exponent }) ≡ sum_of a b
+sum-some a b minus n p q h is some small = by (strip 37 n small some)
+  where
+    by : (m : ℕ) × (z : ℕ) × IsStripped n m z → decimal_of (record { mantissa = signed minus n; exponent = b.exponent }) ≡ sum_of a b
+    by (m, z, s) =
+        let few : z < 37 = zeros-below n m z 37 s.value (positive m (s.ends some)) small in
+        sum-stripped a b minus n m z p q h is s some (omega arith)
+      where
+        positive : (m : ℕ) → 0 < m % 10 → 0 < m
+        positive m h = omega arith
+
+-- ---- exponents too far apart
+
+-- the last digit of the smaller one stays
+last-digit : (x y : ℤ) → 0 < unsigned_abs y % 10 → 0 < unsigned_abs (x *ℤ pos 10 +ℤ y) % 10
+last-digit x y ends = by (unsigned_abs (x *ℤ pos 10 +ℤ y) % 10) refl
+  where
+    by : (r : ℕ) → unsigned_abs (x *ℤ pos 10 +ℤ y) % 10 ≡ r → 0 < r
+    by (suc r) e = omega arith
+    by zero e = absurd (against (whole e))
+      where
+        q : ℕ
+        q = unsigned_abs (x *ℤ pos 10 +ℤ y) / 10
+
+        whole : unsigned_abs (x *ℤ pos 10 +ℤ y) % 10 ≡ 0 → unsigned_abs (x *ℤ pos 10 +ℤ y) ≡ (unsigned_abs (x *ℤ pos 10 +ℤ y) / 10) * 10
+        whole h = tenfold (unsigned_abs (x *ℤ pos 10 +ℤ y)) h
+          where
+            tenfold : (n : ℕ) → n % 10 ≡ 0 → n ≡ (n / 10) * 10
+            tenfold n h = omega (arith, h)
+
+        against : unsigned_abs (x *ℤ pos 10 +ℤ y) ≡ (unsigned_abs (x *ℤ pos 10 +ℤ y) / 10) * 10 → ⊥
+        against w =
+            let s : x *ℤ pos 10 +ℤ y ≡ signed (int_le (x *ℤ pos 10 +ℤ y) (negsuc 0)) q *ℤ pos 10 =
+            sym (signed-size (x *ℤ pos 10 +ℤ y)) ∙ ap (signed (int_le (x *ℤ pos 10 +ℤ y) (negsuc 0))) w ∙ sym (signed_times (int_le (x *ℤ pos 10 +ℤ y) (negsuc 0)) q 10) in
+            let y_is : y ≡ (signed (int_le (x *ℤ pos 10 +ℤ y) (negsuc 0)) q +ℤ neg_ℤ x) *ℤ pos 10 = other x y (signed (int_le (x *ℤ pos 10 +ℤ y) (negsuc 0)) q) s in
+            let size : unsigned_abs y ≡ unsigned_abs (signed (int_le (x *ℤ pos 10 +ℤ y) (negsuc 0)) q +ℤ neg_ℤ x) * 10 = ap unsigned_abs y_is ∙ unsigned_abs-mul (signed (int_le (x *ℤ pos 10 +ℤ y) (negsuc 0)) q +ℤ neg_ℤ x) (pos 10) in
+            none (unsigned_abs y) (unsigned_abs (signed (int_le (x *ℤ pos 10 +ℤ y) (negsuc 0)) q +ℤ neg_ℤ x)) size ends
+          where
+            other : (x y s : ℤ) → x *ℤ pos 10 +ℤ y ≡ s *ℤ pos 10 → y ≡ (s +ℤ neg_ℤ x) *ℤ pos 10
+            other x y s e = sub (x *ℤ pos 10) y (s *ℤ pos 10) e ∙ sym (sum-times s (neg_ℤ x) 10 ∙ ap (λ (z : ℤ). s *ℤ pos 10 +ℤ z) (turned x))
+              where
+                sub : (a y b : ℤ) → a +ℤ y ≡ b → y ≡ b +ℤ neg_ℤ a
+                sub a y b e = omega (arith, ints)
+
+                turned : (x : ℤ) → neg_ℤ x *ℤ pos 10 ≡ neg_ℤ (x *ℤ pos 10)
+                turned x = neg_times x 10
+
+            none : (n k : ℕ) → n ≡ k * 10 → 0 < n % 10 → ⊥
+            none n k e h = omega (arith, e, h)
+
+triangle : (x y : ℤ) → unsigned_abs x ≤ unsigned_abs (x +ℤ y) + unsigned_abs y
+triangle x y = by x y (x +ℤ y) refl
+  where
+    by : (x y z : ℤ) → x +ℤ y ≡ z → unsigned_abs x ≤ unsigned_abs z + unsigned_abs y
+    by (pos a) (pos b) (pos c) e = omega (arith, ints)
+    by (pos a) (pos b) (negsuc c) e = omega (arith, ints)
+    by (pos a) (negsuc b) (pos c) e = omega (arith, ints)
+    by (pos a) (negsuc b) (negsuc c) e = omega (arith, ints)
+    by (negsuc a) (pos b) (pos c) e = omega (arith, ints)
+    by (negsuc a) (pos b) (negsuc c) e = omega (arith, ints)
+    by (negsuc a) (negsuc b) (pos c) e = omega (arith, ints)
+    by (negsuc a) (negsuc b) (negsuc c) e = omega (arith, ints)
+
+-- ---- the answers of `decimal_of`
+
+pub decimal-many : (minus : Bool) (n m z : ℕ) (e : ℤ) → IsStripped n m z → 0 < n → z < 1100 → 10 ^ 18 ≤ m → None ≡ decimal_of (record { mantissa = signed minus n; exponent = e })
+decimal-many minus n m z e s some few long =
+    sym (decimal_of-stripped minus n m z e s some few
+    ∙ ap (λ (b : Bool). if b && has_small_exponent (record { mantissa = signed minus m; exponent = e +ℤ pos z }) then Some (record { mantissa = signed minus m; exponent = e +ℤ pos z }) else None) (le-ltb m (10 ^ 18) long))
+
+pub decimal-few : (minus : Bool) (n m z : ℕ) (e : ℤ) → IsStripped n m z → 0 < n → z < 1100 → m < 10 ^ 18
+    → result_ok (in_range (record { mantissa = signed minus m; exponent = e +ℤ pos z })) ≡ decimal_of (record { mantissa = signed minus n; exponent = e })
+decimal-few minus n m z e s some few short =
+    sym (decimal_of-stripped minus n m z e s some few
+    ∙ ap (λ (b : Bool). if b && has_small_exponent (record { mantissa = signed minus m; exponent = e +ℤ pos z }) then Some (record { mantissa = signed minus m; exponent = e +ℤ pos z }) else None) (lt-ltb m (10 ^ 18) short)
+    ∙ by (has_small_exponent (record { mantissa = signed minus m; exponent = e +ℤ pos z })) (record { mantissa = signed minus m; exponent = e +ℤ pos z }))
+  where
+    by : (b : Bool) (d : Number) → (if b then Some d else None) ≡ result_ok (if b then Ok d else Err ExponentRange)
+    by true d = refl
+    by false d = refl
+
+-- ---- the answers of `sum_at`
+
+whole-number : (n : ℕ) → 0 < n % 10 → IsStripped n n 0
+whole-number n h = record { value = once_nat n; ends = λ _. h }
+  where
+    once_nat : (n : ℕ) → n * 10 ^ 0 ≡ n
+    once_nat n = omega arith
+
+few-digits : (d : Number) → IsDecimal d → unsigned_abs d.mantissa < 10 ^ 18
+few-digits d ok = ltb-true (unsigned_abs d.mantissa) (10 ^ 18) (first_so (has_few_digits d) (has_small_exponent d && is_normal d) ok)
+
+pub sum-far : (a b : Number) (places : ℕ) → IsDecimal a → IsDecimal b → b.exponent ≤ℤ a.exponent → is_zero a ≡ false → is_zero b ≡ false
+    → places ≡ unsigned_abs (a.exponent -ℤ b.exponent) → 18 < places → None ≡ sum_of a b
+sum-far a b zero p q h x y e far = absurd (omega arith)
+sum-far a b (suc j) p q h x y e far =
+    decimal-many minus n n 0 b.exponent stripped some (omega arith) long ∙ sum-stripped a b minus n n 0 p q h total stripped some (omega arith)
+  where
+    up : surplus a.exponent b.exponent ≡ suc j
+    up = surplus-up a.exponent b.exponent h ∙ sym e
+
+    s : ℤ
+    s = a.mantissa *ℤ pos (10 ^ suc j) +ℤ b.mantissa
+
+    minus : Bool
+    minus = int_le s (negsuc 0)
+
+    n : ℕ
+    n = unsigned_abs s
+
+    total : a.mantissa *ℤ pos (10 ^ surplus a.exponent b.exponent) +ℤ b.mantissa ≡ signed minus n
+    total = ap (λ (k : ℕ). a.mantissa *ℤ pos (10 ^ k) +ℤ b.mantissa) up ∙ sym (signed-size s)
+
+    tens : (a.mantissa *ℤ pos (10 ^ j)) *ℤ pos 10 +ℤ b.mantissa ≡ a.mantissa *ℤ pos (10 ^ suc j) +ℤ b.mantissa
+    tens = ap (λ (z : ℤ). z +ℤ b.mantissa) (times_twice a.mantissa (10 ^ j) 10 ∙ ap (λ (k : ℕ). a.mantissa *ℤ pos k) (sym (pow-suc 10 j)))
+
+    ends : 0 < n % 10
+    ends = subst (λ (z : ℤ). 0 < unsigned_abs z % 10) tens (last-digit (a.mantissa *ℤ pos (10 ^ j)) b.mantissa (nonzero-ends b q y))
+
+    stripped : IsStripped n n 0
+    stripped = whole-number n ends
+
+    some : 0 < n
+    some = omega (arith, ends)
+
+    long : 10 ^ 18 ≤ n
+    long =
+        let t = triangle (a.mantissa *ℤ pos (10 ^ suc j)) b.mantissa in
+        let size : unsigned_abs (a.mantissa *ℤ pos (10 ^ suc j)) ≡ unsigned_abs a.mantissa * 10 ^ suc j = unsigned_abs-mul a.mantissa (pos (10 ^ suc j)) in
+        let power : 10 ^ 19 ≤ 10 ^ suc j = pow-le-pow_right ten_positive far in
+        let most : 10 ^ suc j ≤ unsigned_abs a.mantissa * 10 ^ suc j = at_least (unsigned_abs a.mantissa) (10 ^ suc j) (nonzero-ends a p x) in
+        let small = few-digits b q in
+        bound n (unsigned_abs (a.mantissa *ℤ pos (10 ^ suc j))) (unsigned_abs a.mantissa * 10 ^ suc j) (10 ^ suc j) (unsigned_abs b.mantissa) t size power most small
+      where
+        at_least : (m p : ℕ) → 0 < m % 10 → p ≤ m * p
+        at_least m p h = let k : 0 < m = omega (arith, h) in step m p k
+          where
+            step : (m p : ℕ) → 0 < m → p ≤ m * p
+            step m p h = grind arith
+
+        bound : (n x m t y : ℕ) → x ≤ n + y → x ≡ m → 10 ^ 19 ≤ t → t ≤ m → y < 10 ^ 18 → 10 ^ 18 ≤ n
+        bound n x m t y a b c d e = omega (arith, a, b, c, d, e)
+
+-- the sum at the smaller exponent, as it is counted
+pub beside-sum : (a b : Number) (places : ℕ) (s x y : ℤ) → b.exponent ≤ℤ a.exponent → places ≡ unsigned_abs (a.exponent -ℤ b.exponent) → x ≡ a.mantissa → y ≡ b.mantissa → s ≡ (x *ℤ pos (10 ^ places)) +ℤ y
+    → a.mantissa *ℤ pos (10 ^ surplus a.exponent b.exponent) +ℤ b.mantissa ≡ s
+beside-sum a b places s x y h e left right is = (λ i. (sym left i *ℤ pos (10 ^ (surplus-up a.exponent b.exponent h ∙ sym e) i)) +ℤ sym right i) ∙ sym is
+
+pub exponent-small : (d : Number) → IsDecimal d → unsigned_abs d.exponent ≤ 500
+exponent-small d ok = by d.exponent (exponents-of d ok).0 (exponents-of d ok).1
+  where
+    by : (e : ℤ) → int_le (negsuc 499) e ≡ true → int_le e (pos 500) ≡ true → unsigned_abs e ≤ 500
+    by (pos n) h k = leb-true n 500 k
+    by (negsuc n) h k = let l : n ≤ 499 = leb-true n 499 h in omega arith
+
+pub size-positive : (s : ℤ) → (s ≡ pos 0 → ⊥) → 0 < unsigned_abs s
+size-positive (pos zero) h = absurd (h refl)
+size-positive (pos (suc n)) h = omega arith
+size-positive (negsuc n) h = omega arith
+
+-- a number by the sign that a test tells, and its size
+pub signed-below : (s : ℤ) → s ≡ signed (int_lt s (pos 0)) (unsigned_abs s)
+signed-below (pos n) = sym (ap (λ (b : Bool). signed b n) (no_less n))
+  where
+    no_less : (n : ℕ) → nat_lt n 0 ≡ false
+    no_less n = grind (arith, nat_tests)
+signed-below (negsuc n) = refl
+
+sum-bound : (x y : ℤ) → unsigned_abs (x +ℤ y) ≤ unsigned_abs x + unsigned_abs y
+sum-bound x y = by x y (x +ℤ y) refl
+  where
+    by : (x y z : ℤ) → x +ℤ y ≡ z → unsigned_abs z ≤ unsigned_abs x + unsigned_abs y
+    by (pos a) (pos b) (pos c) e = omega (arith, ints)
+    by (pos a) (pos b) (negsuc c) e = omega (arith, ints)
+    by (pos a) (negsuc b) (pos c) e = omega (arith, ints)
+    by (pos a) (negsuc b) (negsuc c) e = omega (arith, ints)
+    by (negsuc a) (pos b) (pos c) e = omega (arith, ints)
+    by (negsuc a) (pos b) (negsuc c) e = omega (arith, ints)
+    by (negsuc a) (negsuc b) (pos c) e = omega (arith, ints)
+    by (negsuc a) (negsuc b) (negsuc c) e = omega (arith, ints)
+
+-- a sum of what was shifted is far from the limit of its type
+pub sum-small : (m y : ℤ) (places : ℕ) → unsigned_abs m < 10 ^ 18 → unsigned_abs y < 10 ^ 18 → places ≤ 18 → unsigned_abs (m *ℤ pos (10 ^ places) +ℤ y) < 10 ^ 37
+sum-small m y places few small short =
+    let b = sum-bound (m *ℤ pos (10 ^ places)) y in
+    let size : unsigned_abs (m *ℤ pos (10 ^ places)) ≡ unsigned_abs m * 10 ^ places = unsigned_abs-mul m (pos (10 ^ places)) in
+    let power : 10 ^ places ≤ 10 ^ 18 = pow-le-pow_right ten_positive short in
+    let product : unsigned_abs m * 10 ^ places ≤ 10 ^ 18 * 10 ^ 18 = both (unsigned_abs m) (10 ^ 18) (10 ^ places) (10 ^ 18) (omega arith) power in
+    bound (unsigned_abs (m *ℤ pos (10 ^ places) +ℤ y)) (unsigned_abs (m *ℤ pos (10 ^ places))) (unsigned_abs m * 10 ^ places) (unsigned_abs y) b size product small
+  where
+    both : (a b c d : ℕ) → a ≤ b → c ≤ d → a * c ≤ b * d
+    both a b c d h k = mul-le-mul h k
+
+    bound : (n x m y : ℕ) → n ≤ x + y → x ≡ m → m ≤ 10 ^ 18 * 10 ^ 18 → y < 10 ^ 18 → n < 10 ^ 37
+    bound n x m y a b c d = omega (arith, a, b, c, d)

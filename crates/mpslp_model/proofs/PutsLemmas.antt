@@ -1,0 +1,165 @@
+-- Entries put one after another, in whatever order and however often.
+use Rattle.std.proofs.Common.{◌≡◌, refl, sym, ap, ◌∙◌, List, [], ◌∷◌, ◌++◌, Bool, true, false, cond}
+use Rattle.std.specs.Prelude.{Option, Some, None, is_some, ◌&&◌}
+use Rattle.std.specs.Ordering.{is_eq, is_lt, eq_by_cmp}
+use Rattle.std.specs.Cmp.{IsTotalOrder, tied_itself, first_so, second_so}
+use Rattle.std.specs.declared.cmp.Ordering.{Ordering}
+use Rattle.std.specs.declared.cmp.Ordering.TheVariants.{Less, Equal, Greater}
+use Rattle.std.specs.FinMap.{find, put, is_sorted}
+use Rattle.std.specs.FinMap.Entries.{find-put, same_entries, is_sorted-put, below_all}
+use Rattle.std.proofs.Math.Dec.{T}
+use Rattle.mpslp_model.proofs.EachLemmas.{Each}
+
+-- a tie, by its test
+pub equal_from : (r : Ordering) → is_eq r ≡ true → r ≡ Equal
+equal_from Less h = cc
+equal_from Equal h = refl
+equal_from Greater h = cc
+
+none_is : false ≡ true → ⊥
+none_is e = cc
+
+-- a test as a type and as an equation
+pub true_from : (b : Bool) → T b → b ≡ true
+true_from true h = refl
+true_from false h = absurd h
+
+pub T_from : (b : Bool) → b ≡ true → T b
+T_from true h = tt
+T_from false h = absurd (none_is h)
+
+module _ {K : Type 0} (R : K → K → Ordering) (o : IsTotalOrder R) (same : (x y : K) → R x y ≡ Equal → x ≡ y) where
+  tied : (k : K) → eq_by_cmp R k k ≡ true
+  tied k = ap is_eq (tied_itself o k)
+
+  apart : (k q : K) (r : Ordering) → R k q ≡ r → is_lt r ≡ true → eq_by_cmp R q k ≡ true → ⊥
+  apart k q r e below tie =
+      let s : q ≡ k = same q k (equal_from (R q k) tie) in
+      let z : R k q ≡ Equal = ap (R k) s ∙ tied_itself o k in
+      let w : is_lt Equal ≡ true = ap is_lt (sym z ∙ e) ∙ below in cc
+
+module _ {K X : Type 0} (R : K → K → Ordering) where
+  -- entries put one after another
+  abbrev pub puts : List (K × X) → List (K × X) → List (K × X)
+  puts [] base = base
+  puts (e ∷ es) base = puts es (put R e.0 e.1 base)
+
+  pub puts-append : (xs ys base : List (K × X)) → puts (xs ++ ys) base ≡ puts ys (puts xs base)
+  puts-append [] ys base = refl
+  puts-append (x ∷ xs) ys base = puts-append xs ys (put R x.0 x.1 base)
+
+  -- what the first finds, the second finds too
+  abbrev pub IsPartOf : List (K × X) → List (K × X) → Type 0
+  IsPartOf base target = (q : K) (x : X) → find R q base ≡ Some x → find R q target ≡ Some x
+
+  module _ (o : IsTotalOrder R) (same : (x y : K) → R x y ≡ Equal → x ≡ y) where
+    -- sorted entries stay sorted
+    pub is_sorted-puts : (es base : List (K × X)) → T (is_sorted R base) → T (is_sorted R (puts es base))
+    is_sorted-puts [] base h = h
+    is_sorted-puts (e ∷ es) base h = is_sorted-puts es (put R e.0 e.1 base) (is_sorted-put R o e.0 e.1 base h)
+
+    part_put : (target : List (K × X)) (k : K) (v : X) (base : List (K × X)) → find R k target ≡ Some v → IsPartOf base target → IsPartOf (put R k v base) target
+    part_put target k v base own part q x found = by (eq_by_cmp R q k) refl (sym (find-put R o q k v base) ∙ found)
+      where
+        by : (b : Bool) → eq_by_cmp R q k ≡ b → cond b (Some v) (find R q base) ≡ Some x → find R q target ≡ Some x
+        by true tie is = ap (λ (y : K). find R y target) (same q k (equal_from (R q k) tie)) ∙ own ∙ is
+        by false tie is = part q x is
+
+    part_puts : (target es base : List (K × X)) → Each (λ e. find R e.0 target ≡ Some e.1) es → IsPartOf base target → IsPartOf (puts es base) target
+    part_puts target [] base h part = part
+    part_puts target (e ∷ es) base h part = part_puts target es (put R e.0 e.1 base) h.1 (part_put target e.0 e.1 base h.0 part)
+
+    kept_put : (q k : K) (v : X) (base : List (K × X)) → is_some (find R q base) ≡ true → is_some (find R q (put R k v base)) ≡ true
+    kept_put q k v base h = ap is_some (find-put R o q k v base) ∙ by (eq_by_cmp R q k)
+      where
+        by : (b : Bool) → is_some (cond b (Some v) (find R q base)) ≡ true
+        by true = refl
+        by false = h
+
+    kept_puts : (q : K) (es base : List (K × X)) → is_some (find R q base) ≡ true → is_some (find R q (puts es base)) ≡ true
+    kept_puts q [] base h = h
+    kept_puts q (e ∷ es) base h = kept_puts q es (put R e.0 e.1 base) (kept_put q e.0 e.1 base h)
+
+    here_put : (q k : K) (v : X) (base : List (K × X)) → eq_by_cmp R q k ≡ true → is_some (find R q (put R k v base)) ≡ true
+    here_put q k v base h = ap is_some (find-put R o q k v base) ∙ ap (λ (b : Bool). is_some (cond b (Some v) (find R q base))) h
+
+    -- what is among the entries is found after they are put
+    some_puts : (q : K) (es base : List (K × X)) → is_some (find R q es) ≡ true → is_some (find R q (puts es base)) ≡ true
+    some_puts q [] base h = cc
+    some_puts q (e ∷ es) base h = by (eq_by_cmp R q e.0) refl (λ is. some_puts q es (put R e.0 e.1 base) is) h
+      where
+        by : (b : Bool) → eq_by_cmp R q e.0 ≡ b → (is_some (find R q es) ≡ true → is_some (find R q (puts es (put R e.0 e.1 base))) ≡ true) → is_some (cond b (Some e.1) (find R q es)) ≡ true → is_some (find R q (puts es (put R e.0 e.1 base))) ≡ true
+        by true tie more is = kept_puts q es (put R e.0 e.1 base) (here_put q e.0 e.1 base tie)
+        by false tie more is = more is
+
+    -- each key of a list that is found in another
+    some_in : (q : K) (target es : List (K × X)) → Each (λ e. is_some (find R e.0 es) ≡ true) target → is_some (find R q target) ≡ true → is_some (find R q es) ≡ true
+    some_in q [] es h found = cc
+    some_in q (e ∷ target) es h found = by (eq_by_cmp R q e.0) refl (λ is. some_in q target es h.1 is) found
+      where
+        by : (b : Bool) → eq_by_cmp R q e.0 ≡ b → (is_some (find R q target) ≡ true → is_some (find R q es) ≡ true) → is_some (cond b (Some e.1) (find R q target)) ≡ true → is_some (find R q es) ≡ true
+        by true tie more is = ap (λ (y : K). is_some (find R y es)) (same q e.0 (equal_from (R q e.0) tie)) ∙ h.0
+        by false tie more is = more is
+
+    alike : (a b : Option X) → ((x : X) → a ≡ Some x → b ≡ Some x) → (is_some b ≡ true → is_some a ≡ true) → a ≡ b
+    alike (Some x) b f g = sym (f x refl)
+    alike None (Some y) f g = absurd (none_is (g refl))
+    alike None None f g = refl
+
+    -- Entries that are all the target's, and leave none of its keys out, make the target.
+    pub puts-give : (target es : List (K × X)) → T (is_sorted R target) → Each (λ e. find R e.0 target ≡ Some e.1) es
+        → Each (λ e. is_some (find R e.0 es) ≡ true) target → puts es [] ≡ target
+    puts-give target es sorted own all =
+        same_entries R o same (puts es []) target (is_sorted-puts es [] tt) sorted
+        (λ q. alike (find R q (puts es [])) (find R q target)
+        (λ x found. part_puts target es [] own (λ p y none. absurd (no_some y none)) q x found)
+        (λ there. some_puts q es [] (some_in q target es all there)))
+      where
+        no_some : (y : X) → None ≡ Some y → ⊥
+        no_some y e = cc
+
+    -- an entry that stands in a list has its key found there
+    pub find-front : (k : K) (v : X) (es : List (K × X)) → is_some (find R k ((k, v) ∷ es)) ≡ true
+    find-front k v es = ap (λ (b : Bool). is_some (cond b (Some v) (find R k es))) (tied R o same k)
+
+    -- a key that is found among some entries is found among more
+    pub some_cons : (q k : K) (v : X) (es : List (K × X)) → is_some (find R q es) ≡ true → is_some (find R q ((k, v) ∷ es)) ≡ true
+    some_cons q k v es h = by (eq_by_cmp R q k)
+      where
+        by : (b : Bool) → is_some (cond b (Some v) (find R q es)) ≡ true
+        by true = refl
+        by false = h
+
+    pub some_append_left : (q : K) (xs ys : List (K × X)) → is_some (find R q xs) ≡ true → is_some (find R q (xs ++ ys)) ≡ true
+    some_append_left q [] ys h = cc
+    some_append_left q (x ∷ xs) ys h = by (eq_by_cmp R q x.0) (λ is. some_append_left q xs ys is) h
+      where
+        by : (b : Bool) → (is_some (find R q xs) ≡ true → is_some (find R q (xs ++ ys)) ≡ true) → is_some (cond b (Some x.1) (find R q xs)) ≡ true → is_some (cond b (Some x.1) (find R q (xs ++ ys))) ≡ true
+        by true more is = refl
+        by false more is = more is
+
+    pub some_append_right : (q : K) (xs ys : List (K × X)) → is_some (find R q ys) ≡ true → is_some (find R q (xs ++ ys)) ≡ true
+    some_append_right q [] ys h = h
+    some_append_right q (x ∷ xs) ys h = some_cons q x.0 x.1 (xs ++ ys) (some_append_right q xs ys h)
+
+    -- a sorted list finds each entry of its own
+    pub finds_own : (es : List (K × X)) → T (is_sorted R es) → Each (λ e. find R e.0 es ≡ Some e.1) es
+    finds_own [] h = tt
+    finds_own (e ∷ es) h =
+        let below = first_so (below_all R e.0 es) (is_sorted R es) (true_from (below_all R e.0 es && is_sorted R es) h) in
+        let rest = finds_own es (T_from (is_sorted R es) (second_so (below_all R e.0 es) (is_sorted R es) (true_from (below_all R e.0 es && is_sorted R es) h))) in
+        (ap (λ (b : Bool). cond b (Some e.1) (find R e.0 es)) (tied R o same e.0), keep e es es below rest)
+      where
+        past : (e d : K × X) (es : List (K × X)) → (eq_by_cmp R d.0 e.0 ≡ true → ⊥) → find R d.0 es ≡ Some d.1 → find R d.0 (e ∷ es) ≡ Some d.1
+        past e d es isnt is = by (eq_by_cmp R d.0 e.0) refl
+          where
+            by : (b : Bool) → eq_by_cmp R d.0 e.0 ≡ b → cond b (Some e.1) (find R d.0 es) ≡ Some d.1
+            by true t = absurd (isnt t)
+            by false t = is
+
+        keep : (e : K × X) (es ds : List (K × X)) → below_all R e.0 ds ≡ true → Each (λ d. find R d.0 es ≡ Some d.1) ds → Each (λ d. find R d.0 (e ∷ es) ≡ Some d.1) ds
+        keep e es [] below rest = tt
+        keep e es (d ∷ ds) below rest = (
+          past e d es (apart R o same e.0 d.0 (R e.0 d.0) refl (first_so (is_lt (R e.0 d.0)) (below_all R e.0 ds) below)) rest.0,
+          keep e es ds (second_so (is_lt (R e.0 d.0)) (below_all R e.0 ds) below) rest.1,
+        )

@@ -1,0 +1,19 @@
+-- Laws of names, declarations and their meaning.
+use Rattle.std.specs.Prelude.{◌≡◌, ℕ, List}
+use Rattle.std.specs.List.Sorted.{IsPermutation}
+use Rattle.mpslp_model.specs.Name.{IsMpsName, IsLpName}
+use Rattle.mpslp_model.specs.Model.{LinearModel}
+use Rattle.mpslp_model.specs.Declaration.{Declarations}
+use Rattle.mpslp_model.specs.Meaning.{Means}
+
+-- What is a name in LP is one in MPS.
+abbrev pub LpNamesAreMpsNames : Type 0
+LpNamesAreMpsNames = (name : List ℕ) → IsLpName name → IsMpsName name
+
+-- Two models that the same declarations mean are one.
+abbrev pub MeanOneModel : Type 0
+MeanOneModel = (declarations : Declarations) (m n : LinearModel) → Means declarations m → Means declarations n → m ≡ n
+
+-- The same declarations in another order mean the same model.
+abbrev pub MeanTheSameInAnyOrder : Type 0
+MeanTheSameInAnyOrder = (declarations others : Declarations) (m : LinearModel) → IsPermutation declarations others → Means declarations m → Means others m

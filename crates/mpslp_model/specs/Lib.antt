@@ -1,0 +1,12 @@
+pub mod Name
+pub mod Model
+pub mod Declaration
+pub mod Sides
+pub mod Limits
+pub mod Bounds
+pub mod Consistency
+pub mod Refusal
+pub mod Made
+pub mod Meaning
+pub mod FaultOrder
+pub mod Laws

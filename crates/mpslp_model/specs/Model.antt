@@ -1,0 +1,113 @@
+-- Models as values.
+use Rattle.std.specs.Prelude.{◌≡◌, ◌<◌, ℕ, Bool, false, true, ◌&&◌, not, IsTrue, List, ◌∷◌, length, if◌then◌else◌}
+use Rattle.std.specs.Ordering.{nat_cmp, ordering_then, is_lt}
+use Rattle.std.specs.declared.cmp.Ordering.{Ordering}
+use Rattle.std.specs.Cmp.Lexicographic.{slice_cmp}
+use Rattle.std.specs.FinMap as maps
+use Rattle.std.specs.FinMap.{FinMap}
+use Rattle.std.specs.Option.{option_map_or}
+use Rattle.std.specs.List.{list_all}
+use Rattle.mpslp_decimal.specs.Decimal.{Number, IsDecimal, is_decimal, is_zero, is_negative, is_infinite_size, decimal_cmp, difference_of}
+use Rattle.mpslp_model.specs.Name.{IsMpsName, is_mps_name, is_one_of}
+use Rattle.mpslp_model.specs.declared.kinds.Sense.{Sense}
+use Rattle.mpslp_model.specs.declared.kinds.Kind.{Kind}
+use Rattle.mpslp_model.specs.declared.kinds.Limit.{Limit}
+use Rattle.mpslp_model.specs.declared.kinds.Limit.TheVariants.{MinusInf, Finite, PlusInf}
+
+-- byte order
+abbrev pub bytes_cmp : List ℕ → List ℕ → Ordering
+bytes_cmp = slice_cmp nat_cmp
+
+-- where a coefficient stands: a row, or the objective, and a column
+pub record Place : Type 0 where
+  pub row : List ℕ
+  pub column : List ℕ
+
+-- by row, then by column
+abbrev pub place_cmp : Place → Place → Ordering
+place_cmp a b = ordering_then (bytes_cmp a.row b.row) (bytes_cmp a.column b.column)
+
+-- ---- a model: what rows, columns and coefficients there are, by their names
+
+pub record Row : Type 0 where
+  pub lower : Limit
+  pub upper : Limit
+
+pub record Column : Type 0 where
+  pub kind : Kind
+  pub lower : Limit
+  pub upper : Limit
+
+-- The objective is no row. A coefficient that is not there is 0.
+pub record LinearModel : Type 0 where
+  pub sense : Sense
+  pub objective : List ℕ
+  pub constant : Number
+  pub rows : FinMap bytes_cmp Row
+  pub columns : FinMap bytes_cmp Column
+  pub coefficients : FinMap place_cmp Number
+
+-- ---- sides
+
+-- a given value of size 10^20 or more is the infinity of its sign
+abbrev pub limit_of : Number → Limit
+limit_of d = if is_infinite_size d then (if is_negative d then MinusInf else PlusInf) else Finite d
+
+-- the first is at most the second: minus infinity comes first, plus infinity last
+abbrev pub is_at_most : Limit → Limit → Bool
+is_at_most MinusInf _ = true
+is_at_most (Finite a) MinusInf = false
+is_at_most (Finite a) (Finite b) = not (is_lt (decimal_cmp b a))
+is_at_most (Finite a) PlusInf = true
+is_at_most PlusInf MinusInf = false
+is_at_most PlusInf (Finite b) = false
+is_at_most PlusInf PlusInf = true
+
+-- a decimal of size below 10^20
+abbrev pub is_bounded_decimal : Number → Bool
+is_bounded_decimal d = is_decimal d && not (is_infinite_size d)
+
+-- not plus infinity, and a finite one is bounded
+abbrev pub is_lower_side : Limit → Bool
+is_lower_side MinusInf = true
+is_lower_side (Finite a) = is_bounded_decimal a
+is_lower_side PlusInf = false
+
+-- not minus infinity, and a finite one is bounded
+abbrev pub is_upper_side : Limit → Bool
+is_upper_side MinusInf = false
+is_upper_side (Finite a) = is_bounded_decimal a
+is_upper_side PlusInf = true
+
+abbrev pub are_sides : Limit → Limit → Bool
+are_sides lower upper = is_lower_side lower && (is_upper_side upper && is_at_most lower upper)
+
+-- upper minus lower is a decimal of size below 10^20, where both are finite
+abbrev pub has_bounded_distance : Limit → Limit → Bool
+has_bounded_distance (Finite a) (Finite b) = option_map_or is_bounded_decimal (difference_of b a) false
+has_bounded_distance _ _ = true
+
+-- ---- sound models
+
+abbrev pub is_sound_row : List ℕ × Row → Bool
+is_sound_row row = is_mps_name row.0 && (are_sides row.1.lower row.1.upper && has_bounded_distance row.1.lower row.1.upper)
+
+abbrev pub is_sound_column : List ℕ × Column → Bool
+is_sound_column column = is_mps_name column.0 && are_sides column.1.lower column.1.upper
+
+-- a decimal that is not 0, of a row or the objective and of a column that are there
+abbrev pub is_sound_coefficient : LinearModel → Place × Number → Bool
+is_sound_coefficient m coefficient =
+    let place = coefficient.0 in
+    is_decimal coefficient.1 && (not (is_zero coefficient.1)
+    && (is_one_of (maps.keys m.columns) place.column && is_one_of (m.objective ∷ maps.keys m.rows) place.row))
+
+-- What holds of every model.
+pub record IsSound (m : LinearModel) : Type 0 where
+  pub objective : IsMpsName m.objective
+  pub objective_is_no_row : is_one_of (maps.keys m.rows) m.objective ≡ false
+  pub constant : IsDecimal m.constant
+  pub has_column : 0 < length (maps.keys m.columns)
+  pub rows : IsTrue (list_all is_sound_row (maps.entries m.rows))
+  pub columns : IsTrue (list_all is_sound_column (maps.entries m.columns))
+  pub coefficients : IsTrue (list_all (is_sound_coefficient m) (maps.entries m.coefficients))

@@ -1,0 +1,71 @@
+-- When a declaration is refused after those made before it.
+use Rattle.std.specs.Prelude.{ℕ, Bool, true, false, ◌&&◌, ◌||◌, not, List, [], ◌∷◌, ◌++◌, Option, is_some, if◌then◌else◌}
+use Rattle.std.specs.Option.{option_map_or}
+use Rattle.mpslp_decimal.specs.Decimal.{is_infinite_size}
+use Rattle.mpslp_model.specs.Declaration.{Declaration, declare_sense, declare_objective, declare_constant, declare_row, declare_right_side, declare_range, declare_column, declare_coefficient, declare_lower, declare_upper, declare_marked, declare_integer, declare_binary, Declarations, Draft, adding, has_name, is_objective, has_row, has_column, has_entry, is_free_row, is_row_by_limits}
+use Rattle.mpslp_model.specs.Sides.{is_plus_infinite, is_minus_infinite, have_infinite_side}
+use Rattle.mpslp_model.specs.Consistency.{has_objective_side}
+use Rattle.mpslp_model.specs.declared.kinds.Limit.{Limit}
+use Rattle.mpslp_model.specs.declared.faults.BuildFault.{BuildFault}
+use Rattle.mpslp_model.specs.declared.faults.BuildFault.TheVariants.{DuplicateSense, SecondObjective, UnknownRow, UnknownColumn, DuplicateRow, DuplicateEntry, DuplicateRhs, DuplicateRange, DuplicateBound, RangeOnFree, InfiniteValue}
+
+abbrev pub is_nonempty : {X : Type 0} → List X → Bool
+is_nonempty [] = false
+is_nonempty (x ∷ xs) = true
+
+abbrev pub when : {X : Type 0} → Bool → X → List X
+when test x = if test then x ∷ [] else []
+
+-- a constant, or a right side of the objective
+abbrev pub has_constant : Draft → Bool
+has_constant all = is_some all.constant || has_objective_side all
+
+-- the faults whose tests hold, in order
+abbrev pub those_of : {X : Type 0} → List (Bool × X) → List X
+those_of [] = []
+those_of (tested ∷ more) = if tested.0 then tested.1 ∷ those_of more else those_of more
+
+-- the faults of a declaration after those made before it, each with its test, in the order in which they are told
+abbrev pub refusal_tests : Draft → Declaration → List (Bool × BuildFault)
+refusal_tests all (declare_sense sense) = (is_some all.sense, DuplicateSense) ∷ []
+refusal_tests all (declare_objective name) = (is_some all.objective, SecondObjective) ∷ (has_row all name, DuplicateRow) ∷ []
+refusal_tests all (declare_constant value) = (has_constant all, DuplicateRhs) ∷ []
+refusal_tests all (declare_row name form) = (has_row all name, DuplicateRow) ∷ (have_infinite_side form, InfiniteValue) ∷ []
+refusal_tests all (declare_right_side row value) =
+    (not (has_row all row), UnknownRow)
+    ∷ (has_name all.right_sides row || (is_row_by_limits all row || (is_objective all row && is_some all.constant)), DuplicateRhs) ∷ []
+refusal_tests all (declare_range row value) =
+    (not (has_row all row), UnknownRow) ∷ (has_name all.ranges row || is_row_by_limits all row, DuplicateRange)
+    ∷ (is_objective all row || is_free_row all row, RangeOnFree) ∷ (is_infinite_size value, InfiniteValue) ∷ []
+refusal_tests all (declare_column name) = []
+refusal_tests all (declare_coefficient place value) =
+    (not (has_row all place.row), UnknownRow) ∷ (not (has_column all place.column), UnknownColumn) ∷ (has_entry all place, DuplicateEntry) ∷ []
+refusal_tests all (declare_lower column limit) =
+    (not (has_column all column), UnknownColumn) ∷ (has_name all.lowers column, DuplicateBound) ∷ (is_plus_infinite limit, InfiniteValue) ∷ []
+refusal_tests all (declare_upper column limit) =
+    (not (has_column all column), UnknownColumn) ∷ (has_name all.uppers column, DuplicateBound) ∷ (is_minus_infinite limit, InfiniteValue) ∷ []
+refusal_tests all (declare_marked column) = (not (has_column all column), UnknownColumn) ∷ []
+refusal_tests all (declare_integer column) = (not (has_column all column), UnknownColumn) ∷ []
+refusal_tests all (declare_binary column) = (not (has_column all column), UnknownColumn) ∷ []
+
+-- the refusals of a declaration, the first one first
+abbrev pub refusals : Draft → Declaration → List BuildFault
+refusals all declaration = those_of (refusal_tests all declaration)
+
+-- the refusals of several, each after all before it. A declaration counts as made also where it is refused: so a
+-- second range of a row is a duplicate whatever the first one's fault is
+abbrev pub refusals_in_turn : Draft → Declarations → List BuildFault
+refusals_in_turn before [] = []
+refusals_in_turn before (declaration ∷ more) = refusals before declaration ++ refusals_in_turn (adding before declaration) more
+
+-- ---- the bounds of a column, declared by one call
+
+abbrev pub bounds_tests : Draft → List ℕ → Option Limit → Option Limit → List (Bool × BuildFault)
+bounds_tests all column lower upper =
+    (not (has_column all column), UnknownColumn)
+    ∷ ((is_some lower && has_name all.lowers column) || (is_some upper && has_name all.uppers column), DuplicateBound)
+    ∷ (option_map_or is_plus_infinite lower false || option_map_or is_minus_infinite upper false, InfiniteValue) ∷ []
+
+-- the refusals of the sides that are given, over both
+abbrev pub bounds_refusals : Draft → List ℕ → Option Limit → Option Limit → List BuildFault
+bounds_refusals all column lower upper = those_of (bounds_tests all column lower upper)

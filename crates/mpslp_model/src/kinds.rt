@@ -1,0 +1,45 @@
+//! The kinds of things in a model.
+
+use mpslp_decimal::Decimal;
+
+/// What is done with the objective.
+#[derive(Clone, Copy, Debug, PartialEq, Eq)]
+pub enum Sense {
+    /// The least value is wanted.
+    Minimize,
+    /// The greatest value is wanted.
+    Maximize,
+}
+
+/// Which values a column may take within its bounds.
+#[derive(Clone, Copy, Debug, PartialEq, Eq)]
+pub enum Kind {
+    /// Any value.
+    Continuous,
+    /// Whole numbers alone.
+    Integer,
+}
+
+/// One side of a row or column: a limit of a row, or a bound of a column.
+#[derive(Clone, Copy, Debug, PartialEq, Eq)]
+pub enum Limit {
+    /// Minus infinity: below every number.
+    MinusInf,
+    /// A number of size below 10^20.
+    Finite(Decimal),
+    /// Plus infinity: above every number.
+    PlusInf,
+}
+
+/// How a row's right side limits it.
+#[derive(Clone, Copy, Debug, PartialEq, Eq)]
+pub enum RowType {
+    /// Not at all; letter N.
+    Free,
+    /// The row is at most its right side; letter L.
+    AtMost,
+    /// The row is at least its right side; letter G.
+    AtLeast,
+    /// The row equals its right side; letter E.
+    Equal,
+}

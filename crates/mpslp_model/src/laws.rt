@@ -1,0 +1,19 @@
+//! Laws of names, of declarations and of the models that they mean. Each is the contract of a function that does
+//! nothing: to call it is to cite the law.
+
+ghost use Rattle.mpslp_model.specs.Laws.{LpNamesAreMpsNames, MeanOneModel, MeanTheSameInAnyOrder};
+
+/// Every name that is legal in LP is legal in MPS too.
+pub fn lp_names_are_mps_names()
+    ensures { LpNamesAreMpsNames }
+{}
+
+/// Declarations mean one model at most.
+pub fn declarations_mean_one_model()
+    ensures { MeanOneModel }
+{}
+
+/// The order of declarations is of no account: declarations that mean a model mean it in any order.
+pub fn order_is_of_no_account()
+    ensures { MeanTheSameInAnyOrder }
+{}

@@ -1,0 +1,15 @@
+//! Models of linear and mixed-integer programs, and the declarations that mean them.
+//!
+//! A reader of either format, like a caller who builds a model by hand, makes declarations: rows,
+//! columns, coefficients, bounds. This crate says which declarations go together, which model they
+//! mean, and which fault is told where they mean none.
+#![tactic(auto)]
+
+mod faults;
+mod kinds;
+pub mod laws;
+mod names;
+
+pub use faults::{BuildFault, Fault, FaultKind, ReadFault};
+pub use kinds::{Kind, Limit, RowType, Sense};
+pub use names::{MAX_NAME_LEN, Name, NameFault};

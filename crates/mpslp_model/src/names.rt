@@ -1,0 +1,126 @@
+//! Names of rows, columns and the objective.
+
+ghost use Rattle.std.specs.Prelude.{◌≡◌, IfSome, IfNone, MatchResult};
+ghost use Rattle.std.specs.List.{list_all};
+ghost use Rattle.mpslp_model.specs.Name.{is_visible, same_bytes, marker, name_refusal};
+
+use std::alloc::Global;
+use std::marker::Model;
+use thiserror::Error;
+
+/// The most bytes that a name has.
+pub const MAX_NAME_LEN: usize = 255;
+
+/// Why bytes are not taken as a name. Where several hold, the first of this list is told.
+#[derive(Clone, Copy, Debug, PartialEq, Eq, Error)]
+pub enum NameFault {
+    /// There are no bytes, or more than [`MAX_NAME_LEN`].
+    #[error("a name has 1 to 255 bytes")]
+    NameLength,
+    /// A byte is a blank, a control character or not ASCII.
+    #[error("a name has a byte that is no visible ASCII character")]
+    NameByte,
+    /// The text is `'MARKER'`, which stands for no name in MPS.
+    #[error("'MARKER' is no name")]
+    NameMarker,
+    /// There was no memory for the name.
+    #[error("out of memory")]
+    OutOfMemory,
+}
+
+/// The name of a row, a column or the objective: 1 to [`MAX_NAME_LEN`] bytes of visible ASCII that
+/// are not `'MARKER'`. Contracts see its bytes.
+#[derive(Debug, Drop)]
+pub struct Name {
+    bytes: Vec<u8>,
+}
+
+impl Model for Name {
+    ghost use Rattle.std.specs.Prelude.{ℕ, List};
+    ghost use Rattle.mpslp_model.specs.Name.{IsMpsName};
+
+    ghost Value = { List ℕ };
+
+    ghost view = { λ n. n.bytes.items };
+
+    ghost invariant = { λ n. IsMpsName n.bytes.items };
+}
+
+/// Whether each byte is visible ASCII.
+fn has_visible_bytes(bytes: &[u8]) -> bool
+    ensures { result ≡ list_all is_visible bytes.now }
+{
+    bytes.iter().all(|byte| 33 <= *byte && *byte <= 126)
+}
+
+/// Whether the text is the one that no name may be.
+fn is_marker(bytes: &[u8]) -> bool
+    ensures { result ≡ same_bytes bytes.now marker }
+{
+    bytes == b"'MARKER'".as_slice()
+}
+
+impl Name {
+    /// The name of these bytes, or the first refusal that they meet.
+    pub fn new(alloc: Global, bytes: &[u8]) -> Result<Name, NameFault>
+        ensures refused { IfSome (name_refusal bytes.now) (λ fault. result ≡ Err fault) }
+        ensures taken { IfNone (name_refusal bytes.now) (MatchResult result (λ name. name ≡ bytes.now) (λ fault. fault ≡ NameFault.OutOfMemory)) }
+    {
+        if bytes.is_empty() || bytes.len() > MAX_NAME_LEN {
+            return Err(NameFault::NameLength);
+        }
+        if !has_visible_bytes(bytes) {
+            return Err(NameFault::NameByte);
+        }
+        if is_marker(bytes) {
+            return Err(NameFault::NameMarker);
+        }
+        match bytes.to_vec(alloc) {
+            Ok(bytes) => Ok(Name { bytes }),
+            Err(_) => Err(NameFault::OutOfMemory),
+        }
+    }
+
+    /// The bytes of the name.
+    pub fn as_bytes(&self) -> &[u8]
+        ensures { result.now ≡ self.now }
+    {
+        &self.bytes
+    }
+}
+
+#[cfg(test)]
+mod tests {
+    use super::*;
+    use std::test::Fail;
+
+    #[test]
+    fn takes_names(rt: HostRuntime) -> Result<(), Fail> {
+        let name = Name::new(rt.alloc(), b"LIM1".as_slice())?;
+        assert_eq!(rt; name.as_bytes(), b"LIM1".as_slice());
+        let longest = Name::new(rt.alloc(), [b'a'; 255].as_slice())?;
+        assert_eq!(rt; longest.as_bytes().len(), 255);
+        Ok(())
+    }
+
+    #[test]
+    fn refuses_what_is_no_name(rt: HostRuntime) {
+        let alloc = rt.alloc();
+        assert_eq!(rt;
+            Name::new(alloc, b"".as_slice()).err(),
+            Some(NameFault::NameLength)
+        );
+        assert_eq!(rt;
+            Name::new(alloc, [b'a'; 256].as_slice()).err(),
+            Some(NameFault::NameLength)
+        );
+        assert_eq!(rt;
+            Name::new(alloc, b"a b".as_slice()).err(),
+            Some(NameFault::NameByte)
+        );
+        assert_eq!(rt;
+            Name::new(alloc, b"'MARKER'".as_slice()).err(),
+            Some(NameFault::NameMarker)
+        );
+    }
+}

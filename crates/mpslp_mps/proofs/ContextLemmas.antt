@@ -1,0 +1,90 @@
+-- One line more changes the context as `next_context` says.
+use Rattle.std.proofs.Common.{◌≡◌, refl, ap, ◌∙◌, ℕ, List, [], ◌∷◌, ◌++◌, Bool, true, false, cond}
+use Rattle.std.specs.Prelude.{Option, Some, None, filter, filter_map}
+use Rattle.std.specs.List.{last_or, cons_option}
+use Rattle.std.specs.Option.{option_map_or, option_or}
+use Rattle.std.proofs.lemmas.List.{append-nil}
+use Rattle.std.proofs.lemmas.List.Elements.{filter_map-append, filter-append}
+use Rattle.mpslp_model.specs.Name.{same_bytes}
+use Rattle.mpslp_model.specs.Meaning.{head_of}
+use Rattle.mpslp_mps.specs.Line.{Fields, Item, skipped, header, data_line}
+use Rattle.mpslp_mps.specs.Section.{is_section}
+use Rattle.mpslp_mps.specs.DataLine.{opening_word}
+use Rattle.mpslp_mps.specs.Context.{seen_in, is_read, is_bare_objsense, wants_sense, marker_word, line_column, vector_set, bound_set, first_set, current_section, fields_under, data_lines, context_of}
+use Rattle.mpslp_mps.specs.NextContext.{next_seen, changed_under, next_part, next_set, next_context}
+use Rattle.mpslp_mps.specs.declared.sections.Section.{Section}
+use Rattle.mpslp_mps.specs.declared.sections.Section.TheVariants.{Name, ObjSense, Rows, Columns, Rhs, Ranges, Bounds}
+use Rattle.mpslp_mps.proofs.SectionLemmas.{last_or-append, current_section-push, has_section-push, data_lines-push}
+
+seen-push : (before : List Item) (item : Item) → seen_in (before ++ item ∷ []) ≡ next_seen (seen_in before) item
+seen-push before item = λ i. record {
+  name = has_section-push Name before item i;
+  objsense = has_section-push ObjSense before item i;
+  rows = has_section-push Rows before item i;
+  columns = has_section-push Columns before item i;
+  rhs = has_section-push Rhs before item i;
+  ranges = has_section-push Ranges before item i;
+  bounds = has_section-push Bounds before item i;
+}
+
+pub wants_sense-push : (before : List Item) (item : Item) → wants_sense (before ++ item ∷ []) ≡ cond (is_read item) (is_bare_objsense item) (wants_sense before)
+wants_sense-push before item =
+    ap (λ (o : Option Item). option_map_or is_bare_objsense o false)
+    (ap (last_or None) (filter-append is_read before (item ∷ [])) ∙ last_or-append None (filter is_read before) (filter is_read (item ∷ [])))
+    ∙ by (is_read item) (last_or None (filter is_read before))
+  where
+    by : (b : Bool) (o : Option Item) → option_map_or is_bare_objsense (last_or o (cond b (item ∷ []) [])) false ≡ cond b (is_bare_objsense item) (option_map_or is_bare_objsense o false)
+    by true o = refl
+    by false o = refl
+
+-- a reading of the lines of one section
+under-push : {X : Type 0} (section : Section) (reading : List Fields → X) (change : Fields → X → X) → ((lines : List Fields) (fields : Fields) → reading (lines ++ fields ∷ []) ≡ change fields (reading lines))
+    → (before : List Item) (item : Item) → reading (data_lines section (before ++ item ∷ [])) ≡ changed_under section (current_section before) change item (reading (data_lines section before))
+under-push {X} section reading change h before item = ap reading (data_lines-push section before item) ∙ by item
+  where
+    lines : List Fields
+    lines = data_lines section before
+
+    of : (fields : Fields) (b : Bool) → reading (lines ++ cond b (fields ∷ []) []) ≡ cond b (change fields (reading lines)) (reading lines)
+    of fields true = h lines fields
+    of fields false = ap reading (append-nil lines)
+
+    by : (x : Item) → reading (lines ++ fields_under section (current_section before) x) ≡ changed_under section (current_section before) change x (reading lines)
+    by skipped = ap reading (append-nil lines)
+    by (header keyword more) = ap reading (append-nil lines)
+    by (data_line fields) = of fields (is_section section (current_section before))
+
+part_reading : (lines : List Fields) (fields : Fields)
+    → option_map_or (same_bytes opening_word) (last_or None (filter_map marker_word (lines ++ fields ∷ []))) false
+    ≡ next_part fields (option_map_or (same_bytes opening_word) (last_or None (filter_map marker_word lines)) false)
+part_reading lines fields =
+    ap (λ (o : Option (List ℕ)). option_map_or (same_bytes opening_word) o false)
+    (ap (last_or None) (filter_map-append marker_word lines (fields ∷ [])) ∙ last_or-append None (filter_map marker_word lines) (cons_option (marker_word fields) []))
+    ∙ by (marker_word fields) (last_or None (filter_map marker_word lines))
+  where
+    by : (o c : Option (List ℕ)) → option_map_or (same_bytes opening_word) (last_or c (cons_option o [])) false ≡ option_map_or (same_bytes opening_word) o (option_map_or (same_bytes opening_word) c false)
+    by None c = refl
+    by (Some w) c = refl
+
+column_reading : (lines : List Fields) (fields : Fields) → option_map_or line_column (last_or None (lines ++ fields ∷ [])) None ≡ line_column fields
+column_reading lines fields = ap (λ (o : Option Fields). option_map_or line_column o None) (last_or-append None lines (fields ∷ []))
+
+set_reading : (set_of : Fields → Option (List ℕ)) (lines : List Fields) (fields : Fields) → first_set set_of (lines ++ fields ∷ []) ≡ next_set set_of fields (first_set set_of lines)
+set_reading set_of lines fields = ap head_of (filter_map-append set_of lines (fields ∷ [])) ∙ by (filter_map set_of lines) (set_of fields)
+  where
+    by : (xs : List (List ℕ)) (o : Option (List ℕ)) → head_of (xs ++ cons_option o []) ≡ option_or (head_of xs) o
+    by [] None = refl
+    by [] (Some x) = refl
+    by (x ∷ xs) o = refl
+
+pub context-push : (before : List Item) (item : Item) → context_of (before ++ item ∷ []) ≡ next_context (context_of before) item
+context-push before item = λ i. record {
+  section = current_section-push before item i;
+  seen = seen-push before item i;
+  wants_sense = wants_sense-push before item i;
+  in_integer_part = under-push Columns (λ lines. option_map_or (same_bytes opening_word) (last_or None (filter_map marker_word lines)) false) next_part part_reading before item i;
+  last_column = under-push Columns (λ lines. option_map_or line_column (last_or None lines) None) (λ fields _. line_column fields) column_reading before item i;
+  rhs_set = under-push Rhs (first_set vector_set) (next_set vector_set) (set_reading vector_set) before item i;
+  ranges_set = under-push Ranges (first_set vector_set) (next_set vector_set) (set_reading vector_set) before item i;
+  bounds_set = under-push Bounds (first_set bound_set) (next_set bound_set) (set_reading bound_set) before item i;
+}

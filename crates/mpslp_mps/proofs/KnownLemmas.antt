@@ -1,0 +1,370 @@
+-- In lines of a good form each row and column is declared before it is named.
+use Rattle.std.proofs.Common.{◌≡◌, refl, sym, subst, ◌∙◌, List, [], ◌∷◌, ◌++◌, ℕ, Bool, true, false, cond}
+use Rattle.std.specs.Prelude.{Option, Some, None, is_none, ◌&&◌, not, codes}
+use Rattle.std.specs.List.{list_all, flat_map}
+use Rattle.std.specs.Cmp.{first_so, second_so}
+use Rattle.std.proofs.lemmas.List.Folds.{list_all-append}
+use Rattle.mpslp_model.specs.Declaration.{by_type, Declaration, declare_sense, declare_objective, declare_row, declare_right_side, declare_range, declare_column, declare_coefficient, declare_marked, Declarations, Draft, adding, adding_all, has_row, has_column, is_free_row, right_side_declared}
+use Rattle.mpslp_model.specs.Consistency.{is_known}
+use Rattle.mpslp_model.specs.Name.{same_bytes}
+use Rattle.mpslp_model.specs.Refusal.{those_of, is_nonempty, when}
+use Rattle.mpslp_model.specs.declared.kinds.Sense.{Sense}
+use Rattle.mpslp_model.specs.declared.kinds.Limit.{Limit}
+use Rattle.mpslp_model.specs.declared.kinds.RowType.{RowType}
+use Rattle.mpslp_model.specs.declared.kinds.RowType.TheVariants.{Free, AtMost, AtLeast, Equal}
+use Rattle.mpslp_model.proofs.BoolLemmas.{both_so, or_left}
+use Rattle.mpslp_model.proofs.RefusalLemmas.{are_known_in_turn}
+use Rattle.mpslp_model.proofs.LaterDrafts.{itself_named}
+use Rattle.mpslp_model.proofs.SlotLemmas.{has-put}
+use Rattle.mpslp_mps.specs.Line.{Fields, Item, skipped, header, data_line}
+use Rattle.mpslp_mps.specs.Section.{section_named, begins, is_section}
+use Rattle.mpslp_mps.specs.DataLine.{RowLine, Pair, ColumnLine, VectorLine, sense_line, sense_of, row_line, row_type, column_line, is_marker_line, vector_line}
+use Rattle.mpslp_mps.specs.BoundLine.{BoundLine, bound_type, bound_line}
+use Rattle.mpslp_mps.specs.Context.{Context, context_of, current_section, has_section}
+use Rattle.mpslp_mps.specs.LineMeaning.{declared_of, value_of, sense_declared, row_of_type, row_declared, coefficient_declared, column_declared, columns_line_declared, right_sides_declared, ranges_declared, bound_declared, bound_value, bound_line_declared, data_declared, header_declared, declared}
+use Rattle.mpslp_mps.specs.HeaderFault.{header_tests}
+use Rattle.mpslp_mps.specs.LineFault.{form_faults}
+use Rattle.mpslp_mps.specs.declared.sections.Section.{Section}
+use Rattle.mpslp_mps.specs.declared.sections.Section.TheVariants.{Name, ObjSense, Rows, Columns, Rhs, Ranges, Bounds, EndData}
+use Rattle.mpslp_mps.specs.declared.bound_types.BoundType.{BoundType}
+use Rattle.mpslp_mps.specs.declared.bound_types.BoundType.TheVariants as bounds
+use Rattle.mpslp_model.proofs.MadeDrafts.{adding_all-append}
+use Rattle.mpslp_mps.proofs.SectionLemmas.{has_section-push}
+use Rattle.mpslp_mps.proofs.PlacedLemmas.{declared_items, have_good_form, no_faults}
+use Rattle.mpslp_mps.proofs.OrderLemmas.{header-fresh, Past, past-rows, past-columns, never, IsGood, is_late, Ordered, ordered-push, declares_row, declares_column, no_rows, no_columns, rows-kept, columns-kept, each-declared, sense-passes, sides-passes, ranges-passes, bounds-passes, columns-line-no-rows, passes-no_rows, passes-no_columns}
+
+-- ---- once ROWS is past no rows are declared, once COLUMNS is past no columns
+
+no-rows-header : (context : Context) (earlier : Draft) (keyword : List ℕ) (more : Fields) (o : Option Section) → those_of (header_tests context keyword more o) ≡ [] → context.seen.columns ≡ true
+    → no_rows (header_declared earlier more o) ≡ true
+no-rows-header context earlier keyword more None h c = refl
+no-rows-header context earlier keyword more (Some Name) h c = refl
+no-rows-header context earlier keyword more (Some ObjSense) h c = sense-passes (λ d. not (declares_row d)) (λ _. refl) more
+no-rows-header context earlier keyword more (Some Rows) h c = refl
+no-rows-header context earlier keyword more (Some Columns) h c = absurd (never context.seen.columns c (header-fresh context keyword more Columns h))
+no-rows-header context earlier keyword more (Some Rhs) h c = refl
+no-rows-header context earlier keyword more (Some Ranges) h c = refl
+no-rows-header context earlier keyword more (Some Bounds) h c = refl
+no-rows-header context earlier keyword more (Some EndData) h c = refl
+
+no-rows-data : (context : Context) (earlier : Draft) (fields : Fields) (o : Option Section) → is_section Rows o ≡ false → no_rows (data_declared context earlier fields o) ≡ true
+no-rows-data context earlier fields None h = refl
+no-rows-data context earlier fields (Some Name) h = refl
+no-rows-data context earlier fields (Some ObjSense) h = sense-passes (λ d. not (declares_row d)) (λ _. refl) fields
+no-rows-data context earlier fields (Some Rows) h = cc
+no-rows-data context earlier fields (Some Columns) h = columns-line-no-rows context fields
+no-rows-data context earlier fields (Some Rhs) h = sides-passes (λ d. not (declares_row d)) passes-no_rows earlier fields
+no-rows-data context earlier fields (Some Ranges) h = ranges-passes (λ d. not (declares_row d)) passes-no_rows fields
+no-rows-data context earlier fields (Some Bounds) h = bounds-passes (λ d. not (declares_row d)) passes-no_rows fields
+no-rows-data context earlier fields (Some EndData) h = refl
+
+no-rows-line : (before : List Item) (earlier : Draft) (item : Item) → IsGood before earlier item → Past Rows before → has_section before Columns ≡ true
+    → no_rows (declared (context_of before) earlier item) ≡ true
+no-rows-line before earlier skipped h past columns = refl
+no-rows-line before earlier (header keyword more) h past columns = no-rows-header (context_of before) earlier keyword more (section_named keyword) h columns
+no-rows-line before earlier (data_line fields) h past columns = no-rows-data (context_of before) earlier fields (current_section before) past.left
+
+no-columns-header : (earlier : Draft) (more : Fields) (o : Option Section) → no_columns (header_declared earlier more o) ≡ true
+no-columns-header earlier more None = refl
+no-columns-header earlier more (Some Name) = refl
+no-columns-header earlier more (Some ObjSense) = sense-passes (λ d. not (declares_column d)) (λ _. refl) more
+no-columns-header earlier more (Some Rows) = refl
+no-columns-header earlier more (Some Columns) = elim (is_none earlier.objective) as (λ b. no_columns (cond b (declare_objective (codes "obj") ∷ []) []) ≡ true) [ true ↦ refl | false ↦ refl ]
+no-columns-header earlier more (Some Rhs) = refl
+no-columns-header earlier more (Some Ranges) = refl
+no-columns-header earlier more (Some Bounds) = refl
+no-columns-header earlier more (Some EndData) = refl
+
+row-no-columns : (earlier : Draft) (name : List ℕ) (type : RowType) → no_columns (row_of_type earlier name type) ≡ true
+row-no-columns earlier name Free = elim (is_none earlier.objective) as (λ b. no_columns (cond b (declare_objective name ∷ []) (declare_row name (by_type Free) ∷ [])) ≡ true) [ true ↦ refl | false ↦ refl ]
+row-no-columns earlier name AtMost = refl
+row-no-columns earlier name AtLeast = refl
+row-no-columns earlier name Equal = refl
+
+no-columns-data : (context : Context) (earlier : Draft) (fields : Fields) (o : Option Section) → is_section Columns o ≡ false → no_columns (data_declared context earlier fields o) ≡ true
+no-columns-data context earlier fields None h = refl
+no-columns-data context earlier fields (Some Name) h = refl
+no-columns-data context earlier fields (Some ObjSense) h = sense-passes (λ d. not (declares_column d)) (λ _. refl) fields
+no-columns-data context earlier fields (Some Rows) h =
+    each-declared (λ d. not (declares_column d)) (row_declared earlier) (row_line fields)
+    (λ line. each-declared (λ d. not (declares_column d)) (row_of_type earlier line.name) (row_type line.letter) (λ type. row-no-columns earlier line.name type))
+no-columns-data context earlier fields (Some Columns) h = cc
+no-columns-data context earlier fields (Some Rhs) h = sides-passes (λ d. not (declares_column d)) passes-no_columns earlier fields
+no-columns-data context earlier fields (Some Ranges) h = ranges-passes (λ d. not (declares_column d)) passes-no_columns fields
+no-columns-data context earlier fields (Some Bounds) h = bounds-passes (λ d. not (declares_column d)) passes-no_columns fields
+no-columns-data context earlier fields (Some EndData) h = refl
+
+no-columns-line : (before : List Item) (earlier : Draft) (item : Item) → Past Columns before → no_columns (declared (context_of before) earlier item) ≡ true
+no-columns-line before earlier skipped past = refl
+no-columns-line before earlier (header keyword more) past = no-columns-header earlier more (section_named keyword)
+no-columns-line before earlier (data_line fields) past = no-columns-data (context_of before) earlier fields (current_section before) past.left
+
+-- the first of lines of a good form, and the rest
+pub good-first : (before : List Item) (earlier : Draft) (item : Item) (items : List Item) → have_good_form before earlier (item ∷ items) ≡ true → IsGood before earlier item
+good-first before earlier item items h =
+    no_faults (form_faults (context_of before) earlier item)
+    (first_so (not (is_nonempty (form_faults (context_of before) earlier item))) (have_good_form (before ++ item ∷ []) (adding_all earlier (declared (context_of before) earlier item)) items) h)
+
+pub good-rest : (before : List Item) (earlier : Draft) (item : Item) (items : List Item) → have_good_form before earlier (item ∷ items) ≡ true
+    → have_good_form (before ++ item ∷ []) (adding_all earlier (declared (context_of before) earlier item)) items ≡ true
+good-rest before earlier item items h =
+    second_so (not (is_nonempty (form_faults (context_of before) earlier item))) (have_good_form (before ++ item ∷ []) (adding_all earlier (declared (context_of before) earlier item)) items) h
+
+no-rows-later : (items before : List Item) (earlier : Draft) → have_good_form before earlier items ≡ true → Past Rows before → has_section before Columns ≡ true
+    → no_rows (declared_items before earlier items) ≡ true
+no-rows-later [] before earlier h past columns = refl
+no-rows-later (item ∷ items) before earlier h past columns =
+    let here = declared (context_of before) earlier item in
+    let good = good-first before earlier item items h in
+    list_all-append (λ d. not (declares_row d)) here (declared_items (before ++ item ∷ []) (adding_all earlier here) items)
+    ∙ both_so (no_rows here) (no_rows (declared_items (before ++ item ∷ []) (adding_all earlier here) items))
+    (no-rows-line before earlier item good past columns)
+    (no-rows-later items (before ++ item ∷ []) (adding_all earlier here) (good-rest before earlier item items h) (past-rows before earlier item good past)
+    (has_section-push Columns before item ∙ or_left (has_section before Columns) (begins Columns item) columns))
+
+no-columns-later : (items before : List Item) (earlier : Draft) → have_good_form before earlier items ≡ true → Past Columns before
+    → no_columns (declared_items before earlier items) ≡ true
+no-columns-later [] before earlier h past = refl
+no-columns-later (item ∷ items) before earlier h past =
+    let here = declared (context_of before) earlier item in
+    let good = good-first before earlier item items h in
+    list_all-append (λ d. not (declares_column d)) here (declared_items (before ++ item ∷ []) (adding_all earlier here) items)
+    ∙ both_so (no_columns here) (no_columns (declared_items (before ++ item ∷ []) (adding_all earlier here) items))
+    (no-columns-line before earlier item past)
+    (no-columns-later items (before ++ item ∷ []) (adding_all earlier here) (good-rest before earlier item items h) (past-columns before earlier item good past))
+
+-- ---- what a line names, of a later draft's rows and columns, is there before
+
+-- the rows and the columns of the later draft that are there before
+abbrev HasRowsOf : Draft → Draft → Type 0
+HasRowsOf final before = (r : List ℕ) → has_row final r ≡ true → has_row before r ≡ true
+
+abbrev HasColumnsOf : Draft → Draft → Type 0
+HasColumnsOf final before = (c : List ℕ) → has_column final c ≡ true → has_column before c ≡ true
+
+abbrev AreKnown : Draft → Declarations → Type 0
+AreKnown final ds = list_all (is_known final) ds ≡ true
+
+cells-known : (final before : Draft) (column : List ℕ) (pairs : List Pair) → HasRowsOf final before → has_column before column ≡ true
+    → AreKnown final (flat_map (coefficient_declared column) pairs) → are_known_in_turn before (flat_map (coefficient_declared column) pairs) ≡ true
+cells-known final before column [] rows c h = refl
+cells-known final before column (pair ∷ pairs) rows c h =
+    let d : Declaration = declare_coefficient (record { row = pair.row; column = column }) (value_of pair.literal) in
+    let row = first_so (has_row final pair.row) (has_column final column) (first_so (is_known final d) (list_all (is_known final) (flat_map (coefficient_declared column) pairs)) h) in
+    both_so (is_known before d) (are_known_in_turn (adding before d) (flat_map (coefficient_declared column) pairs))
+    (both_so (has_row before pair.row) (has_column before column) (rows pair.row row) c)
+    (cells-known final (adding before d) column pairs rows c (second_so (is_known final d) (list_all (is_known final) (flat_map (coefficient_declared column) pairs)) h))
+
+column-there : (before : Draft) (column : List ℕ) → has_column (adding before (declare_column column)) column ≡ true
+column-there before column = has-put column column tt before.columns ∙ or_left (same_bytes column column) _ (itself_named column)
+
+column-line-known : (final before : Draft) (marked : Bool) (line : ColumnLine) → HasRowsOf final before
+    → AreKnown final (declare_column line.column ∷ (when marked (declare_marked line.column) ++ flat_map (coefficient_declared line.column) line.pairs))
+    → are_known_in_turn before (declare_column line.column ∷ (when marked (declare_marked line.column) ++ flat_map (coefficient_declared line.column) line.pairs)) ≡ true
+column-line-known final before true line rows h =
+    let next = adding before (declare_column line.column) in
+    let c = column-there before line.column in
+    both_so (has_column next line.column) (are_known_in_turn (adding next (declare_marked line.column)) (flat_map (coefficient_declared line.column) line.pairs)) c
+    (cells-known final (adding next (declare_marked line.column)) line.column line.pairs rows c
+    (second_so (has_column final line.column) (list_all (is_known final) (flat_map (coefficient_declared line.column) line.pairs)) h))
+column-line-known final before false line rows h = cells-known final (adding before (declare_column line.column)) line.column line.pairs rows (column-there before line.column) h
+
+columns-known : (context : Context) (final before : Draft) (fields : Fields) → HasRowsOf final before
+    → AreKnown final (columns_line_declared context fields) → are_known_in_turn before (columns_line_declared context fields) ≡ true
+columns-known context final before fields rows h = by (is_marker_line fields) h
+  where
+    of : (o : Option ColumnLine) → AreKnown final (declared_of (column_declared context) o) → are_known_in_turn before (declared_of (column_declared context) o) ≡ true
+    of None k = refl
+    of (Some line) k = column-line-known final before context.in_integer_part line rows k
+
+    by : (b : Bool) → AreKnown final (cond b [] (declared_of (column_declared context) (column_line fields))) → are_known_in_turn before (cond b [] (declared_of (column_declared context) (column_line fields))) ≡ true
+    by true k = refl
+    by false k = of (column_line fields) k
+
+sides-known : (earlier final before : Draft) (pairs : List Pair) → HasRowsOf final before
+    → AreKnown final (flat_map (λ (pair : Pair). right_side_declared earlier pair.row (value_of pair.literal)) pairs)
+    → are_known_in_turn before (flat_map (λ (pair : Pair). right_side_declared earlier pair.row (value_of pair.literal)) pairs) ≡ true
+sides-known earlier final before [] rows h = refl
+sides-known earlier final before (pair ∷ pairs) rows h =
+    let v = value_of pair.literal in
+    let more = flat_map (λ (pair : Pair). right_side_declared earlier pair.row (value_of pair.literal)) pairs in
+    elim (is_free_row earlier pair.row) as (λ b. AreKnown final (cond b [] (declare_right_side pair.row v ∷ []) ++ more) → are_known_in_turn before (cond b [] (declare_right_side pair.row v ∷ []) ++ more) ≡ true) [
+      | true ↦ λ k. sides-known earlier final before pairs rows k
+      | false ↦ λ k. both_so (has_row before pair.row) (are_known_in_turn (adding before (declare_right_side pair.row v)) more)
+          (rows pair.row (first_so (has_row final pair.row) (list_all (is_known final) more) k))
+          (sides-known earlier final (adding before (declare_right_side pair.row v)) pairs rows (second_so (has_row final pair.row) (list_all (is_known final) more) k))
+    ] h
+
+ranges-known : (final before : Draft) (pairs : List Pair) → HasRowsOf final before → AreKnown final (ranges_declared (record { set = []; pairs = pairs }))
+    → are_known_in_turn before (ranges_declared (record { set = []; pairs = pairs })) ≡ true
+ranges-known final before [] rows h = refl
+ranges-known final before (pair ∷ pairs) rows h =
+    let more = ranges_declared (record { set = []; pairs = pairs }) in
+    let d : Declaration = declare_range pair.row (value_of pair.literal) in
+    both_so (has_row before pair.row) (are_known_in_turn (adding before d) more)
+    (rows pair.row (first_so (has_row final pair.row) (list_all (is_known final) more) h))
+    (ranges-known final (adding before d) pairs rows (second_so (has_row final pair.row) (list_all (is_known final) more) h))
+
+bound-known : (final before : Draft) (type : BoundType) (c : List ℕ) (v : Limit) → HasColumnsOf final before
+    → AreKnown final (bound_declared type c v) → are_known_in_turn before (bound_declared type c v) ≡ true
+bound-known final before bounds.Lower c v columns h = let k = columns c (first_so (has_column final c) true h) in rw k refl
+bound-known final before bounds.Upper c v columns h = let k = columns c (first_so (has_column final c) true h) in rw k refl
+bound-known final before bounds.Fixed c v columns h = let k = columns c (first_so (has_column final c) (has_column final c && true) h) in rw k refl
+bound-known final before bounds.Free c v columns h = let k = columns c (first_so (has_column final c) (has_column final c && true) h) in rw k refl
+bound-known final before bounds.NoLower c v columns h = let k = columns c (first_so (has_column final c) true h) in rw k refl
+bound-known final before bounds.NoUpper c v columns h = let k = columns c (first_so (has_column final c) true h) in rw k refl
+bound-known final before bounds.Binary c v columns h = let k = columns c (first_so (has_column final c) (has_column final c && (has_column final c && true)) h) in rw k refl
+bound-known final before bounds.IntegerLower c v columns h = let k = columns c (first_so (has_column final c) (has_column final c && true) h) in rw k refl
+bound-known final before bounds.IntegerUpper c v columns h = let k = columns c (first_so (has_column final c) (has_column final c && true) h) in rw k refl
+
+bounds-known : (final before : Draft) (fields : Fields) → HasColumnsOf final before → AreKnown final (bound_line_declared fields) → are_known_in_turn before (bound_line_declared fields) ≡ true
+bounds-known final before [] columns h = refl
+bounds-known final before (letters ∷ more) columns h = typed (bound_type letters) h
+  where
+    lined : (type : BoundType) (o : Option BoundLine) → AreKnown final (declared_of (λ (line : BoundLine). bound_declared type line.column (bound_value line)) o)
+        → are_known_in_turn before (declared_of (λ (line : BoundLine). bound_declared type line.column (bound_value line)) o) ≡ true
+    lined type None k = refl
+    lined type (Some line) k = bound-known final before type line.column (bound_value line) columns k
+
+    typed : (o : Option BoundType) → AreKnown final (declared_of (λ type. declared_of (λ (line : BoundLine). bound_declared type line.column (bound_value line)) (bound_line type more)) o)
+        → are_known_in_turn before (declared_of (λ type. declared_of (λ (line : BoundLine). bound_declared type line.column (bound_value line)) (bound_line type more)) o) ≡ true
+    typed None k = refl
+    typed (Some type) k = lined type (bound_line type more) k
+
+-- a section whose lines name rows
+abbrev is_rowed : Option Section → Bool
+is_rowed (Some Columns) = true
+is_rowed (Some Rhs) = true
+is_rowed (Some Ranges) = true
+is_rowed _ = false
+
+-- a sense, an objective and a row name nothing that is to be there
+sense-known : (before : Draft) (fields : Fields) → are_known_in_turn before (declared_of sense_declared (sense_line fields)) ≡ true
+sense-known before fields = worded (sense_line fields)
+  where
+    told : (o : Option Sense) → are_known_in_turn before (declared_of (λ sense. declare_sense sense ∷ []) o) ≡ true
+    told None = refl
+    told (Some sense) = refl
+
+    worded : (o : Option (List ℕ)) → are_known_in_turn before (declared_of sense_declared o) ≡ true
+    worded None = refl
+    worded (Some word) = told (sense_of word)
+
+rows-known : (earlier before : Draft) (fields : Fields) → are_known_in_turn before (declared_of (row_declared earlier) (row_line fields)) ≡ true
+rows-known earlier before fields = lined (row_line fields)
+  where
+    typed : (name : List ℕ) (o : Option RowType) → are_known_in_turn before (declared_of (row_of_type earlier name) o) ≡ true
+    typed name None = refl
+    typed name (Some Free) = elim (is_none earlier.objective) as (λ b. are_known_in_turn before (cond b (declare_objective name ∷ []) (declare_row name (by_type Free) ∷ [])) ≡ true) [ true ↦ refl | false ↦ refl ]
+    typed name (Some AtMost) = refl
+    typed name (Some AtLeast) = refl
+    typed name (Some Equal) = refl
+
+    lined : (o : Option RowLine) → are_known_in_turn before (declared_of (row_declared earlier) o) ≡ true
+    lined None = refl
+    lined (Some line) = typed line.name (row_type line.letter)
+
+header-known : (earlier : Draft) (more : Fields) (o : Option Section) → are_known_in_turn earlier (header_declared earlier more o) ≡ true
+header-known earlier more None = refl
+header-known earlier more (Some Name) = refl
+header-known earlier more (Some ObjSense) = sense-known earlier more
+header-known earlier more (Some Rows) = refl
+header-known earlier more (Some Columns) = elim (is_none earlier.objective) as (λ b. are_known_in_turn earlier (cond b (declare_objective (codes "obj") ∷ []) []) ≡ true) [ true ↦ refl | false ↦ refl ]
+header-known earlier more (Some Rhs) = refl
+header-known earlier more (Some Ranges) = refl
+header-known earlier more (Some Bounds) = refl
+header-known earlier more (Some EndData) = refl
+
+data-known : (context : Context) (final earlier : Draft) (fields : Fields) (o : Option Section) → (is_rowed o ≡ true → HasRowsOf final earlier) → (is_section Bounds o ≡ true → HasColumnsOf final earlier)
+    → AreKnown final (data_declared context earlier fields o) → are_known_in_turn earlier (data_declared context earlier fields o) ≡ true
+data-known context final earlier fields None rows columns h = refl
+data-known context final earlier fields (Some Name) rows columns h = refl
+data-known context final earlier fields (Some ObjSense) rows columns h = sense-known earlier fields
+data-known context final earlier fields (Some Rows) rows columns h = rows-known earlier earlier fields
+data-known context final earlier fields (Some Columns) rows columns h = columns-known context final earlier fields (rows refl) h
+data-known context final earlier fields (Some Rhs) rows columns h = of (vector_line fields) h
+  where
+    of : (o : Option VectorLine) → AreKnown final (declared_of (right_sides_declared earlier) o) → are_known_in_turn earlier (declared_of (right_sides_declared earlier) o) ≡ true
+    of None k = refl
+    of (Some line) k = sides-known earlier final earlier line.pairs (rows refl) k
+data-known context final earlier fields (Some Ranges) rows columns h = of (vector_line fields) h
+  where
+    of : (o : Option VectorLine) → AreKnown final (declared_of ranges_declared o) → are_known_in_turn earlier (declared_of ranges_declared o) ≡ true
+    of None k = refl
+    of (Some line) k = ranges-known final earlier line.pairs (rows refl) k
+data-known context final earlier fields (Some Bounds) rows columns h = bounds-known final earlier fields (columns refl) h
+data-known context final earlier fields (Some EndData) rows columns h = refl
+
+-- ---- all lines in turn
+
+known-append : (before : Draft) (xs ys : Declarations) → are_known_in_turn before xs ≡ true → are_known_in_turn (adding_all before xs) ys ≡ true → are_known_in_turn before (xs ++ ys) ≡ true
+known-append before [] ys h k = k
+known-append before (d ∷ ds) ys h k =
+    both_so (is_known before d) (are_known_in_turn (adding before d) (ds ++ ys)) (first_so (is_known before d) (are_known_in_turn (adding before d) ds) h)
+    (known-append (adding before d) ds ys (second_so (is_known before d) (are_known_in_turn (adding before d) ds) h) k)
+
+-- what is declared from a line on leaves rows and columns as they are, once their sections are past
+same-rows : (before : List Item) (earlier : Draft) (items : List Item) → have_good_form before earlier items ≡ true → Past Rows before → has_section before Columns ≡ true
+    → HasRowsOf (adding_all earlier (declared_items before earlier items)) earlier
+same-rows before earlier items h past columns r known = sym (rows-kept (declared_items before earlier items) earlier r (no-rows-later items before earlier h past columns)) ∙ known
+
+same-columns : (before : List Item) (earlier : Draft) (items : List Item) → have_good_form before earlier items ≡ true → Past Columns before
+    → HasColumnsOf (adding_all earlier (declared_items before earlier items)) earlier
+same-columns before earlier items h past c known = sym (columns-kept (declared_items before earlier items) earlier c (no-columns-later items before earlier h past)) ∙ known
+
+rowed-late : (o : Option Section) → is_rowed o ≡ true → (is_late o ≡ true) × (is_section Rows o ≡ false)
+rowed-late None h = cc
+rowed-late (Some Name) h = cc
+rowed-late (Some ObjSense) h = cc
+rowed-late (Some Rows) h = cc
+rowed-late (Some Columns) h = (refl, refl)
+rowed-late (Some Rhs) h = (refl, refl)
+rowed-late (Some Ranges) h = (refl, refl)
+rowed-late (Some Bounds) h = cc
+rowed-late (Some EndData) h = cc
+
+bounds-late : (o : Option Section) → is_section Bounds o ≡ true → (is_late o ≡ true) × (is_section Columns o ≡ false)
+bounds-late None h = cc
+bounds-late (Some Name) h = cc
+bounds-late (Some ObjSense) h = cc
+bounds-late (Some Rows) h = cc
+bounds-late (Some Columns) h = cc
+bounds-late (Some Rhs) h = cc
+bounds-late (Some Ranges) h = cc
+bounds-late (Some Bounds) h = (refl, refl)
+bounds-late (Some EndData) h = cc
+
+line-known : (before : List Item) (earlier : Draft) (item : Item) (items : List Item) → have_good_form before earlier (item ∷ items) ≡ true → Ordered before
+    → AreKnown (adding_all earlier (declared_items before earlier (item ∷ items))) (declared (context_of before) earlier item)
+    → are_known_in_turn earlier (declared (context_of before) earlier item) ≡ true
+line-known before earlier skipped items h o known = refl
+line-known before earlier (header keyword more) items h o known = header-known earlier more (section_named keyword)
+line-known before earlier (data_line fields) items h o known =
+    data-known (context_of before) (adding_all earlier (declared_items before earlier (data_line fields ∷ items))) earlier fields (current_section before) rows columns known
+  where
+    rows : is_rowed (current_section before) ≡ true → HasRowsOf (adding_all earlier (declared_items before earlier (data_line fields ∷ items))) earlier
+    rows rowed =
+        let late = rowed-late (current_section before) rowed in
+        let begun = o.columns late.0 in
+        same-rows before earlier (data_line fields ∷ items) h (record { begun = o.rows begun; left = late.1 }) begun
+
+    columns : is_section Bounds (current_section before) ≡ true → HasColumnsOf (adding_all earlier (declared_items before earlier (data_line fields ∷ items))) earlier
+    columns bound =
+        let late = bounds-late (current_section before) bound in
+        same-columns before earlier (data_line fields ∷ items) h (record { begun = o.columns late.0; left = late.1 })
+
+-- Each row and column that the lines name, and that is declared somewhere, is declared before.
+pub known-lines : (items before : List Item) (earlier : Draft) → have_good_form before earlier items ≡ true → Ordered before
+    → AreKnown (adding_all earlier (declared_items before earlier items)) (declared_items before earlier items)
+    → are_known_in_turn earlier (declared_items before earlier items) ≡ true
+known-lines [] before earlier h o known = refl
+known-lines (item ∷ items) before earlier h o known =
+    let here = declared (context_of before) earlier item in
+    let more = declared_items (before ++ item ∷ []) (adding_all earlier here) items in
+    let final = adding_all earlier (here ++ more) in
+    let parts = sym (list_all-append (is_known final) here more) ∙ known in
+    let same : final ≡ adding_all (adding_all earlier here) more = adding_all-append here more earlier in
+    known-append earlier here more
+    (line-known before earlier item items h o (first_so (list_all (is_known final) here) (list_all (is_known final) more) parts))
+    (known-lines items (before ++ item ∷ []) (adding_all earlier here) (good-rest before earlier item items h) (ordered-push before earlier item (good-first before earlier item items h) o)
+    (subst (λ (all : Draft). AreKnown all more) same (second_so (list_all (is_known final) here) (list_all (is_known final) more) parts)))

@@ -1,0 +1,126 @@
+-- By ENDATA the objective is declared: by the first row of type N, or by the header of COLUMNS.
+use Rattle.std.proofs.Common.{◌≡◌, refl, sym, ap, ◌∙◌, List, [], ◌∷◌, ◌++◌, ℕ, Bool, true, false, cond, map}
+use Rattle.std.specs.Prelude.{Option, Some, None, is_some, is_none, ◌||◌, codes}
+use Rattle.std.specs.List.{list_any}
+use Rattle.mpslp_model.specs.Declaration.{Declaration, declare_sense, declare_objective, declare_constant, declare_row, declare_right_side, declare_range, declare_column, declare_coefficient, declare_lower, declare_upper, declare_marked, declare_integer, declare_binary, Declarations, Draft, adding, adding_all}
+use Rattle.mpslp_model.specs.Consistency.{has_objective}
+use Rattle.mpslp_model.specs.Refusal.{those_of}
+use Rattle.mpslp_model.proofs.BoolLemmas.{or_right}
+use Rattle.mpslp_model.proofs.MadeDrafts.{adding_all-append}
+use Rattle.mpslp_mps.specs.Line.{Fields, Item, skipped, header, data_line, item_of}
+use Rattle.mpslp_mps.specs.Section.{section_named, begins, is_section}
+use Rattle.mpslp_mps.specs.Context.{Context, context_of, has_section}
+use Rattle.mpslp_mps.specs.LineMeaning.{header_declared, declared}
+use Rattle.mpslp_mps.specs.HeaderFault.{header_tests}
+use Rattle.mpslp_mps.specs.MpsText.{is_end}
+use Rattle.mpslp_mps.specs.declared.sections.Section.{Section}
+use Rattle.mpslp_mps.specs.declared.sections.Section.TheVariants.{Name, ObjSense, Rows, Columns, Rhs, Ranges, Bounds, EndData}
+use Rattle.mpslp_mps.proofs.SectionLemmas.{has_section-push}
+use Rattle.mpslp_mps.proofs.PlacedLemmas.{declared_items, have_good_form}
+use Rattle.mpslp_mps.proofs.OrderLemmas.{header-begins, IsGood}
+use Rattle.mpslp_mps.proofs.KnownLemmas.{good-first, good-rest}
+
+stays-named : (all : Draft) (d : Declaration) → is_some all.objective ≡ true → is_some (adding all d).objective ≡ true
+stays-named all (declare_objective n) h = refl
+stays-named all (declare_sense s) h = h
+stays-named all (declare_constant v) h = h
+stays-named all (declare_row n f) h = h
+stays-named all (declare_right_side r v) h = h
+stays-named all (declare_range r v) h = h
+stays-named all (declare_column c) h = h
+stays-named all (declare_coefficient p v) h = h
+stays-named all (declare_lower c l) h = h
+stays-named all (declare_upper c l) h = h
+stays-named all (declare_marked c) h = h
+stays-named all (declare_integer c) h = h
+stays-named all (declare_binary c) h = h
+
+pub named-after : (ds : Declarations) (all : Draft) → is_some all.objective ≡ true → is_some (adding_all all ds).objective ≡ true
+named-after [] all h = h
+named-after (d ∷ ds) all h = named-after ds (adding all d) (stays-named all d h)
+
+-- an objective that is there was there, or is declared
+pub objective-declared : (ds : Declarations) (all : Draft) → is_some (adding_all all ds).objective ≡ true → (is_some all.objective || has_objective ds) ≡ true
+objective-declared [] all h = ap (λ (b : Bool). b || false) h
+objective-declared (d ∷ ds) all h = by d (objective-declared ds (adding all d) h)
+  where
+    by : (x : Declaration) → (is_some (adding all x).objective || has_objective ds) ≡ true → (is_some all.objective || has_objective (x ∷ ds)) ≡ true
+    by (declare_objective n) k = or_right (is_some all.objective) true refl
+    by (declare_sense s) k = k
+    by (declare_constant v) k = k
+    by (declare_row n f) k = k
+    by (declare_right_side r v) k = k
+    by (declare_range r v) k = k
+    by (declare_column c) k = k
+    by (declare_coefficient p v) k = k
+    by (declare_lower c l) k = k
+    by (declare_upper c l) k = k
+    by (declare_marked c) k = k
+    by (declare_integer c) k = k
+    by (declare_binary c) k = k
+
+-- once COLUMNS has begun the objective is there
+abbrev pub IsNamed : List Item → Draft → Type 0
+IsNamed before earlier = has_section before Columns ≡ true → is_some earlier.objective ≡ true
+
+columns-name : (earlier : Draft) (more : Fields) (o : Option Section) → is_section Columns o ≡ true → is_some (adding_all earlier (header_declared earlier more o)).objective ≡ true
+columns-name earlier more None h = cc
+columns-name earlier more (Some Name) h = cc
+columns-name earlier more (Some ObjSense) h = cc
+columns-name earlier more (Some Rows) h = cc
+columns-name earlier more (Some Columns) h =
+    elim (is_none earlier.objective) as (λ b. is_none earlier.objective ≡ b → is_some (adding_all earlier (cond b (declare_objective (codes "obj") ∷ []) [])).objective ≡ true) [
+      | true ↦ λ _. refl
+      | false ↦ λ e. there earlier.objective e
+    ] refl
+  where
+    there : (o : Option (List ℕ)) → is_none o ≡ false → is_some o ≡ true
+    there None e = cc
+    there (Some n) e = refl
+columns-name earlier more (Some Rhs) h = cc
+columns-name earlier more (Some Ranges) h = cc
+columns-name earlier more (Some Bounds) h = cc
+columns-name earlier more (Some EndData) h = cc
+
+named-push : (before : List Item) (earlier : Draft) (item : Item) → IsNamed before earlier → IsNamed (before ++ item ∷ []) (adding_all earlier (declared (context_of before) earlier item))
+named-push before earlier item named begun = by (has_section before Columns) refl (sym (has_section-push Columns before item) ∙ begun)
+  where
+    new : (x : Item) → begins Columns x ≡ true → is_some (adding_all earlier (declared (context_of before) earlier x)).objective ≡ true
+    new skipped h = cc
+    new (header keyword more) h = columns-name earlier more (section_named keyword) h
+    new (data_line fields) h = cc
+
+    by : (b : Bool) → has_section before Columns ≡ b → (b || begins Columns item) ≡ true → is_some (adding_all earlier (declared (context_of before) earlier item)).objective ≡ true
+    by true e k = named-after (declared (context_of before) earlier item) earlier (named e)
+    by false e k = new item k
+
+-- ENDATA stands after COLUMNS
+end-after : (context : Context) (keyword : List ℕ) (more : Fields) (o : Option Section) → those_of (header_tests context keyword more o) ≡ [] → is_section EndData o ≡ true → context.seen.columns ≡ true
+end-after context keyword more None h e = cc
+end-after context keyword more (Some Name) h e = cc
+end-after context keyword more (Some ObjSense) h e = cc
+end-after context keyword more (Some Rows) h e = cc
+end-after context keyword more (Some Columns) h e = cc
+end-after context keyword more (Some Rhs) h e = cc
+end-after context keyword more (Some Ranges) h e = cc
+end-after context keyword more (Some Bounds) h e = cc
+end-after context keyword more (Some EndData) h e = header-begins context keyword more EndData h
+
+-- lines of a good form, one of which is ENDATA
+pub named-lines : (lines : List (List ℕ)) (before : List Item) (earlier : Draft) → list_any is_end lines ≡ true → have_good_form before earlier (map item_of lines) ≡ true → IsNamed before earlier
+    → is_some (adding_all earlier (declared_items before earlier (map item_of lines))).objective ≡ true
+named-lines [] before earlier h g named = cc
+named-lines (line ∷ lines) before earlier h g named =
+    let item = item_of line in
+    let here = declared (context_of before) earlier item in
+    let more = declared_items (before ++ item ∷ []) (adding_all earlier here) (map item_of lines) in
+    elim (is_end line) as (λ b. is_end line ≡ b → (b || list_any is_end lines) ≡ true → is_some (adding_all earlier (here ++ more)).objective ≡ true) [
+      | true ↦ λ e _. named-after (here ++ more) earlier (named (at_end item e (good-first before earlier item (map item_of lines) g)))
+      | false ↦ λ _ k. ap (λ (all : Draft). is_some all.objective) (adding_all-append here more earlier)
+          ∙ named-lines lines (before ++ item ∷ []) (adding_all earlier here) k (good-rest before earlier item (map item_of lines) g) (named-push before earlier item named)
+    ] refl h
+  where
+    at_end : (x : Item) → begins EndData x ≡ true → IsGood before earlier x → has_section before Columns ≡ true
+    at_end skipped e good = cc
+    at_end (header keyword m) e good = end-after (context_of before) keyword m (section_named keyword) good e
+    at_end (data_line fields) e good = cc

@@ -1,0 +1,339 @@
+-- Where sections stand in lines of a good form, and so where rows and columns are declared.
+use Rattle.std.proofs.Common.{◌≡◌, refl, sym, ap, ◌∙◌, List, [], ◌∷◌, ◌++◌, ℕ, Bool, true, false, cond, map}
+use Rattle.std.specs.Prelude.{Option, Some, None, ◌||◌, not}
+use Rattle.std.specs.List.{list_all, flat_map}
+use Rattle.std.specs.Option.{option_or}
+use Rattle.std.specs.Cmp.{first_so, second_so}
+use Rattle.std.proofs.lemmas.List.Folds.{list_all-append}
+use Rattle.mpslp_model.specs.Declaration.{Declaration, declare_sense, declare_objective, declare_constant, declare_row, declare_right_side, declare_range, declare_column, declare_coefficient, declare_lower, declare_upper, declare_marked, declare_integer, declare_binary, Declarations, Draft, adding, adding_all, is_free_row, has_row, has_column, right_side_declared}
+use Rattle.mpslp_model.specs.Refusal.{those_of}
+use Rattle.mpslp_model.specs.declared.kinds.Sense.{Sense}
+use Rattle.mpslp_model.specs.declared.kinds.Limit.{Limit}
+use Rattle.mpslp_model.specs.declared.faults.FaultKind.{FaultKind}
+use Rattle.mpslp_model.specs.declared.faults.FaultKind.TheVariants as kinds
+use Rattle.mpslp_model.proofs.BoolLemmas.{both_so, or_left, or_right, nor}
+use Rattle.mpslp_mps.specs.Line.{Fields, Item, skipped, header, data_line}
+use Rattle.mpslp_mps.specs.Section.{section_named, section_begun, begins, is_section}
+use Rattle.mpslp_mps.specs.DataLine.{Pair, ColumnLine, sense_line, sense_of, column_line, is_marker_line, vector_line}
+use Rattle.mpslp_mps.specs.BoundLine.{BoundLine, bound_type, bound_line}
+use Rattle.mpslp_mps.specs.Context.{Context, context_of, current_section, has_section, has_seen}
+use Rattle.mpslp_mps.specs.LineMeaning.{declared_of, value_of, sense_declared, coefficient_declared, column_declared, columns_line_declared, right_sides_declared, ranges_declared, bound_declared, bound_value, bound_line_declared}
+use Rattle.mpslp_mps.specs.FieldFault.{Tests}
+use Rattle.mpslp_mps.specs.HeaderFault.{may_begin, is_out_of_order, may_follow, header_word_tests, header_tests}
+use Rattle.mpslp_mps.specs.LineFault.{form_faults}
+use Rattle.mpslp_mps.specs.declared.sections.Section.{Section}
+use Rattle.mpslp_mps.specs.declared.sections.Section.TheVariants.{Name, ObjSense, Rows, Columns, Rhs, Ranges, Bounds, EndData}
+use Rattle.mpslp_mps.specs.declared.bound_types.BoundType.{BoundType}
+use Rattle.mpslp_mps.specs.declared.bound_types.BoundType.TheVariants as bounds
+use Rattle.mpslp_mps.proofs.SectionLemmas.{current_section-push, has_section-push}
+
+-- ---- tests that do not hold
+
+pub first_test : (b : Bool) (kind : FaultKind) (more : Tests) → those_of ((b, kind) ∷ more) ≡ [] → b ≡ false
+first_test true kind more h = cc
+first_test false kind more h = refl
+
+pub later_tests : (b : Bool) (kind : FaultKind) (more : Tests) → those_of ((b, kind) ∷ more) ≡ [] → those_of more ≡ []
+later_tests true kind more h = cc
+later_tests false kind more h = h
+
+-- ---- headers of a good form
+
+abbrev tests_of_fields : Fields → Section → Tests
+tests_of_fields more section = (not (may_follow section more), kinds.FieldCount) ∷ header_word_tests section more
+
+abbrev tests_after_order : Context → Fields → Section → Tests
+tests_after_order context more section = (has_seen context.seen section, kinds.SectionRepeated) ∷ tests_of_fields more section
+
+pub header-ordered : (context : Context) (keyword : List ℕ) (more : Fields) (section : Section) → those_of (header_tests context keyword more (Some section)) ≡ []
+    → is_out_of_order context section ≡ false
+header-ordered context keyword more section h = first_test (is_out_of_order context section) kinds.SectionOrder (tests_after_order context more section) h
+
+pub header-fresh : (context : Context) (keyword : List ℕ) (more : Fields) (section : Section) → those_of (header_tests context keyword more (Some section)) ≡ []
+    → has_seen context.seen section ≡ false
+header-fresh context keyword more section h =
+    first_test (has_seen context.seen section) kinds.SectionRepeated (tests_of_fields more section)
+    (later_tests (is_out_of_order context section) kinds.SectionOrder (tests_after_order context more section) h)
+
+pub header-begins : (context : Context) (keyword : List ℕ) (more : Fields) (section : Section) → those_of (header_tests context keyword more (Some section)) ≡ []
+    → may_begin context section ≡ true
+header-begins context keyword more section h =
+    by (has_seen context.seen section) (may_begin context section) (header-fresh context keyword more section h)
+    (nor context.wants_sense (not (has_seen context.seen section || may_begin context section)) (header-ordered context keyword more section h)).1
+  where
+    by : (seen may : Bool) → seen ≡ false → not (seen || may) ≡ false → may ≡ true
+    by true may e f = cc
+    by false true e f = refl
+    by false false e f = cc
+
+-- ---- a section that is past
+
+-- it has begun, and another one goes on
+pub record Past (section : Section) (before : List Item) : Type 0 where
+  pub begun : has_section before section ≡ true
+  pub left : is_section section (current_section before) ≡ false
+
+rows-again : (context : Context) (keyword : List ℕ) (more : Fields) (o : Option Section) → those_of (header_tests context keyword more o) ≡ [] → is_section Rows o ≡ true → context.seen.rows ≡ false
+rows-again context keyword more None h e = cc
+rows-again context keyword more (Some Name) h e = cc
+rows-again context keyword more (Some ObjSense) h e = cc
+rows-again context keyword more (Some Rows) h e = header-fresh context keyword more Rows h
+rows-again context keyword more (Some Columns) h e = cc
+rows-again context keyword more (Some Rhs) h e = cc
+rows-again context keyword more (Some Ranges) h e = cc
+rows-again context keyword more (Some Bounds) h e = cc
+rows-again context keyword more (Some EndData) h e = cc
+
+columns-again : (context : Context) (keyword : List ℕ) (more : Fields) (o : Option Section) → those_of (header_tests context keyword more o) ≡ [] → is_section Columns o ≡ true → context.seen.columns ≡ false
+columns-again context keyword more None h e = cc
+columns-again context keyword more (Some Name) h e = cc
+columns-again context keyword more (Some ObjSense) h e = cc
+columns-again context keyword more (Some Rows) h e = cc
+columns-again context keyword more (Some Columns) h e = header-fresh context keyword more Columns h
+columns-again context keyword more (Some Rhs) h e = cc
+columns-again context keyword more (Some Ranges) h e = cc
+columns-again context keyword more (Some Bounds) h e = cc
+columns-again context keyword more (Some EndData) h e = cc
+
+stays-left : (section : Section) (o current : Option Section) → (is_section section o ≡ true → ⊥) → is_section section current ≡ false → is_section section (option_or o current) ≡ false
+stays-left section None current h e = e
+stays-left section (Some s) current h e = by (is_section section (Some s)) refl
+  where
+    by : (b : Bool) → is_section section (Some s) ≡ b → is_section section (Some s) ≡ false
+    by true k = absurd (h k)
+    by false k = k
+
+pub never : (b : Bool) → b ≡ true → b ≡ false → ⊥
+never true h k = cc
+never false h k = cc
+
+abbrev pub IsGood : List Item → Draft → Item → Type 0
+IsGood before earlier item = form_faults (context_of before) earlier item ≡ []
+
+pub past-rows : (before : List Item) (earlier : Draft) (item : Item) → IsGood before earlier item → Past Rows before → Past Rows (before ++ item ∷ [])
+past-rows before earlier item h past =
+    record {
+      begun = has_section-push Rows before item ∙ or_left (has_section before Rows) (begins Rows item) past.begun;
+      left = ap (is_section Rows) (current_section-push before item) ∙ stays-left Rows (section_begun item) (current_section before) (by item h) past.left;
+    }
+  where
+    by : (x : Item) → IsGood before earlier x → is_section Rows (section_begun x) ≡ true → ⊥
+    by skipped g e = cc
+    by (header keyword more) g e = never (has_section before Rows) past.begun (rows-again (context_of before) keyword more (section_named keyword) g e)
+    by (data_line fields) g e = cc
+
+pub past-columns : (before : List Item) (earlier : Draft) (item : Item) → IsGood before earlier item → Past Columns before → Past Columns (before ++ item ∷ [])
+past-columns before earlier item h past =
+    record {
+      begun = has_section-push Columns before item ∙ or_left (has_section before Columns) (begins Columns item) past.begun;
+      left = ap (is_section Columns) (current_section-push before item) ∙ stays-left Columns (section_begun item) (current_section before) (by item h) past.left;
+    }
+  where
+    by : (x : Item) → IsGood before earlier x → is_section Columns (section_begun x) ≡ true → ⊥
+    by skipped g e = cc
+    by (header keyword more) g e = never (has_section before Columns) past.begun (columns-again (context_of before) keyword more (section_named keyword) g e)
+    by (data_line fields) g e = cc
+
+-- ---- the order of sections
+
+-- a section that stands after ROWS
+abbrev pub is_late : Option Section → Bool
+is_late (Some Columns) = true
+is_late (Some Rhs) = true
+is_late (Some Ranges) = true
+is_late (Some Bounds) = true
+is_late _ = false
+
+pub record Ordered (before : List Item) : Type 0 where
+  pub rows : has_section before Columns ≡ true → has_section before Rows ≡ true
+  pub columns : is_late (current_section before) ≡ true → has_section before Columns ≡ true
+
+pub ordered-nil : Ordered []
+ordered-nil = record { rows = λ h. cc; columns = λ h. cc }
+
+-- COLUMNS begins after ROWS; what begins after COLUMNS
+columns-after : (context : Context) (keyword : List ℕ) (more : Fields) (o : Option Section) → those_of (header_tests context keyword more o) ≡ [] → is_section Columns o ≡ true → context.seen.rows ≡ true
+columns-after context keyword more None h e = cc
+columns-after context keyword more (Some Name) h e = cc
+columns-after context keyword more (Some ObjSense) h e = cc
+columns-after context keyword more (Some Rows) h e = cc
+columns-after context keyword more (Some Columns) h e = header-begins context keyword more Columns h
+columns-after context keyword more (Some Rhs) h e = cc
+columns-after context keyword more (Some Ranges) h e = cc
+columns-after context keyword more (Some Bounds) h e = cc
+columns-after context keyword more (Some EndData) h e = cc
+
+late-after : (context : Context) (keyword : List ℕ) (more : Fields) (o current : Option Section) → those_of (header_tests context keyword more o) ≡ []
+    → (is_late current ≡ true → context.seen.columns ≡ true) → is_late (option_or o current) ≡ true → (context.seen.columns || is_section Columns o) ≡ true
+late-after context keyword more None current h old e = or_left context.seen.columns false (old e)
+late-after context keyword more (Some Name) current h old e = cc
+late-after context keyword more (Some ObjSense) current h old e = cc
+late-after context keyword more (Some Rows) current h old e = cc
+late-after context keyword more (Some Columns) current h old e = or_right context.seen.columns true refl
+late-after context keyword more (Some Rhs) current h old e = or_left context.seen.columns false (header-begins context keyword more Rhs h)
+late-after context keyword more (Some Ranges) current h old e = or_left context.seen.columns false (header-begins context keyword more Ranges h)
+late-after context keyword more (Some Bounds) current h old e = or_left context.seen.columns false (header-begins context keyword more Bounds h)
+late-after context keyword more (Some EndData) current h old e = cc
+
+pub ordered-push : (before : List Item) (earlier : Draft) (item : Item) → IsGood before earlier item → Ordered before → Ordered (before ++ item ∷ [])
+ordered-push before earlier item h o =
+    record {
+      rows = λ begun. has_section-push Rows before item ∙ or_left (has_section before Rows) (begins Rows item) (earlier_rows (has_section before Columns) refl (sym (has_section-push Columns before item) ∙ begun));
+      columns = λ late. has_section-push Columns before item ∙ late_columns item h (ap is_late (sym (current_section-push before item)) ∙ late);
+    }
+  where
+    new_rows : (x : Item) → IsGood before earlier x → begins Columns x ≡ true → has_section before Rows ≡ true
+    new_rows skipped g e = cc
+    new_rows (header keyword more) g e = columns-after (context_of before) keyword more (section_named keyword) g e
+    new_rows (data_line fields) g e = cc
+
+    earlier_rows : (b : Bool) → has_section before Columns ≡ b → (b || begins Columns item) ≡ true → has_section before Rows ≡ true
+    earlier_rows true e k = o.rows e
+    earlier_rows false e k = new_rows item h k
+
+    late_columns : (x : Item) → IsGood before earlier x → is_late (option_or (section_begun x) (current_section before)) ≡ true → (has_section before Columns || begins Columns x) ≡ true
+    late_columns skipped g e = or_left (has_section before Columns) false (o.columns e)
+    late_columns (header keyword more) g e = late-after (context_of before) keyword more (section_named keyword) (current_section before) g o.columns e
+    late_columns (data_line fields) g e = or_left (has_section before Columns) false (o.columns e)
+
+-- ---- what declares rows and columns
+
+abbrev pub declares_row : Declaration → Bool
+declares_row (declare_objective _) = true
+declares_row (declare_row _ _) = true
+declares_row _ = false
+
+abbrev pub declares_column : Declaration → Bool
+declares_column (declare_column _) = true
+declares_column _ = false
+
+abbrev pub no_rows : Declarations → Bool
+no_rows ds = list_all (λ d. not (declares_row d)) ds
+
+abbrev pub no_columns : Declarations → Bool
+no_columns ds = list_all (λ d. not (declares_column d)) ds
+
+row-kept : (all : Draft) (d : Declaration) (r : List ℕ) → not (declares_row d) ≡ true → has_row (adding all d) r ≡ has_row all r
+row-kept all (declare_objective _) r h = cc
+row-kept all (declare_row _ _) r h = cc
+row-kept all (declare_sense _) r h = refl
+row-kept all (declare_constant _) r h = refl
+row-kept all (declare_right_side _ _) r h = refl
+row-kept all (declare_range _ _) r h = refl
+row-kept all (declare_column _) r h = refl
+row-kept all (declare_coefficient _ _) r h = refl
+row-kept all (declare_lower _ _) r h = refl
+row-kept all (declare_upper _ _) r h = refl
+row-kept all (declare_marked _) r h = refl
+row-kept all (declare_integer _) r h = refl
+row-kept all (declare_binary _) r h = refl
+
+pub rows-kept : (ds : Declarations) (all : Draft) (r : List ℕ) → no_rows ds ≡ true → has_row (adding_all all ds) r ≡ has_row all r
+rows-kept [] all r h = refl
+rows-kept (d ∷ ds) all r h =
+    rows-kept ds (adding all d) r (second_so (not (declares_row d)) (no_rows ds) h) ∙ row-kept all d r (first_so (not (declares_row d)) (no_rows ds) h)
+
+column-kept : (all : Draft) (d : Declaration) (c : List ℕ) → not (declares_column d) ≡ true → has_column (adding all d) c ≡ has_column all c
+column-kept all (declare_column _) c h = cc
+column-kept all (declare_objective _) c h = refl
+column-kept all (declare_row _ _) c h = refl
+column-kept all (declare_sense _) c h = refl
+column-kept all (declare_constant _) c h = refl
+column-kept all (declare_right_side _ _) c h = refl
+column-kept all (declare_range _ _) c h = refl
+column-kept all (declare_coefficient _ _) c h = refl
+column-kept all (declare_lower _ _) c h = refl
+column-kept all (declare_upper _ _) c h = refl
+column-kept all (declare_marked _) c h = refl
+column-kept all (declare_integer _) c h = refl
+column-kept all (declare_binary _) c h = refl
+
+pub columns-kept : (ds : Declarations) (all : Draft) (c : List ℕ) → no_columns ds ≡ true → has_column (adding_all all ds) c ≡ has_column all c
+columns-kept [] all c h = refl
+columns-kept (d ∷ ds) all c h =
+    columns-kept ds (adding all d) c (second_so (not (declares_column d)) (no_columns ds) h) ∙ column-kept all d c (first_so (not (declares_column d)) (no_columns ds) h)
+
+-- ---- which lines declare none
+
+-- a test that what is declared of anything passes
+pub each-declared : {X : Type 0} (p : Declaration → Bool) (f : X → Declarations) (o : Option X) → ((x : X) → list_all p (f x) ≡ true) → list_all p (declared_of f o) ≡ true
+each-declared p f None h = refl
+each-declared p f (Some x) h = h x
+
+pub each-flat : {X : Type 0} (p : Declaration → Bool) (f : X → Declarations) (xs : List X) → ((x : X) → list_all p (f x) ≡ true) → list_all p (flat_map f xs) ≡ true
+each-flat p f [] h = refl
+each-flat p f (x ∷ xs) h = list_all-append p (f x) (flat_map f xs) ∙ both_so (list_all p (f x)) (list_all p (flat_map f xs)) (h x) (each-flat p f xs h)
+
+pub each-mapped : {X : Type 0} (p : Declaration → Bool) (f : X → Declaration) (xs : List X) → ((x : X) → p (f x) ≡ true) → list_all p (map f xs) ≡ true
+each-mapped p f [] h = refl
+each-mapped p f (x ∷ xs) h = both_so (p (f x)) (list_all p (map f xs)) (h x) (each-mapped p f xs h)
+
+-- a test that what RHS, RANGES and BOUNDS declare passes
+pub record Passes (p : Declaration → Bool) : Type 0 where
+  pub side : (r : List ℕ) (v : _) → p (declare_right_side r v) ≡ true
+  pub range : (r : List ℕ) (v : _) → p (declare_range r v) ≡ true
+  pub lower : (c : List ℕ) (l : Limit) → p (declare_lower c l) ≡ true
+  pub upper : (c : List ℕ) (l : Limit) → p (declare_upper c l) ≡ true
+  pub integer : (c : List ℕ) → p (declare_integer c) ≡ true
+
+-- a sense that is declared
+pub sense-passes : (p : Declaration → Bool) → ((s : Sense) → p (declare_sense s) ≡ true) → (fields : Fields) → list_all p (declared_of sense_declared (sense_line fields)) ≡ true
+sense-passes p h fields =
+    each-declared p sense_declared (sense_line fields)
+    (λ word. each-declared p (λ sense. declare_sense sense ∷ []) (sense_of word) (λ s. both_so (p (declare_sense s)) true (h s) refl))
+
+module _ (p : Declaration → Bool) (passes : Passes p) where
+  pub sides-passes : (earlier : Draft) (fields : Fields) → list_all p (declared_of (right_sides_declared earlier) (vector_line fields)) ≡ true
+  sides-passes earlier fields =
+      each-declared p (right_sides_declared earlier) (vector_line fields)
+      (λ line. each-flat p (λ (pair : Pair). right_side_declared earlier pair.row (value_of pair.literal)) line.pairs (λ pair. one pair (is_free_row earlier pair.row)))
+    where
+      one : (pair : Pair) (b : Bool) → list_all p (cond b [] (declare_right_side pair.row (value_of pair.literal) ∷ [])) ≡ true
+      one pair true = refl
+      one pair false = both_so (p (declare_right_side pair.row (value_of pair.literal))) true (passes.side pair.row (value_of pair.literal)) refl
+
+  pub ranges-passes : (fields : Fields) → list_all p (declared_of ranges_declared (vector_line fields)) ≡ true
+  ranges-passes fields =
+      each-declared p ranges_declared (vector_line fields)
+      (λ line. each-mapped p (λ (pair : Pair). declare_range pair.row (value_of pair.literal)) line.pairs (λ pair. passes.range pair.row (value_of pair.literal)))
+
+  bound-passes : (type : BoundType) (c : List ℕ) (v : Limit) → list_all p (bound_declared type c v) ≡ true
+  bound-passes bounds.Lower c v = rw (passes.lower c v) refl
+  bound-passes bounds.Upper c v = rw (passes.upper c v) refl
+  bound-passes bounds.Fixed c v = rw (passes.lower c v, passes.upper c v) refl
+  bound-passes bounds.Free c v = rw (passes.lower c, passes.upper c) refl
+  bound-passes bounds.NoLower c v = rw (passes.lower c) refl
+  bound-passes bounds.NoUpper c v = rw (passes.upper c) refl
+  bound-passes bounds.Binary c v = rw (passes.integer c, passes.lower c, passes.upper c) refl
+  bound-passes bounds.IntegerLower c v = rw (passes.integer c, passes.lower c v) refl
+  bound-passes bounds.IntegerUpper c v = rw (passes.integer c, passes.upper c v) refl
+
+  pub bounds-passes : (fields : Fields) → list_all p (bound_line_declared fields) ≡ true
+  bounds-passes [] = refl
+  bounds-passes (letters ∷ more) =
+      each-declared p (λ type. declared_of (λ (line : BoundLine). bound_declared type line.column (bound_value line)) (bound_line type more)) (bound_type letters)
+      (λ type. each-declared p (λ (line : BoundLine). bound_declared type line.column (bound_value line)) (bound_line type more) (λ line. bound-passes type line.column (bound_value line)))
+
+-- the lines of COLUMNS declare no rows
+pub columns-line-no-rows : (context : Context) (fields : Fields) → no_rows (columns_line_declared context fields) ≡ true
+columns-line-no-rows context fields = by (is_marker_line fields)
+  where
+    cells : (column : List ℕ) (pairs : List Pair) → no_rows (flat_map (coefficient_declared column) pairs) ≡ true
+    cells column pairs = each-flat (λ d. not (declares_row d)) (coefficient_declared column) pairs (λ pair. refl)
+
+    line-no-rows : (line : ColumnLine) → no_rows (column_declared context line) ≡ true
+    line-no-rows line = marked context.in_integer_part
+      where
+        marked : (b : Bool) → no_rows (cond b (declare_marked line.column ∷ []) [] ++ flat_map (coefficient_declared line.column) line.pairs) ≡ true
+        marked true = cells line.column line.pairs
+        marked false = cells line.column line.pairs
+
+    by : (b : Bool) → no_rows (cond b [] (declared_of (column_declared context) (column_line fields))) ≡ true
+    by true = refl
+    by false = each-declared (λ d. not (declares_row d)) (column_declared context) (column_line fields) line-no-rows
+
+pub passes-no_rows : Passes (λ d. not (declares_row d))
+passes-no_rows = record { side = λ _ _. refl; range = λ _ _. refl; lower = λ _ _. refl; upper = λ _ _. refl; integer = λ _. refl }
+
+pub passes-no_columns : Passes (λ d. not (declares_column d))
+passes-no_columns = record { side = λ _ _. refl; range = λ _ _. refl; lower = λ _ _. refl; upper = λ _ _. refl; integer = λ _. refl }

@@ -1,0 +1,56 @@
+-- How the readings of the lines before change by one line more.
+use Rattle.std.proofs.Common.{◌≡◌, refl, sym, ap, ◌∙◌, List, [], ◌∷◌, ◌++◌, append_assoc, Bool, true, false}
+use Rattle.std.specs.Prelude.{Option, Some, None, ◌||◌, filter_map}
+use Rattle.std.specs.List.{last_or, cons_option}
+use Rattle.std.specs.Option.{option_or}
+use Rattle.std.proofs.lemmas.List.{append-nil}
+use Rattle.std.proofs.lemmas.List.Elements.{filter_map-append}
+use Rattle.std.proofs.lemmas.List.Folds.{list_any-append}
+use Rattle.mpslp_mps.specs.Line.{Fields, Item}
+use Rattle.mpslp_mps.specs.Section.{section_begun, begins}
+use Rattle.mpslp_mps.specs.Context.{section_after, current_section, has_section, fields_under, data_lines_after, data_lines}
+use Rattle.mpslp_mps.specs.declared.sections.Section.{Section}
+
+pub last_or-append : {X : Type 0} (o : Option X) (xs ys : List X) → last_or o (xs ++ ys) ≡ last_or (last_or o xs) ys
+last_or-append o [] ys = refl
+last_or-append o (x ∷ xs) ys = last_or-append (Some x) xs ys
+
+last-one : (o c : Option Section) → last_or c (cons_option o []) ≡ option_or o c
+last-one None c = refl
+last-one (Some s) c = refl
+
+-- the section after a line: that which it begins, or the one before
+pub current_section-push : (before : List Item) (item : Item) → current_section (before ++ item ∷ []) ≡ option_or (section_begun item) (current_section before)
+current_section-push before item =
+    ap (last_or None) (filter_map-append section_begun before (item ∷ [])) ∙ last_or-append None (filter_map section_begun before) (cons_option (section_begun item) [])
+    ∙ last-one (section_begun item) (current_section before)
+
+or_false : (b : Bool) → (b || false) ≡ b
+or_false true = refl
+or_false false = refl
+
+pub has_section-push : (section : Section) (before : List Item) (item : Item) → has_section (before ++ item ∷ []) section ≡ (has_section before section || begins section item)
+has_section-push section before item =
+    list_any-append (begins section) before (item ∷ []) ∙ ap (λ (b : Bool). has_section before section || b) (or_false (begins section item))
+
+section_after-cons : (current : Option Section) (x : Item) (before : List Item) → section_after current (x ∷ before) ≡ section_after (option_or (section_begun x) current) before
+section_after-cons current x before = by (section_begun x)
+  where
+    by : (o : Option Section) → last_or current (cons_option o (filter_map section_begun before)) ≡ last_or (option_or o current) (filter_map section_begun before)
+    by None = refl
+    by (Some s) = refl
+
+data_lines_after-push : (section : Section) (current : Option Section) (before : List Item) (item : Item)
+    → data_lines_after section current (before ++ item ∷ []) ≡ data_lines_after section current before ++ fields_under section (section_after current before) item
+data_lines_after-push section current [] item = append-nil (fields_under section current item)
+data_lines_after-push section current (x ∷ before) item =
+    let next = option_or (section_begun x) current in
+    ap (λ (more : List Fields). fields_under section current x ++ more)
+    (data_lines_after-push section next before item
+    ∙ ap (λ (c : Option Section). data_lines_after section next before ++ fields_under section c item) (sym (section_after-cons current x before)))
+    ∙ sym (append_assoc (fields_under section current x) (data_lines_after section next before) _)
+
+-- the data lines of a section: this one too, where it stands in it
+pub data_lines-push : (section : Section) (before : List Item) (item : Item)
+    → data_lines section (before ++ item ∷ []) ≡ data_lines section before ++ fields_under section (current_section before) item
+data_lines-push section before item = data_lines_after-push section None before item

@@ -1,0 +1,275 @@
+-- Worked files: each declares a model, by computation.
+use Rattle.std.proofs.Common.{◌≡◌, refl}
+use Rattle.std.specs.Prelude.{ℕ, None, List, ◌∷◌, [], ◌++◌, map, take, drop, true, ◌==◌, if◌then◌else◌, codes}
+use Rattle.std.specs.List.{list_all, flat_map}
+use Rattle.mpslp_decimal.specs.Decimal.{trailing_zeros}
+use Rattle.mpslp_model.specs.Declaration.{Draft, empty_draft, draft_of}
+use Rattle.mpslp_model.specs.Consistency.{has_objective}
+use Rattle.mpslp_model.specs.Refusal.{refusals_in_turn}
+use Rattle.mpslp_model.specs.Made.{is_legal}
+use Rattle.mpslp_model.specs.Meaning.{model_of, file_fault}
+use Rattle.mpslp_model.proofs.Acceptance.{means-from_none}
+use Rattle.mpslp_mps.specs.MpsText.{is_mps_text, declarations_of, DeclaresMps}
+
+-- lines, each ended by a line feed
+abbrev pub text : List (List ℕ) → List ℕ
+text lines = flat_map (λ line. line ++ 10 ∷ []) lines
+
+-- lines, each ended by a carriage return and a line feed
+abbrev pub text_with_returns : List (List ℕ) → List ℕ
+text_with_returns lines = flat_map (λ line. line ++ 13 ∷ 10 ∷ []) lines
+
+-- what the lines of a file declare together
+abbrev pub draft_in : List ℕ → Draft
+draft_in bytes = draft_of (declarations_of bytes)
+
+-- the tests that make a file declare the model of its draft
+pub record Passes (bytes : List ℕ) : Type 0 where
+  pub is_text : is_mps_text bytes ≡ true
+  pub objective : has_objective (declarations_of bytes) ≡ true
+  pub legal : list_all is_legal (declarations_of bytes) ≡ true
+  pub unrefused : refusals_in_turn empty_draft (declarations_of bytes) ≡ []
+  pub no_fault : file_fault (draft_in bytes) ≡ None
+
+pub declares-from_passes : (bytes : List ℕ) → Passes bytes → DeclaresMps bytes (model_of (draft_in bytes))
+declares-from_passes bytes h =
+    record { text = h.is_text; means = means-from_none (declarations_of bytes) h.objective h.legal h.unrefused h.no_fault }
+
+-- ---- a small file, and the same in other bytes
+
+abbrev pub small_lines : List (List ℕ)
+small_lines =
+    codes "NAME          SMALL" ∷ codes "ROWS" ∷ codes " N  COST" ∷ codes " L  LIM1" ∷ codes " G  MYG" ∷ codes "COLUMNS"
+    ∷ codes "    X  COST  1.0  LIM1  1" ∷ codes "    Y  COST  2  MYG  1.50" ∷ codes "RHS"
+    ∷ codes "    RHS  LIM1  4  MYG  1" ∷ codes "ENDATA" ∷ []
+
+abbrev pub small : List ℕ
+small = text small_lines
+
+pub small_passes : Passes small
+unfolding trailing_zeros
+small_passes = record { is_text = refl; objective = refl; legal = refl; unrefused = refl; no_fault = refl }
+
+abbrev pub small_with_returns : List ℕ
+small_with_returns = text_with_returns small_lines
+
+pub small_with_returns_passes : Passes small_with_returns
+unfolding trailing_zeros
+small_with_returns_passes = record { is_text = refl; objective = refl; legal = refl; unrefused = refl; no_fault = refl }
+
+abbrev pub small_without_last_feed : List ℕ
+small_without_last_feed = text (take 10 small_lines) ++ codes "ENDATA"
+
+pub small_without_last_feed_passes : Passes small_without_last_feed
+unfolding trailing_zeros
+small_without_last_feed_passes = record { is_text = refl; objective = refl; legal = refl; unrefused = refl; no_fault = refl }
+
+-- a line that would have an illegal byte
+abbrev pub small_with_text_after_end : List ℕ
+small_with_text_after_end = text (small_lines ++ (128 ∷ []) ∷ [])
+
+pub small_with_text_after_end_passes : Passes small_with_text_after_end
+unfolding trailing_zeros
+small_with_text_after_end_passes = record { is_text = refl; objective = refl; legal = refl; unrefused = refl; no_fault = refl }
+
+abbrev pub small_again_lines : List (List ℕ)
+small_again_lines =
+    codes "NAME" ∷ codes "ROWS" ∷ codes " N  COST" ∷ codes " L  LIM1" ∷ codes " G  MYG" ∷ codes "COLUMNS"
+    ∷ codes "    X  COST  1" ∷ codes "    X  LIM1  1" ∷ codes "    Y  COST  2" ∷ codes "    Y  MYG  1.5" ∷ codes "RHS"
+    ∷ codes "    RHS  LIM1  4" ∷ codes "    RHS  MYG  1" ∷ codes "ENDATA" ∷ []
+
+-- its canonical text
+abbrev pub small_again : List ℕ
+small_again = text small_again_lines
+
+pub small_again_passes : Passes small_again
+unfolding trailing_zeros
+small_again_passes = record { is_text = refl; objective = refl; legal = refl; unrefused = refl; no_fault = refl }
+
+abbrev pub small_maximized : List ℕ
+small_maximized = text (take 1 small_lines ++ codes "OBJSENSE" ∷ codes "    MAXIMIZE" ∷ drop 1 small_lines)
+
+pub small_maximized_passes : Passes small_maximized
+unfolding trailing_zeros
+small_maximized_passes = record { is_text = refl; objective = refl; legal = refl; unrefused = refl; no_fault = refl }
+
+-- ---- ranges of both signs, before the right sides
+
+abbrev pub ranges_lines : List (List ℕ)
+ranges_lines =
+    codes "ROWS" ∷ codes " N  C" ∷ codes " E  E1" ∷ codes " E  E2" ∷ codes " E  E3" ∷ codes " G  G1" ∷ codes " L  L1"
+    ∷ codes "COLUMNS" ∷ codes "    X  E1  1  E2  1" ∷ codes "    X  E3  1  G1  1" ∷ codes "    X  L1  1"
+    ∷ codes "RANGES" ∷ codes "    RNG  E1  3  E2  -3" ∷ codes "    RNG  E3  0  G1  -2" ∷ codes "    RNG  L1  -2"
+    ∷ codes "RHS" ∷ codes "    RHS  E1  10  E2  10" ∷ codes "    RHS  E3  10  G1  10" ∷ codes "    RHS  L1  10"
+    ∷ codes "ENDATA" ∷ []
+
+abbrev pub ranges : List ℕ
+ranges = text ranges_lines
+
+pub ranges_passes : Passes ranges
+unfolding trailing_zeros
+ranges_passes = record { is_text = refl; objective = refl; legal = refl; unrefused = refl; no_fault = refl }
+
+-- ---- an integer column, by markers in fixed columns and by its bound
+
+abbrev pub fixed_columns_lines : List (List ℕ)
+fixed_columns_lines =
+    codes "NAME          M" ∷ codes "ROWS" ∷ codes " N  C" ∷ codes "COLUMNS"
+    ∷ codes "    M1        'MARKER'                 'INTORG'" ∷ codes "    X         C                    1"
+    ∷ codes "    M2        'MARKER'                 'INTEND'" ∷ codes "RHS" ∷ codes "ENDATA" ∷ []
+
+abbrev pub fixed_columns : List ℕ
+fixed_columns = text fixed_columns_lines
+
+pub fixed_columns_passes : Passes fixed_columns
+unfolding trailing_zeros
+fixed_columns_passes = record { is_text = refl; objective = refl; legal = refl; unrefused = refl; no_fault = refl }
+
+abbrev pub binary_bound : List ℕ
+binary_bound = text (codes "ROWS" ∷ codes " N  C" ∷ codes "COLUMNS" ∷ codes "    X  C  1" ∷ codes "BOUNDS" ∷ codes " BV BND X 1" ∷ codes "ENDATA" ∷ [])
+
+pub binary_bound_passes : Passes binary_bound
+unfolding trailing_zeros
+binary_bound_passes = record { is_text = refl; objective = refl; legal = refl; unrefused = refl; no_fault = refl }
+
+abbrev pub integer_without_upper : List ℕ
+integer_without_upper = text (take 8 fixed_columns_lines ++ codes "BOUNDS" ∷ codes " PL BND X" ∷ codes "ENDATA" ∷ [])
+
+pub integer_without_upper_passes : Passes integer_without_upper
+unfolding trailing_zeros
+integer_without_upper_passes = record { is_text = refl; objective = refl; legal = refl; unrefused = refl; no_fault = refl }
+
+-- ---- a right side of the objective, and bounds
+
+abbrev one_column : List (List ℕ)
+one_column = codes "ROWS" ∷ codes " N C" ∷ codes "COLUMNS" ∷ codes " X C 1" ∷ []
+
+abbrev pub constant : List ℕ
+constant = text (one_column ++ codes "RHS" ∷ codes "    RHS  C  5" ∷ codes "ENDATA" ∷ [])
+
+pub constant_passes : Passes constant
+unfolding trailing_zeros
+constant_passes = record { is_text = refl; objective = refl; legal = refl; unrefused = refl; no_fault = refl }
+
+abbrev pub negative_upper : List ℕ
+negative_upper = text (one_column ++ codes "BOUNDS" ∷ codes " UP B X -1" ∷ codes " MI B X" ∷ codes "ENDATA" ∷ [])
+
+pub negative_upper_passes : Passes negative_upper
+unfolding trailing_zeros
+negative_upper_passes = record { is_text = refl; objective = refl; legal = refl; unrefused = refl; no_fault = refl }
+
+abbrev pub zero_upper : List ℕ
+zero_upper = text (one_column ++ codes "BOUNDS" ∷ codes " UP B X 0" ∷ codes "ENDATA" ∷ [])
+
+pub zero_upper_passes : Passes zero_upper
+unfolding trailing_zeros
+zero_upper_passes = record { is_text = refl; objective = refl; legal = refl; unrefused = refl; no_fault = refl }
+
+abbrev pub infinite_bounds : List ℕ
+infinite_bounds = text (one_column ++ codes "BOUNDS" ∷ codes " LO B X -1e30" ∷ codes " UP B X 1e30" ∷ codes "ENDATA" ∷ [])
+
+pub infinite_bounds_passes : Passes infinite_bounds
+unfolding trailing_zeros
+infinite_bounds_passes = record { is_text = refl; objective = refl; legal = refl; unrefused = refl; no_fault = refl }
+
+-- ---- columns with no coefficient but 0, a further row of type N
+
+abbrev pub empty_column_lines : List (List ℕ)
+empty_column_lines =
+    codes "NAME" ∷ codes "ROWS" ∷ codes " N  C" ∷ codes " L  R" ∷ codes " N  S" ∷ codes "COLUMNS" ∷ codes "    X  C  0"
+    ∷ codes "    Y  S  2" ∷ codes "RHS" ∷ codes "    RHS  R  3" ∷ codes "ENDATA" ∷ []
+
+abbrev pub empty_column : List ℕ
+empty_column = text empty_column_lines
+
+pub empty_column_passes : Passes empty_column
+unfolding trailing_zeros
+empty_column_passes = record { is_text = refl; objective = refl; legal = refl; unrefused = refl; no_fault = refl }
+
+-- ---- integer columns that are fixed and without an upper bound
+
+abbrev pub integer_bounds_lines : List (List ℕ)
+integer_bounds_lines =
+    codes "NAME" ∷ codes "ROWS" ∷ codes " N  obj" ∷ codes "COLUMNS" ∷ codes "    y  obj  1"
+    ∷ codes "    MARKER  'MARKER'  'INTORG'" ∷ codes "    x  obj  1" ∷ codes "    z  obj  0"
+    ∷ codes "    MARKER  'MARKER'  'INTEND'" ∷ codes "BOUNDS" ∷ codes " FX  BND  x  1" ∷ codes " PL  BND  z"
+    ∷ codes "ENDATA" ∷ []
+
+abbrev pub integer_bounds : List ℕ
+integer_bounds = text integer_bounds_lines
+
+pub integer_bounds_passes : Passes integer_bounds
+unfolding trailing_zeros
+integer_bounds_passes = record { is_text = refl; objective = refl; legal = refl; unrefused = refl; no_fault = refl }
+
+-- ---- a maximized model with all sections but RANGES
+
+abbrev pub maximized_lines : List (List ℕ)
+maximized_lines =
+    codes "NAME" ∷ codes "OBJSENSE" ∷ codes "    MAX" ∷ codes "ROWS" ∷ codes " N  obj" ∷ codes " L  c1" ∷ codes " L  c2"
+    ∷ codes " E  c3" ∷ codes "COLUMNS" ∷ codes "    x1  obj  1" ∷ codes "    x1  c1  -1" ∷ codes "    x1  c2  1"
+    ∷ codes "    x2  obj  2" ∷ codes "    x2  c1  1" ∷ codes "    x2  c2  -3" ∷ codes "    x2  c3  1"
+    ∷ codes "    x3  obj  3" ∷ codes "    x3  c1  1" ∷ codes "    x3  c2  1" ∷ codes "    MARKER  'MARKER'  'INTORG'"
+    ∷ codes "    x4  obj  1" ∷ codes "    x4  c1  10" ∷ codes "    x4  c3  -3.5"
+    ∷ codes "    MARKER  'MARKER'  'INTEND'" ∷ codes "RHS" ∷ codes "    RHS  c1  20" ∷ codes "    RHS  c2  30"
+    ∷ codes "BOUNDS" ∷ codes " UP  BND  x1  40" ∷ codes " LO  BND  x4  2" ∷ codes " UP  BND  x4  3" ∷ codes "ENDATA"
+    ∷ []
+
+abbrev pub maximized : List ℕ
+maximized = text maximized_lines
+
+pub maximized_passes : Passes maximized
+unfolding trailing_zeros
+maximized_passes = record { is_text = refl; objective = refl; legal = refl; unrefused = refl; no_fault = refl }
+
+abbrev pub maximized_on_header : List ℕ
+maximized_on_header = text (take 1 maximized_lines ++ codes "OBJSENSE MAX" ∷ drop 3 maximized_lines)
+
+pub maximized_on_header_passes : Passes maximized_on_header
+unfolding trailing_zeros
+maximized_on_header_passes = record { is_text = refl; objective = refl; legal = refl; unrefused = refl; no_fault = refl }
+
+abbrev pub maximized_by_long_word : List ℕ
+maximized_by_long_word = text (take 2 maximized_lines ++ codes "    MAXIMIZE" ∷ drop 3 maximized_lines)
+
+pub maximized_by_long_word_passes : Passes maximized_by_long_word
+unfolding trailing_zeros
+maximized_by_long_word_passes = record { is_text = refl; objective = refl; legal = refl; unrefused = refl; no_fault = refl }
+
+-- a tab for each blank between fields
+abbrev tabbed : List ℕ → List ℕ
+tabbed line = map (λ byte. if byte == 32 then 9 else byte) line
+
+abbrev pub maximized_with_tabs : List ℕ
+maximized_with_tabs = text (map tabbed maximized_lines)
+
+pub maximized_with_tabs_passes : Passes maximized_with_tabs
+unfolding trailing_zeros
+maximized_with_tabs_passes = record { is_text = refl; objective = refl; legal = refl; unrefused = refl; no_fault = refl }
+
+abbrev pub not_maximized : List ℕ
+not_maximized = text (take 1 maximized_lines ++ drop 3 maximized_lines)
+
+pub not_maximized_passes : Passes not_maximized
+unfolding trailing_zeros
+not_maximized_passes = record { is_text = refl; objective = refl; legal = refl; unrefused = refl; no_fault = refl }
+
+-- ---- the layout of the usual tools
+
+abbrev pub usual_layout_lines : List (List ℕ)
+usual_layout_lines =
+    codes "* a comment" ∷ codes "NAME          TEST" ∷ codes "ROWS" ∷ codes " N  COST" ∷ codes " E  BAL"
+    ∷ codes " G  DEM" ∷ codes "COLUMNS" ∷ codes "    MARKER                 'MARKER'                 'INTORG'"
+    ∷ codes "    A         COST         3.0000000000   BAL          1.0000000000"
+    ∷ codes "    A         DEM          1.0000000000"
+    ∷ codes "    MARKER                 'MARKER'                 'INTEND'"
+    ∷ codes "    B         COST         1e+00          BAL         -1" ∷ codes "RHS"
+    ∷ codes "    RHS       DEM          2.5" ∷ codes "BOUNDS" ∷ codes " UP BND       A            10"
+    ∷ codes " UP BND       B            4.0000000000" ∷ codes "ENDATA" ∷ []
+
+abbrev pub usual_layout : List ℕ
+usual_layout = text usual_layout_lines
+
+pub usual_layout_passes : Passes usual_layout
+unfolding trailing_zeros
+usual_layout_passes = record { is_text = refl; objective = refl; legal = refl; unrefused = refl; no_fault = refl }

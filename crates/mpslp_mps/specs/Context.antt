@@ -1,0 +1,139 @@
+-- What the lines before one say of it: each reading by itself of the list of these lines.
+use Rattle.std.specs.Prelude.{ℕ, Bool, true, false, List, [], ◌∷◌, ◌++◌, filter, filter_map, Option, None, if◌then◌else◌}
+use Rattle.std.specs.List.{list_any, last_or}
+use Rattle.std.specs.Option.{option_map, option_map_or, option_or}
+use Rattle.mpslp_model.specs.Name.{same_bytes}
+use Rattle.mpslp_model.specs.Meaning.{head_of}
+use Rattle.mpslp_model.specs.Refusal.{when}
+use Rattle.mpslp_mps.specs.Line.{Fields, Item, skipped, header, data_line}
+use Rattle.mpslp_mps.specs.Section.{section_begun, begins, is_section}
+use Rattle.mpslp_mps.specs.DataLine.{column_line, is_marker_line, marker_line, opening_word, vector_line}
+use Rattle.mpslp_mps.specs.BoundLine.{bound_type, bound_line}
+use Rattle.mpslp_mps.specs.declared.sections.Section.{Section}
+use Rattle.mpslp_mps.specs.declared.sections.Section.TheVariants.{Name, ObjSense, Rows, Columns, Rhs, Ranges, Bounds, EndData}
+
+-- ---- sections
+
+-- the section after some lines that stand in `current`: that of the last header
+abbrev pub section_after : Option Section → List Item → Option Section
+section_after current items = last_or current (filter_map section_begun items)
+
+-- the section that a line after these stands in
+abbrev pub current_section : List Item → Option Section
+current_section before = section_after None before
+
+abbrev pub has_section : List Item → Section → Bool
+has_section before section = list_any (begins section) before
+
+-- which sections have begun. None has begun twice, and nothing is read after ENDATA
+pub record Seen : Type 0 where
+  pub name : Bool
+  pub objsense : Bool
+  pub rows : Bool
+  pub columns : Bool
+  pub rhs : Bool
+  pub ranges : Bool
+  pub bounds : Bool
+
+abbrev pub seen_in : List Item → Seen
+seen_in before = record {
+  name = has_section before Name;
+  objsense = has_section before ObjSense;
+  rows = has_section before Rows;
+  columns = has_section before Columns;
+  rhs = has_section before Rhs;
+  ranges = has_section before Ranges;
+  bounds = has_section before Bounds;
+}
+
+abbrev pub has_seen : Seen → Section → Bool
+has_seen seen Name = seen.name
+has_seen seen ObjSense = seen.objsense
+has_seen seen Rows = seen.rows
+has_seen seen Columns = seen.columns
+has_seen seen Rhs = seen.rhs
+has_seen seen Ranges = seen.ranges
+has_seen seen Bounds = seen.bounds
+has_seen seen EndData = false
+
+-- ---- the data lines of a section
+
+-- the fields of a data line that stands in the section
+abbrev pub fields_under : Section → Option Section → Item → List Fields
+fields_under section current (data_line fields) = when (is_section section current) fields
+fields_under section current _ = []
+
+-- of lines that stand in `current` up to the next header
+abbrev pub data_lines_after : Section → Option Section → List Item → List Fields
+data_lines_after section current [] = []
+data_lines_after section current (item ∷ items) =
+    fields_under section current item ++ data_lines_after section (option_or (section_begun item) current) items
+
+abbrev pub data_lines : Section → List Item → List Fields
+data_lines section before = data_lines_after section None before
+
+-- ---- what the lines of a section say of a later one
+
+abbrev pub is_read : Item → Bool
+is_read skipped = false
+is_read _ = true
+
+-- an OBJSENSE without its word
+abbrev pub is_bare_objsense : Item → Bool
+is_bare_objsense (header keyword []) = begins ObjSense (header keyword [])
+is_bare_objsense _ = false
+
+-- the last line is one, but for skipped lines: its word is to come
+abbrev pub wants_sense : List Item → Bool
+wants_sense before = option_map_or is_bare_objsense (last_or None (filter is_read before)) false
+
+-- the word of a line of COLUMNS, if it is a marker line; its column, if it is none
+abbrev pub marker_word : Fields → Option (List ℕ)
+marker_word fields = if is_marker_line fields then marker_line fields else None
+
+abbrev pub line_column : Fields → Option (List ℕ)
+line_column fields = if is_marker_line fields then None else option_map (λ line. line.column) (column_line fields)
+
+-- the nearest marker line before opens the integer part
+abbrev pub in_integer_part : List Item → Bool
+in_integer_part before = option_map_or (same_bytes opening_word) (last_or None (filter_map marker_word (data_lines Columns before))) false
+
+-- the column of the last line of COLUMNS, which a marker line has not
+abbrev pub last_column : List Item → Option (List ℕ)
+last_column before = option_map_or line_column (last_or None (data_lines Columns before)) None
+
+-- the set name of a line
+abbrev pub vector_set : Fields → Option (List ℕ)
+vector_set fields = option_map (λ line. line.set) (vector_line fields)
+
+abbrev pub bound_set : Fields → Option (List ℕ)
+bound_set [] = None
+bound_set (letters ∷ more) = option_map_or (λ type. option_map (λ line. line.set) (bound_line type more)) (bound_type letters) None
+
+-- the set name of a section's first line
+abbrev pub first_set : (Fields → Option (List ℕ)) → List Fields → Option (List ℕ)
+first_set set_of lines = head_of (filter_map set_of lines)
+
+-- ---- all of it
+
+pub record Context : Type 0 where
+  pub section : Option Section
+  pub seen : Seen
+  pub wants_sense : Bool
+  pub in_integer_part : Bool
+  pub last_column : Option (List ℕ)
+  pub rhs_set : Option (List ℕ)
+  pub ranges_set : Option (List ℕ)
+  pub bounds_set : Option (List ℕ)
+
+abbrev pub context_of : List Item → Context
+context_of before = record {
+  section = current_section before;
+  seen = seen_in before;
+  wants_sense = wants_sense before;
+  in_integer_part = in_integer_part before;
+  last_column = last_column before;
+  rhs_set = first_set vector_set (data_lines Rhs before);
+  ranges_set = first_set vector_set (data_lines Ranges before);
+  bounds_set = first_set bound_set (data_lines Bounds before);
+}

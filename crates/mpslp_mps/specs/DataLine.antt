@@ -1,0 +1,96 @@
+-- The shapes of data lines: which fields they have. A line of another shape has a wrong number of fields.
+use Rattle.std.specs.Prelude.{ℕ, Bool, false, List, [], ◌∷◌, Option, Some, None, if◌then◌else◌, codes}
+use Rattle.std.specs.List.{find}
+use Rattle.mpslp_model.specs.Name.{same_bytes, is_one_of, marker}
+use Rattle.mpslp_model.specs.declared.kinds.Sense.{Sense}
+use Rattle.mpslp_model.specs.declared.kinds.Sense.TheVariants.{Minimize, Maximize}
+use Rattle.mpslp_model.specs.declared.kinds.RowType.{RowType}
+use Rattle.mpslp_model.specs.declared.kinds.RowType.TheVariants.{Free, AtMost, AtLeast, Equal}
+use Rattle.mpslp_mps.specs.Line.{Fields}
+
+-- ---- OBJSENSE: a word, after the keyword or on a line of its own
+
+abbrev pub sense_line : Fields → Option (List ℕ)
+sense_line (word ∷ []) = Some word
+sense_line _ = None
+
+abbrev pub sense_of : List ℕ → Option Sense
+sense_of word =
+    if is_one_of (codes "MAX" ∷ codes "MAXIMIZE" ∷ []) word then Some Maximize
+    else (if is_one_of (codes "MIN" ∷ codes "MINIMIZE" ∷ []) word then Some Minimize else None)
+
+-- ---- ROWS: type and name
+
+pub record RowLine : Type 0 where
+  pub letter : List ℕ
+  pub name : List ℕ
+
+abbrev pub row_line : Fields → Option RowLine
+row_line (letter ∷ name ∷ []) = Some (record { letter = letter; name = name })
+row_line _ = None
+
+-- the letter of a row type
+abbrev pub letter_of : RowType → List ℕ
+letter_of Free = codes "N"
+letter_of AtMost = codes "L"
+letter_of AtLeast = codes "G"
+letter_of Equal = codes "E"
+
+abbrev pub row_types : List RowType
+row_types = Free ∷ AtMost ∷ AtLeast ∷ Equal ∷ []
+
+abbrev pub row_type : List ℕ → Option RowType
+row_type letter = find (λ type. same_bytes letter (letter_of type)) row_types
+
+-- ---- COLUMNS: a column, and one or two pairs of row and value; or a marker line
+
+-- a row and the literal of a value
+pub record Pair : Type 0 where
+  pub row : List ℕ
+  pub literal : List ℕ
+
+abbrev pub pair : List ℕ → List ℕ → Pair
+pair row literal = record { row = row; literal = literal }
+
+pub record ColumnLine : Type 0 where
+  pub column : List ℕ
+  pub pairs : List Pair
+
+abbrev pub column_line : Fields → Option ColumnLine
+column_line (column ∷ row ∷ value ∷ []) = Some (record { column = column; pairs = pair row value ∷ [] })
+column_line (column ∷ row ∷ value ∷ other ∷ second ∷ []) = Some (record { column = column; pairs = pair row value ∷ pair other second ∷ [] })
+column_line _ = None
+
+-- the second field is `'MARKER'`
+abbrev pub is_marker_line : Fields → Bool
+is_marker_line (_ ∷ second ∷ _) = same_bytes second marker
+is_marker_line _ = false
+
+abbrev pub third_field : Fields → Option (List ℕ)
+third_field (_ ∷ _ ∷ third ∷ _) = Some third
+third_field _ = None
+
+-- the word of a line of three fields: of a marker line, what it opens or closes
+abbrev pub marker_line : Fields → Option (List ℕ)
+marker_line (_ ∷ _ ∷ word ∷ []) = Some word
+marker_line _ = None
+
+abbrev pub opening_word : List ℕ
+opening_word = codes "'INTORG'"
+
+abbrev pub closing_word : List ℕ
+closing_word = codes "'INTEND'"
+
+-- ---- RHS and RANGES: one or two pairs of row and value, after a set name or without one
+
+-- a set name that is absent counts as the empty name
+pub record VectorLine : Type 0 where
+  pub set : List ℕ
+  pub pairs : List Pair
+
+abbrev pub vector_line : Fields → Option VectorLine
+vector_line (row ∷ value ∷ []) = Some (record { set = []; pairs = pair row value ∷ [] })
+vector_line (set ∷ row ∷ value ∷ []) = Some (record { set = set; pairs = pair row value ∷ [] })
+vector_line (row ∷ value ∷ other ∷ second ∷ []) = Some (record { set = []; pairs = pair row value ∷ pair other second ∷ [] })
+vector_line (set ∷ row ∷ value ∷ other ∷ second ∷ []) = Some (record { set = set; pairs = pair row value ∷ pair other second ∷ [] })
+vector_line _ = None

@@ -1,0 +1,54 @@
+-- The faults of a header, after the lines before it.
+use Rattle.std.specs.Prelude.{ℕ, Bool, true, ◌||◌, not, List, [], ◌∷◌, Option, Some, None, is_none, if◌then◌else◌, codes}
+use Rattle.mpslp_model.specs.Name.{is_one_of}
+use Rattle.mpslp_model.specs.Refusal.{is_nonempty}
+use Rattle.mpslp_model.specs.declared.faults.FaultKind.{FaultKind}
+use Rattle.mpslp_model.specs.declared.faults.FaultKind.TheVariants as kinds
+use Rattle.mpslp_mps.specs.Line.{Fields}
+use Rattle.mpslp_mps.specs.DataLine.{sense_of}
+use Rattle.mpslp_mps.specs.Context.{Context, has_seen}
+use Rattle.mpslp_mps.specs.FieldFault.{Tests}
+use Rattle.mpslp_mps.specs.declared.sections.Section.{Section}
+use Rattle.mpslp_mps.specs.declared.sections.Section.TheVariants.{Name, ObjSense, Rows, Columns}
+
+-- a header that begins no section of this profile
+abbrev pub unknown_section : List ℕ → FaultKind
+unknown_section keyword =
+    if is_one_of (codes "QSECTION" ∷ codes "QMATRIX" ∷ codes "QUADOBJ" ∷ codes "QCMATRIX" ∷ codes "CSECTION" ∷ []) keyword then kinds.Quadratic
+    else (if is_one_of (codes "SOS" ∷ codes "SOS1" ∷ codes "SOS2" ∷ []) keyword then kinds.Sos
+    else (if is_one_of (codes "INDICATORS" ∷ []) keyword then kinds.Indicator else kinds.UnknownSection))
+
+-- whether a section that has not begun may begin here
+abbrev pub may_begin : Context → Section → Bool
+may_begin context Name = is_none context.section
+may_begin context ObjSense = not context.seen.rows
+may_begin context Rows = true
+may_begin context Columns = context.seen.rows
+may_begin context _ = context.seen.columns
+
+-- a header while OBJSENSE wants its word, and a section out of order
+abbrev pub is_out_of_order : Context → Section → Bool
+is_out_of_order context section = context.wants_sense || not (has_seen context.seen section || may_begin context section)
+
+-- what may follow the keyword: anything after NAME, one word after OBJSENSE
+abbrev pub may_follow : Section → Fields → Bool
+may_follow Name more = true
+may_follow ObjSense [] = true
+may_follow ObjSense (word ∷ []) = true
+may_follow _ more = not (is_nonempty more)
+
+abbrev pub word_tests : List ℕ → Tests
+word_tests word = (is_none (sense_of word), kinds.BadType) ∷ []
+
+-- the word of OBJSENSE
+abbrev pub header_word_tests : Section → Fields → Tests
+header_word_tests ObjSense (word ∷ _) = word_tests word
+header_word_tests _ more = []
+
+abbrev pub header_tests : Context → List ℕ → Fields → Option Section → Tests
+header_tests context keyword more None = (true, unknown_section keyword) ∷ []
+header_tests context keyword more (Some section) =
+    (is_out_of_order context section, kinds.SectionOrder)
+    ∷ (has_seen context.seen section, kinds.SectionRepeated)
+    ∷ (not (may_follow section more), kinds.FieldCount)
+    ∷ header_word_tests section more

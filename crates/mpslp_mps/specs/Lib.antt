@@ -1,0 +1,15 @@
+pub mod Line
+pub mod Section
+pub mod DataLine
+pub mod BoundLine
+pub mod Context
+pub mod NextContext
+pub mod LineMeaning
+pub mod FieldFault
+pub mod HeaderFault
+pub mod DataFault
+pub mod LineFault
+pub mod MpsText
+pub mod FirstFault
+pub mod Reading
+pub mod Laws

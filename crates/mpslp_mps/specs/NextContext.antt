@@ -1,0 +1,46 @@
+-- The context after one line more, from the context before it: what a reader keeps in place of the lines.
+use Rattle.std.specs.Prelude.{ℕ, Bool, ◌||◌, List, Option, if◌then◌else◌}
+use Rattle.std.specs.Option.{option_map_or, option_or}
+use Rattle.mpslp_model.specs.Name.{same_bytes}
+use Rattle.mpslp_mps.specs.Line.{Fields, Item, data_line}
+use Rattle.mpslp_mps.specs.Section.{section_begun, begins, is_section}
+use Rattle.mpslp_mps.specs.DataLine.{opening_word}
+use Rattle.mpslp_mps.specs.Context.{Seen, is_read, is_bare_objsense, marker_word, line_column, vector_set, bound_set, Context}
+use Rattle.mpslp_mps.specs.declared.sections.Section.{Section}
+use Rattle.mpslp_mps.specs.declared.sections.Section.TheVariants.{Name, ObjSense, Rows, Columns, Rhs, Ranges, Bounds}
+
+abbrev pub next_seen : Seen → Item → Seen
+next_seen seen item = record {
+  name = seen.name || begins Name item;
+  objsense = seen.objsense || begins ObjSense item;
+  rows = seen.rows || begins Rows item;
+  columns = seen.columns || begins Columns item;
+  rhs = seen.rhs || begins Rhs item;
+  ranges = seen.ranges || begins Ranges item;
+  bounds = seen.bounds || begins Bounds item;
+}
+
+-- what a data line of the section changes a reading to
+abbrev pub changed_under : {X : Type 0} → Section → Option Section → (Fields → X → X) → Item → X → X
+changed_under section current change (data_line fields) old = if is_section section current then change fields old else old
+changed_under section current change _ old = old
+
+-- a marker line opens or closes the integer part
+abbrev pub next_part : Fields → Bool → Bool
+next_part fields old = option_map_or (same_bytes opening_word) (marker_word fields) old
+
+-- the first line of a section tells its set name
+abbrev pub next_set : (Fields → Option (List ℕ)) → Fields → Option (List ℕ) → Option (List ℕ)
+next_set set_of fields old = option_or old (set_of fields)
+
+abbrev pub next_context : Context → Item → Context
+next_context c item = record {
+  section = option_or (section_begun item) c.section;
+  seen = next_seen c.seen item;
+  wants_sense = if is_read item then is_bare_objsense item else c.wants_sense;
+  in_integer_part = changed_under Columns c.section next_part item c.in_integer_part;
+  last_column = changed_under Columns c.section (λ fields _. line_column fields) item c.last_column;
+  rhs_set = changed_under Rhs c.section (next_set vector_set) item c.rhs_set;
+  ranges_set = changed_under Ranges c.section (next_set vector_set) item c.ranges_set;
+  bounds_set = changed_under Bounds c.section (next_set bound_set) item c.bounds_set;
+}

@@ -1,0 +1,16 @@
+//! MPS text: what it declares, and the first fault of text that declares no model.
+//!
+//! The format is that of the CPLEX file format reference, read by fields between blanks and tabs. The
+//! definitions are in `specs/`: lines and their fields (`Line`), headers (`Section`), the shapes of data
+//! lines (`DataLine`), what the lines before one say (`Context`), what a line declares (`LineMeaning`), its
+//! faults (`LineFault`), and the whole text (`MpsText`, `FirstFault`).
+#![tactic(auto)]
+
+mod bound_types;
+pub mod laws;
+mod lines;
+mod sections;
+
+pub use bound_types::BoundType;
+pub use lines::MAX_LINE_LEN;
+pub use sections::Section;

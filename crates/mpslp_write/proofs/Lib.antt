@@ -1,0 +1,11 @@
+pub mod TextLemmas
+pub mod NumberWords
+pub mod PrintableLemmas
+pub mod ReadLemmas
+pub mod CanonicalItems
+pub mod CanonicalWalk
+pub mod EarlyWalk
+pub mod WholeWalk
+pub mod ListedItems
+pub mod DraftText
+pub mod WorkedTexts

@@ -1,0 +1,19 @@
+-- Laws of canonical texts.
+use Rattle.std.specs.Prelude.{◌≡◌, IsTrue, map}
+use Rattle.std.specs.List.{list_all}
+use Rattle.mpslp_model.specs.Model.{LinearModel, IsSound}
+use Rattle.mpslp_mps.specs.Line.{is_legal_line, item_of}
+use Rattle.mpslp_mps.specs.MpsText.{read_lines, has_end}
+use Rattle.mpslp_write.specs.Printed.{printed, item_in}
+use Rattle.mpslp_write.specs.CanonicalMps.{canonical_lines, canonical_mps}
+
+-- The canonical text of a model is cut into the lines that were printed, within the limits of lines; each is read as
+-- the fields that it was printed from; and the last is ENDATA.
+pub record IsReadAsPrinted (m : LinearModel) : Type 0 where
+  pub lines : read_lines (canonical_mps m) ≡ map printed (canonical_lines m)
+  pub legal : IsTrue (list_all is_legal_line (map printed (canonical_lines m)))
+  pub items : map item_of (map printed (canonical_lines m)) ≡ map item_in (canonical_lines m)
+  pub end : IsTrue (has_end (canonical_mps m))
+
+abbrev pub AreReadAsPrinted : Type 0
+AreReadAsPrinted = (m : LinearModel) → IsSound m → IsReadAsPrinted m
