@@ -6,6 +6,15 @@ ghost use Rattle.mpslp_decimal.specs.Decimal.{Number, HasSameValue, IsDecimal};
 ghost use Rattle.mpslp_decimal.specs.Literal.{Spells, number_of};
 ghost use Rattle.mpslp_decimal.specs.NumberText.{number_text};
 
+use crate::number::Decimal;
+
+/// Every value of the type is a decimal: in normal form, with few enough digits and an exponent in range.
+pub fn each_value_is_a_decimal(value: Decimal)
+    ensures { IsDecimal value }
+{
+    value.is_in_form()
+}
+
 /// Decimals of one value are one pair of mantissa and exponent.
 pub fn one_form()
     ensures { (a b : Number) → IsDecimal a → IsDecimal b → HasSameValue a b → a ≡ b }

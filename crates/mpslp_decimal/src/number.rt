@@ -64,6 +64,13 @@ impl Decimal {
         Decimal { mantissa, exponent }
     }
 
+    /// Does nothing but say what every value of the type is.
+    pub(crate) fn is_in_form(self)
+        ensures { IsDecimal self }
+    {
+        let _mantissa = self.mantissa;
+    }
+
     /// The exact decimal of a number literal: an optional sign, digits with an optional point and at
     /// least one digit in all, and perhaps `e` or `E`, an optional sign and at least one digit.
     ///

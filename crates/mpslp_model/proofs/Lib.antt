@@ -1,3 +1,5 @@
+pub mod PutPlaceLemmas
+pub mod AnswerLemmas
 pub mod BoolLemmas
 pub mod EachLemmas
 pub mod PutsLemmas

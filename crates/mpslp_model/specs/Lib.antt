@@ -10,3 +10,6 @@ pub mod Made
 pub mod Meaning
 pub mod FaultOrder
 pub mod Laws
+pub mod FaultName
+pub mod Answer
+pub mod BuilderDraft

@@ -1,6 +1,10 @@
 //! What is wrong with a file, or with a call of the builder.
 
+ghost use Rattle.std.specs.Prelude.{◌≡◌};
+ghost use Rattle.mpslp_model.specs.FaultName.{kind_name};
+
 use crate::names::Name;
+use std::alloc::AllocError;
 use thiserror::Error;
 
 /// Why a declaration is refused by the builder. Where several hold, the call's own order decides.
@@ -42,6 +46,17 @@ pub enum BuildFault {
     /// There was no memory for the declaration.
     #[error("out of memory")]
     OutOfMemory,
+}
+
+impl From<AllocError> for BuildFault {
+    ghost use Rattle.std.specs.Prelude.{◌≡◌};
+    ghost use Rattle.mpslp_model.specs.declared.faults.BuildFault.{BuildFault};
+
+    ghost from_gives = { λ _ fault. fault ≡ BuildFault.OutOfMemory };
+
+    fn from(_error: AllocError) -> BuildFault {
+        BuildFault::OutOfMemory
+    }
 }
 
 /// What is wrong with a file. The kinds stand in the order in which one of several is told.
@@ -133,6 +148,59 @@ pub enum FaultKind {
     BoundsCrossed,
     /// A binary column's bounds do not lie within 0 and 1; of a column.
     BinaryBounds,
+}
+
+impl FaultKind {
+    /// The name of the kind.
+    pub fn text(self) -> &'static str
+        ensures { result.now ≡ kind_name self }
+    {
+        match self {
+            FaultKind::LineTooLong => "LineTooLong",
+            FaultKind::BadByte => "BadByte",
+            FaultKind::Quadratic => "Quadratic",
+            FaultKind::Sos => "Sos",
+            FaultKind::Indicator => "Indicator",
+            FaultKind::SemiContinuous => "SemiContinuous",
+            FaultKind::UnknownSection => "UnknownSection",
+            FaultKind::SectionOrder => "SectionOrder",
+            FaultKind::SectionRepeated => "SectionRepeated",
+            FaultKind::FieldCount => "FieldCount",
+            FaultKind::BadToken => "BadToken",
+            FaultKind::BadType => "BadType",
+            FaultKind::BadMarker => "BadMarker",
+            FaultKind::NameLength => "NameLength",
+            FaultKind::NameByte => "NameByte",
+            FaultKind::NameMarker => "NameMarker",
+            FaultKind::NameLikeExponent => "NameLikeExponent",
+            FaultKind::BadNumber => "BadNumber",
+            FaultKind::LongNumber => "LongNumber",
+            FaultKind::TooManyDigits => "TooManyDigits",
+            FaultKind::ExponentRange => "ExponentRange",
+            FaultKind::SecondSet => "SecondSet",
+            FaultKind::UnknownRow => "UnknownRow",
+            FaultKind::UnknownColumn => "UnknownColumn",
+            FaultKind::ColumnSplit => "ColumnSplit",
+            FaultKind::DuplicateRow => "DuplicateRow",
+            FaultKind::DuplicateEntry => "DuplicateEntry",
+            FaultKind::DuplicateRhs => "DuplicateRhs",
+            FaultKind::DuplicateRange => "DuplicateRange",
+            FaultKind::DuplicateBound => "DuplicateBound",
+            FaultKind::RangeOnFree => "RangeOnFree",
+            FaultKind::ConstantInRow => "ConstantInRow",
+            FaultKind::MixedSenses => "MixedSenses",
+            FaultKind::InfiniteValue => "InfiniteValue",
+            FaultKind::MissingEnd => "MissingEnd",
+            FaultKind::NoColumns => "NoColumns",
+            FaultKind::InfiniteLimit => "InfiniteLimit",
+            FaultKind::RangeInexact => "RangeInexact",
+            FaultKind::LimitTooLarge => "LimitTooLarge",
+            FaultKind::LimitsCrossed => "LimitsCrossed",
+            FaultKind::NegativeUpper => "NegativeUpper",
+            FaultKind::BoundsCrossed => "BoundsCrossed",
+            FaultKind::BinaryBounds => "BinaryBounds",
+        }
+    }
 }
 
 /// The fault that is told of a file.

@@ -1,5 +1,9 @@
 //! The kinds of things in a model.
 
+ghost use Rattle.std.specs.Prelude.{◌≡◌};
+ghost use Rattle.mpslp_decimal.specs.Decimal.{is_negative};
+ghost use Rattle.mpslp_model.specs.Model.{limit_of};
+
 use mpslp_decimal::Decimal;
 
 /// What is done with the objective.
@@ -21,7 +25,7 @@ pub enum Kind {
 }
 
 /// One side of a row or column: a limit of a row, or a bound of a column.
-#[derive(Clone, Copy, Debug, PartialEq, Eq)]
+#[derive(Clone, Copy, Debug, PartialEq, Eq, PartialOrd, Ord)]
 pub enum Limit {
     /// Minus infinity: below every number.
     MinusInf,
@@ -29,6 +33,29 @@ pub enum Limit {
     Finite(Decimal),
     /// Plus infinity: above every number.
     PlusInf,
+}
+
+impl Limit {
+    /// The side that a given value stands for: a size of 10^20 or more is the infinity of its sign.
+    pub fn of(value: Decimal) -> Limit
+        ensures { result ≡ limit_of value }
+    {
+        if !value.is_infinite_size() {
+            return Limit::Finite(value);
+        }
+        if is_negative(value) {
+            Limit::MinusInf
+        } else {
+            Limit::PlusInf
+        }
+    }
+}
+
+/// Whether the value is below 0.
+pub(crate) fn is_negative(value: Decimal) -> bool
+    ensures { result ≡ is_negative value }
+{
+    value.mantissa() < 0
 }
 
 /// How a row's right side limits it.

@@ -5,11 +5,14 @@
 //! mean, and which fault is told where they mean none.
 #![tactic(auto)]
 
+mod building;
+mod entries;
 mod faults;
 mod kinds;
 pub mod laws;
 mod names;
 
+pub use building::Builder;
 pub use faults::{BuildFault, Fault, FaultKind, ReadFault};
 pub use kinds::{Kind, Limit, RowType, Sense};
 pub use names::{MAX_NAME_LEN, Name, NameFault};

@@ -1,10 +1,18 @@
 //! Names of rows, columns and the objective.
 
-ghost use Rattle.std.specs.Prelude.{◌≡◌, IfSome, IfNone, MatchResult};
+ghost use Rattle.std.specs.Prelude.{◌≡◌, Some, IfSome, IfNone, IfOk, MatchResult, refl};
+ghost use Rattle.std.proofs.Common.{rules};
 ghost use Rattle.std.specs.List.{list_all};
-ghost use Rattle.mpslp_model.specs.Name.{is_visible, same_bytes, marker, name_refusal};
+ghost use Rattle.std.specs.Hash as fed;
+ghost use Rattle.std.specs.Cmp.{partial_equiv_from_equiv};
+ghost use Rattle.std.specs.Cmp.Lexicographic.{nat_list_cmp_total, nat_list_eq_equiv, texts_po, texts_ties};
+ghost use Rattle.std.specs.Cmp.Rules.{hashing};
+ghost use Rattle.mpslp_model.specs.Name.{IsMpsName, is_visible, same_bytes, marker, name_refusal};
+ghost use Rattle.mpslp_model.specs.Model.{bytes_cmp};
 
-use std::alloc::Global;
+use std::alloc::{AllocError, Global};
+use std::cmp::Ordering;
+use std::hash::{Hash, Hasher};
 use std::marker::Model;
 use thiserror::Error;
 
@@ -46,6 +54,56 @@ impl Model for Name {
     ghost invariant = { λ n. IsMpsName n.bytes.items };
 }
 
+/// By bytes.
+impl PartialEq for Name {
+    ghost eq = { same_bytes };
+
+    ghost laws = { partial_equiv_from_equiv nat_list_eq_equiv };
+
+    fn eq(&self, other: &Name) -> bool {
+        self.as_bytes() == other.as_bytes()
+    }
+}
+
+impl Eq for Name {
+    ghost laws = { nat_list_eq_equiv };
+}
+
+/// By bytes: the first that differ decide, and else the shorter name comes first.
+impl PartialOrd for Name {
+    ghost partial_cmp = { λ a b. Some (bytes_cmp a b) };
+
+    ghost laws = { texts_po };
+
+    fn partial_cmp(&self, other: &Name) -> Option<Ordering> {
+        Some(self.cmp(other))
+    }
+}
+
+impl Ord for Name {
+    ghost cmp = { bytes_cmp };
+
+    ghost total = { nat_list_cmp_total };
+
+    ghost matches_partial_cmp = { λ a b. refl };
+
+    ghost matches_eq = { texts_ties };
+
+    fn cmp(&self, other: &Name) -> Ordering {
+        self.as_bytes().cmp(other.as_bytes())
+    }
+}
+
+impl Hash for Name {
+    ghost hash_input = { fed.slice fed.u8 };
+
+    ghost respects_eq = { Prim.search (hashing, rules) };
+
+    fn hash<H: Hasher>(&self, state: &mut H) {
+        self.as_bytes().hash(state);
+    }
+}
+
 /// Whether each byte is visible ASCII.
 fn has_visible_bytes(bytes: &[u8]) -> bool
     ensures { result ≡ list_all is_visible bytes.now }
@@ -79,6 +137,16 @@ impl Name {
             Ok(bytes) => Ok(Name { bytes }),
             Err(_) => Err(NameFault::OutOfMemory),
         }
+    }
+
+    /// A copy of the bytes of a name.
+    pub(crate) fn copied(alloc: Global, bytes: &[u8]) -> Result<Name, AllocError>
+        requires { IsMpsName bytes.now }
+        ensures { IfOk result (λ name. name ≡ bytes.now) }
+    {
+        Ok(Name {
+            bytes: bytes.to_vec(alloc)?,
+        })
     }
 
     /// The bytes of the name.

@@ -1,0 +1,24 @@
+use Rattle.std.proofs.Common.{◌≡◌, refl, sym, ap, subst, ◌∙◌, ℕ, List, [], ◌∷◌, not}
+use Rattle.std.specs.FinMap.{put}
+use Rattle.mpslp_decimal.specs.Decimal.{Number}
+use Rattle.mpslp_model.specs.Name.{is_mps_name}
+use Rattle.mpslp_model.specs.Model.{Place, bytes_cmp, place_cmp}
+use Rattle.mpslp_model.specs.Declaration.{RowForm, by_type, Declaration, declare_objective, declare_row, declare_column, declare_coefficient, declare_marked, declare_integer, declare_range, declare_right_side, Draft, has_row, has_column}
+use Rattle.mpslp_model.specs.Refusal.{refusal_tests, refusals}
+use Rattle.mpslp_model.specs.Made.{IsMade}
+use Rattle.mpslp_model.specs.BuilderDraft.{draft}
+use Rattle.mpslp_model.specs.declared.faults.BuildFault.TheVariants.{SecondObjective, DuplicateRow, UnknownRow, UnknownColumn, DuplicateEntry, DuplicateRange, RangeOnFree, InfiniteValue}
+use Rattle.mpslp_model.proofs.AnswerLemmas.{none_holds, made_next, made_now, declared, known_row, known_column, row_is_legal, column_is_legal, put_again}
+use Rattle.mpslp_model.proofs.SortedDrafts.{sorted-from_made}
+use Rattle.mpslp_model.proofs.building.Builder.column.Goals as goal
+
+pub returns-then-has_column : goal.returns-then-has_column
+returns-then-has_column c =
+    let made = made_now c.self.view_is c.self.invariant in
+    let there = ap (λ (n : List ℕ). has_column c.args.self.now n) (sym c.as_bytes.ensures) ∙ sym c.has_column.ensures ∙ c.if-has_column.true in
+    ap (λ (columns : List (List ℕ × Unit {0})). record c.args.self.now { columns = columns }) (put_again c.args.name c.args.self.now.columns (sorted-from_made c.args.self.now made).columns there)
+
+pub invariant_of-self-2 : goal.invariant_of-self-2
+invariant_of-self-2 c =
+    subst (λ (columns : List (List ℕ × Unit {0})). IsMade (record (draft c.self.inside) { columns = columns })) (sym c.in_ok-put_entry.ensures.ok)
+    (made_next (declare_column c.args.name) c.self.view_is c.self.invariant (ap is_mps_name (sym c.name.view_is) ∙ c.name.invariant) refl)

@@ -1,0 +1,19 @@
+use Rattle.std.proofs.Common.{◌≡◌, refl, sym, ap, subst, ◌∙◌, ℕ, List, [], ◌∷◌, not}
+use Rattle.std.specs.FinMap.{put}
+use Rattle.mpslp_decimal.specs.Decimal.{Number}
+use Rattle.mpslp_model.specs.Name.{is_mps_name}
+use Rattle.mpslp_model.specs.Model.{Place, bytes_cmp, place_cmp}
+use Rattle.mpslp_model.specs.Declaration.{RowForm, by_type, Declaration, declare_objective, declare_row, declare_column, declare_coefficient, declare_marked, declare_integer, declare_range, declare_right_side, Draft, has_row, has_column}
+use Rattle.mpslp_model.specs.Refusal.{refusal_tests, refusals}
+use Rattle.mpslp_model.specs.BuilderDraft.{draft}
+use Rattle.mpslp_model.specs.declared.faults.BuildFault.TheVariants.{SecondObjective, DuplicateRow, UnknownRow, UnknownColumn, DuplicateEntry, DuplicateRange, RangeOnFree, InfiniteValue}
+use Rattle.mpslp_model.proofs.AnswerLemmas.{none_holds, made_next, made_now, declared, known_row, known_column, row_is_legal, column_is_legal, put_again}
+use Rattle.mpslp_model.proofs.SortedDrafts.{sorted-from_made}
+use Rattle.mpslp_model.proofs.building.Builder.objective.Goals as goal
+
+pub invariant_of-self : goal.invariant_of-self
+invariant_of-self c =
+    let d = declare_objective c.args.name in
+    let row = c.has_row.ensures ∙ ap (λ (n : List ℕ). has_row c.args.self.now n) c.as_bytes.ensures in
+    made_next d c.self.view_is c.self.invariant (ap is_mps_name (sym c.name.view_is) ∙ c.name.invariant)
+    (none_holds (refusal_tests c.args.self.now d) (λ i. (c.has_objective.ensures i, SecondObjective) ∷ (row i, DuplicateRow) ∷ []) c.in_ok-refuse.ensures)

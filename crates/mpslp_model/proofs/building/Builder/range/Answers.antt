@@ -1,0 +1,34 @@
+use Rattle.std.proofs.Common.{◌≡◌, refl, sym, ap, subst, ◌∙◌, ℕ, List, [], ◌∷◌, not, Bool}
+use Rattle.std.specs.Prelude.{◌||◌, ◌&&◌, is_some}
+use Rattle.std.specs.FinMap.{put}
+use Rattle.mpslp_decimal.specs.Decimal.{Number, is_infinite_size}
+use Rattle.mpslp_model.specs.Name.{is_mps_name}
+use Rattle.mpslp_model.specs.Model.{Place, bytes_cmp, place_cmp}
+use Rattle.mpslp_model.specs.Declaration.{RowForm, by_type, Declaration, declare_objective, declare_row, declare_column, declare_coefficient, declare_marked, declare_integer, declare_range, declare_right_side, Draft, has_row, has_column, has_name, has_entry, is_objective, is_row_by_limits, is_free_row, right_side_declared, adding_all}
+use Rattle.mpslp_model.specs.Refusal.{refusal_tests, refusals}
+use Rattle.mpslp_model.specs.Made.{IsMade}
+use Rattle.mpslp_model.specs.BuilderDraft.{draft}
+use Rattle.mpslp_model.specs.declared.faults.BuildFault.{BuildFault}
+use Rattle.mpslp_model.specs.declared.faults.BuildFault.TheVariants.{SecondObjective, DuplicateRow, UnknownRow, UnknownColumn, DuplicateEntry, DuplicateRange, RangeOnFree, InfiniteValue}
+use Rattle.mpslp_model.proofs.AnswerLemmas.{none_holds, made_next, made_now, declared, known_row, known_column, row_is_legal, column_is_legal, put_again}
+use Rattle.mpslp_model.proofs.RefusalLemmas.{rest_none}
+use Rattle.mpslp_model.proofs.SortedDrafts.{sorted-from_made}
+use Rattle.mpslp_model.proofs.building.Builder.range.Goals as goal
+
+pub copied-requires : goal.copied-requires
+copied-requires c =
+    let all = c.args.self.now in
+    let d = declare_range c.args.row.now c.args.value in
+    let none = none_holds (refusal_tests all d) (λ i. (not (c.has_row.ensures i), UnknownRow) ∷ (c.has_range.ensures i, DuplicateRange) ∷ (c.has_no_sides.ensures i, RangeOnFree) ∷ (c.is_infinite_size.ensures i, InfiniteValue) ∷ []) c.in_ok-refuse.ensures in
+    let row = c.args.row.now in
+    let more : List (Bool × BuildFault) =
+        (has_name all.ranges row || is_row_by_limits all row, DuplicateRange) ∷ (is_objective all row || is_free_row all row, RangeOnFree) ∷ (is_infinite_size c.args.value, InfiniteValue) ∷ [] in
+    row_is_legal all c.args.row.now (made_now c.self.view_is c.self.invariant) (known_row all c.args.row.now more none)
+
+pub invariant_of-self-2 : goal.invariant_of-self-2
+invariant_of-self-2 c =
+    let d = declare_range c.args.row.now c.args.value in
+    subst (λ (ranges : List (List ℕ × Number)). IsMade (record (draft c.self.inside) { ranges = ranges }))
+    (sym (c.in_ok-put_entry.ensures.ok ∙ ap (λ (n : List ℕ). put bytes_cmp n c.args.value c.self.inside.ranges.items) c.in_ok-name.ensures))
+    (made_next d c.self.view_is c.self.invariant c.each_value_is_a_decimal.ensures
+    (none_holds (refusal_tests c.args.self.now d) (λ i. (not (c.has_row.ensures i), UnknownRow) ∷ (c.has_range.ensures i, DuplicateRange) ∷ (c.has_no_sides.ensures i, RangeOnFree) ∷ (c.is_infinite_size.ensures i, InfiniteValue) ∷ []) c.in_ok-refuse.ensures))

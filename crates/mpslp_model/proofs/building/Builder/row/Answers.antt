@@ -1,0 +1,23 @@
+use Rattle.std.proofs.Common.{◌≡◌, refl, sym, ap, subst, ◌∙◌, ℕ, List, [], ◌∷◌, not, true, false}
+use Rattle.std.specs.FinMap.{put}
+use Rattle.mpslp_decimal.specs.Decimal.{Number}
+use Rattle.mpslp_model.specs.Name.{is_mps_name}
+use Rattle.mpslp_model.specs.Model.{Place, bytes_cmp, place_cmp}
+use Rattle.mpslp_model.specs.Declaration.{RowForm, by_type, Declaration, declare_objective, declare_row, declare_column, declare_coefficient, declare_marked, declare_integer, declare_range, declare_right_side, Draft, has_row, has_column}
+use Rattle.mpslp_model.specs.Refusal.{refusal_tests, refusals}
+use Rattle.mpslp_model.specs.Made.{IsMade}
+use Rattle.mpslp_model.specs.BuilderDraft.{draft}
+use Rattle.mpslp_model.specs.declared.faults.BuildFault.TheVariants.{SecondObjective, DuplicateRow, UnknownRow, UnknownColumn, DuplicateEntry, DuplicateRange, RangeOnFree, InfiniteValue}
+use Rattle.mpslp_model.proofs.AnswerLemmas.{none_holds, made_next, made_now, declared, known_row, known_column, row_is_legal, column_is_legal, put_again}
+use Rattle.mpslp_model.proofs.BoolLemmas.{both_so}
+use Rattle.mpslp_model.proofs.SortedDrafts.{sorted-from_made}
+use Rattle.mpslp_model.proofs.building.Builder.row.Goals as goal
+
+pub invariant_of-self-2 : goal.invariant_of-self-2
+invariant_of-self-2 c =
+    let d = declare_row c.args.name (by_type c.args.row_type) in
+    let row = c.has_row.ensures ∙ ap (λ (n : List ℕ). has_row c.args.self.now n) c.as_bytes.ensures in
+    subst (λ (rows : List (List ℕ × RowForm)). IsMade (record (draft c.self.inside) { rows = rows }))
+    (sym (c.in_ok-put_entry.ensures.ok ∙ ap (λ (form : RowForm). put bytes_cmp c.args.name form c.self.inside.rows.items) c.of_type.ensures))
+    (made_next d c.self.view_is c.self.invariant (both_so (is_mps_name c.args.name) true (ap is_mps_name (sym c.name.view_is) ∙ c.name.invariant) refl)
+    (none_holds (refusal_tests c.args.self.now d) (λ i. (row i, DuplicateRow) ∷ (false, InfiniteValue) ∷ []) c.in_ok-refuse.ensures))

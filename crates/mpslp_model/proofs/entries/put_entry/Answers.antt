@@ -1,0 +1,14 @@
+use Rattle.std.proofs.Common.{◌≡◌, ◌∙◌, ap, ℕ, sym}
+use Rattle.std.specs.Prelude.{insert}
+use Rattle.std.proofs.lemmas.List.Sums.{prefix_len-le-length}
+use Rattle.mpslp_model.proofs.PutPlaceLemmas.{put-insert}
+use Rattle.mpslp_model.proofs.entries.put_entry.Goals as goal
+
+pub insert-requires : goal.insert-requires
+insert-requires g c = rw (c.place_of-at.ensures, ← c.deref.ensures.len) (prefix_len-le-length _ _)
+
+pub returns-clause-ok : goal.returns-clause-ok
+returns-clause-ok g c =
+    c.in_ok-insert.ensures.items
+    ∙ ap (λ (i : ℕ). insert c.args.entries.now.items i (c.args.key, c.args.value)) (rw (← c.deref.ensures.value, ← c.requires.itself) c.place_of-at.ensures)
+    ∙ sym (put-insert g.K.Query.cmp c.args.key c.args.value c.args.entries.now.items c.requires.absent)

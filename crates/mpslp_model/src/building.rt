@@ -1,0 +1,484 @@
+//! A builder, to which the parts of a model are declared in any order.
+
+ghost use Rattle.std.specs.Prelude.{◌≡◌, ◌<◌, ◌&&◌, ◌||◌, false, Some, None, IsTrue, IfOk, is_some, vec_len, vec_capacity};
+ghost use Rattle.std.specs.Option.{ForSome, option_map, option_map_or};
+ghost use Rattle.std.specs.FinMap.{find, put};
+ghost use Rattle.mpslp_decimal.specs.Decimal.{is_infinite_size};
+ghost use Rattle.mpslp_model.specs.Name.{IsMpsName, same_bytes};
+ghost use Rattle.mpslp_model.specs.Model.{bytes_cmp};
+ghost use Rattle.mpslp_model.specs.Sides.{is_plus_infinite, is_minus_infinite};
+ghost use Rattle.mpslp_model.specs.Declaration.{empty_draft, adding, adding_all, declare_sense, declare_objective, declare_row, by_type, declare_range, declare_column, declare_coefficient, declare_right_side, declare_marked, declare_integer, right_side_declared, bounds_declared, is_objective, has_row, has_column, has_name, has_entry, is_free_form, is_free_row, is_limits_form, is_row_by_limits};
+ghost use Rattle.mpslp_model.specs.Refusal.{those_of, refusals, bounds_refusals};
+ghost use Rattle.mpslp_model.specs.Made.{is_given};
+ghost use Rattle.mpslp_model.specs.Answer.{Answers, HasMemory, first_refusal};
+
+use crate::entries::{PlaceAt, Position, find_entry, has_entry, put_entry};
+use crate::faults::BuildFault;
+use crate::kinds::{Limit, RowType, Sense};
+use crate::names::Name;
+use mpslp_decimal::Decimal;
+use mpslp_decimal::laws::each_value_is_a_decimal;
+use std::alloc::{AllocError, Global};
+use std::marker::Model;
+
+/// How a row was declared. Contracts see it as a `RowForm`.
+#[derive(Debug, Drop)]
+pub(crate) struct Form {
+    pub(crate) kind: FormKind,
+}
+
+/// What a row is declared by.
+#[derive(Clone, Copy, Debug)]
+pub(crate) enum FormKind {
+    /// Its type.
+    ByType(RowType),
+    /// Its lower and its upper limit.
+    ByLimits(Limit, Limit),
+}
+
+impl Model for Form {
+    ghost use Rattle.mpslp_model.specs.Declaration.{RowForm};
+
+    ghost Value = { RowForm };
+
+    ghost use Rattle.mpslp_model.specs.BuilderDraft.{row_form};
+
+    ghost view = { λ f. row_form f.kind };
+}
+
+impl Form {
+    /// A row by its type.
+    fn of_type(row_type: RowType) -> Form
+        ensures { result ≡ by_type row_type }
+    {
+        Form {
+            kind: FormKind::ByType(row_type),
+        }
+    }
+
+    /// Whether the row is of type N.
+    fn is_free(&self) -> bool
+        ensures { result ≡ is_free_form self.now }
+    {
+        match self.kind {
+            FormKind::ByType(RowType::Free) => true,
+            _ => false,
+        }
+    }
+
+    /// Whether the row is declared by its limits.
+    fn has_limits(&self) -> bool
+        ensures { result ≡ is_limits_form self.now }
+    {
+        match self.kind {
+            FormKind::ByType(_) => false,
+            FormKind::ByLimits(_, _) => true,
+        }
+    }
+}
+
+/// The parts of a model, declared one by one and in any order in which each row and column is there before it is
+/// named. Contracts see what has been declared.
+///
+/// A call that is refused answers the first of its refusals, in the order in which they are listed at the call, and
+/// the builder stays as it was. Only a call that has no refusal may answer
+/// [`OutOfMemory`](BuildFault::OutOfMemory), and then too the builder stays as it was.
+#[derive(Debug, Drop)]
+pub struct Builder {
+    pub(crate) alloc: Global,
+    pub(crate) sense: Option<Sense>,
+    pub(crate) objective: Option<Name>,
+    pub(crate) constant: Option<Decimal>,
+    pub(crate) rows: Vec<(Name, Form)>,
+    pub(crate) right_sides: Vec<(Name, Decimal)>,
+    pub(crate) ranges: Vec<(Name, Decimal)>,
+    pub(crate) columns: Vec<(Name, ())>,
+    pub(crate) coefficients: Vec<(Position, Decimal)>,
+    pub(crate) lowers: Vec<(Name, Limit)>,
+    pub(crate) uppers: Vec<(Name, Limit)>,
+    pub(crate) marked: Vec<(Name, ())>,
+    pub(crate) integers: Vec<(Name, ())>,
+    pub(crate) binaries: Vec<(Name, ())>,
+}
+
+impl Model for Builder {
+    ghost use Rattle.mpslp_model.specs.Declaration.{Draft};
+
+    ghost Value = { Draft };
+
+    ghost use Rattle.mpslp_model.specs.Made.{IsMade};
+    ghost use Rattle.mpslp_model.specs.BuilderDraft.{draft};
+
+    ghost view = { draft };
+
+    ghost invariant = { λ b. IsMade (draft b) };
+}
+
+/// Answers the first fault whose test holds, if there is one.
+fn refuse(tests: &[(bool, BuildFault)]) -> Result<(), BuildFault>
+    ensures { result ≡ first_refusal (those_of tests.now) }
+{
+    for (holds, fault) in tests {
+        if *holds {
+            return Err(*fault);
+        }
+    }
+    Ok(())
+}
+
+/// Whether the lower side is plus infinity, or the upper one minus infinity.
+fn have_infinite_side(lower: &Option<Limit>, upper: &Option<Limit>) -> bool
+    ensures { result ≡ (option_map_or is_plus_infinite lower.now false || option_map_or is_minus_infinite upper.now false) }
+{
+    match (lower, upper) {
+        (Some(Limit::PlusInf), _) => true,
+        (_, Some(Limit::MinusInf)) => true,
+        _ => false,
+    }
+}
+
+/// A side that is given, with a copy of its column's name.
+fn side_entry(alloc: Global, column: &[u8], side: Option<Limit>) -> Result<Option<(Name, Limit)>, AllocError>
+    requires { IsMpsName column.now }
+    ensures { IfOk result (λ entry. entry ≡ option_map (λ limit. (column.now, limit)) side) }
+{
+    match side {
+        Some(limit) => Ok(Some((Name::copied(alloc, column)?, limit))),
+        None => Ok(None),
+    }
+}
+
+/// Puts a side that is given. There is room for it.
+fn put_side(sides: &mut Vec<(Name, Limit)>, entry: Option<(Name, Limit)>)
+    requires room { vec_len sides.old < vec_capacity sides.old }
+    requires absent { ForSome entry (λ e. find bytes_cmp e.0 sides.old.items ≡ None) }
+    ensures { sides.new.items ≡ option_map_or (λ e. put bytes_cmp e.0 e.1 sides.old.items) entry sides.old.items }
+{
+    if let Some((name, limit)) = entry {
+        let _room = put_entry(sides, name, limit);
+    }
+}
+
+/// Whether the names have the same bytes.
+fn is_same(a: &[u8], b: &[u8]) -> bool
+    ensures { result ≡ same_bytes a.now b.now }
+{
+    a == b
+}
+
+impl Builder {
+    /// A builder to which nothing is declared.
+    pub fn new(alloc: Global) -> Builder
+        ensures { result ≡ empty_draft }
+    {
+        Builder {
+            alloc,
+            sense: None,
+            objective: None,
+            constant: None,
+            rows: Vec::new(alloc),
+            right_sides: Vec::new(alloc),
+            ranges: Vec::new(alloc),
+            columns: Vec::new(alloc),
+            coefficients: Vec::new(alloc),
+            lowers: Vec::new(alloc),
+            uppers: Vec::new(alloc),
+            marked: Vec::new(alloc),
+            integers: Vec::new(alloc),
+            binaries: Vec::new(alloc),
+        }
+    }
+
+    /// Whether the objective has its name.
+    pub fn has_objective(&self) -> bool
+        ensures { result ≡ is_some self.now.objective }
+    {
+        self.objective.is_some()
+    }
+
+    /// Whether the objective has this name.
+    fn is_objective(&self, name: &[u8]) -> bool
+        ensures { result ≡ is_objective self.now name.now }
+    {
+        match &self.objective {
+            Some(objective) => is_same(name, objective.as_bytes()),
+            None => false,
+        }
+    }
+
+    /// Whether a row of this name is declared; the objective counts.
+    pub fn has_row(&self, name: &[u8]) -> bool
+        ensures { result ≡ has_row self.now name.now }
+    {
+        self.is_objective(name) || has_entry(&self.rows, &name)
+    }
+
+    /// Whether a column of this name is declared.
+    pub fn has_column(&self, name: &[u8]) -> bool
+        ensures { result ≡ has_column self.now name.now }
+    {
+        has_entry(&self.columns, &name)
+    }
+
+    /// Whether a row of this name is declared by type N.
+    fn is_free_row(&self, name: &[u8]) -> bool
+        ensures { result ≡ is_free_row self.now name.now }
+    {
+        match find_entry(&self.rows, &name) {
+            Some(form) => form.is_free(),
+            None => false,
+        }
+    }
+
+    /// Whether a row of this name is declared by its limits.
+    fn is_row_by_limits(&self, name: &[u8]) -> bool
+        ensures { result ≡ is_row_by_limits self.now name.now }
+    {
+        match find_entry(&self.rows, &name) {
+            Some(form) => form.has_limits(),
+            None => false,
+        }
+    }
+
+    /// Whether the sense is declared.
+    fn has_sense(&self) -> bool
+        ensures { result ≡ is_some self.now.sense }
+    {
+        self.sense.is_some()
+    }
+
+    /// Whether the right side of this name is declared, as such, by the limits of a row or by the constant.
+    fn has_right_side(&self, row: &[u8]) -> bool
+        ensures { result ≡ (has_name self.now.right_sides row.now || (is_row_by_limits self.now row.now || (is_objective self.now row.now && is_some self.now.constant))) }
+    {
+        has_entry(&self.right_sides, &row) || (self.is_row_by_limits(row) || (self.is_objective(row) && self.constant.is_some()))
+    }
+
+    /// Whether the range of this name is declared, as such or by the limits of a row.
+    fn has_range(&self, row: &[u8]) -> bool
+        ensures { result ≡ (has_name self.now.ranges row.now || is_row_by_limits self.now row.now) }
+    {
+        has_entry(&self.ranges, &row) || self.is_row_by_limits(row)
+    }
+
+    /// Whether this is the objective or a row of type N.
+    fn has_no_sides(&self, row: &[u8]) -> bool
+        ensures { result ≡ (is_objective self.now row.now || is_free_row self.now row.now) }
+    {
+        self.is_objective(row) || self.is_free_row(row)
+    }
+
+    /// Whether a coefficient is declared there, 0 or not.
+    fn has_coefficient(&self, row: &[u8], column: &[u8]) -> bool
+        ensures { result ≡ has_entry self.now (record { row = row.now; column = column.now }) }
+    {
+        has_entry(&self.coefficients, &PlaceAt { row, column })
+    }
+
+    /// Whether a side that is given is declared already.
+    fn has_side(&self, column: &[u8], lower: &Option<Limit>, upper: &Option<Limit>) -> bool
+        ensures { result ≡ ((is_some lower.now && has_name self.now.lowers column.now) || (is_some upper.now && has_name self.now.uppers column.now)) }
+    {
+        (lower.is_some() && has_entry(&self.lowers, &column)) || (upper.is_some() && has_entry(&self.uppers, &column))
+    }
+
+    /// Whether a column of this name is declared as marked.
+    fn is_marked(&self, column: &[u8]) -> bool
+        ensures { result ≡ has_name self.now.marked column.now }
+    {
+        has_entry(&self.marked, &column)
+    }
+
+    /// Whether a column of this name is declared as integer.
+    fn is_integer(&self, column: &[u8]) -> bool
+        ensures { result ≡ has_name self.now.integers column.now }
+    {
+        has_entry(&self.integers, &column)
+    }
+
+    /// Declares the sense. If it is never declared, the objective is minimized.
+    ///
+    /// # Errors
+    ///
+    /// `DuplicateSense` where the sense is declared already. This call takes no memory.
+    pub fn sense(&mut self, sense: Sense) -> Result<(), BuildFault>
+        ensures answers { Answers (refusals self.old (declare_sense sense)) result (self.new ≡ adding self.old (declare_sense sense)) (self.new ≡ self.old) }
+        ensures memory { HasMemory result }
+    {
+        refuse(&[(self.has_sense(), BuildFault::DuplicateSense)])?;
+        self.sense = Some(sense);
+        Ok(())
+    }
+
+    /// Names the objective. No row has its name.
+    ///
+    /// # Errors
+    ///
+    /// `SecondObjective` where the objective has a name, `DuplicateRow` where a row has this one. The name is dropped then. This call takes no memory.
+    pub fn objective(&mut self, name: Name) -> Result<(), BuildFault>
+        ensures answers { Answers (refusals self.old (declare_objective name)) result (self.new ≡ adding self.old (declare_objective name)) (self.new ≡ self.old) }
+        ensures memory { HasMemory result }
+    {
+        refuse(&[
+            (self.has_objective(), BuildFault::SecondObjective),
+            (self.has_row(name.as_bytes()), BuildFault::DuplicateRow),
+        ])?;
+        self.objective = Some(name);
+        Ok(())
+    }
+
+    /// Declares a row by its type. Its right side is 0 if none is declared.
+    ///
+    /// # Errors
+    ///
+    /// `DuplicateRow` where a row or the objective has the name, `OutOfMemory`. The name is dropped then.
+    pub fn row(&mut self, name: Name, row_type: RowType) -> Result<(), BuildFault>
+        ensures { Answers (refusals self.old (declare_row name (by_type row_type))) result (self.new ≡ adding self.old (declare_row name (by_type row_type))) (self.new ≡ self.old) }
+    {
+        refuse(&[(self.has_row(name.as_bytes()), BuildFault::DuplicateRow)])?;
+        put_entry(&mut self.rows, name, Form::of_type(row_type))?;
+        Ok(())
+    }
+
+    /// Declares the right side of a row. On the objective it is the negative of the constant; on a row of type
+    /// [`Free`](RowType::Free) it declares nothing, however often it is given.
+    ///
+    /// # Errors
+    ///
+    /// `UnknownRow` where neither a row nor the objective has the name, `DuplicateRhs` where the right side is declared already, `OutOfMemory`.
+    pub fn rhs(&mut self, row: &[u8], value: Decimal) -> Result<(), BuildFault>
+        ensures { Answers (refusals self.old (declare_right_side row.now value)) result (self.new ≡ adding_all self.old (right_side_declared self.old row.now value)) (self.new ≡ self.old) }
+    {
+        refuse(&[
+            (!self.has_row(row), BuildFault::UnknownRow),
+            (self.has_right_side(row), BuildFault::DuplicateRhs),
+        ])?;
+        if self.is_free_row(row) {
+            return Ok(());
+        }
+        let name = Name::copied(self.alloc, row)?;
+        each_value_is_a_decimal(value);
+        put_entry(&mut self.right_sides, name, value)?;
+        Ok(())
+    }
+
+    /// Declares the range value of a row: the row's other side lies so far from its right side. Which side, and in
+    /// which direction, hangs on the row's type and, on a row of type [`Equal`](RowType::Equal), on the sign.
+    ///
+    /// # Errors
+    ///
+    /// `UnknownRow` where neither a row nor the objective has the name, `DuplicateRange` where the range is declared already, `RangeOnFree` on the objective or a row of type [`Free`](RowType::Free), `InfiniteValue` where
+    /// the size is 10^20 or more, `OutOfMemory`.
+    pub fn range(&mut self, row: &[u8], value: Decimal) -> Result<(), BuildFault>
+        ensures { Answers (refusals self.old (declare_range row.now value)) result (self.new ≡ adding self.old (declare_range row.now value)) (self.new ≡ self.old) }
+    {
+        refuse(&[
+            (!self.has_row(row), BuildFault::UnknownRow),
+            (self.has_range(row), BuildFault::DuplicateRange),
+            (self.has_no_sides(row), BuildFault::RangeOnFree),
+            (value.is_infinite_size(), BuildFault::InfiniteValue),
+        ])?;
+        let name = Name::copied(self.alloc, row)?;
+        each_value_is_a_decimal(value);
+        put_entry(&mut self.ranges, name, value)?;
+        Ok(())
+    }
+
+    /// Declares a column. One that is declared already stays as it is.
+    ///
+    /// # Errors
+    ///
+    /// `OutOfMemory` alone. The name is dropped then.
+    pub fn column(&mut self, name: Name) -> Result<(), BuildFault>
+        ensures { Answers (refusals self.old (declare_column name)) result (self.new ≡ adding self.old (declare_column name)) (self.new ≡ self.old) }
+    {
+        if self.has_column(name.as_bytes()) {
+            return Ok(());
+        }
+        put_entry(&mut self.columns, name, ())?;
+        Ok(())
+    }
+
+    /// Declares a coefficient of a row, or of the objective. Zero is declared like any other number, and is no element of
+    /// the model.
+    ///
+    /// # Errors
+    ///
+    /// `UnknownRow` where neither a row nor the objective has the name, `UnknownColumn` where no column has the other name, `DuplicateEntry` where a coefficient is declared there, `OutOfMemory`.
+    pub fn coefficient(&mut self, row: &[u8], column: &[u8], value: Decimal) -> Result<(), BuildFault>
+        ensures { let declared = declare_coefficient (record { row = row.now; column = column.now }) value in Answers (refusals self.old declared) result (self.new ≡ adding self.old declared) (self.new ≡ self.old) }
+    {
+        refuse(&[
+            (!self.has_row(row), BuildFault::UnknownRow),
+            (!self.has_column(column), BuildFault::UnknownColumn),
+            (self.has_coefficient(row, column), BuildFault::DuplicateEntry),
+        ])?;
+        let row_name = Name::copied(self.alloc, row)?;
+        let column_name = Name::copied(self.alloc, column)?;
+        each_value_is_a_decimal(value);
+        put_entry(&mut self.coefficients, Position::new(row_name, column_name), value)?;
+        Ok(())
+    }
+
+    /// Declares the sides of a column that are given: both, one or none. A number among them is of size below 10^20.
+    ///
+    /// If none is ever declared, the lower bound is 0. The upper one is then plus infinity, but 1 of a column that is
+    /// [marked](Self::marked) and has no side declared.
+    ///
+    /// # Errors
+    ///
+    /// Over both sides: `UnknownColumn` where no column has the name, `DuplicateBound` where a side that is given is declared already, `InfiniteValue` for a lower side of plus infinity or an upper one of minus infinity, `OutOfMemory`.
+    pub fn bounds(&mut self, column: &[u8], lower: Option<Limit>, upper: Option<Limit>) -> Result<(), BuildFault>
+        requires lower { ForSome lower (λ side. IsTrue (is_given side)) }
+        requires upper { ForSome upper (λ side. IsTrue (is_given side)) }
+        ensures { Answers (bounds_refusals self.old column.now lower upper) result (self.new ≡ adding_all self.old (bounds_declared column.now lower upper)) (self.new ≡ self.old) }
+    {
+        refuse(&[
+            (!self.has_column(column), BuildFault::UnknownColumn),
+            (self.has_side(column, &lower, &upper), BuildFault::DuplicateBound),
+            (have_infinite_side(&lower, &upper), BuildFault::InfiniteValue),
+        ])?;
+        let lower = side_entry(self.alloc, column, lower)?;
+        let upper = side_entry(self.alloc, column, upper)?;
+        self.lowers.reserve(1)?;
+        self.uppers.reserve(1)?;
+        put_side(&mut self.lowers, lower);
+        put_side(&mut self.uppers, upper);
+        Ok(())
+    }
+
+    /// Declares that a column stands in an integer part of an MPS file. It takes whole numbers alone, and its upper
+    /// bound is 1 if no side is declared. It may be declared again.
+    ///
+    /// # Errors
+    ///
+    /// `UnknownColumn` where no column has the name, `OutOfMemory`.
+    pub fn marked(&mut self, column: &[u8]) -> Result<(), BuildFault>
+        ensures { Answers (refusals self.old (declare_marked column.now)) result (self.new ≡ adding self.old (declare_marked column.now)) (self.new ≡ self.old) }
+    {
+        refuse(&[(!self.has_column(column), BuildFault::UnknownColumn)])?;
+        if self.is_marked(column) {
+            return Ok(());
+        }
+        let name = Name::copied(self.alloc, column)?;
+        put_entry(&mut self.marked, name, ())?;
+        Ok(())
+    }
+
+    /// Declares that a column takes whole numbers alone. It may be declared again.
+    ///
+    /// # Errors
+    ///
+    /// `UnknownColumn` where no column has the name, `OutOfMemory`.
+    pub fn integer(&mut self, column: &[u8]) -> Result<(), BuildFault>
+        ensures { Answers (refusals self.old (declare_integer column.now)) result (self.new ≡ adding self.old (declare_integer column.now)) (self.new ≡ self.old) }
+    {
+        refuse(&[(!self.has_column(column), BuildFault::UnknownColumn)])?;
+        if self.is_integer(column) {
+            return Ok(());
+        }
+        let name = Name::copied(self.alloc, column)?;
+        put_entry(&mut self.integers, name, ())?;
+        Ok(())
+    }
+}
