@@ -9,11 +9,7 @@ use Rattle.mpslp_model.specs.Refusal.{those_of}
 use Rattle.mpslp_model.specs.FaultOrder.{kind_rank, least_kind}
 use Rattle.mpslp_model.specs.declared.faults.FaultKind.{FaultKind}
 use Rattle.mpslp_mps.specs.FieldFault.{Tests}
-
--- the kind of the first test that holds
-abbrev pub first_held : Tests → Option FaultKind
-first_held [] = None
-first_held (test ∷ more) = if test.0 then Some test.1 else first_held more
+use Rattle.mpslp_mps.specs.FirstHeld.{first_held}
 
 -- not before the kind, in the order of kinds
 abbrev pub is_from : FaultKind → FaultKind → Bool

@@ -16,3 +16,4 @@ pub mod ObjectiveLemmas
 pub mod ModelFromNoFault
 pub mod ReadingLemmas
 pub mod LeastLemmas
+pub mod FieldsLemmas

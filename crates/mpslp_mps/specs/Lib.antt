@@ -4,8 +4,10 @@ pub mod DataLine
 pub mod BoundLine
 pub mod Context
 pub mod NextContext
+pub mod ContextStep
 pub mod LineMeaning
 pub mod FieldFault
+pub mod FirstHeld
 pub mod HeaderFault
 pub mod DataFault
 pub mod LineFault

@@ -7,9 +7,14 @@
 #![tactic(auto)]
 
 mod bound_types;
+mod context;
+mod fields;
+mod headers;
+mod judging;
 pub mod laws;
 mod lines;
 mod sections;
+mod words;
 
 pub use bound_types::BoundType;
 pub use lines::MAX_LINE_LEN;

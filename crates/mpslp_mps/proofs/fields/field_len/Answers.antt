@@ -1,0 +1,6 @@
+use Rattle.std.proofs.Common.{◌∙◌, sym}
+use Rattle.mpslp_mps.proofs.FieldsLemmas.{position-none}
+use Rattle.mpslp_mps.proofs.fields.field_len.Goals as goal
+
+pub returns-in-None-clause-len : goal.returns-in-None-clause-len
+returns-in-None-clause-len c = position-none _ c.args.text.now (sym c.first_blank.ensures ∙ c.in-None.is)

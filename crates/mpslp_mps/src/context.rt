@@ -1,0 +1,278 @@
+//! What the lines before one say of it.
+
+ghost use Rattle.std.specs.Prelude.{◌≡◌, [], false, not, OnOk};
+ghost use Rattle.std.specs.Option.{option_map_or};
+ghost use Rattle.mpslp_model.specs.Name.{same_bytes};
+ghost use Rattle.mpslp_mps.specs.Context.{has_seen, context_of};
+ghost use Rattle.mpslp_mps.specs.ContextStep.{seen_with, after_header, after_data, after_marker, after_column, after_right_side, after_range, after_bound};
+ghost use Rattle.mpslp_mps.specs.HeaderFault.{may_begin, is_out_of_order};
+
+use crate::sections::Section;
+use std::alloc::{AllocError, Global};
+use std::marker::Model;
+
+/// Which sections have begun.
+#[derive(Clone, Copy, Debug)]
+struct SeenSections {
+    name: bool,
+    objsense: bool,
+    rows: bool,
+    columns: bool,
+    rhs: bool,
+    ranges: bool,
+    bounds: bool,
+}
+
+/// What the lines before one say of it. Contracts see it as a `Context`.
+///
+/// A call that finds no memory leaves a context that is not to be used any more.
+#[derive(Debug, Drop)]
+pub(crate) struct LineContext {
+    alloc: Global,
+    section: Option<Section>,
+    seen: SeenSections,
+    wants_sense: bool,
+    in_integer_part: bool,
+    last_column: Option<Vec<u8>>,
+    rhs_set: Option<Vec<u8>>,
+    ranges_set: Option<Vec<u8>>,
+    bounds_set: Option<Vec<u8>>,
+}
+
+impl Model for LineContext {
+    ghost use Rattle.std.specs.Option.{option_map};
+    ghost use Rattle.mpslp_mps.specs.Context.{Seen, Context};
+
+    ghost Value = { Context };
+
+    ghost view = { λ c. record {
+      section = c.section;
+      seen = record {
+        name = c.seen.name;
+        objsense = c.seen.objsense;
+        rows = c.seen.rows;
+        columns = c.seen.columns;
+        rhs = c.seen.rhs;
+        ranges = c.seen.ranges;
+        bounds = c.seen.bounds;
+      };
+      wants_sense = c.wants_sense;
+      in_integer_part = c.in_integer_part;
+      last_column = option_map (λ name. name.items) c.last_column;
+      rhs_set = option_map (λ name. name.items) c.rhs_set;
+      ranges_set = option_map (λ name. name.items) c.ranges_set;
+      bounds_set = option_map (λ name. name.items) c.bounds_set;
+    } };
+}
+
+/// Whether there is such a name and it has these bytes.
+fn is_name(name: &Option<Vec<u8>>, bytes: &[u8]) -> bool
+    ensures { result ≡ option_map_or (λ known. same_bytes bytes.now known.items) name.now false }
+{
+    match name {
+        Some(known) => bytes == known.as_slice(),
+        None => false,
+    }
+}
+
+/// Whether there is such a name and it has other bytes.
+fn is_other_name(name: &Option<Vec<u8>>, bytes: &[u8]) -> bool
+    ensures { result ≡ option_map_or (λ known. not (same_bytes known.items bytes.now)) name.now false }
+{
+    match name {
+        Some(known) => known.as_slice() != bytes,
+        None => false,
+    }
+}
+
+impl LineContext {
+    /// What no lines say.
+    pub(crate) fn new(alloc: Global) -> LineContext
+        ensures { result ≡ context_of [] }
+    {
+        LineContext {
+            alloc,
+            section: None,
+            seen: SeenSections {
+                name: false,
+                objsense: false,
+                rows: false,
+                columns: false,
+                rhs: false,
+                ranges: false,
+                bounds: false,
+            },
+            wants_sense: false,
+            in_integer_part: false,
+            last_column: None,
+            rhs_set: None,
+            ranges_set: None,
+            bounds_set: None,
+        }
+    }
+
+    /// The section that the line stands in.
+    pub(crate) fn section(&self) -> Option<Section>
+        ensures { result ≡ self.now.section }
+    {
+        self.section
+    }
+
+    /// Whether the word of an OBJSENSE is to come.
+    pub(crate) fn wants_sense(&self) -> bool
+        ensures { result ≡ self.now.wants_sense }
+    {
+        self.wants_sense
+    }
+
+    /// Whether the integer part is open.
+    pub(crate) fn in_integer_part(&self) -> bool
+        ensures { result ≡ self.now.in_integer_part }
+    {
+        self.in_integer_part
+    }
+
+    /// Whether the last line is one of this column.
+    pub(crate) fn is_last_column(&self, column: &[u8]) -> bool
+        ensures { result ≡ option_map_or (same_bytes column.now) self.now.last_column false }
+    {
+        is_name(&self.last_column, column)
+    }
+
+    /// Whether the section has begun.
+    pub(crate) fn has_seen(&self, section: Section) -> bool
+        ensures { result ≡ has_seen self.now.seen section }
+    {
+        match section {
+            Section::Name => self.seen.name,
+            Section::ObjSense => self.seen.objsense,
+            Section::Rows => self.seen.rows,
+            Section::Columns => self.seen.columns,
+            Section::Rhs => self.seen.rhs,
+            Section::Ranges => self.seen.ranges,
+            Section::Bounds => self.seen.bounds,
+            Section::EndData => false,
+        }
+    }
+
+    /// Whether the section, if it has not begun, may begin here.
+    fn may_begin(&self, section: Section) -> bool
+        ensures { result ≡ may_begin self.now section }
+    {
+        match section {
+            Section::Name => self.section.is_none(),
+            Section::ObjSense => !self.seen.rows,
+            Section::Rows => true,
+            Section::Columns => self.seen.rows,
+            Section::Rhs | Section::Ranges | Section::Bounds | Section::EndData => self
+                .seen
+                .columns,
+        }
+    }
+
+    /// Whether the section's header may not stand here, though it has not begun before.
+    pub(crate) fn is_out_of_order(&self, section: Section) -> bool
+        ensures { result ≡ is_out_of_order self.now section }
+    {
+        self.wants_sense || !(self.has_seen(section) || self.may_begin(section))
+    }
+
+    /// Whether the set name is another one than that of the first line of RHS.
+    pub(crate) fn is_second_rhs_set(&self, set: &[u8]) -> bool
+        ensures { result ≡ option_map_or (λ name. not (same_bytes name set.now)) self.now.rhs_set false }
+    {
+        is_other_name(&self.rhs_set, set)
+    }
+
+    /// Whether the set name is another one than that of the first line of RANGES.
+    pub(crate) fn is_second_ranges_set(&self, set: &[u8]) -> bool
+        ensures { result ≡ option_map_or (λ name. not (same_bytes name set.now)) self.now.ranges_set false }
+    {
+        is_other_name(&self.ranges_set, set)
+    }
+
+    /// Whether the set name is another one than that of the first line of BOUNDS.
+    pub(crate) fn is_second_bounds_set(&self, set: &[u8]) -> bool
+        ensures { result ≡ option_map_or (λ name. not (same_bytes name set.now)) self.now.bounds_set false }
+    {
+        is_other_name(&self.bounds_set, set)
+    }
+
+    /// Goes past the header of a section; `is_bare` says that it is an OBJSENSE without its word.
+    pub(crate) fn pass_header(&mut self, section: Section, is_bare: bool)
+        ensures { self.new ≡ after_header self.old section is_bare }
+    {
+        match section {
+            Section::Name => self.seen.name = true,
+            Section::ObjSense => self.seen.objsense = true,
+            Section::Rows => self.seen.rows = true,
+            Section::Columns => self.seen.columns = true,
+            Section::Rhs => self.seen.rhs = true,
+            Section::Ranges => self.seen.ranges = true,
+            Section::Bounds => self.seen.bounds = true,
+            Section::EndData => {}
+        }
+        self.section = Some(section);
+        self.wants_sense = is_bare;
+    }
+
+    /// Goes past a data line of OBJSENSE or ROWS.
+    pub(crate) fn pass_data(&mut self)
+        ensures { self.new ≡ after_data self.old }
+    {
+        self.wants_sense = false;
+    }
+
+    /// Goes past a marker line that opens or closes the integer part.
+    pub(crate) fn pass_marker(&mut self, opens: bool)
+        ensures { self.new ≡ after_marker self.old opens }
+    {
+        self.wants_sense = false;
+        self.in_integer_part = opens;
+        self.last_column = None;
+    }
+
+    /// Goes past a line of a column. Memory is taken only where the last line is none of it.
+    pub(crate) fn pass_column(&mut self, column: &[u8]) -> Result<(), AllocError>
+        ensures { OnOk result (self.new ≡ after_column self.old column.now) }
+    {
+        self.wants_sense = false;
+        if !is_name(&self.last_column, column) {
+            self.last_column = Some(column.to_vec(self.alloc)?);
+        }
+        Ok(())
+    }
+
+    /// Goes past a line of RHS with this set name.
+    pub(crate) fn pass_right_side(&mut self, set: &[u8]) -> Result<(), AllocError>
+        ensures { OnOk result (self.new ≡ after_right_side self.old set.now) }
+    {
+        self.wants_sense = false;
+        if self.rhs_set.is_none() {
+            self.rhs_set = Some(set.to_vec(self.alloc)?);
+        }
+        Ok(())
+    }
+
+    /// Goes past a line of RANGES with this set name.
+    pub(crate) fn pass_range(&mut self, set: &[u8]) -> Result<(), AllocError>
+        ensures { OnOk result (self.new ≡ after_range self.old set.now) }
+    {
+        self.wants_sense = false;
+        if self.ranges_set.is_none() {
+            self.ranges_set = Some(set.to_vec(self.alloc)?);
+        }
+        Ok(())
+    }
+
+    /// Goes past a line of BOUNDS with this set name.
+    pub(crate) fn pass_bound(&mut self, set: &[u8]) -> Result<(), AllocError>
+        ensures { OnOk result (self.new ≡ after_bound self.old set.now) }
+    {
+        self.wants_sense = false;
+        if self.bounds_set.is_none() {
+            self.bounds_set = Some(set.to_vec(self.alloc)?);
+        }
+        Ok(())
+    }
+}

@@ -1,0 +1,81 @@
+//! The fields of a line.
+
+ghost use Rattle.std.specs.Prelude.{◌≡◌, ◌≤◌, [], ◌∷◌, map, take, drop, length, not, MatchOption};
+ghost use Rattle.std.specs.List.{position, position_or_len};
+ghost use Rattle.mpslp_mps.specs.Line.{is_blank, fields};
+
+use crate::lines::is_blank;
+use arrayvec::ArrayVec;
+
+/// One field more than a data line of any shape has.
+pub(crate) const FRONT_LEN: usize = 6;
+
+/// Where the first byte other than a blank or tab stands.
+fn first_solid(text: &[u8]) -> Option<usize>
+    ensures { result ≡ position (λ byte. not (is_blank byte)) text.now }
+{
+    text.iter().position(|byte| !is_blank(*byte))
+}
+
+/// Where the first blank or tab stands.
+fn first_blank(text: &[u8]) -> Option<usize>
+    ensures { result ≡ position is_blank text.now }
+{
+    text.iter().position(|byte| is_blank(*byte))
+}
+
+/// How many blanks and tabs a text begins with.
+fn blanks_len(text: &[u8]) -> usize
+    ensures len { result ≡ position_or_len (λ byte. not (is_blank byte)) text.now }
+    ensures within { result ≤ length text.now }
+{
+    match first_solid(text) {
+        Some(at) => at,
+        None => text.len(),
+    }
+}
+
+/// How many bytes other than blanks and tabs a text begins with.
+fn field_len(text: &[u8]) -> usize
+    ensures len { result ≡ position_or_len is_blank text.now }
+    ensures within { result ≤ length text.now }
+{
+    match first_blank(text) {
+        Some(at) => at,
+        None => text.len(),
+    }
+}
+
+/// A text from its first field on.
+fn from_field(text: &[u8]) -> &[u8]
+    ensures { result.now ≡ drop (position_or_len (λ byte. not (is_blank byte)) text.now) text.now }
+{
+    &text[blanks_len(text)..]
+}
+
+/// The first field of a text and what follows it; `None` where the text has no field.
+fn next_field<'a>(text: &'a [u8]) -> Option<(&'a [u8], &'a [u8])>
+    ensures { MatchOption result (fields text.now ≡ []) (λ found. fields text.now ≡ found.0.now ∷ fields found.1.now) }
+{
+    let text = from_field(text);
+    if text.is_empty() {
+        return None;
+    }
+    Some(text.split_at(field_len(text)))
+}
+
+/// The first fields of a line, at most [`FRONT_LEN`]: they show its shape.
+pub(crate) fn front_fields<'a>(line: &'a [u8]) -> ArrayVec<&'a [u8], FRONT_LEN>
+    ensures { map (λ field. field.now) result.items ≡ take FRONT_LEN (fields line.now) }
+{
+    let mut found = ArrayVec::new();
+    let mut rest = line;
+    for _ in 0..FRONT_LEN {
+        let Some((field, after)) = next_field(rest) else {
+            break;
+        };
+        found.push(field);
+        rest = after;
+    }
+    found
+}

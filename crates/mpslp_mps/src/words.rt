@@ -1,0 +1,183 @@
+//! The words of the format: keywords, types and senses.
+
+ghost use Rattle.std.specs.Prelude.{◌≡◌, if◌then◌else◌, codes, [], ◌∷◌};
+ghost use Rattle.std.specs.List.{list_any};
+ghost use Rattle.mpslp_model.specs.Name.{same_bytes, marker, is_one_of};
+ghost use Rattle.mpslp_mps.specs.Section.{keyword_of, section_named};
+ghost use Rattle.mpslp_mps.specs.DataLine.{sense_of, row_type, opening_word, closing_word};
+ghost use Rattle.mpslp_mps.specs.BoundLine.{bound_type, is_semi_continuous_type, takes_value};
+ghost use Rattle.mpslp_mps.specs.HeaderFault.{unknown_section};
+
+use crate::bound_types::BoundType;
+use crate::sections::Section;
+use mpslp_model::{FaultKind, RowType, Sense};
+
+/// Whether the word is one of these.
+fn is_one_of(words: &[&[u8]], word: &[u8]) -> bool
+    ensures { result ≡ list_any (λ known. same_bytes word.now known.now) words.now }
+{
+    words.iter().any(|known| word == *known)
+}
+
+/// All sections.
+const SECTIONS: [Section; 8] = [
+    Section::Name,
+    Section::ObjSense,
+    Section::Rows,
+    Section::Columns,
+    Section::Rhs,
+    Section::Ranges,
+    Section::Bounds,
+    Section::EndData,
+];
+
+impl Section {
+    /// The word that begins the section's header.
+    fn keyword(self) -> &'static [u8]
+        ensures { result.now ≡ keyword_of self }
+    {
+        match self {
+            Section::Name => b"NAME".as_slice(),
+            Section::ObjSense => b"OBJSENSE".as_slice(),
+            Section::Rows => b"ROWS".as_slice(),
+            Section::Columns => b"COLUMNS".as_slice(),
+            Section::Rhs => b"RHS".as_slice(),
+            Section::Ranges => b"RANGES".as_slice(),
+            Section::Bounds => b"BOUNDS".as_slice(),
+            Section::EndData => b"ENDATA".as_slice(),
+        }
+    }
+}
+
+/// The section of a keyword.
+pub(crate) fn section_named(keyword: &[u8]) -> Option<Section>
+    ensures { result ≡ section_named keyword.now }
+{
+    SECTIONS
+        .iter()
+        .copied()
+        .find(|section| keyword == section.keyword())
+}
+
+/// The fault of a header that begins no section of this profile.
+pub(crate) fn unknown_section(keyword: &[u8]) -> FaultKind
+    ensures { result ≡ unknown_section keyword.now }
+{
+    let quadratic = [
+        b"QSECTION".as_slice(),
+        b"QMATRIX".as_slice(),
+        b"QUADOBJ".as_slice(),
+        b"QCMATRIX".as_slice(),
+        b"CSECTION".as_slice(),
+    ];
+    let ordered_sets = [b"SOS".as_slice(), b"SOS1".as_slice(), b"SOS2".as_slice()];
+    if is_one_of(&quadratic, keyword) {
+        FaultKind::Quadratic
+    } else if is_one_of(&ordered_sets, keyword) {
+        FaultKind::Sos
+    } else if is_one_of(&[b"INDICATORS".as_slice()], keyword) {
+        FaultKind::Indicator
+    } else {
+        FaultKind::UnknownSection
+    }
+}
+
+/// The sense of a word of OBJSENSE.
+pub(crate) fn sense_of(word: &[u8]) -> Option<Sense>
+    ensures { result ≡ sense_of word.now }
+{
+    if is_one_of(&[b"MAX".as_slice(), b"MAXIMIZE".as_slice()], word) {
+        Some(Sense::Maximize)
+    } else if is_one_of(&[b"MIN".as_slice(), b"MINIMIZE".as_slice()], word) {
+        Some(Sense::Minimize)
+    } else {
+        None
+    }
+}
+
+/// The type of a letter of ROWS.
+pub(crate) fn row_type(letter: &[u8]) -> Option<RowType>
+    ensures { result ≡ row_type letter.now }
+{
+    match letter {
+        b"N" => Some(RowType::Free),
+        b"L" => Some(RowType::AtMost),
+        b"G" => Some(RowType::AtLeast),
+        b"E" => Some(RowType::Equal),
+        _ => None,
+    }
+}
+
+/// The type of the letters of a bound.
+pub(crate) fn bound_type(letters: &[u8]) -> Option<BoundType>
+    ensures { result ≡ bound_type letters.now }
+{
+    match letters {
+        b"LO" => Some(BoundType::Lower),
+        b"UP" => Some(BoundType::Upper),
+        b"FX" => Some(BoundType::Fixed),
+        b"FR" => Some(BoundType::Free),
+        b"MI" => Some(BoundType::NoLower),
+        b"PL" => Some(BoundType::NoUpper),
+        b"BV" => Some(BoundType::Binary),
+        b"LI" => Some(BoundType::IntegerLower),
+        b"UI" => Some(BoundType::IntegerUpper),
+        _ => None,
+    }
+}
+
+/// Whether the letters are the type of semi-continuous columns.
+pub(crate) fn is_semi_continuous_type(letters: &[u8]) -> bool
+    ensures { result ≡ is_semi_continuous_type letters.now }
+{
+    letters == b"SC".as_slice()
+}
+
+impl BoundType {
+    /// Whether a line of this type has a value.
+    pub(crate) fn takes_value(self) -> bool
+        ensures { result ≡ takes_value self }
+    {
+        match self {
+            BoundType::Lower
+            | BoundType::Upper
+            | BoundType::Fixed
+            | BoundType::IntegerLower
+            | BoundType::IntegerUpper => true,
+            BoundType::Free | BoundType::NoLower | BoundType::NoUpper | BoundType::Binary => false,
+        }
+    }
+}
+
+/// Whether the second field of a line of COLUMNS makes it a marker line.
+pub(crate) fn is_marker(field: &[u8]) -> bool
+    ensures { result ≡ same_bytes field.now marker }
+{
+    field == b"'MARKER'".as_slice()
+}
+
+/// Whether the word of a marker line begins or ends a special ordered set.
+pub(crate) fn is_sos_word(word: &[u8]) -> bool
+    ensures { result ≡ is_one_of (codes "'SOSORG'" ∷ codes "'SOSEND'" ∷ []) word.now }
+{
+    is_one_of(&[b"'SOSORG'".as_slice(), b"'SOSEND'".as_slice()], word)
+}
+
+/// Whether the word opens the integer part.
+pub(crate) fn is_opening_word(word: &[u8]) -> bool
+    ensures { result ≡ same_bytes opening_word word.now }
+{
+    b"'INTORG'".as_slice() == word
+}
+
+/// Whether the word of a marker line is the one that is due: it closes the integer part where that is open, and
+/// opens it elsewhere.
+pub(crate) fn is_due_word(word: &[u8], in_integer_part: bool) -> bool
+    ensures { result ≡ same_bytes word.now (if in_integer_part then closing_word else opening_word) }
+{
+    if in_integer_part {
+        word == b"'INTEND'".as_slice()
+    } else {
+        word == b"'INTORG'".as_slice()
+    }
+}
