@@ -17,7 +17,7 @@ put-insert R k v [] h = refl
 put-insert {K} {X} R k v (e ∷ es) h =
     let n = position_or_len (λ (entry : K × X). is_lt (R k entry.0)) es in
     elim (R k e.0) as (λ r. cond (is_eq r) (Some e.1) (find R k es) ≡ None
-        → by_order r ((k, v) ∷ e ∷ es) ((e.0, v) ∷ es) (e ∷ put R k v es) ≡ insert (e ∷ es) (cond (not (is_lt r)) (1 + n) 0) (k, v)) [
+    → by_order r ((k, v) ∷ e ∷ es) ((e.0, v) ∷ es) (e ∷ put R k v es) ≡ insert (e ∷ es) (cond (not (is_lt r)) (1 + n) 0) (k, v)) [
       | Less ↦ λ _. refl
       | Equal ↦ λ same. cc
       | Greater ↦ λ rest. ap (λ (xs : List (K × X)). e ∷ xs) (put-insert R k v es rest) ∙ ap (λ (i : ℕ). insert (e ∷ es) i (k, v)) (sym (suc_of n))

@@ -138,7 +138,11 @@ fn have_infinite_side(lower: &Option<Limit>, upper: &Option<Limit>) -> bool
 }
 
 /// A side that is given, with a copy of its column's name.
-fn side_entry(alloc: Global, column: &[u8], side: Option<Limit>) -> Result<Option<(Name, Limit)>, AllocError>
+fn side_entry(
+    alloc: Global,
+    column: &[u8],
+    side: Option<Limit>,
+) -> Result<Option<(Name, Limit)>, AllocError>
     requires { IsMpsName column.now }
     ensures { IfOk result (λ entry. entry ≡ option_map (λ limit. (column.now, limit)) side) }
 {
@@ -251,7 +255,8 @@ impl Builder {
     fn has_right_side(&self, row: &[u8]) -> bool
         ensures { result ≡ (has_name self.now.right_sides row.now || (is_row_by_limits self.now row.now || (is_objective self.now row.now && is_some self.now.constant))) }
     {
-        has_entry(&self.right_sides, &row) || (self.is_row_by_limits(row) || (self.is_objective(row) && self.constant.is_some()))
+        has_entry(&self.right_sides, &row)
+            || (self.is_row_by_limits(row) || (self.is_objective(row) && self.constant.is_some()))
     }
 
     /// Whether the range of this name is declared, as such or by the limits of a row.
@@ -279,7 +284,8 @@ impl Builder {
     fn has_side(&self, column: &[u8], lower: &Option<Limit>, upper: &Option<Limit>) -> bool
         ensures { result ≡ ((is_some lower.now && has_name self.now.lowers column.now) || (is_some upper.now && has_name self.now.uppers column.now)) }
     {
-        (lower.is_some() && has_entry(&self.lowers, &column)) || (upper.is_some() && has_entry(&self.uppers, &column))
+        (lower.is_some() && has_entry(&self.lowers, &column))
+            || (upper.is_some() && has_entry(&self.uppers, &column))
     }
 
     /// Whether a column of this name is declared as marked.
@@ -405,18 +411,30 @@ impl Builder {
     /// # Errors
     ///
     /// `UnknownRow` where neither a row nor the objective has the name, `UnknownColumn` where no column has the other name, `DuplicateEntry` where a coefficient is declared there, `OutOfMemory`.
-    pub fn coefficient(&mut self, row: &[u8], column: &[u8], value: Decimal) -> Result<(), BuildFault>
+    pub fn coefficient(
+        &mut self,
+        row: &[u8],
+        column: &[u8],
+        value: Decimal,
+    ) -> Result<(), BuildFault>
         ensures { let declared = declare_coefficient (record { row = row.now; column = column.now }) value in Answers (refusals self.old declared) result (self.new ≡ adding self.old declared) (self.new ≡ self.old) }
     {
         refuse(&[
             (!self.has_row(row), BuildFault::UnknownRow),
             (!self.has_column(column), BuildFault::UnknownColumn),
-            (self.has_coefficient(row, column), BuildFault::DuplicateEntry),
+            (
+                self.has_coefficient(row, column),
+                BuildFault::DuplicateEntry,
+            ),
         ])?;
         let row_name = Name::copied(self.alloc, row)?;
         let column_name = Name::copied(self.alloc, column)?;
         each_value_is_a_decimal(value);
-        put_entry(&mut self.coefficients, Position::new(row_name, column_name), value)?;
+        put_entry(
+            &mut self.coefficients,
+            Position::new(row_name, column_name),
+            value,
+        )?;
         Ok(())
     }
 
@@ -428,15 +446,26 @@ impl Builder {
     /// # Errors
     ///
     /// Over both sides: `UnknownColumn` where no column has the name, `DuplicateBound` where a side that is given is declared already, `InfiniteValue` for a lower side of plus infinity or an upper one of minus infinity, `OutOfMemory`.
-    pub fn bounds(&mut self, column: &[u8], lower: Option<Limit>, upper: Option<Limit>) -> Result<(), BuildFault>
+    pub fn bounds(
+        &mut self,
+        column: &[u8],
+        lower: Option<Limit>,
+        upper: Option<Limit>,
+    ) -> Result<(), BuildFault>
         requires lower { ForSome lower (λ side. IsTrue (is_given side)) }
         requires upper { ForSome upper (λ side. IsTrue (is_given side)) }
         ensures { Answers (bounds_refusals self.old column.now lower upper) result (self.new ≡ adding_all self.old (bounds_declared column.now lower upper)) (self.new ≡ self.old) }
     {
         refuse(&[
             (!self.has_column(column), BuildFault::UnknownColumn),
-            (self.has_side(column, &lower, &upper), BuildFault::DuplicateBound),
-            (have_infinite_side(&lower, &upper), BuildFault::InfiniteValue),
+            (
+                self.has_side(column, &lower, &upper),
+                BuildFault::DuplicateBound,
+            ),
+            (
+                have_infinite_side(&lower, &upper),
+                BuildFault::InfiniteValue,
+            ),
         ])?;
         let lower = side_entry(self.alloc, column, lower)?;
         let upper = side_entry(self.alloc, column, upper)?;

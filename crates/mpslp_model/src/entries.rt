@@ -150,7 +150,11 @@ fn place_of<K, V, Q: Query<K>>(entries: &[(K, V)], query: &Q) -> usize
 }
 
 /// Puts an entry in its place. No entry at its key is there. It takes memory only where the vector is full.
-pub(crate) fn put_entry<K: Query<K> + Drop, V: Drop>(entries: &mut Vec<(K, V)>, key: K, value: V) -> Result<(), AllocError>
+pub(crate) fn put_entry<K: Query<K> + Drop, V: Drop>(
+    entries: &mut Vec<(K, V)>,
+    key: K,
+    value: V,
+) -> Result<(), AllocError>
     requires itself { K.key key ≡ key }
     requires absent { find K.cmp key entries.old.items ≡ None }
     ensures ok { OnOk result (entries.new.items ≡ put K.cmp key value entries.old.items) }

@@ -38,7 +38,7 @@ invariant_of-self-2 c =
     let d = declare_coefficient (record { row = c.args.row.now; column = c.args.column.now }) c.args.value in
     let none = none_holds (refusal_tests c.args.self.now d) (λ i. (not (c.has_row.ensures i), UnknownRow) ∷ (not (c.has_column.ensures i), UnknownColumn) ∷ (c.has_coefficient.ensures i, DuplicateEntry) ∷ []) c.in_ok-refuse.ensures in
     let place : ◌≡◌ {A = Place} c.new.result (record { row = c.args.row.now; column = c.args.column.now }) =
-        c.new.ensures ∙ (λ i. record { row = c.in_ok-row_name.ensures i; column = c.in_ok-column_name.ensures i }) in
+    c.new.ensures ∙ (λ i. record { row = c.in_ok-row_name.ensures i; column = c.in_ok-column_name.ensures i }) in
     subst (λ (coefficients : List (Place × Number)). IsMade (record (draft c.self.inside) { coefficients = coefficients }))
     (sym (c.in_ok-put_entry.ensures.ok ∙ ap (λ (p : Place). put place_cmp p c.args.value c.self.inside.coefficients.items) place))
     (made_next d c.self.view_is c.self.invariant c.each_value_is_a_decimal.ensures none)

@@ -22,7 +22,7 @@ copied-requires c =
     let none = none_holds (refusal_tests all d) (λ i. (not (c.has_row.ensures i), UnknownRow) ∷ (c.has_range.ensures i, DuplicateRange) ∷ (c.has_no_sides.ensures i, RangeOnFree) ∷ (c.is_infinite_size.ensures i, InfiniteValue) ∷ []) c.in_ok-refuse.ensures in
     let row = c.args.row.now in
     let more : List (Bool × BuildFault) =
-        (has_name all.ranges row || is_row_by_limits all row, DuplicateRange) ∷ (is_objective all row || is_free_row all row, RangeOnFree) ∷ (is_infinite_size c.args.value, InfiniteValue) ∷ [] in
+    (has_name all.ranges row || is_row_by_limits all row, DuplicateRange) ∷ (is_objective all row || is_free_row all row, RangeOnFree) ∷ (is_infinite_size c.args.value, InfiniteValue) ∷ [] in
     row_is_legal all c.args.row.now (made_now c.self.view_is c.self.invariant) (known_row all c.args.row.now more none)
 
 pub invariant_of-self-2 : goal.invariant_of-self-2

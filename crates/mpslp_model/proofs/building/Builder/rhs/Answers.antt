@@ -22,7 +22,7 @@ copied-requires c =
     let none = none_holds (refusal_tests all d) (λ i. (not (c.has_row.ensures i), UnknownRow) ∷ (c.has_right_side.ensures i, DuplicateRhs) ∷ []) c.in_ok-refuse.ensures in
     let row = c.args.row.now in
     let more : List (Bool × BuildFault) =
-        (has_name all.right_sides row || (is_row_by_limits all row || (is_objective all row && is_some all.constant)), DuplicateRhs) ∷ [] in
+    (has_name all.right_sides row || (is_row_by_limits all row || (is_objective all row && is_some all.constant)), DuplicateRhs) ∷ [] in
     row_is_legal all c.args.row.now (made_now c.self.view_is c.self.invariant) (known_row all c.args.row.now more none)
 
 pub invariant_of-self-2 : goal.invariant_of-self-2
