@@ -1,4 +1,5 @@
 pub mod PutPlaceLemmas
+pub mod ViewLemmas
 pub mod AnswerLemmas
 pub mod BoolLemmas
 pub mod EachLemmas

@@ -13,3 +13,6 @@ pub mod Laws
 pub mod FaultName
 pub mod Answer
 pub mod BuilderDraft
+pub mod Views
+pub mod ModelCode
+pub mod ModelParts

@@ -1,10 +1,12 @@
 //! The kinds of things in a model.
 
-ghost use Rattle.std.specs.Prelude.{◌≡◌};
+ghost use Rattle.std.specs.Prelude.{◌≡◌, IsTrue};
+ghost use Rattle.mpslp_model.specs.Made.{is_given};
 ghost use Rattle.mpslp_decimal.specs.Decimal.{is_negative};
 ghost use Rattle.mpslp_model.specs.Model.{limit_of};
 
 use mpslp_decimal::Decimal;
+use mpslp_decimal::laws::each_value_is_a_decimal;
 
 /// What is done with the objective.
 #[derive(Clone, Copy, Debug, PartialEq, Eq)]
@@ -38,8 +40,10 @@ pub enum Limit {
 impl Limit {
     /// The side that a given value stands for: a size of 10^20 or more is the infinity of its sign.
     pub fn of(value: Decimal) -> Limit
-        ensures { result ≡ limit_of value }
+        ensures value { result ≡ limit_of value }
+        ensures given { IsTrue (is_given result) }
     {
+        each_value_is_a_decimal(value);
         if !value.is_infinite_size() {
             return Limit::Finite(value);
         }

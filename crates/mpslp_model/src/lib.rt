@@ -10,9 +10,14 @@ mod entries;
 mod faults;
 mod kinds;
 pub mod laws;
+mod linear;
 mod names;
 
 pub use building::Builder;
 pub use faults::{BuildFault, Fault, FaultKind, ReadFault};
 pub use kinds::{Kind, Limit, RowType, Sense};
+pub use linear::Model;
 pub use names::{MAX_NAME_LEN, Name, NameFault};
+
+#[cfg(test)]
+mod tests;

@@ -1,7 +1,7 @@
 -- A text is cut into fields from its front.
-use Rattle.std.proofs.Common.{◌≡◌, refl, sym, ap, subst, ◌∙◌, ℕ, suc, ◌+◌, ◌-◌, ◌<◌, ◌≤◌, List, [], ◌∷◌, ◌++◌, map, length, take, drop, Bool, true, false, cond, arith, append_assoc, Bor}
-use Rattle.std.specs.Prelude.{Option, Some, None, filter, nat_lt, not}
-use Rattle.std.specs.List.{slice_split, prefix_len, position, position_or_len}
+use Rattle.std.proofs.Common.{◌≡◌, refl, sym, ap, subst, ◌∙◌, ℕ, suc, ◌+◌, ◌-◌, ◌<◌, List, [], ◌∷◌, ◌++◌, map, length, take, drop, Bool, true, false, cond, arith, append_assoc, Bor}
+use Rattle.std.specs.Prelude.{Some, None, filter, nat_lt, not}
+use Rattle.std.specs.List.{slice_split, position, position_or_len}
 use Rattle.std.proofs.lemmas.Bool.{lt-ltb}
 use Rattle.std.proofs.lemmas.Bool.Decides.{nat_tests}
 use Rattle.std.proofs.lemmas.List.Sums.{prefix_len-le-length}

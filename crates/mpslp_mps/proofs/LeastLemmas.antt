@@ -1,6 +1,6 @@
 -- The least kind of tests in the order of kinds is that of the first test that holds.
 use Rattle.std.proofs.Common.{◌≡◌, refl, ap, ◌∙◌, ℕ, List, [], ◌∷◌, ◌++◌, Bool, true, false, cond, arith}
-use Rattle.std.specs.Prelude.{nat_le, nat_lt, ◌&&◌, Option, Some, None, if◌then◌else◌}
+use Rattle.std.specs.Prelude.{nat_le, nat_lt, ◌&&◌, Option, Some, None}
 use Rattle.std.specs.List.{list_all}
 use Rattle.std.specs.Option.{option_map_or}
 use Rattle.std.specs.Cmp.{first_so, second_so}
@@ -32,10 +32,10 @@ held-from kind (test ∷ more) h =
     ]
 
 -- the lesser of a kind and perhaps another, as in `least_kind`
-abbrev lesser : FaultKind → Option FaultKind → FaultKind
+abbrev pub lesser : FaultKind → Option FaultKind → FaultKind
 lesser kind o = elim o as (λ _. FaultKind) [ None ↦ kind | Some other ↦ cond (nat_lt (kind_rank other) (kind_rank kind)) other kind ]
 
-stays-least : (kind : FaultKind) (o : Option FaultKind) → option_map_or (is_from kind) o true ≡ true → lesser kind o ≡ kind
+pub stays-least : (kind : FaultKind) (o : Option FaultKind) → option_map_or (is_from kind) o true ≡ true → lesser kind o ≡ kind
 stays-least kind None h = refl
 stays-least kind (Some other) h = ap (λ (b : Bool). cond b other kind) (not_less (kind_rank kind) (kind_rank other) h)
 

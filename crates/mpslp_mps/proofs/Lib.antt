@@ -17,3 +17,9 @@ pub mod ModelFromNoFault
 pub mod ReadingLemmas
 pub mod LeastLemmas
 pub mod FieldsLemmas
+pub mod HeldLemmas
+pub mod StepLemmas
+pub mod LineLemmas
+pub mod FrontLemmas
+pub mod ToldLemmas
+pub mod EndLemmas

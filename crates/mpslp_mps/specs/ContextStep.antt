@@ -1,6 +1,7 @@
 -- What a line of a known shape makes of the context.
-use Rattle.std.specs.Prelude.{ℕ, Bool, true, false, List, Option, Some, None}
+use Rattle.std.specs.Prelude.{ℕ, Bool, true, false, List, [], Some, None}
 use Rattle.std.specs.Option.{option_or}
+use Rattle.mpslp_mps.specs.Line.{Fields}
 use Rattle.mpslp_mps.specs.Context.{Seen, Context}
 use Rattle.mpslp_mps.specs.declared.sections.Section.{Section}
 use Rattle.mpslp_mps.specs.declared.sections.Section.TheVariants.{Name, ObjSense, Rows, Columns, Rhs, Ranges, Bounds, EndData}
@@ -15,6 +16,11 @@ seen_with seen Rhs = record seen { rhs = true }
 seen_with seen Ranges = record seen { ranges = true }
 seen_with seen Bounds = record seen { bounds = true }
 seen_with seen EndData = seen
+
+-- an OBJSENSE without its word
+abbrev pub is_bare_header : Section → Fields → Bool
+is_bare_header ObjSense [] = true
+is_bare_header _ more = false
 
 -- after the header of a section; a bare OBJSENSE wants its word
 abbrev pub after_header : Context → Section → Bool → Context

@@ -15,3 +15,5 @@ pub mod MpsText
 pub mod FirstFault
 pub mod Reading
 pub mod Laws
+pub mod NameError
+pub mod LineAnswer

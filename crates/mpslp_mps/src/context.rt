@@ -1,8 +1,10 @@
 //! What the lines before one say of it.
 
-ghost use Rattle.std.specs.Prelude.{◌≡◌, [], false, not, OnOk};
-ghost use Rattle.std.specs.Option.{option_map_or};
+ghost use Rattle.std.specs.Prelude.{◌≡◌, [], false, OnOk};
+ghost use Rattle.std.specs.Option.{option_map, option_map_or};
 ghost use Rattle.mpslp_model.specs.Name.{same_bytes};
+ghost use Rattle.mpslp_mps.specs.Section.{is_section};
+ghost use Rattle.mpslp_mps.specs.declared.sections.Section.{Section};
 ghost use Rattle.mpslp_mps.specs.Context.{has_seen, context_of};
 ghost use Rattle.mpslp_mps.specs.ContextStep.{seen_with, after_header, after_data, after_marker, after_column, after_right_side, after_range, after_bound};
 ghost use Rattle.mpslp_mps.specs.HeaderFault.{may_begin, is_out_of_order};
@@ -75,13 +77,13 @@ fn is_name(name: &Option<Vec<u8>>, bytes: &[u8]) -> bool
     }
 }
 
-/// Whether there is such a name and it has other bytes.
-fn is_other_name(name: &Option<Vec<u8>>, bytes: &[u8]) -> bool
-    ensures { result ≡ option_map_or (λ known. not (same_bytes known.items bytes.now)) name.now false }
+/// The bytes of a name.
+fn bytes_of(name: &Option<Vec<u8>>) -> Option<&[u8]>
+    ensures { option_map (λ bytes. bytes.now) result ≡ option_map (λ known. known.items) name.now }
 {
     match name {
-        Some(known) => known.as_slice() != bytes,
-        None => false,
+        Some(known) => Some(known.as_slice()),
+        None => None,
     }
 }
 
@@ -116,6 +118,16 @@ impl LineContext {
         ensures { result ≡ self.now.section }
     {
         self.section
+    }
+
+    /// Whether the line of ENDATA has been passed.
+    pub(crate) fn is_at_end(&self) -> bool
+        ensures { result ≡ is_section Section.EndData self.now.section }
+    {
+        match self.section {
+            Some(section) => section == Section::EndData,
+            None => false,
+        }
     }
 
     /// Whether the word of an OBJSENSE is to come.
@@ -177,25 +189,25 @@ impl LineContext {
         self.wants_sense || !(self.has_seen(section) || self.may_begin(section))
     }
 
-    /// Whether the set name is another one than that of the first line of RHS.
-    pub(crate) fn is_second_rhs_set(&self, set: &[u8]) -> bool
-        ensures { result ≡ option_map_or (λ name. not (same_bytes name set.now)) self.now.rhs_set false }
+    /// The set name of the first line of RHS.
+    pub(crate) fn rhs_set(&self) -> Option<&[u8]>
+        ensures { option_map (λ name. name.now) result ≡ self.now.rhs_set }
     {
-        is_other_name(&self.rhs_set, set)
+        bytes_of(&self.rhs_set)
     }
 
-    /// Whether the set name is another one than that of the first line of RANGES.
-    pub(crate) fn is_second_ranges_set(&self, set: &[u8]) -> bool
-        ensures { result ≡ option_map_or (λ name. not (same_bytes name set.now)) self.now.ranges_set false }
+    /// The set name of the first line of RANGES.
+    pub(crate) fn ranges_set(&self) -> Option<&[u8]>
+        ensures { option_map (λ name. name.now) result ≡ self.now.ranges_set }
     {
-        is_other_name(&self.ranges_set, set)
+        bytes_of(&self.ranges_set)
     }
 
-    /// Whether the set name is another one than that of the first line of BOUNDS.
-    pub(crate) fn is_second_bounds_set(&self, set: &[u8]) -> bool
-        ensures { result ≡ option_map_or (λ name. not (same_bytes name set.now)) self.now.bounds_set false }
+    /// The set name of the first line of BOUNDS.
+    pub(crate) fn bounds_set(&self) -> Option<&[u8]>
+        ensures { option_map (λ name. name.now) result ≡ self.now.bounds_set }
     {
-        is_other_name(&self.bounds_set, set)
+        bytes_of(&self.bounds_set)
     }
 
     /// Goes past the header of a section; `is_bare` says that it is an OBJSENSE without its word.

@@ -2,6 +2,7 @@
 
 ghost use Rattle.std.specs.Prelude.{◌≡◌, Some, None, map, MatchResult, if◌then◌else◌};
 ghost use Rattle.mpslp_mps.specs.Section.{section_named};
+ghost use Rattle.mpslp_mps.specs.ContextStep.{is_bare_header};
 ghost use Rattle.mpslp_mps.specs.FirstHeld.{first_held};
 ghost use Rattle.mpslp_mps.specs.HeaderFault.{may_follow, header_word_tests, header_tests};
 
@@ -56,4 +57,14 @@ pub(crate) fn judge_header(
         return Err(FaultKind::BadType);
     }
     Ok(section)
+}
+
+/// Whether the header of a section is an OBJSENSE without its word.
+pub(crate) fn is_bare_header(section: Section, more: &[&[u8]]) -> bool
+    ensures { result ≡ is_bare_header section (map (λ field. field.now) more.now) }
+{
+    match section {
+        Section::ObjSense => more.is_empty(),
+        _ => false,
+    }
 }

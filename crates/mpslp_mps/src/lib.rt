@@ -8,12 +8,15 @@
 
 mod bound_types;
 mod context;
+mod data_lines;
+mod errors;
 mod fields;
 mod headers;
 mod judging;
 pub mod laws;
 mod lines;
 mod sections;
+mod shapes;
 mod words;
 
 pub use bound_types::BoundType;

@@ -1,0 +1,14 @@
+use Rattle.std.proofs.Common.{◌≡◌, sym, ap, subst, ◌∙◌, ℕ, List, length, not}
+use Rattle.std.specs.Prelude.{Option, filter, unwrap_or, ◌&&◌}
+use Rattle.std.specs.FinMap.{find}
+use Rattle.mpslp_decimal.specs.Decimal.{Number, zero_number}
+use Rattle.mpslp_model.specs.Name.{same_bytes}
+use Rattle.mpslp_model.specs.Model.{LinearModel, Place, place_cmp}
+use Rattle.mpslp_model.proofs.ViewLemmas.{coefficients_seen}
+use Rattle.mpslp_model.proofs.linear.Model.num_elements.Goals as goal
+
+pub returns : goal.returns
+returns c =
+    let objective : c.as_bytes.result.now ≡ c.args.self.now.objective = c.as_bytes.ensures ∙ ap (λ (m : LinearModel). m.objective) c.self.view_is in
+    let all : c.deref.result.now ≡ _ = c.deref.ensures.value ∙ sym (coefficients_seen c.self.view_is c.self.invariant) in
+    c.count_elements.ensures ∙ (λ i. length (filter (λ e. not (same_bytes (objective i) e.0.row)) (all i)))

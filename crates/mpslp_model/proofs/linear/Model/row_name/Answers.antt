@@ -1,0 +1,12 @@
+use Rattle.std.proofs.Common.{◌≡◌, sym, ap, subst, ◌∙◌, ℕ, ◌<◌, List, length}
+use Rattle.mpslp_model.specs.Model.{Row, Column}
+use Rattle.mpslp_model.specs.Name.{same_bytes}
+use Rattle.mpslp_model.proofs.ViewLemmas.{rows_seen, columns_seen, coefficients_seen, count_seen, entry_seen, position-map}
+use Rattle.mpslp_model.proofs.linear.Model.row_name.Goals as goal
+
+pub entry_at-requires : goal.entry_at-requires
+entry_at-requires c =
+    subst (λ (n : ℕ). c.args.i < n) (sym (ap length c.deref.ensures.value ∙ count_seen (rows_seen c.self.view_is c.self.invariant))) c.requires
+
+pub returns : goal.returns
+returns c = entry_seen (λ (e : List ℕ × Row). e.0) c.args.i (rows_seen c.self.view_is c.self.invariant ∙ sym c.deref.ensures.value) c.entry_at.ensures

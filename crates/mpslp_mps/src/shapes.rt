@@ -1,0 +1,251 @@
+//! The shapes of data lines: which fields they have.
+
+ghost use Rattle.std.specs.Prelude.{◌≡◌, [], ◌∷◌, map};
+ghost use Rattle.std.specs.Option.{option_map};
+ghost use Rattle.mpslp_mps.specs.DataLine.{pair, sense_line, row_line, column_line, is_marker_line, third_field, marker_line, vector_line};
+ghost use Rattle.mpslp_mps.specs.BoundLine.{bound_line};
+
+use crate::bound_types::BoundType;
+use crate::words::is_marker;
+use std::marker::Model;
+
+/// A row's letter and its name.
+#[derive(Drop)]
+pub(crate) struct RowLine<'a> {
+    pub(crate) letter: &'a [u8],
+    pub(crate) name: &'a [u8],
+}
+
+impl<'a> Model for RowLine<'a> {
+    ghost use Rattle.mpslp_mps.specs.DataLine.{RowLine};
+
+    ghost Value = { RowLine };
+
+    ghost view = { λ l. record { letter = l.letter.now; name = l.name.now } };
+}
+
+/// A row and the literal of a value.
+#[derive(Drop)]
+pub(crate) struct Pair<'a> {
+    pub(crate) row: &'a [u8],
+    pub(crate) literal: &'a [u8],
+}
+
+impl<'a> Model for Pair<'a> {
+    ghost use Rattle.mpslp_mps.specs.DataLine.{Pair};
+
+    ghost Value = { Pair };
+
+    ghost view = { λ p. record { row = p.row.now; literal = p.literal.now } };
+}
+
+/// One or two pairs.
+#[derive(Drop)]
+pub(crate) struct Pairs<'a> {
+    pub(crate) first: Pair<'a>,
+    pub(crate) second: Option<Pair<'a>>,
+}
+
+impl<'a> Model for Pairs<'a> {
+    ghost use Rattle.std.specs.Prelude.{List, [], ◌∷◌};
+    ghost use Rattle.std.specs.List.{cons_option};
+    ghost use Rattle.mpslp_mps.specs.DataLine.{Pair};
+
+    ghost Value = { List Pair };
+
+    ghost view = { λ p. p.first ∷ cons_option p.second [] };
+}
+
+/// One pair.
+fn one_pair<'a>(row: &'a [u8], literal: &'a [u8]) -> Pairs<'a>
+    ensures { result ≡ pair row.now literal.now ∷ [] }
+{
+    Pairs {
+        first: Pair { row, literal },
+        second: None,
+    }
+}
+
+/// Two pairs.
+fn two_pairs<'a>(row: &'a [u8], literal: &'a [u8], other: &'a [u8], second: &'a [u8]) -> Pairs<'a>
+    ensures { result ≡ pair row.now literal.now ∷ pair other.now second.now ∷ [] }
+{
+    Pairs {
+        first: Pair { row, literal },
+        second: Some(Pair {
+            row: other,
+            literal: second,
+        }),
+    }
+}
+
+/// A column, and one or two pairs of row and value.
+#[derive(Drop)]
+pub(crate) struct ColumnLine<'a> {
+    pub(crate) column: &'a [u8],
+    pub(crate) pairs: Pairs<'a>,
+}
+
+impl<'a> Model for ColumnLine<'a> {
+    ghost use Rattle.mpslp_mps.specs.DataLine.{ColumnLine};
+
+    ghost Value = { ColumnLine };
+
+    ghost view = { λ l. record { column = l.column.now; pairs = l.pairs } };
+}
+
+/// A set name, empty where it is absent, and one or two pairs of row and value.
+#[derive(Drop)]
+pub(crate) struct VectorLine<'a> {
+    pub(crate) set: &'a [u8],
+    pub(crate) pairs: Pairs<'a>,
+}
+
+impl<'a> Model for VectorLine<'a> {
+    ghost use Rattle.mpslp_mps.specs.DataLine.{VectorLine};
+
+    ghost Value = { VectorLine };
+
+    ghost view = { λ l. record { set = l.set.now; pairs = l.pairs } };
+}
+
+/// A set name, empty where it is absent, a column, and the literal of a value where the type takes one.
+#[derive(Drop)]
+pub(crate) struct BoundLine<'a> {
+    pub(crate) set: &'a [u8],
+    pub(crate) column: &'a [u8],
+    pub(crate) literal: Option<&'a [u8]>,
+}
+
+impl<'a> Model for BoundLine<'a> {
+    ghost use Rattle.std.specs.Option.{option_map};
+    ghost use Rattle.mpslp_mps.specs.BoundLine.{BoundLine};
+
+    ghost Value = { BoundLine };
+
+    ghost view = { λ l. record { set = l.set.now; column = l.column.now; literal = option_map (λ literal. literal.now) l.literal } };
+}
+
+/// The word of a line of OBJSENSE.
+pub(crate) fn sense_line<'a>(fields: &[&'a [u8]]) -> Option<&'a [u8]>
+    ensures { option_map (λ word. word.now) result ≡ sense_line (map (λ field. field.now) fields.now) }
+{
+    match fields {
+        [word] => Some(*word),
+        _ => None,
+    }
+}
+
+/// The parts of a line of ROWS.
+pub(crate) fn row_line<'a>(fields: &[&'a [u8]]) -> Option<RowLine<'a>>
+    ensures { result ≡ row_line (map (λ field. field.now) fields.now) }
+{
+    match fields {
+        [letter, name] => Some(RowLine {
+            letter: *letter,
+            name: *name,
+        }),
+        _ => None,
+    }
+}
+
+/// The parts of a line of COLUMNS that is no marker line.
+pub(crate) fn column_line<'a>(fields: &[&'a [u8]]) -> Option<ColumnLine<'a>>
+    ensures { result ≡ column_line (map (λ field. field.now) fields.now) }
+{
+    match fields {
+        [column, row, literal] => Some(ColumnLine {
+            column: *column,
+            pairs: one_pair(row, literal),
+        }),
+        [column, row, literal, other, second] => Some(ColumnLine {
+            column: *column,
+            pairs: two_pairs(row, literal, other, second),
+        }),
+        _ => None,
+    }
+}
+
+/// Whether a line of COLUMNS is a marker line.
+pub(crate) fn is_marker_line(fields: &[&[u8]]) -> bool
+    ensures { result ≡ is_marker_line (map (λ field. field.now) fields.now) }
+{
+    match fields {
+        [_, second, ..] => is_marker(second),
+        _ => false,
+    }
+}
+
+/// The third field of a line.
+pub(crate) fn third_field<'a>(fields: &[&'a [u8]]) -> Option<&'a [u8]>
+    ensures { option_map (λ field. field.now) result ≡ third_field (map (λ field. field.now) fields.now) }
+{
+    match fields {
+        [_, _, third, ..] => Some(*third),
+        _ => None,
+    }
+}
+
+/// The word of a marker line.
+pub(crate) fn marker_line<'a>(fields: &[&'a [u8]]) -> Option<&'a [u8]>
+    ensures { option_map (λ word. word.now) result ≡ marker_line (map (λ field. field.now) fields.now) }
+{
+    match fields {
+        [_, _, word] => Some(*word),
+        _ => None,
+    }
+}
+
+/// The parts of a line of RHS or RANGES.
+pub(crate) fn vector_line<'a>(fields: &[&'a [u8]]) -> Option<VectorLine<'a>>
+    ensures { result ≡ vector_line (map (λ field. field.now) fields.now) }
+{
+    match fields {
+        [row, literal] => Some(VectorLine {
+            set: &[],
+            pairs: one_pair(row, literal),
+        }),
+        [set, row, literal] => Some(VectorLine {
+            set: *set,
+            pairs: one_pair(row, literal),
+        }),
+        [row, literal, other, second] => Some(VectorLine {
+            set: &[],
+            pairs: two_pairs(row, literal, other, second),
+        }),
+        [set, row, literal, other, second] => Some(VectorLine {
+            set: *set,
+            pairs: two_pairs(row, literal, other, second),
+        }),
+        _ => None,
+    }
+}
+
+/// The parts of a line of BOUNDS after its type.
+pub(crate) fn bound_line<'a>(bound_type: BoundType, more: &[&'a [u8]]) -> Option<BoundLine<'a>>
+    ensures { result ≡ bound_line bound_type (map (λ field. field.now) more.now) }
+{
+    match (bound_type.takes_value(), more) {
+        (true, [column, literal]) => Some(BoundLine {
+            set: &[],
+            column: *column,
+            literal: Some(*literal),
+        }),
+        (true, [set, column, literal]) => Some(BoundLine {
+            set: *set,
+            column: *column,
+            literal: Some(*literal),
+        }),
+        (false, [column]) => Some(BoundLine {
+            set: &[],
+            column: *column,
+            literal: None,
+        }),
+        (false, [set, column]) | (false, [set, column, _]) => Some(BoundLine {
+            set: *set,
+            column: *column,
+            literal: None,
+        }),
+        _ => None,
+    }
+}
