@@ -16,4 +16,5 @@ pub mod FirstFault
 pub mod Reading
 pub mod Laws
 pub mod NameError
+pub mod BuildError
 pub mod LineAnswer

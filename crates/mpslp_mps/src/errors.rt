@@ -1,6 +1,6 @@
 //! Why a line is not taken.
 
-use mpslp_model::{FaultKind, NameFault};
+use mpslp_model::{BuildFault, FaultKind, NameFault};
 use std::alloc::AllocError;
 
 /// Why a line is not taken.
@@ -46,6 +46,31 @@ impl From<NameFault> for LineError {
             NameFault::NameByte => LineError::Fault(FaultKind::NameByte),
             NameFault::NameMarker => LineError::Fault(FaultKind::NameMarker),
             NameFault::OutOfMemory => LineError::OutOfMemory,
+        }
+    }
+}
+
+impl From<BuildFault> for LineError {
+    ghost use Rattle.std.specs.Prelude.{◌≡◌};
+    ghost use Rattle.mpslp_mps.specs.BuildError.{error_of_build};
+
+    ghost from_gives = { λ fault error. error ≡ error_of_build fault };
+
+    fn from(fault: BuildFault) -> LineError {
+        match fault {
+            // Of these two no line of a good form declares a second one.
+            BuildFault::DuplicateSense => LineError::Fault(FaultKind::SectionRepeated),
+            BuildFault::SecondObjective => LineError::Fault(FaultKind::DuplicateRow),
+            BuildFault::UnknownRow => LineError::Fault(FaultKind::UnknownRow),
+            BuildFault::UnknownColumn => LineError::Fault(FaultKind::UnknownColumn),
+            BuildFault::DuplicateRow => LineError::Fault(FaultKind::DuplicateRow),
+            BuildFault::DuplicateEntry => LineError::Fault(FaultKind::DuplicateEntry),
+            BuildFault::DuplicateRhs => LineError::Fault(FaultKind::DuplicateRhs),
+            BuildFault::DuplicateRange => LineError::Fault(FaultKind::DuplicateRange),
+            BuildFault::DuplicateBound => LineError::Fault(FaultKind::DuplicateBound),
+            BuildFault::RangeOnFree => LineError::Fault(FaultKind::RangeOnFree),
+            BuildFault::InfiniteValue => LineError::Fault(FaultKind::InfiniteValue),
+            BuildFault::OutOfMemory => LineError::OutOfMemory,
         }
     }
 }
