@@ -1,5 +1,6 @@
 pub mod PutPlaceLemmas
 pub mod ViewLemmas
+pub mod FoundLemmas
 pub mod AnswerLemmas
 pub mod BoolLemmas
 pub mod EachLemmas

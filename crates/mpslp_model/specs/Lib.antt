@@ -16,3 +16,4 @@ pub mod BuilderDraft
 pub mod Views
 pub mod ModelCode
 pub mod ModelParts
+pub mod FaultFound

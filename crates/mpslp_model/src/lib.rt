@@ -8,8 +8,10 @@
 mod building;
 mod entries;
 mod faults;
+mod finding;
 mod kinds;
 pub mod laws;
+mod limits;
 mod linear;
 mod names;
 

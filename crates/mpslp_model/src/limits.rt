@@ -1,0 +1,251 @@
+//! The limits of a row, from its type, right side and range, and what may be wrong with them.
+
+ghost use Rattle.std.specs.Prelude.{◌≡◌, Some, not, is_none, false};
+ghost use Rattle.std.specs.Ordering.{is_lt};
+ghost use Rattle.std.specs.Option.{option_map_or};
+ghost use Rattle.mpslp_decimal.specs.Decimal.{decimal_cmp, is_infinite_size, size_of, sum_of, difference_of};
+ghost use Rattle.mpslp_model.specs.Model.{is_at_most};
+ghost use Rattle.mpslp_model.specs.Limits.{sides, plain_limits, ranged_limits, limits_of, has_infinite_right_side, is_large_limit, distance_passes, is_inexact, is_too_large, is_crossed};
+ghost use Rattle.mpslp_model.specs.BuilderDraft.{row_form};
+ghost use Rattle.mpslp_model.specs.FaultFound.{row_test};
+
+use crate::building::FormKind;
+use crate::kinds::{Limit, RowType, is_negative};
+use crate::linear::RowLimits;
+use mpslp_decimal::Decimal;
+use mpslp_decimal::laws::each_value_is_a_decimal;
+
+/// What may be wrong with the limits of a row, in the order in which it is told.
+#[derive(Clone, Copy, Debug)]
+pub(crate) enum RowFault {
+    /// The right side is infinite where it may not be.
+    InfiniteLimit,
+    /// A computed limit, or the distance of both, is no decimal.
+    RangeInexact,
+    /// A computed limit, or the distance of both, has size 10^20 or more.
+    LimitTooLarge,
+    /// The lower limit is above the upper one.
+    LimitsCrossed,
+}
+
+/// The number without its sign.
+fn size_of(value: Decimal) -> Decimal
+    ensures { result ≡ size_of value }
+{
+    if is_negative(value) {
+        value.negate()
+    } else {
+        value
+    }
+}
+
+/// Finite limits, where both are there.
+fn sides(lower: Option<Decimal>, upper: Option<Decimal>) -> Option<RowLimits>
+    ensures { result ≡ sides lower upper }
+{
+    match (lower, upper) {
+        (Some(lower), Some(upper)) => Some(RowLimits {
+            lower: Limit::Finite(lower),
+            upper: Limit::Finite(upper),
+        }),
+        _ => None,
+    }
+}
+
+/// The limits by type and right side, without a range.
+pub(crate) fn plain_limits(row_type: RowType, right_side: Decimal) -> RowLimits
+    ensures { result ≡ plain_limits row_type right_side }
+{
+    let (lower, upper) = match row_type {
+        RowType::Free => (Limit::MinusInf, Limit::PlusInf),
+        RowType::AtMost => (Limit::MinusInf, Limit::of(right_side)),
+        RowType::AtLeast => (Limit::of(right_side), Limit::PlusInf),
+        RowType::Equal => (Limit::of(right_side), Limit::of(right_side)),
+    };
+    RowLimits { lower, upper }
+}
+
+/// The limits so far below and above the right side: the range counts downwards.
+fn below(right_side: Decimal, range: Decimal) -> Option<RowLimits>
+    ensures { result ≡ sides (difference_of right_side (size_of range)) (Some right_side) }
+{
+    sides(right_side.checked_sub(size_of(range)), Some(right_side))
+}
+
+/// The limits where the range counts upwards.
+fn above(right_side: Decimal, range: Decimal) -> Option<RowLimits>
+    ensures { result ≡ sides (Some right_side) (sum_of right_side (size_of range)) }
+{
+    sides(Some(right_side), right_side.checked_add(size_of(range)))
+}
+
+/// The limits by type, right side and range, where the computed one is a decimal.
+fn ranged_limits(row_type: RowType, right_side: Decimal, range: Decimal) -> Option<RowLimits>
+    ensures { result ≡ ranged_limits row_type right_side range }
+{
+    match row_type {
+        RowType::Free => Some(RowLimits {
+            lower: Limit::MinusInf,
+            upper: Limit::PlusInf,
+        }),
+        RowType::AtMost => below(right_side, range),
+        RowType::AtLeast => above(right_side, range),
+        RowType::Equal if is_negative(range) => below(right_side, range),
+        RowType::Equal => above(right_side, range),
+    }
+}
+
+/// The limits of a row, where they are decimals.
+pub(crate) fn limits_of(
+    form: FormKind,
+    right_side: Decimal,
+    range: Option<Decimal>,
+) -> Option<RowLimits>
+    ensures { result ≡ limits_of (row_form form) right_side range }
+{
+    match (form, range) {
+        (FormKind::ByType(row_type), None) => Some(plain_limits(row_type, right_side)),
+        (FormKind::ByType(row_type), Some(range)) => ranged_limits(row_type, right_side, range),
+        (FormKind::ByLimits(lower, upper), _) => Some(RowLimits { lower, upper }),
+    }
+}
+
+/// Whether the right side is infinite where it may not be: it lies on the far side of its type, or a range or an equation
+/// needs it.
+fn has_infinite_right_side(form: FormKind, right_side: Decimal, range: Option<Decimal>) -> bool
+    ensures { result ≡ has_infinite_right_side (row_form form) right_side range }
+{
+    match form {
+        FormKind::ByType(RowType::AtMost) => {
+            right_side.is_infinite_size() && (range.is_some() || is_negative(right_side))
+        }
+        FormKind::ByType(RowType::AtLeast) => {
+            right_side.is_infinite_size() && (range.is_some() || !is_negative(right_side))
+        }
+        FormKind::ByType(RowType::Equal) => right_side.is_infinite_size(),
+        FormKind::ByType(RowType::Free) | FormKind::ByLimits(_, _) => false,
+    }
+}
+
+/// Whether the limit is finite and of size 10^20 or more.
+fn is_large_limit(limit: Limit) -> bool
+    ensures { result ≡ is_large_limit limit }
+{
+    match limit {
+        Limit::Finite(value) => value.is_infinite_size(),
+        _ => false,
+    }
+}
+
+/// Whether the limits are finite and their distance is no decimal.
+fn is_inexact_distance(limits: RowLimits) -> bool
+    ensures { result ≡ distance_passes is_none limits }
+{
+    match &limits.lower {
+        Limit::Finite(lower) => match &limits.upper {
+            Limit::Finite(upper) => upper.checked_sub(*lower).is_none(),
+            _ => false,
+        },
+        _ => false,
+    }
+}
+
+/// Whether there is a number and it has size 10^20 or more.
+fn is_large(value: Option<Decimal>) -> bool
+    ensures { result ≡ option_map_or is_infinite_size value false }
+{
+    match value {
+        Some(value) => value.is_infinite_size(),
+        None => false,
+    }
+}
+
+/// Whether the limits are finite and their distance has size 10^20 or more.
+fn is_large_distance(limits: RowLimits) -> bool
+    ensures { result ≡ distance_passes (λ d. option_map_or is_infinite_size d false) limits }
+{
+    match &limits.lower {
+        Limit::Finite(lower) => match &limits.upper {
+            Limit::Finite(upper) => is_large(upper.checked_sub(*lower)),
+            _ => false,
+        },
+        _ => false,
+    }
+}
+
+/// Whether a computed limit or the distance is no decimal.
+fn is_inexact(limits: Option<RowLimits>) -> bool
+    ensures { result ≡ is_inexact limits }
+{
+    match limits {
+        Some(limits) => is_inexact_distance(limits),
+        None => true,
+    }
+}
+
+/// Whether a computed limit or the distance has size 10^20 or more.
+fn is_too_large(limits: Option<RowLimits>) -> bool
+    ensures { result ≡ is_too_large limits }
+{
+    match limits {
+        Some(limits) => {
+            is_large_limit(limits.lower)
+                || (is_large_limit(limits.upper) || is_large_distance(limits))
+        }
+        None => false,
+    }
+}
+
+/// Whether the first number is at most the second.
+fn is_ordered(a: Decimal, b: Decimal) -> bool
+    ensures { result ≡ not (is_lt (decimal_cmp b a)) }
+{
+    each_value_is_a_decimal(a);
+    each_value_is_a_decimal(b);
+    !b.cmp(&a).is_lt()
+}
+
+/// Whether the first side is at most the second.
+pub(crate) fn is_at_most(a: Limit, b: Limit) -> bool
+    ensures { result ≡ is_at_most a b }
+{
+    match a {
+        Limit::MinusInf => true,
+        Limit::Finite(a) => match b {
+            Limit::MinusInf => false,
+            Limit::Finite(b) => is_ordered(a, b),
+            Limit::PlusInf => true,
+        },
+        Limit::PlusInf => match b {
+            Limit::PlusInf => true,
+            _ => false,
+        },
+    }
+}
+
+/// Whether the lower limit is above the upper one.
+fn is_crossed(limits: Option<RowLimits>) -> bool
+    ensures { result ≡ is_crossed limits }
+{
+    match limits {
+        Some(limits) => !is_at_most(limits.lower, limits.upper),
+        None => false,
+    }
+}
+
+/// Whether this is wrong with a row of this form, right side and range.
+pub(crate) fn row_has(
+    fault: RowFault,
+    form: FormKind,
+    right_side: Decimal,
+    range: Option<Decimal>,
+) -> bool
+    ensures { result ≡ row_test fault (row_form form) right_side range }
+{
+    match fault {
+        RowFault::InfiniteLimit => has_infinite_right_side(form, right_side, range),
+        RowFault::RangeInexact => is_inexact(limits_of(form, right_side, range)),
+        RowFault::LimitTooLarge => is_too_large(limits_of(form, right_side, range)),
+        RowFault::LimitsCrossed => is_crossed(limits_of(form, right_side, range)),
+    }
+}
