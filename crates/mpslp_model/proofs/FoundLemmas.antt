@@ -8,7 +8,7 @@ use Rattle.std.proofs.lemmas.Option.{slice_get-get_or, slice_get_past}
 use Rattle.std.proofs.lemmas.Bool.Decides.{nat_tests}
 use Rattle.mpslp_model.specs.Declaration.{Draft}
 use Rattle.mpslp_model.specs.Meaning.{head_of, whole_fault, row_passes}
-use Rattle.mpslp_model.specs.FaultFound.{row_test, column_test, kind_of_row_fault, kind_of_column_fault, named, told, IsThere}
+use Rattle.mpslp_model.specs.FaultFound.{columns_alone, row_test, column_test, kind_of_row_fault, kind_of_column_fault, named, told, IsThere}
 use Rattle.mpslp_model.specs.declared.faults.FaultKind.{FaultKind}
 use Rattle.mpslp_model.specs.declared.limits.RowFault.{RowFault}
 use Rattle.mpslp_model.specs.declared.limits.RowFault.TheVariants as rows
@@ -92,6 +92,12 @@ of_column : (all : Draft) (fault : ColumnFault) → named all (kind_of_column_fa
 of_column all columns.NegativeUpper = ap (λ (names : List (List ℕ)). option_map (λ name. whole_fault (kind_of_column_fault columns.NegativeUpper) (Some name)) (head_of names)) (filter-map (column_test columns.NegativeUpper all) (λ column. column.0) all.columns)
 of_column all columns.BoundsCrossed = ap (λ (names : List (List ℕ)). option_map (λ name. whole_fault (kind_of_column_fault columns.BoundsCrossed) (Some name)) (head_of names)) (filter-map (column_test columns.BoundsCrossed all) (λ column. column.0) all.columns)
 of_column all columns.BinaryBounds = ap (λ (names : List (List ℕ)). option_map (λ name. whole_fault (kind_of_column_fault columns.BinaryBounds) (Some name)) (head_of names)) (filter-map (column_test columns.BinaryBounds all) (λ column. column.0) all.columns)
+
+-- what is declared of columns alone says all that is asked
+pub columns_suffice : (all : Draft) (fault : ColumnFault) → column_test fault (columns_alone all) ≡ column_test fault all
+columns_suffice all columns.NegativeUpper = refl
+columns_suffice all columns.BoundsCrossed = refl
+columns_suffice all columns.BinaryBounds = refl
 
 pub column_found : (all : Draft) (fault : ColumnFault) (j : ℕ) → position (λ column. column_test fault all column.0) all.columns ≡ Some j
     → (named all (kind_of_column_fault fault) ≡ Some (told all (found.Column fault j))) × IsThere all (found.Column fault j)

@@ -88,7 +88,7 @@ below-filtered {X} p x (e ∷ es) h =
       | false ↦ rest
     ]
 
-sorted-filtered : {X : Type 0} (p : Place × X → Bool) (es : List (Place × X)) → T (is_sorted place_cmp es) → T (is_sorted place_cmp (filter p es))
+pub sorted-filtered : {X : Type 0} (p : Place × X → Bool) (es : List (Place × X)) → T (is_sorted place_cmp es) → T (is_sorted place_cmp (filter p es))
 sorted-filtered p [] h = tt
 sorted-filtered {X} p (e ∷ es) h =
     let rest = sorted-filtered p es (t_second (below_all place_cmp e.0 es) (is_sorted place_cmp es) h) in

@@ -2,7 +2,7 @@
 use Rattle.std.specs.Prelude.{ℕ, ◌<◌, Bool, List, length, Option, Some, None, slice_get}
 use Rattle.std.specs.Option.{option_map}
 use Rattle.mpslp_decimal.specs.Decimal.{Number}
-use Rattle.mpslp_model.specs.Declaration.{RowForm, Draft, names_in}
+use Rattle.mpslp_model.specs.Declaration.{RowForm, Draft, empty_draft, names_in}
 use Rattle.mpslp_model.specs.Limits.{limits_of, has_infinite_right_side, is_inexact, is_too_large, is_crossed}
 use Rattle.mpslp_model.specs.Bounds.{has_negative_upper, has_crossed_bounds, has_binary_bounds}
 use Rattle.mpslp_model.specs.Meaning.{head_of, names_with, whole_fault}
@@ -21,6 +21,10 @@ row_test rows.InfiniteLimit form b r = has_infinite_right_side form b r
 row_test rows.RangeInexact form b r = is_inexact (limits_of form b r)
 row_test rows.LimitTooLarge form b r = is_too_large (limits_of form b r)
 row_test rows.LimitsCrossed form b r = is_crossed (limits_of form b r)
+
+-- what is declared of columns, without all else
+abbrev pub columns_alone : Draft → Draft
+columns_alone all = record empty_draft { lowers = all.lowers; uppers = all.uppers; marked = all.marked; integers = all.integers; binaries = all.binaries }
 
 abbrev pub column_test : ColumnFault → Draft → List ℕ → Bool
 column_test columns.NegativeUpper all column = has_negative_upper all column

@@ -17,3 +17,4 @@ pub mod Views
 pub mod ModelCode
 pub mod ModelParts
 pub mod FaultFound
+pub mod Finish

@@ -289,14 +289,14 @@ impl Builder {
     }
 
     /// Whether a column of this name is declared as marked.
-    pub(crate) fn is_marked(&self, column: &[u8]) -> bool
+    fn is_marked(&self, column: &[u8]) -> bool
         ensures { result ≡ has_name self.now.marked column.now }
     {
         has_entry(&self.marked, &column)
     }
 
     /// Whether a column of this name is declared as integer.
-    pub(crate) fn is_integer(&self, column: &[u8]) -> bool
+    fn is_integer(&self, column: &[u8]) -> bool
         ensures { result ≡ has_name self.now.integers column.now }
     {
         has_entry(&self.integers, &column)

@@ -7,7 +7,7 @@ ghost use Rattle.mpslp_model.specs.Declaration.{at_name, has_name, is_integer};
 ghost use Rattle.mpslp_model.specs.Bounds.{one_limit, has_no_side, default_upper, lower_bound, upper_bound, column_of, has_negative_upper, has_crossed_bounds, has_binary_bounds};
 ghost use Rattle.mpslp_model.specs.declared.kinds.Limit.TheVariants.{Finite};
 ghost use Rattle.mpslp_model.specs.Meaning.{file_fault, head_of};
-ghost use Rattle.mpslp_model.specs.FaultFound.{row_test, column_test, kind_of_row_fault, kind_of_column_fault, named, told, IsThere};
+ghost use Rattle.mpslp_model.specs.FaultFound.{columns_alone, row_test, column_test, kind_of_row_fault, kind_of_column_fault, named, told, IsThere};
 
 use crate::building::{Builder, Form};
 use crate::entries::{find_entry, has_entry};
@@ -16,6 +16,7 @@ use crate::limits::{RowFault, is_at_most, row_has};
 use crate::linear::ColumnBounds;
 use crate::names::Name;
 use mpslp_decimal::Decimal;
+use std::marker::Model;
 
 /// What may be wrong with the bounds of a column, in the order in which it is told.
 #[derive(Clone, Copy, Debug)]
@@ -88,19 +89,51 @@ fn one() -> Decimal
     }
 }
 
-impl Builder {
+/// What is declared of columns, seen as the draft that has these declarations alone.
+#[derive(Drop)]
+pub(crate) struct ColumnParts<'a> {
+    pub(crate) lowers: &'a [(Name, Limit)],
+    pub(crate) uppers: &'a [(Name, Limit)],
+    pub(crate) marked: &'a [(Name, ())],
+    pub(crate) integers: &'a [(Name, ())],
+    pub(crate) binaries: &'a [(Name, ())],
+}
+
+impl<'a> Model for ColumnParts<'a> {
+    ghost use Rattle.mpslp_model.specs.Declaration.{Draft, empty_draft};
+
+    ghost Value = { Draft };
+
+    ghost view = { λ c. record empty_draft { lowers = c.lowers.now; uppers = c.uppers.now; marked = c.marked.now; integers = c.integers.now; binaries = c.binaries.now } };
+}
+
+impl<'a> ColumnParts<'a> {
     /// Whether neither side of this column is declared.
     fn has_no_side(&self, column: &[u8]) -> bool
         ensures { result ≡ has_no_side self.now column.now }
     {
-        side_of(&self.lowers, column).is_none() && side_of(&self.uppers, column).is_none()
+        side_of(self.lowers, column).is_none() && side_of(self.uppers, column).is_none()
+    }
+
+    /// Whether the column is declared as marked.
+    fn is_marked(&self, column: &[u8]) -> bool
+        ensures { result ≡ has_name self.now.marked column.now }
+    {
+        has_entry(self.marked, &column)
+    }
+
+    /// Whether the column is declared as integer.
+    fn is_integer(&self, column: &[u8]) -> bool
+        ensures { result ≡ has_name self.now.integers column.now }
+    {
+        has_entry(self.integers, &column)
     }
 
     /// Whether the column is declared as binary.
     fn is_binary(&self, column: &[u8]) -> bool
         ensures { result ≡ has_name self.now.binaries column.now }
     {
-        has_entry(&self.binaries, &column)
+        has_entry(self.binaries, &column)
     }
 
     /// Whether the column takes whole numbers alone.
@@ -125,14 +158,14 @@ impl Builder {
     fn has_lower(&self, column: &[u8]) -> bool
         ensures { result ≡ is_some (at_name self.now.lowers column.now) }
     {
-        side_of(&self.lowers, column).is_some()
+        side_of(self.lowers, column).is_some()
     }
 
     /// The lower bound of a column.
     fn lower_bound(&self, column: &[u8]) -> Limit
         ensures { result ≡ lower_bound self.now column.now }
     {
-        match side_of(&self.lowers, column) {
+        match side_of(self.lowers, column) {
             Some(side) => side,
             None => Limit::Finite(Decimal::zero()),
         }
@@ -142,7 +175,7 @@ impl Builder {
     fn upper_bound(&self, column: &[u8]) -> Limit
         ensures { result ≡ upper_bound self.now column.now }
     {
-        match side_of(&self.uppers, column) {
+        match side_of(self.uppers, column) {
             Some(side) => side,
             None => self.default_upper(column),
         }
@@ -201,12 +234,12 @@ impl Builder {
 }
 
 /// The number of the first of these columns with which this is wrong.
-fn first_column(builder: &Builder, fault: ColumnFault, columns: &[(Name, ())]) -> Option<usize>
-    ensures { result ≡ position (λ column. column_test fault builder.now column.0) columns.now }
+fn first_column(parts: &ColumnParts, fault: ColumnFault, columns: &[(Name, ())]) -> Option<usize>
+    ensures { result ≡ position (λ column. column_test fault parts.now column.0) columns.now }
 {
     columns
         .iter()
-        .position(|column| builder.column_has(fault, column.0.as_bytes()))
+        .position(|column| parts.column_has(fault, column.0.as_bytes()))
 }
 
 /// What is found wrong, and where.
@@ -221,6 +254,19 @@ pub(crate) enum FoundFault {
 }
 
 impl Builder {
+    /// What is declared of columns.
+    fn column_parts(&self) -> ColumnParts<'_>
+        ensures { result ≡ columns_alone self.now }
+    {
+        ColumnParts {
+            lowers: &self.lowers,
+            uppers: &self.uppers,
+            marked: &self.marked,
+            integers: &self.integers,
+            binaries: &self.binaries,
+        }
+    }
+
     /// The first of these faults that a row has, with the first row that has it.
     fn first_fault_of_rows(&self, faults: &[RowFault]) -> Option<FoundFault>
         ensures fault { option_map (told self.now) result ≡ head_of (filter_map (λ fault. named self.now (kind_of_row_fault fault)) faults.now) }
@@ -240,8 +286,9 @@ impl Builder {
         ensures fault { option_map (told self.now) result ≡ head_of (filter_map (λ fault. named self.now (kind_of_column_fault fault)) faults.now) }
         ensures there { ForSome result (IsThere self.now) }
     {
+        let parts = self.column_parts();
         for fault in faults {
-            if let Some(at) = first_column(self, *fault, &self.columns) {
+            if let Some(at) = first_column(&parts, *fault, &self.columns) {
                 return Some(FoundFault::Column(*fault, at));
             }
         }

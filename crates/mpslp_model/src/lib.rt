@@ -9,6 +9,7 @@ mod building;
 mod entries;
 mod faults;
 mod finding;
+mod finishing;
 mod kinds;
 pub mod laws;
 mod limits;

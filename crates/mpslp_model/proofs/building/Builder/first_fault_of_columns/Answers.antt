@@ -1,11 +1,11 @@
-use Rattle.std.proofs.Common.{◌≡◌, sym, ap, ◌∙◌, ℕ, List}
+use Rattle.std.proofs.Common.{◌≡◌, sym, ap, ◌∙◌, ℕ, List, Bool}
 use Rattle.std.specs.Prelude.{position, slice_index_or}
 use Rattle.mpslp_model.specs.Declaration.{Draft}
 use Rattle.mpslp_model.specs.FaultFound.{column_test, kind_of_column_fault, named, told}
 use Rattle.mpslp_model.specs.declared.finding.ColumnFault.{ColumnFault}
 use Rattle.mpslp_model.specs.declared.finding.ColumnFault.TheVariants.{NegativeUpper}
 use Rattle.mpslp_model.specs.declared.finding.FoundFault.TheVariants.{Column}
-use Rattle.mpslp_model.proofs.FoundLemmas.{column_found, no_column_found, first_left, next_left}
+use Rattle.mpslp_model.proofs.FoundLemmas.{column_found, columns_suffice, no_column_found, first_left, next_left}
 use Rattle.mpslp_model.proofs.building.Builder.first_fault_of_columns.Goals as goal
 
 pub returns-in-Some-clause-fault : goal.returns-in-Some-clause-fault
@@ -13,7 +13,8 @@ returns-in-Some-clause-fault c =
     let all = c.args.self.now in
     let columns = c.deref.ensures.value ∙ ap (λ (d : Draft). d.columns) c.self.view_is in
     let fault = slice_index_or c.args.faults.now c.loop-fault.fault-index NegativeUpper in
-    let at = sym (c.first_column.ensures ∙ ap (λ (es : List (List ℕ × Unit {0})). position (λ column. column_test fault all column.0) es) columns) in
+    let at = sym (c.first_column.ensures ∙ (λ i. position (λ column. column_test fault (c.column_parts-parts.ensures i) column.0) (columns i))
+    ∙ ap (λ (test : List ℕ → Bool). position (λ column. test column.0) all.columns) (columns_suffice all fault)) in
     sym (first_left (λ (f : ColumnFault). named all (kind_of_column_fault f)) c.args.faults.now c.loop-fault.fault-index NegativeUpper (told all (Column fault c.in-Some.at)) c.loop-fault-test.true
     (column_found all fault c.in-Some.at (at ∙ c.in-Some.is)).0) ∙ c.loop-fault.invariant
 
@@ -22,5 +23,6 @@ loop-fault-preserved c =
     let all = c.args.self.now in
     let columns = c.deref.ensures.value ∙ ap (λ (d : Draft). d.columns) c.self.view_is in
     let fault = slice_index_or c.args.faults.now c.loop-fault.fault-index NegativeUpper in
-    let at = sym (c.first_column.ensures ∙ ap (λ (es : List (List ℕ × Unit {0})). position (λ column. column_test fault all column.0) es) columns) in
+    let at = sym (c.first_column.ensures ∙ (λ i. position (λ column. column_test fault (c.column_parts-parts.ensures i) column.0) (columns i))
+    ∙ ap (λ (test : List ℕ → Bool). position (λ column. test column.0) all.columns) (columns_suffice all fault)) in
     next_left (λ (f : ColumnFault). named all (kind_of_column_fault f)) c.args.faults.now c.loop-fault.fault-index NegativeUpper c.loop-fault-test.true (no_column_found all fault (at ∙ c.in_default.is)) ∙ c.loop-fault.invariant
