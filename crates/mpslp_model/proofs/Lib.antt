@@ -1,6 +1,7 @@
 pub mod PutPlaceLemmas
 pub mod ViewLemmas
 pub mod FoundLemmas
+pub mod SameModels
 pub mod FinishLemmas
 pub mod AnswerLemmas
 pub mod BoolLemmas

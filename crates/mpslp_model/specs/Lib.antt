@@ -18,3 +18,5 @@ pub mod ModelCode
 pub mod ModelParts
 pub mod FaultFound
 pub mod Finish
+pub mod Same
+pub mod SameLaws

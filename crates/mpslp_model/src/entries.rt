@@ -45,7 +45,7 @@ impl<'a> Query<Name> for &'a [u8] {
 }
 
 /// Where a coefficient stands, by copied names. Contracts see it as a `Place`.
-#[derive(Debug, Drop)]
+#[derive(Debug, PartialEq, Drop)]
 pub(crate) struct Position {
     row: Name,
     column: Name,
@@ -57,6 +57,8 @@ impl Model for Position {
     ghost Value = { Place };
 
     ghost view = { λ p. record { row = p.row; column = p.column } };
+
+    ghost inverse = { λ p. record { row = p.row; column = p.column } };
 }
 
 impl Position {

@@ -120,7 +120,11 @@ fn without_zeros(coefficients: Vec<(Position, Decimal)>) -> Vec<(Position, Decim
 }
 
 /// The constant of the objective, or else the negative of its right side.
-fn constant_of(constant: Option<Decimal>, right_sides: &[(Name, Decimal)], objective: &[u8]) -> Decimal
+fn constant_of(
+    constant: Option<Decimal>,
+    right_sides: &[(Name, Decimal)],
+    objective: &[u8],
+) -> Decimal
     ensures { result ≡ unwrap_or constant (negated (unwrap_or (at_name right_sides.now objective.now) zero_number)) }
 {
     match constant {

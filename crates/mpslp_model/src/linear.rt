@@ -3,10 +3,12 @@
 ghost use Rattle.std.specs.Prelude.{◌≡◌, ◌<◌, ◌&&◌, not, Some, length, position, filter, slice_get, unwrap_or, if◌then◌else◌};
 ghost use Rattle.std.specs.Option.{option_copied, option_map};
 ghost use Rattle.mpslp_decimal.specs.Decimal.{negated, zero_number, decimal_cmp, difference_of};
+ghost use Rattle.std.specs.Bool.{Decides};
 ghost use Rattle.std.specs.Ordering.{is_eq};
 ghost use Rattle.std.specs.List.{position_or_len};
 ghost use Rattle.mpslp_model.specs.Name.{same_bytes};
 ghost use Rattle.mpslp_model.specs.Model.{IsSound};
+ghost use Rattle.mpslp_model.specs.Same.{same_number, same_limit, same_kind, IsSameObjective};
 ghost use Rattle.mpslp_model.specs.Views.{row_names, column_names, rows_of, columns_of, num_rows, num_columns, num_elements, row_name, column_name, row_index, column_index, row_sense, right_hand_side, row_range, is_integer_column, coefficient_at, column_elements, numbered_elements};
 
 use crate::entries::{PlaceAt, Position, find_entry};
@@ -34,6 +36,19 @@ impl marker::Model for RowLimits {
     ghost inverse = { λ r. record { lower = r.lower; upper = r.upper } };
 }
 
+impl PartialEq for RowLimits {
+    ghost use Rattle.mpslp_model.specs.Same.{same_row};
+    ghost use Rattle.mpslp_model.specs.SameLaws.{lawful, tells-row};
+
+    ghost eq = { same_row };
+
+    ghost laws = { lawful same_row tells-row };
+
+    fn eq(&self, other: &RowLimits) -> bool {
+        is_same_limit(self.lower, other.lower) && is_same_limit(self.upper, other.upper)
+    }
+}
+
 /// The kind and bounds of a column. Contracts see them as a `Column`.
 #[derive(Clone, Copy, Debug)]
 pub(crate) struct ColumnBounds {
@@ -50,6 +65,78 @@ impl marker::Model for ColumnBounds {
     ghost view = { λ c. record { kind = c.kind; lower = c.lower; upper = c.upper } };
 
     ghost inverse = { λ c. record { kind = c.kind; lower = c.lower; upper = c.upper } };
+}
+
+impl PartialEq for ColumnBounds {
+    ghost use Rattle.mpslp_model.specs.Same.{same_column};
+    ghost use Rattle.mpslp_model.specs.SameLaws.{lawful, tells-column};
+
+    ghost eq = { same_column };
+
+    ghost laws = { lawful same_column tells-column };
+
+    fn eq(&self, other: &ColumnBounds) -> bool {
+        is_same_kind(self.kind, other.kind)
+            && (is_same_limit(self.lower, other.lower) && is_same_limit(self.upper, other.upper))
+    }
+}
+
+/// Whether the numbers are the same.
+fn is_same_number(a: Decimal, b: Decimal) -> bool
+    ensures { result ≡ same_number a b }
+{
+    a == b
+}
+
+/// Whether the sides are the same.
+fn is_same_limit(a: Limit, b: Limit) -> bool
+    ensures { result ≡ same_limit a b }
+{
+    match a {
+        Limit::MinusInf => match b {
+            Limit::MinusInf => true,
+            _ => false,
+        },
+        Limit::Finite(a) => match b {
+            Limit::Finite(b) => is_same_number(a, b),
+            _ => false,
+        },
+        Limit::PlusInf => match b {
+            Limit::PlusInf => true,
+            _ => false,
+        },
+    }
+}
+
+/// Whether the kinds are the same.
+fn is_same_kind(a: Kind, b: Kind) -> bool
+    ensures { result ≡ same_kind a b }
+{
+    match (a, b) {
+        (Kind::Continuous, Kind::Continuous) | (Kind::Integer, Kind::Integer) => true,
+        _ => false,
+    }
+}
+
+/// Whether the rows are the same.
+fn same_rows(a: &[(Name, RowLimits)], b: &[(Name, RowLimits)]) -> bool
+    ensures { Decides result (a.now ≡ b.now) }
+{
+    a == b
+}
+
+/// Whether the columns are the same.
+fn same_columns(a: &[(Name, ColumnBounds)], b: &[(Name, ColumnBounds)]) -> bool
+    ensures { Decides result (a.now ≡ b.now) }
+{
+    a == b
+}
+
+/// Whether the coefficients are the same.
+fn same_coefficients(a: &[(Position, Decimal)], b: &[(Position, Decimal)]) -> bool
+    ensures { Decides result (a.now ≡ b.now) }
+{
+    a == b
 }
 
 /// A linear or mixed-integer model. Contracts see it as the value that it is, and it is always sound: sides that values
@@ -435,6 +522,26 @@ impl Model {
         ensures { result ≡ coefficient_at self.now (row_name self.now i) (column_name self.now j) }
     {
         self.coefficient_at(self.row_name(i).as_bytes(), self.column_name(j).as_bytes())
+    }
+
+    /// Whether the parts beside rows, columns and coefficients are the same.
+    fn has_same_objective(&self, other: &Model) -> bool
+        ensures { Decides result (IsSameObjective self.now other.now) }
+    {
+        self.sense == other.sense
+            && self.objective == other.objective
+            && self.constant == other.constant
+    }
+
+    /// Whether this is the same model: its sense, the objective's name and constant, the names of rows and columns, their
+    /// limits, bounds and kinds, and each coefficient. Numbers are compared by value.
+    pub fn same(&self, other: &Model) -> bool
+        ensures { Decides result (self.now ≡ other.now) }
+    {
+        self.has_same_objective(other)
+            && (same_rows(&self.rows, &other.rows)
+                && (same_columns(&self.columns, &other.columns)
+                    && same_coefficients(&self.coefficients, &other.coefficients)))
     }
 
     /// How many coefficients of rows in the column of number `j` are not 0.

@@ -1,0 +1,33 @@
+-- When two sides, rows, columns or objectives are the same.
+use Rattle.std.specs.Prelude.{◌≡◌, Bool, true, false, ◌&&◌}
+use Rattle.std.specs.Ordering.{int_eq}
+use Rattle.mpslp_decimal.specs.Decimal.{Number}
+use Rattle.mpslp_model.specs.Model.{Row, Column, LinearModel}
+use Rattle.mpslp_model.specs.declared.kinds.Kind.{Kind}
+use Rattle.mpslp_model.specs.declared.kinds.Kind.TheVariants.{Continuous, Integer}
+use Rattle.mpslp_model.specs.declared.kinds.Limit.{Limit}
+use Rattle.mpslp_model.specs.declared.kinds.Limit.TheVariants.{MinusInf, Finite, PlusInf}
+
+abbrev pub same_number : Number → Number → Bool
+same_number a b = int_eq a.mantissa b.mantissa && int_eq a.exponent b.exponent
+
+abbrev pub same_limit : Limit → Limit → Bool
+same_limit MinusInf MinusInf = true
+same_limit (Finite a) (Finite b) = same_number a b
+same_limit PlusInf PlusInf = true
+same_limit _ _ = false
+
+abbrev pub same_kind : Kind → Kind → Bool
+same_kind Continuous Continuous = true
+same_kind Integer Integer = true
+same_kind _ _ = false
+
+abbrev pub same_row : Row → Row → Bool
+same_row a b = same_limit a.lower b.lower && same_limit a.upper b.upper
+
+abbrev pub same_column : Column → Column → Bool
+same_column a b = same_kind a.kind b.kind && (same_limit a.lower b.lower && same_limit a.upper b.upper)
+
+-- the parts of two models beside rows, columns and coefficients are the same
+abbrev pub IsSameObjective : LinearModel → LinearModel → Type 0
+IsSameObjective m n = (m.sense ≡ n.sense) × (m.objective ≡ n.objective) × (m.constant ≡ n.constant)
