@@ -18,3 +18,5 @@ pub mod Laws
 pub mod NameError
 pub mod BuildError
 pub mod LineAnswer
+pub mod DeclareAnswer
+pub mod SenseOrder

@@ -17,6 +17,7 @@ pub mod laws;
 mod lines;
 mod sections;
 mod shapes;
+mod taking;
 mod words;
 
 pub use bound_types::BoundType;
