@@ -26,3 +26,5 @@ pub mod EndLemmas
 pub mod DeclaringLemmas
 pub mod TakingLemmas
 pub mod RowTaking
+pub mod ColumnTaking
+pub mod ColumnLine

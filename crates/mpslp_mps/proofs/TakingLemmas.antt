@@ -2,7 +2,7 @@
 use Rattle.std.proofs.Common.{◌≡◌, refl, sym, ap, subst, ◌∙◌, List, [], ◌∷◌, ◌++◌, Bool, true}
 use Rattle.std.specs.Prelude.{Option, Some, None, Ok, Err, IsErrAnd, MatchResult}
 use Rattle.std.specs.List.{list_all}
-use Rattle.mpslp_model.specs.Declaration.{Declarations, Draft}
+use Rattle.mpslp_model.specs.Declaration.{Declarations, Draft, adding_all}
 use Rattle.mpslp_model.specs.Refusal.{those_of}
 use Rattle.mpslp_model.specs.FaultOrder.{least_kind}
 use Rattle.mpslp_model.specs.declared.faults.FaultKind.{FaultKind}
@@ -16,7 +16,8 @@ use Rattle.mpslp_mps.specs.LineMeaning.{data_declared}
 use Rattle.mpslp_mps.specs.LineFault.{declaring_faults}
 use Rattle.mpslp_mps.specs.FirstFault.{item_fault}
 use Rattle.mpslp_mps.specs.DeclareAnswer.{declared_fault}
-use Rattle.mpslp_mps.specs.LineAnswer.{LineResult, IsToldAs}
+use Rattle.mpslp_mps.specs.NextContext.{next_context}
+use Rattle.mpslp_mps.specs.LineAnswer.{LineResult, IsToldAs, Takes}
 use Rattle.mpslp_mps.specs.declared.errors.LineError.{LineError}
 use Rattle.mpslp_mps.specs.declared.errors.LineError.TheVariants.{Fault, OutOfMemory}
 use Rattle.mpslp_mps.specs.declared.sections.Section.{Section}
@@ -62,7 +63,13 @@ data-declared context earlier fields section ds here held is =
     ∙ told-declared tests earlier (data_declared context earlier fields (Some section)) (data-rising context earlier fields (Some section)) held
     ∙ ap (declared_fault earlier) is
 
--- what a data line in the section declares
-pub declared-here : (context : Context) (earlier : Draft) (fields : Fields) (section : Section) (ds : Declarations) → context.section ≡ Some section
-    → data_declared context earlier fields (Some section) ≡ ds → data_declared context earlier fields context.section ≡ ds
-declared-here context earlier fields section ds here is = ap (data_declared context earlier fields) here ∙ is
+-- a data line that is taken
+pub data-taken : (context : Context) (earlier : Draft) (fields : Fields) (section : Section) (ds : Declarations) (next : Context) (later : Draft)
+    → context.section ≡ Some section → first_held (data_tests context earlier fields (Some section)) ≡ None → data_declared context earlier fields (Some section) ≡ ds
+    → declared_fault earlier ds ≡ None → next ≡ next_context context (data_line fields) → later ≡ adding_all earlier ds
+    → Takes context earlier (data_line fields) (Ok tt) next later
+data-taken context earlier fields section ds next later here held is told step draft = (
+  data-declared context earlier fields section ds here held is ∙ told,
+  step,
+  draft ∙ ap (adding_all earlier) (sym (ap (data_declared context earlier fields) here ∙ is)),
+)

@@ -19,4 +19,4 @@ pub mod NameError
 pub mod BuildError
 pub mod LineAnswer
 pub mod DeclareAnswer
-pub mod SenseOrder
+pub mod ReadingState

@@ -18,6 +18,7 @@ mod lines;
 mod sections;
 mod shapes;
 mod taking;
+mod taking_columns;
 mod words;
 
 pub use bound_types::BoundType;

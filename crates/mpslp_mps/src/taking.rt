@@ -6,7 +6,7 @@ ghost use Rattle.mpslp_mps.specs.Line.{data_line};
 ghost use Rattle.mpslp_mps.specs.LineMeaning.{row_of_type};
 ghost use Rattle.mpslp_mps.specs.DeclareAnswer.{Declares};
 ghost use Rattle.mpslp_mps.specs.LineAnswer.{Takes};
-ghost use Rattle.mpslp_mps.specs.SenseOrder.{has_sense_in_order};
+ghost use Rattle.mpslp_mps.specs.ReadingState.{has_sense_in_order};
 
 use crate::context::LineContext;
 use crate::data_lines::{judge_row, judge_sense};
