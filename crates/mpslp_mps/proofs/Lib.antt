@@ -28,3 +28,4 @@ pub mod TakingLemmas
 pub mod RowTaking
 pub mod ColumnTaking
 pub mod ColumnLine
+pub mod HeaderTaking

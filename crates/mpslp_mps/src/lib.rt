@@ -19,6 +19,7 @@ mod sections;
 mod shapes;
 mod taking;
 mod taking_columns;
+mod taking_headers;
 mod words;
 
 pub use bound_types::BoundType;
