@@ -21,7 +21,8 @@ use Rattle.mpslp_mps.specs.DataFault.{is_split, marker_tests, column_tests, data
 use Rattle.mpslp_mps.specs.LineMeaning.{coefficient_declared, data_declared, declared_of, column_declared}
 use Rattle.mpslp_mps.specs.LineFault.{declaring_faults}
 use Rattle.mpslp_mps.specs.FirstFault.{item_fault}
-use Rattle.mpslp_mps.specs.DeclareAnswer.{declared_fault, front_declared, value_declared}
+use Rattle.mpslp_mps.specs.DeclareAnswer.{declared_fault}
+use Rattle.mpslp_mps.specs.ColumnDeclared.{front_declared, value_declared}
 use Rattle.mpslp_mps.specs.declared.sections.Section.{Section}
 use Rattle.mpslp_mps.specs.declared.sections.Section.TheVariants.{Columns}
 use Rattle.mpslp_mps.proofs.HeldLemmas.{held-third}

@@ -20,7 +20,8 @@ use Rattle.mpslp_mps.specs.FirstHeld.{first_held}
 use Rattle.mpslp_mps.specs.DataFault.{marker_tests, marker_word_tests, is_sos_marker, column_tests, data_tests}
 use Rattle.mpslp_mps.specs.LineMeaning.{data_declared, declared_of, column_declared}
 use Rattle.mpslp_mps.specs.LineFault.{kind_of_refusal}
-use Rattle.mpslp_mps.specs.DeclareAnswer.{declared_fault, front_declared, value_declared}
+use Rattle.mpslp_mps.specs.DeclareAnswer.{declared_fault}
+use Rattle.mpslp_mps.specs.ColumnDeclared.{front_declared, value_declared}
 use Rattle.mpslp_mps.specs.LineAnswer.{IsToldAs}
 use Rattle.mpslp_mps.specs.declared.errors.LineError.{LineError}
 use Rattle.mpslp_mps.specs.declared.errors.LineError.TheVariants.{Fault, OutOfMemory}

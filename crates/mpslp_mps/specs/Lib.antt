@@ -19,4 +19,5 @@ pub mod NameError
 pub mod BuildError
 pub mod LineAnswer
 pub mod DeclareAnswer
+pub mod ColumnDeclared
 pub mod ReadingState

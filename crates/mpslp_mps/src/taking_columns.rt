@@ -12,7 +12,8 @@ ghost use Rattle.mpslp_mps.specs.Line.{data_line};
 ghost use Rattle.mpslp_mps.specs.DataLine.{is_marker_line};
 ghost use Rattle.mpslp_mps.specs.DataFault.{is_split};
 ghost use Rattle.mpslp_mps.specs.FirstHeld.{first_held};
-ghost use Rattle.mpslp_mps.specs.DeclareAnswer.{Declares, front_declared, value_declared};
+ghost use Rattle.mpslp_mps.specs.DeclareAnswer.{Declares};
+ghost use Rattle.mpslp_mps.specs.ColumnDeclared.{front_declared, value_declared};
 ghost use Rattle.mpslp_mps.specs.LineAnswer.{Takes};
 ghost use Rattle.mpslp_mps.specs.ReadingState.{has_sorted_columns};
 

@@ -2,7 +2,8 @@ use Rattle.std.proofs.Common.{◌≡◌, sym, ap, subst, ◌∙◌, ℕ, List, [
 use Rattle.std.specs.Prelude.{Option}
 use Rattle.std.specs.List.{cons_option, flat_map}
 use Rattle.mpslp_decimal.specs.Decimal.{Number}
-use Rattle.mpslp_mps.specs.DeclareAnswer.{declared_fault, value_declared}
+use Rattle.mpslp_mps.specs.DeclareAnswer.{declared_fault}
+use Rattle.mpslp_mps.specs.ColumnDeclared.{value_declared}
 use Rattle.mpslp_mps.specs.LineAnswer.{IsToldAs}
 use Rattle.mpslp_mps.proofs.TakingLemmas.{ends-by}
 use Rattle.mpslp_mps.proofs.ColumnTaking.{are_rows, values-refused, second-refused}

@@ -6,7 +6,8 @@ use Rattle.mpslp_model.specs.declared.faults.FaultKind.{FaultKind}
 use Rattle.mpslp_model.proofs.MadeDrafts.{adding_all-append}
 use Rattle.mpslp_mps.specs.Line.{data_line}
 use Rattle.mpslp_mps.specs.LineMeaning.{data_declared}
-use Rattle.mpslp_mps.specs.DeclareAnswer.{declared_fault, front_declared, value_declared}
+use Rattle.mpslp_mps.specs.DeclareAnswer.{declared_fault}
+use Rattle.mpslp_mps.specs.ColumnDeclared.{front_declared, value_declared}
 use Rattle.mpslp_mps.specs.LineAnswer.{IsToldAs}
 use Rattle.mpslp_mps.specs.declared.errors.LineError.TheVariants.{Fault}
 use Rattle.mpslp_mps.specs.declared.sections.Section.{Section}
