@@ -23,3 +23,6 @@ pub mod LineLemmas
 pub mod FrontLemmas
 pub mod ToldLemmas
 pub mod EndLemmas
+pub mod RefusedLemmas
+pub mod SideLemmas
+pub mod TakenLemmas

@@ -18,3 +18,4 @@ pub mod Laws
 pub mod NameError
 pub mod BuildError
 pub mod LineAnswer
+pub mod DeclareAnswer
