@@ -26,3 +26,4 @@ pub mod EndLemmas
 pub mod RefusedLemmas
 pub mod SideLemmas
 pub mod TakenLemmas
+pub mod RangeLemmas

@@ -3,9 +3,10 @@ use Rattle.std.proofs.Common.{◌≡◌, refl, sym, ap, subst, ◌∙◌, List, 
 use Rattle.std.specs.Prelude.{Option, Some, None, is_some, unwrap_or, filter_map, Ok, Err}
 use Rattle.std.specs.List.{list_all, cons_option}
 use Rattle.std.specs.Cmp.{first_so, second_so}
+use Rattle.std.proofs.lemmas.List.{append-nil}
 use Rattle.mpslp_model.specs.Answer.{Answers}
-use Rattle.mpslp_model.specs.Declaration.{Declarations, Draft, adding_all}
-use Rattle.mpslp_model.specs.Refusal.{those_of, refusals_in_turn}
+use Rattle.mpslp_model.specs.Declaration.{Declaration, Declarations, Draft, adding_all}
+use Rattle.mpslp_model.specs.Refusal.{those_of, refusals, refusal_tests, refusals_in_turn}
 use Rattle.mpslp_model.specs.FaultOrder.{least_kind}
 use Rattle.mpslp_model.specs.declared.faults.BuildFault.{BuildFault}
 use Rattle.mpslp_model.specs.declared.faults.BuildFault.TheVariants as builds
@@ -105,6 +106,19 @@ call-refused (test ∷ tests) fault P Q h answer =
           subst (λ (error : LineError). IsToldAs (Some (refused_kind test.1)) error) (sym (ap error_of_build same ∙ error_told test.1 known)) refl
       | false ↦ λ given. call-refused tests fault P Q rest given
     ] answer
+
+-- of one declaration
+pub call-told : (all : Draft) (d : Declaration) (fault : BuildFault) (P Q : Type 0) → have_kinds (refusal_tests all d) ≡ true → are_rising (kind_tests (refusal_tests all d)) ≡ true
+    → Answers (refusals all d) (Err fault) P Q → IsToldAs (declared_fault all (d ∷ [])) (error_of_build fault)
+call-told all d fault P Q h rising answer =
+    subst (λ (o : Option FaultKind). IsToldAs o (error_of_build fault))
+    (sym (ap (λ (faults : List BuildFault). least_kind (filter_map kind_of_refusal faults)) (append-nil (refusals all d)) ∙ least-refusal (refusal_tests all d) h rising))
+    (call-refused (refusal_tests all d) fault P Q h answer)
+
+-- a call that is refused changes nothing
+pub call-unchanged : (faults : List BuildFault) (fault : BuildFault) (P Q : Type 0) → Answers faults (Err fault) P Q → Q
+call-unchanged [] fault P Q answer = answer.1
+call-unchanged (first ∷ faults) fault P Q answer = answer.1
 
 -- a call that is not refused declares
 pub call-taken : (faults : List BuildFault) (P Q : Type 0) → Answers faults (Ok tt) P Q → (faults ≡ []) × P

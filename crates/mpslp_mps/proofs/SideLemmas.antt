@@ -162,9 +162,3 @@ first-refused all row value other second error sides h told =
     by true false c d (Fault kind) k given = cc
     by false b c d (Fault kind) k given = cc
     by true b false d (Fault kind) k given = cc
-
-pub first-taken : (all : Draft) (row : List ℕ) (value : Number) (other : List ℕ) (second : Number) → declared_fault all (right_side_declared all row value) ≡ None
-    → both all row value other second ≡ declared_fault (after_side all row value) (right_side_declared (after_side all row value) other second)
-first-taken all row value other second none =
-    told-append (right_side_declared all row value) (right_side_declared all other second) all
-    ∙ (λ i. earlier_of (none i) (declared_fault (after_side all row value) (sym (same_side all row value other second) i)))
