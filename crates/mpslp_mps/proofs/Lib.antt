@@ -29,3 +29,7 @@ pub mod RowTaking
 pub mod ColumnTaking
 pub mod ColumnLine
 pub mod HeaderTaking
+pub mod RefusedLemmas
+pub mod SideLemmas
+pub mod TakenLemmas
+pub mod RangeLemmas

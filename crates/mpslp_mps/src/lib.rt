@@ -20,6 +20,7 @@ mod shapes;
 mod taking;
 mod taking_columns;
 mod taking_headers;
+mod taking_vectors;
 mod words;
 
 pub use bound_types::BoundType;
