@@ -26,7 +26,7 @@ use Rattle.mpslp_mps.specs.ColumnDeclared.{front_declared, value_declared}
 use Rattle.mpslp_mps.specs.declared.sections.Section.{Section}
 use Rattle.mpslp_mps.specs.declared.sections.Section.TheVariants.{Columns}
 use Rattle.mpslp_mps.proofs.HeldLemmas.{held-third}
-use Rattle.mpslp_mps.proofs.LeastLemmas.{is_from, lesser, earlier_of, stays-least, least-those_of, least-append}
+use Rattle.mpslp_mps.proofs.LeastLemmas.{is_from, earlier_of, stays-least, least-those_of, least-append}
 use Rattle.mpslp_mps.proofs.ToldLemmas.{told-form, held-among, data-rising}
 use Rattle.mpslp_mps.proofs.DeclaringLemmas.{told-after, are_from}
 use Rattle.mpslp_mps.proofs.TakingLemmas.{is_early}

@@ -13,10 +13,9 @@ use Rattle.mpslp_model.proofs.LaterDrafts.{itself_named}
 use Rattle.mpslp_model.specs.declared.faults.FaultKind.{FaultKind}
 use Rattle.mpslp_model.specs.declared.faults.FaultKind.TheVariants as kinds
 use Rattle.mpslp_mps.specs.Line.{Fields}
-use Rattle.mpslp_mps.specs.DataLine.{ColumnLine, column_line, is_marker_line, marker_line}
+use Rattle.mpslp_mps.specs.DataLine.{column_line, is_marker_line, marker_line}
 use Rattle.mpslp_mps.specs.Context.{Context}
-use Rattle.mpslp_mps.specs.FieldFault.{Tests, judged_by, name_tests, number_tests, literals_of}
-use Rattle.mpslp_mps.specs.FirstHeld.{first_held}
+use Rattle.mpslp_mps.specs.FieldFault.{judged_by}
 use Rattle.mpslp_mps.specs.DataFault.{marker_tests, marker_word_tests, is_sos_marker, column_tests, data_tests}
 use Rattle.mpslp_mps.specs.LineMeaning.{data_declared, declared_of, column_declared}
 use Rattle.mpslp_mps.specs.LineFault.{kind_of_refusal}

@@ -1,5 +1,5 @@
 -- What is told of declarations one after another.
-use Rattle.std.proofs.Common.{◌≡◌, refl, sym, ap, ◌∙◌, List, [], ◌∷◌, ◌++◌, Bool, true, false, cond, append-nil}
+use Rattle.std.proofs.Common.{◌≡◌, refl, ap, ◌∙◌, List, [], ◌∷◌, ◌++◌, Bool, true, false, cond, append-nil}
 use Rattle.std.specs.Prelude.{nat_lt, Option, Some, None, filter_map}
 use Rattle.std.specs.List.{cons_option}
 use Rattle.std.specs.Option.{option_map, option_map_or}
@@ -8,14 +8,13 @@ use Rattle.mpslp_model.specs.Declaration.{Declaration, Declarations, Draft, addi
 use Rattle.mpslp_model.specs.Refusal.{those_of, refusal_tests, refusals, refusals_in_turn}
 use Rattle.mpslp_model.specs.FaultOrder.{kind_rank, least_kind}
 use Rattle.mpslp_model.specs.declared.faults.BuildFault.{BuildFault}
-use Rattle.mpslp_model.specs.declared.faults.BuildFault.TheVariants as builds
 use Rattle.mpslp_model.specs.declared.faults.FaultKind.{FaultKind}
 use Rattle.mpslp_mps.specs.FieldFault.{Tests}
 use Rattle.mpslp_mps.specs.FirstHeld.{first_held}
 use Rattle.mpslp_mps.specs.LineFault.{kind_of_refusal}
 use Rattle.mpslp_mps.specs.DeclareAnswer.{declared_fault}
 use Rattle.mpslp_model.proofs.MadeDrafts.{refusals_in_turn-append}
-use Rattle.mpslp_mps.proofs.LeastLemmas.{is_from, are_rising, lesser, earlier_of, least-those_of, least-append}
+use Rattle.mpslp_mps.proofs.LeastLemmas.{is_from, are_rising, earlier_of, least-those_of, least-append}
 
 abbrev pub BuildTests : Type 0
 BuildTests = List (Bool × BuildFault)

@@ -1,11 +1,9 @@
 -- What is told of a header: the first fault of its form, or else the fault of what it declares.
-use Rattle.std.proofs.Common.{◌≡◌, refl, sym, ap, ◌∙◌, ℕ, List, [], ◌∷◌, ◌++◌, Bool, true, false, cond}
+use Rattle.std.proofs.Common.{◌≡◌, refl, ap, ◌∙◌, ℕ, List, [], ◌∷◌, Bool, true, false, cond}
 use Rattle.std.specs.Prelude.{Option, Some, None, codes}
 use Rattle.std.specs.List.{list_all}
 use Rattle.mpslp_model.specs.Name.{is_one_of}
 use Rattle.mpslp_model.specs.Declaration.{Draft}
-use Rattle.mpslp_model.specs.Refusal.{those_of}
-use Rattle.mpslp_model.specs.FaultOrder.{least_kind}
 use Rattle.mpslp_model.specs.declared.faults.FaultKind.{FaultKind}
 use Rattle.mpslp_model.specs.declared.faults.FaultKind.TheVariants as kinds
 use Rattle.mpslp_mps.specs.Line.{Fields, header}
@@ -14,7 +12,6 @@ use Rattle.mpslp_mps.specs.Context.{Context}
 use Rattle.mpslp_mps.specs.FirstHeld.{first_held}
 use Rattle.mpslp_mps.specs.HeaderFault.{unknown_section, header_tests}
 use Rattle.mpslp_mps.specs.LineMeaning.{header_declared}
-use Rattle.mpslp_mps.specs.LineFault.{declaring_faults}
 use Rattle.mpslp_mps.specs.FirstFault.{item_fault}
 use Rattle.mpslp_mps.specs.DeclareAnswer.{declared_fault}
 use Rattle.mpslp_mps.specs.declared.sections.Section.{Section}

@@ -33,3 +33,4 @@ pub mod RefusedLemmas
 pub mod SideLemmas
 pub mod TakenLemmas
 pub mod RangeLemmas
+pub mod KeptLemmas

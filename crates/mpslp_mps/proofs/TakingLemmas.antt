@@ -1,5 +1,5 @@
 -- What is told of a data line: the first fault of its form, or else the fault of what it declares.
-use Rattle.std.proofs.Common.{◌≡◌, refl, sym, ap, subst, ◌∙◌, List, [], ◌∷◌, ◌++◌, Bool, true}
+use Rattle.std.proofs.Common.{◌≡◌, sym, ap, subst, ◌∙◌, ◌++◌, Bool, true}
 use Rattle.std.specs.Prelude.{Option, Some, None, Ok, Err, IsErrAnd, MatchResult}
 use Rattle.std.specs.List.{list_all}
 use Rattle.mpslp_model.specs.Declaration.{Declarations, Draft, adding_all}
@@ -9,7 +9,6 @@ use Rattle.mpslp_model.specs.declared.faults.FaultKind.{FaultKind}
 use Rattle.mpslp_model.specs.declared.faults.FaultKind.TheVariants as kinds
 use Rattle.mpslp_mps.specs.Line.{Fields, data_line}
 use Rattle.mpslp_mps.specs.Context.{Context}
-use Rattle.mpslp_mps.specs.FieldFault.{Tests}
 use Rattle.mpslp_mps.specs.FirstHeld.{first_held}
 use Rattle.mpslp_mps.specs.DataFault.{data_tests}
 use Rattle.mpslp_mps.specs.LineMeaning.{data_declared}

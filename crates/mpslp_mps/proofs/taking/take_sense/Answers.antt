@@ -1,5 +1,4 @@
 use Rattle.std.proofs.Common.{map, not}
-use Rattle.mpslp_mps.specs.Line.{data_line}
 use Rattle.mpslp_mps.specs.DataLine.{sense_line}
 use Rattle.mpslp_mps.specs.declared.errors.LineError.TheVariants.{Fault}
 use Rattle.mpslp_mps.specs.declared.sections.Section.TheVariants.{ObjSense}

@@ -1,17 +1,15 @@
-use Rattle.std.proofs.Common.{◌≡◌, sym, ap, subst, ◌∙◌, Bool, ◌++◌, map}
+use Rattle.std.proofs.Common.{◌≡◌, sym, ap, subst, ◌∙◌, Bool, map}
 use Rattle.std.specs.Prelude.{Option}
 use Rattle.std.specs.List.{flat_map}
 use Rattle.mpslp_model.specs.Declaration.{Draft, adding_all, has_column}
 use Rattle.mpslp_model.specs.declared.faults.FaultKind.{FaultKind}
 use Rattle.mpslp_model.proofs.MadeDrafts.{adding_all-append}
-use Rattle.mpslp_mps.specs.Line.{data_line}
 use Rattle.mpslp_mps.specs.LineMeaning.{data_declared}
 use Rattle.mpslp_mps.specs.DeclareAnswer.{declared_fault}
 use Rattle.mpslp_mps.specs.ColumnDeclared.{front_declared, value_declared}
 use Rattle.mpslp_mps.specs.LineAnswer.{IsToldAs}
 use Rattle.mpslp_mps.specs.declared.errors.LineError.TheVariants.{Fault}
 use Rattle.mpslp_mps.specs.declared.sections.Section.{Section}
-use Rattle.mpslp_mps.specs.declared.sections.Section.TheVariants.{Columns}
 use Rattle.mpslp_mps.proofs.StepLemmas.{step-column}
 use Rattle.mpslp_mps.proofs.TakingLemmas.{ends-by}
 use Rattle.mpslp_mps.proofs.ColumnTaking.{front-there}
