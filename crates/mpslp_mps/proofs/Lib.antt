@@ -24,6 +24,7 @@ pub mod FrontLemmas
 pub mod ToldLemmas
 pub mod EndLemmas
 pub mod RefusedLemmas
-pub mod SideLemmas
+pub mod RightSideLemmas
 pub mod TakenLemmas
 pub mod RangeLemmas
+pub mod BoundSideLemmas

@@ -19,3 +19,4 @@ pub mod NameError
 pub mod BuildError
 pub mod LineAnswer
 pub mod DeclareAnswer
+pub mod BoundSides

@@ -17,6 +17,7 @@ pub mod laws;
 mod lines;
 mod sections;
 mod shapes;
+mod taking_bounds;
 mod taking_vectors;
 mod words;
 
