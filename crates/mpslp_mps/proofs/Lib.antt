@@ -30,7 +30,8 @@ pub mod ColumnTaking
 pub mod ColumnLine
 pub mod HeaderTaking
 pub mod RefusedLemmas
-pub mod SideLemmas
+pub mod RightSideLemmas
 pub mod TakenLemmas
 pub mod RangeLemmas
 pub mod KeptLemmas
+pub mod BoundSideLemmas

@@ -1,6 +1,6 @@
 -- What is told of declarations that the builder refuses.
 use Rattle.std.proofs.Common.{◌≡◌, refl, sym, ap, subst, ◌∙◌, List, [], ◌∷◌, ◌++◌, Bool, true, false, cond, map}
-use Rattle.std.specs.Prelude.{Option, Some, None, is_some, unwrap_or, filter_map, Ok, Err}
+use Rattle.std.specs.Prelude.{Option, Some, None, is_some, unwrap_or, filter_map, Err}
 use Rattle.std.specs.List.{list_all, cons_option}
 use Rattle.std.specs.Cmp.{first_so, second_so}
 use Rattle.std.proofs.lemmas.List.{append-nil}
@@ -45,7 +45,7 @@ kinds-cons fault faults h = by (kind_of_refusal fault) h
     by None k = cc
     by (Some kind) k = refl
 
-pub kinds-those_of : (tests : RefusalTests) → have_kinds tests ≡ true → filter_map kind_of_refusal (those_of tests) ≡ those_of (kind_tests tests)
+kinds-those_of : (tests : RefusalTests) → have_kinds tests ≡ true → filter_map kind_of_refusal (those_of tests) ≡ those_of (kind_tests tests)
 kinds-those_of [] h = refl
 kinds-those_of (test ∷ tests) h =
     let known = first_so (is_some (kind_of_refusal test.1)) (have_kinds tests) h in
@@ -55,7 +55,7 @@ kinds-those_of (test ∷ tests) h =
       | false ↦ rest
     ]
 
-pub kinds-append : (xs ys : List BuildFault) → filter_map kind_of_refusal (xs ++ ys) ≡ filter_map kind_of_refusal xs ++ filter_map kind_of_refusal ys
+kinds-append : (xs ys : List BuildFault) → filter_map kind_of_refusal (xs ++ ys) ≡ filter_map kind_of_refusal xs ++ filter_map kind_of_refusal ys
 kinds-append [] ys = refl
 kinds-append (x ∷ xs) ys =
     ap (cons_option (kind_of_refusal x)) (kinds-append xs ys) ∙ by (kind_of_refusal x)
@@ -119,8 +119,3 @@ call-told all d fault P Q h rising answer =
 pub call-unchanged : (faults : List BuildFault) (fault : BuildFault) (P Q : Type 0) → Answers faults (Err fault) P Q → Q
 call-unchanged [] fault P Q answer = answer.1
 call-unchanged (first ∷ faults) fault P Q answer = answer.1
-
--- a call that is not refused declares
-pub call-taken : (faults : List BuildFault) (P Q : Type 0) → Answers faults (Ok tt) P Q → (faults ≡ []) × P
-call-taken [] P Q answer = (refl, answer)
-call-taken (fault ∷ faults) P Q answer = cc

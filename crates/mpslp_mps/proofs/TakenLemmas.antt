@@ -1,5 +1,5 @@
 -- What is told of a data line, by its section.
-use Rattle.std.proofs.Common.{◌≡◌, refl, ap, ◌∙◌, ℕ, List, [], ◌∷◌, ◌++◌, true, map}
+use Rattle.std.proofs.Common.{◌≡◌, refl, ap, ◌∙◌, ℕ, List, [], ◌∷◌, ◌++◌, Bool, true, false, cond, map}
 use Rattle.std.specs.Prelude.{Option, Some, None}
 use Rattle.std.specs.List.{list_all, flat_map}
 use Rattle.std.specs.Option.{option_map, option_map_or}
@@ -11,11 +11,13 @@ use Rattle.mpslp_mps.specs.Line.{Fields, data_line}
 use Rattle.mpslp_mps.specs.DataLine.{Pair, VectorLine}
 use Rattle.mpslp_mps.specs.Context.{Context}
 use Rattle.mpslp_mps.specs.LineMeaning.{declared_of, value_of, right_sides_declared, ranges_declared, data_declared}
-use Rattle.mpslp_mps.specs.FieldFault.{Tests, judged_by}
-use Rattle.mpslp_mps.specs.DataFault.{vector_tests, data_tests}
+use Rattle.mpslp_mps.specs.BoundLine.{BoundLine, bound_type, bound_line, is_semi_continuous_type}
+use Rattle.mpslp_mps.specs.FieldFault.{Tests, judged_by, number_tests, set_tests}
+use Rattle.mpslp_mps.specs.DataFault.{vector_tests, bound_tests, typed_bound_tests, bound_line_tests, data_tests}
 use Rattle.mpslp_mps.specs.FirstFault.{item_fault}
 use Rattle.mpslp_mps.specs.FirstHeld.{first_held, row_value, set_values}
 use Rattle.mpslp_mps.specs.DeclareAnswer.{declared_fault, right_sides_of, ranges_of}
+use Rattle.mpslp_mps.specs.declared.bound_types.BoundType.{BoundType}
 use Rattle.mpslp_mps.specs.declared.sections.Section.{Section}
 use Rattle.mpslp_mps.proofs.LeastLemmas.{is_from}
 use Rattle.mpslp_mps.proofs.ToldLemmas.{told-form, told-declared, held-among, data-rising}
@@ -75,3 +77,28 @@ ranges-are None set values h = cc
 ranges-are (Some line) set values h =
     let same = ap (λ (o : Option (List ℕ × List (List ℕ × Number))). option_map_or (λ found. found.1) o []) h in
     ranges-pairs line.pairs ∙ ap ranges_of same
+
+-- ---- lines of BOUNDS
+
+bound-early : (context : Context) (line : BoundLine) → are_early (bound_tests context line)
+bound-early context line = of line.literal
+  where
+    of : (o : Option (List ℕ)) → are_early (option_map_or (λ literal. number_tests (literal ∷ [])) o [] ++ set_tests context.bounds_set line.set)
+    of None = refl
+    of (Some literal) = refl
+
+early-if : (b : Bool) (x y : Tests) → are_early x → are_early y → are_early (cond b x y)
+early-if true x y h k = h
+early-if false x y h k = k
+
+pub bounds-early : (context : Context) (letters : List ℕ) (more : Fields) → are_early (bound_line_tests context (letters ∷ more))
+bounds-early context letters more =
+    early-if (is_semi_continuous_type letters) ((true, kinds.SemiContinuous) ∷ []) (typed_bound_tests context more (bound_type letters)) refl (typed (bound_type letters))
+  where
+    lined : (o : Option BoundLine) → are_early (judged_by (bound_tests context) o)
+    lined None = refl
+    lined (Some line) = bound-early context line
+
+    typed : (o : Option BoundType) → are_early (typed_bound_tests context more o)
+    typed None = refl
+    typed (Some type) = lined (bound_line type more)

@@ -21,3 +21,4 @@ pub mod LineAnswer
 pub mod DeclareAnswer
 pub mod ColumnDeclared
 pub mod ReadingState
+pub mod BoundSides

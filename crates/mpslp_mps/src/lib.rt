@@ -20,6 +20,7 @@ mod shapes;
 mod taking;
 mod taking_columns;
 mod taking_headers;
+mod taking_bounds;
 mod taking_vectors;
 mod words;
 

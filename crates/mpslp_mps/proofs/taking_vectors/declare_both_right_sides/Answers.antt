@@ -2,7 +2,7 @@ use Rattle.std.proofs.Common.{sym, subst, ◌∙◌, rules}
 use Rattle.std.specs.Cmp.{first_so}
 use Rattle.mpslp_model.specs.Declaration.{has_row}
 use Rattle.mpslp_mps.specs.DeclareAnswer.{HasMpsSides}
-use Rattle.mpslp_mps.proofs.SideLemmas.{row-unknown, first-refused, sides-after}
+use Rattle.mpslp_mps.proofs.RightSideLemmas.{row-unknown, first-refused, sides-after}
 use Rattle.mpslp_mps.proofs.taking_vectors.declare_both_right_sides.Goals as goal
 
 pub returns-then-not-are_rows : goal.returns-then-not-are_rows

@@ -58,11 +58,11 @@ limited-from all limited constant row h =
     let objective = none_so (is_objective all row) all.constant constant in
     λ i. given i || (limits i || objective i)
 
-pub limited : (all : Draft) → HasMpsSides all → AreLimited all
+limited : (all : Draft) → HasMpsSides all → AreLimited all
 limited all sides = limited-from all sides.limited sides.constant
 
 -- of one right side
-pub side_told : (all : Draft) (row : List ℕ) (value : Number) → AreLimited all
+side_told : (all : Draft) (row : List ℕ) (value : Number) → AreLimited all
     → declared_fault all (right_side_declared all row value) ≡ side_kind (has_row all row) (is_sided all row)
 side_told all row value free_unsided =
     elim (is_free_row all row) as (λ b. is_free_row all row ≡ b
@@ -79,15 +79,15 @@ abbrev pub after_side : Draft → List ℕ → Number → Draft
 after_side all row value = adding_all all (right_side_declared all row value)
 
 -- right sides leave the rows as they are
-pub same_row : (all : Draft) (row : List ℕ) (value : Number) (other : List ℕ) → has_row (after_side all row value) other ≡ has_row all other
+same_row : (all : Draft) (row : List ℕ) (value : Number) (other : List ℕ) → has_row (after_side all row value) other ≡ has_row all other
 same_row all row value other =
     elim (is_free_row all row) as (λ b. has_row (adding_all all (cond b [] (declare_right_side row value ∷ []))) other ≡ has_row all other) [ true ↦ refl | false ↦ refl ]
 
-pub same_free : (all : Draft) (row : List ℕ) (value : Number) (other : List ℕ) → is_free_row (after_side all row value) other ≡ is_free_row all other
+same_free : (all : Draft) (row : List ℕ) (value : Number) (other : List ℕ) → is_free_row (after_side all row value) other ≡ is_free_row all other
 same_free all row value other =
     elim (is_free_row all row) as (λ b. is_free_row (adding_all all (cond b [] (declare_right_side row value ∷ []))) other ≡ is_free_row all other) [ true ↦ refl | false ↦ refl ]
 
-pub same_side : (all : Draft) (row : List ℕ) (value : Number) (other : List ℕ) (second : Number)
+same_side : (all : Draft) (row : List ℕ) (value : Number) (other : List ℕ) (second : Number)
     → right_side_declared (after_side all row value) other second ≡ right_side_declared all other second
 same_side all row value other second = ap (λ (b : Bool). cond b [] (declare_right_side other second ∷ [])) (same_free all row value other)
 
@@ -107,7 +107,7 @@ side_limited all row value sides limited q h = has-put q row value all.right_sid
     by true same = let free = ap (is_free_row all) (sym (same_name q row same)) ∙ h in cc
     by false same = sides.limited q h
 
-pub limited-after : (all : Draft) (row : List ℕ) (value : Number) → HasMpsSides all → AreLimited (after_side all row value)
+limited-after : (all : Draft) (row : List ℕ) (value : Number) → HasMpsSides all → AreLimited (after_side all row value)
 limited-after all row value sides =
     elim (is_free_row all row) as (λ b. is_free_row all row ≡ b → AreLimited (adding_all all (cond b [] (declare_right_side row value ∷ [])))) [
       | true ↦ λ _. limited all sides
