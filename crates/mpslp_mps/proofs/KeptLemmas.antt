@@ -48,7 +48,7 @@ use Rattle.mpslp_mps.specs.declared.bound_types.BoundType.TheVariants as bounds
 use Rattle.mpslp_mps.specs.declared.sections.Section.{Section}
 use Rattle.mpslp_mps.specs.declared.sections.Section.TheVariants.{Name, ObjSense, Rows, Columns, Rhs, Ranges, Bounds, EndData}
 use Rattle.mpslp_mps.proofs.StepLemmas.{step-skipped, step-header, bare-header}
-use Rattle.mpslp_mps.proofs.SideLemmas.{after_side, sides-after}
+use Rattle.mpslp_mps.proofs.RightSideLemmas.{after_side, sides-after}
 
 -- ---- columns stay sorted
 

@@ -35,3 +35,4 @@ pub mod TakenLemmas
 pub mod RangeLemmas
 pub mod KeptLemmas
 pub mod BoundSideLemmas
+pub mod FrontTaking

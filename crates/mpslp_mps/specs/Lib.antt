@@ -22,3 +22,4 @@ pub mod DeclareAnswer
 pub mod ColumnDeclared
 pub mod ReadingState
 pub mod BoundSides
+pub mod ReadingAnswer

@@ -18,9 +18,9 @@ mod lines;
 mod sections;
 mod shapes;
 mod taking;
+mod taking_bounds;
 mod taking_columns;
 mod taking_headers;
-mod taking_bounds;
 mod taking_vectors;
 mod words;
 
