@@ -1,7 +1,7 @@
 -- A line is taken as its first six fields are.
 use Rattle.std.proofs.Common.{◌≡◌, refl, sym, ap, subst, ◌∙◌, ℕ, List, [], ◌∷◌, ◌++◌, take, Bool, true, false, cond}
-use Rattle.std.specs.Prelude.{Option, None, Ok, Err, MatchResult}
-use Rattle.mpslp_model.specs.Declaration.{Declarations, Draft, adding_all}
+use Rattle.std.specs.Prelude.{Option, Ok, Err}
+use Rattle.mpslp_model.specs.Declaration.{Draft, adding_all}
 use Rattle.mpslp_model.specs.Refusal.{those_of}
 use Rattle.mpslp_model.specs.FaultOrder.{least_kind}
 use Rattle.mpslp_model.specs.declared.faults.FaultKind.{FaultKind}
@@ -9,10 +9,8 @@ use Rattle.mpslp_mps.specs.Line.{Fields, Item, skipped, header, data_line, heade
 use Rattle.mpslp_mps.specs.Section.{section_named}
 use Rattle.mpslp_mps.specs.Context.{Context}
 use Rattle.mpslp_mps.specs.NextContext.{next_context}
-use Rattle.mpslp_mps.specs.FieldFault.{Tests}
 use Rattle.mpslp_mps.specs.LineMeaning.{declared}
 use Rattle.mpslp_mps.specs.LineFault.{form_tests, declaring_faults}
-use Rattle.mpslp_mps.specs.FirstFault.{item_fault}
 use Rattle.mpslp_mps.specs.LineAnswer.{LineResult, IsToldAs, Takes}
 use Rattle.mpslp_mps.proofs.FrontLemmas.{data_tests-front, data_declared-front, next_context-front, header_tests-front, header_declared-front}
 

@@ -36,3 +36,4 @@ pub mod RangeLemmas
 pub mod KeptLemmas
 pub mod BoundSideLemmas
 pub mod FrontTaking
+pub mod LoopLemmas

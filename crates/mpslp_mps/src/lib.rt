@@ -15,6 +15,7 @@ mod headers;
 mod judging;
 pub mod laws;
 mod lines;
+mod reading;
 mod sections;
 mod shapes;
 mod taking;
