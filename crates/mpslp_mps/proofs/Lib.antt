@@ -37,3 +37,5 @@ pub mod KeptLemmas
 pub mod BoundSideLemmas
 pub mod FrontTaking
 pub mod LoopLemmas
+pub mod NamedLemmas
+pub mod TextLemmas

@@ -42,7 +42,7 @@ counted-on lines n context earlier =
 
 -- ---- a line more
 
-no-item : (line : List ℕ) (placed : Placed) → line_fault line placed ≡ None → item_fault placed ≡ None
+pub no-item : (line : List ℕ) (placed : Placed) → line_fault line placed ≡ None → item_fault placed ≡ None
 no-item line placed h = by (has_legal_length line) (has_legal_bytes line) h
   where
     by : (a b : Bool) → cond (not a) (Some LineTooLong) (cond (not b) (Some BadByte) (item_fault placed)) ≡ None → item_fault placed ≡ None

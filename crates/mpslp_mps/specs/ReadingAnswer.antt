@@ -1,13 +1,14 @@
 -- What the code answers of a line of bytes, and of all lines.
-use Rattle.std.specs.Prelude.{◌≡◌, ℕ, suc, Bool, List, take, Option, Some, None, Result, MatchResult}
+use Rattle.std.specs.Prelude.{◌≡◌, ℕ, suc, Bool, true, List, take, Option, Some, None, is_some, Result, MatchResult}
 use Rattle.std.specs.List.{list_any, position_or_len}
-use Rattle.mpslp_model.specs.Declaration.{Draft}
+use Rattle.mpslp_model.specs.Declaration.{Draft, draft_of}
+use Rattle.mpslp_model.specs.Meaning.{file_fault}
 use Rattle.mpslp_model.specs.declared.faults.Fault.{Fault}
 use Rattle.mpslp_model.specs.declared.faults.ReadFault.{ReadFault}
 use Rattle.mpslp_model.specs.declared.faults.ReadFault.TheVariants.{File, Failed, OutOfMemory}
 use Rattle.mpslp_mps.specs.Context.{Context}
-use Rattle.mpslp_mps.specs.MpsText.{is_end}
-use Rattle.mpslp_mps.specs.FirstFault.{line_fault}
+use Rattle.mpslp_mps.specs.MpsText.{is_end, declarations_of}
+use Rattle.mpslp_mps.specs.FirstFault.{line_fault, first_mps_fault}
 use Rattle.mpslp_mps.specs.Reading.{placed_in, draft_after, context_after, fault_from, draft_from}
 use Rattle.mpslp_mps.specs.LineAnswer.{LineResult, IsToldAs}
 use Rattle.mpslp_mps.specs.declared.errors.LineError.{LineError}
@@ -40,3 +41,11 @@ abbrev pub ReadsLines : Context → Draft → List (List ℕ) → Result Bool Re
 ReadsLines context earlier text answer later =
     let told = fault_from 1 context earlier (lines_to_end text) in
     MatchResult answer (λ ended. (told ≡ None) × (later ≡ draft_from context earlier (lines_to_end text)) × (ended ≡ list_any is_end text)) (IsFaultOf told)
+
+-- The first fault is told, or else there is the draft of what the text declares, and then it alone decides whether there
+-- is a fault; its objective has a name.
+abbrev pub ReadsText : List ℕ → Result Draft ReadFault → Type 0
+ReadsText bytes answer =
+    MatchResult answer
+    (λ draft. (draft ≡ draft_of (declarations_of bytes)) × (first_mps_fault bytes ≡ file_fault draft) × (is_some draft.objective ≡ true))
+    (IsFaultOf (first_mps_fault bytes))

@@ -4,7 +4,7 @@ ghost use Rattle.std.specs.Prelude.{◌≡◌, false};
 ghost use Rattle.std.specs.Str.Lines.{lines};
 ghost use Rattle.mpslp_mps.specs.Section.{is_section};
 ghost use Rattle.mpslp_mps.specs.declared.sections.Section.{Section};
-ghost use Rattle.mpslp_mps.specs.ReadingAnswer.{IsFaultOn, ReadsLines};
+ghost use Rattle.mpslp_mps.specs.ReadingAnswer.{IsFaultOn, ReadsLines, ReadsText};
 ghost use Rattle.mpslp_mps.specs.ReadingState.{IsReading};
 
 use crate::context::LineContext;
@@ -51,4 +51,21 @@ fn read_lines(
         number = number.saturating_add(1);
     }
     Ok(false)
+}
+
+/// What a text declares.
+fn read_text(alloc: Global, text: &[u8]) -> Result<Builder, ReadFault>
+    ensures { ReadsText text.now result }
+{
+    let mut context = LineContext::new(alloc);
+    let mut builder = Builder::new(alloc);
+    let is_ended = read_lines(&mut context, &mut builder, alloc, text)?;
+    if !is_ended {
+        return Err(ReadFault::File(Fault {
+            kind: FaultKind::MissingEnd,
+            line: 0,
+            name: None,
+        }));
+    }
+    Ok(builder)
 }
