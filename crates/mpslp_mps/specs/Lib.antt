@@ -18,3 +18,8 @@ pub mod Laws
 pub mod NameError
 pub mod BuildError
 pub mod LineAnswer
+pub mod DeclareAnswer
+pub mod ColumnDeclared
+pub mod ReadingState
+pub mod BoundSides
+pub mod ReadingAnswer

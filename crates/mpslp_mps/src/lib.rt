@@ -15,8 +15,14 @@ mod headers;
 mod judging;
 pub mod laws;
 mod lines;
+mod reading;
 mod sections;
 mod shapes;
+mod taking;
+mod taking_bounds;
+mod taking_columns;
+mod taking_headers;
+mod taking_vectors;
 mod words;
 
 pub use bound_types::BoundType;

@@ -1,0 +1,201 @@
+-- What is told of a line of a column: the first fault of its form, or else a row that is not declared, a column that is
+-- split, or a coefficient that is there twice.
+use Rattle.std.proofs.Common.{◌≡◌, refl, sym, ap, ◌∙◌, ℕ, List, [], ◌∷◌, ◌++◌, Bool, true, false, cond, map, arith}
+use Rattle.std.specs.Prelude.{◌&&◌, not, nat_le, Option, Some, None}
+use Rattle.std.specs.List.{list_all, flat_map}
+use Rattle.std.specs.Option.{option_map, option_or}
+use Rattle.std.proofs.lemmas.Bool.Decides.{nat_tests}
+use Rattle.mpslp_decimal.specs.Decimal.{Number}
+use Rattle.mpslp_model.specs.Name.{same_bytes, has_name_length, is_visible, marker, is_mps_name}
+use Rattle.mpslp_model.specs.Declaration.{Declarations, Draft, adding_all, has_column}
+use Rattle.mpslp_model.specs.Refusal.{those_of}
+use Rattle.mpslp_model.specs.FaultOrder.{kind_rank, least_kind}
+use Rattle.mpslp_model.specs.declared.faults.FaultKind.{FaultKind}
+use Rattle.mpslp_model.specs.declared.faults.FaultKind.TheVariants as kinds
+use Rattle.mpslp_mps.specs.Line.{Fields, data_line}
+use Rattle.mpslp_mps.specs.DataLine.{Pair, ColumnLine, column_line, is_marker_line}
+use Rattle.mpslp_mps.specs.Context.{Context}
+use Rattle.mpslp_mps.specs.FieldFault.{Tests, judged_by, name_tests, number_tests, literals_of}
+use Rattle.mpslp_mps.specs.FirstHeld.{first_held, row_value, column_values}
+use Rattle.mpslp_mps.specs.DataFault.{is_split, marker_tests, column_tests, data_tests}
+use Rattle.mpslp_mps.specs.LineMeaning.{coefficient_declared, data_declared, declared_of, column_declared}
+use Rattle.mpslp_mps.specs.LineFault.{declaring_faults}
+use Rattle.mpslp_mps.specs.FirstFault.{item_fault}
+use Rattle.mpslp_mps.specs.DeclareAnswer.{declared_fault}
+use Rattle.mpslp_mps.specs.ColumnDeclared.{front_declared, value_declared}
+use Rattle.mpslp_mps.specs.declared.sections.Section.{Section}
+use Rattle.mpslp_mps.specs.declared.sections.Section.TheVariants.{Columns}
+use Rattle.mpslp_mps.proofs.HeldLemmas.{held-third}
+use Rattle.mpslp_mps.proofs.LeastLemmas.{is_from, earlier_of, stays-least, least-those_of, least-append}
+use Rattle.mpslp_mps.proofs.ToldLemmas.{told-form, held-among, data-rising}
+use Rattle.mpslp_mps.proofs.DeclaringLemmas.{told-after, are_from}
+use Rattle.mpslp_mps.proofs.TakingLemmas.{is_early}
+use Rattle.mpslp_mps.proofs.ColumnTaking.{are_rows, front-none, front-there, front-rows, values-late, values-unknown}
+
+-- ---- the form
+
+-- the tests of names and numbers, before that for whether the column's lines stand together
+abbrev pub field_tests : ColumnLine → Tests
+field_tests line = name_tests line.column ++ number_tests (literals_of line.pairs)
+
+abbrev split_test : Context → Draft → List ℕ → Tests
+split_test context earlier column = (is_split context earlier column, kinds.ColumnSplit) ∷ []
+
+plain-tests : (context : Context) (earlier : Draft) (fields : Fields) → is_marker_line fields ≡ false
+    → data_tests context earlier fields (Some Columns) ≡ judged_by (column_tests context earlier) (column_line fields)
+plain-tests context earlier fields h = ap (λ (b : Bool). cond b (marker_tests context fields) (judged_by (column_tests context earlier) (column_line fields))) h
+
+-- a fault of the fields is told
+held_fields : (context : Context) (earlier : Draft) (parts : Option ColumnLine) (kind : FaultKind) → first_held (judged_by field_tests parts) ≡ Some kind
+    → first_held (judged_by (column_tests context earlier) parts) ≡ Some kind
+held_fields context earlier None kind h = h
+held_fields context earlier (Some line) kind h =
+    held-third (name_tests line.column) (number_tests (literals_of line.pairs)) (split_test context earlier line.column)
+    ∙ ap (λ (o : Option FaultKind). option_or o (first_held (split_test context earlier line.column))) h
+
+early_fields : (parts : Option ColumnLine) → list_all is_early (judged_by field_tests parts) ≡ true
+early_fields None = refl
+early_fields (Some line) = refl
+
+abbrev told_under : Context → Draft → Fields → Option Section → Option FaultKind
+told_under context earlier fields section = least_kind (those_of (data_tests context earlier fields section) ++ declaring_faults earlier (data_declared context earlier fields section))
+
+pub column-form : (context : Context) (earlier : Draft) (fields : Fields) (kind : FaultKind) → context.section ≡ Some Columns → is_marker_line fields ≡ false
+    → first_held (judged_by field_tests (column_line fields)) ≡ Some kind
+    → item_fault (record { context = context; earlier = earlier; item = data_line fields }) ≡ Some kind
+column-form context earlier fields kind here plain held =
+    let tests = data_tests context earlier fields (Some Columns) in
+    ap (told_under context earlier fields) here
+    ∙ told-form tests kind earlier (data_declared context earlier fields (Some Columns)) (data-rising context earlier fields (Some Columns))
+    (ap first_held (plain-tests context earlier fields plain) ∙ held_fields context earlier (column_line fields) kind held)
+    (held-among (λ other. is_from other kinds.UnknownRow) (judged_by field_tests (column_line fields)) kind (early_fields (column_line fields)) held)
+
+-- ---- the form and what is declared
+
+-- where the fields are in order, the form tells of a split alone
+held_split : (context : Context) (earlier : Draft) (parts : Option ColumnLine) (column : List ℕ) (values : List (List ℕ × Number))
+    → first_held (judged_by field_tests parts) ≡ None → option_map column_values parts ≡ Some (column, values)
+    → first_held (judged_by (column_tests context earlier) parts) ≡ first_held (split_test context earlier column)
+held_split context earlier None column values h is = cc
+held_split context earlier (Some line) column values h is =
+    let same : line.column ≡ column = ap (λ (o : Option (List ℕ × List (List ℕ × Number))). elim o as (λ _. List ℕ) [ None ↦ [] | Some p ↦ p.0 ]) is in
+    held-third (name_tests line.column) (number_tests (literals_of line.pairs)) (split_test context earlier line.column)
+    ∙ ap (λ (o : Option FaultKind). option_or o (first_held (split_test context earlier line.column))) h
+    ∙ ap (λ (name : List ℕ). first_held (split_test context earlier name)) same
+
+values_declared : (column : List ℕ) (pairs : List Pair) → flat_map (coefficient_declared column) pairs ≡ flat_map (value_declared column) (map row_value pairs)
+values_declared column [] = refl
+values_declared column (pair ∷ pairs) = ap (λ (ds : Declarations). value_declared column (row_value pair) ++ ds) (values_declared column pairs)
+
+line_declared : (context : Context) (parts : Option ColumnLine) (column : List ℕ) (values : List (List ℕ × Number)) → option_map column_values parts ≡ Some (column, values)
+    → declared_of (column_declared context) parts ≡ front_declared context.in_integer_part column ++ flat_map (value_declared column) values
+line_declared context None column values is = cc
+line_declared context (Some line) column values is =
+    ap (λ (ds : Declarations). front_declared context.in_integer_part line.column ++ ds) (values_declared line.column line.pairs)
+    ∙ ap (λ (o : Option (List ℕ × List (List ℕ × Number))). elim o as (λ _. Declarations) [ None ↦ [] | Some p ↦ front_declared context.in_integer_part p.0 ++ flat_map (value_declared p.0) p.1 ]) is
+
+pub column-declares : (context : Context) (earlier : Draft) (fields : Fields) (column : List ℕ) (values : List (List ℕ × Number)) → is_marker_line fields ≡ false
+    → option_map column_values (column_line fields) ≡ Some (column, values)
+    → data_declared context earlier fields (Some Columns) ≡ front_declared context.in_integer_part column ++ flat_map (value_declared column) values
+column-declares context earlier fields column values plain is =
+    ap (λ (b : Bool). cond b [] (declared_of (column_declared context) (column_line fields))) plain ∙ line_declared context (column_line fields) column values is
+
+-- the draft in which the column stands
+abbrev pub with_column : Context → Draft → List ℕ → Draft
+with_column context earlier column = adding_all earlier (front_declared context.in_integer_part column)
+
+pub column-told : (context : Context) (earlier : Draft) (fields : Fields) (column : List ℕ) (values : List (List ℕ × Number)) → context.section ≡ Some Columns
+    → is_marker_line fields ≡ false → first_held (judged_by field_tests (column_line fields)) ≡ None → option_map column_values (column_line fields) ≡ Some (column, values)
+    → item_fault (record { context = context; earlier = earlier; item = data_line fields })
+    ≡ earlier_of (first_held (split_test context earlier column)) (declared_fault (with_column context earlier column) (flat_map (value_declared column) values))
+column-told context earlier fields column values here plain held is =
+    let tests = data_tests context earlier fields (Some Columns) in
+    let ds = data_declared context earlier fields (Some Columns) in
+    let front = front_declared context.in_integer_part column in
+    let coefficients = flat_map (value_declared column) values in
+    ap (told_under context earlier fields) here
+    ∙ least-append (those_of tests) (declaring_faults earlier ds)
+    ∙ ap (λ (o : Option FaultKind). earlier_of o (declared_fault earlier ds))
+    (least-those_of tests (data-rising context earlier fields (Some Columns)) ∙ ap first_held (plain-tests context earlier fields plain)
+    ∙ held_split context earlier (column_line fields) column values held is)
+    ∙ ap (earlier_of (first_held (split_test context earlier column)))
+    (ap (declared_fault earlier) (column-declares context earlier fields column values plain is)
+    ∙ told-after earlier front coefficients (front-none earlier context.in_integer_part column))
+
+-- ---- the place
+
+-- that the rows are declared, and that the column is not split
+abbrev pub place_tests : Context → Draft → List ℕ → List (List ℕ × Number) → Tests
+place_tests context earlier column values = (not (are_rows earlier values), kinds.UnknownRow) ∷ split_test context earlier column
+
+late_enough : (o : Option FaultKind) → are_from kinds.DuplicateEntry o ≡ true → are_from kinds.ColumnSplit o ≡ true
+late_enough None h = refl
+late_enough (Some kind) h = more (kind_rank kind) h
+  where
+    more : (n : ℕ) → nat_le 27 n ≡ true → nat_le 25 n ≡ true
+    more n k = grind (arith, nat_tests)
+
+pub place-told : (context : Context) (earlier : Draft) (fields : Fields) (column : List ℕ) (values : List (List ℕ × Number)) (kind : FaultKind) → context.section ≡ Some Columns
+    → is_marker_line fields ≡ false → first_held (judged_by field_tests (column_line fields)) ≡ None → option_map column_values (column_line fields) ≡ Some (column, values)
+    → first_held (place_tests context earlier column values) ≡ Some kind
+    → item_fault (record { context = context; earlier = earlier; item = data_line fields }) ≡ Some kind
+place-told context earlier fields column values kind here plain held is placed =
+    column-told context earlier fields column values here plain held is ∙ by (are_rows earlier values) refl (is_split context earlier column) placed
+  where
+    draft : Draft
+    draft = with_column context earlier column
+
+    there : has_column draft column ≡ true
+    there = front-there earlier context.in_integer_part column
+
+    coefficients : Option FaultKind
+    coefficients = declared_fault draft (flat_map (value_declared column) values)
+
+    rows : are_rows draft values ≡ are_rows earlier values
+    rows = front-rows earlier context.in_integer_part column values
+
+    by : (known : Bool) → are_rows earlier values ≡ known → (split : Bool)
+        → first_held ((not known, kinds.UnknownRow) ∷ (split, kinds.ColumnSplit) ∷ []) ≡ Some kind
+        → earlier_of (cond split (Some kinds.ColumnSplit) None) coefficients ≡ Some kind
+    by false e true h = ap (earlier_of (Some kinds.ColumnSplit)) (values-unknown values draft column there (rows ∙ e)) ∙ h
+    by false e false h = values-unknown values draft column there (rows ∙ e) ∙ h
+    by true e true h = ap (λ (k : FaultKind). Some k) (stays-least kinds.ColumnSplit coefficients (late_enough coefficients (values-late values draft column there (rows ∙ e)))) ∙ h
+    by true e false h = cc
+
+-- where the place is in order, the coefficients decide
+pub placed : (context : Context) (earlier : Draft) (column : List ℕ) (values : List (List ℕ × Number)) → first_held (place_tests context earlier column values) ≡ None
+    → (are_rows earlier values ≡ true) × (is_split context earlier column ≡ false)
+placed context earlier column values h = by (are_rows earlier values) (is_split context earlier column) h
+  where
+    by : (known split : Bool) → first_held ((not known, kinds.UnknownRow) ∷ (split, kinds.ColumnSplit) ∷ []) ≡ None → (known ≡ true) × (split ≡ false)
+    by false split e = cc
+    by true true e = cc
+    by true false e = (refl, refl)
+
+pub placed-told : (context : Context) (earlier : Draft) (fields : Fields) (column : List ℕ) (values : List (List ℕ × Number)) → context.section ≡ Some Columns
+    → is_marker_line fields ≡ false → first_held (judged_by field_tests (column_line fields)) ≡ None → option_map column_values (column_line fields) ≡ Some (column, values)
+    → first_held (place_tests context earlier column values) ≡ None
+    → item_fault (record { context = context; earlier = earlier; item = data_line fields }) ≡ declared_fault (with_column context earlier column) (flat_map (value_declared column) values)
+placed-told context earlier fields column values here plain held is in_order =
+    let coefficients = declared_fault (with_column context earlier column) (flat_map (value_declared column) values) in
+    column-told context earlier fields column values here plain held is
+    ∙ ap (λ (b : Bool). earlier_of (cond b (Some kinds.ColumnSplit) None) coefficients) (placed context earlier column values in_order).1
+
+-- ---- the column's name
+
+pub column-named : (parts : Option ColumnLine) (column : List ℕ) (values : List (List ℕ × Number)) → first_held (judged_by field_tests parts) ≡ None
+    → option_map column_values parts ≡ Some (column, values) → is_mps_name column ≡ true
+column-named None column values h is = cc
+column-named (Some line) column values h is =
+    let same : line.column ≡ column = ap (λ (o : Option (List ℕ × List (List ℕ × Number))). elim o as (λ _. List ℕ) [ None ↦ [] | Some p ↦ p.0 ]) is in
+    ap is_mps_name (sym same) ∙ by (has_name_length line.column) (list_all is_visible line.column) (same_bytes line.column marker) h
+  where
+    more : Tests
+    more = number_tests (literals_of line.pairs)
+
+    by : (long visible named : Bool) → first_held ((not long, kinds.NameLength) ∷ (not visible, kinds.NameByte) ∷ (named, kinds.NameMarker) ∷ more) ≡ None
+        → (long && (visible && not named)) ≡ true
+    by true true true k = cc
+    by true true false k = refl
+    by true false named k = cc
+    by false visible named k = cc

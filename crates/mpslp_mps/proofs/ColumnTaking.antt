@@ -1,0 +1,163 @@
+-- Lines of COLUMNS: what is told of their form and of what they declare together.
+use Rattle.std.proofs.Common.{◌≡◌, refl, sym, ap, subst, ◌∙◌, ℕ, List, [], ◌∷◌, ◌++◌, Bool, true, false, cond}
+use Rattle.std.specs.Prelude.{◌||◌, ◌&&◌, not, Option, Some, None, filter_map}
+use Rattle.std.specs.List.{list_all, flat_map}
+use Rattle.std.specs.Cmp.{first_so, second_so}
+use Rattle.mpslp_decimal.specs.Decimal.{Number}
+use Rattle.mpslp_model.specs.Declaration.{declare_column, declare_coefficient, Declarations, Draft, adding, adding_all, has_row, has_column, has_entry}
+use Rattle.mpslp_model.specs.Refusal.{those_of}
+use Rattle.mpslp_model.specs.FaultOrder.{least_kind}
+use Rattle.mpslp_model.specs.declared.faults.BuildFault.TheVariants.{UnknownColumn}
+use Rattle.mpslp_model.proofs.SlotLemmas.{has-put}
+use Rattle.mpslp_model.proofs.LaterDrafts.{itself_named}
+use Rattle.mpslp_model.specs.declared.faults.FaultKind.{FaultKind}
+use Rattle.mpslp_model.specs.declared.faults.FaultKind.TheVariants as kinds
+use Rattle.mpslp_mps.specs.Line.{Fields}
+use Rattle.mpslp_mps.specs.DataLine.{column_line, is_marker_line, marker_line}
+use Rattle.mpslp_mps.specs.Context.{Context}
+use Rattle.mpslp_mps.specs.FieldFault.{judged_by}
+use Rattle.mpslp_mps.specs.DataFault.{marker_tests, marker_word_tests, is_sos_marker, column_tests, data_tests}
+use Rattle.mpslp_mps.specs.LineMeaning.{data_declared, declared_of, column_declared}
+use Rattle.mpslp_mps.specs.LineFault.{kind_of_refusal}
+use Rattle.mpslp_mps.specs.DeclareAnswer.{declared_fault}
+use Rattle.mpslp_mps.specs.ColumnDeclared.{front_declared, value_declared}
+use Rattle.mpslp_mps.specs.LineAnswer.{IsToldAs}
+use Rattle.mpslp_mps.specs.declared.errors.LineError.{LineError}
+use Rattle.mpslp_mps.specs.declared.errors.LineError.TheVariants.{Fault, OutOfMemory}
+use Rattle.mpslp_mps.specs.declared.sections.Section.TheVariants.{Columns}
+use Rattle.mpslp_mps.proofs.LeastLemmas.{lesser, earlier_of, stays-least}
+use Rattle.mpslp_mps.proofs.ToldLemmas.{told-form}
+use Rattle.mpslp_mps.proofs.DeclaringLemmas.{told-one, told-append, told-after, are_from, from-earlier}
+use Rattle.mpslp_mps.proofs.TakingLemmas.{is_early}
+
+-- ---- marker lines
+
+pub marker-tests : (context : Context) (earlier : Draft) (fields : Fields) → is_marker_line fields ≡ true
+    → data_tests context earlier fields (Some Columns) ≡ marker_tests context fields
+marker-tests context earlier fields h = ap (λ (b : Bool). cond b (marker_tests context fields) (judged_by (column_tests context earlier) (column_line fields))) h
+
+pub marker-early : (context : Context) (fields : Fields) → list_all is_early (marker_tests context fields) ≡ true
+marker-early context fields = of (marker_line fields)
+  where
+    of : (o : Option (List ℕ)) → list_all is_early ((is_sos_marker fields, kinds.Sos) ∷ judged_by (marker_word_tests context) o) ≡ true
+    of None = refl
+    of (Some word) = refl
+
+pub marker-declares : (context : Context) (earlier : Draft) (fields : Fields) → is_marker_line fields ≡ true → data_declared context earlier fields (Some Columns) ≡ []
+marker-declares context earlier fields h = ap (λ (b : Bool). cond b [] (declared_of (column_declared context) (column_line fields))) h
+
+-- ---- what a line of a column declares
+
+-- once a column is declared, it is there
+pub column-there : (earlier : Draft) (column : List ℕ) → has_column (adding earlier (declare_column column)) column ≡ true
+column-there earlier column =
+    has-put column column tt earlier.columns ∙ ap (λ (b : Bool). b || has_column earlier column) (itself_named column)
+
+-- nothing is told of the column, which may be declared again
+pub front-none : (earlier : Draft) (marked : Bool) (column : List ℕ) → declared_fault earlier (front_declared marked column) ≡ None
+front-none earlier false column = refl
+front-none earlier true column =
+    ap (λ (b : Bool). least_kind (filter_map kind_of_refusal (those_of ((not b, UnknownColumn) ∷ []) ++ []))) (column-there earlier column)
+
+pub front-there : (earlier : Draft) (marked : Bool) (column : List ℕ) → has_column (adding_all earlier (front_declared marked column)) column ≡ true
+front-there earlier true column = column-there earlier column
+front-there earlier false column = column-there earlier column
+
+abbrev pub are_rows : Draft → List (List ℕ × Number) → Bool
+are_rows earlier values = list_all (λ value. has_row earlier value.0) values
+
+pub front-rows : (earlier : Draft) (marked : Bool) (column : List ℕ) (values : List (List ℕ × Number))
+    → are_rows (adding_all earlier (front_declared marked column)) values ≡ are_rows earlier values
+front-rows earlier true column values = refl
+front-rows earlier false column values = refl
+
+-- of one value in a column that is there
+pub value-told : (earlier : Draft) (column : List ℕ) (value : List ℕ × Number) → has_column earlier column ≡ true
+    → declared_fault earlier (value_declared column value)
+    ≡ cond (not (has_row earlier value.0)) (Some kinds.UnknownRow) (cond (has_entry earlier (record { row = value.0; column = column })) (Some kinds.DuplicateEntry) None)
+value-told earlier column value there =
+    told-one earlier (declare_coefficient (record { row = value.0; column = column }) value.1) refl
+    ∙ ap (λ (b : Bool). cond (not (has_row earlier value.0)) (Some kinds.UnknownRow) (cond (not b) (Some kinds.UnknownColumn) (cond (has_entry earlier (record { row = value.0; column = column })) (Some kinds.DuplicateEntry) None))) there
+
+entry-late : (b : Bool) → are_from kinds.DuplicateEntry (cond b (Some kinds.DuplicateEntry) None) ≡ true
+entry-late true = refl
+entry-late false = refl
+
+value-late : (earlier : Draft) (column : List ℕ) (value : List ℕ × Number) → has_column earlier column ≡ true → has_row earlier value.0 ≡ true
+    → are_from kinds.DuplicateEntry (declared_fault earlier (value_declared column value)) ≡ true
+value-late earlier column value there row =
+    let double = has_entry earlier (record { row = value.0; column = column }) in
+    ap (are_from kinds.DuplicateEntry)
+    (value-told earlier column value there ∙ ap (λ (b : Bool). cond (not b) (Some kinds.UnknownRow) (cond double (Some kinds.DuplicateEntry) None)) row)
+    ∙ entry-late double
+
+-- where the rows are declared, a coefficient may be there twice, and nothing else is told
+pub values-late : (values : List (List ℕ × Number)) (earlier : Draft) (column : List ℕ) → has_column earlier column ≡ true → are_rows earlier values ≡ true
+    → are_from kinds.DuplicateEntry (declared_fault earlier (flat_map (value_declared column) values)) ≡ true
+values-late [] earlier column there rows = refl
+values-late (value ∷ values) earlier column there rows =
+    let next = adding_all earlier (value_declared column value) in
+    let first = declared_fault earlier (value_declared column value) in
+    let later = declared_fault next (flat_map (value_declared column) values) in
+    ap (are_from kinds.DuplicateEntry) (told-append earlier (value_declared column value) (flat_map (value_declared column) values))
+    ∙ from-earlier kinds.DuplicateEntry first later (value-late earlier column value there (first_so (has_row earlier value.0) (are_rows earlier values) rows))
+    (values-late values next column there (second_so (has_row earlier value.0) (are_rows earlier values) rows))
+
+-- the first value is refused
+pub values-refused : (earlier : Draft) (column : List ℕ) (value : List ℕ × Number) (values : List (List ℕ × Number)) (error : LineError)
+    → has_column earlier column ≡ true → are_rows earlier (value ∷ values) ≡ true → IsToldAs (declared_fault earlier (value_declared column value)) error
+    → IsToldAs (declared_fault earlier (flat_map (value_declared column) (value ∷ values))) error
+values-refused earlier column value values OutOfMemory there rows told = tt
+values-refused earlier column value values (Fault kind) there rows told =
+    let next = adding_all earlier (value_declared column value) in
+    let later = declared_fault next (flat_map (value_declared column) values) in
+    let row = first_so (has_row earlier value.0) (are_rows earlier values) rows in
+    let double = has_entry earlier (record { row = value.0; column = column }) in
+    let is : cond double (Some kinds.DuplicateEntry) None ≡ Some kind =
+    ap (λ (b : Bool). cond (not b) (Some kinds.UnknownRow) (cond double (Some kinds.DuplicateEntry) None)) (sym row) ∙ sym (value-told earlier column value there) ∙ told in
+    told-append earlier (value_declared column value) (flat_map (value_declared column) values)
+    ∙ ap (λ (o : Option FaultKind). earlier_of o later) told
+    ∙ ap (λ (k : FaultKind). Some k)
+    (ap (λ (k : FaultKind). lesser k later) (sym (entry_kind double kind is))
+    ∙ stays-least kinds.DuplicateEntry later (values-late values next column there (second_so (has_row earlier value.0) (are_rows earlier values) rows))
+    ∙ entry_kind double kind is)
+  where
+    entry_kind : (b : Bool) (k : FaultKind) → cond b (Some kinds.DuplicateEntry) None ≡ Some k → kinds.DuplicateEntry ≡ k
+    entry_kind true k e = cc
+    entry_kind false k e = cc
+
+-- the second one is
+pub second-refused : (earlier next : Draft) (column : List ℕ) (value other : List ℕ × Number) (error : LineError)
+    → declared_fault earlier (value_declared column value) ≡ None → next ≡ adding_all earlier (value_declared column value)
+    → IsToldAs (declared_fault next (value_declared column other)) error
+    → IsToldAs (declared_fault earlier (flat_map (value_declared column) (value ∷ other ∷ []))) error
+second-refused earlier next column value other error none is told =
+    subst (λ (o : Option FaultKind). IsToldAs o error)
+    (ap (λ (d : Draft). declared_fault d (value_declared column other)) is ∙ sym (told-after earlier (value_declared column value) (value_declared column other) none)) told
+
+-- a row that is not declared comes first
+pub values-unknown : (values : List (List ℕ × Number)) (earlier : Draft) (column : List ℕ) → has_column earlier column ≡ true → are_rows earlier values ≡ false
+    → declared_fault earlier (flat_map (value_declared column) values) ≡ Some kinds.UnknownRow
+values-unknown [] earlier column there rows = cc
+values-unknown (value ∷ values) earlier column there rows =
+    told-append earlier (value_declared column value) more
+    ∙ ap (λ (o : Option FaultKind). earlier_of o later) (value-told earlier column value there)
+    ∙ by (has_row earlier value.0) double rows (λ h. values-unknown values next column there h)
+  where
+    more : Declarations
+    more = flat_map (value_declared column) values
+
+    next : Draft
+    next = adding_all earlier (value_declared column value)
+
+    later : Option FaultKind
+    later = declared_fault next more
+
+    double : Bool
+    double = has_entry earlier (record { row = value.0; column = column })
+
+    by : (row b : Bool) → (row && are_rows earlier values) ≡ false → (are_rows earlier values ≡ false → later ≡ Some kinds.UnknownRow)
+        → earlier_of (cond (not row) (Some kinds.UnknownRow) (cond b (Some kinds.DuplicateEntry) None)) later ≡ Some kinds.UnknownRow
+    by false b h rest = told-form ((true, kinds.UnknownRow) ∷ []) kinds.UnknownRow next more refl refl refl
+    by true true h rest = ap (λ (o : Option FaultKind). Some (lesser kinds.DuplicateEntry o)) (rest h)
+    by true false h rest = rest h

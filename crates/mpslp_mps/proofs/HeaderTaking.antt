@@ -1,0 +1,60 @@
+-- What is told of a header: the first fault of its form, or else the fault of what it declares.
+use Rattle.std.proofs.Common.{◌≡◌, refl, ap, ◌∙◌, ℕ, List, [], ◌∷◌, Bool, true, false, cond}
+use Rattle.std.specs.Prelude.{Option, Some, None, codes}
+use Rattle.std.specs.List.{list_all}
+use Rattle.mpslp_model.specs.Name.{is_one_of}
+use Rattle.mpslp_model.specs.Declaration.{Draft}
+use Rattle.mpslp_model.specs.declared.faults.FaultKind.{FaultKind}
+use Rattle.mpslp_model.specs.declared.faults.FaultKind.TheVariants as kinds
+use Rattle.mpslp_mps.specs.Line.{Fields, header}
+use Rattle.mpslp_mps.specs.Section.{section_named}
+use Rattle.mpslp_mps.specs.Context.{Context}
+use Rattle.mpslp_mps.specs.FirstHeld.{first_held}
+use Rattle.mpslp_mps.specs.HeaderFault.{unknown_section, header_tests}
+use Rattle.mpslp_mps.specs.LineMeaning.{header_declared}
+use Rattle.mpslp_mps.specs.FirstFault.{item_fault}
+use Rattle.mpslp_mps.specs.DeclareAnswer.{declared_fault}
+use Rattle.mpslp_mps.specs.declared.sections.Section.{Section}
+use Rattle.mpslp_mps.specs.declared.sections.Section.TheVariants.{Name, ObjSense, Rows, Columns, Rhs, Ranges, Bounds, EndData}
+use Rattle.mpslp_mps.proofs.LeastLemmas.{is_from}
+use Rattle.mpslp_mps.proofs.ToldLemmas.{told-form, told-declared, held-among, header-rising}
+use Rattle.mpslp_mps.proofs.TakingLemmas.{is_early}
+
+unknown_early : (keyword : List ℕ) → list_all is_early ((true, unknown_section keyword) ∷ []) ≡ true
+unknown_early keyword =
+    by (is_one_of (codes "QSECTION" ∷ codes "QMATRIX" ∷ codes "QUADOBJ" ∷ codes "QCMATRIX" ∷ codes "CSECTION" ∷ []) keyword)
+    (is_one_of (codes "SOS" ∷ codes "SOS1" ∷ codes "SOS2" ∷ []) keyword) (is_one_of (codes "INDICATORS" ∷ []) keyword)
+  where
+    by : (a b c : Bool) → list_all is_early ((true, cond a kinds.Quadratic (cond b kinds.Sos (cond c kinds.Indicator kinds.UnknownSection))) ∷ []) ≡ true
+    by true b c = refl
+    by false true c = refl
+    by false false true = refl
+    by false false false = refl
+
+header-early : (context : Context) (keyword : List ℕ) (more : Fields) (section : Option Section) → list_all is_early (header_tests context keyword more section) ≡ true
+header-early context keyword more None = unknown_early keyword
+header-early context keyword more (Some Name) = refl
+header-early context keyword [] (Some ObjSense) = refl
+header-early context keyword (word ∷ more) (Some ObjSense) = refl
+header-early context keyword more (Some Rows) = refl
+header-early context keyword more (Some Columns) = refl
+header-early context keyword more (Some Rhs) = refl
+header-early context keyword more (Some Ranges) = refl
+header-early context keyword more (Some Bounds) = refl
+header-early context keyword more (Some EndData) = refl
+
+pub header-form : (context : Context) (earlier : Draft) (keyword : List ℕ) (more : Fields) (kind : FaultKind)
+    → first_held (header_tests context keyword more (section_named keyword)) ≡ Some kind
+    → item_fault (record { context = context; earlier = earlier; item = header keyword more }) ≡ Some kind
+header-form context earlier keyword more kind held =
+    let tests = header_tests context keyword more (section_named keyword) in
+    told-form tests kind earlier (header_declared earlier more (section_named keyword)) (header-rising context keyword more (section_named keyword)) held
+    (held-among (λ other. is_from other kinds.UnknownRow) tests kind (header-early context keyword more (section_named keyword)) held)
+
+pub header-declares : (context : Context) (earlier : Draft) (keyword : List ℕ) (more : Fields) (section : Section) → section_named keyword ≡ Some section
+    → first_held (header_tests context keyword more (section_named keyword)) ≡ None
+    → item_fault (record { context = context; earlier = earlier; item = header keyword more }) ≡ declared_fault earlier (header_declared earlier more (Some section))
+header-declares context earlier keyword more section is held =
+    told-declared (header_tests context keyword more (section_named keyword)) earlier (header_declared earlier more (section_named keyword))
+    (header-rising context keyword more (section_named keyword)) held
+    ∙ ap (λ (o : Option Section). declared_fault earlier (header_declared earlier more o)) is

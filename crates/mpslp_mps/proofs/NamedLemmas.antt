@@ -1,0 +1,136 @@
+-- After lines without a fault, the last of which is that of ENDATA, the objective has its name.
+use Rattle.std.proofs.Common.{◌≡◌, refl, sym, ap, ◌∙◌, ℕ, ◌+◌, List, [], ◌∷◌, ◌++◌, Bool, true, false, cond}
+use Rattle.std.specs.Prelude.{◌||◌, not, Option, Some, None, is_some, is_none, codes}
+use Rattle.std.specs.List.{list_any}
+use Rattle.std.specs.Option.{option_map, option_or}
+use Rattle.mpslp_model.specs.Declaration.{declare_objective, Draft, adding_all}
+use Rattle.mpslp_model.specs.Refusal.{those_of}
+use Rattle.mpslp_model.specs.FaultOrder.{least_kind}
+use Rattle.mpslp_model.specs.declared.faults.Fault.{Fault}
+use Rattle.mpslp_model.specs.declared.faults.FaultKind.{FaultKind}
+use Rattle.mpslp_model.specs.declared.faults.FaultKind.TheVariants as kinds
+use Rattle.mpslp_mps.specs.Line.{Fields, Item, skipped, header, data_line, item_of}
+use Rattle.mpslp_mps.specs.Section.{is_section, section_named, begins}
+use Rattle.mpslp_mps.specs.Context.{Context}
+use Rattle.mpslp_mps.specs.NextContext.{next_context}
+use Rattle.mpslp_mps.specs.FieldFault.{Tests}
+use Rattle.mpslp_mps.specs.HeaderFault.{may_follow, header_word_tests, header_tests}
+use Rattle.mpslp_mps.specs.LineMeaning.{header_declared, declared}
+use Rattle.mpslp_mps.specs.LineFault.{declaring_faults}
+use Rattle.mpslp_mps.specs.MpsText.{is_end}
+use Rattle.mpslp_mps.specs.FirstFault.{item_fault, line_fault, fault_on_line}
+use Rattle.mpslp_mps.specs.Reading.{placed_in, context_after, draft_after, fault_from, draft_from}
+use Rattle.mpslp_mps.specs.ReadingAnswer.{lines_to_end}
+use Rattle.mpslp_mps.specs.declared.sections.Section.{Section}
+use Rattle.mpslp_mps.specs.declared.sections.Section.TheVariants.{Name, ObjSense, Rows, Columns, Rhs, Ranges, Bounds, EndData}
+use Rattle.mpslp_mps.proofs.ObjectiveLemmas.{named-after}
+use Rattle.mpslp_mps.proofs.EndLemmas.{up_to_end-last, up_to_end-more}
+use Rattle.mpslp_mps.proofs.LoopLemmas.{no-item}
+
+-- once COLUMNS has begun, the objective is there
+abbrev pub HasName : Context → Draft → Type 0
+HasName context earlier = context.seen.columns ≡ true → is_some earlier.objective ≡ true
+
+named_columns : (earlier : Draft) (more : Fields) (o : Option Section) → is_section Columns o ≡ true → is_some (adding_all earlier (header_declared earlier more o)).objective ≡ true
+named_columns earlier more None h = cc
+named_columns earlier more (Some Name) h = cc
+named_columns earlier more (Some ObjSense) h = cc
+named_columns earlier more (Some Rows) h = cc
+named_columns earlier more (Some Columns) h = by (is_none earlier.objective) refl
+  where
+    there : (o : Option (List ℕ)) → is_none o ≡ false → is_some o ≡ true
+    there None e = cc
+    there (Some name) e = refl
+
+    by : (b : Bool) → is_none earlier.objective ≡ b → is_some (adding_all earlier (cond b (declare_objective (codes "obj") ∷ []) [])).objective ≡ true
+    by true e = refl
+    by false e = there earlier.objective e
+named_columns earlier more (Some Rhs) h = cc
+named_columns earlier more (Some Ranges) h = cc
+named_columns earlier more (Some Bounds) h = cc
+named_columns earlier more (Some EndData) h = cc
+
+named_begun : (context : Context) (earlier : Draft) (item : Item) → begins Columns item ≡ true → is_some (adding_all earlier (declared context earlier item)).objective ≡ true
+named_begun context earlier skipped h = cc
+named_begun context earlier (header keyword more) h = named_columns earlier more (section_named keyword) h
+named_begun context earlier (data_line fields) h = cc
+
+named_next : (context : Context) (earlier : Draft) (item : Item) → HasName context earlier → HasName (next_context context item) (adding_all earlier (declared context earlier item))
+named_next context earlier item named h = by context.seen.columns refl h
+  where
+    by : (b : Bool) → context.seen.columns ≡ b → (b || begins Columns item) ≡ true → is_some (adding_all earlier (declared context earlier item)).objective ≡ true
+    by true e k = named-after (declared context earlier item) earlier (named e)
+    by false e k = named_begun context earlier item k
+
+-- ENDATA stands after COLUMNS
+ended_tests : (context : Context) (keyword : List ℕ) (more : Fields) (o : Option Section) → those_of (header_tests context keyword more o) ≡ [] → is_section EndData o ≡ true
+    → context.seen.columns ≡ true
+ended_tests context keyword more None h e = cc
+ended_tests context keyword more (Some Name) h e = cc
+ended_tests context keyword more (Some ObjSense) h e = cc
+ended_tests context keyword more (Some Rows) h e = cc
+ended_tests context keyword more (Some Columns) h e = cc
+ended_tests context keyword more (Some Rhs) h e = cc
+ended_tests context keyword more (Some Ranges) h e = cc
+ended_tests context keyword more (Some Bounds) h e = cc
+ended_tests context keyword more (Some EndData) h e = by context.wants_sense context.seen.columns h
+  where
+    rest : Tests
+    rest = (false, kinds.SectionRepeated) ∷ (not (may_follow EndData more), kinds.FieldCount) ∷ header_word_tests EndData more
+
+    by : (wants begun : Bool) → those_of ((wants || not (false || begun), kinds.SectionOrder) ∷ rest) ≡ [] → begun ≡ true
+    by true begun k = cc
+    by false true k = refl
+    by false false k = cc
+
+least_none : (kinds : List FaultKind) → least_kind kinds ≡ None → kinds ≡ []
+least_none [] h = refl
+least_none (kind ∷ more) h = cc
+
+left_none : (xs ys : List FaultKind) → xs ++ ys ≡ [] → xs ≡ []
+left_none [] ys h = refl
+left_none (x ∷ xs) ys h = cc
+
+ended_columns : (context : Context) (earlier : Draft) (item : Item) → item_fault (record { context = context; earlier = earlier; item = item }) ≡ None → begins EndData item ≡ true
+    → context.seen.columns ≡ true
+ended_columns context earlier skipped none h = cc
+ended_columns context earlier (header keyword more) none h =
+    let faults = declaring_faults earlier (header_declared earlier more (section_named keyword)) in
+    let tests = header_tests context keyword more (section_named keyword) in
+    ended_tests context keyword more (section_named keyword) (left_none (those_of tests) faults (least_none (those_of tests ++ faults) none)) h
+ended_columns context earlier (data_line fields) none h = cc
+
+-- ---- lines
+
+first_none : (n : ℕ) (o : Option FaultKind) (rest : Option Fault) → option_or (option_map (fault_on_line n) o) rest ≡ None → o ≡ None
+first_none n None rest h = refl
+first_none n (Some kind) rest h = cc
+
+rest_none : (n : ℕ) (o : Option FaultKind) (rest : Option Fault) → option_or (option_map (fault_on_line n) o) rest ≡ None → rest ≡ None
+rest_none n None rest h = h
+rest_none n (Some kind) rest h = cc
+
+pub named-lines_to_end : (text : List (List ℕ)) (n : ℕ) (context : Context) (earlier : Draft) → HasName context earlier
+    → fault_from n context earlier (lines_to_end text) ≡ None → list_any is_end text ≡ true → is_some (draft_from context earlier (lines_to_end text)).objective ≡ true
+named-lines_to_end [] n context earlier named none ended = cc
+named-lines_to_end (line ∷ more) n context earlier named none ended =
+    by (is_end line) refl ended (λ h. named-lines_to_end more (n + 1) (context_after context line) (draft_after context earlier line) (named_next context earlier (item_of line) named) h)
+  where
+    told : Option FaultKind
+    told = line_fault line (placed_in context earlier line)
+
+    by : (b : Bool) → is_end line ≡ b → (b || list_any is_end more) ≡ true
+        → (fault_from (n + 1) (context_after context line) (draft_after context earlier line) (lines_to_end more) ≡ None → list_any is_end more ≡ true
+        → is_some (draft_from (context_after context line) (draft_after context earlier line) (lines_to_end more)).objective ≡ true)
+        → is_some (draft_from context earlier (lines_to_end (line ∷ more))).objective ≡ true
+    by true e h later =
+        let last = up_to_end-last line more e in
+        let alone : fault_from n context earlier (line ∷ []) ≡ None = ap (fault_from n context earlier) (sym last) ∙ none in
+        let item = no-item line (placed_in context earlier line) (first_none n told None alone) in
+        ap (λ (text : List (List ℕ)). is_some (draft_from context earlier text).objective) last
+        ∙ named-after (declared context earlier (item_of line)) earlier (named (ended_columns context earlier (item_of line) item e))
+    by false e h later =
+        let next = up_to_end-more line more e in
+        let both : fault_from n context earlier (line ∷ lines_to_end more) ≡ None = ap (fault_from n context earlier) (sym next) ∙ none in
+        ap (λ (text : List (List ℕ)). is_some (draft_from context earlier text).objective) next
+        ∙ later (rest_none n told (fault_from (n + 1) (context_after context line) (draft_after context earlier line) (lines_to_end more)) both) h

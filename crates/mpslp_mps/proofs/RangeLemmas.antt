@@ -1,0 +1,69 @@
+-- What is told of the ranges of a line.
+use Rattle.std.proofs.Common.{◌≡◌, refl, sym, ap, ◌∙◌, ℕ, List, [], ◌∷◌, Bool, true, false, not, cond}
+use Rattle.std.specs.Prelude.{◌||◌, Option, Some, None, filter_map}
+use Rattle.std.proofs.lemmas.List.{append-nil}
+use Rattle.mpslp_decimal.specs.Decimal.{Number, is_infinite_size}
+use Rattle.mpslp_model.specs.Name.{same_bytes}
+use Rattle.mpslp_model.specs.Declaration.{declare_range, Draft, adding, has_name, has_row, is_objective, is_free_row, is_row_by_limits}
+use Rattle.mpslp_model.specs.Refusal.{refusals, refusal_tests}
+use Rattle.mpslp_model.specs.FaultOrder.{least_kind}
+use Rattle.mpslp_model.specs.declared.faults.BuildFault.{BuildFault}
+use Rattle.mpslp_model.specs.declared.faults.FaultKind.{FaultKind}
+use Rattle.mpslp_model.specs.declared.faults.FaultKind.TheVariants as kinds
+use Rattle.mpslp_model.proofs.SlotLemmas.{has-put, same_name}
+use Rattle.mpslp_mps.specs.LineFault.{kind_of_refusal}
+use Rattle.mpslp_mps.specs.DeclareAnswer.{declared_fault}
+use Rattle.mpslp_mps.proofs.LeastLemmas.{earlier_of}
+use Rattle.mpslp_mps.proofs.RefusedLemmas.{least-refusal, told-append}
+
+-- the kind that is told, by whether the row is there, has a range, can have none, and by whether the value is infinite
+abbrev range_kind : Bool → Bool → Bool → Bool → Option FaultKind
+range_kind there ranged sideless infinite =
+    cond (not there) (Some kinds.UnknownRow) (cond ranged (Some kinds.DuplicateRange) (cond sideless (Some kinds.RangeOnFree) (cond infinite (Some kinds.InfiniteValue) None)))
+
+abbrev is_ranged : Draft → List ℕ → Bool
+is_ranged all row = has_name all.ranges row || is_row_by_limits all row
+
+abbrev has_no_sides : Draft → List ℕ → Bool
+has_no_sides all row = is_objective all row || is_free_row all row
+
+range_told : (all : Draft) (row : List ℕ) (value : Number)
+    → declared_fault all (declare_range row value ∷ []) ≡ range_kind (has_row all row) (is_ranged all row) (has_no_sides all row) (is_infinite_size value)
+range_told all row value =
+    ap (λ (faults : List BuildFault). least_kind (filter_map kind_of_refusal faults)) (append-nil (refusals all (declare_range row value)))
+    ∙ least-refusal (refusal_tests all (declare_range row value)) refl refl
+
+-- of another row a range says nothing
+range-apart : (all : Draft) (row : List ℕ) (value : Number) (other : List ℕ) (second : Number) → same_bytes other row ≡ false
+    → declared_fault (adding all (declare_range row value)) (declare_range other second ∷ []) ≡ declared_fault all (declare_range other second ∷ [])
+range-apart all row value other second apart =
+    let ranged = has-put other row value all.ranges ∙ ap (λ (b : Bool). b || has_name all.ranges other) apart in
+    range_told (adding all (declare_range row value)) other second
+    ∙ ap (λ (b : Bool). range_kind (has_row all other) (b || is_row_by_limits all other) (has_no_sides all other) (is_infinite_size second)) ranged
+    ∙ sym (range_told all other second)
+
+pub ranges-apart : (all : Draft) (row : List ℕ) (value : Number) (other : List ℕ) (second : Number) → same_bytes other row ≡ false
+    → declared_fault all (declare_range row value ∷ declare_range other second ∷ [])
+    ≡ earlier_of (declared_fault all (declare_range row value ∷ [])) (declared_fault all (declare_range other second ∷ []))
+ranges-apart all row value other second apart =
+    told-append (declare_range row value ∷ []) (declare_range other second ∷ []) all
+    ∙ ap (earlier_of (declared_fault all (declare_range row value ∷ []))) (range-apart all row value other second apart)
+
+-- two ranges of one row
+pub ranges-of_one : (all : Draft) (row : List ℕ) (value : Number) (other : List ℕ) (second : Number) → same_bytes other row ≡ true
+    → declared_fault all (declare_range row value ∷ declare_range other second ∷ []) ≡ Some (cond (has_row all row) kinds.DuplicateRange kinds.UnknownRow)
+ranges-of_one all row value other second same =
+    let ranged = has-put other row value all.ranges ∙ ap (λ (b : Bool). b || has_name all.ranges other) same in
+    let next = adding all (declare_range row value) in
+    told-append (declare_range row value ∷ []) (declare_range other second ∷ []) all
+    ∙ (λ i. earlier_of (range_told all row value i) (range_told next other second i))
+    ∙ (λ i. earlier_of (range_kind (has_row all row) (is_ranged all row) (has_no_sides all row) (is_infinite_size value))
+    (range_kind (has_row all (same_name other row same i)) (ranged i || is_row_by_limits all other) (has_no_sides all other) (is_infinite_size second)))
+    ∙ by (has_row all row) (is_ranged all row) (has_no_sides all row) (is_infinite_size value)
+  where
+    by : (a b c d : Bool) → earlier_of (range_kind a b c d) (range_kind a true (has_no_sides all other) (is_infinite_size second)) ≡ Some (cond a kinds.DuplicateRange kinds.UnknownRow)
+    by false b c d = refl
+    by true true c d = refl
+    by true false true d = refl
+    by true false false true = refl
+    by true false false false = refl

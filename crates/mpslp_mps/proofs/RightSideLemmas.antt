@@ -1,0 +1,164 @@
+-- What is told of the right sides of a line.
+use Rattle.std.proofs.Common.{◌≡◌, refl, sym, ap, subst, ◌∙◌, ℕ, List, [], ◌∷◌, ◌++◌, Bool, true, false, not, cond}
+use Rattle.std.specs.Prelude.{◌&&◌, ◌||◌, Option, Some, None, is_some, filter_map}
+use Rattle.std.specs.Option.{option_map_or}
+use Rattle.std.proofs.lemmas.List.{append-nil}
+use Rattle.mpslp_decimal.specs.Decimal.{Number}
+use Rattle.mpslp_model.specs.Name.{same_bytes}
+use Rattle.mpslp_model.specs.Declaration.{RowForm, by_type, by_limits, declare_right_side, Draft, adding, adding_all, at_name, has_name, has_row, is_objective, is_free_form, is_free_row, is_limits_form, is_row_by_limits, right_side_declared}
+use Rattle.mpslp_model.specs.Refusal.{refusals, refusal_tests}
+use Rattle.mpslp_model.specs.FaultOrder.{least_kind}
+use Rattle.mpslp_model.specs.declared.faults.BuildFault.{BuildFault}
+use Rattle.mpslp_model.specs.declared.faults.FaultKind.{FaultKind}
+use Rattle.mpslp_model.specs.declared.faults.FaultKind.TheVariants as kinds
+use Rattle.mpslp_model.proofs.BoolLemmas.{or_right}
+use Rattle.mpslp_model.proofs.SlotLemmas.{has-put, same_name}
+use Rattle.mpslp_mps.specs.LineFault.{kind_of_refusal}
+use Rattle.mpslp_mps.specs.LineAnswer.{IsToldAs}
+use Rattle.mpslp_mps.specs.DeclareAnswer.{declared_fault, HasMpsSides}
+use Rattle.mpslp_mps.specs.declared.errors.LineError.{LineError}
+use Rattle.mpslp_mps.specs.declared.errors.LineError.TheVariants.{Fault, OutOfMemory}
+use Rattle.mpslp_mps.proofs.LeastLemmas.{earlier_of}
+use Rattle.mpslp_mps.proofs.RefusedLemmas.{least-refusal, told-append}
+
+-- ---- one right side
+
+-- a right side of this row is declared
+abbrev is_sided : Draft → List ℕ → Bool
+is_sided all row = has_name all.right_sides row || (is_row_by_limits all row || (is_objective all row && is_some all.constant))
+
+-- the kind that is told, by whether the row is there and has a right side
+abbrev pub side_kind : Bool → Bool → Option FaultKind
+side_kind there sided = cond (not there) (Some kinds.UnknownRow) (cond sided (Some kinds.DuplicateRhs) None)
+
+free_there : (o : Option RowForm) → option_map_or is_free_form o false ≡ true → is_some o ≡ true
+free_there None h = cc
+free_there (Some form) h = refl
+
+free_unlimited : (o : Option RowForm) → option_map_or is_free_form o false ≡ true → option_map_or is_limits_form o false ≡ false
+free_unlimited None h = cc
+free_unlimited (Some (by_type type)) h = refl
+free_unlimited (Some (by_limits lower upper)) h = cc
+
+free_row : (all : Draft) (row : List ℕ) → is_free_row all row ≡ true → has_row all row ≡ true
+free_row all row h = or_right (is_objective all row) (has_name all.rows row) (free_there (at_name all.rows row) h)
+
+none_so : (b : Bool) (o : Option Number) → o ≡ None → (b && is_some o) ≡ false
+none_so true o h = ap is_some h
+none_so false o h = refl
+
+-- rows of type N have no right sides
+abbrev pub AreLimited : Draft → Type 0
+AreLimited all = (row : List ℕ) → is_free_row all row ≡ true → is_sided all row ≡ false
+
+limited-from : (all : Draft) → ((row : List ℕ) → is_free_row all row ≡ true → has_name all.right_sides row ≡ false) → all.constant ≡ None → AreLimited all
+limited-from all limited constant row h =
+    let given = limited row h in
+    let limits = free_unlimited (at_name all.rows row) h in
+    let objective = none_so (is_objective all row) all.constant constant in
+    λ i. given i || (limits i || objective i)
+
+limited : (all : Draft) → HasMpsSides all → AreLimited all
+limited all sides = limited-from all sides.limited sides.constant
+
+-- of one right side
+side_told : (all : Draft) (row : List ℕ) (value : Number) → AreLimited all
+    → declared_fault all (right_side_declared all row value) ≡ side_kind (has_row all row) (is_sided all row)
+side_told all row value free_unsided =
+    elim (is_free_row all row) as (λ b. is_free_row all row ≡ b
+    → declared_fault all (cond b [] (declare_right_side row value ∷ [])) ≡ side_kind (has_row all row) (is_sided all row)) [
+      | true ↦ λ free. let there = free_row all row free in let sided = free_unsided row free in λ i. side_kind (sym there i) (sym sided i)
+      | false ↦ λ _.
+          ap (λ (faults : List BuildFault). least_kind (filter_map kind_of_refusal faults)) (append-nil (refusals all (declare_right_side row value)))
+          ∙ least-refusal (refusal_tests all (declare_right_side row value)) refl refl
+    ] refl
+
+-- ---- after a right side
+
+abbrev pub after_side : Draft → List ℕ → Number → Draft
+after_side all row value = adding_all all (right_side_declared all row value)
+
+-- right sides leave the rows as they are
+same_row : (all : Draft) (row : List ℕ) (value : Number) (other : List ℕ) → has_row (after_side all row value) other ≡ has_row all other
+same_row all row value other =
+    elim (is_free_row all row) as (λ b. has_row (adding_all all (cond b [] (declare_right_side row value ∷ []))) other ≡ has_row all other) [ true ↦ refl | false ↦ refl ]
+
+same_free : (all : Draft) (row : List ℕ) (value : Number) (other : List ℕ) → is_free_row (after_side all row value) other ≡ is_free_row all other
+same_free all row value other =
+    elim (is_free_row all row) as (λ b. is_free_row (adding_all all (cond b [] (declare_right_side row value ∷ []))) other ≡ is_free_row all other) [ true ↦ refl | false ↦ refl ]
+
+same_side : (all : Draft) (row : List ℕ) (value : Number) (other : List ℕ) (second : Number)
+    → right_side_declared (after_side all row value) other second ≡ right_side_declared all other second
+same_side all row value other second = ap (λ (b : Bool). cond b [] (declare_right_side other second ∷ [])) (same_free all row value other)
+
+side_known : (all : Draft) (row : List ℕ) (value : Number) → HasMpsSides all → has_row all row ≡ true → (q : List ℕ)
+    → has_name (adding all (declare_right_side row value)).right_sides q ≡ true → has_row all q ≡ true
+side_known all row value sides there q h = by (same_bytes q row) refl (sym (has-put q row value all.right_sides) ∙ h)
+  where
+    by : (b : Bool) → same_bytes q row ≡ b → (b || has_name all.right_sides q) ≡ true → has_row all q ≡ true
+    by true same k = ap (has_row all) (same_name q row same) ∙ there
+    by false same k = sides.known q k
+
+side_limited : (all : Draft) (row : List ℕ) (value : Number) → HasMpsSides all → is_free_row all row ≡ false → (q : List ℕ)
+    → is_free_row all q ≡ true → has_name (adding all (declare_right_side row value)).right_sides q ≡ false
+side_limited all row value sides limited q h = has-put q row value all.right_sides ∙ by (same_bytes q row) refl
+  where
+    by : (b : Bool) → same_bytes q row ≡ b → (b || has_name all.right_sides q) ≡ false
+    by true same = let free = ap (is_free_row all) (sym (same_name q row same)) ∙ h in cc
+    by false same = sides.limited q h
+
+limited-after : (all : Draft) (row : List ℕ) (value : Number) → HasMpsSides all → AreLimited (after_side all row value)
+limited-after all row value sides =
+    elim (is_free_row all row) as (λ b. is_free_row all row ≡ b → AreLimited (adding_all all (cond b [] (declare_right_side row value ∷ [])))) [
+      | true ↦ λ _. limited all sides
+      | false ↦ λ given. limited-from (adding all (declare_right_side row value)) (side_limited all row value sides given) sides.constant
+    ] refl
+
+pub sides-after : (all : Draft) (row : List ℕ) (value : Number) → HasMpsSides all → has_row all row ≡ true → HasMpsSides (after_side all row value)
+sides-after all row value sides there =
+    elim (is_free_row all row) as (λ b. is_free_row all row ≡ b → HasMpsSides (adding_all all (cond b [] (declare_right_side row value ∷ [])))) [
+      | true ↦ λ _. sides
+      | false ↦ λ limited. record { known = side_known all row value sides there; limited = side_limited all row value sides limited; constant = sides.constant }
+    ] refl
+
+-- ---- two right sides
+
+abbrev both : Draft → List ℕ → Number → List ℕ → Number → Option FaultKind
+both all row value other second = declared_fault all (right_side_declared all row value ++ right_side_declared all other second)
+
+both_told : (all : Draft) (row : List ℕ) (value : Number) (other : List ℕ) (second : Number) → HasMpsSides all
+    → both all row value other second ≡ earlier_of (side_kind (has_row all row) (is_sided all row)) (side_kind (has_row all other) (is_sided (after_side all row value) other))
+both_told all row value other second sides =
+    let mid = after_side all row value in
+    told-append (right_side_declared all row value) (right_side_declared all other second) all
+    ∙ (λ i. earlier_of (side_told all row value (limited all sides) i) (declared_fault mid (sym (same_side all row value other second) i)))
+    ∙ (λ i. earlier_of (side_kind (has_row all row) (is_sided all row)) (side_told mid other second (limited-after all row value sides) i))
+    ∙ (λ i. earlier_of (side_kind (has_row all row) (is_sided all row)) (side_kind (same_row all row value other i) (is_sided mid other)))
+
+pub row-unknown : (all : Draft) (row : List ℕ) (value : Number) (other : List ℕ) (second : Number) → HasMpsSides all → (has_row all row && has_row all other) ≡ false
+    → both all row value other second ≡ Some kinds.UnknownRow
+row-unknown all row value other second sides h =
+    both_told all row value other second sides ∙ by (has_row all row) (is_sided all row) (has_row all other) (is_sided (after_side all row value) other) h
+  where
+    by : (a b c d : Bool) → (a && c) ≡ false → earlier_of (side_kind a b) (side_kind c d) ≡ Some kinds.UnknownRow
+    by true b true d k = cc
+    by true true false d k = refl
+    by true false false d k = refl
+    by false b true true k = refl
+    by false b true false k = refl
+    by false b false d k = refl
+
+pub first-refused : (all : Draft) (row : List ℕ) (value : Number) (other : List ℕ) (second : Number) (error : LineError) → HasMpsSides all → (has_row all row && has_row all other) ≡ true
+    → IsToldAs (declared_fault all (right_side_declared all row value)) error → IsToldAs (both all row value other second) error
+first-refused all row value other second error sides h told =
+    subst (λ (o : Option FaultKind). IsToldAs o error) (sym (both_told all row value other second sides))
+    (by (has_row all row) (is_sided all row) (has_row all other) (is_sided (after_side all row value) other) error h
+    (subst (λ (o : Option FaultKind). IsToldAs o error) (side_told all row value (limited all sides)) told))
+  where
+    by : (a b c d : Bool) (e : LineError) → (a && c) ≡ true → IsToldAs (side_kind a b) e → IsToldAs (earlier_of (side_kind a b) (side_kind c d)) e
+    by a b c d OutOfMemory k given = tt
+    by true true true true (Fault kind) k given = given
+    by true true true false (Fault kind) k given = given
+    by true false c d (Fault kind) k given = cc
+    by false b c d (Fault kind) k given = cc
+    by true b false d (Fault kind) k given = cc

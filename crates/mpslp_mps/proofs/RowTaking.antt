@@ -1,0 +1,18 @@
+-- Lines of OBJSENSE and ROWS: the kinds of their forms come before those of what they declare.
+use Rattle.std.proofs.Common.{◌≡◌, refl, List, ◌∷◌, Bool, true, ℕ}
+use Rattle.std.specs.Prelude.{Option, Some, None}
+use Rattle.std.specs.List.{list_all}
+use Rattle.mpslp_model.specs.declared.faults.FaultKind.TheVariants as kinds
+use Rattle.mpslp_mps.specs.DataLine.{RowLine}
+use Rattle.mpslp_mps.specs.FieldFault.{judged_by}
+use Rattle.mpslp_mps.specs.HeaderFault.{word_tests}
+use Rattle.mpslp_mps.specs.DataFault.{row_tests}
+use Rattle.mpslp_mps.proofs.TakingLemmas.{is_early}
+
+pub sense-early : (b : Bool) (o : Option (List ℕ)) → list_all is_early ((b, kinds.SectionOrder) ∷ judged_by word_tests o) ≡ true
+sense-early b None = refl
+sense-early b (Some word) = refl
+
+pub row-early : (o : Option RowLine) → list_all is_early (judged_by row_tests o) ≡ true
+row-early None = refl
+row-early (Some line) = refl

@@ -1,0 +1,104 @@
+-- What is told of a data line, by its section.
+use Rattle.std.proofs.Common.{◌≡◌, refl, ap, ◌∙◌, ℕ, List, [], ◌∷◌, ◌++◌, Bool, true, false, cond, map}
+use Rattle.std.specs.Prelude.{Option, Some, None}
+use Rattle.std.specs.List.{list_all, flat_map}
+use Rattle.std.specs.Option.{option_map, option_map_or}
+use Rattle.mpslp_decimal.specs.Decimal.{Number}
+use Rattle.mpslp_model.specs.Declaration.{Declarations, Draft, declare_range, right_side_declared}
+use Rattle.mpslp_model.specs.declared.faults.FaultKind.{FaultKind}
+use Rattle.mpslp_model.specs.declared.faults.FaultKind.TheVariants as kinds
+use Rattle.mpslp_mps.specs.Line.{Fields, data_line}
+use Rattle.mpslp_mps.specs.DataLine.{Pair, VectorLine}
+use Rattle.mpslp_mps.specs.Context.{Context}
+use Rattle.mpslp_mps.specs.LineMeaning.{declared_of, value_of, right_sides_declared, ranges_declared, data_declared}
+use Rattle.mpslp_mps.specs.BoundLine.{BoundLine, bound_type, bound_line, is_semi_continuous_type}
+use Rattle.mpslp_mps.specs.FieldFault.{Tests, judged_by, number_tests, set_tests}
+use Rattle.mpslp_mps.specs.DataFault.{vector_tests, bound_tests, typed_bound_tests, bound_line_tests, data_tests}
+use Rattle.mpslp_mps.specs.FirstFault.{item_fault}
+use Rattle.mpslp_mps.specs.FirstHeld.{first_held, row_value, set_values}
+use Rattle.mpslp_mps.specs.DeclareAnswer.{declared_fault, right_sides_of, ranges_of}
+use Rattle.mpslp_mps.specs.declared.bound_types.BoundType.{BoundType}
+use Rattle.mpslp_mps.specs.declared.sections.Section.{Section}
+use Rattle.mpslp_mps.proofs.LeastLemmas.{is_from}
+use Rattle.mpslp_mps.proofs.ToldLemmas.{told-form, told-declared, held-among, data-rising}
+
+-- all kinds of the tests come before those of what is declared
+abbrev pub are_early : Tests → Type 0
+are_early tests = list_all (λ test. is_from test.1 kinds.UnknownRow) tests ≡ true
+
+abbrev pub line_told : Context → Draft → Fields → Option FaultKind
+line_told context earlier fields = item_fault (record { context = context; earlier = earlier; item = data_line fields })
+
+-- a fault of the line's form, in a section whose lines have no late one
+pub form-told : (context : Context) (earlier : Draft) (fields : Fields) (section : Option Section) (kind : FaultKind) → context.section ≡ section
+    → are_early (data_tests context earlier fields section) → first_held (data_tests context earlier fields section) ≡ Some kind → line_told context earlier fields ≡ Some kind
+form-told context earlier fields section kind h early held =
+    told-form (data_tests context earlier fields context.section) kind earlier (data_declared context earlier fields context.section) (data-rising context earlier fields context.section)
+    (ap (λ (s : Option Section). first_held (data_tests context earlier fields s)) h ∙ held)
+    (held-among (λ k. is_from k kinds.UnknownRow) (data_tests context earlier fields section) kind early held)
+
+-- no fault of the line's form
+pub declared-told : (context : Context) (earlier : Draft) (fields : Fields) (section : Option Section) (declarations : Declarations) → context.section ≡ section
+    → first_held (data_tests context earlier fields section) ≡ None → data_declared context earlier fields section ≡ declarations
+    → line_told context earlier fields ≡ declared_fault earlier declarations
+declared-told context earlier fields section declarations h held is =
+    told-declared (data_tests context earlier fields context.section) earlier (data_declared context earlier fields context.section) (data-rising context earlier fields context.section)
+    (ap (λ (s : Option Section). first_held (data_tests context earlier fields s)) h ∙ held)
+    ∙ ap (declared_fault earlier) (ap (data_declared context earlier fields) h ∙ is)
+
+pub declared-is : (context : Context) (earlier : Draft) (fields : Fields) (section : Option Section) (declarations : Declarations) → context.section ≡ section
+    → data_declared context earlier fields section ≡ declarations → data_declared context earlier fields context.section ≡ declarations
+declared-is context earlier fields section declarations h is = ap (data_declared context earlier fields) h ∙ is
+
+-- ---- lines of RHS and RANGES
+
+pub vector-early : (first : Option (List ℕ)) (o : Option VectorLine) → are_early (judged_by (vector_tests first) o)
+vector-early first None = refl
+vector-early first (Some line) = refl
+
+sides-pairs : (earlier : Draft) (pairs : List Pair) → flat_map (λ (pair : Pair). right_side_declared earlier pair.row (value_of pair.literal)) pairs ≡ right_sides_of earlier (map row_value pairs)
+sides-pairs earlier [] = refl
+sides-pairs earlier (pair ∷ pairs) = ap (λ (more : Declarations). right_side_declared earlier pair.row (value_of pair.literal) ++ more) (sides-pairs earlier pairs)
+
+pub right_sides-are : (earlier : Draft) (o : Option VectorLine) (set : List ℕ) (values : List (List ℕ × Number)) → option_map set_values o ≡ Some (set, values)
+    → declared_of (right_sides_declared earlier) o ≡ right_sides_of earlier values
+right_sides-are earlier None set values h = cc
+right_sides-are earlier (Some line) set values h =
+    let same = ap (λ (o : Option (List ℕ × List (List ℕ × Number))). option_map_or (λ found. found.1) o []) h in
+    sides-pairs earlier line.pairs ∙ ap (right_sides_of earlier) same
+
+ranges-pairs : (pairs : List Pair) → map (λ (pair : Pair). declare_range pair.row (value_of pair.literal)) pairs ≡ ranges_of (map row_value pairs)
+ranges-pairs [] = refl
+ranges-pairs (pair ∷ pairs) = ap (λ (more : Declarations). declare_range pair.row (value_of pair.literal) ∷ more) (ranges-pairs pairs)
+
+pub ranges-are : (o : Option VectorLine) (set : List ℕ) (values : List (List ℕ × Number)) → option_map set_values o ≡ Some (set, values)
+    → declared_of ranges_declared o ≡ ranges_of values
+ranges-are None set values h = cc
+ranges-are (Some line) set values h =
+    let same = ap (λ (o : Option (List ℕ × List (List ℕ × Number))). option_map_or (λ found. found.1) o []) h in
+    ranges-pairs line.pairs ∙ ap ranges_of same
+
+-- ---- lines of BOUNDS
+
+bound-early : (context : Context) (line : BoundLine) → are_early (bound_tests context line)
+bound-early context line = of line.literal
+  where
+    of : (o : Option (List ℕ)) → are_early (option_map_or (λ literal. number_tests (literal ∷ [])) o [] ++ set_tests context.bounds_set line.set)
+    of None = refl
+    of (Some literal) = refl
+
+early-if : (b : Bool) (x y : Tests) → are_early x → are_early y → are_early (cond b x y)
+early-if true x y h k = h
+early-if false x y h k = k
+
+pub bounds-early : (context : Context) (letters : List ℕ) (more : Fields) → are_early (bound_line_tests context (letters ∷ more))
+bounds-early context letters more =
+    early-if (is_semi_continuous_type letters) ((true, kinds.SemiContinuous) ∷ []) (typed_bound_tests context more (bound_type letters)) refl (typed (bound_type letters))
+  where
+    lined : (o : Option BoundLine) → are_early (judged_by (bound_tests context) o)
+    lined None = refl
+    lined (Some line) = bound-early context line
+
+    typed : (o : Option BoundType) → are_early (typed_bound_tests context more o)
+    typed None = refl
+    typed (Some type) = lined (bound_line type more)

@@ -1,0 +1,50 @@
+-- What the lines of a text say of the whole.
+use Rattle.std.proofs.Common.{◌≡◌, sym, ap, subst, ◌∙◌, ℕ, List, [], Bool, true, cond}
+use Rattle.std.specs.Prelude.{Option, Some, None, is_some, Result, Ok, Err, IsErrAnd, MatchResult}
+use Rattle.std.specs.Option.{option_or}
+use Rattle.std.specs.Str.Lines.{lines}
+use Rattle.mpslp_model.specs.Declaration.{Draft, empty_draft, draft_of}
+use Rattle.mpslp_model.specs.Meaning.{whole_fault, file_fault}
+use Rattle.mpslp_model.specs.declared.faults.Fault.{Fault}
+use Rattle.mpslp_model.specs.declared.faults.FaultKind.TheVariants.{MissingEnd}
+use Rattle.mpslp_model.specs.declared.faults.ReadFault.{ReadFault}
+use Rattle.mpslp_model.specs.declared.faults.ReadFault.TheVariants.{File, Failed, OutOfMemory}
+use Rattle.mpslp_mps.specs.Context.{context_of}
+use Rattle.mpslp_mps.specs.MpsText.{has_end, declarations_of}
+use Rattle.mpslp_mps.specs.FirstFault.{whole_mps_fault, first_mps_fault}
+use Rattle.mpslp_mps.specs.Reading.{fault_from, draft_from}
+use Rattle.mpslp_mps.specs.ReadingAnswer.{IsFaultOf, lines_to_end}
+use Rattle.mpslp_mps.proofs.ReadingLemmas.{first_fault-is, draft-is}
+use Rattle.mpslp_mps.proofs.NamedLemmas.{named-lines_to_end}
+
+-- the fault of the first line that has one
+abbrev pub told_lines : List ℕ → Option Fault
+told_lines bytes = fault_from 1 (context_of []) empty_draft (lines_to_end (lines bytes))
+
+-- and the draft after all of them
+abbrev pub draft_lines : List ℕ → Draft
+draft_lines bytes = draft_from (context_of []) empty_draft (lines_to_end (lines bytes))
+
+pub told-line : (bytes : List ℕ) (error : ReadFault) → IsFaultOf (told_lines bytes) error → IsFaultOf (first_mps_fault bytes) error
+told-line bytes (File fault) told = first_fault-is bytes ∙ ap (λ (o : Option Fault). option_or o (whole_mps_fault bytes)) told
+told-line bytes Failed told = told
+told-line bytes OutOfMemory told = tt
+
+abbrev whole : List ℕ → Bool → Option Fault
+whole bytes ended = cond ended (file_fault (draft_of (declarations_of bytes))) (Some (whole_fault MissingEnd None))
+
+pub told-whole : (bytes : List ℕ) (ended : Bool) → told_lines bytes ≡ None → has_end bytes ≡ ended → first_mps_fault bytes ≡ whole bytes ended
+told-whole bytes ended none is =
+    first_fault-is bytes ∙ ap (λ (o : Option Fault). option_or o (whole_mps_fault bytes)) none ∙ ap (whole bytes) is
+
+pub draft-whole : (bytes : List ℕ) → draft_lines bytes ≡ draft_of (declarations_of bytes)
+draft-whole bytes = sym (draft-is bytes)
+
+pub named-whole : (bytes : List ℕ) → told_lines bytes ≡ None → has_end bytes ≡ true → is_some (draft_lines bytes).objective ≡ true
+named-whole bytes none ended = named-lines_to_end (lines bytes) 1 (context_of []) empty_draft (λ h. cc) none ended
+
+-- of a call that ends by this error
+pub fails-by : {X : Type 0} (answer : Result X ReadFault) (error : ReadFault) (IsRead : X → Type 0) (told : Option Fault) → IsErrAnd answer (λ e. e ≡ error) → IsFaultOf told error
+    → MatchResult answer IsRead (IsFaultOf told)
+fails-by (Ok x) error IsRead told h k = absurd h
+fails-by (Err e) error IsRead told h k = subst (IsFaultOf told) (sym h) k

@@ -1,0 +1,51 @@
+-- What the code answers of a line of bytes, and of all lines.
+use Rattle.std.specs.Prelude.{◌≡◌, ℕ, suc, Bool, true, List, take, Option, Some, None, is_some, Result, MatchResult}
+use Rattle.std.specs.List.{list_any, position_or_len}
+use Rattle.mpslp_model.specs.Declaration.{Draft, draft_of}
+use Rattle.mpslp_model.specs.Meaning.{file_fault}
+use Rattle.mpslp_model.specs.declared.faults.Fault.{Fault}
+use Rattle.mpslp_model.specs.declared.faults.ReadFault.{ReadFault}
+use Rattle.mpslp_model.specs.declared.faults.ReadFault.TheVariants.{File, Failed, OutOfMemory}
+use Rattle.mpslp_mps.specs.Context.{Context}
+use Rattle.mpslp_mps.specs.MpsText.{is_end, declarations_of}
+use Rattle.mpslp_mps.specs.FirstFault.{line_fault, first_mps_fault}
+use Rattle.mpslp_mps.specs.Reading.{placed_in, draft_after, context_after, fault_from, draft_from}
+use Rattle.mpslp_mps.specs.LineAnswer.{LineResult, IsToldAs}
+use Rattle.mpslp_mps.specs.declared.errors.LineError.{LineError}
+use Rattle.mpslp_mps.specs.declared.errors.LineError.TheVariants as lines
+
+-- A line is read where it has no fault, and then context and draft are those after it.
+abbrev pub ReadsLine : Context → Draft → List ℕ → LineResult → Context → Draft → Type 0
+ReadsLine context earlier line answer next later =
+    let told = line_fault line (placed_in context earlier line) in
+    MatchResult answer (λ _. (told ≡ None) × (next ≡ context_after context line) × (later ≡ draft_after context earlier line)) (IsToldAs told)
+
+-- the fault is what is told, unless there was no memory
+abbrev pub IsFaultOf : Option Fault → ReadFault → Type 0
+IsFaultOf told (File fault) = told ≡ Some fault
+IsFaultOf told Failed = ⊥
+IsFaultOf told OutOfMemory = Unit {0}
+
+-- the error of a line is told as a fault on it
+abbrev pub IsFaultOn : ℕ → LineError → ReadFault → Type 0
+IsFaultOn n (lines.Fault kind) answer = answer ≡ File (record { kind = kind; line = n; name = None })
+IsFaultOn n lines.OutOfMemory answer = answer ≡ OutOfMemory
+
+-- the lines up to that of ENDATA, or all
+abbrev pub lines_to_end : List (List ℕ) → List (List ℕ)
+lines_to_end text = take (suc (position_or_len is_end text)) text
+
+-- Lines are read up to that of ENDATA where none of these has a fault, and then the draft is that after them. It is
+-- answered whether there is an ENDATA.
+abbrev pub ReadsLines : Context → Draft → List (List ℕ) → Result Bool ReadFault → Draft → Type 0
+ReadsLines context earlier text answer later =
+    let told = fault_from 1 context earlier (lines_to_end text) in
+    MatchResult answer (λ ended. (told ≡ None) × (later ≡ draft_from context earlier (lines_to_end text)) × (ended ≡ list_any is_end text)) (IsFaultOf told)
+
+-- The first fault is told, or else there is the draft of what the text declares, and then it alone decides whether there
+-- is a fault; its objective has a name.
+abbrev pub ReadsText : List ℕ → Result Draft ReadFault → Type 0
+ReadsText bytes answer =
+    MatchResult answer
+    (λ draft. (draft ≡ draft_of (declarations_of bytes)) × (first_mps_fault bytes ≡ file_fault draft) × (is_some draft.objective ≡ true))
+    (IsFaultOf (first_mps_fault bytes))

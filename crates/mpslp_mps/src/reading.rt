@@ -1,0 +1,71 @@
+//! The reader of MPS text.
+
+ghost use Rattle.std.specs.Prelude.{◌≡◌, false};
+ghost use Rattle.std.specs.Str.Lines.{lines};
+ghost use Rattle.mpslp_mps.specs.Section.{is_section};
+ghost use Rattle.mpslp_mps.specs.declared.sections.Section.{Section};
+ghost use Rattle.mpslp_mps.specs.ReadingAnswer.{IsFaultOn, ReadsLines, ReadsText};
+ghost use Rattle.mpslp_mps.specs.ReadingState.{IsReading};
+
+use crate::context::LineContext;
+use crate::errors::LineError;
+use crate::taking::take_line;
+use bstr::ByteSlice;
+use mpslp_model::{Builder, Fault, FaultKind, ReadFault};
+use std::alloc::Global;
+
+/// Why text is not read that has this error on a line.
+fn read_fault(number: u64, error: LineError) -> ReadFault
+    ensures { IsFaultOn number error result }
+{
+    match error {
+        LineError::Fault(kind) => ReadFault::File(Fault {
+            kind,
+            line: number,
+            name: None,
+        }),
+        LineError::OutOfMemory => ReadFault::OutOfMemory,
+    }
+}
+
+/// Reads the lines of a text up to that of ENDATA, and answers whether there is one.
+fn read_lines(
+    context: &mut LineContext,
+    builder: &mut Builder,
+    alloc: Global,
+    text: &[u8],
+) -> Result<bool, ReadFault>
+    requires reading { IsReading context.old builder.old }
+    requires unended { is_section Section.EndData context.old.section ≡ false }
+    ensures { ReadsLines context.old builder.old (lines text.now) result builder.new }
+{
+    let mut number = 1u64;
+    for line in text.lines() {
+        match take_line(context, builder, alloc, line) {
+            Ok(()) => {}
+            Err(error) => return Err(read_fault(number, error)),
+        }
+        if context.is_at_end() {
+            return Ok(true);
+        }
+        number = number.saturating_add(1);
+    }
+    Ok(false)
+}
+
+/// What a text declares.
+fn read_text(alloc: Global, text: &[u8]) -> Result<Builder, ReadFault>
+    ensures { ReadsText text.now result }
+{
+    let mut context = LineContext::new(alloc);
+    let mut builder = Builder::new(alloc);
+    let is_ended = read_lines(&mut context, &mut builder, alloc, text)?;
+    if !is_ended {
+        return Err(ReadFault::File(Fault {
+            kind: FaultKind::MissingEnd,
+            line: 0,
+            name: None,
+        }));
+    }
+    Ok(builder)
+}

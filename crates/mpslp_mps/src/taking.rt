@@ -1,0 +1,146 @@
+//! Lines, taken one by one: each is judged, and what it declares is declared to the builder.
+
+ghost use Rattle.std.specs.Prelude.{◌≡◌, Some, map, IsTrue};
+ghost use Rattle.mpslp_mps.specs.declared.sections.Section.{Section};
+ghost use Rattle.mpslp_mps.specs.Line.{data_line, header_of, item_of};
+ghost use Rattle.mpslp_mps.specs.LineMeaning.{row_of_type};
+ghost use Rattle.mpslp_mps.specs.DeclareAnswer.{Declares};
+ghost use Rattle.mpslp_mps.specs.LineAnswer.{Takes};
+ghost use Rattle.mpslp_mps.specs.ReadingAnswer.{ReadsLine};
+ghost use Rattle.mpslp_mps.specs.ReadingState.{has_sense_in_order, IsReading};
+
+use crate::context::LineContext;
+use crate::data_lines::{judge_row, judge_sense};
+use crate::errors::LineError;
+use crate::fields::front_fields;
+use crate::lines::{has_legal_bytes, has_legal_length, is_data, is_skipped};
+use crate::sections::Section;
+use crate::taking_bounds::take_bound;
+use crate::taking_columns::take_column;
+use crate::taking_headers::take_header;
+use crate::taking_vectors::{take_ranges, take_right_sides};
+use mpslp_model::{Builder, FaultKind, Name, RowType};
+use std::alloc::Global;
+
+/// Takes a data line under OBJSENSE.
+pub(crate) fn take_sense(
+    context: &mut LineContext,
+    builder: &mut Builder,
+    fields: &[&[u8]],
+) -> Result<(), LineError>
+    requires section { context.old.section ≡ Some Section.ObjSense }
+    requires order { IsTrue (has_sense_in_order context.old builder.old) }
+    ensures { Takes context.old builder.old (data_line (map (λ field. field.now) fields.now)) result context.new builder.new }
+{
+    let sense = judge_sense(context, fields)?;
+    builder.sense(sense)?;
+    context.pass_data();
+    Ok(())
+}
+
+/// Declares the row of a line of ROWS: the first one of type N is the objective.
+fn declare_row(builder: &mut Builder, row_type: RowType, name: Name) -> Result<(), LineError>
+    ensures { Declares builder.old (row_of_type builder.old name row_type) result builder.new }
+{
+    if row_type == RowType::Free && !builder.has_objective() {
+        builder.objective(name)?;
+    } else {
+        builder.row(name, row_type)?;
+    }
+    Ok(())
+}
+
+/// Takes a line of ROWS.
+pub(crate) fn take_row(
+    context: &mut LineContext,
+    builder: &mut Builder,
+    alloc: Global,
+    fields: &[&[u8]],
+) -> Result<(), LineError>
+    requires section { context.old.section ≡ Some Section.Rows }
+    ensures { Takes context.old builder.old (data_line (map (λ field. field.now) fields.now)) result context.new builder.new }
+{
+    let (row_type, name) = judge_row(alloc, fields)?;
+    declare_row(builder, row_type, name)?;
+    context.pass_data();
+    Ok(())
+}
+
+/// Takes a data line.
+fn take_data(
+    context: &mut LineContext,
+    builder: &mut Builder,
+    alloc: Global,
+    fields: &[&[u8]],
+) -> Result<(), LineError>
+    requires { IsReading context.old builder.old }
+    ensures { Takes context.old builder.old (data_line (map (λ field. field.now) fields.now)) result context.new builder.new }
+{
+    match context.section() {
+        Some(Section::ObjSense) => take_sense(context, builder, fields),
+        Some(Section::Rows) => take_row(context, builder, alloc, fields),
+        Some(Section::Columns) => take_column(context, builder, alloc, fields),
+        Some(Section::Rhs) => take_right_sides(context, builder, fields),
+        Some(Section::Ranges) => take_ranges(context, builder, fields),
+        Some(Section::Bounds) => take_bound(context, builder, fields),
+        Some(Section::Name | Section::EndData) | None => {
+            Err(LineError::Fault(FaultKind::SectionOrder))
+        }
+    }
+}
+
+/// Takes a line that begins with no blank or tab and is not skipped.
+fn take_keyword(
+    context: &mut LineContext,
+    builder: &mut Builder,
+    alloc: Global,
+    fields: &[&[u8]],
+) -> Result<(), LineError>
+    requires { IsReading context.old builder.old }
+    ensures { Takes context.old builder.old (header_of (map (λ field. field.now) fields.now)) result context.new builder.new }
+{
+    match fields {
+        [keyword, more @ ..] => take_header(context, builder, alloc, keyword, more),
+        [] => Ok(()),
+    }
+}
+
+/// Takes what is read of a line.
+fn take_item(
+    context: &mut LineContext,
+    builder: &mut Builder,
+    alloc: Global,
+    line: &[u8],
+) -> Result<(), LineError>
+    requires { IsReading context.old builder.old }
+    ensures { Takes context.old builder.old (item_of line.now) result context.new builder.new }
+{
+    if is_skipped(line) {
+        return Ok(());
+    }
+    let fields = front_fields(line);
+    if is_data(line) {
+        take_data(context, builder, alloc, &fields)
+    } else {
+        take_keyword(context, builder, alloc, &fields)
+    }
+}
+
+/// Takes a line.
+pub(crate) fn take_line(
+    context: &mut LineContext,
+    builder: &mut Builder,
+    alloc: Global,
+    line: &[u8],
+) -> Result<(), LineError>
+    requires { IsReading context.old builder.old }
+    ensures { ReadsLine context.old builder.old line.now result context.new builder.new }
+{
+    if !has_legal_length(line) {
+        return Err(LineError::Fault(FaultKind::LineTooLong));
+    }
+    if !has_legal_bytes(line) {
+        return Err(LineError::Fault(FaultKind::BadByte));
+    }
+    take_item(context, builder, alloc, line)
+}
