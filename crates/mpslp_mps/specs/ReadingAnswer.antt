@@ -1,14 +1,15 @@
 -- What the code answers of a line of bytes, and of all lines.
-use Rattle.std.specs.Prelude.{◌≡◌, ℕ, suc, Bool, true, List, take, Option, Some, None, is_some, Result, MatchResult}
+use Rattle.std.specs.Prelude.{◌≡◌, ℕ, suc, Bool, true, List, take, Option, Some, None, is_some, Result, Ok, Err, MatchResult}
 use Rattle.std.specs.List.{list_any, position_or_len}
+use Rattle.mpslp_model.specs.Model.{LinearModel}
 use Rattle.mpslp_model.specs.Declaration.{Draft, draft_of}
 use Rattle.mpslp_model.specs.Meaning.{file_fault}
 use Rattle.mpslp_model.specs.declared.faults.Fault.{Fault}
 use Rattle.mpslp_model.specs.declared.faults.ReadFault.{ReadFault}
 use Rattle.mpslp_model.specs.declared.faults.ReadFault.TheVariants.{File, Failed, OutOfMemory}
 use Rattle.mpslp_mps.specs.Context.{Context}
-use Rattle.mpslp_mps.specs.MpsText.{is_end, declarations_of}
-use Rattle.mpslp_mps.specs.FirstFault.{line_fault, first_mps_fault}
+use Rattle.mpslp_mps.specs.MpsText.{is_end, declarations_of, DeclaresMps}
+use Rattle.mpslp_mps.specs.FirstFault.{line_fault, first_mps_fault, IsFirstMpsFault}
 use Rattle.mpslp_mps.specs.Reading.{placed_in, draft_after, context_after, fault_from, draft_from}
 use Rattle.mpslp_mps.specs.LineAnswer.{LineResult, IsToldAs}
 use Rattle.mpslp_mps.specs.declared.errors.LineError.{LineError}
@@ -49,3 +50,10 @@ ReadsText bytes answer =
     MatchResult answer
     (λ draft. (draft ≡ draft_of (declarations_of bytes)) × (first_mps_fault bytes ≡ file_fault draft) × (is_some draft.objective ≡ true))
     (IsFaultOf (first_mps_fault bytes))
+
+-- The model that the bytes declare, or their first fault; or there was no memory.
+abbrev pub ReadsMps : List ℕ → Result LinearModel ReadFault → Type 0
+ReadsMps bytes (Ok m) = DeclaresMps bytes m
+ReadsMps bytes (Err (File fault)) = IsFirstMpsFault bytes fault
+ReadsMps bytes (Err Failed) = ⊥
+ReadsMps bytes (Err OutOfMemory) = Unit {0}

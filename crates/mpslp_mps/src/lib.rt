@@ -27,4 +27,5 @@ mod words;
 
 pub use bound_types::BoundType;
 pub use lines::MAX_LINE_LEN;
+pub use reading::read_mps;
 pub use sections::Section;

@@ -4,14 +4,14 @@ ghost use Rattle.std.specs.Prelude.{◌≡◌, false};
 ghost use Rattle.std.specs.Str.Lines.{lines};
 ghost use Rattle.mpslp_mps.specs.Section.{is_section};
 ghost use Rattle.mpslp_mps.specs.declared.sections.Section.{Section};
-ghost use Rattle.mpslp_mps.specs.ReadingAnswer.{IsFaultOn, ReadsLines, ReadsText};
+ghost use Rattle.mpslp_mps.specs.ReadingAnswer.{IsFaultOn, ReadsLines, ReadsText, ReadsMps};
 ghost use Rattle.mpslp_mps.specs.ReadingState.{IsReading};
 
 use crate::context::LineContext;
 use crate::errors::LineError;
 use crate::taking::take_line;
 use bstr::ByteSlice;
-use mpslp_model::{Builder, Fault, FaultKind, ReadFault};
+use mpslp_model::{Builder, Fault, FaultKind, Model, ReadFault};
 use std::alloc::Global;
 
 /// Why text is not read that has this error on a line.
@@ -68,4 +68,22 @@ fn read_text(alloc: Global, text: &[u8]) -> Result<Builder, ReadFault>
         }));
     }
     Ok(builder)
+}
+
+/// The model that a text declares in MPS, or its first fault.
+///
+/// Any bytes may come. Lines are read up to that of ENDATA, and what follows it is not looked at. Limits: a line has at
+/// most [`MAX_LINE_LEN`](crate::MAX_LINE_LEN) bytes, a name at most 255, a number literal at most 255, and a decimal has at
+/// most 18 digits; the text may be of any length. Every line that is legal in the CPLEX file format reference and in this
+/// profile is read as the reference says; `docs/FORMATS.md` has each rule.
+///
+/// # Errors
+///
+/// `File` of the first fault: that of the first line that has one, and of several on one line the kind that comes first in
+/// [`FaultKind`], without a name. Where no line has one, `MissingEnd`, or what [`Builder::finish`] tells of the whole, on
+/// line 0. `OutOfMemory` where a growth was refused. Never `Failed`.
+pub fn read_mps(alloc: Global, text: &[u8]) -> Result<Model, ReadFault>
+    ensures { ReadsMps text.now result }
+{
+    read_text(alloc, text)?.finish()
 }
