@@ -29,3 +29,6 @@ pub use bound_types::BoundType;
 pub use lines::MAX_LINE_LEN;
 pub use reading::read_mps;
 pub use sections::Section;
+
+#[cfg(test)]
+mod tests;

@@ -1,0 +1,56 @@
+//! Measures how fast MPS text is read into a model.
+//!
+//! Standard input has the text. Its model's counts, or why it has none, are told on standard output, and the time of
+//! the reader alone, without that of the input, on standard error.
+#![tactic(auto)]
+
+use mpslp_model::{Fault, ReadFault};
+use mpslp_mps::read_mps;
+use std::alloc::Global;
+use std::io;
+use std::io::Read;
+use std::rt::Clock;
+use std::time::Instant;
+
+/// Tells a fault as the program does: its line, or the file, its kind, and the row or column where there is one.
+fn tell(rt: &impl Print, alloc: Global, fault: &Fault) -> io::Result<()> {
+    if fault.line == 0 {
+        print!(rt; "file: {}", fault.kind.text())?;
+    } else {
+        print!(rt; "line {}: {}", fault.line, fault.kind.text())?;
+    }
+    match &fault.name {
+        Some(name) => println!(rt; " {}", String::from_utf8_lossy(alloc, name.as_bytes())?),
+        None => println!(rt; ""),
+    }
+}
+
+fn run<R: Input + Print + Eprint + Clock + AllocGlobal>(rt: &R, alloc: Global) -> io::Result<()> {
+    let mut text = Vec::new(alloc);
+    rt.reader().read_to_end(&mut text)?;
+    let start = Instant::now(rt)?;
+    let answer = read_mps(alloc, text.as_slice());
+    let micros = start.elapsed(rt)?.as_micros().max(1);
+    match &answer {
+        Ok(model) => println!(rt;
+            "rows {} columns {} elements {}",
+            model.num_rows(),
+            model.num_cols(),
+            model.num_elements()
+        )?,
+        Err(ReadFault::File(fault)) => tell(rt, alloc, fault)?,
+        Err(ReadFault::Failed) => println!(rt; "failed")?,
+        Err(ReadFault::OutOfMemory) => println!(rt; "out of memory")?,
+    }
+    let tenths = (text.len() as u128).saturating_mul(10) / micros;
+    eprintln!(rt;
+        "read_mps {} bytes, {micros} microseconds, {}.{} MB/s",
+        text.len(),
+        tenths / 10,
+        tenths % 10
+    )
+}
+
+fn main(rt: HostRuntime) -> io::Result<()> {
+    run(&rt, rt.alloc())
+}
