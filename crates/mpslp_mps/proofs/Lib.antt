@@ -28,3 +28,4 @@ pub mod RightSideLemmas
 pub mod TakenLemmas
 pub mod RangeLemmas
 pub mod BoundSideLemmas
+pub mod MpsSidesLemmas
