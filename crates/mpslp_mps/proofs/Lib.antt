@@ -39,3 +39,4 @@ pub mod FrontTaking
 pub mod LoopLemmas
 pub mod NamedLemmas
 pub mod TextLemmas
+pub mod MpsSidesLemmas
