@@ -1,6 +1,6 @@
 -- After lines without a fault, the last of which is that of ENDATA, the objective has its name.
 use Rattle.std.proofs.Common.{◌≡◌, refl, sym, ap, ◌∙◌, ℕ, ◌+◌, List, [], ◌∷◌, ◌++◌, Bool, true, false, cond}
-use Rattle.std.specs.Prelude.{◌||◌, not, Option, Some, None, is_some, is_none, codes}
+use Rattle.std.specs.Prelude.{◌||◌, Option, Some, None, is_some, is_none, codes}
 use Rattle.std.specs.List.{list_any}
 use Rattle.std.specs.Option.{option_map, option_or}
 use Rattle.mpslp_model.specs.Declaration.{declare_objective, Draft, adding_all}
@@ -8,13 +8,11 @@ use Rattle.mpslp_model.specs.Refusal.{those_of}
 use Rattle.mpslp_model.specs.FaultOrder.{least_kind}
 use Rattle.mpslp_model.specs.declared.faults.Fault.{Fault}
 use Rattle.mpslp_model.specs.declared.faults.FaultKind.{FaultKind}
-use Rattle.mpslp_model.specs.declared.faults.FaultKind.TheVariants as kinds
 use Rattle.mpslp_mps.specs.Line.{Fields, Item, skipped, header, data_line, item_of}
 use Rattle.mpslp_mps.specs.Section.{is_section, section_named, begins}
 use Rattle.mpslp_mps.specs.Context.{Context}
 use Rattle.mpslp_mps.specs.NextContext.{next_context}
-use Rattle.mpslp_mps.specs.FieldFault.{Tests}
-use Rattle.mpslp_mps.specs.HeaderFault.{may_follow, header_word_tests, header_tests}
+use Rattle.mpslp_mps.specs.HeaderFault.{header_tests}
 use Rattle.mpslp_mps.specs.LineMeaning.{header_declared, declared}
 use Rattle.mpslp_mps.specs.LineFault.{declaring_faults}
 use Rattle.mpslp_mps.specs.MpsText.{is_end}
