@@ -27,7 +27,8 @@ use Rattle.mpslp_mps.specs.declared.errors.LineError.TheVariants.{Fault, OutOfMe
 use Rattle.mpslp_mps.specs.declared.sections.Section.TheVariants.{Columns}
 use Rattle.mpslp_mps.proofs.LeastLemmas.{lesser, earlier_of, stays-least}
 use Rattle.mpslp_mps.proofs.ToldLemmas.{told-form}
-use Rattle.mpslp_mps.proofs.DeclaringLemmas.{told-one, told-append, told-after, are_from, from-earlier}
+use Rattle.mpslp_mps.proofs.RefusedLemmas.{told-append}
+use Rattle.mpslp_mps.proofs.DeclaringLemmas.{told-one, told-after, are_from, from-earlier}
 use Rattle.mpslp_mps.proofs.TakingLemmas.{is_early}
 
 -- ---- marker lines
@@ -76,7 +77,7 @@ pub value-told : (earlier : Draft) (column : List ℕ) (value : List ℕ × Numb
     → declared_fault earlier (value_declared column value)
     ≡ cond (not (has_row earlier value.0)) (Some kinds.UnknownRow) (cond (has_entry earlier (record { row = value.0; column = column })) (Some kinds.DuplicateEntry) None)
 value-told earlier column value there =
-    told-one earlier (declare_coefficient (record { row = value.0; column = column }) value.1) refl
+    told-one earlier (declare_coefficient (record { row = value.0; column = column }) value.1) refl refl
     ∙ ap (λ (b : Bool). cond (not (has_row earlier value.0)) (Some kinds.UnknownRow) (cond (not b) (Some kinds.UnknownColumn) (cond (has_entry earlier (record { row = value.0; column = column })) (Some kinds.DuplicateEntry) None))) there
 
 entry-late : (b : Bool) → are_from kinds.DuplicateEntry (cond b (Some kinds.DuplicateEntry) None) ≡ true
@@ -99,7 +100,7 @@ values-late (value ∷ values) earlier column there rows =
     let next = adding_all earlier (value_declared column value) in
     let first = declared_fault earlier (value_declared column value) in
     let later = declared_fault next (flat_map (value_declared column) values) in
-    ap (are_from kinds.DuplicateEntry) (told-append earlier (value_declared column value) (flat_map (value_declared column) values))
+    ap (are_from kinds.DuplicateEntry) (told-append (value_declared column value) (flat_map (value_declared column) values) earlier)
     ∙ from-earlier kinds.DuplicateEntry first later (value-late earlier column value there (first_so (has_row earlier value.0) (are_rows earlier values) rows))
     (values-late values next column there (second_so (has_row earlier value.0) (are_rows earlier values) rows))
 
@@ -115,7 +116,7 @@ values-refused earlier column value values (Fault kind) there rows told =
     let double = has_entry earlier (record { row = value.0; column = column }) in
     let is : cond double (Some kinds.DuplicateEntry) None ≡ Some kind =
     ap (λ (b : Bool). cond (not b) (Some kinds.UnknownRow) (cond double (Some kinds.DuplicateEntry) None)) (sym row) ∙ sym (value-told earlier column value there) ∙ told in
-    told-append earlier (value_declared column value) (flat_map (value_declared column) values)
+    told-append (value_declared column value) (flat_map (value_declared column) values) earlier
     ∙ ap (λ (o : Option FaultKind). earlier_of o later) told
     ∙ ap (λ (k : FaultKind). Some k)
     (ap (λ (k : FaultKind). lesser k later) (sym (entry_kind double kind is))
@@ -140,7 +141,7 @@ pub values-unknown : (values : List (List ℕ × Number)) (earlier : Draft) (col
     → declared_fault earlier (flat_map (value_declared column) values) ≡ Some kinds.UnknownRow
 values-unknown [] earlier column there rows = cc
 values-unknown (value ∷ values) earlier column there rows =
-    told-append earlier (value_declared column value) more
+    told-append (value_declared column value) more earlier
     ∙ ap (λ (o : Option FaultKind). earlier_of o later) (value-told earlier column value there)
     ∙ by (has_row earlier value.0) double rows (λ h. values-unknown values next column there h)
   where

@@ -40,3 +40,4 @@ pub mod LoopLemmas
 pub mod NamedLemmas
 pub mod TextLemmas
 pub mod ReadLemmas
+pub mod MpsSidesLemmas

@@ -1,6 +1,6 @@
 -- After lines without a fault, the last of which is that of ENDATA, the objective has its name.
 use Rattle.std.proofs.Common.{◌≡◌, refl, sym, ap, ◌∙◌, ℕ, ◌+◌, List, [], ◌∷◌, ◌++◌, Bool, true, false, cond}
-use Rattle.std.specs.Prelude.{◌||◌, not, Option, Some, None, is_some, is_none, codes}
+use Rattle.std.specs.Prelude.{◌||◌, Option, Some, None, is_some, is_none, codes}
 use Rattle.std.specs.List.{list_any}
 use Rattle.std.specs.Option.{option_map, option_or}
 use Rattle.mpslp_model.specs.Declaration.{declare_objective, Draft, adding_all}
@@ -8,13 +8,11 @@ use Rattle.mpslp_model.specs.Refusal.{those_of}
 use Rattle.mpslp_model.specs.FaultOrder.{least_kind}
 use Rattle.mpslp_model.specs.declared.faults.Fault.{Fault}
 use Rattle.mpslp_model.specs.declared.faults.FaultKind.{FaultKind}
-use Rattle.mpslp_model.specs.declared.faults.FaultKind.TheVariants as kinds
 use Rattle.mpslp_mps.specs.Line.{Fields, Item, skipped, header, data_line, item_of}
 use Rattle.mpslp_mps.specs.Section.{is_section, section_named, begins}
 use Rattle.mpslp_mps.specs.Context.{Context}
 use Rattle.mpslp_mps.specs.NextContext.{next_context}
-use Rattle.mpslp_mps.specs.FieldFault.{Tests}
-use Rattle.mpslp_mps.specs.HeaderFault.{may_follow, header_word_tests, header_tests}
+use Rattle.mpslp_mps.specs.HeaderFault.{header_tests}
 use Rattle.mpslp_mps.specs.LineMeaning.{header_declared, declared}
 use Rattle.mpslp_mps.specs.LineFault.{declaring_faults}
 use Rattle.mpslp_mps.specs.MpsText.{is_end}
@@ -23,6 +21,8 @@ use Rattle.mpslp_mps.specs.Reading.{placed_in, context_after, draft_after, fault
 use Rattle.mpslp_mps.specs.ReadingAnswer.{lines_to_end}
 use Rattle.mpslp_mps.specs.declared.sections.Section.{Section}
 use Rattle.mpslp_mps.specs.declared.sections.Section.TheVariants.{Name, ObjSense, Rows, Columns, Rhs, Ranges, Bounds, EndData}
+use Rattle.mpslp_model.proofs.RefusalLemmas.{left_none}
+use Rattle.mpslp_mps.proofs.OrderLemmas.{header-begins}
 use Rattle.mpslp_mps.proofs.ObjectiveLemmas.{named-after}
 use Rattle.mpslp_mps.proofs.EndLemmas.{up_to_end-last, up_to_end-more}
 use Rattle.mpslp_mps.proofs.LoopLemmas.{no-item}
@@ -73,23 +73,11 @@ ended_tests context keyword more (Some Columns) h e = cc
 ended_tests context keyword more (Some Rhs) h e = cc
 ended_tests context keyword more (Some Ranges) h e = cc
 ended_tests context keyword more (Some Bounds) h e = cc
-ended_tests context keyword more (Some EndData) h e = by context.wants_sense context.seen.columns h
-  where
-    rest : Tests
-    rest = (false, kinds.SectionRepeated) ∷ (not (may_follow EndData more), kinds.FieldCount) ∷ header_word_tests EndData more
+ended_tests context keyword more (Some EndData) h e = header-begins context keyword more EndData h
 
-    by : (wants begun : Bool) → those_of ((wants || not (false || begun), kinds.SectionOrder) ∷ rest) ≡ [] → begun ≡ true
-    by true begun k = cc
-    by false true k = refl
-    by false false k = cc
-
-least_none : (kinds : List FaultKind) → least_kind kinds ≡ None → kinds ≡ []
+least_none : (faults : List FaultKind) → least_kind faults ≡ None → faults ≡ []
 least_none [] h = refl
 least_none (kind ∷ more) h = cc
-
-left_none : (xs ys : List FaultKind) → xs ++ ys ≡ [] → xs ≡ []
-left_none [] ys h = refl
-left_none (x ∷ xs) ys h = cc
 
 ended_columns : (context : Context) (earlier : Draft) (item : Item) → item_fault (record { context = context; earlier = earlier; item = item }) ≡ None → begins EndData item ≡ true
     → context.seen.columns ≡ true

@@ -58,11 +58,11 @@ limited-from all limited constant row h =
     let objective = none_so (is_objective all row) all.constant constant in
     λ i. given i || (limits i || objective i)
 
-limited : (all : Draft) → HasMpsSides all → AreLimited all
+pub limited : (all : Draft) → HasMpsSides all → AreLimited all
 limited all sides = limited-from all sides.limited sides.constant
 
 -- of one right side
-side_told : (all : Draft) (row : List ℕ) (value : Number) → AreLimited all
+pub side_told : (all : Draft) (row : List ℕ) (value : Number) → AreLimited all
     → declared_fault all (right_side_declared all row value) ≡ side_kind (has_row all row) (is_sided all row)
 side_told all row value free_unsided =
     elim (is_free_row all row) as (λ b. is_free_row all row ≡ b
@@ -83,7 +83,7 @@ same_row : (all : Draft) (row : List ℕ) (value : Number) (other : List ℕ) �
 same_row all row value other =
     elim (is_free_row all row) as (λ b. has_row (adding_all all (cond b [] (declare_right_side row value ∷ []))) other ≡ has_row all other) [ true ↦ refl | false ↦ refl ]
 
-same_free : (all : Draft) (row : List ℕ) (value : Number) (other : List ℕ) → is_free_row (after_side all row value) other ≡ is_free_row all other
+pub same_free : (all : Draft) (row : List ℕ) (value : Number) (other : List ℕ) → is_free_row (after_side all row value) other ≡ is_free_row all other
 same_free all row value other =
     elim (is_free_row all row) as (λ b. is_free_row (adding_all all (cond b [] (declare_right_side row value ∷ []))) other ≡ is_free_row all other) [ true ↦ refl | false ↦ refl ]
 

@@ -5,7 +5,7 @@ use Rattle.mpslp_mps.specs.FirstHeld.{first_held}
 use Rattle.mpslp_mps.specs.declared.errors.LineError.TheVariants.{Fault}
 use Rattle.mpslp_mps.specs.declared.sections.Section.TheVariants.{Columns}
 use Rattle.mpslp_mps.proofs.StepLemmas.{step-marker}
-use Rattle.mpslp_mps.proofs.TakingLemmas.{is_early, ends-by, data-form, data-taken}
+use Rattle.mpslp_mps.proofs.TakingLemmas.{is_early, ends-by, data-judged, data-taken}
 use Rattle.mpslp_mps.proofs.ColumnTaking.{marker-tests, marker-early, marker-declares}
 use Rattle.mpslp_mps.proofs.taking_columns.take_marker.Goals as goal
 
@@ -15,7 +15,7 @@ returns-in_err-opens c earlier =
     let context = c.args.context.now in
     let tests = marker-tests context earlier fields c.requires.marker in
     ends-by c.from_residual.result (Fault c.in_err-opens.field-0.0) _ _ c.from_residual.ensures.1
-    (data-form context earlier fields Columns c.in_err-opens.field-0.0 c.requires.section
+    (data-judged context earlier fields Columns (Fault c.in_err-opens.field-0.0) c.requires.section
     (ap (λ (t : Tests). list_all is_early t) tests ∙ marker-early context fields) (ap first_held tests ∙ c.in_err-opens.ensures))
 
 pub returns : goal.returns

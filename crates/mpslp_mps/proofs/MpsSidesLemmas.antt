@@ -1,0 +1,260 @@
+-- Lines of MPS text without a fault declare right sides of rows that are there and not of type N.
+use Rattle.std.proofs.Common.{◌≡◌, refl, sym, ap, subst, ◌∙◌, ℕ, List, [], ◌∷◌, ◌++◌, Bool, true, false, cond}
+use Rattle.std.specs.Prelude.{◌||◌, Option, Some, None, is_none, filter_map, codes}
+use Rattle.std.specs.List.{list_all, flat_map}
+use Rattle.std.specs.Option.{option_map_or}
+use Rattle.std.specs.Cmp.{first_so, second_so}
+use Rattle.std.proofs.lemmas.List.{append-nil}
+use Rattle.mpslp_model.specs.Name.{same_bytes}
+use Rattle.mpslp_model.specs.Declaration.{RowForm, by_type, Declaration, declare_sense, declare_objective, declare_constant, declare_row, declare_right_side, declare_range, declare_column, declare_coefficient, declare_lower, declare_upper, declare_marked, declare_integer, declare_binary, Declarations, Draft, empty_draft, adding, adding_all, at_name, has_name, has_row, is_objective, is_free_form, is_free_row, right_side_declared}
+use Rattle.mpslp_model.specs.Refusal.{refusals, refusal_tests, when}
+use Rattle.mpslp_model.specs.FaultOrder.{least_kind}
+use Rattle.mpslp_model.specs.declared.kinds.Limit.{Limit}
+use Rattle.mpslp_model.specs.declared.kinds.RowType.{RowType}
+use Rattle.mpslp_model.specs.declared.kinds.RowType.TheVariants.{Free, AtMost, AtLeast, Equal}
+use Rattle.mpslp_model.specs.declared.faults.BuildFault.{BuildFault}
+use Rattle.mpslp_model.specs.declared.faults.FaultKind.{FaultKind}
+use Rattle.mpslp_model.specs.declared.faults.FaultKind.TheVariants as kinds
+use Rattle.mpslp_model.proofs.BoolLemmas.{or_right}
+use Rattle.mpslp_model.proofs.MadeDrafts.{adding_all-append}
+use Rattle.mpslp_model.proofs.SlotLemmas.{at-put, has-put, same_name}
+use Rattle.mpslp_mps.specs.Line.{Fields, Item, skipped, header, data_line}
+use Rattle.mpslp_mps.specs.Section.{section_named}
+use Rattle.mpslp_mps.specs.DataLine.{RowLine, Pair, ColumnLine, VectorLine, sense_line, row_line, row_type, column_line, is_marker_line, vector_line}
+use Rattle.mpslp_mps.specs.BoundLine.{BoundLine, bound_type, bound_line}
+use Rattle.mpslp_mps.specs.Context.{Context}
+use Rattle.mpslp_mps.specs.LineMeaning.{declared_of, value_of, sense_declared, row_of_type, row_declared, coefficient_declared, column_declared, columns_line_declared, right_sides_declared, ranges_declared, bound_declared, bound_value, bound_line_declared, default_objective, data_declared, header_declared, declared}
+use Rattle.mpslp_mps.specs.LineFault.{kind_of_refusal, form_faults, declaring_faults}
+use Rattle.mpslp_mps.specs.FirstFault.{item_fault}
+use Rattle.mpslp_mps.specs.DeclareAnswer.{declared_fault, HasMpsSides}
+use Rattle.mpslp_mps.specs.declared.bound_types.BoundType.{BoundType}
+use Rattle.mpslp_mps.specs.declared.bound_types.BoundType.TheVariants as bounds
+use Rattle.mpslp_mps.specs.declared.sections.Section.{Section}
+use Rattle.mpslp_mps.specs.declared.sections.Section.TheVariants.{Name, ObjSense, Rows, Columns, Rhs, Ranges, Bounds, EndData}
+use Rattle.mpslp_mps.proofs.LeastLemmas.{earlier_of, least-append}
+use Rattle.mpslp_mps.proofs.OrderLemmas.{each-declared, each-flat, each-mapped, sense-passes}
+use Rattle.mpslp_mps.proofs.RefusedLemmas.{least-refusal, told-append}
+use Rattle.mpslp_mps.proofs.RightSideLemmas.{side_kind, limited, side_told, same_free, sides-after}
+
+pub empty_sides : HasMpsSides empty_draft
+empty_sides = record { known = λ row h. absurd cc; limited = λ row h. refl; constant = refl }
+
+both_none : (o p : Option FaultKind) → earlier_of o p ≡ None → (o ≡ None) × (p ≡ None)
+both_none None p h = (refl, h)
+both_none (Some kind) p h = cc
+
+-- ---- declarations that say nothing of rows, right sides, the objective and the constant
+
+abbrev stays : Declaration → Bool
+stays (declare_objective name) = false
+stays (declare_constant value) = false
+stays (declare_row name form) = false
+stays (declare_right_side row value) = false
+stays _ = true
+
+stays-one : (all : Draft) (d : Declaration) → stays d ≡ true → HasMpsSides all → HasMpsSides (adding all d)
+stays-one all (declare_sense sense) h sides = record { known = sides.known; limited = sides.limited; constant = sides.constant }
+stays-one all (declare_objective name) h sides = cc
+stays-one all (declare_constant value) h sides = cc
+stays-one all (declare_row name form) h sides = cc
+stays-one all (declare_right_side row value) h sides = cc
+stays-one all (declare_range row value) h sides = record { known = sides.known; limited = sides.limited; constant = sides.constant }
+stays-one all (declare_column name) h sides = record { known = sides.known; limited = sides.limited; constant = sides.constant }
+stays-one all (declare_coefficient place value) h sides = record { known = sides.known; limited = sides.limited; constant = sides.constant }
+stays-one all (declare_lower column side) h sides = record { known = sides.known; limited = sides.limited; constant = sides.constant }
+stays-one all (declare_upper column side) h sides = record { known = sides.known; limited = sides.limited; constant = sides.constant }
+stays-one all (declare_marked column) h sides = record { known = sides.known; limited = sides.limited; constant = sides.constant }
+stays-one all (declare_integer column) h sides = record { known = sides.known; limited = sides.limited; constant = sides.constant }
+stays-one all (declare_binary column) h sides = record { known = sides.known; limited = sides.limited; constant = sides.constant }
+
+stays-kept : (ds : Declarations) (all : Draft) → list_all stays ds ≡ true → HasMpsSides all → HasMpsSides (adding_all all ds)
+stays-kept [] all h sides = sides
+stays-kept (d ∷ ds) all h sides = stays-kept ds (adding all d) (second_so (stays d) (list_all stays ds) h) (stays-one all d (first_so (stays d) (list_all stays ds) h) sides)
+
+sense-stays : (fields : Fields) → list_all stays (declared_of sense_declared (sense_line fields)) ≡ true
+sense-stays fields = sense-passes stays (λ s. refl) fields
+
+columns-stay : (context : Context) (fields : Fields) → list_all stays (columns_line_declared context fields) ≡ true
+columns-stay context fields =
+    elim (is_marker_line fields) as (λ b. list_all stays (cond b [] (declared_of (column_declared context) (column_line fields))) ≡ true) [
+      | true ↦ refl
+      | false ↦ each-declared stays (column_declared context) (column_line fields) line
+    ]
+  where
+    marked : (column : List ℕ) (more : Declarations) (b : Bool) → list_all stays more ≡ true → list_all stays (when b (declare_marked column) ++ more) ≡ true
+    marked column more true h = h
+    marked column more false h = h
+
+    line : (parts : ColumnLine) → list_all stays (column_declared context parts) ≡ true
+    line parts =
+        marked parts.column (flat_map (coefficient_declared parts.column) parts.pairs) context.in_integer_part
+        (each-flat stays (coefficient_declared parts.column) parts.pairs (λ pair. refl))
+
+ranges-stay : (fields : Fields) → list_all stays (declared_of ranges_declared (vector_line fields)) ≡ true
+ranges-stay fields =
+    each-declared stays ranges_declared (vector_line fields)
+    (λ line. each-mapped stays (λ (pair : Pair). declare_range pair.row (value_of pair.literal)) line.pairs (λ pair. refl))
+
+bound-stays : (type : BoundType) (column : List ℕ) (value : Limit) → list_all stays (bound_declared type column value) ≡ true
+bound-stays bounds.Lower column value = refl
+bound-stays bounds.Upper column value = refl
+bound-stays bounds.Fixed column value = refl
+bound-stays bounds.Free column value = refl
+bound-stays bounds.NoLower column value = refl
+bound-stays bounds.NoUpper column value = refl
+bound-stays bounds.Binary column value = refl
+bound-stays bounds.IntegerLower column value = refl
+bound-stays bounds.IntegerUpper column value = refl
+
+bounds-stay : (fields : Fields) → list_all stays (bound_line_declared fields) ≡ true
+bounds-stay [] = refl
+bounds-stay (letters ∷ more) =
+    each-declared stays (λ type. declared_of (λ (line : BoundLine). bound_declared type line.column (bound_value line)) (bound_line type more)) (bound_type letters)
+    (λ type. each-declared stays (λ (line : BoundLine). bound_declared type line.column (bound_value line)) (bound_line type more) (λ line. bound-stays type line.column (bound_value line)))
+
+-- ---- the objective and rows
+
+-- an objective where there is none
+objective-kept : (all : Draft) (name : List ℕ) → all.objective ≡ None → HasMpsSides all → HasMpsSides (adding all (declare_objective name))
+objective-kept all name none sides = record { known = known; limited = sides.limited; constant = sides.constant }
+  where
+    known : (row : List ℕ) → has_name all.right_sides row ≡ true → has_row (adding all (declare_objective name)) row ≡ true
+    known row h =
+        let named : has_name all.rows row ≡ true = ap (λ (o : Option (List ℕ)). option_map_or (same_bytes row) o false || has_name all.rows row) (sym none) ∙ sides.known row h in
+        or_right (same_bytes row name) (has_name all.rows row) named
+
+-- a row of a new name
+row-kept : (all : Draft) (name : List ℕ) (form : RowForm) → has_row all name ≡ false → HasMpsSides all → HasMpsSides (adding all (declare_row name form))
+row-kept all name form new sides = record { known = known; limited = limits; constant = sides.constant }
+  where
+    known : (row : List ℕ) → has_name all.right_sides row ≡ true → has_row (adding all (declare_row name form)) row ≡ true
+    known row h = ap (λ (b : Bool). is_objective all row || b) (has-put row name form all.rows) ∙ by (is_objective all row) (same_bytes row name) (has_name all.rows row) (sides.known row h)
+      where
+        by : (a b c : Bool) → (a || c) ≡ true → (a || (b || c)) ≡ true
+        by true b c k = refl
+        by false true c k = refl
+        by false false c k = k
+
+    limits : (row : List ℕ) → is_free_row (adding all (declare_row name form)) row ≡ true → has_name all.right_sides row ≡ false
+    limits row h =
+        by (same_bytes row name) refl (sym (ap (λ (o : Option RowForm). option_map_or is_free_form o false) (at-put row name form all.rows)) ∙ h)
+      where
+        none : (b : Bool) → has_name all.right_sides row ≡ b → has_row all row ≡ false → has_name all.right_sides row ≡ false
+        none true given absent = let there = sides.known row given in cc
+        none false given absent = given
+
+        by : (b : Bool) → same_bytes row name ≡ b → option_map_or is_free_form (cond b (Some form) (at_name all.rows row)) false ≡ true → has_name all.right_sides row ≡ false
+        by true same k = none (has_name all.right_sides row) refl (ap (has_row all) (same_name row name same) ∙ new)
+        by false same k = sides.limited row k
+
+none_so : (o : Option (List ℕ)) → is_none o ≡ true → o ≡ None
+none_so None h = refl
+none_so (Some name) h = cc
+
+new_row : (all : Draft) (name : List ℕ) (type : RowType) → declared_fault all (declare_row name (by_type type) ∷ []) ≡ None → has_row all name ≡ false
+new_row all name type told = by (has_row all name) (sym is ∙ told)
+  where
+    is : declared_fault all (declare_row name (by_type type) ∷ []) ≡ cond (has_row all name) (Some kinds.DuplicateRow) None
+    is =
+        ap (λ (faults : List BuildFault). least_kind (filter_map kind_of_refusal faults)) (append-nil (refusals all (declare_row name (by_type type))))
+        ∙ least-refusal (refusal_tests all (declare_row name (by_type type))) refl refl
+
+    by : (b : Bool) → cond b (Some kinds.DuplicateRow) None ≡ None → b ≡ false
+    by true k = cc
+    by false k = refl
+
+objective-or_row : (all : Draft) (name : List ℕ) → declared_fault all (row_of_type all name Free) ≡ None → HasMpsSides all → HasMpsSides (adding_all all (row_of_type all name Free))
+objective-or_row all name told sides = by (is_none all.objective) refl told
+  where
+    by : (b : Bool) → is_none all.objective ≡ b → declared_fault all (cond b (declare_objective name ∷ []) (declare_row name (by_type Free) ∷ [])) ≡ None
+        → HasMpsSides (adding_all all (cond b (declare_objective name ∷ []) (declare_row name (by_type Free) ∷ [])))
+    by true none k = objective-kept all name (none_so all.objective none) sides
+    by false there k = row-kept all name (by_type Free) (new_row all name Free k) sides
+
+rows-kept : (all : Draft) (fields : Fields) → declared_fault all (declared_of (row_declared all) (row_line fields)) ≡ None → HasMpsSides all
+    → HasMpsSides (adding_all all (declared_of (row_declared all) (row_line fields)))
+rows-kept all fields told sides = lined (row_line fields) told
+  where
+    typed : (name : List ℕ) (o : Option RowType) → declared_fault all (declared_of (row_of_type all name) o) ≡ None → HasMpsSides (adding_all all (declared_of (row_of_type all name) o))
+    typed name None k = sides
+    typed name (Some Free) k = objective-or_row all name k sides
+    typed name (Some AtMost) k = row-kept all name (by_type AtMost) (new_row all name AtMost k) sides
+    typed name (Some AtLeast) k = row-kept all name (by_type AtLeast) (new_row all name AtLeast k) sides
+    typed name (Some Equal) k = row-kept all name (by_type Equal) (new_row all name Equal k) sides
+
+    lined : (o : Option RowLine) → declared_fault all (declared_of (row_declared all) o) ≡ None → HasMpsSides (adding_all all (declared_of (row_declared all) o))
+    lined None k = sides
+    lined (Some line) k = typed line.name (row_type line.letter) k
+
+default-kept : (all : Draft) → HasMpsSides all → HasMpsSides (adding_all all (default_objective all))
+default-kept all sides = by (is_none all.objective) refl
+  where
+    by : (b : Bool) → is_none all.objective ≡ b → HasMpsSides (adding_all all (cond b (declare_objective (codes "obj") ∷ []) []))
+    by true none = objective-kept all (codes "obj") (none_so all.objective none) sides
+    by false there = sides
+
+-- ---- right sides
+
+there_so : (there sided : Bool) → side_kind there sided ≡ None → there ≡ true
+there_so true sided h = refl
+there_so false sided h = cc
+
+-- by the rows before the line, which are those after each of its right sides
+pairs-kept : (pairs : List Pair) (earlier all : Draft) → ((row : List ℕ) → is_free_row all row ≡ is_free_row earlier row) → HasMpsSides all
+    → declared_fault all (flat_map (λ (pair : Pair). right_side_declared earlier pair.row (value_of pair.literal)) pairs) ≡ None
+    → HasMpsSides (adding_all all (flat_map (λ (pair : Pair). right_side_declared earlier pair.row (value_of pair.literal)) pairs))
+pairs-kept [] earlier all free sides told = sides
+pairs-kept (pair ∷ pairs) earlier all free sides told =
+    let value = value_of pair.literal in
+    let here = right_side_declared earlier pair.row value in
+    let more = flat_map (λ (pair : Pair). right_side_declared earlier pair.row (value_of pair.literal)) pairs in
+    let same : right_side_declared all pair.row value ≡ here = ap (λ (b : Bool). cond b [] (declare_right_side pair.row value ∷ [])) (free pair.row) in
+    let none = both_none (declared_fault all here) (declared_fault (adding_all all here) more) (sym (told-append here more all) ∙ told) in
+    let there = there_so (has_row all pair.row) _ (sym (side_told all pair.row value (limited all sides)) ∙ ap (declared_fault all) same ∙ none.0) in
+    let next = subst (λ (ds : Declarations). HasMpsSides (adding_all all ds)) same (sides-after all pair.row value sides there) in
+    let after : (row : List ℕ) → is_free_row (adding_all all here) row ≡ is_free_row earlier row =
+    λ row. ap (λ (ds : Declarations). is_free_row (adding_all all ds) row) (sym same) ∙ same_free all pair.row value row ∙ free row in
+    subst HasMpsSides (sym (adding_all-append here more all)) (pairs-kept pairs earlier (adding_all all here) after next none.1)
+
+right_sides-kept : (all : Draft) (fields : Fields) → declared_fault all (declared_of (right_sides_declared all) (vector_line fields)) ≡ None → HasMpsSides all
+    → HasMpsSides (adding_all all (declared_of (right_sides_declared all) (vector_line fields)))
+right_sides-kept all fields told sides = lined (vector_line fields) told
+  where
+    lined : (o : Option VectorLine) → declared_fault all (declared_of (right_sides_declared all) o) ≡ None → HasMpsSides (adding_all all (declared_of (right_sides_declared all) o))
+    lined None k = sides
+    lined (Some line) k = pairs-kept line.pairs all all (λ row. refl) sides k
+
+-- ---- a line
+
+header-kept : (earlier : Draft) (more : Fields) (o : Option Section) → HasMpsSides earlier → HasMpsSides (adding_all earlier (header_declared earlier more o))
+header-kept earlier more None sides = sides
+header-kept earlier more (Some Name) sides = sides
+header-kept earlier more (Some ObjSense) sides = stays-kept (header_declared earlier more (Some ObjSense)) earlier (sense-stays more) sides
+header-kept earlier more (Some Rows) sides = sides
+header-kept earlier more (Some Columns) sides = default-kept earlier sides
+header-kept earlier more (Some Rhs) sides = sides
+header-kept earlier more (Some Ranges) sides = sides
+header-kept earlier more (Some Bounds) sides = sides
+header-kept earlier more (Some EndData) sides = sides
+
+data-kept : (context : Context) (earlier : Draft) (fields : Fields) (o : Option Section) → declared_fault earlier (data_declared context earlier fields o) ≡ None → HasMpsSides earlier
+    → HasMpsSides (adding_all earlier (data_declared context earlier fields o))
+data-kept context earlier fields None told sides = sides
+data-kept context earlier fields (Some Name) told sides = sides
+data-kept context earlier fields (Some ObjSense) told sides = stays-kept (data_declared context earlier fields (Some ObjSense)) earlier (sense-stays fields) sides
+data-kept context earlier fields (Some Rows) told sides = rows-kept earlier fields told sides
+data-kept context earlier fields (Some Columns) told sides = stays-kept (columns_line_declared context fields) earlier (columns-stay context fields) sides
+data-kept context earlier fields (Some Rhs) told sides = right_sides-kept earlier fields told sides
+data-kept context earlier fields (Some Ranges) told sides = stays-kept (declared_of ranges_declared (vector_line fields)) earlier (ranges-stay fields) sides
+data-kept context earlier fields (Some Bounds) told sides = stays-kept (bound_line_declared fields) earlier (bounds-stay fields) sides
+data-kept context earlier fields (Some EndData) told sides = sides
+
+-- after a line that has no fault
+pub sides-kept : (context : Context) (earlier : Draft) (item : Item) → item_fault (record { context = context; earlier = earlier; item = item }) ≡ None → HasMpsSides earlier
+    → HasMpsSides (adding_all earlier (declared context earlier item))
+sides-kept context earlier skipped told sides = sides
+sides-kept context earlier (header keyword more) told sides = header-kept earlier more (section_named keyword) sides
+sides-kept context earlier (data_line fields) told sides =
+    let faults = form_faults context earlier (data_line fields) in
+    let ds = data_declared context earlier fields context.section in
+    data-kept context earlier fields context.section (both_none (least_kind faults) (declared_fault earlier ds) (sym (least-append faults (declaring_faults earlier ds)) ∙ told)).1 sides
