@@ -2,7 +2,7 @@
 """Compare mpslp with other programs that read and write MPS files.
 
 Each program reads a generated file and writes the same model as MPS again,
-without solving it. The table has the least wall time of some runs and the
+without solving it; with --read it only reads the file. The table has the least wall time of some runs and the
 largest resident memory of any. Files are kept in bench/data/.
 """
 
@@ -22,7 +22,9 @@ DATA = HERE / "data"
 OUTPUT = DATA / "output.mps"
 GENERATOR = HERE / "generate.py"
 SOURCES = (GENERATOR, HERE / "literals.py")
-DEFAULT_PROGRAM = HERE.parent / "crates" / "mpslp" / "out" / "mpslp"
+CRATES = HERE.parent / "crates"
+DEFAULT_PROGRAM = CRATES / "mpslp" / "out" / "mpslp"
+DEFAULT_READER = CRATES / "bench_read" / "out" / "bench_read"
 
 # The full kinds leave out OBJSENSE, which glpsol does not read.
 KINDS = {
@@ -63,6 +65,14 @@ def programs(path_of_ours):
         # keeps all digits of a double; its usual one keeps fewer.
         Program("clp", found("clp"), (
             "INPUT", "-presolve", "off", "-outputFormat", "4", "-export", output, "-quit")),
+    ]
+
+
+def readers(path_of_ours):
+    return [
+        Program("mpslp", found(path_of_ours), (), by_streams=True),
+        Program("glpsol", found("glpsol"), ("--freemps", "INPUT", "--check"), by_streams=True),
+        Program("clp", found("clp"), ("INPUT", "-quit"), by_streams=True),
     ]
 
 
@@ -197,7 +207,9 @@ def arguments():
                         help="the hostile files in place of the kinds")
     parser.add_argument("--seed", type=int, default=1)
     parser.add_argument("--runs", type=int, default=3)
+    parser.add_argument("--read", action="store_true", help="read files, and write none")
     parser.add_argument("--program", default=DEFAULT_PROGRAM, help="the path of mpslp")
+    parser.add_argument("--reader", default=DEFAULT_READER, help="the path of bench_read")
     options = parser.parse_args()
     check(parser, options)
     return options
@@ -218,7 +230,8 @@ def check(parser, options):
 
 def main():
     options = arguments()
-    compare(wanted_files(options), present(programs(options.program)), options.runs)
+    candidates = readers(options.reader) if options.read else programs(options.program)
+    compare(wanted_files(options), present(candidates), options.runs)
 
 
 if __name__ == "__main__":

@@ -141,7 +141,12 @@ fn told(alloc: Global, text: &[u8]) -> Result<Vec<u8>, AllocError> {
 }
 
 /// The lines, with this one in place of that of a number, counted from 1.
-fn with_line(alloc: Global, lines: &[&str], number: usize, line: &str) -> Result<Vec<u8>, AllocError> {
+fn with_line(
+    alloc: Global,
+    lines: &[&str],
+    number: usize,
+    line: &str,
+) -> Result<Vec<u8>, AllocError> {
     let mut text = Vec::new(alloc);
     for (i, own) in lines.iter().enumerate() {
         let chosen = if i + 1 == number { line } else { *own };
@@ -188,8 +193,11 @@ fn reads_the_small_model(rt: HostRuntime) -> Result<(), Fail> {
     assert_eq!(rt; told(alloc, &text)?.as_slice(), SMALL_MODEL.as_bytes());
     let text = joined(alloc, &[SMALL, "ENDATA\nanything [ x ^ 2 ]\n"])?;
     assert_eq!(rt; told(alloc, &text)?.as_slice(), SMALL_MODEL.as_bytes());
-    assert_eq!(rt; told(alloc, SMALL.as_bytes())?.as_slice(), b"file: MissingEnd");
-    assert_eq!(rt; told(alloc, b"")?.as_slice(), b"file: MissingEnd");
+    assert_eq!(rt;
+        told(alloc, SMALL.as_bytes())?.as_slice(),
+        "file: MissingEnd".as_bytes()
+    );
+    assert_eq!(rt; told(alloc, b"")?.as_slice(), "file: MissingEnd".as_bytes());
     Ok(())
 }
 
@@ -239,7 +247,10 @@ G1 R 10 12 12 2
 L1 R 8 10 10 2
 X 0 inf 0 E1:1 E2:1 E3:1 G1:1 L1:1
 ";
-    assert_eq!(rt; told(rt.alloc(), text.as_bytes())?.as_slice(), model.as_bytes());
+    assert_eq!(rt;
+        told(rt.alloc(), text.as_bytes())?.as_slice(),
+        model.as_bytes()
+    );
     Ok(())
 }
 
@@ -261,8 +272,14 @@ fn reads_integer_columns(rt: HostRuntime) -> Result<(), Fail> {
     let unbounded = joined(alloc, &[MARKED, "BOUNDS\n PL BND X\nENDATA\n"])?;
     let model = "minimize C 0 0\nX integer 0 1 1\n";
     assert_eq!(rt; told(alloc, &marked)?.as_slice(), model.as_bytes());
-    assert_eq!(rt; told(alloc, binary.as_bytes())?.as_slice(), model.as_bytes());
-    assert_eq!(rt; told(alloc, &unbounded)?.as_slice(), b"minimize C 0 0\nX integer 0 inf 1\n");
+    assert_eq!(rt;
+        told(alloc, binary.as_bytes())?.as_slice(),
+        model.as_bytes()
+    );
+    assert_eq!(rt;
+        told(alloc, &unbounded)?.as_slice(),
+        "minimize C 0 0\nX integer 0 inf 1\n".as_bytes()
+    );
     let (Ok(one), Ok(same), Ok(other)) = (
         read_mps(alloc, &marked),
         read_mps(alloc, binary.as_bytes()),
@@ -284,12 +301,18 @@ fn reads_bounds_of_one_column(rt: HostRuntime) -> Result<(), Fail> {
         (" UP B X -1\n MI B X\n", "minimize C 0 0\nX -inf -1 1\n"),
         (" UP B X -1\n LO B X 0\n", "file: BoundsCrossed X"),
         (" UP B X 0\n", "minimize C 0 0\nX 0 0 1\n"),
-        (" LO B X -1e30\n UP B X 1e30\n", "minimize C 0 0\nX -inf inf 1\n"),
+        (
+            " LO B X -1e30\n UP B X 1e30\n",
+            "minimize C 0 0\nX -inf inf 1\n",
+        ),
         (" FX B X 1e20\n", "line 6: InfiniteValue"),
         (" FX B X 7\n", "minimize C 0 0\nX 7 7 1\n"),
         (" FR B X\n", "minimize C 0 0\nX -inf inf 1\n"),
         (" BV X\n", "minimize C 0 0\nX integer 0 1 1\n"),
-        (" LI B X 2\n UI B X 9\n", "minimize C 0 0\nX integer 2 9 1\n"),
+        (
+            " LI B X 2\n UI B X 9\n",
+            "minimize C 0 0\nX integer 2 9 1\n",
+        ),
         (" LO X 2\n", "minimize C 0 0\nX 2 inf 1\n"),
     ];
     for (bounds, expected) in cases {
@@ -297,7 +320,11 @@ fn reads_bounds_of_one_column(rt: HostRuntime) -> Result<(), Fail> {
             alloc,
             &["ROWS\n N C\nCOLUMNS\n X C 1\nBOUNDS\n", bounds, "ENDATA\n"],
         )?;
-        assert_eq!(rt; told(alloc, &text)?.as_slice(), expected.as_bytes(), "at {bounds}");
+        assert_eq!(rt;
+            told(alloc, &text)?.as_slice(),
+            expected.as_bytes(),
+            "at {bounds}"
+        );
     }
     Ok(())
 }
@@ -306,7 +333,10 @@ fn reads_bounds_of_one_column(rt: HostRuntime) -> Result<(), Fail> {
 fn reads_objective_rows_and_right_sides(rt: HostRuntime) -> Result<(), Fail> {
     let alloc = rt.alloc();
     let constant = "ROWS\n N C\nCOLUMNS\n X C 1\nRHS\n    RHS  C  5\nENDATA\n";
-    assert_eq!(rt; told(alloc, constant.as_bytes())?.as_slice(), b"minimize C -5 5\nX 0 inf 1\n");
+    assert_eq!(rt;
+        told(alloc, constant.as_bytes())?.as_slice(),
+        "minimize C -5 5\nX 0 inf 1\n".as_bytes()
+    );
     let free = "NAME
 ROWS
  N  C
@@ -322,7 +352,10 @@ ENDATA
     let model = "minimize C 0 0\nR L -inf 3 3 0\nS N -inf inf 0 0\nX 0 inf 0\nY 0 inf 0 S:2\n";
     assert_eq!(rt; told(alloc, free.as_bytes())?.as_slice(), model.as_bytes());
     let unnamed = "ROWS\n L R\nCOLUMNS\n X R 1\nENDATA\n";
-    assert_eq!(rt; told(alloc, unnamed.as_bytes())?.as_slice(), b"minimize obj 0 0\nR L -inf 0 0 0\nX 0 inf 0 R:1\n");
+    assert_eq!(rt;
+        told(alloc, unnamed.as_bytes())?.as_slice(),
+        "minimize obj 0 0\nR L -inf 0 0 0\nX 0 inf 0 R:1\n".as_bytes()
+    );
     Ok(())
 }
 
@@ -334,11 +367,18 @@ fn tells_infinite_right_sides(rt: HostRuntime) -> Result<(), Fail> {
         (" LIM1 -1e20\n", "file: InfiniteLimit LIM1"),
         (" MYG 9e19\nRANGES\n MYG 9e19\n", "file: LimitTooLarge MYG"),
         (" MYG 1e19\nRANGES\n MYG 1e-10\n", "file: RangeInexact MYG"),
-        (" LIM1 1e20\n", "minimize COST 0 0\nLIM1 N -inf inf 0 0\nMYG G 0 inf 0 0\nX 0 inf 1 LIM1:1\nY 0 inf 0 MYG:1\n"),
+        (
+            " LIM1 1e20\n",
+            "minimize COST 0 0\nLIM1 N -inf inf 0 0\nMYG G 0 inf 0 0\nX 0 inf 1 LIM1:1\nY 0 inf 0 MYG:1\n",
+        ),
     ];
     for (right_sides, expected) in cases {
         let text = joined(alloc, &[head, right_sides, "ENDATA\n"])?;
-        assert_eq!(rt; told(alloc, &text)?.as_slice(), expected.as_bytes(), "at {right_sides}");
+        assert_eq!(rt;
+            told(alloc, &text)?.as_slice(),
+            expected.as_bytes(),
+            "at {right_sides}"
+        );
     }
     Ok(())
 }
@@ -363,7 +403,10 @@ const BASE: [&str; 13] = [
 fn tells_the_fault_of_a_line(rt: HostRuntime) -> Result<(), Fail> {
     let alloc = rt.alloc();
     let accepted = "minimize C 0 0\nR L -inf 1 1 0\nX 0 4 1 R:1\nY 0 inf 1\n";
-    assert_eq!(rt; told(alloc, &with_line(alloc, &BASE, 0, "")?)?.as_slice(), accepted.as_bytes());
+    assert_eq!(rt;
+        told(alloc, &with_line(alloc, &BASE, 0, "")?)?.as_slice(),
+        accepted.as_bytes()
+    );
     let changes = [
         (13, "QUADOBJ", "line 13: Quadratic"),
         (13, "SOS", "line 13: Sos"),
@@ -385,7 +428,11 @@ fn tells_the_fault_of_a_line(rt: HostRuntime) -> Result<(), Fail> {
         (12, " UP  B  Z  4", "line 12: UnknownColumn"),
         (12, " UP  B  X  -1e30", "line 12: InfiniteValue"),
         (12, " UP  B  X  4\n UP  B  X  4", "line 13: DuplicateBound"),
-        (12, " UP  B  X  4\nRANGES\n    G  C  1", "line 14: RangeOnFree"),
+        (
+            12,
+            " UP  B  X  4\nRANGES\n    G  C  1",
+            "line 14: RangeOnFree",
+        ),
         (4, " L  C", "line 4: DuplicateRow"),
         (4, " L  \u{7f}R", "line 4: BadByte"),
         (6, "    X  C  1e501", "line 6: ExponentRange"),
@@ -393,7 +440,11 @@ fn tells_the_fault_of_a_line(rt: HostRuntime) -> Result<(), Fail> {
     ];
     for (number, line, expected) in changes {
         let text = with_line(alloc, &BASE, number, line)?;
-        assert_eq!(rt; told(alloc, &text)?.as_slice(), expected.as_bytes(), "at {line}");
+        assert_eq!(rt;
+            told(alloc, &text)?.as_slice(),
+            expected.as_bytes(),
+            "at {line}"
+        );
     }
     Ok(())
 }
@@ -420,7 +471,11 @@ fn tells_faults_of_shorter_files(rt: HostRuntime) -> Result<(), Fail> {
         (" N C\n", "line 1: SectionOrder"),
     ];
     for (text, expected) in cases {
-        assert_eq!(rt; told(alloc, text.as_bytes())?.as_slice(), expected.as_bytes(), "at {text}");
+        assert_eq!(rt;
+            told(alloc, text.as_bytes())?.as_slice(),
+            expected.as_bytes(),
+            "at {text}"
+        );
     }
     Ok(())
 }
@@ -476,7 +531,11 @@ x4 integer 2 3 1 c1:10 c3:-3.5
     ];
     for head in heads {
         let text = joined(alloc, &[head, PRODUCTION])?;
-        assert_eq!(rt; told(alloc, &text)?.as_slice(), model.as_bytes(), "at {head}");
+        assert_eq!(rt;
+            told(alloc, &text)?.as_slice(),
+            model.as_bytes(),
+            "at {head}"
+        );
     }
     let (Ok(greatest), Ok(least)) = (
         read_mps(alloc, &joined(alloc, &[heads[1], PRODUCTION])?),
@@ -516,7 +575,10 @@ DEM G 2.5 inf 2.5 0
 A integer 0 10 3 BAL:1 DEM:1
 B 0 4 1 BAL:-1
 ";
-    assert_eq!(rt; told(rt.alloc(), text.as_bytes())?.as_slice(), model.as_bytes());
+    assert_eq!(rt;
+        told(rt.alloc(), text.as_bytes())?.as_slice(),
+        model.as_bytes()
+    );
     Ok(())
 }
 
@@ -535,6 +597,9 @@ fn takes_comments_up_to_the_limit(rt: HostRuntime) -> Result<(), Fail> {
         longer.extend_from_slice(part.as_bytes())?;
     }
     assert_eq!(rt; told(alloc, &text)?.as_slice(), SMALL_MODEL.as_bytes());
-    assert_eq!(rt; told(alloc, &longer)?.as_slice(), b"line 1: LineTooLong");
+    assert_eq!(rt;
+        told(alloc, &longer)?.as_slice(),
+        "line 1: LineTooLong".as_bytes()
+    );
     Ok(())
 }
