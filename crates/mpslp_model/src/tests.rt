@@ -569,3 +569,26 @@ entry r 1 1
     assert_eq!(rt; outcome(alloc, builder)?.as_slice(), expected.as_slice());
     Ok(())
 }
+
+#[test]
+fn ends_with_default_sides(rt: HostRuntime) -> Result<(), Fail> {
+    let alloc = rt.alloc();
+    let mut builder = Builder::new(alloc);
+    builder.objective(named(alloc, b"f")?)?;
+    builder.row(named(alloc, b"r")?, RowType::AtMost)?;
+    builder.column(named(alloc, b"x")?)?;
+    builder.coefficient(b"r", b"x", number(b"1"))?;
+    builder.rhs(b"r", number(b"4"))?;
+    builder.rhs(b"f", number(b"-5"))?;
+    builder.sense(Sense::Maximize)?;
+    let expected = b"maximize f constant 5 offset -5
+row r L -inf 4 rhs 4 range 0
+column x continuous 0 inf objective 0
+entry r 1 1
+";
+    assert_eq!(rt; outcome(alloc, builder)?.as_slice(), expected.as_slice());
+    let mut alone = Builder::new(alloc);
+    alone.objective(named(alloc, b"f")?)?;
+    assert_eq!(rt; outcome(alloc, alone)?.as_slice(), b"NoColumns".as_slice());
+    Ok(())
+}

@@ -29,14 +29,6 @@ impl Telling {
         self.text.extend_from_slice(self.number.put(value))
     }
 
-    fn put_count(&mut self, count: u64) -> Result<(), AllocError> {
-        if count >= 10 {
-            self.put_count(count / 10)?;
-        }
-        self.text.push(b'0' + (count % 10) as u8)?;
-        Ok(())
-    }
-
     fn put_limit(&mut self, limit: Limit) -> Result<(), AllocError> {
         match limit {
             Limit::MinusInf => self.put(b" -inf"),
@@ -125,8 +117,7 @@ fn told(alloc: Global, text: &[u8]) -> Result<Vec<u8>, AllocError> {
             if fault.line == 0 {
                 telling.put(b"file")?;
             } else {
-                telling.put(b"line ")?;
-                telling.put_count(fault.line)?;
+                telling.put(format!(in alloc; "line {}", fault.line)?.as_bytes())?;
             }
             telling.put(b": ")?;
             telling.put(fault.kind.text().as_bytes())?;
