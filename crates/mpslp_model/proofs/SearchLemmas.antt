@@ -1,6 +1,6 @@
 -- Entries in the order of their keys, searched by halves: those below a key stand before those that are not.
 use Rattle.std.proofs.Common.{◌≡◌, refl, sym, ap, ◌∙◌, ℕ, suc, zero, ◌+◌, ◌<◌, ◌≤◌, List, [], ◌∷◌, Bool, true, false, cond, not, length, arith, get_or}
-use Rattle.std.specs.Prelude.{Option, Some, None, IsTrue, slice_get, ◌&&◌}
+use Rattle.std.specs.Prelude.{Option, Some, None, slice_get, position, nat_lt, ◌&&◌}
 use Rattle.std.specs.List.{position_or_len}
 use Rattle.std.specs.List.Sorted.{IsPartitionedBy, IsPartitionPoint}
 use Rattle.std.specs.Ordering.{is_lt, is_le, is_gt, is_eq, ordering_reverse}
@@ -9,7 +9,8 @@ use Rattle.std.specs.declared.cmp.Ordering.{Ordering}
 use Rattle.std.specs.declared.cmp.Ordering.TheVariants.{Less, Equal, Greater}
 use Rattle.std.specs.FinMap.{find, put, is_sorted}
 use Rattle.std.specs.FinMap.Entries.{below_all, is_sorted-put}
-use Rattle.std.proofs.lemmas.List.Sums.{position_or_len_is}
+use Rattle.std.proofs.lemmas.List.Sums.{position_or_len_is, fails_before_first}
+use Rattle.std.proofs.lemmas.Bool.{lt-ltb, le-ltb}
 use Rattle.std.proofs.lemmas.Option.{slice_get_read, slice_get_past}
 use Rattle.mpslp_model.proofs.PutsLemmas.{true_from, T_from}
 
@@ -34,6 +35,11 @@ le_from : (r : Ordering) → is_gt r ≡ false → is_le r ≡ true
 le_from Less h = refl
 le_from Equal h = refl
 le_from Greater h = cc
+
+not_tied : (r : Ordering) → is_le r ≡ false → is_eq r ≡ false
+not_tied Less h = refl
+not_tied Equal h = cc
+not_tied Greater h = refl
 
 suc_of : (n : ℕ) → 1 + n ≡ suc n
 suc_of n = omega arith
@@ -100,6 +106,31 @@ module _ {K X : Type 0} (R : K → K → Ordering) where
     -- where the place of the key is the end, it is not found
     pub found_nowhere : (k : K) (es : List (K × X)) (i : ℕ) → is_sorted R es ≡ true → i ≡ position_or_len (λ x. is_le (R k x.0)) es → length es ≤ i → find R k es ≡ None
     found_nowhere k es i sorted at past = find_at_place k es sorted ∙ ap (λ (j : ℕ). value_if k (slice_get es j)) (sym at) ∙ ap (value_if k) (slice_get_past es i past)
+
+  -- the number of the entry that has the key
+  pub number_here : (k : K) (es : List (K × X)) (i : ℕ) (e : K × X) → i ≡ position_or_len (λ x. is_le (R k x.0)) es → i < length es → e ≡ get_or es i e → is_eq (R k e.0) ≡ true
+      → position (λ x. is_eq (R k x.0)) es ≡ Some i
+  number_here k es i e at inside here tie =
+      let above : K × X → Bool = λ x. is_le (R k x.0) in
+      let n : position_or_len (λ x. is_eq (R k x.0)) es ≡ i =
+      position_or_len_is (λ x. is_eq (R k x.0)) es i e (omega arith) (λ j below. not_tied (R k (get_or es j e).0) (fails_before_first above es j e (omega arith)))
+      (λ _. ap (λ (x : K × X). is_eq (R k x.0)) (sym here) ∙ tie) in
+      ap (λ (j : ℕ). cond (nat_lt j (length es)) (Some j) None) n ∙ ap (λ (b : Bool). cond b (Some i) None) (lt-ltb i (length es) inside)
+
+  -- what is not found has no number
+  none_tied : (k : K) (es : List (K × X)) → find R k es ≡ None → position_or_len (λ x. is_eq (R k x.0)) es ≡ length es
+  none_tied k [] h = refl
+  none_tied k (e ∷ es) h =
+      elim (R k e.0) as (λ r. cond (is_eq r) (Some e.1) (find R k es) ≡ None → cond (not (is_eq r)) (1 + position_or_len (λ (x : K × X). is_eq (R k x.0)) es) 0 ≡ length (e ∷ es)) [
+        | Less ↦ λ rest. let n = none_tied k es rest in omega arith
+        | Equal ↦ λ same. cc
+        | Greater ↦ λ rest. let n = none_tied k es rest in omega arith
+      ] h
+
+  pub number_nowhere : (k : K) (es : List (K × X)) → find R k es ≡ None → position (λ x. is_eq (R k x.0)) es ≡ None
+  number_nowhere k es h =
+      let n : position_or_len (λ x. is_eq (R k x.0)) es ≡ length es = none_tied k es h in
+      ap (λ (j : ℕ). cond (nat_lt j (length es)) (Some j) None) n ∙ ap (λ (b : Bool). cond b (Some (length es)) None) (le-ltb (length es) (length es) (omega arith))
 
   -- where the entries below the key end is the place of the key
   pub place_from_point : (k : K) (es : List (K × X)) (i : ℕ) → i ≤ length es → IsPartitionPoint (λ e. is_gt (R k e.0) ≡ true) (λ e. is_gt (R k e.0) ≡ false) es i

@@ -1,8 +1,8 @@
 //! Maps, each kept as a vector of its entries in the order of their keys.
 
-ghost use Rattle.std.specs.Prelude.{◌≡◌, ◌<◌, ◌↔◌, [], None, IsOk, IsTrue, OnOk, OnErr, is_some, vec_len, vec_capacity};
+ghost use Rattle.std.specs.Prelude.{◌≡◌, ◌<◌, ◌↔◌, [], None, IsOk, IsTrue, OnOk, OnErr, is_some, position, vec_len, vec_capacity};
 ghost use Rattle.std.specs.Option.{ForSome, option_copied, option_map_or};
-ghost use Rattle.std.specs.Ordering.{is_le};
+ghost use Rattle.std.specs.Ordering.{is_eq, is_le};
 ghost use Rattle.std.specs.Cmp.{IsTotalOrder, then_total, on_total};
 ghost use Rattle.std.specs.Cmp.Lexicographic.{nat_list_cmp_total};
 ghost use Rattle.std.specs.declared.cmp.Ordering.{Ordering};
@@ -141,6 +141,24 @@ fn place_of<K: Key, V, Q: Query<K>>(entries: &[(K, V)], query: &Q) -> usize
     ensures { result ≡ position_or_len (λ entry. is_le (K.cmp (Q.key query.now) entry.0)) entries.now }
 {
     entries.partition_point(|entry| query.compare(&entry.0).is_gt())
+}
+
+/// The number of the entry at a key, if there is one.
+pub(crate) fn number_of_entry<K: Key, V, Q: Query<K>>(
+    entries: &[(K, V)],
+    query: &Q,
+) -> Option<usize>
+    requires { IsTrue (is_sorted K.cmp entries.now) }
+    ensures { result ≡ position (λ entry. is_eq (K.cmp (Q.key query.now) entry.0)) entries.now }
+{
+    let at = place_of(entries, query);
+    if at < entries.len() {
+        let entry = &entries[at];
+        if query.compare(&entry.0).is_eq() {
+            return Some(at);
+        }
+    }
+    None
 }
 
 /// The value at a key, if it has one.
