@@ -1,4 +1,5 @@
 pub mod PutPlaceLemmas
+pub mod SearchLemmas
 pub mod ViewLemmas
 pub mod FoundLemmas
 pub mod SameModels

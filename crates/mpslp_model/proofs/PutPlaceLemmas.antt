@@ -1,8 +1,8 @@
--- A vector of entries in the order of their keys: to insert before the first key above is to put.
+-- A vector of entries in the order of their keys: to insert before the first key that is not below is to put.
 use Rattle.std.proofs.Common.{◌≡◌, refl, sym, ap, ◌∙◌, ℕ, suc, ◌+◌, List, [], ◌∷◌, cond, not, arith}
 use Rattle.std.specs.Prelude.{Some, None, insert}
 use Rattle.std.specs.List.{position_or_len}
-use Rattle.std.specs.Ordering.{is_lt, is_eq}
+use Rattle.std.specs.Ordering.{is_le, is_eq}
 use Rattle.std.specs.declared.cmp.Ordering.{Ordering}
 use Rattle.std.specs.declared.cmp.Ordering.TheVariants.{Less, Equal, Greater}
 use Rattle.std.specs.FinMap.{find, put}
@@ -12,12 +12,12 @@ suc_of : (n : ℕ) → 1 + n ≡ suc n
 suc_of n = omega arith
 
 pub put-insert : {K X : Type 0} (R : K → K → Ordering) (k : K) (v : X) (es : List (K × X)) → find R k es ≡ None
-    → put R k v es ≡ insert es (position_or_len (λ entry. is_lt (R k entry.0)) es) (k, v)
+    → put R k v es ≡ insert es (position_or_len (λ entry. is_le (R k entry.0)) es) (k, v)
 put-insert R k v [] h = refl
 put-insert {K} {X} R k v (e ∷ es) h =
-    let n = position_or_len (λ (entry : K × X). is_lt (R k entry.0)) es in
+    let n = position_or_len (λ (entry : K × X). is_le (R k entry.0)) es in
     elim (R k e.0) as (λ r. cond (is_eq r) (Some e.1) (find R k es) ≡ None
-    → by_order r ((k, v) ∷ e ∷ es) ((e.0, v) ∷ es) (e ∷ put R k v es) ≡ insert (e ∷ es) (cond (not (is_lt r)) (1 + n) 0) (k, v)) [
+    → by_order r ((k, v) ∷ e ∷ es) ((e.0, v) ∷ es) (e ∷ put R k v es) ≡ insert (e ∷ es) (cond (not (is_le r)) (1 + n) 0) (k, v)) [
       | Less ↦ λ _. refl
       | Equal ↦ λ same. cc
       | Greater ↦ λ rest. ap (λ (xs : List (K × X)). e ∷ xs) (put-insert R k v es rest) ∙ ap (λ (i : ℕ). insert (e ∷ es) i (k, v)) (sym (suc_of n))

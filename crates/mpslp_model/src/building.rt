@@ -1,18 +1,16 @@
 //! A builder, to which the parts of a model are declared in any order.
 
-ghost use Rattle.std.specs.Prelude.{◌≡◌, ◌<◌, ◌&&◌, ◌||◌, false, Some, None, IsTrue, IfOk, is_some, vec_len, vec_capacity};
+ghost use Rattle.std.specs.Prelude.{◌≡◌, ◌&&◌, ◌||◌, false, Some, IsTrue, IfOk, is_some};
 ghost use Rattle.std.specs.Option.{ForSome, option_map, option_map_or};
-ghost use Rattle.std.specs.FinMap.{find, put};
 ghost use Rattle.mpslp_decimal.specs.Decimal.{is_infinite_size};
 ghost use Rattle.mpslp_model.specs.Name.{IsMpsName, same_bytes};
-ghost use Rattle.mpslp_model.specs.Model.{bytes_cmp};
 ghost use Rattle.mpslp_model.specs.Sides.{is_plus_infinite, is_minus_infinite};
 ghost use Rattle.mpslp_model.specs.Declaration.{empty_draft, adding, adding_all, declare_sense, declare_objective, declare_row, by_type, declare_range, declare_column, declare_coefficient, declare_right_side, declare_marked, declare_integer, right_side_declared, bounds_declared, is_objective, has_row, has_column, has_name, has_entry, is_free_form, is_free_row, is_limits_form, is_row_by_limits};
 ghost use Rattle.mpslp_model.specs.Refusal.{those_of, refusals, bounds_refusals};
 ghost use Rattle.mpslp_model.specs.Made.{is_given};
 ghost use Rattle.mpslp_model.specs.Answer.{Answers, HasMemory, first_refusal};
 
-use crate::entries::{PlaceAt, Position, find_entry, has_entry, put_entry};
+use crate::entries::{PlaceAt, Position, SortedMap, put_both};
 use crate::faults::BuildFault;
 use crate::kinds::{Limit, RowType, Sense};
 use crate::names::Name;
@@ -89,16 +87,16 @@ pub struct Builder {
     pub(crate) sense: Option<Sense>,
     pub(crate) objective: Option<Name>,
     pub(crate) constant: Option<Decimal>,
-    pub(crate) rows: Vec<(Name, Form)>,
-    pub(crate) right_sides: Vec<(Name, Decimal)>,
-    pub(crate) ranges: Vec<(Name, Decimal)>,
-    pub(crate) columns: Vec<(Name, ())>,
-    pub(crate) coefficients: Vec<(Position, Decimal)>,
-    pub(crate) lowers: Vec<(Name, Limit)>,
-    pub(crate) uppers: Vec<(Name, Limit)>,
-    pub(crate) marked: Vec<(Name, ())>,
-    pub(crate) integers: Vec<(Name, ())>,
-    pub(crate) binaries: Vec<(Name, ())>,
+    pub(crate) rows: SortedMap<Name, Form>,
+    pub(crate) right_sides: SortedMap<Name, Decimal>,
+    pub(crate) ranges: SortedMap<Name, Decimal>,
+    pub(crate) columns: SortedMap<Name, ()>,
+    pub(crate) coefficients: SortedMap<Position, Decimal>,
+    pub(crate) lowers: SortedMap<Name, Limit>,
+    pub(crate) uppers: SortedMap<Name, Limit>,
+    pub(crate) marked: SortedMap<Name, ()>,
+    pub(crate) integers: SortedMap<Name, ()>,
+    pub(crate) binaries: SortedMap<Name, ()>,
 }
 
 impl Model for Builder {
@@ -152,17 +150,6 @@ fn side_entry(
     }
 }
 
-/// Puts a side that is given. There is room for it.
-fn put_side(sides: &mut Vec<(Name, Limit)>, entry: Option<(Name, Limit)>)
-    requires room { vec_len sides.old < vec_capacity sides.old }
-    requires absent { ForSome entry (λ e. find bytes_cmp e.0 sides.old.items ≡ None) }
-    ensures { sides.new.items ≡ option_map_or (λ e. put bytes_cmp e.0 e.1 sides.old.items) entry sides.old.items }
-{
-    if let Some((name, limit)) = entry {
-        let _room = put_entry(sides, name, limit);
-    }
-}
-
 /// Whether the names have the same bytes.
 fn is_same(a: &[u8], b: &[u8]) -> bool
     ensures { result ≡ same_bytes a.now b.now }
@@ -180,16 +167,16 @@ impl Builder {
             sense: None,
             objective: None,
             constant: None,
-            rows: Vec::new(alloc),
-            right_sides: Vec::new(alloc),
-            ranges: Vec::new(alloc),
-            columns: Vec::new(alloc),
-            coefficients: Vec::new(alloc),
-            lowers: Vec::new(alloc),
-            uppers: Vec::new(alloc),
-            marked: Vec::new(alloc),
-            integers: Vec::new(alloc),
-            binaries: Vec::new(alloc),
+            rows: SortedMap::new(alloc),
+            right_sides: SortedMap::new(alloc),
+            ranges: SortedMap::new(alloc),
+            columns: SortedMap::new(alloc),
+            coefficients: SortedMap::new(alloc),
+            lowers: SortedMap::new(alloc),
+            uppers: SortedMap::new(alloc),
+            marked: SortedMap::new(alloc),
+            integers: SortedMap::new(alloc),
+            binaries: SortedMap::new(alloc),
         }
     }
 
@@ -214,21 +201,21 @@ impl Builder {
     pub fn has_row(&self, name: &[u8]) -> bool
         ensures { result ≡ has_row self.now name.now }
     {
-        self.is_objective(name) || has_entry(&self.rows, &name)
+        self.is_objective(name) || self.rows.has(&name)
     }
 
     /// Whether a column of this name is declared.
     pub fn has_column(&self, name: &[u8]) -> bool
         ensures { result ≡ has_column self.now name.now }
     {
-        has_entry(&self.columns, &name)
+        self.columns.has(&name)
     }
 
     /// Whether a row of this name is declared by type N.
     fn is_free_row(&self, name: &[u8]) -> bool
         ensures { result ≡ is_free_row self.now name.now }
     {
-        match find_entry(&self.rows, &name) {
+        match self.rows.find(&name) {
             Some(form) => form.is_free(),
             None => false,
         }
@@ -238,7 +225,7 @@ impl Builder {
     fn is_row_by_limits(&self, name: &[u8]) -> bool
         ensures { result ≡ is_row_by_limits self.now name.now }
     {
-        match find_entry(&self.rows, &name) {
+        match self.rows.find(&name) {
             Some(form) => form.has_limits(),
             None => false,
         }
@@ -255,7 +242,7 @@ impl Builder {
     fn has_right_side(&self, row: &[u8]) -> bool
         ensures { result ≡ (has_name self.now.right_sides row.now || (is_row_by_limits self.now row.now || (is_objective self.now row.now && is_some self.now.constant))) }
     {
-        has_entry(&self.right_sides, &row)
+        self.right_sides.has(&row)
             || (self.is_row_by_limits(row) || (self.is_objective(row) && self.constant.is_some()))
     }
 
@@ -263,7 +250,7 @@ impl Builder {
     fn has_range(&self, row: &[u8]) -> bool
         ensures { result ≡ (has_name self.now.ranges row.now || is_row_by_limits self.now row.now) }
     {
-        has_entry(&self.ranges, &row) || self.is_row_by_limits(row)
+        self.ranges.has(&row) || self.is_row_by_limits(row)
     }
 
     /// Whether this is the objective or a row of type N.
@@ -277,29 +264,29 @@ impl Builder {
     fn has_coefficient(&self, row: &[u8], column: &[u8]) -> bool
         ensures { result ≡ has_entry self.now (record { row = row.now; column = column.now }) }
     {
-        has_entry(&self.coefficients, &PlaceAt { row, column })
+        self.coefficients.has(&PlaceAt { row, column })
     }
 
     /// Whether a side that is given is declared already.
     fn has_side(&self, column: &[u8], lower: &Option<Limit>, upper: &Option<Limit>) -> bool
         ensures { result ≡ ((is_some lower.now && has_name self.now.lowers column.now) || (is_some upper.now && has_name self.now.uppers column.now)) }
     {
-        (lower.is_some() && has_entry(&self.lowers, &column))
-            || (upper.is_some() && has_entry(&self.uppers, &column))
+        (lower.is_some() && self.lowers.has(&column))
+            || (upper.is_some() && self.uppers.has(&column))
     }
 
     /// Whether a column of this name is declared as marked.
     fn is_marked(&self, column: &[u8]) -> bool
         ensures { result ≡ has_name self.now.marked column.now }
     {
-        has_entry(&self.marked, &column)
+        self.marked.has(&column)
     }
 
     /// Whether a column of this name is declared as integer.
     fn is_integer(&self, column: &[u8]) -> bool
         ensures { result ≡ has_name self.now.integers column.now }
     {
-        has_entry(&self.integers, &column)
+        self.integers.has(&column)
     }
 
     /// Declares the sense. If it is never declared, the objective is minimized.
@@ -342,7 +329,7 @@ impl Builder {
         ensures { Answers (refusals self.old (declare_row name (by_type row_type))) result (self.new ≡ adding self.old (declare_row name (by_type row_type))) (self.new ≡ self.old) }
     {
         refuse(&[(self.has_row(name.as_bytes()), BuildFault::DuplicateRow)])?;
-        put_entry(&mut self.rows, name, Form::of_type(row_type))?;
+        self.rows.put(name, Form::of_type(row_type))?;
         Ok(())
     }
 
@@ -364,7 +351,7 @@ impl Builder {
         }
         let name = Name::copied(self.alloc, row)?;
         each_value_is_a_decimal(value);
-        put_entry(&mut self.right_sides, name, value)?;
+        self.right_sides.put(name, value)?;
         Ok(())
     }
 
@@ -386,7 +373,7 @@ impl Builder {
         ])?;
         let name = Name::copied(self.alloc, row)?;
         each_value_is_a_decimal(value);
-        put_entry(&mut self.ranges, name, value)?;
+        self.ranges.put(name, value)?;
         Ok(())
     }
 
@@ -401,7 +388,7 @@ impl Builder {
         if self.has_column(name.as_bytes()) {
             return Ok(());
         }
-        put_entry(&mut self.columns, name, ())?;
+        self.columns.put(name, ())?;
         Ok(())
     }
 
@@ -430,11 +417,8 @@ impl Builder {
         let row_name = Name::copied(self.alloc, row)?;
         let column_name = Name::copied(self.alloc, column)?;
         each_value_is_a_decimal(value);
-        put_entry(
-            &mut self.coefficients,
-            Position::new(row_name, column_name),
-            value,
-        )?;
+        self.coefficients
+            .put(Position::new(row_name, column_name), value)?;
         Ok(())
     }
 
@@ -469,10 +453,7 @@ impl Builder {
         ])?;
         let lower = side_entry(self.alloc, column, lower)?;
         let upper = side_entry(self.alloc, column, upper)?;
-        self.lowers.reserve(1)?;
-        self.uppers.reserve(1)?;
-        put_side(&mut self.lowers, lower);
-        put_side(&mut self.uppers, upper);
+        put_both(&mut self.lowers, lower, &mut self.uppers, upper)?;
         Ok(())
     }
 
@@ -490,7 +471,7 @@ impl Builder {
             return Ok(());
         }
         let name = Name::copied(self.alloc, column)?;
-        put_entry(&mut self.marked, name, ())?;
+        self.marked.put(name, ())?;
         Ok(())
     }
 
@@ -507,7 +488,7 @@ impl Builder {
             return Ok(());
         }
         let name = Name::copied(self.alloc, column)?;
-        put_entry(&mut self.integers, name, ())?;
+        self.integers.put(name, ())?;
         Ok(())
     }
 }

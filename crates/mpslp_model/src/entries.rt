@@ -1,43 +1,60 @@
 //! Maps, each kept as a vector of its entries in the order of their keys.
 
-ghost use Rattle.std.specs.Prelude.{◌≡◌, ◌<◌, None, IsOk, OnOk, OnErr, is_some, vec_len, vec_capacity};
-ghost use Rattle.std.specs.Option.{option_copied};
-ghost use Rattle.std.specs.Ordering.{is_lt};
+ghost use Rattle.std.specs.Prelude.{◌≡◌, ◌<◌, ◌↔◌, [], None, IsOk, IsTrue, OnOk, OnErr, is_some, position, vec_len, vec_capacity};
+ghost use Rattle.std.specs.Option.{ForSome, option_copied, option_map_or};
+ghost use Rattle.std.specs.Ordering.{is_eq, is_le};
+ghost use Rattle.std.specs.Cmp.{IsTotalOrder, then_total, on_total};
+ghost use Rattle.std.specs.Cmp.Lexicographic.{nat_list_cmp_total};
 ghost use Rattle.std.specs.declared.cmp.Ordering.{Ordering};
 ghost use Rattle.std.specs.List.{position_or_len};
-ghost use Rattle.std.specs.FinMap.{find, put};
-ghost use Rattle.mpslp_model.specs.Model.{bytes_cmp, place_cmp};
+ghost use Rattle.std.specs.FinMap.{find, put, is_sorted};
+ghost use Rattle.mpslp_model.specs.Model.{Place, bytes_cmp, place_cmp};
 
 use crate::names::Name;
-use std::alloc::AllocError;
+use std::alloc::{AllocError, Global};
 use std::cmp::Ordering;
 use std::marker::Model;
 
-/// What is looked for among keys: a key, or what a key is compared with and need not own.
-pub(crate) trait Query<K> {
-    ghost key: { Self → K };
+/// A key of a map. Keys have a total order.
+pub(crate) trait Key {
+    ghost cmp: { Self → Self → Ordering };
 
-    ghost cmp: { K → K → Ordering };
+    /// How this key stands to another one.
+    fn compare_keys(&self, other: &Self) -> Ordering
+        ensures { result ≡ cmp self.now other.now };
+
+    ghost total: { IsTotalOrder cmp };
+}
+
+/// What is looked for among keys: a key, or what a key is compared with and need not own.
+pub(crate) trait Query<K: Key> {
+    ghost key: { Self → K };
 
     /// How the key that is looked for stands to another one.
     fn compare(&self, other: &K) -> Ordering
-        ensures { result ≡ cmp (key self.now) other.now };
+        ensures { result ≡ K.cmp (key self.now) other.now };
 }
 
-impl Query<Name> for Name {
-    ghost key = { λ name. name };
+impl<K: Key> Query<K> for K {
+    ghost key = { λ key. key };
 
+    fn compare(&self, other: &K) -> Ordering {
+        self.compare_keys(other)
+    }
+}
+
+impl Key for Name {
     ghost cmp = { bytes_cmp };
 
-    fn compare(&self, other: &Name) -> Ordering {
+    ghost total = { nat_list_cmp_total };
+
+    fn compare_keys(&self, other: &Name) -> Ordering {
         self.as_bytes().cmp(other.as_bytes())
     }
 }
 
 impl<'a> Query<Name> for &'a [u8] {
     ghost key = { λ bytes. bytes.now };
-
-    ghost cmp = { bytes_cmp };
 
     fn compare(&self, other: &Name) -> Ordering {
         (*self).cmp(other.as_bytes())
@@ -93,12 +110,12 @@ fn compare_places(row: &[u8], column: &[u8], other: &Position) -> Ordering
     rows.then(columns)
 }
 
-impl Query<Position> for Position {
-    ghost key = { λ place. place };
-
+impl Key for Position {
     ghost cmp = { place_cmp };
 
-    fn compare(&self, other: &Position) -> Ordering {
+    ghost total = { then_total (on_total (λ (p : Place). p.row) nat_list_cmp_total) (on_total (λ (p : Place). p.column) nat_list_cmp_total) };
+
+    fn compare_keys(&self, other: &Position) -> Ordering {
         compare_places(self.row().as_bytes(), self.column().as_bytes(), other)
     }
 }
@@ -113,18 +130,48 @@ pub(crate) struct PlaceAt<'a> {
 impl<'a> Query<Position> for PlaceAt<'a> {
     ghost key = { λ place. record { row = place.row.now; column = place.column.now } };
 
-    ghost cmp = { place_cmp };
-
     fn compare(&self, other: &Position) -> Ordering {
         compare_places(self.row, self.column, other)
     }
 }
 
-/// The value at a key, if it has one.
-pub(crate) fn find_entry<'a, K, V, Q: Query<K>>(entries: &'a [(K, V)], query: &Q) -> Option<&'a V>
-    ensures { option_copied result ≡ find Q.cmp (Q.key query.now) entries.now }
+/// The place of the first entry that is not below the key.
+fn place_of<K: Key, V, Q: Query<K>>(entries: &[(K, V)], query: &Q) -> usize
+    requires { IsTrue (is_sorted K.cmp entries.now) }
+    ensures { result ≡ position_or_len (λ entry. is_le (K.cmp (Q.key query.now) entry.0)) entries.now }
 {
-    for entry in entries {
+    entries.partition_point(|entry| query.compare(&entry.0).is_gt())
+}
+
+/// The number of the entry at a key, if there is one.
+pub(crate) fn number_of_entry<K: Key, V, Q: Query<K>>(
+    entries: &[(K, V)],
+    query: &Q,
+) -> Option<usize>
+    requires { IsTrue (is_sorted K.cmp entries.now) }
+    ensures { result ≡ position (λ entry. is_eq (K.cmp (Q.key query.now) entry.0)) entries.now }
+{
+    let at = place_of(entries, query);
+    if at < entries.len() {
+        let entry = &entries[at];
+        if query.compare(&entry.0).is_eq() {
+            return Some(at);
+        }
+    }
+    None
+}
+
+/// The value at a key, if it has one.
+pub(crate) fn find_entry<'a, K: Key, V, Q: Query<K>>(
+    entries: &'a [(K, V)],
+    query: &Q,
+) -> Option<&'a V>
+    requires { IsTrue (is_sorted K.cmp entries.now) }
+    ensures { option_copied result ≡ find K.cmp (Q.key query.now) entries.now }
+{
+    let at = place_of(entries, query);
+    if at < entries.len() {
+        let entry = &entries[at];
         if query.compare(&entry.0).is_eq() {
             return Some(&entry.1);
         }
@@ -132,38 +179,128 @@ pub(crate) fn find_entry<'a, K, V, Q: Query<K>>(entries: &'a [(K, V)], query: &Q
     None
 }
 
-/// Whether there is an entry at a key.
-pub(crate) fn has_entry<K, V, Q: Query<K>>(entries: &[(K, V)], query: &Q) -> bool
-    ensures { result ≡ is_some (find Q.cmp (Q.key query.now) entries.now) }
-{
-    find_entry(entries, query).is_some()
-}
-
-/// The place of the first entry above the key.
-fn place_of<K, V, Q: Query<K>>(entries: &[(K, V)], query: &Q) -> usize
-    ensures { result ≡ position_or_len (λ entry. is_lt (Q.cmp (Q.key query.now) entry.0)) entries.now }
-{
-    for (i, entry) in entries.iter().enumerate() {
-        if query.compare(&entry.0).is_lt() {
-            return i;
-        }
-    }
-    entries.len()
-}
-
 /// Puts an entry in its place. No entry at its key is there. It takes memory only where the vector is full.
-pub(crate) fn put_entry<K: Query<K> + Drop, V: Drop>(
+fn put_entry<K: Key + Drop, V: Drop>(
     entries: &mut Vec<(K, V)>,
     key: K,
     value: V,
 ) -> Result<(), AllocError>
-    requires itself { K.key key ≡ key }
+    requires sorted { IsTrue (is_sorted K.cmp entries.old.items) }
     requires absent { find K.cmp key entries.old.items ≡ None }
     ensures ok { OnOk result (entries.new.items ≡ put K.cmp key value entries.old.items) }
     ensures err { OnErr result (entries.new.items ≡ entries.old.items) }
+    ensures sorted { IsTrue (is_sorted K.cmp entries.new.items) }
     ensures room { vec_len entries.old < vec_capacity entries.old → IsOk result }
 {
     let at = place_of(entries, &key);
     entries.insert(at, (key, value))?;
+    Ok(())
+}
+
+/// A map, kept as a vector of its entries in the order of their keys. Contracts see the list of its entries.
+#[derive(Debug, Drop)]
+pub(crate) struct SortedMap<K: Key, V> {
+    entries: Vec<(K, V)>,
+}
+
+impl<K: Key, V> Model for SortedMap<K, V> {
+    ghost use Rattle.std.specs.Prelude.{List, IsTrue};
+    ghost use Rattle.std.specs.FinMap.{is_sorted};
+
+    ghost Value = { List (K × V) };
+
+    ghost view = { λ m. m.entries.items };
+
+    ghost invariant = { λ m. IsTrue (is_sorted K.cmp m.entries.items) };
+}
+
+impl<K: Key, V> SortedMap<K, V> {
+    /// A map with no entry.
+    pub(crate) fn new(alloc: Global) -> SortedMap<K, V>
+        ensures { result ≡ [] }
+    {
+        SortedMap {
+            entries: Vec::new(alloc),
+        }
+    }
+
+    /// The entries in the order of their keys.
+    pub(crate) fn as_slice(&self) -> &[(K, V)]
+        ensures { result.now ≡ self.now }
+    {
+        &self.entries
+    }
+
+    /// The entries, taken out of the map.
+    pub(crate) fn into_entries(self) -> Vec<(K, V)>
+        ensures { result.items ≡ self }
+    {
+        self.entries
+    }
+
+    /// Whether there is no entry.
+    pub(crate) fn is_empty(&self) -> bool
+        ensures { IsTrue result ↔ self.now ≡ [] }
+    {
+        self.entries.is_empty()
+    }
+
+    /// The value at a key, if it has one.
+    pub(crate) fn find<Q: Query<K>>(&self, query: &Q) -> Option<&V>
+        ensures { option_copied result ≡ find K.cmp (Q.key query.now) self.now }
+    {
+        find_entry(&self.entries, query)
+    }
+
+    /// Whether there is an entry at a key.
+    pub(crate) fn has<Q: Query<K>>(&self, query: &Q) -> bool
+        ensures { result ≡ is_some (find K.cmp (Q.key query.now) self.now) }
+    {
+        self.find(query).is_some()
+    }
+}
+
+impl<K: Key + Drop, V: Drop> SortedMap<K, V> {
+    /// Puts an entry. There is none at its key.
+    pub(crate) fn put(&mut self, key: K, value: V) -> Result<(), AllocError>
+        requires { find K.cmp key self.old ≡ None }
+        ensures ok { OnOk result (self.new ≡ put K.cmp key value self.old) }
+        ensures err { OnErr result (self.new ≡ self.old) }
+    {
+        put_entry(&mut self.entries, key, value)
+    }
+}
+
+/// Puts an entry that is given. There is none at its key, and there is room for it.
+fn put_given<K: Key + Drop, V: Drop>(entries: &mut Vec<(K, V)>, entry: Option<(K, V)>)
+    requires sorted { IsTrue (is_sorted K.cmp entries.old.items) }
+    requires absent { ForSome entry (λ e. find K.cmp e.0 entries.old.items ≡ None) }
+    requires room { vec_len entries.old < vec_capacity entries.old }
+    ensures sorted { IsTrue (is_sorted K.cmp entries.new.items) }
+    ensures given { entries.new.items ≡ option_map_or (λ e. put K.cmp e.0 e.1 entries.old.items) entry entries.old.items }
+{
+    if let Some((key, value)) = entry {
+        let _room = put_entry(entries, key, value);
+    }
+}
+
+/// Puts into each of two maps the entry that is given for it, or into neither where there is no memory for both. There
+/// is no entry at its key.
+pub(crate) fn put_both<K: Key + Drop, V: Drop>(
+    first: &mut SortedMap<K, V>,
+    first_entry: Option<(K, V)>,
+    second: &mut SortedMap<K, V>,
+    second_entry: Option<(K, V)>,
+) -> Result<(), AllocError>
+    requires first_absent { ForSome first_entry (λ e. find K.cmp e.0 first.old ≡ None) }
+    requires second_absent { ForSome second_entry (λ e. find K.cmp e.0 second.old ≡ None) }
+    ensures first { OnOk result (first.new ≡ option_map_or (λ e. put K.cmp e.0 e.1 first.old) first_entry first.old) }
+    ensures second { OnOk result (second.new ≡ option_map_or (λ e. put K.cmp e.0 e.1 second.old) second_entry second.old) }
+    ensures err { OnErr result ((first.new ≡ first.old) × (second.new ≡ second.old)) }
+{
+    first.entries.reserve(1)?;
+    second.entries.reserve(1)?;
+    put_given(&mut first.entries, first_entry);
+    put_given(&mut second.entries, second_entry);
     Ok(())
 }

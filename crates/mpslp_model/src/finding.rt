@@ -10,7 +10,7 @@ ghost use Rattle.mpslp_model.specs.Meaning.{file_fault, head_of};
 ghost use Rattle.mpslp_model.specs.FaultFound.{columns_alone, row_test, column_test, kind_of_row_fault, kind_of_column_fault, named, told, IsThere};
 
 use crate::building::{Builder, Form};
-use crate::entries::{find_entry, has_entry};
+use crate::entries::SortedMap;
 use crate::kinds::{Kind, Limit};
 use crate::limits::{RowFault, is_at_most, row_has};
 use crate::linear::ColumnBounds;
@@ -30,30 +30,30 @@ pub(crate) enum ColumnFault {
 }
 
 /// The right side of this name, and 0 where none is declared.
-pub(crate) fn right_side_of(right_sides: &[(Name, Decimal)], row: &[u8]) -> Decimal
+pub(crate) fn right_side_of(right_sides: &SortedMap<Name, Decimal>, row: &[u8]) -> Decimal
     ensures { result ≡ unwrap_or (at_name right_sides.now row.now) zero_number }
 {
-    match find_entry(right_sides, &row) {
+    match right_sides.find(&row) {
         Some(value) => *value,
         None => Decimal::zero(),
     }
 }
 
 /// The range of this name.
-pub(crate) fn range_of(ranges: &[(Name, Decimal)], row: &[u8]) -> Option<Decimal>
+pub(crate) fn range_of(ranges: &SortedMap<Name, Decimal>, row: &[u8]) -> Option<Decimal>
     ensures { result ≡ at_name ranges.now row.now }
 {
-    match find_entry(ranges, &row) {
+    match ranges.find(&row) {
         Some(value) => Some(*value),
         None => None,
     }
 }
 
 /// The side of this name.
-fn side_of(sides: &[(Name, Limit)], column: &[u8]) -> Option<Limit>
+fn side_of(sides: &SortedMap<Name, Limit>, column: &[u8]) -> Option<Limit>
     ensures { result ≡ at_name sides.now column.now }
 {
-    match find_entry(sides, &column) {
+    match sides.find(&column) {
         Some(side) => Some(*side),
         None => None,
     }
@@ -63,8 +63,8 @@ fn side_of(sides: &[(Name, Limit)], column: &[u8]) -> Option<Limit>
 fn first_row(
     fault: RowFault,
     rows: &[(Name, Form)],
-    right_sides: &[(Name, Decimal)],
-    ranges: &[(Name, Decimal)],
+    right_sides: &SortedMap<Name, Decimal>,
+    ranges: &SortedMap<Name, Decimal>,
 ) -> Option<usize>
     ensures { result ≡ position (λ row. row_test fault row.1 (unwrap_or (at_name right_sides.now row.0) zero_number) (at_name ranges.now row.0)) rows.now }
 {
@@ -92,11 +92,11 @@ fn one() -> Decimal
 /// What is declared of columns, seen as the draft that has these declarations alone.
 #[derive(Drop)]
 pub(crate) struct ColumnParts<'a> {
-    pub(crate) lowers: &'a [(Name, Limit)],
-    pub(crate) uppers: &'a [(Name, Limit)],
-    pub(crate) marked: &'a [(Name, ())],
-    pub(crate) integers: &'a [(Name, ())],
-    pub(crate) binaries: &'a [(Name, ())],
+    pub(crate) lowers: &'a SortedMap<Name, Limit>,
+    pub(crate) uppers: &'a SortedMap<Name, Limit>,
+    pub(crate) marked: &'a SortedMap<Name, ()>,
+    pub(crate) integers: &'a SortedMap<Name, ()>,
+    pub(crate) binaries: &'a SortedMap<Name, ()>,
 }
 
 impl<'a> Model for ColumnParts<'a> {
@@ -119,21 +119,21 @@ impl<'a> ColumnParts<'a> {
     fn is_marked(&self, column: &[u8]) -> bool
         ensures { result ≡ has_name self.now.marked column.now }
     {
-        has_entry(self.marked, &column)
+        self.marked.has(&column)
     }
 
     /// Whether the column is declared as integer.
     fn is_integer(&self, column: &[u8]) -> bool
         ensures { result ≡ has_name self.now.integers column.now }
     {
-        has_entry(self.integers, &column)
+        self.integers.has(&column)
     }
 
     /// Whether the column is declared as binary.
     fn is_binary(&self, column: &[u8]) -> bool
         ensures { result ≡ has_name self.now.binaries column.now }
     {
-        has_entry(self.binaries, &column)
+        self.binaries.has(&column)
     }
 
     /// Whether the column takes whole numbers alone.
@@ -273,7 +273,12 @@ impl Builder {
         ensures there { ForSome result (IsThere self.now) }
     {
         for fault in faults {
-            let found = first_row(*fault, &self.rows, &self.right_sides, &self.ranges);
+            let found = first_row(
+                *fault,
+                self.rows.as_slice(),
+                &self.right_sides,
+                &self.ranges,
+            );
             if let Some(at) = found {
                 return Some(FoundFault::Row(*fault, at));
             }
@@ -288,7 +293,7 @@ impl Builder {
     {
         let parts = self.column_parts();
         for fault in faults {
-            if let Some(at) = first_column(&parts, *fault, &self.columns) {
+            if let Some(at) = first_column(&parts, *fault, self.columns.as_slice()) {
                 return Some(FoundFault::Column(*fault, at));
             }
         }

@@ -12,7 +12,7 @@ ghost use Rattle.mpslp_model.specs.FaultFound.{kind_of_row_fault, kind_of_column
 ghost use Rattle.mpslp_model.specs.Finish.{Finishes};
 
 use crate::building::{Builder, Form, FormKind};
-use crate::entries::Position;
+use crate::entries::{Position, SortedMap};
 use crate::faults::{Fault, FaultKind, ReadFault};
 use crate::finding::{ColumnFault, ColumnParts, FoundFault, range_of, right_side_of};
 use crate::kinds::{Limit, RowType, Sense};
@@ -78,8 +78,8 @@ fn limits_or_none(form: FormKind, right_side: Decimal, range: Option<Decimal>) -
 fn with_limits(
     alloc: Global,
     rows: Vec<(Name, Form)>,
-    right_sides: &[(Name, Decimal)],
-    ranges: &[(Name, Decimal)],
+    right_sides: &SortedMap<Name, Decimal>,
+    ranges: &SortedMap<Name, Decimal>,
 ) -> Result<Vec<(Name, RowLimits)>, AllocError>
     ensures { IfOk result (λ limited. limited.items ≡ map (λ row. (row.0, unwrap_or (limits_of row.1 (unwrap_or (at_name right_sides.now row.0) zero_number) (at_name ranges.now row.0)) (plain_limits types.Free zero_number))) rows.items) }
 {
@@ -122,7 +122,7 @@ fn without_zeros(coefficients: Vec<(Position, Decimal)>) -> Vec<(Position, Decim
 /// The constant of the objective, or else the negative of its right side.
 fn constant_of(
     constant: Option<Decimal>,
-    right_sides: &[(Name, Decimal)],
+    right_sides: &SortedMap<Name, Decimal>,
     objective: &[u8],
 ) -> Decimal
     ensures { result ≡ unwrap_or constant (negated (unwrap_or (at_name right_sides.now objective.now) zero_number)) }
@@ -143,11 +143,11 @@ impl Builder {
             FoundFault::NoColumns => whole_fault(FaultKind::NoColumns, None),
             FoundFault::Row(fault, at) => {
                 let kind = kind_of_row_fault(fault);
-                whole_fault(kind, Some(name_out_of(self.rows, at)))
+                whole_fault(kind, Some(name_out_of(self.rows.into_entries(), at)))
             }
             FoundFault::Column(fault, at) => {
                 let kind = kind_of_column_fault(fault);
-                whole_fault(kind, Some(name_out_of(self.columns, at)))
+                whole_fault(kind, Some(name_out_of(self.columns.into_entries(), at)))
             }
         }
     }
@@ -187,9 +187,9 @@ impl Builder {
             sense: sense.unwrap_or(Sense::Minimize),
             objective,
             constant,
-            rows: with_limits(alloc, rows, &right_sides, &ranges)?,
-            columns: with_bounds(alloc, columns, &parts)?,
-            coefficients: without_zeros(coefficients),
+            rows: with_limits(alloc, rows.into_entries(), &right_sides, &ranges)?,
+            columns: with_bounds(alloc, columns.into_entries(), &parts)?,
+            coefficients: without_zeros(coefficients.into_entries()),
         })
     }
 

@@ -1,17 +1,17 @@
 //! Models, and what is asked of them.
 
-ghost use Rattle.std.specs.Prelude.{◌≡◌, ◌<◌, ◌&&◌, not, Some, length, position, filter, slice_get, unwrap_or, if◌then◌else◌};
+ghost use Rattle.std.specs.Prelude.{◌≡◌, ◌<◌, ◌&&◌, not, IsTrue, Some, length, position, filter, slice_get, unwrap_or, if◌then◌else◌};
 ghost use Rattle.std.specs.Option.{option_copied, option_map};
 ghost use Rattle.mpslp_decimal.specs.Decimal.{negated, zero_number, decimal_cmp, difference_of};
 ghost use Rattle.std.specs.Bool.{Decides};
 ghost use Rattle.std.specs.Ordering.{is_eq};
-ghost use Rattle.std.specs.List.{position_or_len};
+ghost use Rattle.std.specs.FinMap.{is_sorted};
 ghost use Rattle.mpslp_model.specs.Name.{same_bytes};
-ghost use Rattle.mpslp_model.specs.Model.{IsSound};
+ghost use Rattle.mpslp_model.specs.Model.{IsSound, bytes_cmp};
 ghost use Rattle.mpslp_model.specs.Same.{same_number, same_limit, same_kind, IsSameObjective};
 ghost use Rattle.mpslp_model.specs.Views.{row_names, column_names, rows_of, columns_of, num_rows, num_columns, num_elements, row_name, column_name, row_index, column_index, row_sense, right_hand_side, row_range, is_integer_column, coefficient_at, column_elements, numbered_elements};
 
-use crate::entries::{PlaceAt, Position, find_entry};
+use crate::entries::{PlaceAt, Position, find_entry, number_of_entry};
 use crate::kinds::{Kind, Limit, Sense};
 use crate::names::Name;
 use mpslp_decimal::Decimal;
@@ -183,28 +183,12 @@ fn entry_at<X>(entries: &[(Name, X)], i: usize) -> &(Name, X)
     &entries[i]
 }
 
-/// How many entries stand before that of this name, if it is there.
-fn place_of_name<X>(entries: &[(Name, X)], name: &[u8]) -> usize
-    ensures { result ≡ position_or_len (λ entry. same_bytes name.now entry.0) entries.now }
-{
-    for (i, entry) in entries.iter().enumerate() {
-        if name == entry.0.as_bytes() {
-            return i;
-        }
-    }
-    entries.len()
-}
-
-/// The number of the entry of this name.
+/// The number of the entry of this name. Entries stand in the order of their names.
 fn index_of<X>(entries: &[(Name, X)], name: &[u8]) -> Option<usize>
+    requires { IsTrue (is_sorted bytes_cmp entries.now) }
     ensures { result ≡ position (λ entry. same_bytes name.now entry.0) entries.now }
 {
-    let place = place_of_name(entries, name);
-    if place < entries.len() {
-        Some(place)
-    } else {
-        None
-    }
+    number_of_entry(entries, &name)
 }
 
 /// Whether the coefficient is a row's, where the objective has this name.

@@ -36,24 +36,31 @@ side_entry-requires-2 c =
     column_is_legal all c.args.column.now (made_now c.self.view_is c.self.invariant) (known_column all c.args.column.now more
     (none_holds (bounds_tests all c.args.column.now c.args.lower c.args.upper) (λ i. (not (c.has_column.ensures i), UnknownColumn) ∷ (c.has_side.ensures i, DuplicateBound) ∷ (c.have_infinite_side.ensures i, InfiniteValue) ∷ []) c.in_ok-refuse.ensures))
 
-pub put_side-requires-2-clause-absent : goal.put_side-requires-2-clause-absent
-put_side-requires-2-clause-absent c =
+pub put_both-requires-clause-first_absent : goal.put_both-requires-clause-first_absent
+put_both-requires-clause-first_absent c =
+    let all = c.args.self.now in
+    let column = c.args.column.now in
+    let none = none_holds (bounds_tests all column c.args.lower c.args.upper) (λ i. (not (c.has_column.ensures i), UnknownColumn) ∷ (c.has_side.ensures i, DuplicateBound) ∷ (c.have_infinite_side.ensures i, InfiniteValue) ∷ []) c.in_ok-refuse.ensures in
+    let absent = ap (λ (d : Draft). is_some c.args.lower && has_name d.lowers column) c.self.view_is ∙ (no_side all column c.args.lower c.args.upper none).0 in
+    λ e is. side_absent column c.args.lower c.self.inside.lowers e absent (sym c.in_ok-lower.ensures ∙ is)
+
+pub put_both-requires-clause-second_absent : goal.put_both-requires-clause-second_absent
+put_both-requires-clause-second_absent c =
     let all = c.args.self.now in
     let column = c.args.column.now in
     let none = none_holds (bounds_tests all column c.args.lower c.args.upper) (λ i. (not (c.has_column.ensures i), UnknownColumn) ∷ (c.has_side.ensures i, DuplicateBound) ∷ (c.have_infinite_side.ensures i, InfiniteValue) ∷ []) c.in_ok-refuse.ensures in
     let absent = ap (λ (d : Draft). is_some c.args.upper && has_name d.uppers column) c.self.view_is ∙ (no_side all column c.args.lower c.args.upper none).1 in
-    λ e is. subst (λ (es : List (List ℕ × Limit)). find bytes_cmp e.0 es ≡ None) (sym c.reserve-2.ensures.items)
-    (side_absent column c.args.upper c.self.inside.uppers.items e absent (sym c.in_ok-upper.ensures ∙ is))
+    λ e is. side_absent column c.args.upper c.self.inside.uppers e absent (sym c.in_ok-upper.ensures ∙ is)
 
 pub invariant_of-self-2 : goal.invariant_of-self-2
 invariant_of-self-2 c =
     let all = c.args.self.now in
     let column = c.args.column.now in
     let none = none_holds (bounds_tests all column c.args.lower c.args.upper) (λ i. (not (c.has_column.ensures i), UnknownColumn) ∷ (c.has_side.ensures i, DuplicateBound) ∷ (c.have_infinite_side.ensures i, InfiniteValue) ∷ []) c.in_ok-refuse.ensures in
-    let lowers : c.put_side.new.sides.items ≡ put_in (entry_of column c.args.lower) c.self.inside.lowers.items =
-    c.put_side.ensures ∙ (λ i. put_in (c.in_ok-lower.ensures i) (c.reserve.ensures.items i)) in
-    let uppers : c.put_side-2.new.sides.items ≡ put_in (entry_of column c.args.upper) c.self.inside.uppers.items =
-    c.put_side-2.ensures ∙ (λ i. put_in (c.in_ok-upper.ensures i) (c.reserve-2.ensures.items i)) in
-    let seen : ◌≡◌ {A = Draft} (with_sides (draft c.self.inside) column c.args.lower c.args.upper) (record (draft c.self.inside) { lowers = c.put_side.new.sides.items; uppers = c.put_side-2.new.sides.items }) =
+    let lowers : c.put_both.new.first ≡ put_in (entry_of column c.args.lower) c.self.inside.lowers =
+    c.in_ok-put_both.ensures.first ∙ (λ i. put_in (c.in_ok-lower.ensures i) c.self.inside.lowers) in
+    let uppers : c.put_both.new.second ≡ put_in (entry_of column c.args.upper) c.self.inside.uppers =
+    c.in_ok-put_both.ensures.second ∙ (λ i. put_in (c.in_ok-upper.ensures i) c.self.inside.uppers) in
+    let seen : ◌≡◌ {A = Draft} (with_sides (draft c.self.inside) column c.args.lower c.args.upper) (record (draft c.self.inside) { lowers = c.put_both.new.first; uppers = c.put_both.new.second }) =
     λ i. record (draft c.self.inside) { lowers = sym lowers i; uppers = sym uppers i } in
     subst IsMade seen (made_sides column c.args.lower c.args.upper c.self.view_is c.self.invariant c.requires.lower c.requires.upper none)

@@ -40,5 +40,5 @@ invariant_of-self-2 c =
     let place : ◌≡◌ {A = Place} c.new.result (record { row = c.args.row.now; column = c.args.column.now }) =
     c.new.ensures ∙ (λ i. record { row = c.in_ok-row_name.ensures i; column = c.in_ok-column_name.ensures i }) in
     subst (λ (coefficients : List (Place × Number)). IsMade (record (draft c.self.inside) { coefficients = coefficients }))
-    (sym (c.in_ok-put_entry.ensures.ok ∙ ap (λ (p : Place). put place_cmp p c.args.value c.self.inside.coefficients.items) place))
+    (sym (c.in_ok-put.ensures.ok ∙ ap (λ (p : Place). put place_cmp p c.args.value c.self.inside.coefficients) place))
     (made_next d c.self.view_is c.self.invariant c.each_value_is_a_decimal.ensures none)

@@ -20,5 +20,5 @@ returns-then-has_column c =
 
 pub invariant_of-self-2 : goal.invariant_of-self-2
 invariant_of-self-2 c =
-    subst (λ (columns : List (List ℕ × Unit {0})). IsMade (record (draft c.self.inside) { columns = columns })) (sym c.in_ok-put_entry.ensures.ok)
+    subst (λ (columns : List (List ℕ × Unit {0})). IsMade (record (draft c.self.inside) { columns = columns })) (sym c.in_ok-put.ensures.ok)
     (made_next (declare_column c.args.name) c.self.view_is c.self.invariant (ap is_mps_name (sym c.name.view_is) ∙ c.name.invariant) refl)

@@ -11,7 +11,7 @@ use Rattle.mpslp_model.proofs.building.Builder.first_fault_of_columns.Goals as g
 pub returns-in-Some-clause-fault : goal.returns-in-Some-clause-fault
 returns-in-Some-clause-fault c =
     let all = c.args.self.now in
-    let columns = c.deref.ensures.value ∙ ap (λ (d : Draft). d.columns) c.self.view_is in
+    let columns = c.as_slice.ensures ∙ ap (λ (d : Draft). d.columns) c.self.view_is in
     let fault = slice_index_or c.args.faults.now c.loop-fault.fault-index NegativeUpper in
     let at = sym (c.first_column.ensures ∙ (λ i. position (λ column. column_test fault (c.column_parts-parts.ensures i) column.0) (columns i))
     ∙ ap (λ (test : List ℕ → Bool). position (λ column. test column.0) all.columns) (columns_suffice all fault)) in
@@ -21,7 +21,7 @@ returns-in-Some-clause-fault c =
 pub loop-fault-preserved : goal.loop-fault-preserved
 loop-fault-preserved c =
     let all = c.args.self.now in
-    let columns = c.deref.ensures.value ∙ ap (λ (d : Draft). d.columns) c.self.view_is in
+    let columns = c.as_slice.ensures ∙ ap (λ (d : Draft). d.columns) c.self.view_is in
     let fault = slice_index_or c.args.faults.now c.loop-fault.fault-index NegativeUpper in
     let at = sym (c.first_column.ensures ∙ (λ i. position (λ column. column_test fault (c.column_parts-parts.ensures i) column.0) (columns i))
     ∙ ap (λ (test : List ℕ → Bool). position (λ column. test column.0) all.columns) (columns_suffice all fault)) in

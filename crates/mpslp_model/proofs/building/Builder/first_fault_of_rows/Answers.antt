@@ -12,9 +12,9 @@ use Rattle.mpslp_model.proofs.building.Builder.first_fault_of_rows.Goals as goal
 pub returns-in-Some-clause-fault : goal.returns-in-Some-clause-fault
 returns-in-Some-clause-fault c =
     let all = c.args.self.now in
-    let rows = c.deref.ensures.value ∙ ap (λ (d : Draft). d.rows) c.self.view_is in
-    let right_sides = c.deref-in-loop-fault.ensures.value ∙ ap (λ (d : Draft). d.right_sides) c.self.view_is in
-    let ranges = c.deref-in-loop-fault-2.ensures.value ∙ ap (λ (d : Draft). d.ranges) c.self.view_is in
+    let rows = c.as_slice.ensures ∙ ap (λ (d : Draft). d.rows) c.self.view_is in
+    let right_sides = ap (λ (d : Draft). d.right_sides) c.self.view_is in
+    let ranges = ap (λ (d : Draft). d.ranges) c.self.view_is in
     let fault = slice_index_or c.args.faults.now c.loop-fault.fault-index InfiniteLimit in
     let at = sym (c.first_row-found.ensures ∙ (λ i. position (λ row. row_test fault row.1 (unwrap_or (at_name (right_sides i) row.0) zero_number) (at_name (ranges i) row.0)) (rows i))) in
     sym (first_left (λ (f : RowFault). named all (kind_of_row_fault f)) c.args.faults.now c.loop-fault.fault-index InfiniteLimit (told all (Row fault c.in-Some.at)) c.loop-fault-test.true
@@ -23,9 +23,9 @@ returns-in-Some-clause-fault c =
 pub loop-fault-preserved : goal.loop-fault-preserved
 loop-fault-preserved c =
     let all = c.args.self.now in
-    let rows = c.deref.ensures.value ∙ ap (λ (d : Draft). d.rows) c.self.view_is in
-    let right_sides = c.deref-in-loop-fault.ensures.value ∙ ap (λ (d : Draft). d.right_sides) c.self.view_is in
-    let ranges = c.deref-in-loop-fault-2.ensures.value ∙ ap (λ (d : Draft). d.ranges) c.self.view_is in
+    let rows = c.as_slice.ensures ∙ ap (λ (d : Draft). d.rows) c.self.view_is in
+    let right_sides = ap (λ (d : Draft). d.right_sides) c.self.view_is in
+    let ranges = ap (λ (d : Draft). d.ranges) c.self.view_is in
     let fault = slice_index_or c.args.faults.now c.loop-fault.fault-index InfiniteLimit in
     let at = sym (c.first_row-found.ensures ∙ (λ i. position (λ row. row_test fault row.1 (unwrap_or (at_name (right_sides i) row.0) zero_number) (at_name (ranges i) row.0)) (rows i))) in
     next_left (λ (f : RowFault). named all (kind_of_row_fault f)) c.args.faults.now c.loop-fault.fault-index InfiniteLimit c.loop-fault-test.true (no_row_found all fault (at ∙ c.in_default.is)) ∙ c.loop-fault.invariant

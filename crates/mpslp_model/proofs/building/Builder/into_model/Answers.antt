@@ -4,6 +4,7 @@ use Rattle.mpslp_decimal.specs.Decimal.{Number, zero_number, is_zero, negated}
 use Rattle.mpslp_model.specs.Model.{Place}
 use Rattle.mpslp_model.specs.Declaration.{RowForm, Draft, at_name, empty_draft}
 use Rattle.mpslp_model.specs.Limits.{limits_of, plain_limits}
+use Rattle.mpslp_model.specs.BuilderDraft.{draft}
 use Rattle.mpslp_model.specs.Bounds.{column_of}
 use Rattle.mpslp_model.specs.Meaning.{objective_name, constant_of}
 use Rattle.mpslp_model.specs.FaultFound.{columns_alone}
@@ -19,18 +20,17 @@ parts : (c : goal.After-without_zeros)
     (record { sense = c.unwrap_or.result; objective = c.unwrap-objective.result; constant = c.constant_of-constant.result; rows = c.in_ok-with_limits.field-0; columns = c.in_ok-with_bounds.field-0; coefficients = c.without_zeros.result })
 parts c =
     let objective = ap (λ (o : Option (List ℕ)). unwrap_or o []) (sym c.unwrap-objective.ensures) ∙ ap objective_name c.self.view_is in
-    let right_sides = c.deref-6.ensures.value ∙ ap (λ (d : Draft). d.right_sides) c.self.view_is in
-    let sides = c.deref-7.ensures.value ∙ ap (λ (d : Draft). d.right_sides) c.self.view_is in
-    let ranges = c.deref-8.ensures.value ∙ ap (λ (d : Draft). d.ranges) c.self.view_is in
     record {
       sense = c.unwrap_or.ensures ∙ ap (λ (d : Draft). unwrap_or d.sense Minimize) c.self.view_is;
       objective = objective;
-      constant = c.constant_of-constant.ensures ∙ (λ i. unwrap_or (c.self.view_is i).constant (negated (unwrap_or (at_name (right_sides i) ((c.as_bytes.ensures ∙ objective) i)) zero_number)));
-      rows = c.in_ok-with_limits.ensures ∙ (λ i. map (λ (row : List ℕ × RowForm). (row.0, unwrap_or (limits_of row.1 (unwrap_or (at_name (sides i) row.0) zero_number) (at_name (ranges i) row.0)) (plain_limits Free zero_number))) (c.self.view_is i).rows);
+      constant = c.constant_of-constant.ensures ∙ (λ i. unwrap_or (c.self.view_is i).constant (negated (unwrap_or (at_name (c.self.view_is i).right_sides ((c.as_bytes.ensures ∙ objective) i)) zero_number)));
+      rows = c.in_ok-with_limits.ensures
+          ∙ ap (λ (rows : List (List ℕ × RowForm)). map (λ (row : List ℕ × RowForm). (row.0, unwrap_or (limits_of row.1 (unwrap_or (at_name c.self.inside.right_sides row.0) zero_number) (at_name c.self.inside.ranges row.0)) (plain_limits Free zero_number))) rows) c.into_entries.ensures
+          ∙ ap (λ (d : Draft). map (λ (row : List ℕ × RowForm). (row.0, unwrap_or (limits_of row.1 (unwrap_or (at_name d.right_sides row.0) zero_number) (at_name d.ranges row.0)) (plain_limits Free zero_number))) d.rows) c.self.view_is;
       columns = c.in_ok-with_bounds.ensures
-          ∙ (λ i. map (λ (column : List ℕ × Unit {0}). (column.0, column_of (record empty_draft { lowers = c.deref.ensures.value i; uppers = c.deref-2.ensures.value i; marked = c.deref-3.ensures.value i; integers = c.deref-4.ensures.value i; binaries = c.deref-5.ensures.value i }) column.0)) c.self.inside.columns.items)
-          ∙ ap (λ (d : Draft). map (λ (column : List ℕ × Unit {0}). (column.0, column_of d column.0)) d.columns) c.self.view_is;
-      coefficients = c.without_zeros.ensures ∙ ap (λ (d : Draft). filter (λ (entry : Place × Number). not (is_zero entry.1)) d.coefficients) c.self.view_is;
+          ∙ ap (λ (columns : List (List ℕ × Unit {0})). map (λ (column : List ℕ × Unit {0}). (column.0, column_of (columns_alone (draft c.self.inside)) column.0)) columns) c.into_entries-2.ensures
+          ∙ ap (λ (d : Draft). map (λ (column : List ℕ × Unit {0}). (column.0, column_of (columns_alone d) column.0)) d.columns) c.self.view_is;
+      coefficients = c.without_zeros.ensures ∙ ap (λ (coefficients : List (Place × Number)). filter (λ (entry : Place × Number). not (is_zero entry.1)) coefficients) c.into_entries-3.ensures ∙ ap (λ (d : Draft). filter (λ (entry : Place × Number). not (is_zero entry.1)) d.coefficients) c.self.view_is;
     }
 
 pub invariant_of-result : goal.invariant_of-result

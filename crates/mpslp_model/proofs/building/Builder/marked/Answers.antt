@@ -32,5 +32,5 @@ invariant_of-self-2 c =
     let d = declare_marked c.args.column.now in
     let none = none_holds (refusal_tests c.args.self.now d) (λ i. (not (c.has_column.ensures i), UnknownColumn) ∷ []) c.in_ok-refuse.ensures in
     subst (λ (names : List (List ℕ × Unit {0})). IsMade (record (draft c.self.inside) { marked = names }))
-    (sym (c.in_ok-put_entry.ensures.ok ∙ ap (λ (n : List ℕ). put bytes_cmp n tt c.self.inside.marked.items) c.in_ok-name.ensures))
+    (sym (c.in_ok-put.ensures.ok ∙ ap (λ (n : List ℕ). put bytes_cmp n tt c.self.inside.marked) c.in_ok-name.ensures))
     (made_next d c.self.view_is c.self.invariant refl none)

@@ -29,6 +29,6 @@ pub invariant_of-self-2 : goal.invariant_of-self-2
 invariant_of-self-2 c =
     let d = declare_range c.args.row.now c.args.value in
     subst (λ (ranges : List (List ℕ × Number)). IsMade (record (draft c.self.inside) { ranges = ranges }))
-    (sym (c.in_ok-put_entry.ensures.ok ∙ ap (λ (n : List ℕ). put bytes_cmp n c.args.value c.self.inside.ranges.items) c.in_ok-name.ensures))
+    (sym (c.in_ok-put.ensures.ok ∙ ap (λ (n : List ℕ). put bytes_cmp n c.args.value c.self.inside.ranges) c.in_ok-name.ensures))
     (made_next d c.self.view_is c.self.invariant c.each_value_is_a_decimal.ensures
     (none_holds (refusal_tests c.args.self.now d) (λ i. (not (c.has_row.ensures i), UnknownRow) ∷ (c.has_range.ensures i, DuplicateRange) ∷ (c.has_no_sides.ensures i, RangeOnFree) ∷ (c.is_infinite_size.ensures i, InfiniteValue) ∷ []) c.in_ok-refuse.ensures))

@@ -29,6 +29,6 @@ pub invariant_of-self-2 : goal.invariant_of-self-2
 invariant_of-self-2 c =
     let d = declare_right_side c.args.row.now c.args.value in
     subst (λ (right_sides : List (List ℕ × Number)). IsMade (record (draft c.self.inside) { right_sides = right_sides }))
-    (sym (c.in_ok-put_entry.ensures.ok ∙ ap (λ (n : List ℕ). put bytes_cmp n c.args.value c.self.inside.right_sides.items) c.in_ok-name.ensures))
+    (sym (c.in_ok-put.ensures.ok ∙ ap (λ (n : List ℕ). put bytes_cmp n c.args.value c.self.inside.right_sides) c.in_ok-name.ensures))
     (made_next d c.self.view_is c.self.invariant c.each_value_is_a_decimal.ensures
     (none_holds (refusal_tests c.args.self.now d) (λ i. (not (c.has_row.ensures i), UnknownRow) ∷ (c.has_right_side.ensures i, DuplicateRhs) ∷ []) c.in_ok-refuse.ensures))
