@@ -3,180 +3,101 @@
 ghost use Rattle.std.specs.Prelude.{IsTrue};
 ghost use Rattle.mpslp_model.specs.Made.{is_given};
 
-use crate::{
-    BuildFault, Builder, Fault, FaultKind, Limit, Model, Name, NameFault, ReadFault, RowType, Sense,
-};
+use crate::{BuildFault, Builder, FaultKind, Limit, Model, Name, ReadFault, RowType, Sense};
 use mpslp_decimal::{Decimal, DecimalText};
 use std::alloc::{AllocError, Global};
 use std::cmp::Ordering;
 use std::test::Fail;
 
 /// The decimal that a text spells.
-fn number(text: &[u8]) -> Decimal {
-    match Decimal::parse(text) {
+fn number(text: &str) -> Decimal {
+    match Decimal::parse(text.as_bytes()) {
         Ok(value) => value,
         Err(_) => Decimal::zero(),
     }
 }
 
 /// The side that a text spells.
-fn side(text: &[u8]) -> Limit
+fn side(text: &str) -> Limit
     ensures { IsTrue (is_given result) }
 {
     Limit::of(number(text))
 }
 
-#[test]
-fn answers_in_order(rt: HostRuntime) -> Result<(), Fail> {
-    let alloc = rt.alloc();
-    let one = number(b"1".as_slice());
+/// A name that is one.
+fn named(alloc: Global, text: &str) -> Result<Name, BuildFault> {
+    match Name::new(alloc, text.as_bytes()) {
+        Ok(name) => Ok(name),
+        Err(_) => Err(BuildFault::OutOfMemory),
+    }
+}
+
+/// A call of the builder, with names and numbers by their texts.
+#[derive(Clone, Copy)]
+enum Call<'a> {
+    Sense(Sense),
+    Objective(&'a str),
+    Row(&'a str, RowType),
+    Rhs(&'a str, &'a str),
+    Range(&'a str, &'a str),
+    Column(&'a str),
+    Coefficient(&'a str, &'a str, &'a str),
+    NoBounds(&'a str),
+    Lower(&'a str, &'a str),
+    Upper(&'a str, &'a str),
+    Bounds(&'a str, &'a str, &'a str),
+    Marked(&'a str),
+    Integer(&'a str),
+}
+
+/// Makes a call that names a row.
+fn call_of_row(builder: &mut Builder, alloc: Global, call: Call<'_>) -> Result<(), BuildFault> {
+    match call {
+        Call::Objective(name) => builder.objective(named(alloc, name)?),
+        Call::Row(name, row_type) => builder.row(named(alloc, name)?, row_type),
+        Call::Rhs(row, value) => builder.rhs(row.as_bytes(), number(value)),
+        Call::Range(row, value) => builder.range(row.as_bytes(), number(value)),
+        Call::Coefficient(row, column, value) => {
+            builder.coefficient(row.as_bytes(), column.as_bytes(), number(value))
+        }
+        _ => Ok(()),
+    }
+}
+
+/// Makes a call of bounds.
+fn call_of_bounds(builder: &mut Builder, call: Call<'_>) -> Result<(), BuildFault> {
+    match call {
+        Call::NoBounds(column) => builder.bounds(column.as_bytes(), None, None),
+        Call::Lower(column, value) => builder.bounds(column.as_bytes(), Some(side(value)), None),
+        Call::Upper(column, value) => builder.bounds(column.as_bytes(), None, Some(side(value))),
+        Call::Bounds(column, lower, upper) => {
+            builder.bounds(column.as_bytes(), Some(side(lower)), Some(side(upper)))
+        }
+        _ => Ok(()),
+    }
+}
+
+/// Makes a call.
+fn call_of(builder: &mut Builder, alloc: Global, call: Call<'_>) -> Result<(), BuildFault> {
+    match call {
+        Call::Sense(sense) => builder.sense(sense),
+        Call::Column(name) => builder.column(named(alloc, name)?),
+        Call::Marked(column) => builder.marked(column.as_bytes()),
+        Call::Integer(column) => builder.integer(column.as_bytes()),
+        Call::NoBounds(_) | Call::Lower(..) | Call::Upper(..) | Call::Bounds(..) => {
+            call_of_bounds(builder, call)
+        }
+        _ => call_of_row(builder, alloc, call),
+    }
+}
+
+/// The builder after these calls, of which none is refused.
+fn built(alloc: Global, calls: &[Call<'_>]) -> Result<Builder, BuildFault> {
     let mut builder = Builder::new(alloc);
-    assert_eq!(rt; builder.has_objective(), false);
-    assert_eq!(rt;
-        builder.objective(Name::new(alloc, b"f".as_slice())?),
-        Ok(())
-    );
-    assert_eq!(rt;
-        builder.objective(Name::new(alloc, b"g".as_slice())?),
-        Err(BuildFault::SecondObjective)
-    );
-    assert_eq!(rt; builder.has_objective(), true);
-    assert_eq!(rt;
-        builder.row(Name::new(alloc, b"f".as_slice())?, RowType::AtMost),
-        Err(BuildFault::DuplicateRow)
-    );
-    assert_eq!(rt;
-        builder.row(Name::new(alloc, b"r".as_slice())?, RowType::AtMost),
-        Ok(())
-    );
-    assert_eq!(rt; builder.has_row(b"r".as_slice()), true);
-    assert_eq!(rt; builder.has_row(b"f".as_slice()), true);
-    assert_eq!(rt; builder.has_row(b"x".as_slice()), false);
-    assert_eq!(rt; builder.column(Name::new(alloc, b"x".as_slice())?), Ok(()));
-    assert_eq!(rt; builder.column(Name::new(alloc, b"x".as_slice())?), Ok(()));
-    assert_eq!(rt; builder.has_column(b"x".as_slice()), true);
-    assert_eq!(rt; builder.has_column(b"r".as_slice()), false);
-    assert_eq!(rt;
-        builder.coefficient(b"q".as_slice(), b"x".as_slice(), one),
-        Err(BuildFault::UnknownRow)
-    );
-    assert_eq!(rt;
-        builder.coefficient(b"r".as_slice(), b"y".as_slice(), one),
-        Err(BuildFault::UnknownColumn)
-    );
-    assert_eq!(rt;
-        builder.coefficient(b"r".as_slice(), b"x".as_slice(), one),
-        Ok(())
-    );
-    assert_eq!(rt;
-        builder.coefficient(b"r".as_slice(), b"x".as_slice(), one),
-        Err(BuildFault::DuplicateEntry)
-    );
-    assert_eq!(rt;
-        builder.rhs(b"r".as_slice(), number(b"4".as_slice())),
-        Ok(())
-    );
-    assert_eq!(rt;
-        builder.rhs(b"r".as_slice(), number(b"4".as_slice())),
-        Err(BuildFault::DuplicateRhs)
-    );
-    assert_eq!(rt;
-        builder.rhs(b"f".as_slice(), number(b"-5".as_slice())),
-        Ok(())
-    );
-    assert_eq!(rt;
-        builder.rhs(b"f".as_slice(), number(b"-5".as_slice())),
-        Err(BuildFault::DuplicateRhs)
-    );
-    assert_eq!(rt;
-        builder.range(b"f".as_slice(), one),
-        Err(BuildFault::RangeOnFree)
-    );
-    assert_eq!(rt;
-        builder.range(b"r".as_slice(), number(b"1e20".as_slice())),
-        Err(BuildFault::InfiniteValue)
-    );
-    assert_eq!(rt;
-        builder.range(b"r".as_slice(), number(b"-2".as_slice())),
-        Ok(())
-    );
-    assert_eq!(rt;
-        builder.range(b"r".as_slice(), number(b"-2".as_slice())),
-        Err(BuildFault::DuplicateRange)
-    );
-    assert_eq!(rt;
-        builder.bounds(b"x".as_slice(), Some(Limit::MinusInf), None),
-        Ok(())
-    );
-    assert_eq!(rt;
-        builder.bounds(
-            b"x".as_slice(),
-            Some(side(b"0".as_slice())),
-            Some(side(b"1".as_slice()))
-        ),
-        Err(BuildFault::DuplicateBound)
-    );
-    assert_eq!(rt; builder.bounds(b"x".as_slice(), None, None), Ok(()));
-    assert_eq!(rt;
-        builder.bounds(b"y".as_slice(), None, None),
-        Err(BuildFault::UnknownColumn)
-    );
-    assert_eq!(rt;
-        builder.bounds(b"x".as_slice(), None, Some(Limit::MinusInf)),
-        Err(BuildFault::InfiniteValue)
-    );
-    assert_eq!(rt; builder.marked(b"x".as_slice()), Ok(()));
-    assert_eq!(rt; builder.marked(b"x".as_slice()), Ok(()));
-    assert_eq!(rt; builder.integer(b"x".as_slice()), Ok(()));
-    assert_eq!(rt;
-        builder.integer(b"y".as_slice()),
-        Err(BuildFault::UnknownColumn)
-    );
-    assert_eq!(rt; builder.sense(Sense::Maximize), Ok(()));
-    assert_eq!(rt;
-        builder.sense(Sense::Maximize),
-        Err(BuildFault::DuplicateSense)
-    );
-    Ok(())
-}
-
-#[test]
-fn free_rows_take_any_right_side(rt: HostRuntime) -> Result<(), Fail> {
-    let alloc = rt.alloc();
-    let one = number(b"1".as_slice());
-    let mut builder = Builder::new(alloc);
-    assert_eq!(rt;
-        builder.row(Name::new(alloc, b"r".as_slice())?, RowType::Free),
-        Ok(())
-    );
-    assert_eq!(rt; builder.rhs(b"r".as_slice(), one), Ok(()));
-    assert_eq!(rt; builder.rhs(b"r".as_slice(), one), Ok(()));
-    assert_eq!(rt;
-        builder.range(b"r".as_slice(), one),
-        Err(BuildFault::RangeOnFree)
-    );
-    Ok(())
-}
-
-#[test]
-fn orders_names_and_sides(rt: HostRuntime) -> Result<(), Fail> {
-    let alloc = rt.alloc();
-    let short = Name::new(alloc, b"x1".as_slice())?;
-    let long = Name::new(alloc, b"x10".as_slice())?;
-    assert_eq!(rt; short.cmp(&long), Ordering::Less);
-    assert_eq!(rt; short == long, false);
-    assert_eq!(rt; Limit::MinusInf < side(b"-5".as_slice()), true);
-    assert_eq!(rt; side(b"-5".as_slice()) < side(b"3e-2".as_slice()), true);
-    assert_eq!(rt; side(b"7".as_slice()) < Limit::PlusInf, true);
-    assert_eq!(rt; side(b"-1e20".as_slice()), Limit::MinusInf);
-    assert_eq!(rt; side(b"1e20".as_slice()), Limit::PlusInf);
-    Ok(())
-}
-
-#[test]
-fn tells_kinds_by_name(rt: HostRuntime) {
-    assert_eq!(rt; FaultKind::LineTooLong.text(), "LineTooLong");
-    assert_eq!(rt; FaultKind::BinaryBounds.text(), "BinaryBounds");
+    for call in calls {
+        call_of(&mut builder, alloc, *call)?;
+    }
+    Ok(builder)
 }
 
 /// What a builder answers at its end.
@@ -188,19 +109,11 @@ fn finished(builder: Builder) -> Option<Result<Model, ReadFault>> {
     }
 }
 
-/// The model of a builder that has one.
-fn model_of(builder: Builder) -> Option<Model> {
-    match finished(builder) {
-        Some(Ok(model)) => Some(model),
-        _ => None,
-    }
-}
-
-/// The fault of a builder that has one.
-fn fault_of(builder: Builder) -> Option<Fault> {
-    match finished(builder) {
-        Some(Err(ReadFault::File(fault))) => Some(fault),
-        _ => None,
+/// The model of these calls.
+fn model_of(alloc: Global, calls: &[Call<'_>]) -> Result<Option<Model>, BuildFault> {
+    match finished(built(alloc, calls)?) {
+        Some(Ok(model)) => Ok(Some(model)),
+        _ => Ok(None),
     }
 }
 
@@ -307,35 +220,153 @@ fn views_of(alloc: Global, model: &Model) -> Result<Vec<u8>, AllocError> {
     Ok(shown.text)
 }
 
-/// Cost, a limit and a demand, by calls.
-fn small(alloc: Global) -> Result<Builder, BuildFault> {
-    let mut builder = Builder::new(alloc);
-    builder.objective(named(alloc, b"COST")?)?;
-    builder.row(named(alloc, b"LIM1")?, RowType::AtMost)?;
-    builder.row(named(alloc, b"MYG")?, RowType::AtLeast)?;
-    builder.column(named(alloc, b"X")?)?;
-    builder.coefficient(b"COST", b"X", number(b"1.0"))?;
-    builder.coefficient(b"LIM1", b"X", number(b"1"))?;
-    builder.column(named(alloc, b"Y")?)?;
-    builder.coefficient(b"COST", b"Y", number(b"2"))?;
-    builder.coefficient(b"MYG", b"Y", number(b"1.50"))?;
-    builder.rhs(b"LIM1", number(b"4"))?;
-    builder.rhs(b"MYG", number(b"1"))?;
-    Ok(builder)
-}
-
-/// A name that is one.
-fn named(alloc: Global, bytes: &[u8]) -> Result<Name, BuildFault> {
-    match Name::new(alloc, bytes) {
-        Ok(name) => Ok(name),
-        Err(_) => Err(BuildFault::OutOfMemory),
+/// The views of the model of these calls; of calls without one the name of the fault, and the name that it is told of.
+fn outcome(alloc: Global, calls: &[Call<'_>]) -> Result<Vec<u8>, BuildFault> {
+    match finished(built(alloc, calls)?) {
+        Some(Ok(model)) => Ok(views_of(alloc, &model)?),
+        Some(Err(ReadFault::File(fault))) => {
+            let mut text = fault.kind.text().as_bytes().to_vec(alloc)?;
+            if let Some(name) = &fault.name {
+                text.extend_from_slice(b" ".as_slice())?;
+                text.extend_from_slice(name.as_bytes())?;
+            }
+            Ok(text)
+        }
+        _ => Ok(Vec::new(alloc)),
     }
 }
+
+/// Whether the words stand in the text.
+fn tells(text: &[u8], words: &str) -> bool {
+    text.windows(words.len().max(1))
+        .any(|part| part == words.as_bytes())
+}
+
+#[test]
+fn answers_in_order(rt: HostRuntime) -> Result<(), Fail> {
+    let alloc = rt.alloc();
+    let mut builder = Builder::new(alloc);
+    assert_eq!(rt; builder.has_objective(), false);
+    let answers = [
+        (Call::Objective("f"), Ok(())),
+        (Call::Objective("g"), Err(BuildFault::SecondObjective)),
+        (
+            Call::Row("f", RowType::AtMost),
+            Err(BuildFault::DuplicateRow),
+        ),
+        (Call::Row("r", RowType::AtMost), Ok(())),
+        (Call::Column("x"), Ok(())),
+        (Call::Column("x"), Ok(())),
+        (
+            Call::Coefficient("q", "x", "1"),
+            Err(BuildFault::UnknownRow),
+        ),
+        (
+            Call::Coefficient("r", "y", "1"),
+            Err(BuildFault::UnknownColumn),
+        ),
+        (Call::Coefficient("r", "x", "1"), Ok(())),
+        (
+            Call::Coefficient("r", "x", "1"),
+            Err(BuildFault::DuplicateEntry),
+        ),
+        (Call::Rhs("q", "4"), Err(BuildFault::UnknownRow)),
+        (Call::Rhs("r", "4"), Ok(())),
+        (Call::Rhs("r", "4"), Err(BuildFault::DuplicateRhs)),
+        (Call::Rhs("f", "-5"), Ok(())),
+        (Call::Rhs("f", "-5"), Err(BuildFault::DuplicateRhs)),
+        (Call::Range("f", "1"), Err(BuildFault::RangeOnFree)),
+        (Call::Range("r", "1e20"), Err(BuildFault::InfiniteValue)),
+        (Call::Range("r", "-2"), Ok(())),
+        (Call::Range("r", "-2"), Err(BuildFault::DuplicateRange)),
+        (Call::Lower("x", "-1e20"), Ok(())),
+        (Call::Bounds("x", "0", "1"), Err(BuildFault::DuplicateBound)),
+        (Call::NoBounds("x"), Ok(())),
+        (Call::NoBounds("y"), Err(BuildFault::UnknownColumn)),
+        (Call::Upper("x", "-1e20"), Err(BuildFault::InfiniteValue)),
+        (Call::Marked("x"), Ok(())),
+        (Call::Marked("x"), Ok(())),
+        (Call::Integer("x"), Ok(())),
+        (Call::Integer("y"), Err(BuildFault::UnknownColumn)),
+        (Call::Sense(Sense::Maximize), Ok(())),
+        (
+            Call::Sense(Sense::Maximize),
+            Err(BuildFault::DuplicateSense),
+        ),
+        (Call::Row("n", RowType::Free), Ok(())),
+        (Call::Rhs("n", "1"), Ok(())),
+        (Call::Rhs("n", "1"), Ok(())),
+        (Call::Range("n", "1"), Err(BuildFault::RangeOnFree)),
+    ];
+    for (call, answer) in answers {
+        assert_eq!(rt; call_of(&mut builder, alloc, call), answer);
+    }
+    assert_eq!(rt; builder.has_objective(), true);
+    assert_eq!(rt; builder.has_row(b"r".as_slice()), true);
+    assert_eq!(rt; builder.has_row(b"f".as_slice()), true);
+    assert_eq!(rt; builder.has_row(b"x".as_slice()), false);
+    assert_eq!(rt; builder.has_column(b"x".as_slice()), true);
+    assert_eq!(rt; builder.has_column(b"r".as_slice()), false);
+    Ok(())
+}
+
+#[test]
+fn orders_names_and_sides(rt: HostRuntime) -> Result<(), Fail> {
+    let alloc = rt.alloc();
+    let short = Name::new(alloc, b"x1".as_slice())?;
+    let long = Name::new(alloc, b"x10".as_slice())?;
+    assert_eq!(rt; short.cmp(&long), Ordering::Less);
+    assert_eq!(rt; short == long, false);
+    assert_eq!(rt; Limit::MinusInf < side("-5"), true);
+    assert_eq!(rt; side("-5") < side("3e-2"), true);
+    assert_eq!(rt; side("7") < Limit::PlusInf, true);
+    assert_eq!(rt; side("-1e20"), Limit::MinusInf);
+    assert_eq!(rt; side("1e20"), Limit::PlusInf);
+    Ok(())
+}
+
+#[test]
+fn tells_kinds_by_name(rt: HostRuntime) {
+    assert_eq!(rt; FaultKind::LineTooLong.text(), "LineTooLong");
+    assert_eq!(rt; FaultKind::BinaryBounds.text(), "BinaryBounds");
+}
+
+/// Cost, a limit and a demand.
+const SMALL: [Call<'static>; 11] = [
+    Call::Objective("COST"),
+    Call::Row("LIM1", RowType::AtMost),
+    Call::Row("MYG", RowType::AtLeast),
+    Call::Column("X"),
+    Call::Coefficient("COST", "X", "1.0"),
+    Call::Coefficient("LIM1", "X", "1"),
+    Call::Column("Y"),
+    Call::Coefficient("COST", "Y", "2"),
+    Call::Coefficient("MYG", "Y", "1.50"),
+    Call::Rhs("LIM1", "4"),
+    Call::Rhs("MYG", "1"),
+];
+
+/// The same in another order, with other spellings and a zero.
+const TURNED: [Call<'static>; 13] = [
+    Call::Column("Y"),
+    Call::Column("X"),
+    Call::Row("MYG", RowType::AtLeast),
+    Call::Row("LIM1", RowType::AtMost),
+    Call::Rhs("MYG", "1"),
+    Call::Rhs("LIM1", "4.0"),
+    Call::Objective("COST"),
+    Call::Coefficient("MYG", "Y", "15e-1"),
+    Call::Coefficient("LIM1", "Y", "0"),
+    Call::Coefficient("LIM1", "X", "1"),
+    Call::Coefficient("COST", "Y", "2"),
+    Call::Coefficient("COST", "X", "1"),
+    Call::Sense(Sense::Minimize),
+];
 
 #[test]
 fn shows_a_model_built_by_calls(rt: HostRuntime) -> Result<(), Fail> {
     let alloc = rt.alloc();
-    let Some(model) = model_of(small(alloc)?) else {
+    let Some(model) = model_of(alloc, &SMALL)? else {
         assert!(rt; false);
         return Ok(());
     };
@@ -356,239 +387,170 @@ entry MYG 1.5 1.5
     Ok(())
 }
 
-/// A builder with the objective C, a row of this type, a right side, a range and the column X.
-fn one_row(
-    alloc: Global,
-    row_type: RowType,
-    right_side: &[u8],
-    range: Option<&[u8]>,
-) -> Result<Builder, BuildFault> {
-    let mut builder = Builder::new(alloc);
-    builder.objective(named(alloc, b"C")?)?;
-    builder.row(named(alloc, b"R")?, row_type)?;
-    if let Some(range) = range {
-        builder.range(b"R", number(range))?;
-    }
-    builder.rhs(b"R", number(right_side))?;
-    builder.column(named(alloc, b"X")?)?;
-    Ok(builder)
-}
-
-/// A builder with the objective C and the column X with these sides.
-fn one_column(
-    alloc: Global,
-    lower: Option<&[u8]>,
-    upper: Option<&[u8]>,
-) -> Result<Builder, BuildFault> {
-    let mut builder = Builder::new(alloc);
-    builder.objective(named(alloc, b"C")?)?;
-    builder.column(named(alloc, b"X")?)?;
-    if let Some(lower) = lower {
-        builder.bounds(b"X", Some(side(lower)), None)?;
-    }
-    if let Some(upper) = upper {
-        builder.bounds(b"X", None, Some(side(upper)))?;
-    }
-    Ok(builder)
-}
-
-/// The views of the builder's model; of a builder without one the name of its fault, and the name it is told of.
-fn outcome(alloc: Global, builder: Builder) -> Result<Vec<u8>, AllocError> {
-    match finished(builder) {
-        Some(Ok(model)) => views_of(alloc, &model),
-        Some(Err(ReadFault::File(fault))) => {
-            let mut text = fault.kind.text().as_bytes().to_vec(alloc)?;
-            if let Some(name) = &fault.name {
-                text.extend_from_slice(b" ".as_slice())?;
-                text.extend_from_slice(name.as_bytes())?;
-            }
-            Ok(text)
-        }
-        _ => Ok(Vec::new(alloc)),
-    }
-}
-
-#[test]
-fn limits_rows_by_type_right_side_and_range(rt: HostRuntime) -> Result<(), Fail> {
-    let alloc = rt.alloc();
-    let cases: [(RowType, &[u8], Option<&[u8]>, &[u8]); 12] = [
-        (RowType::Equal, b"10", Some(b"3"), b"R 10 13 rhs 13 range 3"),
-        (RowType::Equal, b"10", Some(b"-3"), b"R 7 10 rhs 10 range 3"),
-        (RowType::Equal, b"10", Some(b"0"), b"E 10 10 rhs 10 range 0"),
-        (
-            RowType::AtLeast,
-            b"10",
-            Some(b"-2"),
-            b"R 10 12 rhs 12 range 2",
-        ),
-        (
-            RowType::AtMost,
-            b"10",
-            Some(b"-2"),
-            b"R 8 10 rhs 10 range 2",
-        ),
-        (RowType::AtMost, b"1e20", None, b"N -inf inf rhs 0 range 0"),
-        (RowType::Free, b"1", None, b"N -inf inf rhs 0 range 0"),
-        (RowType::AtMost, b"-1e20", None, b"InfiniteLimit R"),
-        (RowType::AtLeast, b"1e20", None, b"InfiniteLimit R"),
-        (RowType::Equal, b"1e20", None, b"InfiniteLimit R"),
-        (RowType::AtLeast, b"9e19", Some(b"9e19"), b"LimitTooLarge R"),
-        (RowType::AtLeast, b"1e19", Some(b"1e-10"), b"RangeInexact R"),
-    ];
-    for (row_type, right_side, range, expected) in cases {
-        let answer = outcome(alloc, one_row(alloc, row_type, right_side, range)?)?;
-        assert!(rt; tells(&answer, expected));
-    }
-    Ok(())
-}
-
-/// Whether the text is the expected words, or has them behind the name of its row or column.
-fn tells(text: &[u8], expected: &[u8]) -> bool {
-    if text == expected {
-        return true;
-    }
-    text.windows(expected.len().max(1))
-        .any(|part| part == expected)
-}
-
-#[test]
-fn bounds_columns_by_their_sides(rt: HostRuntime) -> Result<(), Fail> {
-    let alloc = rt.alloc();
-    let cases: [(Option<&[u8]>, Option<&[u8]>, &[u8]); 7] = [
-        (None, None, b"continuous 0 inf"),
-        (None, Some(b"-1"), b"NegativeUpper X"),
-        (Some(b"-1e20"), Some(b"-1"), b"continuous -inf -1"),
-        (Some(b"0"), Some(b"-1"), b"BoundsCrossed X"),
-        (None, Some(b"0"), b"continuous 0 0"),
-        (Some(b"-1e30"), Some(b"1e30"), b"continuous -inf inf"),
-        (Some(b"2"), Some(b"2.50"), b"continuous 2 2.5"),
-    ];
-    for (lower, upper, expected) in cases {
-        let answer = outcome(alloc, one_column(alloc, lower, upper)?)?;
-        assert!(rt; tells(&answer, expected));
-    }
-    Ok(())
-}
-
-#[test]
-fn marked_columns_end_at_one(rt: HostRuntime) -> Result<(), Fail> {
-    let alloc = rt.alloc();
-    let mut bare = one_column(alloc, None, None)?;
-    bare.marked(b"X")?;
-    assert!(rt; tells(&outcome(alloc, bare)?, b"integer 0 1 "));
-    let mut bounded = one_column(alloc, Some(b"0"), None)?;
-    bounded.marked(b"X")?;
-    assert!(rt; tells(&outcome(alloc, bounded)?, b"integer 0 inf "));
-    let mut integer = one_column(alloc, None, None)?;
-    integer.integer(b"X")?;
-    assert!(rt; tells(&outcome(alloc, integer)?, b"integer 0 inf "));
-    Ok(())
-}
-
-#[test]
-fn tells_the_first_fault_of_the_whole(rt: HostRuntime) -> Result<(), Fail> {
-    let alloc = rt.alloc();
-    let mut builder = Builder::new(alloc);
-    builder.objective(named(alloc, b"C")?)?;
-    builder.row(named(alloc, b"R2")?, RowType::Equal)?;
-    builder.row(named(alloc, b"R10")?, RowType::Equal)?;
-    builder.rhs(b"R2", number(b"1e20"))?;
-    builder.rhs(b"R10", number(b"1e20"))?;
-    let Some(fault) = fault_of(builder) else {
-        assert!(rt; false);
-        return Ok(());
-    };
-    assert_eq!(rt; fault.kind, FaultKind::NoColumns);
-    assert_eq!(rt; fault.line, 0);
-    assert!(rt; fault.name.is_none());
-    let mut builder = one_column(alloc, None, Some(b"-1"))?;
-    builder.row(named(alloc, b"R2")?, RowType::Equal)?;
-    builder.row(named(alloc, b"R10")?, RowType::Equal)?;
-    builder.rhs(b"R2", number(b"1e20"))?;
-    builder.rhs(b"R10", number(b"1e20"))?;
-    assert_eq!(rt;
-        outcome(alloc, builder)?.as_slice(),
-        b"InfiniteLimit R10".as_slice()
-    );
-    Ok(())
-}
-
 #[test]
 fn a_model_is_the_same_in_any_order(rt: HostRuntime) -> Result<(), Fail> {
     let alloc = rt.alloc();
-    let mut turned = Builder::new(alloc);
-    turned.column(named(alloc, b"Y")?)?;
-    turned.column(named(alloc, b"X")?)?;
-    turned.row(named(alloc, b"MYG")?, RowType::AtLeast)?;
-    turned.row(named(alloc, b"LIM1")?, RowType::AtMost)?;
-    turned.rhs(b"MYG", number(b"1"))?;
-    turned.rhs(b"LIM1", number(b"4.0"))?;
-    turned.objective(named(alloc, b"COST")?)?;
-    turned.coefficient(b"MYG", b"Y", number(b"15e-1"))?;
-    turned.coefficient(b"LIM1", b"Y", number(b"0"))?;
-    turned.coefficient(b"LIM1", b"X", number(b"1"))?;
-    turned.coefficient(b"COST", b"Y", number(b"2"))?;
-    turned.coefficient(b"COST", b"X", number(b"1"))?;
-    turned.sense(Sense::Minimize)?;
-    let mut greatest = small(alloc)?;
-    greatest.sense(Sense::Maximize)?;
-    let (Some(model), Some(other), Some(third)) = (
-        model_of(small(alloc)?),
-        model_of(turned),
-        model_of(greatest),
-    ) else {
+    let (Some(model), Some(other)) = (model_of(alloc, &SMALL)?, model_of(alloc, &TURNED)?) else {
         assert!(rt; false);
         return Ok(());
     };
     assert!(rt; model.same(&other));
     assert_eq!(rt; other.num_elements(), 2);
-    assert!(rt; !model.same(&third));
+    Ok(())
+}
+
+#[test]
+fn models_of_two_senses_differ(rt: HostRuntime) -> Result<(), Fail> {
+    let alloc = rt.alloc();
+    let least = [Call::Objective("C"), Call::Column("X")];
+    let greatest = [
+        Call::Objective("C"),
+        Call::Column("X"),
+        Call::Sense(Sense::Maximize),
+    ];
+    let (Some(one), Some(other)) = (model_of(alloc, &least)?, model_of(alloc, &greatest)?) else {
+        assert!(rt; false);
+        return Ok(());
+    };
+    assert!(rt; !one.same(&other));
+    Ok(())
+}
+
+/// The views of a model with the row R of this type, right side and range, the range declared first.
+fn of_row(
+    alloc: Global,
+    row_type: RowType,
+    right_side: &str,
+    range: Option<&str>,
+) -> Result<Vec<u8>, BuildFault> {
+    let front = [
+        Call::Objective("C"),
+        Call::Row("R", row_type),
+        Call::Column("X"),
+    ];
+    let right_side = Call::Rhs("R", right_side);
+    match range {
+        Some(range) => outcome(
+            alloc,
+            &[
+                front[0],
+                front[1],
+                front[2],
+                Call::Range("R", range),
+                right_side,
+            ],
+        ),
+        None => outcome(alloc, &[front[0], front[1], front[2], right_side]),
+    }
+}
+
+#[test]
+fn limits_rows_by_type_right_side_and_range(rt: HostRuntime) -> Result<(), Fail> {
+    let cases = [
+        (RowType::Equal, "10", Some("3"), "R 10 13 rhs 13 range 3"),
+        (RowType::Equal, "10", Some("-3"), "R 7 10 rhs 10 range 3"),
+        (RowType::Equal, "10", Some("0"), "E 10 10 rhs 10 range 0"),
+        (RowType::AtLeast, "10", Some("-2"), "R 10 12 rhs 12 range 2"),
+        (RowType::AtMost, "10", Some("-2"), "R 8 10 rhs 10 range 2"),
+        (RowType::AtMost, "1e20", None, "N -inf inf rhs 0 range 0"),
+        (RowType::Free, "1", None, "N -inf inf rhs 0 range 0"),
+        (RowType::AtMost, "-1e20", None, "InfiniteLimit R"),
+        (RowType::AtLeast, "1e20", None, "InfiniteLimit R"),
+        (RowType::Equal, "1e20", None, "InfiniteLimit R"),
+        (RowType::AtLeast, "9e19", Some("9e19"), "LimitTooLarge R"),
+        (RowType::AtLeast, "1e19", Some("1e-10"), "RangeInexact R"),
+    ];
+    for (row_type, right_side, range, expected) in cases {
+        let answer = of_row(rt.alloc(), row_type, right_side, range)?;
+        assert!(rt; tells(&answer, expected), "at {right_side} {expected}");
+    }
+    Ok(())
+}
+
+#[test]
+fn bounds_columns_by_their_sides(rt: HostRuntime) -> Result<(), Fail> {
+    let cases: [(&[Call<'_>], &str); 9] = [
+        (&[], "continuous 0 inf"),
+        (&[Call::Upper("X", "-1")], "NegativeUpper X"),
+        (&[Call::Bounds("X", "-1e20", "-1")], "continuous -inf -1"),
+        (&[Call::Bounds("X", "0", "-1")], "BoundsCrossed X"),
+        (&[Call::Upper("X", "0")], "continuous 0 0"),
+        (&[Call::Bounds("X", "2", "2.50")], "continuous 2 2.5"),
+        (&[Call::Marked("X")], "integer 0 1 "),
+        (
+            &[Call::Marked("X"), Call::Lower("X", "0")],
+            "integer 0 inf ",
+        ),
+        (&[Call::Integer("X")], "integer 0 inf "),
+    ];
+    for (calls, expected) in cases {
+        let mut all = Vec::new(rt.alloc());
+        all.push(Call::Objective("C"))?;
+        all.push(Call::Column("X"))?;
+        all.extend_from_slice(calls)?;
+        assert!(rt;
+            tells(&outcome(rt.alloc(), &all)?, expected),
+            "at {expected}"
+        );
+    }
+    Ok(())
+}
+
+#[test]
+fn tells_the_first_fault_of_the_whole(rt: HostRuntime) -> Result<(), Fail> {
+    let rows = [
+        Call::Objective("C"),
+        Call::Row("R2", RowType::Equal),
+        Call::Row("R10", RowType::Equal),
+        Call::Rhs("R2", "1e20"),
+        Call::Rhs("R10", "1e20"),
+        Call::Column("X"),
+        Call::Upper("X", "-1"),
+    ];
+    assert_eq!(rt;
+        outcome(rt.alloc(), &rows)?.as_slice(),
+        b"InfiniteLimit R10".as_slice()
+    );
+    assert_eq!(rt;
+        outcome(rt.alloc(), &rows[..5])?.as_slice(),
+        b"NoColumns".as_slice()
+    );
+    assert_eq!(rt;
+        outcome(rt.alloc(), &rows[..1])?.as_slice(),
+        b"NoColumns".as_slice()
+    );
     Ok(())
 }
 
 #[test]
 fn ends_in_the_model_of_its_calls(rt: HostRuntime) -> Result<(), Fail> {
-    let alloc = rt.alloc();
-    let mut builder = Builder::new(alloc);
-    builder.objective(named(alloc, b"f")?)?;
-    builder.row(named(alloc, b"r")?, RowType::AtMost)?;
-    builder.column(named(alloc, b"x")?)?;
-    builder.coefficient(b"r", b"x", number(b"1"))?;
-    builder.rhs(b"r", number(b"4"))?;
-    builder.range(b"r", number(b"-2"))?;
-    builder.bounds(b"x", Some(Limit::MinusInf), None)?;
-    builder.marked(b"x")?;
-    builder.integer(b"x")?;
-    builder.rhs(b"f", number(b"-5"))?;
-    builder.sense(Sense::Maximize)?;
-    let expected = b"maximize f constant 5 offset -5
+    let calls = [
+        Call::Objective("f"),
+        Call::Row("r", RowType::AtMost),
+        Call::Column("x"),
+        Call::Coefficient("r", "x", "1"),
+        Call::Rhs("r", "4"),
+        Call::Rhs("f", "-5"),
+        Call::Sense(Sense::Maximize),
+        Call::Range("r", "-2"),
+        Call::Lower("x", "-1e20"),
+        Call::Marked("x"),
+        Call::Integer("x"),
+    ];
+    let bounded = b"maximize f constant 5 offset -5
 row r R 2 4 rhs 4 range 2
 column x integer -inf inf objective 0
 entry r 1 1
 ";
-    assert_eq!(rt; outcome(alloc, builder)?.as_slice(), expected.as_slice());
-    Ok(())
-}
-
-#[test]
-fn ends_with_default_sides(rt: HostRuntime) -> Result<(), Fail> {
-    let alloc = rt.alloc();
-    let mut builder = Builder::new(alloc);
-    builder.objective(named(alloc, b"f")?)?;
-    builder.row(named(alloc, b"r")?, RowType::AtMost)?;
-    builder.column(named(alloc, b"x")?)?;
-    builder.coefficient(b"r", b"x", number(b"1"))?;
-    builder.rhs(b"r", number(b"4"))?;
-    builder.rhs(b"f", number(b"-5"))?;
-    builder.sense(Sense::Maximize)?;
-    let expected = b"maximize f constant 5 offset -5
+    let plain = b"maximize f constant 5 offset -5
 row r L -inf 4 rhs 4 range 0
 column x continuous 0 inf objective 0
 entry r 1 1
 ";
-    assert_eq!(rt; outcome(alloc, builder)?.as_slice(), expected.as_slice());
-    let mut alone = Builder::new(alloc);
-    alone.objective(named(alloc, b"f")?)?;
-    assert_eq!(rt; outcome(alloc, alone)?.as_slice(), b"NoColumns".as_slice());
+    assert_eq!(rt; outcome(rt.alloc(), &calls)?.as_slice(), bounded.as_slice());
+    assert_eq!(rt;
+        outcome(rt.alloc(), &calls[..7])?.as_slice(),
+        plain.as_slice()
+    );
     Ok(())
 }
