@@ -242,63 +242,65 @@ fn tells(text: &[u8], words: &str) -> bool {
         .any(|part| part == words.as_bytes())
 }
 
+/// Calls of one builder, one after another, and what each answers.
+const ANSWERS: [(Call<'static>, Result<(), BuildFault>); 34] = [
+    (Call::Objective("f"), Ok(())),
+    (Call::Objective("g"), Err(BuildFault::SecondObjective)),
+    (
+        Call::Row("f", RowType::AtMost),
+        Err(BuildFault::DuplicateRow),
+    ),
+    (Call::Row("r", RowType::AtMost), Ok(())),
+    (Call::Column("x"), Ok(())),
+    (Call::Column("x"), Ok(())),
+    (
+        Call::Coefficient("q", "x", "1"),
+        Err(BuildFault::UnknownRow),
+    ),
+    (
+        Call::Coefficient("r", "y", "1"),
+        Err(BuildFault::UnknownColumn),
+    ),
+    (Call::Coefficient("r", "x", "1"), Ok(())),
+    (
+        Call::Coefficient("r", "x", "1"),
+        Err(BuildFault::DuplicateEntry),
+    ),
+    (Call::Rhs("q", "4"), Err(BuildFault::UnknownRow)),
+    (Call::Rhs("r", "4"), Ok(())),
+    (Call::Rhs("r", "4"), Err(BuildFault::DuplicateRhs)),
+    (Call::Rhs("f", "-5"), Ok(())),
+    (Call::Rhs("f", "-5"), Err(BuildFault::DuplicateRhs)),
+    (Call::Range("f", "1"), Err(BuildFault::RangeOnFree)),
+    (Call::Range("r", "1e20"), Err(BuildFault::InfiniteValue)),
+    (Call::Range("r", "-2"), Ok(())),
+    (Call::Range("r", "-2"), Err(BuildFault::DuplicateRange)),
+    (Call::Lower("x", "-1e20"), Ok(())),
+    (Call::Bounds("x", "0", "1"), Err(BuildFault::DuplicateBound)),
+    (Call::NoBounds("x"), Ok(())),
+    (Call::NoBounds("y"), Err(BuildFault::UnknownColumn)),
+    (Call::Upper("x", "-1e20"), Err(BuildFault::InfiniteValue)),
+    (Call::Marked("x"), Ok(())),
+    (Call::Marked("x"), Ok(())),
+    (Call::Integer("x"), Ok(())),
+    (Call::Integer("y"), Err(BuildFault::UnknownColumn)),
+    (Call::Sense(Sense::Maximize), Ok(())),
+    (
+        Call::Sense(Sense::Maximize),
+        Err(BuildFault::DuplicateSense),
+    ),
+    (Call::Row("n", RowType::Free), Ok(())),
+    (Call::Rhs("n", "1"), Ok(())),
+    (Call::Rhs("n", "1"), Ok(())),
+    (Call::Range("n", "1"), Err(BuildFault::RangeOnFree)),
+];
+
 #[test]
 fn answers_in_order(rt: HostRuntime) -> Result<(), Fail> {
     let alloc = rt.alloc();
     let mut builder = Builder::new(alloc);
     assert_eq!(rt; builder.has_objective(), false);
-    let answers = [
-        (Call::Objective("f"), Ok(())),
-        (Call::Objective("g"), Err(BuildFault::SecondObjective)),
-        (
-            Call::Row("f", RowType::AtMost),
-            Err(BuildFault::DuplicateRow),
-        ),
-        (Call::Row("r", RowType::AtMost), Ok(())),
-        (Call::Column("x"), Ok(())),
-        (Call::Column("x"), Ok(())),
-        (
-            Call::Coefficient("q", "x", "1"),
-            Err(BuildFault::UnknownRow),
-        ),
-        (
-            Call::Coefficient("r", "y", "1"),
-            Err(BuildFault::UnknownColumn),
-        ),
-        (Call::Coefficient("r", "x", "1"), Ok(())),
-        (
-            Call::Coefficient("r", "x", "1"),
-            Err(BuildFault::DuplicateEntry),
-        ),
-        (Call::Rhs("q", "4"), Err(BuildFault::UnknownRow)),
-        (Call::Rhs("r", "4"), Ok(())),
-        (Call::Rhs("r", "4"), Err(BuildFault::DuplicateRhs)),
-        (Call::Rhs("f", "-5"), Ok(())),
-        (Call::Rhs("f", "-5"), Err(BuildFault::DuplicateRhs)),
-        (Call::Range("f", "1"), Err(BuildFault::RangeOnFree)),
-        (Call::Range("r", "1e20"), Err(BuildFault::InfiniteValue)),
-        (Call::Range("r", "-2"), Ok(())),
-        (Call::Range("r", "-2"), Err(BuildFault::DuplicateRange)),
-        (Call::Lower("x", "-1e20"), Ok(())),
-        (Call::Bounds("x", "0", "1"), Err(BuildFault::DuplicateBound)),
-        (Call::NoBounds("x"), Ok(())),
-        (Call::NoBounds("y"), Err(BuildFault::UnknownColumn)),
-        (Call::Upper("x", "-1e20"), Err(BuildFault::InfiniteValue)),
-        (Call::Marked("x"), Ok(())),
-        (Call::Marked("x"), Ok(())),
-        (Call::Integer("x"), Ok(())),
-        (Call::Integer("y"), Err(BuildFault::UnknownColumn)),
-        (Call::Sense(Sense::Maximize), Ok(())),
-        (
-            Call::Sense(Sense::Maximize),
-            Err(BuildFault::DuplicateSense),
-        ),
-        (Call::Row("n", RowType::Free), Ok(())),
-        (Call::Rhs("n", "1"), Ok(())),
-        (Call::Rhs("n", "1"), Ok(())),
-        (Call::Range("n", "1"), Err(BuildFault::RangeOnFree)),
-    ];
-    for (call, answer) in answers {
+    for (call, answer) in ANSWERS {
         assert_eq!(rt; call_of(&mut builder, alloc, call), answer);
     }
     assert_eq!(rt; builder.has_objective(), true);
@@ -444,23 +446,25 @@ fn of_row(
     }
 }
 
+/// Rows by type, right side and range, and what their views tell.
+const ROWS: [(RowType, &str, Option<&str>, &str); 12] = [
+    (RowType::Equal, "10", Some("3"), "R 10 13 rhs 13 range 3"),
+    (RowType::Equal, "10", Some("-3"), "R 7 10 rhs 10 range 3"),
+    (RowType::Equal, "10", Some("0"), "E 10 10 rhs 10 range 0"),
+    (RowType::AtLeast, "10", Some("-2"), "R 10 12 rhs 12 range 2"),
+    (RowType::AtMost, "10", Some("-2"), "R 8 10 rhs 10 range 2"),
+    (RowType::AtMost, "1e20", None, "N -inf inf rhs 0 range 0"),
+    (RowType::Free, "1", None, "N -inf inf rhs 0 range 0"),
+    (RowType::AtMost, "-1e20", None, "InfiniteLimit R"),
+    (RowType::AtLeast, "1e20", None, "InfiniteLimit R"),
+    (RowType::Equal, "1e20", None, "InfiniteLimit R"),
+    (RowType::AtLeast, "9e19", Some("9e19"), "LimitTooLarge R"),
+    (RowType::AtLeast, "1e19", Some("1e-10"), "RangeInexact R"),
+];
+
 #[test]
 fn limits_rows_by_type_right_side_and_range(rt: HostRuntime) -> Result<(), Fail> {
-    let cases = [
-        (RowType::Equal, "10", Some("3"), "R 10 13 rhs 13 range 3"),
-        (RowType::Equal, "10", Some("-3"), "R 7 10 rhs 10 range 3"),
-        (RowType::Equal, "10", Some("0"), "E 10 10 rhs 10 range 0"),
-        (RowType::AtLeast, "10", Some("-2"), "R 10 12 rhs 12 range 2"),
-        (RowType::AtMost, "10", Some("-2"), "R 8 10 rhs 10 range 2"),
-        (RowType::AtMost, "1e20", None, "N -inf inf rhs 0 range 0"),
-        (RowType::Free, "1", None, "N -inf inf rhs 0 range 0"),
-        (RowType::AtMost, "-1e20", None, "InfiniteLimit R"),
-        (RowType::AtLeast, "1e20", None, "InfiniteLimit R"),
-        (RowType::Equal, "1e20", None, "InfiniteLimit R"),
-        (RowType::AtLeast, "9e19", Some("9e19"), "LimitTooLarge R"),
-        (RowType::AtLeast, "1e19", Some("1e-10"), "RangeInexact R"),
-    ];
-    for (row_type, right_side, range, expected) in cases {
+    for (row_type, right_side, range, expected) in ROWS {
         let answer = of_row(rt.alloc(), row_type, right_side, range)?;
         assert!(rt; tells(&answer, expected), "at {right_side} {expected}");
     }
@@ -496,47 +500,51 @@ fn bounds_columns_by_their_sides(rt: HostRuntime) -> Result<(), Fail> {
     Ok(())
 }
 
+/// Two rows with infinite right sides, and a column with a negative upper bound.
+const FAULTY: [Call<'static>; 7] = [
+    Call::Objective("C"),
+    Call::Row("R2", RowType::Equal),
+    Call::Row("R10", RowType::Equal),
+    Call::Rhs("R2", "1e20"),
+    Call::Rhs("R10", "1e20"),
+    Call::Column("X"),
+    Call::Upper("X", "-1"),
+];
+
 #[test]
 fn tells_the_first_fault_of_the_whole(rt: HostRuntime) -> Result<(), Fail> {
-    let rows = [
-        Call::Objective("C"),
-        Call::Row("R2", RowType::Equal),
-        Call::Row("R10", RowType::Equal),
-        Call::Rhs("R2", "1e20"),
-        Call::Rhs("R10", "1e20"),
-        Call::Column("X"),
-        Call::Upper("X", "-1"),
-    ];
     assert_eq!(rt;
-        outcome(rt.alloc(), &rows)?.as_slice(),
+        outcome(rt.alloc(), &FAULTY)?.as_slice(),
         b"InfiniteLimit R10".as_slice()
     );
     assert_eq!(rt;
-        outcome(rt.alloc(), &rows[..5])?.as_slice(),
+        outcome(rt.alloc(), &FAULTY[..5])?.as_slice(),
         b"NoColumns".as_slice()
     );
     assert_eq!(rt;
-        outcome(rt.alloc(), &rows[..1])?.as_slice(),
+        outcome(rt.alloc(), &FAULTY[..1])?.as_slice(),
         b"NoColumns".as_slice()
     );
     Ok(())
 }
 
+/// A whole model; the last four calls change defaults.
+const WHOLE: [Call<'static>; 11] = [
+    Call::Objective("f"),
+    Call::Row("r", RowType::AtMost),
+    Call::Column("x"),
+    Call::Coefficient("r", "x", "1"),
+    Call::Rhs("r", "4"),
+    Call::Rhs("f", "-5"),
+    Call::Sense(Sense::Maximize),
+    Call::Range("r", "-2"),
+    Call::Lower("x", "-1e20"),
+    Call::Marked("x"),
+    Call::Integer("x"),
+];
+
 #[test]
 fn ends_in_the_model_of_its_calls(rt: HostRuntime) -> Result<(), Fail> {
-    let calls = [
-        Call::Objective("f"),
-        Call::Row("r", RowType::AtMost),
-        Call::Column("x"),
-        Call::Coefficient("r", "x", "1"),
-        Call::Rhs("r", "4"),
-        Call::Rhs("f", "-5"),
-        Call::Sense(Sense::Maximize),
-        Call::Range("r", "-2"),
-        Call::Lower("x", "-1e20"),
-        Call::Marked("x"),
-        Call::Integer("x"),
-    ];
     let bounded = b"maximize f constant 5 offset -5
 row r R 2 4 rhs 4 range 2
 column x integer -inf inf objective 0
@@ -547,9 +555,9 @@ row r L -inf 4 rhs 4 range 0
 column x continuous 0 inf objective 0
 entry r 1 1
 ";
-    assert_eq!(rt; outcome(rt.alloc(), &calls)?.as_slice(), bounded.as_slice());
+    assert_eq!(rt; outcome(rt.alloc(), &WHOLE)?.as_slice(), bounded.as_slice());
     assert_eq!(rt;
-        outcome(rt.alloc(), &calls[..7])?.as_slice(),
+        outcome(rt.alloc(), &WHOLE[..7])?.as_slice(),
         plain.as_slice()
     );
     Ok(())
