@@ -295,21 +295,31 @@ const ANSWERS: [(Call<'static>, Result<(), BuildFault>); 34] = [
     (Call::Range("n", "1"), Err(BuildFault::RangeOnFree)),
 ];
 
-#[test]
-fn answers_in_order(rt: HostRuntime) -> Result<(), Fail> {
-    let alloc = rt.alloc();
-    let mut builder = Builder::new(alloc);
-    assert_eq!(rt; builder.has_objective(), false);
-    for (call, answer) in ANSWERS {
-        assert_eq!(rt; call_of(&mut builder, alloc, call), answer);
+/// The first of these calls that is not answered so, counted from 0.
+fn first_other_answer(builder: &mut Builder, alloc: Global) -> Option<usize> {
+    for (i, (call, answer)) in ANSWERS.iter().enumerate() {
+        if call_of(builder, alloc, *call) != *answer {
+            return Some(i);
+        }
     }
-    assert_eq!(rt; builder.has_objective(), true);
-    assert_eq!(rt; builder.has_row(b"r".as_slice()), true);
-    assert_eq!(rt; builder.has_row(b"f".as_slice()), true);
-    assert_eq!(rt; builder.has_row(b"x".as_slice()), false);
-    assert_eq!(rt; builder.has_column(b"x".as_slice()), true);
-    assert_eq!(rt; builder.has_column(b"r".as_slice()), false);
-    Ok(())
+    None
+}
+
+/// Whether the builder knows the names of these calls, and no others.
+fn knows_its_names(builder: &Builder) -> bool {
+    let has = builder.has_row(b"r") && builder.has_row(b"f") && builder.has_column(b"x");
+    let has_others = builder.has_row(b"x") || builder.has_column(b"r");
+    builder.has_objective() && has && !has_others
+}
+
+#[test]
+fn answers_in_order(rt: HostRuntime) {
+    let mut builder = Builder::new(rt.alloc());
+    let had_objective = builder.has_objective();
+    let other_answer = first_other_answer(&mut builder, rt.alloc());
+    let knows = knows_its_names(&builder);
+    assert!(rt; !had_objective && knows);
+    assert_eq!(rt; other_answer, None);
 }
 
 #[test]
@@ -419,31 +429,24 @@ fn models_of_two_senses_differ(rt: HostRuntime) -> Result<(), Fail> {
 }
 
 /// The views of a model with the row R of this type, right side and range, the range declared first.
-fn of_row(
+fn of_row<'a>(
     alloc: Global,
     row_type: RowType,
-    right_side: &str,
-    range: Option<&str>,
+    right_side: &'a str,
+    range: Option<&'a str>,
 ) -> Result<Vec<u8>, BuildFault> {
-    let front = [
+    let range = match range {
+        Some(range) => Call::Range("R", range),
+        None => Call::NoBounds("X"),
+    };
+    let calls = [
         Call::Objective("C"),
         Call::Row("R", row_type),
         Call::Column("X"),
+        range,
+        Call::Rhs("R", right_side),
     ];
-    let right_side = Call::Rhs("R", right_side);
-    match range {
-        Some(range) => outcome(
-            alloc,
-            &[
-                front[0],
-                front[1],
-                front[2],
-                Call::Range("R", range),
-                right_side,
-            ],
-        ),
-        None => outcome(alloc, &[front[0], front[1], front[2], right_side]),
-    }
+    outcome(alloc, &calls)
 }
 
 /// Rows by type, right side and range, and what their views tell.
@@ -471,31 +474,41 @@ fn limits_rows_by_type_right_side_and_range(rt: HostRuntime) -> Result<(), Fail>
     Ok(())
 }
 
+/// Two calls of the bounds or the kind of a column, and what its views tell.
+const COLUMNS: [(Call<'static>, Call<'static>, &str); 9] = [
+    (Call::NoBounds("X"), Call::NoBounds("X"), "continuous 0 inf"),
+    (
+        Call::Upper("X", "-1"),
+        Call::NoBounds("X"),
+        "NegativeUpper X",
+    ),
+    (
+        Call::Upper("X", "-1"),
+        Call::Lower("X", "-1e20"),
+        "continuous -inf -1",
+    ),
+    (
+        Call::Upper("X", "-1"),
+        Call::Lower("X", "0"),
+        "BoundsCrossed X",
+    ),
+    (Call::Upper("X", "0"), Call::NoBounds("X"), "continuous 0 0"),
+    (
+        Call::Bounds("X", "2", "2.50"),
+        Call::NoBounds("X"),
+        "continuous 2 2.5",
+    ),
+    (Call::Marked("X"), Call::NoBounds("X"), "integer 0 1 "),
+    (Call::Marked("X"), Call::Lower("X", "0"), "integer 0 inf "),
+    (Call::Integer("X"), Call::NoBounds("X"), "integer 0 inf "),
+];
+
 #[test]
 fn bounds_columns_by_their_sides(rt: HostRuntime) -> Result<(), Fail> {
-    let cases: [(&[Call<'_>], &str); 9] = [
-        (&[], "continuous 0 inf"),
-        (&[Call::Upper("X", "-1")], "NegativeUpper X"),
-        (&[Call::Bounds("X", "-1e20", "-1")], "continuous -inf -1"),
-        (&[Call::Bounds("X", "0", "-1")], "BoundsCrossed X"),
-        (&[Call::Upper("X", "0")], "continuous 0 0"),
-        (&[Call::Bounds("X", "2", "2.50")], "continuous 2 2.5"),
-        (&[Call::Marked("X")], "integer 0 1 "),
-        (
-            &[Call::Marked("X"), Call::Lower("X", "0")],
-            "integer 0 inf ",
-        ),
-        (&[Call::Integer("X")], "integer 0 inf "),
-    ];
-    for (calls, expected) in cases {
-        let mut all = Vec::new(rt.alloc());
-        all.push(Call::Objective("C"))?;
-        all.push(Call::Column("X"))?;
-        all.extend_from_slice(calls)?;
-        assert!(rt;
-            tells(&outcome(rt.alloc(), &all)?, expected),
-            "at {expected}"
-        );
+    for (first, second, expected) in COLUMNS {
+        let calls = [Call::Objective("C"), Call::Column("X"), first, second];
+        let answer = outcome(rt.alloc(), &calls)?;
+        assert!(rt; tells(&answer, expected), "at {expected}");
     }
     Ok(())
 }
