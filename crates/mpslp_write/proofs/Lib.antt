@@ -8,4 +8,17 @@ pub mod EarlyWalk
 pub mod WholeWalk
 pub mod ListedItems
 pub mod DraftText
+pub mod EntryLemmas
+pub mod WholeParts
+pub mod ListedParts
+pub mod DraftMaps
+pub mod CoefficientMap
+pub mod ListingFacts
+pub mod GoodColumns
+pub mod GoodWhole
+pub mod ListedMeaning
+pub mod ListedConsistency
+pub mod ListedSlots
+pub mod ListedOnce
+pub mod CanonicalDeclares
 pub mod WorkedTexts

@@ -88,7 +88,7 @@ under-printable section (line ∷ lines) h = (header-printable section, h)
 
 -- ---- values that are decimals
 
-abbrev Holds : {X : Type 0} → (X → Type 0) → Option X → Type 0
+abbrev pub Holds : {X : Type 0} → (X → Type 0) → Option X → Type 0
 Holds P None = Unit {0}
 Holds P (Some x) = P x
 
@@ -118,14 +118,14 @@ bounded-decimal d h = first_so (is_decimal d) (not (is_infinite_size d)) h
 lower-decimal : (a : Number) → is_lower_side (Finite a) ≡ true → IsDecimal a
 lower-decimal a h = bounded-decimal a h
 
-side-decimal : (lower upper : Limit) → are_sides lower upper ≡ true → IsDecimal (printed_side lower upper)
+pub side-decimal : (lower upper : Limit) → are_sides lower upper ≡ true → IsDecimal (printed_side lower upper)
 side-decimal MinusInf MinusInf h = refl
 side-decimal MinusInf (Finite b) h = bounded-decimal b (first_so (is_bounded_decimal b) _ h)
 side-decimal MinusInf PlusInf h = refl
 side-decimal (Finite a) upper h = bounded-decimal a (first_so (is_bounded_decimal a) (is_upper_side upper && is_at_most (Finite a) upper) h)
 side-decimal PlusInf upper h = cc
 
-range-decimal : (lower upper : Limit) → has_bounded_distance lower upper ≡ true → Holds IsDecimal (printed_range lower upper)
+pub range-decimal : (lower upper : Limit) → has_bounded_distance lower upper ≡ true → Holds IsDecimal (printed_range lower upper)
 range-decimal MinusInf upper h = tt
 range-decimal (Finite a) MinusInf h = tt
 range-decimal (Finite a) PlusInf h = tt
@@ -140,7 +140,7 @@ range-decimal (Finite a) (Finite b) h =
     told None k = tt
     told (Some d) k = bounded-decimal d k
 
-negated-decimal : (d : Number) → IsDecimal d → IsDecimal (negated d)
+pub negated-decimal : (d : Number) → IsDecimal d → IsDecimal (negated d)
 negated-decimal d h = by d.mantissa h
   where
     by : (m : ℤ) → IsDecimal (record d { mantissa = m }) → IsDecimal (record d { mantissa = neg_ℤ m })
