@@ -33,3 +33,4 @@ pub mod NameLemmas
 mod WorkedNames
 mod WorkedRows
 mod WorkedModels
+pub mod DeviceLemmas

@@ -20,3 +20,5 @@ pub mod FaultFound
 pub mod Finish
 pub mod Same
 pub mod SameLaws
+pub mod Devices
+pub mod Formats

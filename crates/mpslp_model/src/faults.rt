@@ -1,4 +1,4 @@
-//! What is wrong with a file, or with a call of the builder.
+//! What is wrong with a file, with a call of the builder, or with a model that is to be written.
 
 ghost use Rattle.std.specs.Prelude.{◌≡◌};
 ghost use Rattle.mpslp_model.specs.FaultName.{kind_name};
@@ -223,4 +223,29 @@ pub enum ReadFault {
     Failed,
     /// There was no memory.
     OutOfMemory,
+}
+
+/// A place in a model that a format cannot tell.
+#[derive(Clone, Copy, Debug, PartialEq, Eq)]
+pub enum NameAt {
+    /// The name of the objective.
+    Objective,
+    /// The name of the row of this number. Rows are numbered from 0, in byte order of their names.
+    Row(usize),
+    /// The name of the column of this number. Columns are numbered from 0, in byte order of their
+    /// names.
+    Column(usize),
+}
+
+/// Why the text of a model was not written, or not whole.
+#[derive(Clone, Copy, Debug, PartialEq, Eq)]
+pub enum WriteFault {
+    /// The sink has failed.
+    Write {
+        /// How many first bytes of the text the sink took. The number stays at 2^64 - 1.
+        written: u64,
+    },
+    /// The model has a name that LP cannot tell, and nothing was written. This is the first such
+    /// name: that of the objective comes first, then those of rows, then those of columns.
+    NotLp(NameAt),
 }

@@ -3,24 +3,33 @@
 //! A reader of either format, like a caller who builds a model by hand, makes declarations: rows,
 //! columns, coefficients, bounds. This crate says which declarations go together, which model they
 //! mean, and which fault is told where they mean none.
+//!
+//! What bytes are read from and written to, and what a format of model files is held to, stand here
+//! too, as the traits [`Source`], [`Sink`] and [`Format`].
 #![tactic(auto)]
 
 mod building;
+mod devices;
 mod entries;
 mod faults;
 mod finding;
 mod finishing;
+mod formats;
 mod kinds;
 pub mod laws;
 mod limits;
 mod linear;
 mod names;
+mod streams;
 
 pub use building::Builder;
-pub use faults::{BuildFault, Fault, FaultKind, ReadFault};
+pub use devices::{IoFailed, Sink, Source};
+pub use faults::{BuildFault, Fault, FaultKind, NameAt, ReadFault, WriteFault};
+pub use formats::Format;
 pub use kinds::{Kind, Limit, RowType, Sense};
 pub use linear::Model;
 pub use names::{MAX_NAME_LEN, Name, NameFault};
+pub use streams::{FromRead, ToWrite};
 
 #[cfg(test)]
 mod tests;

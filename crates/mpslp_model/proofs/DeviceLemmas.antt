@@ -1,0 +1,15 @@
+-- What std says of the bytes that a writer holds, where they are known.
+use Rattle.std.proofs.Common.{◌≡◌, ℕ, List, ◌++◌, None, Some, Option, ap, ◌∙◌}
+use Rattle.std.specs.Io.KnownBytes.{Keeps, Appends}
+
+-- known bytes that grow are the old ones and what was appended
+pub appends_some : (a b : Option (List ℕ)) (before bytes : List ℕ) → Appends a b bytes → a ≡ Some before → b ≡ Some (before ++ bytes)
+appends_some None b before bytes grown known = absurd (cc)
+appends_some (Some x) None before bytes grown known = absurd grown
+appends_some (Some x) (Some y) before bytes grown known = let same : x ≡ before = cc in ap Some (grown ∙ ap (λ l. l ++ bytes) same)
+
+-- known bytes that are kept stay known
+pub keeps_some : (a b : Option (List ℕ)) (before : List ℕ) → Keeps a b → a ≡ Some before → b ≡ Some before
+keeps_some None b before kept known = absurd (cc)
+keeps_some (Some x) None before kept known = absurd kept
+keeps_some (Some x) (Some y) before kept known = ap Some kept ∙ known

@@ -1,0 +1,19 @@
+-- What a call of a device does to its bytes and to the number of its calls.
+use Rattle.std.specs.Prelude.{ℕ, ◌+◌, ◌-◌, ◌^◌, ◌<◌, ◌≤◌, min, List, ◌++◌, length, take, Result, Ok, Err}
+
+-- one more, where a count stays at 2^64 - 1
+abbrev pub raised : ℕ → ℕ
+raised count = min (count + 1) (2 ^ 64 - 1)
+
+-- whatever was held is held with these bytes behind it
+abbrev pub Grows : {S : Type 0} → (S → List ℕ → Type 0) → S → S → List ℕ → Type 0
+Grows holds old new bytes = (before : List ℕ) → holds old before → holds new (before ++ bytes)
+
+-- whatever was held is held still
+abbrev pub KeepsHeld : {S : Type 0} → (S → List ℕ → Type 0) → S → S → Type 0
+KeepsHeld holds old new = (before : List ℕ) → holds old before → holds new before
+
+-- A write takes the first bytes of a piece, at least one where there is one. One that fails takes none.
+abbrev pub Takes : {S E : Type 0} → (S → List ℕ → Type 0) → S → S → List ℕ → Result ℕ E → Type 0
+Takes holds old new piece (Ok n) = (n ≤ length piece) × (0 < length piece → 0 < n) × Grows holds old new (take n piece)
+Takes holds old new piece (Err _) = KeepsHeld holds old new

@@ -1,0 +1,32 @@
+-- What the calls of a format answer.
+use Rattle.std.specs.Prelude.{◌≡◌, ℕ, ◌-◌, ◌^◌, ◌≤◌, min, List, length, take, Bool, true, Option, None, Some, Result, Ok, Err}
+use Rattle.mpslp_model.specs.Model.{LinearModel}
+use Rattle.mpslp_model.specs.Devices.{Grows}
+use Rattle.mpslp_model.specs.declared.faults.Fault.{Fault}
+use Rattle.mpslp_model.specs.declared.faults.NameAt.{NameAt}
+use Rattle.mpslp_model.specs.declared.faults.ReadFault.{ReadFault}
+use Rattle.mpslp_model.specs.declared.faults.ReadFault.TheVariants.{File, Failed, OutOfMemory}
+use Rattle.mpslp_model.specs.declared.faults.WriteFault.{WriteFault}
+use Rattle.mpslp_model.specs.declared.faults.WriteFault.TheVariants.{Write, NotLp}
+
+-- The model that the bytes declare, or their first fault. Want of memory says nothing of the bytes.
+abbrev pub IsAnswerTo : (List ℕ → LinearModel → Type 0) → (List ℕ → Fault → Type 0) → List ℕ → Result LinearModel ReadFault → Type 0
+IsAnswerTo declares first_fault bytes (Ok m) = declares bytes m
+IsAnswerTo declares first_fault bytes (Err (File fault)) = first_fault bytes fault
+IsAnswerTo declares first_fault bytes (Err Failed) = ⊥
+IsAnswerTo declares first_fault bytes (Err OutOfMemory) = Unit {0}
+
+-- The sink took the first `count` bytes of a text and no other, and `told` is their number, which stays at 2^64 - 1.
+pub record TookFirst {S : Type 0} (holds : S → List ℕ → Type 0) (old new : S) (text : List ℕ) (told : ℕ) : Type 0 where
+  pub count : ℕ
+  pub within : count ≤ length text
+  pub told_is : told ≡ min count (2 ^ 64 - 1)
+  pub holds_them : Grows holds old new (take count text)
+
+-- The text of a model was written; or its first bytes, before the sink failed; or the sink was not called, since the
+-- model has what the format cannot tell.
+abbrev pub IsWritten : {S : Type 0} → (LinearModel → Option NameAt) → (LinearModel → List ℕ) → (S → List ℕ → Type 0) → (S → Bool) → LinearModel → S → S
+    → Result (Unit {0}) WriteFault → Type 0
+IsWritten unfit text holds failed m old new (Ok _) = (unfit m ≡ None) × Grows holds old new (text m)
+IsWritten unfit text holds failed m old new (Err (Write written)) = (unfit m ≡ None) × (failed new ≡ true) × TookFirst holds old new (text m) written
+IsWritten unfit text holds failed m old new (Err (NotLp place)) = (unfit m ≡ Some place) × (new ≡ old)
