@@ -1,4 +1,4 @@
--- The canonical text of a sound model declares it, where its declarations are consistent.
+-- The canonical text of a sound model declares it.
 use Rattle.std.proofs.Common.{◌≡◌, refl, sym, ap, subst, ◌∙◌, List, [], ◌∷◌, ℕ, Bool, true, map}
 use Rattle.std.specs.List.{list_all}
 use Rattle.mpslp_model.specs.Model.{LinearModel, IsSound}
@@ -11,7 +11,7 @@ use Rattle.mpslp_mps.specs.MpsText.{read_lines, has_end, declarations_of, Declar
 use Rattle.mpslp_mps.proofs.PlacedLemmas.{declared_items, have_good_form, Walk}
 use Rattle.mpslp_write.specs.Listing.{listing_of}
 use Rattle.mpslp_write.specs.CanonicalMps.{canonical_mps}
-use Rattle.mpslp_write.specs.Laws.{IsReadAsPrinted}
+use Rattle.mpslp_write.specs.Laws.{IsReadAsPrinted, DeclareTheirModels, TellModelsApart}
 use Rattle.mpslp_write.proofs.ReadLemmas.{read-as-printed}
 use Rattle.mpslp_write.proofs.WholeWalk.{whole_items, whole_decl, whole-walk}
 use Rattle.mpslp_write.proofs.ListedItems.{whole_of, listed-items}
@@ -19,6 +19,9 @@ use Rattle.mpslp_write.proofs.ListedParts.{listed_decl}
 use Rattle.mpslp_write.proofs.ListingFacts.{sound-listing}
 use Rattle.mpslp_write.proofs.GoodWhole.{good-whole}
 use Rattle.mpslp_write.proofs.ListedMeaning.{draft-means}
+use Rattle.mpslp_write.proofs.ListedConsistency.{consistent-if_once}
+use Rattle.mpslp_write.proofs.FilledOnce.{filled-once}
+use Rattle.mpslp_write.proofs.OneAnswer.{one-model}
 
 pub canonical-walk : (m : LinearModel) → IsSound m → Walk [] empty_draft (whole_items (whole_of (listing_of m))) (listed_decl (listing_of m))
 canonical-walk m sound = whole-walk (whole_of (listing_of m)) (good-whole (listing_of m) (sound-listing m sound))
@@ -41,3 +44,14 @@ declares-if_consistent m sound consistent =
           (ap (have_good_form [] empty_draft) (canonical-items m sound) ∙ (canonical-walk m sound).good));
       means = subst (λ (ds : Declarations). Means ds m) (sym (canonical-declarations m sound)) (record { consistent = consistent; meant = draft-means m sound });
     }
+
+-- The canonical text of a sound model declares it.
+pub canonical-declares : DeclareTheirModels
+canonical-declares m sound = declares-if_consistent m sound (consistent-if_once (listing_of m) (sound-listing m sound) (filled-once (listing_of m) (sound-listing m sound)))
+
+-- Sound models have the same canonical text exactly if they are the same.
+pub tells-apart : TellModelsApart
+tells-apart m n sound other = (
+  λ same. one-model (canonical_mps m) m n (canonical-declares m sound) (subst (λ (text : List ℕ). DeclaresMps text n) (sym same) (canonical-declares n other)),
+  ap canonical_mps,
+)

@@ -20,5 +20,10 @@ pub mod ListedMeaning
 pub mod ListedConsistency
 pub mod ListedSlots
 pub mod ListedOnce
+pub mod BoundSlots
+pub mod NamedSlots
+pub mod FilledOnce
+pub mod OneAnswer
 pub mod CanonicalDeclares
+pub mod MpsFormat
 pub mod WorkedTexts

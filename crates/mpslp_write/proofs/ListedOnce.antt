@@ -24,7 +24,7 @@ use Rattle.mpslp_write.proofs.DraftMaps.{IsSoundListing}
 use Rattle.mpslp_write.proofs.ListingFacts.{later_differ}
 use Rattle.mpslp_write.proofs.ListedSlots.{cell_slot, column-new, column-distinct}
 
-any-turned : (q : List ℕ) (names : List (List ℕ)) → list_any (λ later. same_bytes later q) names ≡ is_one_of names q
+pub any-turned : (q : List ℕ) (names : List (List ℕ)) → list_any (λ later. same_bytes later q) names ≡ is_one_of names q
 any-turned q [] = refl
 any-turned q (name ∷ names) = λ i. nat_list_eq_equiv.symm name q i || any-turned q names i
 

@@ -61,7 +61,7 @@ own_column cell = (cell.column, tt) ∷ []
 abbrev pub own_coefficient : Cell → List (Place × Number)
 own_coefficient cell = (record { row = cell.row; column = cell.column }, cell.value) ∷ []
 
-abbrev own_side : Side → List (List ℕ × Number)
+abbrev pub own_side : Side → List (List ℕ × Number)
 own_side side = (side.row, side.value) ∷ []
 
 -- ---- sections
@@ -81,13 +81,13 @@ side-made row value = by (is_zero value)
     by true = refl
     by false = refl
 
-sides-made : (m : Listing) → flat_map own_side (sides_in m) ≡ told m.objective (value_told (negated m.constant)) ++ all_told side_told m.rows
+pub sides-made : (m : Listing) → flat_map own_side (sides_in m) ≡ told m.objective (value_told (negated m.constant)) ++ all_told side_told m.rows
 sides-made m =
     flat_map-append own_side (side_unless_zero m.objective (negated m.constant)) (flat_map row_side m.rows)
     ∙ (λ i. side-made m.objective (negated m.constant) i
     ++ (flat_map-flat_map own_side row_side m.rows ∙ flat-same (λ row. flat_map own_side (row_side row)) (λ row. told row.0 (side_told row.1)) (λ row. side-made row.0 (printed_side row.1.lower row.1.upper)) m.rows) i)
 
-ranges-made : (rows : List (List ℕ × Row)) → flat_map own_side (flat_map row_range rows) ≡ all_told range_told rows
+pub ranges-made : (rows : List (List ℕ × Row)) → flat_map own_side (flat_map row_range rows) ≡ all_told range_told rows
 ranges-made rows = flat_map-flat_map own_side row_range rows ∙ flat-same (λ row. flat_map own_side (row_range row)) (λ row. told row.0 (range_told row.1)) one rows
   where
     one : (row : List ℕ × Row) → flat_map own_side (row_range row) ≡ told row.0 (range_told row.1)

@@ -90,7 +90,7 @@ pub distinct-names : {X : Type 0} (make : List ℕ → Slot) → ((a b : List �
     → are_distinct same_slot (map make (names_in es)) ≡ true
 distinct-names make h es sorted = distinct-map same_bytes make h (names_in es) ∙ distinct-sorted bytes_cmp bytes_total same_bytes same_name es sorted
 
-slots-flat : (ds : Declarations) → all_slots ds ≡ flat_map slots_of ds
+pub slots-flat : (ds : Declarations) → all_slots ds ≡ flat_map slots_of ds
 slots-flat [] = refl
 slots-flat (d ∷ ds) = ap (λ (slots : List Slot). slots_of d ++ slots) (slots-flat ds)
 

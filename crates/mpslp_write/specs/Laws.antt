@@ -1,9 +1,9 @@
 -- Laws of canonical texts.
-use Rattle.std.specs.Prelude.{◌≡◌, IsTrue, map}
+use Rattle.std.specs.Prelude.{◌≡◌, ◌↔◌, IsTrue, map}
 use Rattle.std.specs.List.{list_all}
 use Rattle.mpslp_model.specs.Model.{LinearModel, IsSound}
 use Rattle.mpslp_mps.specs.Line.{is_legal_line, item_of}
-use Rattle.mpslp_mps.specs.MpsText.{read_lines, has_end}
+use Rattle.mpslp_mps.specs.MpsText.{read_lines, has_end, DeclaresMps}
 use Rattle.mpslp_write.specs.Printed.{printed, item_in}
 use Rattle.mpslp_write.specs.CanonicalMps.{canonical_lines, canonical_mps}
 
@@ -17,3 +17,11 @@ pub record IsReadAsPrinted (m : LinearModel) : Type 0 where
 
 abbrev pub AreReadAsPrinted : Type 0
 AreReadAsPrinted = (m : LinearModel) → IsSound m → IsReadAsPrinted m
+
+-- The canonical text of a sound model declares it.
+abbrev pub DeclareTheirModels : Type 0
+DeclareTheirModels = (m : LinearModel) → IsSound m → DeclaresMps (canonical_mps m) m
+
+-- Sound models have the same canonical text exactly if they are the same.
+abbrev pub TellModelsApart : Type 0
+TellModelsApart = (m n : LinearModel) → IsSound m → IsSound n → (canonical_mps m ≡ canonical_mps n) ↔ (m ≡ n)
