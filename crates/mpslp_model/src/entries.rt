@@ -1,6 +1,6 @@
 //! Maps, each kept as a vector of its entries in the order of their keys.
 
-ghost use Rattle.std.specs.Prelude.{◌≡◌, ◌<◌, ◌↔◌, [], None, IsOk, IsTrue, OnOk, OnErr, is_some, position, vec_len, vec_capacity};
+ghost use Rattle.std.specs.Prelude.{◌≡◌, ◌<◌, ◌↔◌, [], None, IsOk, IsTrue, OnOk, OnErr, Some, length, is_some, position, slice_get, vec_len, vec_capacity};
 ghost use Rattle.std.specs.Option.{ForSome, option_copied, option_map_or};
 ghost use Rattle.std.specs.Ordering.{is_eq, is_le};
 ghost use Rattle.std.specs.Cmp.{IsTotalOrder};
@@ -133,6 +133,14 @@ impl<'a> Query<Position> for PlaceAt<'a> {
     fn compare(&self, other: &Position) -> Ordering {
         compare_places(self.row, self.column, other)
     }
+}
+
+/// The entry of number `i`.
+pub(crate) fn entry_at<K, V>(entries: &[(K, V)], i: usize) -> &(K, V)
+    requires { i < length entries.now }
+    ensures { slice_get entries.now i ≡ Some result.now }
+{
+    &entries[i]
 }
 
 /// The place of the first entry that is not below the key.
