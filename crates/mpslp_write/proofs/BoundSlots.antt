@@ -47,7 +47,8 @@ each-bound_slot P column l u = each-slot P column.0 l u (printed_bounds column.1
 
 -- ---- each side is declared once
 
-lower-once : (name : List ℕ) (a : Number) (rest : List PrintedBound) → are_distinct same_slot (slots_at name rest) ≡ true → are_distinct same_slot (slots_at name (valued bounds.Lower a ∷ rest)) ≡ true
+lower-once : (name : List ℕ) (a : Number) (rest : List PrintedBound) → are_distinct same_slot (slots_at name rest) ≡ true
+    → are_distinct same_slot (slots_at name (valued bounds.Lower a ∷ rest)) ≡ true
     → are_distinct same_slot (slots_at name (printed_lower (Finite a) ++ rest)) ≡ true
 lower-once name a rest h k = elim (is_zero a) as (λ b. are_distinct same_slot (slots_at name (cond b [] (valued bounds.Lower a ∷ []) ++ rest)) ≡ true) [ true ↦ h | false ↦ k ]
 
@@ -84,8 +85,8 @@ bounds-apart : (columns : List (List ℕ × Column)) → AreOther columns → Ap
 bounds-apart [] h = tt
 bounds-apart (column ∷ columns) h = (
   each-bound_slot (λ slot. Each (λ other. IsNew same_slot slot (bound_slots other)) columns) column
-  (Each-weaker (λ other. same_bytes other.0 column.0 ≡ false) (λ other. IsNew same_slot (lower_slot column.0) (bound_slots other)) (lower-new column.0) columns h.0)
-  (Each-weaker (λ other. same_bytes other.0 column.0 ≡ false) (λ other. IsNew same_slot (upper_slot column.0) (bound_slots other)) (upper-new column.0) columns h.0),
+      (Each-weaker (λ other. same_bytes other.0 column.0 ≡ false) (λ other. IsNew same_slot (lower_slot column.0) (bound_slots other)) (lower-new column.0) columns h.0)
+      (Each-weaker (λ other. same_bytes other.0 column.0 ≡ false) (λ other. IsNew same_slot (upper_slot column.0) (bound_slots other)) (upper-new column.0) columns h.0),
   bounds-apart columns h.1,
 )
 

@@ -1,19 +1,19 @@
 -- The canonical text of a sound model declares it.
-use Rattle.std.proofs.Common.{◌≡◌, refl, sym, ap, subst, ◌∙◌, List, [], ◌∷◌, ℕ, Bool, true, map}
+use Rattle.std.proofs.Common.{◌≡◌, sym, ap, subst, ◌∙◌, List, [], ℕ, map}
 use Rattle.std.specs.List.{list_all}
 use Rattle.mpslp_model.specs.Model.{LinearModel, IsSound}
 use Rattle.mpslp_model.specs.Declaration.{Declarations, empty_draft}
 use Rattle.mpslp_model.specs.Meaning.{Means}
 use Rattle.mpslp_model.specs.Consistency.{AreConsistent}
 use Rattle.mpslp_model.proofs.BoolLemmas.{both_so}
-use Rattle.mpslp_mps.specs.Line.{Item, is_legal_line, item_of}
+use Rattle.mpslp_mps.specs.Line.{is_legal_line, item_of}
 use Rattle.mpslp_mps.specs.MpsText.{read_lines, has_end, declarations_of, DeclaresMps}
 use Rattle.mpslp_mps.proofs.PlacedLemmas.{declared_items, have_good_form, Walk}
 use Rattle.mpslp_write.specs.Listing.{listing_of}
 use Rattle.mpslp_write.specs.CanonicalMps.{canonical_mps}
 use Rattle.mpslp_write.specs.Laws.{IsReadAsPrinted, DeclareTheirModels, TellModelsApart}
 use Rattle.mpslp_write.proofs.ReadLemmas.{read-as-printed}
-use Rattle.mpslp_write.proofs.WholeWalk.{whole_items, whole_decl, whole-walk}
+use Rattle.mpslp_write.proofs.WholeWalk.{whole_items, whole-walk}
 use Rattle.mpslp_write.proofs.ListedItems.{whole_of, listed-items}
 use Rattle.mpslp_write.proofs.ListedParts.{listed_decl}
 use Rattle.mpslp_write.proofs.ListingFacts.{sound-listing}

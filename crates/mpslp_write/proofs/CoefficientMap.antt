@@ -5,12 +5,11 @@ use Rattle.std.specs.List.{flat_map, list_any, cons_option}
 use Rattle.std.specs.Option.{option_map}
 use Rattle.std.specs.Cmp.{first_so, second_so}
 use Rattle.std.specs.FinMap.{find}
-use Rattle.mpslp_decimal.specs.Decimal.{Number, is_decimal, is_zero, zero_number}
+use Rattle.mpslp_decimal.specs.Decimal.{Number, is_decimal, is_zero}
 use Rattle.mpslp_model.specs.Name.{same_bytes, is_one_of}
-use Rattle.mpslp_model.specs.Model.{Row, Column, Place, place_cmp}
+use Rattle.mpslp_model.specs.Model.{Column, Place, place_cmp}
 use Rattle.mpslp_model.specs.Declaration.{empty_draft, names_in}
-use Rattle.mpslp_model.proofs.BoolLemmas.{both_so, not_so, or_left, or_right}
-use Rattle.mpslp_model.proofs.EachLemmas.{Each, Each-weaker, Each-append, Each-flat_map, Each-filter, Each-all}
+use Rattle.mpslp_model.proofs.EachLemmas.{Each, Each-append, Each-flat_map, Each-all}
 use Rattle.mpslp_model.proofs.PutsLemmas.{puts, find-front, some_cons, some_append_left, some_append_right}
 use Rattle.mpslp_model.proofs.DraftLemmas.{coefficients-all}
 use Rattle.mpslp_model.proofs.DraftEntries.{same_place}

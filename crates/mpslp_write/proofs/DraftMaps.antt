@@ -1,35 +1,26 @@
 -- The draft of a sound listing's canonical declarations, map by map.
-use Rattle.std.proofs.Common.{◌≡◌, refl, sym, ap, subst, ◌∙◌, List, [], ◌∷◌, ◌++◌, ℕ, Bool, true, false, not, cond, map, append_assoc}
-use Rattle.std.specs.Prelude.{Option, Some, None, is_some, filter, filter_map, ◌&&◌, ◌||◌}
-use Rattle.std.specs.List.{flat_map, list_any, cons_option}
-use Rattle.std.specs.Option.{option_map}
-use Rattle.std.specs.Ordering.{eq_by_cmp, is_eq}
-use Rattle.std.specs.Cmp.{first_so, second_so}
+use Rattle.std.proofs.Common.{◌≡◌, refl, sym, ap, ◌∙◌, List, [], ◌∷◌, ◌++◌, ℕ, Bool, true, false, not, cond, map, append_assoc}
+use Rattle.std.specs.Prelude.{Option, Some, None, is_some, filter, ◌&&◌, ◌||◌}
+use Rattle.std.specs.List.{flat_map}
+use Rattle.std.specs.Ordering.{eq_by_cmp}
 use Rattle.std.specs.Cmp.Lexicographic.{texts_ties}
 use Rattle.std.specs.FinMap.{find, is_sorted}
 use Rattle.std.proofs.lemmas.List.{append-nil}
-use Rattle.std.proofs.Math.Dec.{T}
-use Rattle.mpslp_decimal.specs.Decimal.{Number, IsDecimal, is_decimal, is_zero, zero_number, negated}
-use Rattle.mpslp_model.specs.Name.{is_mps_name, same_bytes, is_one_of}
-use Rattle.mpslp_model.specs.Model.{Row, Column, Place, bytes_cmp, place_cmp, is_sound_row, is_sound_column}
+use Rattle.mpslp_decimal.specs.Decimal.{Number, IsDecimal, is_decimal, is_zero, negated}
+use Rattle.mpslp_model.specs.Name.{is_mps_name, is_one_of}
+use Rattle.mpslp_model.specs.Model.{Column, Place, bytes_cmp, place_cmp, is_sound_row, is_sound_column}
 use Rattle.mpslp_model.specs.Declaration.{RowForm, Draft, draft_of, empty_draft, at_name, has_name, names_in}
-use Rattle.mpslp_model.specs.declared.kinds.Kind.{Kind}
-use Rattle.mpslp_model.specs.declared.kinds.Kind.TheVariants.{Continuous, Integer}
-use Rattle.mpslp_model.proofs.BoolLemmas.{both_so, not_so}
-use Rattle.mpslp_model.proofs.EachLemmas.{Each, Each-weaker, Each-both, Each-append, Each-map, Each-flat_map, Each-filter, Each-all}
-use Rattle.mpslp_model.proofs.PutsLemmas.{T_from, true_from, puts, puts-append, find-front, finds_own, some_append_left}
+use Rattle.mpslp_model.proofs.EachLemmas.{Each, Each-all}
+use Rattle.mpslp_model.proofs.PutsLemmas.{T_from, puts, puts-append, find-front, finds_own}
 use Rattle.mpslp_model.proofs.PartedLemmas.{parted-give}
-use Rattle.mpslp_model.proofs.DraftLemmas.{row_part, right_side_part, range_part, column_part, coefficient_part, lower_part, upper_part, marked_part, integer_part, binary_part, rows-all, right_sides-all, ranges-all, columns-all, coefficients-all, lowers-all, uppers-all, marked-all, integers-all, binaries-all}
-use Rattle.mpslp_model.proofs.DraftEntries.{same_place}
+use Rattle.mpslp_model.proofs.DraftLemmas.{rows-all, right_sides-all, ranges-all, columns-all, lowers-all, uppers-all, marked-all, integers-all, binaries-all}
 use Rattle.mpslp_model.proofs.MeaningFromNoFault.{sorted-mapped}
-use Rattle.mpslp_model.proofs.SlotLemmas.{same_name}
-use Rattle.mpslp_model.proofs.SortedDrafts.{bytes_total, place_total, tied_names}
-use Rattle.mpslp_mps.proofs.ColumnsWalk.{Cell}
+use Rattle.mpslp_model.proofs.SortedDrafts.{bytes_total, tied_names}
 use Rattle.mpslp_write.specs.Listing.{Listing}
-use Rattle.mpslp_write.specs.CanonicalMps.{cell_at, column_cells, printed_cells, is_integer_kind, is_integer_column, is_continuous_column}
+use Rattle.mpslp_write.specs.CanonicalMps.{column_cells, printed_cells, is_integer_kind, is_integer_column, is_continuous_column}
 use Rattle.mpslp_write.proofs.CanonicalItems.{to_cell, cells_in}
-use Rattle.mpslp_write.proofs.EntryLemmas.{first_there, then_told, told, all_told, find-join, sorted-kept, find-puts, puts-own, find-kept, puts-kept, sorted-told, find-told, filter-not_not, found-either}
-use Rattle.mpslp_write.proofs.ListedParts.{form_told, value_told, side_told, range_told, column_lower, column_upper, row_forms, own_column, own_coefficient, listed_decl, from_cells, rows-part, right_sides-part, ranges-part, columns-part, coefficients-part, marked-part, integers-part, binaries-part, lowers-part, uppers-part}
+use Rattle.mpslp_write.proofs.EntryLemmas.{first_there, then_told, told, all_told, sorted-kept, find-puts, puts-own, find-kept, sorted-told, find-told, filter-not_not}
+use Rattle.mpslp_write.proofs.ListedParts.{form_told, value_told, side_told, range_told, column_lower, column_upper, row_forms, own_column, listed_decl, from_cells, rows-part, right_sides-part, ranges-part, columns-part, marked-part, integers-part, binaries-part, lowers-part, uppers-part}
 
 -- ---- a sound listing
 

@@ -1,14 +1,13 @@
 -- Entries in the order of their keys: put one after another, made of what some elements have, and filtered.
-use Rattle.std.proofs.Common.{◌≡◌, refl, sym, ap, subst, ◌∙◌, List, [], ◌∷◌, ◌++◌, Bool, true, false, not, cond, map}
-use Rattle.std.specs.Prelude.{Option, Some, None, is_some, filter, ◌&&◌, ◌||◌}
+use Rattle.std.proofs.Common.{◌≡◌, refl, sym, ap, subst, ◌∙◌, List, [], ◌∷◌, ◌++◌, Bool, true, false, not, cond}
+use Rattle.std.specs.Prelude.{Option, Some, None, is_some, filter, ◌||◌}
 use Rattle.std.specs.List.{flat_map, list_any}
 use Rattle.std.specs.Ordering.{is_eq, is_lt, eq_by_cmp}
-use Rattle.std.specs.Cmp.{IsTotalOrder, tied_itself, first_so, second_so}
+use Rattle.std.specs.Cmp.{IsTotalOrder, first_so, second_so}
 use Rattle.std.specs.declared.cmp.Ordering.{Ordering}
 use Rattle.std.specs.declared.cmp.Ordering.TheVariants.{Less, Equal, Greater}
 use Rattle.std.specs.FinMap.{find, put, is_sorted}
 use Rattle.std.specs.FinMap.Entries.{find-put, same_entries, below_all}
-use Rattle.std.proofs.Math.Dec.{T}
 use Rattle.mpslp_model.proofs.BoolLemmas.{both_so, or_left, or_right}
 use Rattle.mpslp_model.proofs.EachLemmas.{Each, Each-weaker}
 use Rattle.mpslp_model.proofs.PutsLemmas.{equal_from, T_from, true_from, puts, is_sorted-puts, puts-give, finds_own, some_append_left, some_append_right}

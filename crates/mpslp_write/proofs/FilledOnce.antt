@@ -37,6 +37,7 @@ abbrev joined : List (List Slot) → List Slot
 joined [] = []
 joined (section ∷ sections) = section ++ joined sections
 
+-- the slots of a section: none is filled twice, all are of its rank
 record Section (n : ℕ) (slots : List Slot) : Type 0 where
   pub once : are_distinct same_slot slots ≡ true
   pub rank : AllOf n slots
@@ -74,7 +75,7 @@ listed_columns m = filter is_continuous_column m.columns ++ filter is_integer_co
 abbrev IsFound : Listing → List ℕ × Column → Type 0
 IsFound m column = at_name m.columns column.0 ≡ Some column.1
 
--- a column is of one kind
+-- a name has one column, of one kind
 kinds_differ : (m : Listing) (x y : List ℕ × Column) → IsFound m x → is_continuous_column x ≡ true → IsFound m y → is_integer_column y ≡ true → same_bytes y.0 x.0 ≡ false
 kinds_differ m x y found continuous there integer = by (same_bytes y.0 x.0) refl
   where
@@ -92,7 +93,8 @@ parts-differ m h =
     (Each-weaker (IsFound m) (λ x. is_continuous_column x ≡ true → Each (λ y. same_bytes y.0 x.0 ≡ false) (filter is_integer_column m.columns))
     (λ x found continuous.
     Each-filter (λ y. same_bytes y.0 x.0 ≡ false) is_integer_column m.columns
-    (Each-weaker (IsFound m) (λ y. is_integer_column y ≡ true → same_bytes y.0 x.0 ≡ false) (λ y there integer. kinds_differ m x y found continuous there integer) m.columns own)) m.columns own)
+    (Each-weaker (IsFound m) (λ y. is_integer_column y ≡ true → same_bytes y.0 x.0 ≡ false)
+    (λ y there integer. kinds_differ m x y found continuous there integer) m.columns own)) m.columns own)
 
 listed-other : (m : Listing) → IsSoundListing m → AreOther (listed_columns m)
 listed-other m h =
@@ -114,11 +116,13 @@ columns-fill m =
     (λ i. cells-fill m false (λ _. refl) (filter is_continuous_column m.columns) i ++ cells-fill m true (λ _. refl) (filter is_integer_column m.columns) i)
     ∙ sym (flat_map-append (column_slots m) (filter is_continuous_column m.columns) (filter is_integer_column m.columns))
 
+column-rank : (m : Listing) (column : List ℕ × Column) → AllOf 2 (column_slots m column)
+column-rank m column = Each-flat_map (λ slot. rank slot ≡ 2) cell_slot (cells_in m column) (Each-all (λ cell. AllOf 2 (cell_slot cell)) (λ cell. (refl, tt)) (cells_in m column))
+
 columns-section : (m : Listing) → IsSoundListing m → Section 2 (flat_map (column_slots m) (listed_columns m))
 columns-section m h = record {
   once = coefficients-distinct m h (listed_columns m) (listed-other m h);
-  rank = Each-flat_map (λ slot. rank slot ≡ 2) (column_slots m) (listed_columns m)
-      (Each-all (λ column. AllOf 2 (column_slots m column)) (λ column. Each-flat_map (λ slot. rank slot ≡ 2) cell_slot (cells_in m column) (Each-all (λ cell. AllOf 2 (cell_slot cell)) (λ cell. (refl, tt)) (cells_in m column))) (listed_columns m));
+  rank = Each-flat_map (λ slot. rank slot ≡ 2) (column_slots m) (listed_columns m) (Each-all (λ column. AllOf 2 (column_slots m column)) (column-rank m) (listed_columns m));
 }
 
 -- ---- BOUNDS
@@ -126,7 +130,8 @@ columns-section m h = record {
 bounds-section : (m : Listing) → IsSoundListing m → Section 5 (flat_map bound_slots m.columns)
 bounds-section m h = record {
   once = bounds-distinct m.columns (sorted-other m.columns h.columns_sorted);
-  rank = Each-flat_map (λ slot. rank slot ≡ 5) bound_slots m.columns (Each-all (λ column. AllOf 5 (bound_slots column)) (λ column. each-bound_slot (λ slot. rank slot ≡ 5) column refl refl) m.columns);
+  rank = Each-flat_map (λ slot. rank slot ≡ 5) bound_slots m.columns
+      (Each-all (λ column. AllOf 5 (bound_slots column)) (λ column. each-bound_slot (λ slot. rank slot ≡ 5) column refl refl) m.columns);
 }
 
 bounds-fill : (columns : List (List ℕ × Column)) → flat_map (made_of slots_of bound_decl) (flat_map bounds_in columns) ≡ flat_map bound_slots columns
@@ -140,14 +145,13 @@ sections m =
     ∷ map range_slot (names_in (all_told range_told m.rows)) ∷ flat_map bound_slots m.columns ∷ []
 
 sections-once : (m : Listing) → IsSoundListing m → Sections 0 (sections m)
-sections-once m h = (
-  sense-section m.sense,
-  (record { once = row_slots-distinct m h; rank = (refl, all-named 1 row_slot (λ _. refl) (m.objective ∷ names_in m.rows)) },
-  (columns-section m h,
-  (record { once = side_slots-distinct m h; rank = all-named 3 right_side_slot (λ _. refl) (names_in (side_values m)) },
-  (record { once = range_slots-distinct m h; rank = all-named 4 range_slot (λ _. refl) (names_in (all_told range_told m.rows)) },
-  (bounds-section m h, tt))))),
-)
+sections-once m h =
+    let rows : Section 1 (row_slots m) = record { once = row_slots-distinct m h; rank = (refl, all-named 1 row_slot (λ _. refl) (m.objective ∷ names_in m.rows)) } in
+    let side_names = names_in (side_values m) in
+    let sides : Section 3 (map right_side_slot side_names) = record { once = side_slots-distinct m h; rank = all-named 3 right_side_slot (λ _. refl) side_names } in
+    let range_names = names_in (all_told range_told m.rows) in
+    let ranges : Section 4 (map range_slot range_names) = record { once = range_slots-distinct m h; rank = all-named 4 range_slot (λ _. refl) range_names } in
+    (sense-section m.sense, (rows, (columns-section m h, (sides, (ranges, (bounds-section m h, tt))))))
 
 sections-fill : (m : Listing) → flat_map slots_of (listed_decl m) ≡ joined (sections m)
 sections-fill m =

@@ -1,55 +1,43 @@
 -- The sections of a sound listing's canonical text are good ones to walk over.
-use Rattle.std.proofs.Common.{◌≡◌, refl, sym, ap, ◌∙◌, List, [], ◌∷◌, ◌++◌, ℕ, Bool, true, false, not, cond, map}
-use Rattle.std.specs.Prelude.{Option, Some, None, is_some, filter, filter_map, ◌&&◌, Ok}
-use Rattle.std.specs.List.{flat_map, list_all, cons_option}
-use Rattle.std.specs.Option.{option_map, option_map_or}
-use Rattle.std.specs.Ordering.{is_lt}
-use Rattle.std.specs.declared.cmp.Ordering.{Ordering}
-use Rattle.std.specs.declared.cmp.Ordering.TheVariants as orders
-use Rattle.std.specs.Cmp.{first_so, second_so, tied_itself}
-use Rattle.std.specs.FinMap.{find, is_sorted, entries, entries_sorted}
-use Rattle.std.specs.FinMap.Entries.{below_all}
-use Rattle.mpslp_decimal.specs.Decimal.{Number, IsDecimal, is_decimal, is_zero, is_infinite_size, zero_number, negated, difference_of}
-use Rattle.mpslp_decimal.specs.Literal.{number_of}
-use Rattle.mpslp_decimal.specs.NumberText.{number_text}
+use Rattle.std.proofs.Common.{◌≡◌, refl, sym, ap, ◌∙◌, List, [], ◌∷◌, ◌++◌, ℕ, Bool, true, false, cond, map}
+use Rattle.std.specs.Prelude.{Option, Some, None}
+use Rattle.std.specs.List.{flat_map}
+use Rattle.std.specs.Option.{option_map_or}
+use Rattle.mpslp_decimal.specs.Decimal.{Number, IsDecimal, is_zero, zero_number, negated}
 use Rattle.mpslp_decimal.proofs.NumberTextLemmas.{number-text}
-use Rattle.mpslp_model.specs.Name.{is_mps_name, has_name_length, is_visible, same_bytes, marker}
-use Rattle.mpslp_model.specs.Model.{LinearModel, Row, Column, Place, bytes_cmp, place_cmp, limit_of, is_bounded_decimal, is_lower_side, is_upper_side, is_at_most, are_sides, has_bounded_distance, is_sound_row, is_sound_column, is_sound_coefficient, IsSound}
-use Rattle.mpslp_model.specs.Declaration.{RowForm, by_type, Declaration, declare_objective, Draft, empty_draft, adding, adding_all, at_name, has_name, has_column, names_in, is_free_form, is_free_row}
-use Rattle.mpslp_model.specs.Refusal.{is_nonempty}
+use Rattle.mpslp_model.specs.Name.{is_mps_name}
+use Rattle.mpslp_model.specs.Model.{Row, Column, bytes_cmp, is_bounded_decimal, is_lower_side, is_upper_side, is_sound_row, is_sound_column}
+use Rattle.mpslp_model.specs.Declaration.{RowForm, by_type, Declaration, declare_objective, Draft, empty_draft, adding, adding_all, at_name, is_free_form, is_free_row}
 use Rattle.mpslp_model.specs.declared.kinds.Sense.{Sense}
 use Rattle.mpslp_model.specs.declared.kinds.Sense.TheVariants.{Minimize, Maximize}
 use Rattle.mpslp_model.specs.declared.kinds.Kind.{Kind}
 use Rattle.mpslp_model.specs.declared.kinds.Kind.TheVariants.{Continuous, Integer}
 use Rattle.mpslp_model.specs.declared.kinds.Limit.{Limit}
 use Rattle.mpslp_model.specs.declared.kinds.Limit.TheVariants.{MinusInf, Finite, PlusInf}
-use Rattle.mpslp_model.proofs.BoolLemmas.{both_so, not_so, back}
-use Rattle.mpslp_model.proofs.EachLemmas.{Each, Each-weaker, Each-both, Each-append, Each-map, Each-flat_map, Each-filter, Each-all, Each-from_list_all}
-use Rattle.mpslp_model.proofs.PutsLemmas.{true_from, puts}
+use Rattle.mpslp_model.proofs.BoolLemmas.{back}
+use Rattle.mpslp_model.proofs.EachLemmas.{Each, Each-weaker, Each-append, Each-map, Each-flat_map, Each-all}
+use Rattle.mpslp_model.proofs.PutsLemmas.{puts}
 use Rattle.mpslp_model.proofs.CoefficientLemmas.{flat_map-flat_map}
-use Rattle.mpslp_model.proofs.DraftLemmas.{row_part, column_part, rows-all, columns-all}
-use Rattle.mpslp_model.proofs.DraftEntries.{same_place}
-use Rattle.mpslp_model.proofs.SlotLemmas.{same_name}
-use Rattle.mpslp_model.proofs.SortedDrafts.{bytes_total, place_total, tied_names}
+use Rattle.mpslp_model.proofs.DraftLemmas.{row_part, rows-all}
+use Rattle.mpslp_model.proofs.SortedDrafts.{bytes_total, tied_names}
 use Rattle.mpslp_mps.proofs.RowsWalk.{RowItem, row_decl, Side, ReadsAs}
-use Rattle.mpslp_mps.proofs.ColumnsWalk.{Cell, cell_decl, GoodCell, AreOf, Group, cells_of, IsGroup, AreApart, AreAbsent}
-use Rattle.mpslp_mps.proofs.BoundsWalk.{Bound, GoodBound}
-use Rattle.mpslp_write.specs.Listing.{Listing, listing_of}
+use Rattle.mpslp_mps.proofs.ColumnsWalk.{Cell, cell_decl, cells_of}
+use Rattle.mpslp_mps.proofs.BoundsWalk.{GoodBound}
+use Rattle.mpslp_write.specs.Listing.{Listing}
 use Rattle.mpslp_write.specs.PrintedValues.{have_same_value, valued, printed_type, printed_side, printed_range, PrintedBound, printed_lower, printed_upper, printed_bounds}
-use Rattle.mpslp_write.specs.CanonicalMps.{cell_at, column_cells, printed_cells, is_integer_kind, is_integer_column, is_continuous_column}
 use Rattle.mpslp_mps.specs.declared.bound_types.BoundType.TheVariants as bounds
-use Rattle.mpslp_write.proofs.CanonicalItems.{to_row, to_cell, cells_in, group_in, to_side, side_unless_zero, row_side, sides_in, row_range, value_in, to_bound, bounds_in}
-use Rattle.mpslp_write.proofs.EarlyWalk.{sense_decl, AreColumns}
-use Rattle.mpslp_write.proofs.WholeWalk.{Whole, IsGoodLate, IsGoodWhole, draft_at_columns, draft_at_sides}
+use Rattle.mpslp_write.proofs.CanonicalItems.{to_row, to_side, side_unless_zero, row_side, sides_in, row_range, to_bound, bounds_in}
+use Rattle.mpslp_write.proofs.EarlyWalk.{sense_decl}
+use Rattle.mpslp_write.proofs.WholeWalk.{IsGoodWhole, draft_at_columns, draft_at_sides}
 use Rattle.mpslp_write.proofs.ListedItems.{whole_of}
-use Rattle.mpslp_write.proofs.EntryLemmas.{then_told, find-kept, found-each, puts-own, sorted-kept}
+use Rattle.mpslp_write.proofs.EntryLemmas.{then_told, puts-own}
 use Rattle.mpslp_write.proofs.WholeParts.{kept-all}
-use Rattle.mpslp_write.proofs.ListedParts.{form_told, row_forms, own_column, from_cells, rows-made, cells-made}
-use Rattle.mpslp_write.proofs.DraftMaps.{is_sound_entry, IsSoundListing, one_of-names, none_is, own-found, names_sorted, at-mapped, named, plain-alone}
-use Rattle.mpslp_write.proofs.ListingFacts.{row_named, row_sides, row_distance, column_named, column_sides, no_marker, bounded_so, bounded_finite, later_differ}
-use Rattle.mpslp_model.specs.declared.kinds.RowType.TheVariants.{Free, AtMost, AtLeast, Equal}
+use Rattle.mpslp_write.proofs.ListedParts.{form_told, row_forms, rows-made}
+use Rattle.mpslp_write.proofs.DraftMaps.{IsSoundListing, one_of-names, none_is, own-found, names_sorted, at-mapped}
+use Rattle.mpslp_write.proofs.ListingFacts.{row_named, row_sides, row_distance, column_sides, bounded_so, bounded_finite}
+use Rattle.mpslp_model.specs.declared.kinds.RowType.TheVariants.{AtLeast, Equal}
 use Rattle.mpslp_write.proofs.PrintableLemmas.{Holds, side-decimal, range-decimal, negated-decimal}
-use Rattle.mpslp_write.proofs.ListingFacts.{sound-listing, lower_of, upper_of}
+use Rattle.mpslp_write.proofs.ListingFacts.{lower_of, upper_of}
 use Rattle.mpslp_write.proofs.GoodColumns.{are-columns}
 
 -- ---- right sides and ranges are read as the numbers that they were printed from

@@ -1,5 +1,5 @@
 -- The canonical declarations of a sound listing go together, where no slot is filled twice.
-use Rattle.std.proofs.Common.{◌≡◌, refl, sym, ap, ◌∙◌, List, [], ◌∷◌, ◌++◌, ℕ, Bool, true, false, not, cond, map}
+use Rattle.std.proofs.Common.{◌≡◌, refl, ap, ◌∙◌, List, [], ◌∷◌, ◌++◌, ℕ, Bool, true, false, not, cond, map}
 use Rattle.std.specs.Prelude.{Option, Some, None, is_some, filter, filter_map, ◌&&◌, ◌||◌}
 use Rattle.std.specs.List.{flat_map, list_all, list_any, cons_option}
 use Rattle.std.specs.Option.{option_map, option_map_or}
@@ -8,14 +8,14 @@ use Rattle.std.specs.Cmp.Lexicographic.{texts_ties}
 use Rattle.std.specs.FinMap.{find}
 use Rattle.mpslp_decimal.specs.Decimal.{Number, is_decimal, is_zero, is_infinite_size, negated, difference_of}
 use Rattle.mpslp_model.specs.Name.{same_bytes}
-use Rattle.mpslp_model.specs.Model.{Row, Column, Place, place_cmp, is_bounded_decimal, has_bounded_distance, is_sound_row}
-use Rattle.mpslp_model.specs.Declaration.{RowForm, by_type, Declaration, declare_sense, declare_objective, Declarations, at_name, has_name, has_row, has_column, is_objective, is_free_form, is_free_row}
-use Rattle.mpslp_model.specs.Consistency.{is_known, is_allowed, has_one_constant, has_objective_side, declares_objective, same_slot, all_slots, are_distinct, AreConsistent}
+use Rattle.mpslp_model.specs.Model.{Row, Column, Place, place_cmp, is_bounded_decimal, has_bounded_distance}
+use Rattle.mpslp_model.specs.Declaration.{RowForm, by_type, Declaration, declare_objective, Declarations, at_name, has_name, has_row, has_column, is_objective, is_free_form, is_free_row}
+use Rattle.mpslp_model.specs.Consistency.{is_known, is_allowed, has_objective_side, declares_objective, same_slot, all_slots, are_distinct, AreConsistent}
 use Rattle.mpslp_model.specs.declared.kinds.Sense.{Sense}
 use Rattle.mpslp_model.specs.declared.kinds.Sense.TheVariants.{Minimize, Maximize}
 use Rattle.mpslp_model.specs.declared.kinds.Limit.{Limit}
 use Rattle.mpslp_model.specs.declared.kinds.Limit.TheVariants.{MinusInf, Finite, PlusInf}
-use Rattle.mpslp_model.specs.declared.kinds.RowType.TheVariants.{Free, AtMost, AtLeast, Equal}
+use Rattle.mpslp_model.specs.declared.kinds.RowType.TheVariants.{AtLeast, Equal}
 use Rattle.mpslp_model.proofs.BoolLemmas.{both_so, or_left, or_right, both_false}
 use Rattle.mpslp_model.proofs.EachLemmas.{Each, Each-weaker, Each-append, Each-map, Each-flat_map, Each-filter, Each-all, list_all-from_Each}
 use Rattle.mpslp_model.proofs.LaterDrafts.{itself_named}
@@ -78,10 +78,10 @@ printed-rows P objective (cell ∷ cells) o h = h
 known-cells : (m : Listing) → IsSoundListing m → (column : List ℕ × Column) → at_name m.columns column.0 ≡ Some column.1 → Each (KnownCell m) (cells_in m column)
 known-cells m h column is =
     let rows = printed-rows (λ n. has_row (drafted m) n ≡ true) m.objective (column_cells m column.0) (objective-there m)
-        (rows-of-cells (λ n. has_row (drafted m) n ≡ true) m.coefficients column.0 (m.objective ∷ map (λ row. row.0) m.rows) (
-          objective-there m,
-          Each-map (λ n. has_row (drafted m) n ≡ true) (λ row. row.0) m.rows (Each-weaker (IsOwnRow m) (λ row. has_row (drafted m) row.0 ≡ true) (λ row k. row-there m h row k.1) m.rows (own-rows m h)),
-        )) in
+    (rows-of-cells (λ n. has_row (drafted m) n ≡ true) m.coefficients column.0 (m.objective ∷ map (λ row. row.0) m.rows) (
+      objective-there m,
+      Each-map (λ n. has_row (drafted m) n ≡ true) (λ row. row.0) m.rows (Each-weaker (IsOwnRow m) (λ row. has_row (drafted m) row.0 ≡ true) (λ row k. row-there m h row k.1) m.rows (own-rows m h)),
+    )) in
     Each-map (KnownCell m) (to_cell column.0) (printed_cells m.objective (column_cells m column.0))
     (Each-weaker (λ cell. has_row (drafted m) cell.0 ≡ true) (λ cell. KnownCell m (to_cell column.0 cell)) (λ cell k. (k, column-there m h column is)) (printed_cells m.objective (column_cells m column.0)) rows)
 
@@ -184,11 +184,14 @@ allowed-range m h row k = by (printed_range row.1.lower row.1.upper) refl (range
     by : (o : Option Number) → printed_range row.1.lower row.1.upper ≡ o → Holds (λ d. is_bounded_decimal d ≡ true) o
         → Each (λ (side : Side). Each (Allowed m) (range_decl side)) (option_map_or (λ value. to_side row.0 value ∷ []) o [])
     by None e b = tt
-    by (Some d) e b = ((
-      both_so (not (is_objective (drafted m) row.0 || is_free_row (drafted m) row.0)) (not (is_infinite_size d))
-          (no_false (is_objective (drafted m) row.0) (is_free_row (drafted m) row.0) not_mine (not_free d e)) (second_so (is_decimal d) (not (is_infinite_size d)) b),
+    by (Some d) e b = (
+      (
+        both_so (not (is_objective (drafted m) row.0 || is_free_row (drafted m) row.0)) (not (is_infinite_size d))
+            (no_false (is_objective (drafted m) row.0) (is_free_row (drafted m) row.0) not_mine (not_free d e)) (second_so (is_decimal d) (not (is_infinite_size d)) b),
+        tt,
+      ),
       tt,
-    ), tt)
+    )
 
 allowed-form : (m : Listing) (form : BoundForm) (x : List ℕ) (v : Number) → Each (Allowed m) (decl_at form x v)
 allowed-form m fixed x v = (refl, (refl, tt))

@@ -1,17 +1,17 @@
 -- The draft of a sound model's canonical declarations means the model.
 use Rattle.std.proofs.Common.{◌≡◌, refl, sym, ap, subst, ◌∙◌, List, [], ◌∷◌, ◌++◌, ℕ, zero, suc, Bool, true, false, not, cond, map}
-use Rattle.std.specs.Prelude.{ℤ, pos, negsuc, neg_ℤ, Option, Some, None, is_some, is_none, unwrap_or, filter, ◌&&◌, ◌||◌}
-use Rattle.std.specs.List.{flat_map, list_all}
+use Rattle.std.specs.Prelude.{ℤ, pos, negsuc, neg_ℤ, Option, Some, None, is_some, is_none, unwrap_or, filter, ◌&&◌}
+use Rattle.std.specs.List.{list_all}
 use Rattle.std.specs.Ordering.{eq_by_cmp, is_eq}
 use Rattle.std.specs.declared.cmp.Ordering.{Ordering}
 use Rattle.std.specs.Cmp.{first_so, second_so, tied_itself}
 use Rattle.std.specs.FinMap as maps
 use Rattle.std.specs.FinMap.{FinMap, is_sorted}
 use Rattle.std.proofs.Math.Dec.{T}
-use Rattle.mpslp_decimal.specs.Decimal.{Number, IsDecimal, is_decimal, is_zero, is_negative, is_infinite_size, zero_number, negated, difference_of}
+use Rattle.mpslp_decimal.specs.Decimal.{Number, IsDecimal, is_decimal, is_zero, is_infinite_size, zero_number, negated, difference_of}
 use Rattle.mpslp_decimal.proofs.NumberTextLemmas.{zero-is}
 use Rattle.mpslp_decimal.proofs.OrderLemmas.{same_decimal}
-use Rattle.mpslp_model.specs.Model.{LinearModel, Row, Column, bytes_cmp, place_cmp, is_at_most, is_bounded_decimal, is_lower_side, is_upper_side, are_sides, is_sound_row, is_sound_column, IsSound}
+use Rattle.mpslp_model.specs.Model.{LinearModel, Row, Column, bytes_cmp, is_at_most, is_bounded_decimal, is_lower_side, is_upper_side, are_sides, is_sound_row, is_sound_column, IsSound}
 use Rattle.mpslp_model.specs.Declaration.{RowForm, by_type, Declaration, declare_sense, declare_objective, declare_row, declare_right_side, declare_range, declare_column, declare_coefficient, declare_lower, declare_upper, declare_marked, Declarations, Draft, empty_draft, adding, adding_all, at_name, has_name, names_in}
 use Rattle.mpslp_model.specs.Limits.{limits_of, plain_limits, has_infinite_right_side}
 use Rattle.mpslp_model.specs.Bounds.{zero_limit, one_limit, lower_bound, upper_bound, column_of, has_negative_upper, has_binary_bounds}
@@ -20,7 +20,7 @@ use Rattle.mpslp_model.specs.declared.kinds.Sense.{Sense}
 use Rattle.mpslp_model.specs.declared.kinds.Sense.TheVariants.{Minimize, Maximize}
 use Rattle.mpslp_model.specs.declared.kinds.Limit.{Limit}
 use Rattle.mpslp_model.specs.declared.kinds.Limit.TheVariants.{MinusInf, Finite, PlusInf}
-use Rattle.mpslp_model.specs.declared.kinds.RowType.TheVariants.{Free, AtMost, AtLeast, Equal}
+use Rattle.mpslp_model.specs.declared.kinds.RowType.TheVariants.{Free, AtLeast, Equal}
 use Rattle.mpslp_model.proofs.BoolLemmas.{so_not}
 use Rattle.mpslp_model.proofs.EachLemmas.{Each, Each-weaker, Each-both, Each-map, Each-all, list_all-from_Each}
 use Rattle.mpslp_model.proofs.PutsLemmas.{equal_from}
@@ -38,9 +38,9 @@ use Rattle.mpslp_write.proofs.EarlyWalk.{sense_decl}
 use Rattle.mpslp_write.proofs.WholeWalk.{Whole, whole_decl}
 use Rattle.mpslp_write.proofs.ListedItems.{whole_of}
 use Rattle.mpslp_write.proofs.EntryLemmas.{first_there, then_told, told}
-use Rattle.mpslp_write.proofs.WholeParts.{EachSection, each-whole}
+use Rattle.mpslp_write.proofs.WholeParts.{each-whole}
 use Rattle.mpslp_write.proofs.ListedParts.{form_told, value_told, side_told, range_told, column_lower, column_upper, row_forms, listed_decl}
-use Rattle.mpslp_write.proofs.DraftMaps.{IsSoundListing, drafted, own-found, names_sorted, named, rows-drafted, right_side-at, range-at, lower-at, upper-at, columns-drafted, marked-at, integers-drafted, binaries-drafted}
+use Rattle.mpslp_write.proofs.DraftMaps.{IsSoundListing, drafted, own-found, named, rows-drafted, right_side-at, range-at, lower-at, upper-at, columns-drafted, marked-at, integers-drafted, binaries-drafted}
 use Rattle.mpslp_write.proofs.CoefficientMap.{coefficients-kept}
 use Rattle.mpslp_write.proofs.ListingFacts.{sound-listing, row_sides, row_distance, column_sides, bounded_so, lower_of, upper_of, straight_of}
 use Rattle.mpslp_write.proofs.GoodWhole.{objective-no-row}

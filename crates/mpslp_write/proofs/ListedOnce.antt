@@ -1,6 +1,6 @@
 -- The coefficients of a sound listing fill different slots.
-use Rattle.std.proofs.Common.{◌≡◌, refl, sym, ap, ◌∙◌, List, [], ◌∷◌, ◌++◌, ℕ, Bool, true, false, not, map}
-use Rattle.std.specs.Prelude.{Option, Some, None, filter, ◌&&◌, ◌||◌, unwrap_or}
+use Rattle.std.proofs.Common.{◌≡◌, refl, ◌∙◌, List, [], ◌∷◌, ◌++◌, ℕ, true, false, not, map}
+use Rattle.std.specs.Prelude.{◌||◌}
 use Rattle.std.specs.List.{flat_map, list_any}
 use Rattle.std.specs.Cmp.{first_so, second_so}
 use Rattle.std.specs.Cmp.Lexicographic.{nat_list_eq_equiv}
@@ -9,10 +9,10 @@ use Rattle.std.specs.FinMap.Entries.{below_all}
 use Rattle.mpslp_decimal.specs.Decimal.{Number}
 use Rattle.mpslp_model.specs.Name.{same_bytes, is_one_of}
 use Rattle.mpslp_model.specs.Model.{Column, bytes_cmp}
-use Rattle.mpslp_model.specs.Declaration.{at_name, names_in}
+use Rattle.mpslp_model.specs.Declaration.{names_in}
 use Rattle.mpslp_model.specs.Consistency.{Slot, same_slot, are_distinct}
 use Rattle.mpslp_model.proofs.BoolLemmas.{both_so, so_not}
-use Rattle.mpslp_model.proofs.EachLemmas.{Each, Each-weaker, Each-append, Each-map, Each-flat_map, Each-filter, Each-all}
+use Rattle.mpslp_model.proofs.EachLemmas.{Each, Each-weaker, Each-append, Each-map, Each-flat_map, Each-all}
 use Rattle.mpslp_model.proofs.DistinctLemmas.{IsNew, Apart, distinct-flat_map, distinct-sorted}
 use Rattle.mpslp_model.proofs.SlotLemmas.{same_name}
 use Rattle.mpslp_model.proofs.SortedDrafts.{bytes_total}

@@ -1,5 +1,5 @@
 -- What the declarations of a listing's canonical text put into each map.
-use Rattle.std.proofs.Common.{◌≡◌, refl, sym, ap, ◌∙◌, List, [], ◌∷◌, ◌++◌, ℕ, Bool, true, false, not, cond, map}
+use Rattle.std.proofs.Common.{◌≡◌, refl, ap, ◌∙◌, List, [], ◌∷◌, ◌++◌, ℕ, Bool, true, false, cond, map}
 use Rattle.std.specs.Prelude.{Option, Some, None, filter}
 use Rattle.std.specs.List.{flat_map}
 use Rattle.std.specs.Option.{option_map_or}
@@ -24,10 +24,10 @@ use Rattle.mpslp_write.specs.Listing.{Listing}
 use Rattle.mpslp_write.specs.PrintedValues.{have_same_value, valued, printed_type, printed_side, printed_range, PrintedBound, printed_lower, printed_upper, printed_bounds}
 use Rattle.mpslp_write.specs.CanonicalMps.{is_integer_column, is_continuous_column}
 use Rattle.mpslp_write.proofs.CanonicalItems.{to_row, cells_in, group_in, to_side, side_unless_zero, row_side, sides_in, row_range, to_bound, bounds_in}
-use Rattle.mpslp_write.proofs.WholeWalk.{Whole, whole_decl}
+use Rattle.mpslp_write.proofs.WholeWalk.{whole_decl}
 use Rattle.mpslp_write.proofs.ListedItems.{whole_of}
 use Rattle.mpslp_write.proofs.EntryLemmas.{told, all_told}
-use Rattle.mpslp_write.proofs.WholeParts.{made_of, flat-none, flat-same, sense-none, bound-none, SectionParts, joined-parts}
+use Rattle.mpslp_write.proofs.WholeParts.{made_of, flat-none, flat-same, sense-none, bound-none, joined-parts}
 
 -- ---- what is told of a row and of a column
 

@@ -1,22 +1,18 @@
 -- The canonical declarations of a sound listing fill no slot twice.
-use Rattle.std.proofs.Common.{◌≡◌, refl, sym, ap, ◌∙◌, List, [], ◌∷◌, ◌++◌, ℕ, Bool, true, false, not, cond, map}
-use Rattle.std.specs.Prelude.{Option, Some, None, filter, filter_map, ◌&&◌, ◌||◌, nat_eq}
+use Rattle.std.proofs.Common.{◌≡◌, refl, ap, ◌∙◌, List, [], ◌∷◌, ◌++◌, ℕ, Bool, true, false, not, map}
+use Rattle.std.specs.Prelude.{Option, Some, None, filter_map, ◌&&◌, ◌||◌}
 use Rattle.std.specs.List.{flat_map, list_any, cons_option}
 use Rattle.std.specs.Option.{option_map}
 use Rattle.std.specs.Cmp.{first_so, second_so}
-use Rattle.std.specs.Cmp.Lexicographic.{nat_list_eq_equiv}
 use Rattle.std.specs.FinMap.{find, is_sorted}
-use Rattle.std.specs.FinMap.Entries.{below_all}
-use Rattle.std.proofs.lemmas.List.Folds.{list_any-append}
-use Rattle.std.proofs.lemmas.List.Concat.{flat_map-append}
-use Rattle.mpslp_decimal.specs.Decimal.{Number, is_zero, negated}
-use Rattle.mpslp_model.specs.Name.{same_bytes, is_one_of}
-use Rattle.mpslp_model.specs.Model.{Row, Column, Place, bytes_cmp, place_cmp}
-use Rattle.mpslp_model.specs.Declaration.{Declarations, at_name, names_in}
+use Rattle.mpslp_decimal.specs.Decimal.{Number}
+use Rattle.mpslp_model.specs.Name.{same_bytes}
+use Rattle.mpslp_model.specs.Model.{Place, bytes_cmp, place_cmp}
+use Rattle.mpslp_model.specs.Declaration.{Declarations, names_in}
 use Rattle.mpslp_model.specs.Consistency.{Slot, sense_slot, objective_slot, constant_slot, row_slot, right_side_slot, range_slot, coefficient_slot, lower_slot, upper_slot, same_slot, slots_of, all_slots, are_distinct}
 use Rattle.mpslp_model.proofs.BoolLemmas.{both_so, both_false, not_so, so_not, nor}
-use Rattle.mpslp_model.proofs.EachLemmas.{Each, Each-weaker, Each-append, Each-map, Each-flat_map, Each-all}
-use Rattle.mpslp_model.proofs.DistinctLemmas.{IsNew, Apart, distinct-append, distinct-flat_map, distinct-sorted}
+use Rattle.mpslp_model.proofs.EachLemmas.{Each, Each-weaker}
+use Rattle.mpslp_model.proofs.DistinctLemmas.{IsNew, distinct-append, distinct-sorted}
 use Rattle.mpslp_model.proofs.SlotLemmas.{same_name}
 use Rattle.mpslp_model.proofs.SortedDrafts.{bytes_total}
 use Rattle.mpslp_mps.proofs.ColumnsWalk.{Cell}

@@ -1,15 +1,11 @@
 -- The laws of MPS as a format of model files, in the words of the trait of formats.
 use Rattle.std.proofs.Common.{◌≡◌, refl, List, ℕ}
-use Rattle.std.specs.Prelude.{Option, None, Result, Ok, Err}
+use Rattle.std.specs.Prelude.{Option, None}
 use Rattle.mpslp_model.specs.Model.{LinearModel, IsSound}
 use Rattle.mpslp_model.specs.declared.faults.Fault.{Fault}
 use Rattle.mpslp_model.specs.declared.faults.NameAt.{NameAt}
-use Rattle.mpslp_model.specs.declared.faults.ReadFault.{ReadFault}
-use Rattle.mpslp_model.specs.declared.faults.ReadFault.TheVariants.{File, Failed, OutOfMemory}
-use Rattle.mpslp_model.specs.Formats.{IsAnswerTo}
 use Rattle.mpslp_mps.specs.MpsText.{DeclaresMps}
 use Rattle.mpslp_mps.specs.FirstFault.{IsFirstMpsFault}
-use Rattle.mpslp_mps.specs.ReadingAnswer.{ReadsMps}
 use Rattle.mpslp_mps.proofs.ModelOrFault.{model-or_fault}
 use Rattle.mpslp_write.specs.CanonicalMps.{canonical_mps}
 use Rattle.mpslp_write.proofs.CanonicalDeclares.{canonical-declares}
@@ -38,10 +34,3 @@ no_fault = model-or_fault
 -- No bytes have two first faults.
 pub one_fault : (bytes : List ℕ) (fault other : Fault) → IsFirstMpsFault bytes fault → IsFirstMpsFault bytes other → fault ≡ other
 one_fault = one-fault
-
--- What the reader answers is the answer of a format.
-pub answer-of_reading : (bytes : List ℕ) (answer : Result LinearModel ReadFault) → ReadsMps bytes answer → IsAnswerTo DeclaresMps IsFirstMpsFault bytes answer
-answer-of_reading bytes (Ok m) h = h
-answer-of_reading bytes (Err (File fault)) h = h
-answer-of_reading bytes (Err Failed) h = h
-answer-of_reading bytes (Err OutOfMemory) h = h

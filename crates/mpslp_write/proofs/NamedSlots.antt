@@ -1,15 +1,14 @@
 -- The rows, right sides and ranges that a sound listing declares fill different slots.
-use Rattle.std.proofs.Common.{◌≡◌, refl, sym, ap, ◌∙◌, List, [], ◌∷◌, ◌++◌, ℕ, Bool, true, false, not, map}
+use Rattle.std.proofs.Common.{◌≡◌, refl, sym, ap, ◌∙◌, List, [], ◌∷◌, ◌++◌, ℕ, true, false, not, map}
 use Rattle.std.specs.Prelude.{Option, Some, None, is_some}
 use Rattle.std.specs.List.{flat_map, list_any}
 use Rattle.mpslp_decimal.specs.Decimal.{Number, negated}
-use Rattle.mpslp_model.specs.Name.{same_bytes, is_one_of}
+use Rattle.mpslp_model.specs.Name.{same_bytes}
 use Rattle.mpslp_model.specs.Model.{Row, bytes_cmp}
 use Rattle.mpslp_model.specs.Declaration.{names_in, at_name}
 use Rattle.mpslp_model.specs.Consistency.{Slot, objective_slot, row_slot, right_side_slot, range_slot, same_slot, slots_of, are_distinct}
 use Rattle.mpslp_model.proofs.BoolLemmas.{both_so, so_not}
 use Rattle.mpslp_model.proofs.DistinctLemmas.{distinct-sorted}
-use Rattle.mpslp_model.proofs.EachLemmas.{Each}
 use Rattle.mpslp_model.proofs.SlotLemmas.{same_name}
 use Rattle.mpslp_model.proofs.SortedDrafts.{bytes_total, tied_names}
 use Rattle.mpslp_mps.proofs.RowsWalk.{row_decl, Side, side_decl, range_decl}

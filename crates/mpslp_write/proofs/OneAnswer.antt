@@ -1,7 +1,6 @@
 -- Bytes declare one model, and have one first fault.
-use Rattle.std.proofs.Common.{◌≡◌, sym, ◌∙◌, List, ℕ}
-use Rattle.std.specs.Prelude.{Option, Some}
-use Rattle.mpslp_model.specs.Model.{LinearModel}
+use Rattle.std.proofs.Common.{◌≡◌, sym, ◌∙◌}
+use Rattle.std.specs.Prelude.{Some}
 use Rattle.mpslp_model.specs.declared.faults.Fault.{Fault}
 use Rattle.mpslp_mps.specs.Laws.{DeclareOneModel, HaveOneFirstFault}
 
