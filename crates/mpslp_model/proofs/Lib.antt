@@ -34,3 +34,4 @@ mod WorkedNames
 mod WorkedRows
 mod WorkedModels
 pub mod DeviceLemmas
+pub mod GrowsLemmas

@@ -1,5 +1,5 @@
 -- What a call of a device does to its bytes and to the number of its calls.
-use Rattle.std.specs.Prelude.{ℕ, ◌+◌, ◌-◌, ◌^◌, ◌<◌, ◌≤◌, min, List, ◌++◌, length, take, Result, Ok, Err}
+use Rattle.std.specs.Prelude.{◌≡◌, ℕ, ◌+◌, ◌-◌, ◌^◌, ◌<◌, ◌≤◌, min, List, ◌++◌, length, take, Result, Ok, Err}
 
 -- one more, where a count stays at 2^64 - 1
 abbrev pub raised : ℕ → ℕ
@@ -17,3 +17,10 @@ KeepsHeld holds old new = (before : List ℕ) → holds old before → holds new
 abbrev pub Takes : {S E : Type 0} → (S → List ℕ → Type 0) → S → S → List ℕ → Result ℕ E → Type 0
 Takes holds old new piece (Ok n) = (n ≤ length piece) × (0 < length piece → 0 < n) × Grows holds old new (take n piece)
 Takes holds old new piece (Err _) = KeepsHeld holds old new
+
+-- A sink took the first `count` bytes of a piece and no other, and a tally that stays at 2^64 - 1 grew by their number.
+pub record TookMore {S : Type 0} (holds : S → List ℕ → Type 0) (old new : S) (piece : List ℕ) (tally_old tally_new : ℕ) : Type 0 where
+  pub count : ℕ
+  pub within : count ≤ length piece
+  pub tally_is : tally_new ≡ min (tally_old + count) (2 ^ 64 - 1)
+  pub holds_them : Grows holds old new (take count piece)

@@ -1,7 +1,10 @@
 //! Laws of names, of declarations and of the models that they mean. Each is the contract of a function that does
 //! nothing: to call it is to cite the law.
 
+ghost use Rattle.mpslp_model.specs.Model.{IsSound};
 ghost use Rattle.mpslp_model.specs.Laws.{LpNamesAreMpsNames, MeanOneModel, MeanTheSameInAnyOrder};
+
+use crate::linear::Model;
 
 /// Every name that is legal in LP is legal in MPS too.
 pub fn lp_names_are_mps_names()
@@ -17,3 +20,11 @@ pub fn declarations_mean_one_model()
 pub fn order_is_of_no_account()
     ensures { MeanTheSameInAnyOrder }
 {}
+
+/// Every model is sound: sides that values meet, a column at least, and each coefficient not 0 and of a row, or the
+/// objective, and a column that are there.
+pub fn each_model_is_sound(model: &Model)
+    ensures { IsSound model.now }
+{
+    model.is_sound()
+}

@@ -5,7 +5,7 @@
 //! mean, and which fault is told where they mean none.
 //!
 //! What bytes are read from and written to, and what a format of model files is held to, stand here
-//! too, as the traits [`Source`], [`Sink`] and [`Format`].
+//! too, as the traits [`Source`], [`Sink`] and [`Format`]; [`put_all`] writes a whole piece to a sink.
 #![tactic(auto)]
 
 mod building;
@@ -20,6 +20,7 @@ pub mod laws;
 mod limits;
 mod linear;
 mod names;
+mod put;
 mod streams;
 
 pub use building::Builder;
@@ -29,6 +30,7 @@ pub use formats::Format;
 pub use kinds::{Kind, Limit, RowType, Sense};
 pub use linear::Model;
 pub use names::{MAX_NAME_LEN, Name, NameFault};
+pub use put::put_all;
 pub use streams::{FromRead, ToWrite};
 
 #[cfg(test)]

@@ -318,6 +318,13 @@ fn range_of(row: RowLimits) -> Decimal
 }
 
 impl Model {
+    /// The model is sound. That is what is known of its parts, so it needs no test.
+    pub(crate) fn is_sound(&self)
+        ensures { IsSound self.now }
+    {
+        let _sense = self.sense;
+    }
+
     /// How many rows there are; the objective is none.
     pub fn num_rows(&self) -> usize
         ensures { result ≡ num_rows self.now }

@@ -1,0 +1,70 @@
+//! Whole pieces, written to a sink.
+
+ghost use Rattle.std.specs.Prelude.{◌≡◌, ◌≤◌, ◌+◌, ◌-◌, ◌^◌, min, true, length, IsErr, OnOk};
+ghost use Rattle.mpslp_model.specs.Devices.{Grows, TookMore};
+
+use crate::devices::{IoFailed, Sink};
+
+/// Writes a whole piece to the sink, in as many calls as it has bytes at most, and does not flush. The
+/// number of bytes that the sink took is added to the tally, which stays at 2^64 - 1.
+///
+/// Answers [`IoFailed`] where the sink fails before it has the whole piece: it has taken the first
+/// bytes of the piece, as many as the tally has grown by, and nothing else, and it stays failed. The
+/// empty piece makes no call, and is written to a sink that has failed too.
+pub fn put_all<W: Sink>(sink: &mut W, tally: &mut u64, piece: &[u8]) -> Result<(), IoFailed>
+    ensures written { OnOk result (Grows W.holds sink.old sink.new piece.now) }
+    ensures tally { OnOk result (tally.new ≡ min (tally.old + length piece.now) (2 ^ 64 - 1)) }
+    ensures taken { TookMore W.holds sink.old sink.new piece.now tally.old tally.new }
+    ensures fails { IsErr result → W.failed sink.new ≡ true }
+    ensures stays { W.failed sink.old ≡ true → W.failed sink.new ≡ true }
+    ensures calls { W.count sink.new ≤ W.count sink.old + length piece.now }
+{
+    let _tally = *tally;
+    let mut at = 0;
+    while at < piece.len() {
+        let taken = sink.write(&piece[at..])?;
+        at += taken;
+        *tally = tally.saturating_add(taken as u64);
+    }
+    Ok(())
+}
+
+#[cfg(test)]
+mod tests {
+    use super::put_all;
+    use crate::devices::{IoFailed, Sink};
+    use crate::streams::ToWrite;
+    use std::io;
+    use std::io::Write;
+
+    /// Takes two bytes in each write while it has room, and then none.
+    #[derive(Drop)]
+    struct SmallWriter {
+        room: usize,
+    }
+
+    impl Write for SmallWriter {
+        fn write(&mut self, piece: &[u8]) -> io::Result<usize> {
+            let taken = piece.len().min(self.room).min(2);
+            self.room -= taken;
+            Ok(taken)
+        }
+
+        fn flush(&mut self) -> io::Result<()> {
+            Ok(())
+        }
+    }
+
+    #[test]
+    fn a_piece_is_written_in_several_calls(rt: HostRuntime) {
+        let mut tally = 7;
+        let mut sink = ToWrite::new(SmallWriter { room: 9 });
+        assert_eq!(rt; put_all(&mut sink, &mut tally, b"abcde"), Ok(()));
+        assert_eq!(rt; tally, 12);
+        assert_eq!(rt; put_all(&mut sink, &mut tally, b""), Ok(()));
+        assert_eq!(rt; sink.calls(), 3);
+        assert_eq!(rt; put_all(&mut sink, &mut tally, b"fghij"), Err(IoFailed));
+        assert_eq!(rt; tally, 16);
+        assert_eq!(rt; sink.calls(), 6);
+    }
+}
