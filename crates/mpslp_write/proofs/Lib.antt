@@ -22,3 +22,10 @@ pub mod ListedSlots
 pub mod ListedOnce
 pub mod CanonicalDeclares
 pub mod WorkedTexts
+pub mod OutputLemmas
+pub mod LinesAtLemmas
+pub mod CellLemmas
+pub mod ColumnLemmas
+pub mod LineTexts
+pub mod BoundLines
+pub mod RowLines
