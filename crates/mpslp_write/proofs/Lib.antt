@@ -27,3 +27,10 @@ pub mod OneAnswer
 pub mod CanonicalDeclares
 pub mod MpsFormat
 pub mod WorkedTexts
+pub mod OutputLemmas
+pub mod LinesAtLemmas
+pub mod CellLemmas
+pub mod ColumnLemmas
+pub mod LineTexts
+pub mod BoundLines
+pub mod RowLines

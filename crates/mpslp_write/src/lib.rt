@@ -5,4 +5,16 @@
 //! their file, its comments, its names of sets and the like have the same text.
 #![tactic(auto)]
 
+mod bounds;
+mod columns;
 pub mod laws;
+mod lines;
+mod mps;
+mod output;
+mod rows;
+mod values;
+
+pub use mps::write_mps;
+
+#[cfg(test)]
+mod tests;
