@@ -10,7 +10,7 @@ use Rattle.mpslp_model.specs.Devices.{Grows, TookMore}
 use Rattle.mpslp_model.specs.Formats.{TookFirst, IsWritten}
 use Rattle.mpslp_model.proofs.GrowsLemmas.{Grows-nil, Grows-append}
 use Rattle.mpslp_write.specs.Output.{Gathered, nothing_gathered, with_waiting, IsUnderWay, IsCutOff, HasPut, Emits, Prints, IsTaken, answer_of}
-use Rattle.mpslp_write.specs.Printed.{PrintedLine, printed, text_of}
+use Rattle.mpslp_canonical.specs.Printed.{PrintedLine, printed, text_of}
 
 text_of-append : (front back : List PrintedLine) → text_of (front ++ back) ≡ text_of front ++ text_of back
 text_of-append [] back = refl
