@@ -7,7 +7,7 @@ use Rattle.std.proofs.lemmas.Bool.Decides.{not_from_Decides}
 use Rattle.mpslp_model.specs.Model.{LinearModel}
 use Rattle.mpslp_model.specs.declared.faults.Fault.{Fault}
 use Rattle.mpslp_model.specs.declared.faults.NameAt.{NameAt}
-use Rattle.mpslp_convert.specs.Conversions.{Declares, HasFirstFault, Unfit, TextOf, IsText, IsConversion, IsComparison, IsTestOfText, IsRefusedWith}
+use Rattle.mpslp_convert.specs.Conversions.{Declares, HasFirstFault, Unfit, TextOf, IsText, IsConversion, IsComparison, IsTestOfText, IsErrUnless}
 use Rattle.mpslp_convert.specs.declared.faults.ConvertFault.{ConvertFault}
 use Rattle.mpslp_convert.specs.declared.faults.ConvertFault.TheVariants.{First, Second, NotLp, OutOfMemory}
 
@@ -22,7 +22,7 @@ conversion_of declares first_fault unfit text bytes m (Err OutOfMemory) declared
 
 -- a model that cannot be told has no text
 pub place_is_told : (unfit : Unfit) (text : TextOf) (m : LinearModel) (place : NameAt) (result : Result (Vec ℕ Global) ConvertFault)
-    → unfit m ≡ Some place → IsText unfit text m result → IsRefusedWith (NotLp place) result
+    → unfit m ≡ Some place → IsText unfit text m result → IsErrUnless result (NotLp place) OutOfMemory
 place_is_told unfit text m place (Ok out) e h = let bad : None ≡ Some place = sym h.0 ∙ e in absurd (cc)
 place_is_told unfit text m place (Err (First fault)) e h = absurd h
 place_is_told unfit text m place (Err (Second fault)) e h = absurd h

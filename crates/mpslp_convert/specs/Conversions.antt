@@ -21,10 +21,10 @@ Unfit = LinearModel → Option NameAt
 abbrev pub TextOf : Type 0
 TextOf = LinearModel → List ℕ
 
--- The answer is this fault, or want of memory.
-abbrev pub IsRefusedWith : {T : Type 0} → ConvertFault → Result T ConvertFault → Type 0
-IsRefusedWith fault (Ok _) = ⊥
-IsRefusedWith fault (Err found) = (found ≡ fault) ⊎ (found ≡ OutOfMemory)
+-- The answer is this fault, or that of want of memory.
+abbrev pub IsErrUnless : {T E : Type 0} → Result T E → E → E → Type 0
+IsErrUnless (Ok _) fault memory = ⊥
+IsErrUnless (Err found) fault memory = (found ≡ fault) ⊎ (found ≡ memory)
 
 -- The model that the first text declares, or the text's first fault.
 abbrev pub IsReadingOfFirst : Declares → HasFirstFault → List ℕ → Result LinearModel ConvertFault → Type 0

@@ -27,6 +27,18 @@ pub record Given (left : Option (List ℕ)) (source_failed : Bool) (limit : ℕ)
   pub within : length bytes ≤ limit
   pub all : IsAll left bytes
 
+-- The source had these bytes left, within the limit, and has not failed.
+pub record Had (left : Option (List ℕ)) (source_failed : Bool) (limit : ℕ) (bytes : List ℕ) : Type 0 where
+  pub left_is : left ≡ Some bytes
+  pub within : length bytes ≤ limit
+  pub works : source_failed ≡ false
+
+-- The source had more bytes left than the limit, and has not failed.
+pub record HadMore (left : Option (List ℕ)) (source_failed : Bool) (limit : ℕ) (bytes : List ℕ) : Type 0 where
+  pub left_is : left ≡ Some bytes
+  pub beyond : limit < length bytes
+  pub works : source_failed ≡ false
+
 -- All that was left in a source, or why not. `failed` is whether the source has failed in the end.
 abbrev pub IsLoad : Option (List ℕ) → Bool → ℕ → Result (Vec ℕ Global) RunFault → Type 0
 IsLoad left failed limit (Ok bytes) = Given left failed limit bytes.items

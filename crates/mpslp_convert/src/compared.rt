@@ -30,7 +30,8 @@ impl<'a> Comparison<'a> {
 
     /// Whether exactly the wanted text was taken.
     pub fn is_same(&self) -> bool
-        ensures { (wanted text : List ℕ) → Compared self.now.differs self.now.rest.now (length wanted ∷ (wanted ++ text)) → Decides result (wanted ≡ text) }
+        ensures { (wanted text : List ℕ) → Compared self.now.differs self.now.rest.now (length wanted ∷ (wanted ++ text))
+            → Decides result (wanted ≡ text) }
     {
         !self.differs && self.rest.is_empty()
     }

@@ -4,7 +4,7 @@ ghost use Rattle.std.specs.Prelude.{◌≡◌, None, Some, IfOk, IsOkUnless};
 ghost use Rattle.mpslp_model.specs.Model.{LinearModel};
 ghost use Rattle.mpslp_model.specs.declared.faults.Fault.{Fault};
 ghost use Rattle.mpslp_model.specs.declared.faults.NameAt.{NameAt};
-ghost use Rattle.mpslp_convert.specs.Conversions.{IsReadingOfFirst, IsText, IsConversion, IsComparison, IsTestOfText, IsRefusedWith};
+ghost use Rattle.mpslp_convert.specs.Conversions.{IsReadingOfFirst, IsText, IsConversion, IsComparison, IsTestOfText, IsErrUnless};
 
 use crate::collected::Collected;
 use crate::compared::Comparison;
@@ -46,9 +46,12 @@ fn text_of<B: Format>(alloc: Global, model: &Model) -> Result<Vec<u8>, ConvertFa
 /// is never answered.
 pub fn canonical<A: Format, B: Format>(alloc: Global, bytes: &[u8]) -> Result<Vec<u8>, ConvertFault>
     ensures answer { IsConversion A.declares A.first_fault B.unfit B.text bytes.now result }
-    ensures accepts { (m : LinearModel) → A.declares bytes.now m → B.unfit m ≡ None → IsOkUnless result ConvertFault.OutOfMemory }
-    ensures refuses { (fault : Fault) → A.first_fault bytes.now fault → IsRefusedWith (ConvertFault.First fault) result }
-    ensures cannot_tell { (m : LinearModel) (place : NameAt) → A.declares bytes.now m → B.unfit m ≡ Some place → IsRefusedWith (ConvertFault.NotLp place) result }
+    ensures accepts { (m : LinearModel) → A.declares bytes.now m → B.unfit m ≡ None
+        → IsOkUnless result ConvertFault.OutOfMemory }
+    ensures refuses { (fault : Fault) → A.first_fault bytes.now fault
+        → IsErrUnless result (ConvertFault.First fault) ConvertFault.OutOfMemory }
+    ensures cannot_tell { (m : LinearModel) (place : NameAt) → A.declares bytes.now m → B.unfit m ≡ Some place
+        → IsErrUnless result (ConvertFault.NotLp place) ConvertFault.OutOfMemory }
     ensures keeps { (m : LinearModel) → A.declares bytes.now m → IfOk result (λ out. B.declares out.items m) }
 {
     let model = read_first::<A>(alloc, bytes)?;
@@ -69,9 +72,12 @@ pub fn same_model<A: Format, B: Format>(
     second: &[u8],
 ) -> Result<bool, ConvertFault>
     ensures answer { IsComparison A.declares A.first_fault B.declares B.first_fault first.now second.now result }
-    ensures accepts { (m n : LinearModel) → A.declares first.now m → B.declares second.now n → IsOkUnless result ConvertFault.OutOfMemory }
-    ensures refuses { (fault : Fault) → A.first_fault first.now fault → IsRefusedWith (ConvertFault.First fault) result }
-    ensures refuses_second { (m : LinearModel) (fault : Fault) → A.declares first.now m → B.first_fault second.now fault → IsRefusedWith (ConvertFault.Second fault) result }
+    ensures accepts { (m n : LinearModel) → A.declares first.now m → B.declares second.now n
+        → IsOkUnless result ConvertFault.OutOfMemory }
+    ensures refuses { (fault : Fault) → A.first_fault first.now fault
+        → IsErrUnless result (ConvertFault.First fault) ConvertFault.OutOfMemory }
+    ensures refuses_second { (m : LinearModel) (fault : Fault) → A.declares first.now m → B.first_fault second.now fault
+        → IsErrUnless result (ConvertFault.Second fault) ConvertFault.OutOfMemory }
 {
     let one = read_first::<A>(alloc, first)?;
     match B::read(alloc, second) {
@@ -92,7 +98,8 @@ pub fn same_model<A: Format, B: Format>(
 pub fn is_canonical<A: Format>(alloc: Global, bytes: &[u8]) -> Result<bool, ConvertFault>
     ensures answer { IsTestOfText A.declares A.first_fault A.text bytes.now result }
     ensures accepts { (m : LinearModel) → A.declares bytes.now m → IsOkUnless result ConvertFault.OutOfMemory }
-    ensures refuses { (fault : Fault) → A.first_fault bytes.now fault → IsRefusedWith (ConvertFault.First fault) result }
+    ensures refuses { (fault : Fault) → A.first_fault bytes.now fault
+        → IsErrUnless result (ConvertFault.First fault) ConvertFault.OutOfMemory }
 {
     let model = read_first::<A>(alloc, bytes)?;
     let mut comparison = Comparison::with(bytes);

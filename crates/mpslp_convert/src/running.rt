@@ -3,7 +3,10 @@
 ghost use Rattle.std.specs.Prelude.{◌≡◌, ◌+◌, ◌-◌, ◌^◌, ◌≤◌, ℕ, List, true, false, None, Some, min, length, OnOk, IsOkUnless};
 ghost use Rattle.std.specs.Io.KnownBytes.{IsAtEnd};
 ghost use Rattle.mpslp_model.specs.Model.{LinearModel};
-ghost use Rattle.mpslp_convert.specs.Runs.{IsLoad, IsPut, IsRun, TakesAtMost};
+ghost use Rattle.mpslp_model.specs.declared.faults.Fault.{Fault};
+ghost use Rattle.mpslp_model.specs.declared.faults.NameAt.{NameAt};
+ghost use Rattle.mpslp_convert.specs.Conversions.{IsErrUnless};
+ghost use Rattle.mpslp_convert.specs.Runs.{Had, HadMore, IsLoad, IsPut, IsRun, TakesAtMost};
 
 use crate::counter::Counter;
 use crate::faults::RunFault;
@@ -24,7 +27,9 @@ const PIECE: usize = 65_536;
 /// [`OutOfMemory`](RunFault::OutOfMemory) where memory was refused. The others are never answered.
 pub fn load<R: Source>(alloc: Global, max_bytes: u64, reader: &mut R) -> Result<Vec<u8>, RunFault>
     ensures answer { IsLoad (R.left reader.old) (R.failed reader.new) max_bytes result }
-    ensures accepts { (bytes : List ℕ) → R.left reader.old ≡ Some bytes → length bytes ≤ max_bytes → R.failed reader.new ≡ false → IsOkUnless result RunFault.OutOfMemory }
+    ensures accepts { (bytes : List ℕ) → Had (R.left reader.old) (R.failed reader.new) max_bytes bytes → IsOkUnless result RunFault.OutOfMemory }
+    ensures too_long { (bytes : List ℕ) → HadMore (R.left reader.old) (R.failed reader.new) max_bytes bytes
+        → IsErrUnless result RunFault.TooLong RunFault.OutOfMemory }
     ensures end { OnOk result (IsAtEnd (R.left reader.new)) }
     ensures asked { TakesAtMost (max_bytes + 1) (R.left reader.old) (R.left reader.new) }
     ensures calls { R.count reader.new ≤ R.count reader.old + max_bytes + 1 }
@@ -100,8 +105,16 @@ pub fn run<A: Format, B: Format, R: Source, W: Sink>(
     reader: &mut R,
     writer: &mut W,
 ) -> Result<(), RunFault>
-    ensures answer { IsRun A.declares A.first_fault B.unfit B.text W.holds W.failed (R.left reader.old) (R.failed reader.new) max_bytes writer.old writer.new result }
-    ensures accepts { (bytes : List ℕ) (m : LinearModel) → R.left reader.old ≡ Some bytes → length bytes ≤ max_bytes → A.declares bytes m → B.unfit m ≡ None → R.failed reader.new ≡ false → W.failed writer.new ≡ false → IsOkUnless result RunFault.OutOfMemory }
+    ensures answer { IsRun A.declares A.first_fault B.unfit B.text W.holds W.failed
+        (R.left reader.old) (R.failed reader.new) max_bytes writer.old writer.new result }
+    ensures accepts { (bytes : List ℕ) (m : LinearModel) → Had (R.left reader.old) (R.failed reader.new) max_bytes bytes → A.declares bytes m
+        → B.unfit m ≡ None → W.failed writer.new ≡ false → IsOkUnless result RunFault.OutOfMemory }
+    ensures too_long { (bytes : List ℕ) → HadMore (R.left reader.old) (R.failed reader.new) max_bytes bytes
+        → IsErrUnless result RunFault.TooLong RunFault.OutOfMemory }
+    ensures refuses { (bytes : List ℕ) (fault : Fault) → Had (R.left reader.old) (R.failed reader.new) max_bytes bytes
+        → A.first_fault bytes fault → IsErrUnless result (RunFault.File fault) RunFault.OutOfMemory }
+    ensures cannot_tell { (bytes : List ℕ) (m : LinearModel) (place : NameAt) → Had (R.left reader.old) (R.failed reader.new) max_bytes bytes
+        → A.declares bytes m → B.unfit m ≡ Some place → IsErrUnless result (RunFault.NotLp place) RunFault.OutOfMemory }
     ensures asked { TakesAtMost (max_bytes + 1) (R.left reader.old) (R.left reader.new) }
     ensures calls { R.count reader.new ≤ R.count reader.old + max_bytes + 1 }
 {
