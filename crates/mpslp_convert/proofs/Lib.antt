@@ -1,1 +1,5 @@
-pub mod DeviceLemmas
+pub mod ComparedLemmas
+pub mod ConversionLemmas
+pub mod LoadLemmas
+pub mod RunLemmas
+pub mod FaultLineLemmas

@@ -1,1 +1,5 @@
-pub mod ThinRun
+pub mod Conversions
+pub mod Compared
+pub mod Runs
+pub mod FaultLine
+pub mod Laws

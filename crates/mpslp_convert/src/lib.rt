@@ -1,16 +1,20 @@
-//! Turns MPS text into canonical MPS text, between a reader and a writer.
+//! Conversions between any two formats of model files.
 //!
-//! [`thin_run`] takes *thin* files: rows, columns and right sides alone, with one objective.
+//! Everything here is written over the trait [`Format`](mpslp_model::Format), and proved once of all
+//! formats that keep its contract: [`canonical`], [`same_model`] and [`is_canonical`] on bytes in
+//! memory; [`load`] and [`run`] between a source and a sink, and [`report`] of what went wrong.
 #![tactic(auto)]
 
-mod fault;
-mod model;
-mod read;
-mod run;
-mod write;
+mod collected;
+mod compared;
+mod conversion;
+mod counter;
+mod faults;
+pub mod laws;
+mod reporting;
+mod running;
 
-pub use fault::ThinFault;
-pub use run::thin_run;
-
-#[cfg(test)]
-mod tests;
+pub use conversion::{canonical, is_canonical, same_model};
+pub use faults::{ConvertFault, RunFault};
+pub use reporting::report;
+pub use running::{load, run};

@@ -2,9 +2,11 @@
 //! nothing: to call it is to cite the law.
 
 ghost use Rattle.mpslp_model.specs.Model.{IsSound};
+ghost use Rattle.mpslp_model.specs.Name.{IsMpsName};
 ghost use Rattle.mpslp_model.specs.Laws.{LpNamesAreMpsNames, MeanOneModel, MeanTheSameInAnyOrder};
 
 use crate::linear::Model;
+use crate::names::Name;
 
 /// Every name that is legal in LP is legal in MPS too.
 pub fn lp_names_are_mps_names()
@@ -27,4 +29,11 @@ pub fn each_model_is_sound(model: &Model)
     ensures { IsSound model.now }
 {
     model.is_sound()
+}
+
+/// The bytes of every name are an MPS name: 1 to 255 bytes of visible ASCII that are not `'MARKER'`.
+pub fn each_name_is_legal(name: &Name)
+    ensures { IsMpsName name.now }
+{
+    name.is_legal()
 }

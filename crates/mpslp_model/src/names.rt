@@ -149,6 +149,13 @@ impl Name {
         })
     }
 
+    /// The bytes are an MPS name. That is what is known of them, so it needs no test.
+    pub(crate) fn is_legal(&self)
+        ensures { IsMpsName self.now }
+    {
+        let _len = self.bytes.len();
+    }
+
     /// The bytes of the name.
     pub fn as_bytes(&self) -> &[u8]
         ensures { result.now ≡ self.now }

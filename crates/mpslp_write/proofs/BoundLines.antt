@@ -8,7 +8,7 @@ use Rattle.mpslp_model.specs.declared.kinds.Kind.TheVariants.{Continuous, Intege
 use Rattle.mpslp_model.specs.declared.kinds.Limit.{Limit}
 use Rattle.mpslp_model.specs.declared.kinds.Limit.TheVariants.{MinusInf, Finite, PlusInf}
 use Rattle.mpslp_mps.specs.declared.bound_types.BoundType.TheVariants as bounds
-use Rattle.mpslp_write.specs.PrintedValues.{PrintedBound, bare, valued, have_same_value, printed_lower, printed_upper, printed_bounds}
+use Rattle.mpslp_canonical.specs.PrintedValues.{PrintedBound, bare, valued, have_same_value, printed_lower, printed_upper, printed_bounds}
 use Rattle.mpslp_write.specs.LinesAt.{are_fixed, are_free}
 
 pub map-append : {X Y : Type 0} (f : X → Y) (xs ys : List X) → map f (xs ++ ys) ≡ map f xs ++ map f ys

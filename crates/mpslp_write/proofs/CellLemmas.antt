@@ -21,12 +21,12 @@ use Rattle.mpslp_model.proofs.PutsLemmas.{T_from, true_from}
 use Rattle.mpslp_model.proofs.DraftEntries.{same_place}
 use Rattle.mpslp_model.proofs.SlotLemmas.{same_name}
 use Rattle.mpslp_model.proofs.SortedDrafts.{bytes_total, place_total, tied_names}
-use Rattle.mpslp_write.specs.Listing.{Listing, listing_of}
-use Rattle.mpslp_write.specs.CanonicalMps.{cell_at, column_cells}
-use Rattle.mpslp_write.proofs.EntryLemmas.{found-each}
-use Rattle.mpslp_write.proofs.CoefficientMap.{place_at}
-use Rattle.mpslp_write.proofs.DraftMaps.{is_sound_entry, IsSoundListing}
-use Rattle.mpslp_write.proofs.ListingFacts.{sound-listing}
+use Rattle.mpslp_canonical.specs.Listing.{Listing, listing_of}
+use Rattle.mpslp_canonical.specs.CanonicalMps.{cell_at, column_cells}
+use Rattle.mpslp_canonical.proofs.EntryLemmas.{found-each}
+use Rattle.mpslp_canonical.proofs.CoefficientMap.{place_at}
+use Rattle.mpslp_canonical.proofs.DraftMaps.{is_sound_entry, IsSoundListing}
+use Rattle.mpslp_canonical.proofs.ListingFacts.{sound-listing}
 
 -- ---- two places of one column compare as their rows do, whichever of both comes first in the order of places
 

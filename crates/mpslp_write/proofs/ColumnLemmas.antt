@@ -21,17 +21,17 @@ use Rattle.mpslp_model.proofs.DraftEntries.{same_place}
 use Rattle.mpslp_model.proofs.SlotLemmas.{same_name}
 use Rattle.mpslp_model.proofs.SortedDrafts.{place_total}
 use Rattle.mpslp_mps.specs.DataLine.{opening_word, closing_word}
-use Rattle.mpslp_write.specs.Listing.{Listing, listing_of}
-use Rattle.mpslp_write.specs.Printed.{PrintedLine}
-use Rattle.mpslp_write.specs.CanonicalMps.{Lines, bound_line, column_bound_lines, cell_line, cell_at, column_cells, printed_cells, column_lines, is_integer_kind, is_integer_column, is_continuous_column, integer_part, marker_line}
+use Rattle.mpslp_canonical.specs.Listing.{Listing, listing_of}
+use Rattle.mpslp_canonical.specs.Printed.{PrintedLine}
+use Rattle.mpslp_canonical.specs.CanonicalMps.{Lines, bound_line, column_bound_lines, cell_line, cell_at, column_cells, printed_cells, column_lines, is_integer_kind, is_integer_column, is_continuous_column, integer_part, marker_line}
 use Rattle.mpslp_model.specs.Refusal.{is_nonempty}
 use Rattle.mpslp_write.specs.LinesAt.{lines_at, is_wanted, of_kind, element_lines, objective_line_at, objective_lines, kind_of}
-use Rattle.mpslp_write.specs.PrintedValues.{PrintedBound, printed_bounds}
+use Rattle.mpslp_canonical.specs.PrintedValues.{PrintedBound, printed_bounds}
 use Rattle.mpslp_write.proofs.LinesAtLemmas.{both_seen, lines_seen, nonempty_seen, nonempty-map}
-use Rattle.mpslp_write.proofs.EntryLemmas.{found-each}
-use Rattle.mpslp_write.proofs.CoefficientMap.{place_at}
-use Rattle.mpslp_write.proofs.DraftMaps.{is_sound_entry, IsSoundListing}
-use Rattle.mpslp_write.proofs.ListingFacts.{sound-listing}
+use Rattle.mpslp_canonical.proofs.EntryLemmas.{found-each}
+use Rattle.mpslp_canonical.proofs.CoefficientMap.{place_at}
+use Rattle.mpslp_canonical.proofs.DraftMaps.{is_sound_entry, IsSoundListing}
+use Rattle.mpslp_canonical.proofs.ListingFacts.{sound-listing}
 use Rattle.mpslp_write.proofs.CellLemmas.{by_row, column-cells}
 
 -- ---- kinds

@@ -1,7 +1,7 @@
 -- The pieces of a line, one after another, are its text.
 use Rattle.std.proofs.Common.{◌≡◌, sym, ap, ◌∙◌, ℕ, List, [], ◌∷◌, ◌++◌, append_assoc, append-nil}
 use Rattle.std.specs.Prelude.{codes}
-use Rattle.mpslp_write.specs.Printed.{short_line, long_line, text_of}
+use Rattle.mpslp_canonical.specs.Printed.{short_line, long_line, text_of}
 
 -- what stands before a field
 abbrev gap : List ℕ

@@ -13,7 +13,7 @@ use Rattle.std.specs.List.{flat_map}
 use Rattle.mpslp_write.specs.CanonicalMps.{Lines}
 use Rattle.mpslp_write.proofs.LinesAtLemmas.{flat_map-rest}
 use Rattle.mpslp_write.specs.Output.{Gathered, nothing_gathered, with_waiting, IsUnderWay, IsCutOff, HasPut, Emits, Prints, IsTaken, answer_of}
-use Rattle.mpslp_write.specs.Printed.{PrintedLine, printed, text_of}
+use Rattle.mpslp_canonical.specs.Printed.{PrintedLine, printed, text_of}
 
 text_of-append : (front back : List PrintedLine) → text_of (front ++ back) ≡ text_of front ++ text_of back
 text_of-append [] back = refl

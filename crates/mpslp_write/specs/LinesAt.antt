@@ -8,8 +8,8 @@ use Rattle.mpslp_model.specs.declared.kinds.Kind.{Kind}
 use Rattle.mpslp_model.specs.declared.kinds.Kind.TheVariants.{Continuous, Integer}
 use Rattle.mpslp_model.specs.declared.kinds.Limit.{Limit}
 use Rattle.mpslp_model.specs.declared.kinds.Limit.TheVariants.{MinusInf, Finite, PlusInf}
-use Rattle.mpslp_write.specs.PrintedValues.{have_same_value}
-use Rattle.mpslp_write.specs.CanonicalMps.{Lines, is_integer_column, cell_line}
+use Rattle.mpslp_canonical.specs.PrintedValues.{have_same_value}
+use Rattle.mpslp_canonical.specs.CanonicalMps.{Lines, is_integer_column, cell_line}
 
 -- the lines of the entry of this number, if there is one
 abbrev pub lines_at : {X : Type 0} → (X → Lines) → List X → ℕ → Lines

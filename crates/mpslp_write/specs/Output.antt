@@ -2,7 +2,7 @@
 use Rattle.std.specs.Prelude.{◌≡◌, ℕ, ◌+◌, ◌-◌, ◌^◌, ◌≤◌, min, Bool, true, false, List, [], ◌++◌, length, refl, Result, Ok, Err, if◌then◌else◌}
 use Rattle.std.specs.Coded.{Coded, code_by, coded×, coded_list, coded_ℕ, coded_bool}
 use Rattle.mpslp_model.specs.Devices.{Grows}
-use Rattle.mpslp_write.specs.Printed.{PrintedLine, text_of}
+use Rattle.mpslp_canonical.specs.Printed.{PrintedLine, text_of}
 use Rattle.mpslp_model.specs.Formats.{TookFirst}
 use Rattle.mpslp_model.specs.declared.faults.WriteFault.{WriteFault}
 use Rattle.mpslp_model.specs.declared.faults.WriteFault.TheVariants.{Write, NotLp}

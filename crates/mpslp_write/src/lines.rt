@@ -2,7 +2,7 @@
 
 ghost use Rattle.std.specs.Prelude.{[], ◌∷◌, ◌++◌, codes};
 ghost use Rattle.mpslp_decimal.specs.NumberText.{number_text};
-ghost use Rattle.mpslp_write.specs.Printed.{short_line, long_line};
+ghost use Rattle.mpslp_canonical.specs.Printed.{short_line, long_line};
 ghost use Rattle.mpslp_write.specs.Output.{Emits, Prints};
 
 use crate::output::Buffer;

@@ -2,7 +2,7 @@
 
 ghost use Rattle.std.specs.Prelude.{◌≡◌, ◌+◌, ◌≤◌, true, false, None, length, IsOk};
 ghost use Rattle.mpslp_model.specs.Formats.{IsWritten};
-ghost use Rattle.mpslp_write.specs.CanonicalMps.{canonical_mps, canonical_lines, sense_lines};
+ghost use Rattle.mpslp_canonical.specs.CanonicalMps.{canonical_mps, canonical_lines, sense_lines};
 ghost use Rattle.mpslp_write.specs.Output.{Prints};
 
 use crate::bounds::put_bounds_section;

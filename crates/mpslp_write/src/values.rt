@@ -3,7 +3,7 @@
 ghost use Rattle.std.specs.Prelude.{◌≡◌, [], ◌∷◌, None, if◌then◌else◌};
 ghost use Rattle.mpslp_decimal.specs.Decimal.{difference_of};
 ghost use Rattle.mpslp_mps.specs.DataLine.{letter_of};
-ghost use Rattle.mpslp_write.specs.PrintedValues.{have_same_value, printed_type, printed_side, printed_range};
+ghost use Rattle.mpslp_canonical.specs.PrintedValues.{have_same_value, printed_type, printed_side, printed_range};
 
 use mpslp_decimal::Decimal;
 use mpslp_decimal::laws::each_value_is_a_decimal;

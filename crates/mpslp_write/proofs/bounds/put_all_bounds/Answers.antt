@@ -1,6 +1,6 @@
 use Rattle.std.proofs.Common.{sym, ◌∙◌, [], ◌∷◌, arith}
 use Rattle.std.specs.FinMap.{entries}
-use Rattle.mpslp_write.specs.CanonicalMps.{column_bound_lines}
+use Rattle.mpslp_canonical.specs.CanonicalMps.{column_bound_lines}
 use Rattle.mpslp_write.proofs.LinesAtLemmas.{flat_map-next, all-taken}
 use Rattle.mpslp_write.proofs.OutputLemmas.{prints_nothing, prints_then, prints_same, prints_cut}
 use Rattle.mpslp_write.proofs.bounds.put_all_bounds.Goals as goal

@@ -1,7 +1,7 @@
 use Rattle.std.proofs.Common.{[], ◌∷◌, take}
 use Rattle.std.specs.List.{flat_map}
 use Rattle.std.specs.FinMap.{entries}
-use Rattle.mpslp_write.specs.CanonicalMps.{column_bound_lines}
+use Rattle.mpslp_canonical.specs.CanonicalMps.{column_bound_lines}
 use Rattle.mpslp_write.specs.Output.{Prints}
 use Rattle.mpslp_write.proofs.bounds.put_all_bounds.Given as goal
 

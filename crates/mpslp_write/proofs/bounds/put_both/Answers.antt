@@ -1,6 +1,6 @@
 use Rattle.std.proofs.Common.{sym}
-use Rattle.mpslp_write.specs.PrintedValues.{printed_lower, printed_upper}
-use Rattle.mpslp_write.specs.CanonicalMps.{bound_line}
+use Rattle.mpslp_canonical.specs.PrintedValues.{printed_lower, printed_upper}
+use Rattle.mpslp_canonical.specs.CanonicalMps.{bound_line}
 use Rattle.mpslp_write.specs.LinesAt.{kind_of}
 use Rattle.mpslp_write.proofs.BoundLines.{map-append}
 use Rattle.mpslp_write.proofs.OutputLemmas.{prints_then, prints_same}

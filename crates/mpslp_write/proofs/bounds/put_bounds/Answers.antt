@@ -1,7 +1,7 @@
 use Rattle.std.proofs.Common.{◌≡◌, ap, ◌∙◌, List, ℕ, map}
 use Rattle.std.specs.FinMap.{entries}
-use Rattle.mpslp_write.specs.PrintedValues.{printed_bounds}
-use Rattle.mpslp_write.specs.CanonicalMps.{bound_line}
+use Rattle.mpslp_canonical.specs.PrintedValues.{printed_bounds}
+use Rattle.mpslp_canonical.specs.CanonicalMps.{bound_line}
 use Rattle.mpslp_write.specs.LinesAt.{kind_of}
 use Rattle.mpslp_write.proofs.ColumnLemmas.{bounds-lines}
 use Rattle.mpslp_write.proofs.OutputLemmas.{prints_same}

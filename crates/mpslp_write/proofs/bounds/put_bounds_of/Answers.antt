@@ -1,5 +1,5 @@
 use Rattle.std.proofs.Common.{sym, ap, ◌∙◌, map}
-use Rattle.mpslp_write.specs.CanonicalMps.{bound_line}
+use Rattle.mpslp_canonical.specs.CanonicalMps.{bound_line}
 use Rattle.mpslp_write.specs.LinesAt.{kind_of}
 use Rattle.mpslp_write.proofs.BoundLines.{free-bounds, fixed-bounds, other-bounds}
 use Rattle.mpslp_write.proofs.OutputLemmas.{prints_same}

@@ -1,6 +1,6 @@
 use Rattle.std.proofs.Common.{sym, ◌∙◌, refl, [], ◌∷◌}
 use Rattle.mpslp_mps.specs.declared.sections.Section.TheVariants.{Bounds}
-use Rattle.mpslp_write.specs.CanonicalMps.{header_line}
+use Rattle.mpslp_canonical.specs.CanonicalMps.{header_line}
 use Rattle.mpslp_write.proofs.LinesAtLemmas.{under-some, under-none}
 use Rattle.mpslp_write.proofs.OutputLemmas.{prints_nothing, prints_then, prints_same, prints_text}
 use Rattle.mpslp_write.proofs.bounds.put_bounds_section.Goals as goal

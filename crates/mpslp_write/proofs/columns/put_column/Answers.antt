@@ -1,8 +1,8 @@
 use Rattle.std.proofs.Common.{◌∙◌, map}
 use Rattle.std.specs.FinMap.{entries}
 use Rattle.mpslp_model.specs.Views.{column_name}
-use Rattle.mpslp_write.specs.Listing.{listing_of}
-use Rattle.mpslp_write.specs.CanonicalMps.{cell_line, printed_cells, column_cells}
+use Rattle.mpslp_canonical.specs.Listing.{listing_of}
+use Rattle.mpslp_canonical.specs.CanonicalMps.{cell_line, printed_cells, column_cells}
 use Rattle.mpslp_write.proofs.ColumnLemmas.{column-joined, named-lines}
 use Rattle.mpslp_write.proofs.OutputLemmas.{prints_then, prints_same}
 use Rattle.mpslp_write.proofs.columns.put_column.Goals as goal

@@ -1,7 +1,7 @@
 use Rattle.std.proofs.Common.{◌≡◌, sym, ap, ◌∙◌, Bool, cond, []}
 use Rattle.std.specs.FinMap.{entries}
-use Rattle.mpslp_write.specs.Listing.{listing_of}
-use Rattle.mpslp_write.specs.CanonicalMps.{column_lines}
+use Rattle.mpslp_canonical.specs.Listing.{listing_of}
+use Rattle.mpslp_canonical.specs.CanonicalMps.{column_lines}
 use Rattle.mpslp_write.specs.LinesAt.{lines_at}
 use Rattle.mpslp_write.proofs.ColumnLemmas.{kind-lines, wanted-is}
 use Rattle.mpslp_write.proofs.OutputLemmas.{prints_same, prints_nothing}

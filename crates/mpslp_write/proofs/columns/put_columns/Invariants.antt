@@ -1,8 +1,8 @@
 use Rattle.std.proofs.Common.{[], ◌∷◌, take}
 use Rattle.std.specs.List.{flat_map}
 use Rattle.std.specs.FinMap.{entries}
-use Rattle.mpslp_write.specs.CanonicalMps.{column_lines}
-use Rattle.mpslp_write.specs.Listing.{listing_of}
+use Rattle.mpslp_canonical.specs.CanonicalMps.{column_lines}
+use Rattle.mpslp_canonical.specs.Listing.{listing_of}
 use Rattle.mpslp_write.specs.LinesAt.{of_kind}
 use Rattle.mpslp_write.specs.Output.{Prints}
 use Rattle.mpslp_write.proofs.columns.put_columns.Given as goal

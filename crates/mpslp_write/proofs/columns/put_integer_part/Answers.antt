@@ -1,6 +1,6 @@
 use Rattle.std.proofs.Common.{sym, ◌∙◌, refl, true, [], ◌∷◌}
 use Rattle.mpslp_mps.specs.DataLine.{opening_word, closing_word}
-use Rattle.mpslp_write.specs.CanonicalMps.{marker_line}
+use Rattle.mpslp_canonical.specs.CanonicalMps.{marker_line}
 use Rattle.mpslp_write.proofs.ColumnLemmas.{integer-some, integer-none}
 use Rattle.mpslp_write.proofs.OutputLemmas.{prints_nothing, prints_then, prints_same, prints_text}
 use Rattle.mpslp_write.proofs.columns.put_integer_part.Goals as goal

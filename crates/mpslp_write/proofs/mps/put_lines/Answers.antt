@@ -1,6 +1,6 @@
 use Rattle.std.proofs.Common.{refl, ap, [], ◌∷◌}
 use Rattle.mpslp_mps.specs.declared.sections.Section.TheVariants.{Name, EndData}
-use Rattle.mpslp_write.specs.CanonicalMps.{header_line, sense_lines}
+use Rattle.mpslp_canonical.specs.CanonicalMps.{header_line, sense_lines}
 use Rattle.mpslp_write.proofs.OutputLemmas.{prints_then, prints_same, prints_text}
 use Rattle.mpslp_write.proofs.mps.put_lines.Goals as goal
 

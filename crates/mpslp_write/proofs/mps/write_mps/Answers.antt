@@ -1,6 +1,6 @@
 use Rattle.std.proofs.Common.{◌≡◌, refl, sym, subst, [], ◌++◌}
 use Rattle.mpslp_write.specs.Output.{Gathered, HasPut}
-use Rattle.mpslp_write.specs.CanonicalMps.{canonical_mps}
+use Rattle.mpslp_canonical.specs.CanonicalMps.{canonical_mps}
 use Rattle.mpslp_write.proofs.OutputLemmas.{HasPut-nothing, taken-written, taken-succeeds}
 use Rattle.mpslp_write.proofs.mps.write_mps.Goals as goal
 

@@ -3,8 +3,8 @@ use Rattle.std.specs.Prelude.{slice_get, Some}
 use Rattle.std.specs.FinMap.{entries}
 use Rattle.mpslp_model.specs.Model.{Row}
 use Rattle.mpslp_model.specs.Views.{rows_of}
-use Rattle.mpslp_write.specs.PrintedValues.{printed_side}
-use Rattle.mpslp_write.specs.CanonicalMps.{side_lines}
+use Rattle.mpslp_canonical.specs.PrintedValues.{printed_side}
+use Rattle.mpslp_canonical.specs.CanonicalMps.{side_lines}
 use Rattle.mpslp_write.proofs.LinesAtLemmas.{nonempty_seen}
 use Rattle.mpslp_write.proofs.RowLines.{side-nonempty}
 use Rattle.std.specs.Prelude.{not}

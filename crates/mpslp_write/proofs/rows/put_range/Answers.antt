@@ -5,8 +5,8 @@ use Rattle.mpslp_model.specs.Model.{Row}
 use Rattle.mpslp_model.specs.Views.{rows_of}
 use Rattle.std.specs.Option.{option_map_or}
 use Rattle.std.specs.Prelude.{codes, None}
-use Rattle.mpslp_write.specs.PrintedValues.{printed_range}
-use Rattle.mpslp_write.specs.CanonicalMps.{vector_line}
+use Rattle.mpslp_canonical.specs.PrintedValues.{printed_range}
+use Rattle.mpslp_canonical.specs.CanonicalMps.{vector_line}
 use Rattle.mpslp_write.proofs.LinesAtLemmas.{lines_seen, nothing_seen}
 use Rattle.mpslp_write.proofs.RowLines.{range_at_name}
 use Rattle.mpslp_write.proofs.OutputLemmas.{prints_same, prints_nothing}

@@ -1,6 +1,6 @@
 use Rattle.std.proofs.Common.{◌≡◌, sym, ap, ◌∙◌, refl, ℕ, List, [], ◌∷◌, ◌++◌}
 use Rattle.mpslp_mps.specs.declared.sections.Section.TheVariants.{Rhs}
-use Rattle.mpslp_write.specs.CanonicalMps.{header_line, side_lines}
+use Rattle.mpslp_canonical.specs.CanonicalMps.{header_line, side_lines}
 use Rattle.mpslp_write.proofs.LinesAtLemmas.{under-some, under-none}
 use Rattle.mpslp_write.proofs.OutputLemmas.{prints_nothing, prints_then, prints_same, prints_text}
 use Rattle.mpslp_write.proofs.rows.put_right_sides_section.Goals as goal

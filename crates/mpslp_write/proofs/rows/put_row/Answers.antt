@@ -4,8 +4,8 @@ use Rattle.std.specs.FinMap.{entries}
 use Rattle.mpslp_model.specs.Model.{Row}
 use Rattle.mpslp_model.specs.Views.{rows_of}
 use Rattle.mpslp_mps.specs.DataLine.{letter_of}
-use Rattle.mpslp_write.specs.Printed.{short_line}
-use Rattle.mpslp_write.specs.PrintedValues.{printed_type}
+use Rattle.mpslp_canonical.specs.Printed.{short_line}
+use Rattle.mpslp_canonical.specs.PrintedValues.{printed_type}
 use Rattle.mpslp_write.proofs.LinesAtLemmas.{both_seen, lines_seen}
 use Rattle.mpslp_write.proofs.OutputLemmas.{prints_same}
 use Rattle.mpslp_write.proofs.rows.put_row.Goals as goal

@@ -1,7 +1,7 @@
 use Rattle.std.proofs.Common.{[], ◌∷◌, take}
 use Rattle.std.specs.List.{flat_map}
 use Rattle.std.specs.FinMap.{entries}
-use Rattle.mpslp_write.specs.CanonicalMps.{row_line}
+use Rattle.mpslp_canonical.specs.CanonicalMps.{row_line}
 use Rattle.mpslp_write.specs.Output.{Prints}
 use Rattle.mpslp_write.proofs.rows.put_rows.Given as goal
 

@@ -3,7 +3,7 @@ use Rattle.std.specs.Prelude.{slice_get, Some}
 use Rattle.std.specs.FinMap.{entries}
 use Rattle.mpslp_model.specs.Model.{Row}
 use Rattle.mpslp_model.specs.Views.{rows_of}
-use Rattle.mpslp_write.specs.PrintedValues.{printed_side}
+use Rattle.mpslp_canonical.specs.PrintedValues.{printed_side}
 use Rattle.mpslp_write.proofs.LinesAtLemmas.{both_seen}
 use Rattle.mpslp_write.proofs.rows.side_at.Goals as goal
 

@@ -1,0 +1,75 @@
+-- What the conversions and comparisons of whole texts answer, over any formats.
+use Rattle.std.specs.Prelude.{◌≡◌, ◌≢◌, ◌⊎◌, ℕ, List, Bool, true, false, Option, None, Some, Result, Ok, Err, Vec}
+use Rattle.std.specs.declared.alloc.Global.{Global}
+use Rattle.mpslp_model.specs.Model.{LinearModel}
+use Rattle.mpslp_model.specs.declared.faults.Fault.{Fault}
+use Rattle.mpslp_model.specs.declared.faults.NameAt.{NameAt}
+use Rattle.mpslp_convert.specs.declared.faults.ConvertFault.{ConvertFault}
+use Rattle.mpslp_convert.specs.declared.faults.ConvertFault.TheVariants.{First, Second, NotLp, OutOfMemory}
+
+-- What bytes declare in a format, which first fault they have, where a model first has what a format cannot tell, and
+-- the text of a model.
+abbrev pub Declares : Type 1
+Declares = List ℕ → LinearModel → Type 0
+
+abbrev pub HasFirstFault : Type 1
+HasFirstFault = List ℕ → Fault → Type 0
+
+abbrev pub Unfit : Type 0
+Unfit = LinearModel → Option NameAt
+
+abbrev pub TextOf : Type 0
+TextOf = LinearModel → List ℕ
+
+-- The answer is this fault, or want of memory.
+abbrev pub IsRefusedWith : {T : Type 0} → ConvertFault → Result T ConvertFault → Type 0
+IsRefusedWith fault (Ok _) = ⊥
+IsRefusedWith fault (Err found) = (found ≡ fault) ⊎ (found ≡ OutOfMemory)
+
+-- The model that the first text declares, or the text's first fault.
+abbrev pub IsReadingOfFirst : Declares → HasFirstFault → List ℕ → Result LinearModel ConvertFault → Type 0
+IsReadingOfFirst declares first_fault bytes (Ok m) = declares bytes m
+IsReadingOfFirst declares first_fault bytes (Err (First fault)) = first_fault bytes fault
+IsReadingOfFirst declares first_fault bytes (Err (Second fault)) = ⊥
+IsReadingOfFirst declares first_fault bytes (Err (NotLp place)) = ⊥
+IsReadingOfFirst declares first_fault bytes (Err OutOfMemory) = Unit {0}
+
+-- The text of a model, or the first place that the format cannot tell.
+abbrev pub IsText : Unfit → TextOf → LinearModel → Result (Vec ℕ Global) ConvertFault → Type 0
+IsText unfit text m (Ok out) = (unfit m ≡ None) × (out.items ≡ text m)
+IsText unfit text m (Err (First fault)) = ⊥
+IsText unfit text m (Err (Second fault)) = ⊥
+IsText unfit text m (Err (NotLp place)) = unfit m ≡ Some place
+IsText unfit text m (Err OutOfMemory) = Unit {0}
+
+-- The bytes declare a model in one format that the other can tell, and the answer is its text there. Or the answer is
+-- the first fault of the bytes; or the first place of the model that the other format cannot tell.
+abbrev pub IsConversion : Declares → HasFirstFault → Unfit → TextOf → List ℕ → Result (Vec ℕ Global) ConvertFault → Type 0
+IsConversion declares first_fault unfit text bytes (Ok out) =
+    (m : LinearModel) × declares bytes m × (unfit m ≡ None) × (out.items ≡ text m)
+IsConversion declares first_fault unfit text bytes (Err (First fault)) = first_fault bytes fault
+IsConversion declares first_fault unfit text bytes (Err (Second fault)) = ⊥
+IsConversion declares first_fault unfit text bytes (Err (NotLp place)) = (m : LinearModel) × declares bytes m × (unfit m ≡ Some place)
+IsConversion declares first_fault unfit text bytes (Err OutOfMemory) = Unit {0}
+
+-- Whether two texts declare one model; or the first fault of the first text; or, where the first has none, that of the
+-- second.
+abbrev pub IsComparison : Declares → HasFirstFault → Declares → HasFirstFault → List ℕ → List ℕ → Result Bool ConvertFault → Type 0
+IsComparison declares first_fault declares' first_fault' first second (Ok true) =
+    (m : LinearModel) × declares first m × declares' second m
+IsComparison declares first_fault declares' first_fault' first second (Ok false) =
+    (m : LinearModel) × (n : LinearModel) × declares first m × declares' second n × (m ≢ n)
+IsComparison declares first_fault declares' first_fault' first second (Err (First fault)) = first_fault first fault
+IsComparison declares first_fault declares' first_fault' first second (Err (Second fault)) =
+    (m : LinearModel) × declares first m × first_fault' second fault
+IsComparison declares first_fault declares' first_fault' first second (Err (NotLp place)) = ⊥
+IsComparison declares first_fault declares' first_fault' first second (Err OutOfMemory) = Unit {0}
+
+-- Whether a text is that of the model that it declares; or its first fault.
+abbrev pub IsTestOfText : Declares → HasFirstFault → TextOf → List ℕ → Result Bool ConvertFault → Type 0
+IsTestOfText declares first_fault text bytes (Ok true) = (m : LinearModel) × declares bytes m × (bytes ≡ text m)
+IsTestOfText declares first_fault text bytes (Ok false) = (m : LinearModel) × declares bytes m × (bytes ≢ text m)
+IsTestOfText declares first_fault text bytes (Err (First fault)) = first_fault bytes fault
+IsTestOfText declares first_fault text bytes (Err (Second fault)) = ⊥
+IsTestOfText declares first_fault text bytes (Err (NotLp place)) = ⊥
+IsTestOfText declares first_fault text bytes (Err OutOfMemory) = Unit {0}

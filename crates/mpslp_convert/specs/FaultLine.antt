@@ -1,0 +1,56 @@
+-- How the fault of a run is told: its line, and the exit status of a program that it ends.
+use Rattle.std.specs.Prelude.{◌≡◌, ℕ, List, [], ◌∷◌, ◌++◌, Bool, true, Option, None, Some, Result, Ok, Err, ◌==◌, if◌then◌else◌, codes, decimal}
+use Rattle.mpslp_model.specs.Devices.{Grows}
+use Rattle.mpslp_model.specs.FaultName.{kind_name}
+use Rattle.mpslp_model.specs.Formats.{TookFirst}
+use Rattle.mpslp_model.specs.declared.faults.Fault.{Fault}
+use Rattle.mpslp_model.specs.declared.faults.NameAt.{NameAt}
+use Rattle.mpslp_model.specs.declared.faults.NameAt.TheVariants.{Objective, Row, Column}
+use Rattle.mpslp_model.specs.declared.faults.WriteFault.{WriteFault}
+use Rattle.mpslp_model.specs.declared.faults.WriteFault.TheVariants as write
+use Rattle.mpslp_convert.specs.declared.faults.RunFault.{RunFault}
+use Rattle.mpslp_convert.specs.declared.faults.RunFault.TheVariants.{Read, TooLong, File, NotLp, Write, OutOfMemory}
+
+-- where a fault of a file stands; line 0 is the file as a whole
+abbrev pub line_text : ℕ → List ℕ
+line_text line = if line == 0 then codes "file" else codes "line " ++ decimal line
+
+-- behind a blank the row or column that a fault is told of
+abbrev pub name_text : Option (List ℕ) → List ℕ
+name_text None = []
+name_text (Some name) = codes " " ++ name
+
+abbrev pub place_text : NameAt → List ℕ
+place_text Objective = codes "objective"
+place_text (Row i) = codes "row " ++ decimal i
+place_text (Column j) = codes "column " ++ decimal j
+
+-- what is told of the fault of a file
+abbrev pub file_text : Fault → List ℕ
+file_text fault = line_text fault.line ++ codes ": " ++ kind_name fault.kind ++ name_text fault.name
+
+-- what is told of a fault, without the end of the line
+abbrev pub fault_text : RunFault → List ℕ
+fault_text Read = codes "read failed"
+fault_text TooLong = codes "file: TooLong"
+fault_text (File fault) = file_text fault
+fault_text (NotLp place) = place_text place ++ codes ": NotLp"
+fault_text (Write written) = codes "write failed"
+fault_text OutOfMemory = codes "out of memory"
+
+abbrev pub fault_line : RunFault → List ℕ
+fault_line fault = fault_text fault ++ codes "\n"
+
+abbrev pub status_of : RunFault → ℕ
+status_of Read = 4
+status_of TooLong = 2
+status_of (File fault) = 2
+status_of (NotLp place) = 2
+status_of (Write written) = 4
+status_of OutOfMemory = 5
+
+-- A line was written whole; or the sink has failed, and took its first bytes.
+abbrev pub IsReport : {S : Type 0} → (S → List ℕ → Type 0) → (S → Bool) → List ℕ → S → S → Result (Unit {0}) WriteFault → Type 0
+IsReport holds failed line old new (Ok _) = Grows holds old new line
+IsReport holds failed line old new (Err (write.Write written)) = (failed new ≡ true) × TookFirst holds old new line written
+IsReport holds failed line old new (Err (write.NotLp place)) = ⊥

@@ -1,0 +1,103 @@
+//! Conversions and comparisons of whole texts in memory.
+
+ghost use Rattle.std.specs.Prelude.{◌≡◌, None, Some, IfOk, IsOkUnless};
+ghost use Rattle.mpslp_model.specs.Model.{LinearModel};
+ghost use Rattle.mpslp_model.specs.declared.faults.Fault.{Fault};
+ghost use Rattle.mpslp_model.specs.declared.faults.NameAt.{NameAt};
+ghost use Rattle.mpslp_convert.specs.Conversions.{IsReadingOfFirst, IsText, IsConversion, IsComparison, IsTestOfText, IsRefusedWith};
+
+use crate::collected::Collected;
+use crate::compared::Comparison;
+use crate::faults::ConvertFault;
+use mpslp_model::{Format, Model, ReadFault, WriteFault};
+use std::alloc::Global;
+
+/// The model that the first text declares.
+fn read_first<A: Format>(alloc: Global, bytes: &[u8]) -> Result<Model, ConvertFault>
+    ensures { IsReadingOfFirst A.declares A.first_fault bytes.now result }
+{
+    match A::read(alloc, bytes) {
+        Ok(model) => Ok(model),
+        Err(ReadFault::File(fault)) => Err(ConvertFault::First(fault)),
+        Err(ReadFault::Failed) => unreachable!(),
+        Err(ReadFault::OutOfMemory) => Err(ConvertFault::OutOfMemory),
+    }
+}
+
+/// The text of a model in memory.
+fn text_of<B: Format>(alloc: Global, model: &Model) -> Result<Vec<u8>, ConvertFault>
+    ensures { IsText B.unfit B.text model.now result }
+{
+    let mut sink = Collected::new(alloc);
+    match B::write(model, &mut sink) {
+        Ok(()) => Ok(sink.into_bytes()),
+        Err(WriteFault::NotLp(place)) => Err(ConvertFault::NotLp(place)),
+        Err(WriteFault::Write { written: _ }) => Err(ConvertFault::OutOfMemory),
+    }
+}
+
+/// The canonical text in B of the model that the bytes declare in A.
+///
+/// # Errors
+///
+/// [`First`](ConvertFault::First) with the first fault of bytes that declare no model, and else
+/// [`NotLp`](ConvertFault::NotLp) with the first place of the model that B cannot tell;
+/// [`OutOfMemory`](ConvertFault::OutOfMemory) where memory was refused. [`Second`](ConvertFault::Second)
+/// is never answered.
+pub fn canonical<A: Format, B: Format>(alloc: Global, bytes: &[u8]) -> Result<Vec<u8>, ConvertFault>
+    ensures answer { IsConversion A.declares A.first_fault B.unfit B.text bytes.now result }
+    ensures accepts { (m : LinearModel) → A.declares bytes.now m → B.unfit m ≡ None → IsOkUnless result ConvertFault.OutOfMemory }
+    ensures refuses { (fault : Fault) → A.first_fault bytes.now fault → IsRefusedWith (ConvertFault.First fault) result }
+    ensures cannot_tell { (m : LinearModel) (place : NameAt) → A.declares bytes.now m → B.unfit m ≡ Some place → IsRefusedWith (ConvertFault.NotLp place) result }
+    ensures keeps { (m : LinearModel) → A.declares bytes.now m → IfOk result (λ out. B.declares out.items m) }
+{
+    let model = read_first::<A>(alloc, bytes)?;
+    text_of::<B>(alloc, &model)
+}
+
+/// Whether the first text declares in A the model that the second declares in B.
+///
+/// # Errors
+///
+/// [`First`](ConvertFault::First) with the first fault of a first text that declares no model, and else
+/// [`Second`](ConvertFault::Second) with that of the second text;
+/// [`OutOfMemory`](ConvertFault::OutOfMemory) where memory was refused. [`NotLp`](ConvertFault::NotLp) is
+/// never answered.
+pub fn same_model<A: Format, B: Format>(
+    alloc: Global,
+    first: &[u8],
+    second: &[u8],
+) -> Result<bool, ConvertFault>
+    ensures answer { IsComparison A.declares A.first_fault B.declares B.first_fault first.now second.now result }
+    ensures accepts { (m n : LinearModel) → A.declares first.now m → B.declares second.now n → IsOkUnless result ConvertFault.OutOfMemory }
+    ensures refuses { (fault : Fault) → A.first_fault first.now fault → IsRefusedWith (ConvertFault.First fault) result }
+    ensures refuses_second { (m : LinearModel) (fault : Fault) → A.declares first.now m → B.first_fault second.now fault → IsRefusedWith (ConvertFault.Second fault) result }
+{
+    let one = read_first::<A>(alloc, first)?;
+    match B::read(alloc, second) {
+        Ok(other) => Ok(one.same(&other)),
+        Err(ReadFault::File(fault)) => Err(ConvertFault::Second(fault)),
+        Err(ReadFault::Failed) => unreachable!(),
+        Err(ReadFault::OutOfMemory) => Err(ConvertFault::OutOfMemory),
+    }
+}
+
+/// Whether the bytes are the canonical text in A of the model that they declare in A. The text is
+/// compared as it is written, and no copy of it is made.
+///
+/// # Errors
+///
+/// [`First`](ConvertFault::First) with the first fault of bytes that declare no model;
+/// [`OutOfMemory`](ConvertFault::OutOfMemory) where memory was refused. The others are never answered.
+pub fn is_canonical<A: Format>(alloc: Global, bytes: &[u8]) -> Result<bool, ConvertFault>
+    ensures answer { IsTestOfText A.declares A.first_fault A.text bytes.now result }
+    ensures accepts { (m : LinearModel) → A.declares bytes.now m → IsOkUnless result ConvertFault.OutOfMemory }
+    ensures refuses { (fault : Fault) → A.first_fault bytes.now fault → IsRefusedWith (ConvertFault.First fault) result }
+{
+    let model = read_first::<A>(alloc, bytes)?;
+    let mut comparison = Comparison::with(bytes);
+    let Ok(()) = A::write(&model, &mut comparison) else {
+        unreachable!()
+    };
+    Ok(comparison.is_same())
+}

@@ -1,0 +1,54 @@
+//! A sink that counts what it takes.
+
+ghost use Rattle.std.specs.Prelude.{◌≡◌, ◌-◌, ◌^◌, false, min, length};
+
+use mpslp_model::{IoFailed, Sink};
+
+/// Keeps only how many bytes it took, never fails, and takes no memory.
+#[derive(Drop)]
+pub(crate) struct Counter {
+    /// The number stays at 2^64 - 1.
+    taken: u64,
+    calls: u64,
+}
+
+impl Counter {
+    pub fn new() -> Counter
+        ensures { result.taken ≡ 0 }
+    {
+        Counter { taken: 0, calls: 0 }
+    }
+
+    pub fn taken(&self) -> u64
+        ensures { result ≡ self.now.taken }
+    {
+        self.taken
+    }
+}
+
+impl Sink for Counter {
+    ghost holds = { λ s bytes. s.taken ≡ min (length bytes) (2 ^ 64 - 1) };
+
+    ghost failed = { λ s. false };
+
+    ghost count = { λ s. s.calls };
+
+    fn write(&mut self, piece: &[u8]) -> Result<usize, IoFailed> {
+        self.calls = self.calls.saturating_add(1);
+        self.taken = self.taken.saturating_add(piece.len() as u64);
+        Ok(piece.len())
+    }
+
+    fn flush(&mut self) -> Result<(), IoFailed> {
+        self.calls = self.calls.saturating_add(1);
+        Ok(())
+    }
+
+    fn has_failed(&self) -> bool {
+        false
+    }
+
+    fn calls(&self) -> u64 {
+        self.calls
+    }
+}
