@@ -1,5 +1,5 @@
 -- Lines of one entry after another, and of an entry as it is seen through a model's views.
-use Rattle.std.proofs.Common.{◌≡◌, refl, sym, ap, ◌∙◌, ℕ, zero, suc, ◌<◌, ◌≤◌, ◌+◌, add-one, Bool, true, false, not, cond, List, [], ◌∷◌, ◌++◌, length, map, take, append_assoc, append-nil, arith}
+use Rattle.std.proofs.Common.{◌≡◌, refl, sym, ap, ◌∙◌, ℕ, zero, suc, ◌<◌, ◌≤◌, ◌+◌, add-one, Bool, true, false, not, cond, List, [], ◌∷◌, ◌++◌, length, map, take, drop, append_assoc, append-nil, arith}
 use Rattle.std.specs.Prelude.{Option, Some, None, slice_get, filter, ◌||◌}
 use Rattle.std.specs.List.{flat_map, list_any}
 use Rattle.std.specs.Option.{option_map, option_map_or}
@@ -23,6 +23,12 @@ flat_map-all f [] zero h = refl
 flat_map-all f [] (suc n) h = refl
 flat_map-all f (x ∷ xs) zero h = absurd (omega arith)
 flat_map-all f (x ∷ xs) (suc n) h = ap (λ (l : Lines). f x ++ l) (flat_map-all f xs n (omega arith))
+
+pub flat_map-rest : {X : Type 0} (f : X → Lines) (xs : List X) (i : ℕ) → flat_map f (take i xs) ++ flat_map f (drop i xs) ≡ flat_map f xs
+flat_map-rest f [] zero = refl
+flat_map-rest f [] (suc i) = refl
+flat_map-rest f (x ∷ xs) zero = refl
+flat_map-rest f (x ∷ xs) (suc i) = append_assoc (f x) (flat_map f (take i xs)) (flat_map f (drop i xs)) ∙ ap (λ (l : Lines). f x ++ l) (flat_map-rest f xs i)
 
 pub map-flat_map : {X Y : Type 0} (f : X → Y) (xs : List X) → flat_map (λ x. f x ∷ []) xs ≡ map f xs
 map-flat_map f [] = refl

@@ -1,5 +1,5 @@
 -- How what was put grows piece by piece, and by what is handed to the sink.
-use Rattle.std.proofs.Common.{◌≡◌, refl, sym, ap, subst, ◌∙◌, ℕ, ◌+◌, ◌-◌, ◌^◌, ◌≤◌, min, Bool, true, false, List, [], ◌∷◌, ◌++◌, length, take, append_assoc, append-nil, arith}
+use Rattle.std.proofs.Common.{◌≡◌, refl, sym, ap, subst, ◌∙◌, ℕ, ◌+◌, ◌-◌, ◌^◌, ◌≤◌, min, Bool, true, false, List, [], ◌∷◌, ◌++◌, length, take, drop, append_assoc, append-nil, arith}
 use Rattle.std.specs.Prelude.{Result, Ok, Err, Option, None, IsOk}
 use Rattle.mpslp_model.specs.Model.{LinearModel}
 use Rattle.mpslp_model.specs.declared.faults.WriteFault.{WriteFault}
@@ -9,6 +9,9 @@ use Rattle.std.proofs.lemmas.List.{length-append, take-append-le}
 use Rattle.mpslp_model.specs.Devices.{Grows, TookMore}
 use Rattle.mpslp_model.specs.Formats.{TookFirst, IsWritten}
 use Rattle.mpslp_model.proofs.GrowsLemmas.{Grows-nil, Grows-append}
+use Rattle.std.specs.List.{flat_map}
+use Rattle.mpslp_write.specs.CanonicalMps.{Lines}
+use Rattle.mpslp_write.proofs.LinesAtLemmas.{flat_map-rest}
 use Rattle.mpslp_write.specs.Output.{Gathered, nothing_gathered, with_waiting, IsUnderWay, IsCutOff, HasPut, Emits, Prints, IsTaken, answer_of}
 use Rattle.mpslp_canonical.specs.Printed.{PrintedLine, printed, text_of}
 
@@ -45,19 +48,19 @@ module _ {S : Type 0} (holds : S → List ℕ → Type 0) (failed : S → Bool) 
       → HasPut holds failed count first now (with_waiting (buffer.waiting ++ piece) buffer) (text ++ piece)
   HasPut-waiting first now buffer text piece h = record {
     under_way = λ works.
-    let was = h.under_way works in
-    record {
-      sent = was.sent;
-      parts = ap (λ (l : List ℕ). l ++ piece) was.parts ∙ append_assoc was.sent buffer.waiting piece;
-      sent_is = was.sent_is;
-      taken_is = was.taken_is;
-      calls = was.calls;
-      stays = was.stays;
-    };
+        let was = h.under_way works in
+        record {
+          sent = was.sent;
+          parts = ap (λ (l : List ℕ). l ++ piece) was.parts ∙ append_assoc was.sent buffer.waiting piece;
+          sent_is = was.sent_is;
+          taken_is = was.taken_is;
+          calls = was.calls;
+          stays = was.stays;
+        };
     cut_off = λ fails.
-    let was = h.cut_off fails in
-    let len = length-append text piece in
-    record { fails = was.fails; took = TookFirst-more first now text piece buffer.taken was.took; calls = omega (arith, len, was.calls) };
+        let was = h.cut_off fails in
+        let len = length-append text piece in
+        record { fails = was.fails; took = TookFirst-more first now text piece buffer.taken was.took; calls = omega (arith, len, was.calls) };
   }
 
   -- the sink took all that waited
@@ -67,18 +70,18 @@ module _ {S : Type 0} (holds : S → List ℕ → Type 0) (failed : S → Bool) 
       → HasPut holds failed count first new (record { waiting = []; taken = later; has_failed = false }) text
   HasPut-sent first old new text piece taken later h grows is calls stays = record {
     under_way = λ _.
-    let was = h.under_way refl in
-    let whole : length text ≡ length was.sent + length piece = ap length was.parts ∙ length-append was.sent piece in
-    let before = was.taken_is in
-    let called = was.calls in
-    record {
-      sent = text;
-      parts = sym (append-nil text);
-      sent_is = subst (Grows holds first new) (sym was.parts) (Grows-append holds first old new was.sent piece was.sent_is grows);
-      taken_is = omega arith;
-      calls = omega arith;
-      stays = λ f. stays (was.stays f);
-    };
+        let was = h.under_way refl in
+        let whole : length text ≡ length was.sent + length piece = ap length was.parts ∙ length-append was.sent piece in
+        let before = was.taken_is in
+        let called = was.calls in
+        record {
+          sent = text;
+          parts = sym (append-nil text);
+          sent_is = subst (Grows holds first new) (sym was.parts) (Grows-append holds first old new was.sent piece was.sent_is grows);
+          taken_is = omega arith;
+          calls = omega arith;
+          stays = λ f. stays (was.stays f);
+        };
     cut_off = λ fails. absurd (not_both fails refl);
   }
 
@@ -90,24 +93,24 @@ module _ {S : Type 0} (holds : S → List ℕ → Type 0) (failed : S → Bool) 
   HasPut-failed first old new text piece taken later h took calls fails = record {
     under_way = λ works. absurd (not_both refl works);
     cut_off = λ _.
-    let was = h.under_way refl in
-    let whole : length text ≡ length was.sent + length piece = ap length was.parts ∙ length-append was.sent piece in
-    let before = was.taken_is in
-    let called = was.calls in
-    let within = took.within in
-    let tally = took.tally_is in
-    let cut : take (length was.sent + took.count) text ≡ was.sent ++ take took.count piece =
-    ap (take (length was.sent + took.count)) was.parts ∙ take-append-add was.sent piece took.count in
-    record {
-      fails = fails;
-      took = record {
-        count = length was.sent + took.count;
-        within = omega arith;
-        told_is = omega arith;
-        holds_them = subst (Grows holds first new) (sym cut) (Grows-append holds first old new was.sent _ was.sent_is took.holds_them);
-      };
-      calls = omega arith;
-    };
+        let was = h.under_way refl in
+        let whole : length text ≡ length was.sent + length piece = ap length was.parts ∙ length-append was.sent piece in
+        let before = was.taken_is in
+        let called = was.calls in
+        let within = took.within in
+        let tally = took.tally_is in
+        let cut : take (length was.sent + took.count) text ≡ was.sent ++ take took.count piece =
+        ap (take (length was.sent + took.count)) was.parts ∙ take-append-add was.sent piece took.count in
+        record {
+          fails = fails;
+          took = record {
+            count = length was.sent + took.count;
+            within = omega arith;
+            told_is = omega arith;
+            holds_them = subst (Grows holds first new) (sym cut) (Grows-append holds first old new was.sent _ was.sent_is took.holds_them);
+          };
+          calls = omega arith;
+        };
   }
 
   -- a sink that failed is handed nothing more
@@ -148,6 +151,24 @@ module _ {S : Type 0} {holds : S → List ℕ → Type 0} {failed : S → Bool} 
       → Prints holds failed count a b x y lines
   prints_text same h = record { emits = emits_same same h }
 
+  -- a sink that has failed is handed nothing more, whatever is put
+  emits_failed : (s : S) (buffer : Gathered) (piece : List ℕ) → buffer.has_failed ≡ true → Emits holds failed count s s buffer buffer piece
+  emits_failed s buffer piece fails = record {
+    puts = λ first text h. record {
+      under_way = λ works. absurd (not_both fails works);
+      cut_off = λ is.
+      let was = h.cut_off is in
+      let len = length-append text piece in
+      record { fails = was.fails; took = TookFirst-more holds failed count first s text piece buffer.taken was.took; calls = omega (arith, len, was.calls) };
+    };
+  }
+
+  -- so the entries after it need not be looked at
+  pub prints_cut : {X : Type 0} {a b : S} {x y : Gathered} (f : X → Lines) (xs : List X) (i : ℕ) → y.has_failed ≡ true
+      → Prints holds failed count a b x y (flat_map f (take i xs)) → Prints holds failed count a b x y (flat_map f xs)
+  prints_cut {b = b} {y = y} f xs i fails h =
+      prints_same (flat_map-rest f xs i) (prints_then h (record { emits = emits_failed b y (text_of (flat_map f (drop i xs))) fails }))
+
 -- ---- the end, where nothing waits
 
 module _ {S : Type 0} (holds : S → List ℕ → Type 0) (failed : S → Bool) (count : S → ℕ) where
@@ -157,8 +178,8 @@ module _ {S : Type 0} (holds : S → List ℕ → Type 0) (failed : S → Bool) 
       elim (buffer.has_failed) as (λ b. buffer.has_failed ≡ b → IsTaken holds failed first now text (answer_of (record { waiting = buffer.waiting; taken = buffer.taken; has_failed = b }))) [
         | true ↦ λ fails. let was = h.cut_off fails in (was.fails, was.took)
         | false ↦ λ works.
-          let was = h.under_way works in
-          subst (Grows holds first now) (sym (was.parts ∙ ap (λ (l : List ℕ). was.sent ++ l) none ∙ append-nil was.sent)) was.sent_is
+            let was = h.under_way works in
+            subst (Grows holds first now) (sym (was.parts ∙ ap (λ (l : List ℕ). was.sent ++ l) none ∙ append-nil was.sent)) was.sent_is
       ] refl
 
   pub calls-end : (first now : S) (buffer : Gathered) (text : List ℕ) → HasPut holds failed count first now buffer text → count now ≤ count first + length text
@@ -166,10 +187,10 @@ module _ {S : Type 0} (holds : S → List ℕ → Type 0) (failed : S → Bool) 
       elim (buffer.has_failed) as (λ b. buffer.has_failed ≡ b → count now ≤ count first + length text) [
         | true ↦ λ fails. (h.cut_off fails).calls
         | false ↦ λ works.
-          let was = h.under_way works in
-          let called = was.calls in
-          let whole : length text ≡ length was.sent + length buffer.waiting = ap length was.parts ∙ length-append was.sent buffer.waiting in
-          omega arith
+            let was = h.under_way works in
+            let called = was.calls in
+            let whole : length text ≡ length was.sent + length buffer.waiting = ap length was.parts ∙ length-append was.sent buffer.waiting in
+            omega arith
       ] refl
 
   pub stays-end : (first now : S) (buffer : Gathered) (text : List ℕ) → HasPut holds failed count first now buffer text → failed first ≡ true → failed now ≡ true

@@ -159,7 +159,14 @@ fn put_bounds<W: Sink>(model: &Model, j: usize, sink: &mut W, buffer: &mut Buffe
     let lower = model.col_lower(j);
     let upper = model.col_upper(j);
     let integer = model.is_integer(j);
-    put_bounds_of(sink, buffer, model.column_name(j).as_bytes(), integer, &lower, &upper);
+    put_bounds_of(
+        sink,
+        buffer,
+        model.column_name(j).as_bytes(),
+        integer,
+        &lower,
+        &upper,
+    );
 }
 
 /// Puts the lines of the bounds of all columns.
@@ -167,6 +174,9 @@ fn put_all_bounds<W: Sink>(model: &Model, sink: &mut W, buffer: &mut Buffer)
     ensures { Prints W.holds W.failed W.count sink.old sink.new buffer.old buffer.new (flat_map column_bound_lines (entries model.now.columns)) }
 {
     for j in 0..model.num_cols() {
+        if buffer.has_failed() {
+            return;
+        }
         put_bounds(model, j, sink, buffer);
     }
 }

@@ -52,7 +52,13 @@ fn put_objective_cell<W: Sink>(model: &Model, j: usize, sink: &mut W, buffer: &m
         return;
     }
     let objective = model.objective_name().as_bytes();
-    put_value_line(sink, buffer, model.column_name(j).as_bytes(), objective, value);
+    put_value_line(
+        sink,
+        buffer,
+        model.column_name(j).as_bytes(),
+        objective,
+        value,
+    );
 }
 
 /// Puts the lines of the column of number `j`: the objective, and then the rows.
@@ -86,6 +92,9 @@ fn put_columns<W: Sink>(model: &Model, integer: bool, sink: &mut W, buffer: &mut
     ensures { Prints W.holds W.failed W.count sink.old sink.new buffer.old buffer.new (flat_map (of_kind integer (column_lines (listing_of model.now))) (entries model.now.columns)) }
 {
     for j in 0..model.num_cols() {
+        if buffer.has_failed() {
+            return;
+        }
         put_column_of_kind(model, j, integer, sink, buffer);
     }
 }

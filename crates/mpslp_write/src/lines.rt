@@ -27,7 +27,12 @@ fn put_last_number<W: Sink>(sink: &mut W, buffer: &mut Buffer, value: Decimal)
 }
 
 /// Puts the line of two fields behind one blank.
-pub(crate) fn put_short_line<W: Sink>(sink: &mut W, buffer: &mut Buffer, first: &[u8], second: &[u8])
+pub(crate) fn put_short_line<W: Sink>(
+    sink: &mut W,
+    buffer: &mut Buffer,
+    first: &[u8],
+    second: &[u8],
+)
     ensures { Prints W.holds W.failed W.count sink.old sink.new buffer.old buffer.new (short_line (first.now ∷ second.now ∷ []) ∷ []) }
 {
     buffer.put(sink, b" ");

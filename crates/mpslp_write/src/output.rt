@@ -82,6 +82,13 @@ impl Buffer {
         }
     }
 
+    /// Whether the sink has failed, so that nothing more need be put.
+    pub(crate) fn has_failed(&self) -> bool
+        ensures { result ≡ self.now.has_failed }
+    {
+        self.sent.has_failed
+    }
+
     /// Hands what waits to the sink, and tells whether that took the whole text. A sink that has failed
     /// is answered by [`Write`](WriteFault::Write), with the number of first bytes of the text that it
     /// has taken.

@@ -33,6 +33,9 @@ fn put_rows<W: Sink>(model: &Model, sink: &mut W, buffer: &mut Buffer)
     ensures { Prints W.holds W.failed W.count sink.old sink.new buffer.old buffer.new (flat_map (λ row. row_line row ∷ []) (entries model.now.rows)) }
 {
     for i in 0..model.num_rows() {
+        if buffer.has_failed() {
+            return;
+        }
         put_row(model, i, sink, buffer);
     }
 }
@@ -77,6 +80,9 @@ fn put_row_sides<W: Sink>(model: &Model, sink: &mut W, buffer: &mut Buffer)
     ensures { Prints W.holds W.failed W.count sink.old sink.new buffer.old buffer.new (flat_map row_side_lines (entries model.now.rows)) }
 {
     for i in 0..model.num_rows() {
+        if buffer.has_failed() {
+            return;
+        }
         put_row_side(model, i, sink, buffer);
     }
 }
@@ -147,6 +153,9 @@ fn put_ranges<W: Sink>(model: &Model, sink: &mut W, buffer: &mut Buffer)
     ensures { Prints W.holds W.failed W.count sink.old sink.new buffer.old buffer.new (flat_map range_lines (entries model.now.rows)) }
 {
     for i in 0..model.num_rows() {
+        if buffer.has_failed() {
+            return;
+        }
         put_range(model, i, sink, buffer);
     }
 }

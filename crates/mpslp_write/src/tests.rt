@@ -117,11 +117,7 @@ impl Write for SmallWriter {
 }
 
 /// What is answered where the model of a file is written; `None` where the file has none.
-fn write_file<W: Sink>(
-    alloc: Global,
-    file: &str,
-    sink: &mut W,
-) -> Option<Result<(), WriteFault>> {
+fn write_file<W: Sink>(alloc: Global, file: &str, sink: &mut W) -> Option<Result<(), WriteFault>> {
     match read_mps(alloc, file.as_bytes()) {
         Ok(model) => Some(write_mps(&model, sink)),
         Err(_) => None,
