@@ -18,3 +18,6 @@ pub use conversion::{canonical, is_canonical, same_model};
 pub use faults::{ConvertFault, RunFault};
 pub use reporting::report;
 pub use running::{load, run};
+
+#[cfg(test)]
+mod tests;

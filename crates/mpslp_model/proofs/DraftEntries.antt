@@ -3,7 +3,7 @@ use Rattle.std.proofs.Common.{◌≡◌, refl, sym, ap, ◌∙◌, ℕ, List, []
 use Rattle.std.specs.Prelude.{◌&&◌}
 use Rattle.std.specs.List.{list_all}
 use Rattle.std.specs.Option.{option_map_or}
-use Rattle.std.specs.Cmp.{first_so, second_so, then_total, on_total}
+use Rattle.std.specs.Cmp.{first_so, second_so}
 use Rattle.std.specs.Cmp.Lexicographic.{nat_list_cmp_total}
 use Rattle.std.proofs.Math.Dec.{T}
 use Rattle.std.specs.Ordering.{ordering_then}
@@ -13,7 +13,7 @@ use Rattle.std.specs.FinMap.{put, is_sorted, slice_cmp-IsAntisymmetric, nat_cmp-
 use Rattle.std.specs.FinMap.Entries.{by_order, is_sorted-put}
 use Rattle.mpslp_decimal.specs.Decimal.{Number, is_decimal}
 use Rattle.mpslp_model.specs.Name.{is_mps_name}
-use Rattle.mpslp_model.specs.Model.{Place, bytes_cmp, place_cmp}
+use Rattle.mpslp_model.specs.Model.{Place, bytes_cmp, place_cmp, place_total}
 use Rattle.mpslp_model.specs.Declaration.{RowForm, Declaration, declare_objective, declare_constant, declare_row, declare_right_side, declare_column, declare_coefficient, declare_lower, declare_upper, Declarations, Draft, empty_draft, adding, adding_all, has_row, has_column}
 use Rattle.mpslp_model.specs.Made.{is_given, are_given, is_legal}
 use Rattle.mpslp_model.specs.Sides.{is_plus_infinite, is_minus_infinite, have_infinite_side}
@@ -49,8 +49,8 @@ then_second orders.Greater b h = cc
 -- places that tie are equal
 pub same_place : (a b : Place) → place_cmp a b ≡ orders.Equal → a ≡ b
 same_place a b h =
-    let rows = same_key a.row b.row (then_first (bytes_cmp a.row b.row) (bytes_cmp a.column b.column) h) in
-    let columns = same_key a.column b.column (then_second (bytes_cmp a.row b.row) (bytes_cmp a.column b.column) h) in
+    let columns = same_key a.column b.column (then_first (bytes_cmp a.column b.column) (bytes_cmp a.row b.row) h) in
+    let rows = same_key a.row b.row (then_second (bytes_cmp a.column b.column) (bytes_cmp a.row b.row) h) in
     λ i. record { row = rows i; column = columns i }
 
 put_names : {X : Type 0} (p : List ℕ × X → Bool) (k : List ℕ) (v : X) (es : List (List ℕ × X)) → p (k, v) ≡ true → list_all p es ≡ true → list_all p (put bytes_cmp k v es) ≡ true
@@ -155,7 +155,7 @@ good-adding all b (declare_coefficient place value) g legal known allowed = reco
   uppers = g.uppers;
   rows_sorted = g.rows_sorted;
   columns_sorted = g.columns_sorted;
-  coefficients_sorted = is_sorted-put place_cmp (then_total (on_total (λ (p : Place). p.row) nat_list_cmp_total) (on_total (λ (p : Place). p.column) nat_list_cmp_total)) place value b.coefficients g.coefficients_sorted;
+  coefficients_sorted = is_sorted-put place_cmp place_total place value b.coefficients g.coefficients_sorted;
 }
 good-adding all b (declare_lower column limit) g legal known allowed = record {
   objective = g.objective;

@@ -1,11 +1,11 @@
 -- The model that a builder ends in, from its parts.
-use Rattle.std.proofs.Common.{◌≡◌, sym, ap, subst, ◌∙◌, ℕ, List, map, Bool, true, not}
-use Rattle.std.specs.Prelude.{IsTrue, None, filter, is_some, unwrap_or}
+use Rattle.std.proofs.Common.{◌≡◌, sym, ap, subst, ◌∙◌, map, Bool, true, not}
+use Rattle.std.specs.Prelude.{None, filter, is_some, unwrap_or}
 use Rattle.std.specs.FinMap as maps
 use Rattle.mpslp_decimal.specs.Decimal.{Number, is_zero, zero_number}
-use Rattle.mpslp_model.specs.Model.{LinearModel, Place, Row, Column, bytes_cmp, place_cmp, IsSound}
+use Rattle.mpslp_model.specs.Model.{Place, bytes_cmp, place_cmp, IsSound}
 use Rattle.mpslp_model.specs.ModelParts.{linear_model, AreModelParts}
-use Rattle.mpslp_model.specs.Declaration.{RowForm, Draft}
+use Rattle.mpslp_model.specs.Declaration.{Draft}
 use Rattle.mpslp_model.specs.Made.{IsMade}
 use Rattle.mpslp_model.specs.Bounds.{column_of}
 use Rattle.mpslp_model.specs.Limits.{plain_limits}

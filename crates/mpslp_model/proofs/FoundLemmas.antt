@@ -1,5 +1,5 @@
 -- The fault that is found first is the one that is told.
-use Rattle.std.proofs.Common.{◌≡◌, refl, sym, ap, ◌∙◌, ℕ, zero, suc, drop, ◌<◌, ◌+◌, List, [], ◌∷◌, length, map, Bool, true, false, cond, not, arith}
+use Rattle.std.proofs.Common.{◌≡◌, refl, sym, ap, ◌∙◌, ℕ, suc, drop, ◌<◌, ◌+◌, List, [], ◌∷◌, length, map, Bool, true, false, cond, not, arith}
 use Rattle.std.specs.Prelude.{Option, Some, None, position, filter, filter_map, slice_get, slice_index_or, nat_lt}
 use Rattle.std.specs.Option.{option_map}
 use Rattle.std.specs.List.{position_or_len, cons_option}
@@ -14,7 +14,6 @@ use Rattle.mpslp_model.specs.declared.limits.RowFault.{RowFault}
 use Rattle.mpslp_model.specs.declared.limits.RowFault.TheVariants as rows
 use Rattle.mpslp_model.specs.declared.finding.ColumnFault.{ColumnFault}
 use Rattle.mpslp_model.specs.declared.finding.ColumnFault.TheVariants as columns
-use Rattle.mpslp_model.specs.declared.finding.FoundFault.{FoundFault}
 use Rattle.mpslp_model.specs.declared.finding.FoundFault.TheVariants as found
 
 -- the first of those that pass a test is the one that passes it first

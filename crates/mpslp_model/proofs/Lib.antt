@@ -1,6 +1,7 @@
 pub mod PutPlaceLemmas
 pub mod SearchLemmas
 pub mod ViewLemmas
+pub mod ColumnLemmas
 pub mod FoundLemmas
 pub mod SameModels
 pub mod FinishLemmas

@@ -4,11 +4,10 @@ use Rattle.std.specs.Prelude.{◌&&◌, ◌||◌, if◌then◌else◌}
 use Rattle.std.specs.List.{list_any, list_all}
 use Rattle.std.specs.Cmp.{first_so, second_so}
 use Rattle.std.specs.Cmp.Lexicographic.{texts_ties, nat_list_cmp_total, nat_list_eq_equiv}
-use Rattle.std.specs.Cmp.{then_total, on_total}
 use Rattle.std.specs.FinMap.{put}
 use Rattle.std.proofs.lemmas.List.Folds.{list_all-append}
 use Rattle.mpslp_model.specs.Name.{same_bytes}
-use Rattle.mpslp_model.specs.Model.{LinearModel, Place, bytes_cmp, place_cmp}
+use Rattle.mpslp_model.specs.Model.{LinearModel, Place, bytes_cmp, place_cmp, place_total}
 use Rattle.mpslp_model.specs.Declaration.{RowForm, Declaration, declare_sense, declare_objective, declare_constant, declare_row, declare_right_side, declare_range, declare_column, declare_coefficient, declare_lower, declare_upper, declare_marked, declare_integer, declare_binary, Declarations, Draft, empty_draft, adding, adding_all, draft_of, is_limits_form}
 use Rattle.mpslp_model.specs.Consistency.{Slot, sense_slot, objective_slot, constant_slot, row_slot, right_side_slot, range_slot, coefficient_slot, lower_slot, upper_slot, same_slot, slots_of, all_slots, are_distinct, declares_objective, is_known, is_allowed, has_one_constant, AreConsistent}
 use Rattle.mpslp_model.specs.Meaning.{DraftMeans, Means}
@@ -34,7 +33,7 @@ units_turn j k es = by (same_bytes k j) refl
 places_turn : {X : Type 0} (j k : Place) (w v : X) (es : List (Place × X)) → (same_bytes k.row j.row && same_bytes k.column j.column) ≡ false
     → put place_cmp k v (put place_cmp j w es) ≡ put place_cmp j w (put place_cmp k v es)
 places_turn j k w v es apart =
-    sym (put-put place_cmp (then_total (on_total (λ (p : Place). p.row) nat_list_cmp_total) (on_total (λ (p : Place). p.column) nat_list_cmp_total)) k j v w es (sym (place_ties k j) ∙ apart))
+    sym (put-put place_cmp place_total k j v w es (sym (place_ties k j) ∙ apart))
 
 -- ---- two declarations
 

@@ -1,8 +1,7 @@
 -- Models are the same where their parts are.
-use Rattle.std.proofs.Common.{◌≡◌, sym, ap, ◌∙◌, ℕ, List}
+use Rattle.std.proofs.Common.{◌≡◌, sym, ap, ◌∙◌}
 use Rattle.std.specs.FinMap as maps
-use Rattle.mpslp_decimal.specs.Decimal.{Number}
-use Rattle.mpslp_model.specs.Model.{Place, Row, Column, LinearModel}
+use Rattle.mpslp_model.specs.Model.{LinearModel}
 use Rattle.mpslp_model.specs.ModelParts.{linear_model, AreModelParts}
 use Rattle.mpslp_model.specs.Same.{IsSameObjective}
 use Rattle.mpslp_model.specs.declared.linear.Model.TheInside.{Inside}

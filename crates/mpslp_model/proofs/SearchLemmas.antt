@@ -1,6 +1,6 @@
 -- Entries in the order of their keys, searched by halves: those below a key stand before those that are not.
 use Rattle.std.proofs.Common.{◌≡◌, refl, sym, ap, ◌∙◌, ℕ, suc, zero, ◌+◌, ◌<◌, ◌≤◌, List, [], ◌∷◌, Bool, true, false, cond, not, length, arith, get_or}
-use Rattle.std.specs.Prelude.{Option, Some, None, slice_get, position, nat_lt, ◌&&◌}
+use Rattle.std.specs.Prelude.{Option, Some, None, slice_get, position, nat_lt}
 use Rattle.std.specs.List.{position_or_len}
 use Rattle.std.specs.List.Sorted.{IsPartitionedBy, IsPartitionPoint}
 use Rattle.std.specs.Ordering.{is_lt, is_le, is_gt, is_eq, ordering_reverse}
@@ -16,7 +16,7 @@ use Rattle.mpslp_model.proofs.PutsLemmas.{true_from, T_from}
 
 -- ---- answers of a comparison
 
-less_from : (r : Ordering) → is_lt r ≡ true → r ≡ Less
+pub less_from : (r : Ordering) → is_lt r ≡ true → r ≡ Less
 less_from Less h = refl
 less_from Equal h = cc
 less_from Greater h = cc
@@ -41,7 +41,7 @@ not_tied Less h = refl
 not_tied Equal h = cc
 not_tied Greater h = refl
 
-suc_of : (n : ℕ) → 1 + n ≡ suc n
+pub suc_of : (n : ℕ) → 1 + n ≡ suc n
 suc_of n = omega arith
 
 -- ---- the place of a key

@@ -1,16 +1,17 @@
 -- Slots that are filled, one declaration after another, are filled once.
 use Rattle.std.proofs.Common.{◌≡◌, refl, sym, ap, ◌∙◌, ℕ, List, [], ◌∷◌, ◌++◌, Bool, true, false, not, cond}
+use Rattle.std.proofs.Math.Bool.{and_comm}
 use Rattle.std.specs.Prelude.{◌&&◌, ◌||◌, Option, Some, None, is_some}
 use Rattle.std.specs.Option.{option_map_or}
 use Rattle.std.specs.List.{list_any, list_all}
 use Rattle.std.specs.Ordering.{eq_by_cmp}
-use Rattle.std.specs.Cmp.{first_so, both_tied, then_total, on_total}
+use Rattle.std.specs.Cmp.{first_so, both_tied}
 use Rattle.std.specs.Cmp.Lexicographic.{texts_ties, nat_list_cmp_total, same_text}
 use Rattle.std.specs.FinMap.{find, put}
 use Rattle.std.specs.FinMap.Entries.{find-put}
 use Rattle.std.proofs.lemmas.List.Folds.{list_any-append, list_all-append}
 use Rattle.mpslp_model.specs.Name.{same_bytes}
-use Rattle.mpslp_model.specs.Model.{Place, bytes_cmp, place_cmp}
+use Rattle.mpslp_model.specs.Model.{Place, bytes_cmp, place_cmp, place_total}
 use Rattle.mpslp_model.specs.Declaration.{RowForm, by_type, by_limits, Declaration, declare_sense, declare_objective, declare_constant, declare_row, declare_right_side, declare_range, declare_column, declare_coefficient, declare_lower, declare_upper, declare_marked, declare_integer, declare_binary, Declarations, Draft, adding, at_name, has_name, has_row, is_objective, has_entry, is_limits_form, is_row_by_limits}
 use Rattle.mpslp_model.specs.Consistency.{Slot, sense_slot, objective_slot, constant_slot, row_slot, right_side_slot, range_slot, coefficient_slot, lower_slot, upper_slot, same_slot, slots_of, all_slots, are_distinct}
 use Rattle.mpslp_model.proofs.BoolLemmas.{or_end, all_true, mixed, mixed_more}
@@ -28,12 +29,14 @@ pub has-put : {X : Type 0} (q k : List ℕ) (v : X) (es : List (List ℕ × X)) 
 has-put q k v es = ap is_some (at-put q k v es) ∙ is_some-cond (same_bytes q k) v (at_name es q)
 
 pub place_ties : (a b : Place) → (same_bytes a.row b.row && same_bytes a.column b.column) ≡ eq_by_cmp place_cmp a b
-place_ties a b = both_tied _ _ (bytes_cmp a.row b.row) (bytes_cmp a.column b.column) (texts_ties a.row b.row) (texts_ties a.column b.column)
+place_ties a b =
+    and_comm (same_bytes a.row b.row) (same_bytes a.column b.column)
+    ∙ both_tied _ _ (bytes_cmp a.column b.column) (bytes_cmp a.row b.row) (texts_ties a.column b.column) (texts_ties a.row b.row)
 
 has-put_place : {X : Type 0} (q k : Place) (v : X) (es : List (Place × X))
     → is_some (find place_cmp q (put place_cmp k v es)) ≡ ((same_bytes q.row k.row && same_bytes q.column k.column) || is_some (find place_cmp q es))
 has-put_place q k v es =
-    ap is_some (find-put place_cmp (then_total (on_total (λ (p : Place). p.row) nat_list_cmp_total) (on_total (λ (p : Place). p.column) nat_list_cmp_total)) q k v es)
+    ap is_some (find-put place_cmp place_total q k v es)
     ∙ is_some-cond (eq_by_cmp place_cmp q k) v (find place_cmp q es) ∙ ap (λ (b : Bool). b || is_some (find place_cmp q es)) (sym (place_ties q k))
 
 -- ---- filled slots

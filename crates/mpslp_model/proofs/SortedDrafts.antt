@@ -1,13 +1,14 @@
 -- Each map of a draft holds its entries in the order of their keys.
 use Rattle.std.proofs.Common.{◌≡◌, sym, subst, ℕ, List}
 use Rattle.std.specs.List.{flat_map}
-use Rattle.std.specs.Cmp.{IsTotalOrder, then_total, on_total}
+use Rattle.std.specs.Cmp.{IsTotalOrder}
 use Rattle.std.specs.Cmp.Lexicographic.{nat_list_cmp_total}
 use Rattle.std.specs.FinMap.{is_sorted, slice_cmp-IsAntisymmetric, nat_cmp-IsAntisymmetric}
 use Rattle.std.specs.declared.cmp.Ordering.TheVariants.{Equal}
 use Rattle.std.proofs.Math.Dec.{T}
 use Rattle.mpslp_decimal.specs.Decimal.{Number}
 use Rattle.mpslp_model.specs.Model.{Place, bytes_cmp, place_cmp}
+pub use Rattle.mpslp_model.specs.Model.{place_total}
 use Rattle.mpslp_model.specs.Declaration.{RowForm, Declarations, Draft, empty_draft, adding_all, draft_of}
 use Rattle.mpslp_model.specs.Made.{IsMade}
 use Rattle.mpslp_model.specs.declared.kinds.Limit.{Limit}
@@ -19,9 +20,6 @@ use Rattle.mpslp_model.proofs.PutsLemmas.{is_sorted-puts}
 
 pub bytes_total : IsTotalOrder bytes_cmp
 bytes_total = nat_list_cmp_total
-
-pub place_total : IsTotalOrder place_cmp
-place_total = then_total (on_total (λ (p : Place). p.row) nat_list_cmp_total) (on_total (λ (p : Place). p.column) nat_list_cmp_total)
 
 -- names that tie are the same; so are places, by `same_place`
 pub tied_names : (a b : List ℕ) → bytes_cmp a b ≡ Equal → a ≡ b

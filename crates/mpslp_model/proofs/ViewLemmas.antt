@@ -16,7 +16,7 @@ use Rattle.mpslp_model.specs.Views.{row_names, row_index, is_element, column_ele
 use Rattle.mpslp_model.proofs.BoolLemmas.{both_so, not_so}
 use Rattle.std.proofs.lemmas.Option.{slice_get-map}
 use Rattle.mpslp_decimal.specs.Decimal.{Number, is_decimal, is_zero}
-use Rattle.mpslp_model.specs.Model.{Place, Row, Column, LinearModel, bytes_cmp, place_cmp, IsSound, is_sound_coefficient}
+use Rattle.mpslp_model.specs.Model.{Place, LinearModel, bytes_cmp, place_cmp, IsSound, is_sound_coefficient}
 use Rattle.mpslp_model.specs.ModelParts.{linear_model, AreModelParts}
 use Rattle.mpslp_model.specs.declared.linear.Model.TheInside.{Inside}
 use Rattle.mpslp_model.proofs.PutsLemmas.{T_from}

@@ -2,7 +2,8 @@
 use Rattle.std.specs.Prelude.{◌≡◌, ◌<◌, ℕ, Bool, false, true, ◌&&◌, not, IsTrue, List, ◌∷◌, length, if◌then◌else◌}
 use Rattle.std.specs.Ordering.{nat_cmp, ordering_then, is_lt}
 use Rattle.std.specs.declared.cmp.Ordering.{Ordering}
-use Rattle.std.specs.Cmp.Lexicographic.{slice_cmp}
+use Rattle.std.specs.Cmp.{IsTotalOrder, then_total, on_total}
+use Rattle.std.specs.Cmp.Lexicographic.{slice_cmp, nat_list_cmp_total}
 use Rattle.std.specs.FinMap as maps
 use Rattle.std.specs.FinMap.{FinMap}
 use Rattle.std.specs.Option.{option_map_or}
@@ -23,9 +24,12 @@ pub record Place : Type 0 where
   pub row : List ℕ
   pub column : List ℕ
 
--- by row, then by column
+-- By column, then by row. So the coefficients of a column stand together, in the order of their rows.
 abbrev pub place_cmp : Place → Place → Ordering
-place_cmp a b = ordering_then (bytes_cmp a.row b.row) (bytes_cmp a.column b.column)
+place_cmp a b = ordering_then (bytes_cmp a.column b.column) (bytes_cmp a.row b.row)
+
+pub place_total : IsTotalOrder place_cmp
+place_total = then_total (on_total (λ (p : Place). p.column) nat_list_cmp_total) (on_total (λ (p : Place). p.row) nat_list_cmp_total)
 
 -- ---- a model: what rows, columns and coefficients there are, by their names
 

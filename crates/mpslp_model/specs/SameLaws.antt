@@ -1,5 +1,5 @@
 -- The tests of sameness tell whether two things are the same.
-use Rattle.std.proofs.Common.{◌≡◌, refl, sym, ap, ◌∙◌, List, Bool, true}
+use Rattle.std.proofs.Common.{◌≡◌, refl, sym, ap, ◌∙◌, List, Bool}
 use Rattle.std.specs.Prelude.{◌&&◌, ℕ}
 use Rattle.std.specs.Ordering.{int_eq}
 use Rattle.std.specs.Bool.{Decides, one_answer}

@@ -1,14 +1,14 @@
 //! Maps, each kept as a vector of its entries in the order of their keys.
 
-ghost use Rattle.std.specs.Prelude.{◌≡◌, ◌<◌, ◌↔◌, [], None, IsOk, IsTrue, OnOk, OnErr, is_some, position, vec_len, vec_capacity};
+ghost use Rattle.std.specs.Prelude.{◌≡◌, ◌<◌, ◌↔◌, [], None, IsOk, IsTrue, OnOk, OnErr, Some, length, is_some, position, slice_get, vec_len, vec_capacity};
 ghost use Rattle.std.specs.Option.{ForSome, option_copied, option_map_or};
 ghost use Rattle.std.specs.Ordering.{is_eq, is_le};
-ghost use Rattle.std.specs.Cmp.{IsTotalOrder, then_total, on_total};
+ghost use Rattle.std.specs.Cmp.{IsTotalOrder};
 ghost use Rattle.std.specs.Cmp.Lexicographic.{nat_list_cmp_total};
 ghost use Rattle.std.specs.declared.cmp.Ordering.{Ordering};
 ghost use Rattle.std.specs.List.{position_or_len};
 ghost use Rattle.std.specs.FinMap.{find, put, is_sorted};
-ghost use Rattle.mpslp_model.specs.Model.{Place, bytes_cmp, place_cmp};
+ghost use Rattle.mpslp_model.specs.Model.{bytes_cmp, place_cmp, place_total};
 
 use crate::names::Name;
 use std::alloc::{AllocError, Global};
@@ -101,19 +101,19 @@ impl Position {
     }
 }
 
-/// How two places stand to each other, by row and then by column.
+/// How two places stand to each other, by column and then by row.
 fn compare_places(row: &[u8], column: &[u8], other: &Position) -> Ordering
     ensures { result ≡ place_cmp (record { row = row.now; column = column.now }) other.now }
 {
-    let rows = row.cmp(other.row().as_bytes());
     let columns = column.cmp(other.column().as_bytes());
-    rows.then(columns)
+    let rows = row.cmp(other.row().as_bytes());
+    columns.then(rows)
 }
 
 impl Key for Position {
     ghost cmp = { place_cmp };
 
-    ghost total = { then_total (on_total (λ (p : Place). p.row) nat_list_cmp_total) (on_total (λ (p : Place). p.column) nat_list_cmp_total) };
+    ghost total = { place_total };
 
     fn compare_keys(&self, other: &Position) -> Ordering {
         compare_places(self.row().as_bytes(), self.column().as_bytes(), other)
@@ -133,6 +133,14 @@ impl<'a> Query<Position> for PlaceAt<'a> {
     fn compare(&self, other: &Position) -> Ordering {
         compare_places(self.row, self.column, other)
     }
+}
+
+/// The entry of number `i`.
+pub(crate) fn entry_at<K, V>(entries: &[(K, V)], i: usize) -> &(K, V)
+    requires { i < length entries.now }
+    ensures { slice_get entries.now i ≡ Some result.now }
+{
+    &entries[i]
 }
 
 /// The place of the first entry that is not below the key.

@@ -9,6 +9,7 @@
 #![tactic(auto)]
 
 mod building;
+mod columns;
 mod devices;
 mod entries;
 mod faults;

@@ -1,7 +1,7 @@
 //! Models, and what is asked of them.
 
-ghost use Rattle.std.specs.Prelude.{◌≡◌, ◌<◌, ◌&&◌, not, IsTrue, Some, length, position, filter, slice_get, unwrap_or, if◌then◌else◌};
-ghost use Rattle.std.specs.Option.{option_copied, option_map};
+ghost use Rattle.std.specs.Prelude.{◌≡◌, ◌<◌, not, IsTrue, Some, length, position, filter, slice_get, unwrap_or, if◌then◌else◌};
+ghost use Rattle.std.specs.Option.{option_map};
 ghost use Rattle.mpslp_decimal.specs.Decimal.{negated, zero_number, decimal_cmp, difference_of};
 ghost use Rattle.std.specs.Bool.{Decides};
 ghost use Rattle.std.specs.Ordering.{is_eq};
@@ -11,7 +11,8 @@ ghost use Rattle.mpslp_model.specs.Model.{IsSound, bytes_cmp};
 ghost use Rattle.mpslp_model.specs.Same.{same_number, same_limit, same_kind, IsSameObjective};
 ghost use Rattle.mpslp_model.specs.Views.{row_names, column_names, rows_of, columns_of, num_rows, num_columns, num_elements, row_name, column_name, row_index, column_index, row_sense, right_hand_side, row_range, is_integer_column, coefficient_at, column_elements, numbered_elements};
 
-use crate::entries::{PlaceAt, Position, find_entry, number_of_entry};
+use crate::columns::{count_elements_of, element_at};
+use crate::entries::{PlaceAt, Position, entry_at, find_entry, number_of_entry};
 use crate::kinds::{Kind, Limit, Sense};
 use crate::names::Name;
 use mpslp_decimal::Decimal;
@@ -175,14 +176,6 @@ fn count_of<X>(entries: &[(Name, X)]) -> usize
     entries.len()
 }
 
-/// The entry of number `i`.
-fn entry_at<X>(entries: &[(Name, X)], i: usize) -> &(Name, X)
-    requires { i < length entries.now }
-    ensures { slice_get entries.now i ≡ Some result.now }
-{
-    &entries[i]
-}
-
 /// The number of the entry of this name. Entries stand in the order of their names.
 fn index_of<X>(entries: &[(Name, X)], name: &[u8]) -> Option<usize>
     requires { IsTrue (is_sorted bytes_cmp entries.now) }
@@ -198,13 +191,6 @@ fn is_element(objective: &[u8], coefficient: &(Position, Decimal)) -> bool
     objective != coefficient.0.row().as_bytes()
 }
 
-/// Whether the coefficient is in this column, and a row's.
-fn is_element_of(objective: &[u8], column: &[u8], coefficient: &(Position, Decimal)) -> bool
-    ensures { result ≡ (not (same_bytes objective.now coefficient.now.0.row) && same_bytes column.now coefficient.now.0.column) }
-{
-    is_element(objective, coefficient) && column == coefficient.0.column().as_bytes()
-}
-
 /// How many coefficients are a row's.
 fn count_elements(objective: &[u8], coefficients: &[(Position, Decimal)]) -> usize
     ensures { result ≡ length (filter (λ e. not (same_bytes objective.now e.0.row)) coefficients.now) }
@@ -216,40 +202,6 @@ fn count_elements(objective: &[u8], coefficients: &[(Position, Decimal)]) -> usi
         }
     }
     count
-}
-
-/// How many coefficients are a row's and in this column.
-fn count_elements_of(objective: &[u8], column: &[u8], coefficients: &[(Position, Decimal)]) -> usize
-    ensures { result ≡ length (filter (λ e. not (same_bytes objective.now e.0.row) && same_bytes column.now e.0.column) coefficients.now) }
-{
-    let mut count = 0;
-    for coefficient in coefficients {
-        if is_element_of(objective, column, coefficient) {
-            count += 1;
-        }
-    }
-    count
-}
-
-/// The coefficient of number `k` among those that are a row's and in this column.
-fn element_at<'a>(
-    objective: &[u8],
-    column: &[u8],
-    coefficients: &'a [(Position, Decimal)],
-    k: usize,
-) -> Option<&'a (Position, Decimal)>
-    ensures { option_copied result ≡ slice_get (filter (λ e. not (same_bytes objective.now e.0.row) && same_bytes column.now e.0.column) coefficients.now) k }
-{
-    let mut left = k;
-    for coefficient in coefficients {
-        if is_element_of(objective, column, coefficient) {
-            if left == 0 {
-                return Some(coefficient);
-            }
-            left -= 1;
-        }
-    }
-    None
 }
 
 /// The letter of a row whose limits are both finite.
@@ -535,7 +487,7 @@ impl Model {
                     && same_coefficients(&self.coefficients, &other.coefficients)))
     }
 
-    /// How many coefficients of rows in the column of number `j` are not 0.
+    /// How many coefficients of rows in the column of number `j` are not 0. They are found by halves, without memory.
     pub fn column_len(&self, j: usize) -> usize
         requires { j < num_columns self.now }
         ensures { result ≡ length (column_elements self.now (column_name self.now j)) }
@@ -548,23 +500,21 @@ impl Model {
     }
 
     /// The coefficient of number `k` among those of rows that are not 0 in the column of number `j`, in the order of rows: the
-    /// row's number, and the value.
+    /// row's number, and the value. It is found by halves, without memory.
     pub fn entry(&self, j: usize, k: usize) -> (usize, Decimal)
         requires column { j < num_columns self.now }
         requires entry { k < length (column_elements self.now (column_name self.now j)) }
         ensures { slice_get (numbered_elements self.now (column_name self.now j)) k ≡ Some (Some result.0, result.1) }
     {
-        match element_at(
+        let coefficient = element_at(
             self.objective.as_bytes(),
             self.column_name(j).as_bytes(),
             &self.coefficients,
             k,
-        ) {
-            Some(coefficient) => match self.row_index(coefficient.0.row().as_bytes()) {
-                Some(i) => (i, coefficient.1),
-                None => (0, coefficient.1),
-            },
-            None => (0, Decimal::zero()),
+        );
+        match self.row_index(coefficient.0.row().as_bytes()) {
+            Some(i) => (i, coefficient.1),
+            None => (0, coefficient.1),
         }
     }
 }

@@ -284,29 +284,31 @@ fn reads_integer_columns(rt: HostRuntime) -> Result<(), Fail> {
     Ok(())
 }
 
+/// What stands under BOUNDS, and what the file then tells.
+const BOUNDED: [(&str, &str); 11] = [
+    (" UP B X -1\n", "file: NegativeUpper X"),
+    (" UP B X -1\n MI B X\n", "minimize C 0 0\nX -inf -1 1\n"),
+    (" UP B X -1\n LO B X 0\n", "file: BoundsCrossed X"),
+    (" UP B X 0\n", "minimize C 0 0\nX 0 0 1\n"),
+    (
+        " LO B X -1e30\n UP B X 1e30\n",
+        "minimize C 0 0\nX -inf inf 1\n",
+    ),
+    (" FX B X 1e20\n", "line 6: InfiniteValue"),
+    (" FX B X 7\n", "minimize C 0 0\nX 7 7 1\n"),
+    (" FR B X\n", "minimize C 0 0\nX -inf inf 1\n"),
+    (" BV X\n", "minimize C 0 0\nX integer 0 1 1\n"),
+    (
+        " LI B X 2\n UI B X 9\n",
+        "minimize C 0 0\nX integer 2 9 1\n",
+    ),
+    (" LO X 2\n", "minimize C 0 0\nX 2 inf 1\n"),
+];
+
 #[test]
 fn reads_bounds_of_one_column(rt: HostRuntime) -> Result<(), Fail> {
     let alloc = rt.alloc();
-    let cases = [
-        (" UP B X -1\n", "file: NegativeUpper X"),
-        (" UP B X -1\n MI B X\n", "minimize C 0 0\nX -inf -1 1\n"),
-        (" UP B X -1\n LO B X 0\n", "file: BoundsCrossed X"),
-        (" UP B X 0\n", "minimize C 0 0\nX 0 0 1\n"),
-        (
-            " LO B X -1e30\n UP B X 1e30\n",
-            "minimize C 0 0\nX -inf inf 1\n",
-        ),
-        (" FX B X 1e20\n", "line 6: InfiniteValue"),
-        (" FX B X 7\n", "minimize C 0 0\nX 7 7 1\n"),
-        (" FR B X\n", "minimize C 0 0\nX -inf inf 1\n"),
-        (" BV X\n", "minimize C 0 0\nX integer 0 1 1\n"),
-        (
-            " LI B X 2\n UI B X 9\n",
-            "minimize C 0 0\nX integer 2 9 1\n",
-        ),
-        (" LO X 2\n", "minimize C 0 0\nX 2 inf 1\n"),
-    ];
-    for (bounds, expected) in cases {
+    for (bounds, expected) in BOUNDED {
         let text = joined(
             alloc,
             &["ROWS\n N C\nCOLUMNS\n X C 1\nBOUNDS\n", bounds, "ENDATA\n"],
@@ -350,20 +352,22 @@ ENDATA
     Ok(())
 }
 
+/// What stands behind the first right sides, and what the file then tells.
+const RIGHT_SIDES: [(&str, &str); 4] = [
+    (" LIM1 -1e20\n", "file: InfiniteLimit LIM1"),
+    (" MYG 9e19\nRANGES\n MYG 9e19\n", "file: LimitTooLarge MYG"),
+    (" MYG 1e19\nRANGES\n MYG 1e-10\n", "file: RangeInexact MYG"),
+    (
+        " LIM1 1e20\n",
+        "minimize COST 0 0\nLIM1 N -inf inf 0 0\nMYG G 0 inf 0 0\nX 0 inf 1 LIM1:1\nY 0 inf 0 MYG:1\n",
+    ),
+];
+
 #[test]
 fn tells_infinite_right_sides(rt: HostRuntime) -> Result<(), Fail> {
     let alloc = rt.alloc();
     let head = "ROWS\n N COST\n L LIM1\n G MYG\nCOLUMNS\n X COST 1 LIM1 1\n Y MYG 1\nRHS\n";
-    let cases = [
-        (" LIM1 -1e20\n", "file: InfiniteLimit LIM1"),
-        (" MYG 9e19\nRANGES\n MYG 9e19\n", "file: LimitTooLarge MYG"),
-        (" MYG 1e19\nRANGES\n MYG 1e-10\n", "file: RangeInexact MYG"),
-        (
-            " LIM1 1e20\n",
-            "minimize COST 0 0\nLIM1 N -inf inf 0 0\nMYG G 0 inf 0 0\nX 0 inf 1 LIM1:1\nY 0 inf 0 MYG:1\n",
-        ),
-    ];
-    for (right_sides, expected) in cases {
+    for (right_sides, expected) in RIGHT_SIDES {
         let text = joined(alloc, &[head, right_sides, "ENDATA\n"])?;
         assert_eq!(rt;
             told(alloc, &text)?.as_slice(),
@@ -390,6 +394,39 @@ const BASE: [&str; 13] = [
     "ENDATA",
 ];
 
+/// A line in place of the one of a number, and the fault that is told then.
+const CHANGES: [(usize, &str, &str); 25] = [
+    (13, "QUADOBJ", "line 13: Quadratic"),
+    (13, "SOS", "line 13: Sos"),
+    (13, "INDICATORS", "line 13: Indicator"),
+    (13, "LAZYCONS", "line 13: UnknownSection"),
+    (13, "ROWS", "line 13: SectionRepeated"),
+    (13, "OBJSENSE MAX", "line 13: SectionOrder"),
+    (4, " X  R", "line 4: BadType"),
+    (7, "    X  Q  1", "line 7: UnknownRow"),
+    (7, "    X  C  2", "line 7: DuplicateEntry"),
+    (7, "    X  R  1x", "line 7: BadNumber"),
+    (7, "    X  R  1  C", "line 7: FieldCount"),
+    (8, "    M  'MARKER'  'SOSORG'", "line 8: Sos"),
+    (8, "    M  'MARKER'  'INTEND'", "line 8: BadMarker"),
+    (8, "    Y  C  1\n    X  R  1", "line 9: ColumnSplit"),
+    (10, "    A  R  1\n    A2  R  1", "line 11: SecondSet"),
+    (10, "    A  R  1\n    A  R  1", "line 11: DuplicateRhs"),
+    (12, " SC  B  X  4", "line 12: SemiContinuous"),
+    (12, " UP  B  Z  4", "line 12: UnknownColumn"),
+    (12, " UP  B  X  -1e30", "line 12: InfiniteValue"),
+    (12, " UP  B  X  4\n UP  B  X  4", "line 13: DuplicateBound"),
+    (
+        12,
+        " UP  B  X  4\nRANGES\n    G  C  1",
+        "line 14: RangeOnFree",
+    ),
+    (4, " L  C", "line 4: DuplicateRow"),
+    (4, " L  \u{7f}R", "line 4: BadByte"),
+    (6, "    X  C  1e501", "line 6: ExponentRange"),
+    (6, "    X  C  1234567890123456789", "line 6: TooManyDigits"),
+];
+
 #[test]
 fn tells_the_fault_of_a_line(rt: HostRuntime) -> Result<(), Fail> {
     let alloc = rt.alloc();
@@ -398,38 +435,7 @@ fn tells_the_fault_of_a_line(rt: HostRuntime) -> Result<(), Fail> {
         told(alloc, &with_line(alloc, &BASE, 0, "")?)?.as_slice(),
         accepted.as_bytes()
     );
-    let changes = [
-        (13, "QUADOBJ", "line 13: Quadratic"),
-        (13, "SOS", "line 13: Sos"),
-        (13, "INDICATORS", "line 13: Indicator"),
-        (13, "LAZYCONS", "line 13: UnknownSection"),
-        (13, "ROWS", "line 13: SectionRepeated"),
-        (13, "OBJSENSE MAX", "line 13: SectionOrder"),
-        (4, " X  R", "line 4: BadType"),
-        (7, "    X  Q  1", "line 7: UnknownRow"),
-        (7, "    X  C  2", "line 7: DuplicateEntry"),
-        (7, "    X  R  1x", "line 7: BadNumber"),
-        (7, "    X  R  1  C", "line 7: FieldCount"),
-        (8, "    M  'MARKER'  'SOSORG'", "line 8: Sos"),
-        (8, "    M  'MARKER'  'INTEND'", "line 8: BadMarker"),
-        (8, "    Y  C  1\n    X  R  1", "line 9: ColumnSplit"),
-        (10, "    A  R  1\n    A2  R  1", "line 11: SecondSet"),
-        (10, "    A  R  1\n    A  R  1", "line 11: DuplicateRhs"),
-        (12, " SC  B  X  4", "line 12: SemiContinuous"),
-        (12, " UP  B  Z  4", "line 12: UnknownColumn"),
-        (12, " UP  B  X  -1e30", "line 12: InfiniteValue"),
-        (12, " UP  B  X  4\n UP  B  X  4", "line 13: DuplicateBound"),
-        (
-            12,
-            " UP  B  X  4\nRANGES\n    G  C  1",
-            "line 14: RangeOnFree",
-        ),
-        (4, " L  C", "line 4: DuplicateRow"),
-        (4, " L  \u{7f}R", "line 4: BadByte"),
-        (6, "    X  C  1e501", "line 6: ExponentRange"),
-        (6, "    X  C  1234567890123456789", "line 6: TooManyDigits"),
-    ];
-    for (number, line, expected) in changes {
+    for (number, line, expected) in CHANGES {
         let text = with_line(alloc, &BASE, number, line)?;
         assert_eq!(rt;
             told(alloc, &text)?.as_slice(),
@@ -440,28 +446,30 @@ fn tells_the_fault_of_a_line(rt: HostRuntime) -> Result<(), Fail> {
     Ok(())
 }
 
+/// Short files, and the fault of each.
+const SHORTER_FILES: [(&str, &str); 7] = [
+    (
+        "NAME\nROWS\n N  C\n L  R\nCOLUMNS\n    Y  C  1\nRHS\n    A  R  1\nRANGES\n    G  C  1\nENDATA\n",
+        "line 10: RangeOnFree",
+    ),
+    (
+        "NAME\nROWS\n N  C\n L  R\nCOLUMNS\nRHS\n    A  R  1\nENDATA\n",
+        "file: NoColumns",
+    ),
+    (
+        "NAME\nROWS\n L  obj\nCOLUMNS\n    X  obj  1\nENDATA\n",
+        "line 4: DuplicateRow",
+    ),
+    ("ROWS\n N C\nENDATA\n", "line 3: SectionOrder"),
+    ("OBJSENSE\nROWS\n", "line 2: SectionOrder"),
+    ("OBJSENSE\n    BEST\nROWS\n", "line 2: BadType"),
+    (" N C\n", "line 1: SectionOrder"),
+];
+
 #[test]
 fn tells_faults_of_shorter_files(rt: HostRuntime) -> Result<(), Fail> {
     let alloc = rt.alloc();
-    let cases = [
-        (
-            "NAME\nROWS\n N  C\n L  R\nCOLUMNS\n    Y  C  1\nRHS\n    A  R  1\nRANGES\n    G  C  1\nENDATA\n",
-            "line 10: RangeOnFree",
-        ),
-        (
-            "NAME\nROWS\n N  C\n L  R\nCOLUMNS\nRHS\n    A  R  1\nENDATA\n",
-            "file: NoColumns",
-        ),
-        (
-            "NAME\nROWS\n L  obj\nCOLUMNS\n    X  obj  1\nENDATA\n",
-            "line 4: DuplicateRow",
-        ),
-        ("ROWS\n N C\nENDATA\n", "line 3: SectionOrder"),
-        ("OBJSENSE\nROWS\n", "line 2: SectionOrder"),
-        ("OBJSENSE\n    BEST\nROWS\n", "line 2: BadType"),
-        (" N C\n", "line 1: SectionOrder"),
-    ];
-    for (text, expected) in cases {
+    for (text, expected) in SHORTER_FILES {
         assert_eq!(rt;
             told(alloc, text.as_bytes())?.as_slice(),
             expected.as_bytes(),
@@ -502,6 +510,14 @@ BOUNDS
 ENDATA
 ";
 
+/// Heads that say to maximize.
+const HEADS: [&str; 4] = [
+    "NAME\nOBJSENSE\n    MAX\n",
+    "OBJSENSE MAX\n",
+    "OBJSENSE\n    MAXIMIZE\n",
+    "NAME anything at all\nOBJSENSE\n\n* the sense\n\tMAX\n",
+];
+
 #[test]
 fn reads_the_sense_in_each_form(rt: HostRuntime) -> Result<(), Fail> {
     let alloc = rt.alloc();
@@ -514,13 +530,7 @@ x2 0 inf 2 c1:1 c2:-3 c3:1
 x3 0 inf 3 c1:1 c2:1
 x4 integer 2 3 1 c1:10 c3:-3.5
 ";
-    let heads = [
-        "NAME\nOBJSENSE\n    MAX\n",
-        "OBJSENSE MAX\n",
-        "OBJSENSE\n    MAXIMIZE\n",
-        "NAME anything at all\nOBJSENSE\n\n* the sense\n\tMAX\n",
-    ];
-    for head in heads {
+    for head in HEADS {
         let text = joined(alloc, &[head, PRODUCTION])?;
         assert_eq!(rt;
             told(alloc, &text)?.as_slice(),
@@ -529,7 +539,7 @@ x4 integer 2 3 1 c1:10 c3:-3.5
         );
     }
     let (Ok(greatest), Ok(least)) = (
-        read_mps(alloc, &joined(alloc, &[heads[1], PRODUCTION])?),
+        read_mps(alloc, &joined(alloc, &[HEADS[1], PRODUCTION])?),
         read_mps(alloc, PRODUCTION.as_bytes()),
     ) else {
         assert!(rt; false);

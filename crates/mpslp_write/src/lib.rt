@@ -1,8 +1,20 @@
-//! The canonical texts of models.
+//! The writers of canonical texts, and the formats of model files.
 //!
-//! A model has one canonical MPS text: `canonical_mps` in `specs/CanonicalMps.antt` says which, line by
-//! line, and `specs/Printed.antt` how a line is printed. Models that differ in nothing but the order of
-//! their file, its comments, its names of sets and the like have the same text.
+//! [`write_mps`] writes the canonical MPS text of a model, which mpslp_canonical defines, to a sink.
+//! [`Mps`] is MPS as a format: reader, writer, and the laws that hold the two together.
 #![tactic(auto)]
 
-pub mod laws;
+mod bounds;
+mod columns;
+mod formats;
+mod lines;
+mod mps;
+mod output;
+mod rows;
+mod values;
+
+pub use formats::Mps;
+pub use mps::write_mps;
+
+#[cfg(test)]
+mod tests;

@@ -1,6 +1,6 @@
-use Rattle.std.proofs.Common.{◌≡◌, ◌∙◌, ap, ℕ, sym, List}
+use Rattle.std.proofs.Common.{◌∙◌, ap, ℕ, sym}
 use Rattle.std.specs.Prelude.{insert}
-use Rattle.std.specs.FinMap.{is_sorted, put}
+use Rattle.std.specs.FinMap.{is_sorted}
 use Rattle.std.proofs.lemmas.List.Sums.{prefix_len-le-length}
 use Rattle.mpslp_model.proofs.PutPlaceLemmas.{put-insert}
 use Rattle.mpslp_model.proofs.SearchLemmas.{sorted-put}

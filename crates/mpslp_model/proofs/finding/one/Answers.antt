@@ -1,4 +1,4 @@
-use Rattle.std.proofs.Common.{◌≡◌, refl, sym, ap, ◌∙◌, ℕ, List}
+use Rattle.std.proofs.Common.{◌≡◌, refl, sym, ap, ◌∙◌}
 use Rattle.std.specs.Prelude.{pos, Result, Ok, codes}
 use Rattle.std.specs.Result.{result_unwrap_or}
 use Rattle.mpslp_decimal.specs.Decimal as decimals

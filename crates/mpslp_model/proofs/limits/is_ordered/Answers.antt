@@ -1,6 +1,5 @@
-use Rattle.std.proofs.Common.{sym, ap, ◌∙◌, Bool, not}
+use Rattle.std.proofs.Common.{ap, ◌∙◌, not}
 use Rattle.std.specs.Ordering.{is_lt}
-use Rattle.std.specs.declared.cmp.Ordering.{Ordering}
 use Rattle.mpslp_decimal.proofs.OrderOfValues.{order-decimal}
 use Rattle.mpslp_model.proofs.limits.is_ordered.Goals as goal
 

@@ -1,5 +1,5 @@
 use Rattle.std.proofs.Common.{◌≡◌, ◌+◌, ◌≤◌, drop, length, not}
-use Rattle.std.specs.Prelude.{filter, ◌&&◌}
+use Rattle.std.specs.Prelude.{filter}
 use Rattle.mpslp_model.specs.Name.{same_bytes}
 use Rattle.mpslp_model.proofs.linear.count_elements.Given as goal
 

@@ -1,21 +1,14 @@
-use Rattle.std.proofs.Common.{◌≡◌, refl, sym, ap, subst, ◌∙◌, ℕ, List, [], ◌∷◌, not, Bool, false}
-use Rattle.std.specs.Prelude.{◌||◌, ◌&&◌, Some, None, is_some}
-use Rattle.std.specs.FinMap.{find, put}
-use Rattle.mpslp_decimal.specs.Decimal.{Number, is_infinite_size}
-use Rattle.mpslp_model.specs.Name.{is_mps_name}
-use Rattle.mpslp_model.specs.Model.{Place, bytes_cmp, place_cmp}
-use Rattle.mpslp_model.specs.Declaration.{RowForm, by_type, Declaration, declare_objective, declare_row, declare_column, declare_coefficient, declare_marked, declare_integer, declare_range, declare_right_side, Draft, has_row, has_column, has_name, has_entry, is_objective, is_row_by_limits, is_free_row, right_side_declared, adding_all}
-use Rattle.mpslp_model.specs.Refusal.{refusal_tests, bounds_tests}
+use Rattle.std.proofs.Common.{◌≡◌, sym, ap, subst, ◌∙◌, List, [], ◌∷◌, not, Bool, false}
+use Rattle.std.specs.Prelude.{◌||◌, ◌&&◌, is_some}
+use Rattle.mpslp_model.specs.Declaration.{Draft, has_name}
+use Rattle.mpslp_model.specs.Refusal.{bounds_tests}
 use Rattle.std.specs.Option.{option_map_or}
 use Rattle.mpslp_model.specs.Sides.{is_plus_infinite, is_minus_infinite}
 use Rattle.mpslp_model.specs.Made.{IsMade}
 use Rattle.mpslp_model.specs.BuilderDraft.{draft}
-use Rattle.mpslp_model.specs.declared.kinds.Limit.{Limit}
 use Rattle.mpslp_model.specs.declared.faults.BuildFault.{BuildFault}
-use Rattle.mpslp_model.specs.declared.faults.BuildFault.TheVariants.{DuplicateBound, SecondObjective, DuplicateRow, UnknownRow, UnknownColumn, DuplicateEntry, DuplicateRange, RangeOnFree, InfiniteValue}
-use Rattle.mpslp_model.proofs.AnswerLemmas.{none_holds, made_next, made_now, declared, known_row, known_column, row_is_legal, column_is_legal, no_side, entry_of, put_in, with_sides, side_absent, made_sides}
-use Rattle.mpslp_model.proofs.RefusalLemmas.{rest_none}
-use Rattle.mpslp_model.proofs.SortedDrafts.{sorted-from_made}
+use Rattle.mpslp_model.specs.declared.faults.BuildFault.TheVariants.{DuplicateBound, UnknownColumn, InfiniteValue}
+use Rattle.mpslp_model.proofs.AnswerLemmas.{none_holds, made_now, known_column, column_is_legal, no_side, entry_of, put_in, with_sides, side_absent, made_sides}
 use Rattle.mpslp_model.proofs.building.Builder.bounds.Goals as goal
 
 pub side_entry-requires : goal.side_entry-requires

@@ -1,4 +1,4 @@
-use Rattle.std.proofs.Common.{◌≡◌, sym, ap, ◌∙◌, ℕ, List, Bool}
+use Rattle.std.proofs.Common.{sym, ap, ◌∙◌, ℕ, List, Bool}
 use Rattle.std.specs.Prelude.{position, slice_index_or}
 use Rattle.mpslp_model.specs.Declaration.{Draft}
 use Rattle.mpslp_model.specs.FaultFound.{column_test, kind_of_column_fault, named, told}

@@ -1,7 +1,7 @@
 use Rattle.std.proofs.Common.{◌≡◌, drop}
 use Rattle.std.specs.Prelude.{filter_map}
 use Rattle.mpslp_model.specs.Meaning.{head_of}
-use Rattle.mpslp_model.specs.FaultFound.{kind_of_row_fault, kind_of_column_fault, named}
+use Rattle.mpslp_model.specs.FaultFound.{kind_of_column_fault, named}
 use Rattle.mpslp_model.proofs.building.Builder.first_fault_of_columns.Given as goal
 
 -- what is left decides

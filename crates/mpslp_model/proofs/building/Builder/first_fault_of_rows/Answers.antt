@@ -1,4 +1,4 @@
-use Rattle.std.proofs.Common.{◌≡◌, sym, ap, ◌∙◌, ℕ, List}
+use Rattle.std.proofs.Common.{sym, ap, ◌∙◌}
 use Rattle.std.specs.Prelude.{unwrap_or, position, slice_index_or}
 use Rattle.mpslp_decimal.specs.Decimal.{zero_number}
 use Rattle.mpslp_model.specs.Declaration.{Draft, at_name}

@@ -1,12 +1,12 @@
-use Rattle.std.proofs.Common.{◌≡◌, sym, ap, ◌∙◌, ℕ, List, [], map, not}
+use Rattle.std.proofs.Common.{sym, ap, ◌∙◌, ℕ, List, [], map, not}
 use Rattle.std.specs.Prelude.{Option, unwrap_or, filter}
 use Rattle.mpslp_decimal.specs.Decimal.{Number, zero_number, is_zero, negated}
 use Rattle.mpslp_model.specs.Model.{Place}
-use Rattle.mpslp_model.specs.Declaration.{RowForm, Draft, at_name, empty_draft}
+use Rattle.mpslp_model.specs.Declaration.{RowForm, Draft, at_name}
 use Rattle.mpslp_model.specs.Limits.{limits_of, plain_limits}
 use Rattle.mpslp_model.specs.BuilderDraft.{draft}
 use Rattle.mpslp_model.specs.Bounds.{column_of}
-use Rattle.mpslp_model.specs.Meaning.{objective_name, constant_of}
+use Rattle.mpslp_model.specs.Meaning.{objective_name}
 use Rattle.mpslp_model.specs.FaultFound.{columns_alone}
 use Rattle.mpslp_model.specs.declared.kinds.Sense.TheVariants.{Minimize}
 use Rattle.mpslp_model.specs.declared.kinds.RowType.TheVariants.{Free}

@@ -1,18 +1,15 @@
-use Rattle.std.proofs.Common.{◌≡◌, refl, sym, ap, subst, ◌∙◌, ℕ, List, [], ◌∷◌, not, Bool}
-use Rattle.std.specs.Prelude.{◌||◌, ◌&&◌, is_some}
+use Rattle.std.proofs.Common.{sym, ap, subst, ◌∙◌, ℕ, List, [], ◌∷◌, not, Bool}
+use Rattle.std.specs.Prelude.{◌||◌}
 use Rattle.std.specs.FinMap.{put}
 use Rattle.mpslp_decimal.specs.Decimal.{Number, is_infinite_size}
-use Rattle.mpslp_model.specs.Name.{is_mps_name}
-use Rattle.mpslp_model.specs.Model.{Place, bytes_cmp, place_cmp}
-use Rattle.mpslp_model.specs.Declaration.{RowForm, by_type, Declaration, declare_objective, declare_row, declare_column, declare_coefficient, declare_marked, declare_integer, declare_range, declare_right_side, Draft, has_row, has_column, has_name, has_entry, is_objective, is_row_by_limits, is_free_row, right_side_declared, adding_all}
-use Rattle.mpslp_model.specs.Refusal.{refusal_tests, refusals}
+use Rattle.mpslp_model.specs.Model.{bytes_cmp}
+use Rattle.mpslp_model.specs.Declaration.{declare_range, has_name, is_objective, is_row_by_limits, is_free_row}
+use Rattle.mpslp_model.specs.Refusal.{refusal_tests}
 use Rattle.mpslp_model.specs.Made.{IsMade}
 use Rattle.mpslp_model.specs.BuilderDraft.{draft}
 use Rattle.mpslp_model.specs.declared.faults.BuildFault.{BuildFault}
-use Rattle.mpslp_model.specs.declared.faults.BuildFault.TheVariants.{SecondObjective, DuplicateRow, UnknownRow, UnknownColumn, DuplicateEntry, DuplicateRange, RangeOnFree, InfiniteValue}
-use Rattle.mpslp_model.proofs.AnswerLemmas.{none_holds, made_next, made_now, declared, known_row, known_column, row_is_legal, column_is_legal, put_again}
-use Rattle.mpslp_model.proofs.RefusalLemmas.{rest_none}
-use Rattle.mpslp_model.proofs.SortedDrafts.{sorted-from_made}
+use Rattle.mpslp_model.specs.declared.faults.BuildFault.TheVariants.{UnknownRow, DuplicateRange, RangeOnFree, InfiniteValue}
+use Rattle.mpslp_model.proofs.AnswerLemmas.{none_holds, made_next, made_now, known_row, row_is_legal}
 use Rattle.mpslp_model.proofs.building.Builder.range.Goals as goal
 
 pub copied-requires : goal.copied-requires

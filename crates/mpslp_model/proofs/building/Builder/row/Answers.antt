@@ -1,16 +1,14 @@
-use Rattle.std.proofs.Common.{◌≡◌, refl, sym, ap, subst, ◌∙◌, ℕ, List, [], ◌∷◌, not, true, false}
+use Rattle.std.proofs.Common.{refl, sym, ap, subst, ◌∙◌, ℕ, List, [], ◌∷◌, true, false}
 use Rattle.std.specs.FinMap.{put}
-use Rattle.mpslp_decimal.specs.Decimal.{Number}
 use Rattle.mpslp_model.specs.Name.{is_mps_name}
-use Rattle.mpslp_model.specs.Model.{Place, bytes_cmp, place_cmp}
-use Rattle.mpslp_model.specs.Declaration.{RowForm, by_type, Declaration, declare_objective, declare_row, declare_column, declare_coefficient, declare_marked, declare_integer, declare_range, declare_right_side, Draft, has_row, has_column}
-use Rattle.mpslp_model.specs.Refusal.{refusal_tests, refusals}
+use Rattle.mpslp_model.specs.Model.{bytes_cmp}
+use Rattle.mpslp_model.specs.Declaration.{RowForm, by_type, declare_row, has_row}
+use Rattle.mpslp_model.specs.Refusal.{refusal_tests}
 use Rattle.mpslp_model.specs.Made.{IsMade}
 use Rattle.mpslp_model.specs.BuilderDraft.{draft}
-use Rattle.mpslp_model.specs.declared.faults.BuildFault.TheVariants.{SecondObjective, DuplicateRow, UnknownRow, UnknownColumn, DuplicateEntry, DuplicateRange, RangeOnFree, InfiniteValue}
-use Rattle.mpslp_model.proofs.AnswerLemmas.{none_holds, made_next, made_now, declared, known_row, known_column, row_is_legal, column_is_legal, put_again}
+use Rattle.mpslp_model.specs.declared.faults.BuildFault.TheVariants.{DuplicateRow, InfiniteValue}
+use Rattle.mpslp_model.proofs.AnswerLemmas.{none_holds, made_next}
 use Rattle.mpslp_model.proofs.BoolLemmas.{both_so}
-use Rattle.mpslp_model.proofs.SortedDrafts.{sorted-from_made}
 use Rattle.mpslp_model.proofs.building.Builder.row.Goals as goal
 
 pub invariant_of-self-2 : goal.invariant_of-self-2

@@ -1,9 +1,8 @@
-use Rattle.std.proofs.Common.{◌≡◌, sym, ap, subst, ◌∙◌, ℕ, List, length, not}
-use Rattle.std.specs.Prelude.{Option, filter, unwrap_or, ◌&&◌}
+use Rattle.std.proofs.Common.{sym, ap, ◌∙◌, List}
+use Rattle.std.specs.Prelude.{Option, unwrap_or}
 use Rattle.std.specs.FinMap.{find}
 use Rattle.mpslp_decimal.specs.Decimal.{Number, zero_number}
-use Rattle.mpslp_model.specs.Name.{same_bytes}
-use Rattle.mpslp_model.specs.Model.{LinearModel, Place, place_cmp}
+use Rattle.mpslp_model.specs.Model.{Place, place_cmp}
 use Rattle.mpslp_model.proofs.ViewLemmas.{coefficients_seen}
 use Rattle.mpslp_model.proofs.linear.Model.coefficient_at.Goals as goal
 

@@ -1,8 +1,8 @@
-use Rattle.std.proofs.Common.{◌≡◌, sym, ap, subst, ◌∙◌, ℕ, ◌<◌, List, length}
-use Rattle.mpslp_model.specs.Model.{Row, Column}
+use Rattle.std.proofs.Common.{sym, ap, ◌∙◌, ℕ, List}
+use Rattle.mpslp_model.specs.Model.{Column}
 use Rattle.std.specs.Prelude.{position}
 use Rattle.mpslp_model.specs.Name.{same_bytes}
-use Rattle.mpslp_model.proofs.ViewLemmas.{rows_seen, columns_seen, coefficients_seen, count_seen, entry_seen, position-map}
+use Rattle.mpslp_model.proofs.ViewLemmas.{columns_seen, position-map}
 use Rattle.mpslp_model.proofs.linear.Model.column_index.Goals as goal
 
 pub returns : goal.returns

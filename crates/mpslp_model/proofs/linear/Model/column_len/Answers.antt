@@ -1,12 +1,10 @@
-use Rattle.std.proofs.Common.{◌≡◌, sym, ap, subst, ◌∙◌, ℕ, [], List, length, not}
-use Rattle.std.specs.Prelude.{Option, Some, None, is_some, filter, slice_get, ◌&&◌}
-use Rattle.std.specs.Option.{option_map}
-use Rattle.std.proofs.lemmas.Option.{get_or_from_slice_get, slice_get-map, slice_get-get_or}
-use Rattle.mpslp_decimal.specs.Decimal.{Number, zero_number}
+use Rattle.std.proofs.Common.{◌≡◌, sym, ap, ◌∙◌, [], length, not}
+use Rattle.std.specs.Prelude.{filter, ◌&&◌}
+use Rattle.std.proofs.lemmas.Option.{get_or_from_slice_get}
 use Rattle.mpslp_model.specs.Name.{same_bytes}
-use Rattle.mpslp_model.specs.Model.{LinearModel, Place, IsSound}
-use Rattle.mpslp_model.specs.Views.{column_name, column_names, column_elements, row_index}
-use Rattle.mpslp_model.proofs.ViewLemmas.{coefficients_seen, row_is_there}
+use Rattle.mpslp_model.specs.Model.{LinearModel}
+use Rattle.mpslp_model.specs.Views.{column_name, column_names}
+use Rattle.mpslp_model.proofs.ViewLemmas.{coefficients_seen}
 use Rattle.mpslp_model.proofs.linear.Model.column_len.Goals as goal
 
 pub returns : goal.returns

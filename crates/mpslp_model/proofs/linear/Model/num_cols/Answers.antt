@@ -1,7 +1,5 @@
-use Rattle.std.proofs.Common.{◌≡◌, sym, ap, subst, ◌∙◌, ℕ, ◌<◌, List, length}
-use Rattle.mpslp_model.specs.Model.{Row, Column}
-use Rattle.mpslp_model.specs.Name.{same_bytes}
-use Rattle.mpslp_model.proofs.ViewLemmas.{rows_seen, columns_seen, coefficients_seen, count_seen, entry_seen, position-map}
+use Rattle.std.proofs.Common.{ap, ◌∙◌, length}
+use Rattle.mpslp_model.proofs.ViewLemmas.{columns_seen, count_seen}
 use Rattle.mpslp_model.proofs.linear.Model.num_cols.Goals as goal
 
 pub returns : goal.returns

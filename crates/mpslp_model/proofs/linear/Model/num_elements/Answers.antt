@@ -1,9 +1,7 @@
-use Rattle.std.proofs.Common.{◌≡◌, sym, ap, subst, ◌∙◌, ℕ, List, length, not}
-use Rattle.std.specs.Prelude.{Option, filter, unwrap_or, ◌&&◌}
-use Rattle.std.specs.FinMap.{find}
-use Rattle.mpslp_decimal.specs.Decimal.{Number, zero_number}
+use Rattle.std.proofs.Common.{◌≡◌, sym, ap, ◌∙◌, length, not}
+use Rattle.std.specs.Prelude.{filter}
 use Rattle.mpslp_model.specs.Name.{same_bytes}
-use Rattle.mpslp_model.specs.Model.{LinearModel, Place, place_cmp}
+use Rattle.mpslp_model.specs.Model.{LinearModel}
 use Rattle.mpslp_model.proofs.ViewLemmas.{coefficients_seen}
 use Rattle.mpslp_model.proofs.linear.Model.num_elements.Goals as goal
 

@@ -1,0 +1,57 @@
+-- The canonical text of a sound model declares it.
+use Rattle.std.proofs.Common.{◌≡◌, sym, ap, subst, ◌∙◌, List, [], ℕ, map}
+use Rattle.std.specs.List.{list_all}
+use Rattle.mpslp_model.specs.Model.{LinearModel, IsSound}
+use Rattle.mpslp_model.specs.Declaration.{Declarations, empty_draft}
+use Rattle.mpslp_model.specs.Meaning.{Means}
+use Rattle.mpslp_model.specs.Consistency.{AreConsistent}
+use Rattle.mpslp_model.proofs.BoolLemmas.{both_so}
+use Rattle.mpslp_mps.specs.Line.{is_legal_line, item_of}
+use Rattle.mpslp_mps.specs.MpsText.{read_lines, has_end, declarations_of, DeclaresMps}
+use Rattle.mpslp_mps.proofs.PlacedLemmas.{declared_items, have_good_form, Walk}
+use Rattle.mpslp_canonical.specs.Listing.{listing_of}
+use Rattle.mpslp_canonical.specs.CanonicalMps.{canonical_mps}
+use Rattle.mpslp_canonical.specs.Laws.{IsReadAsPrinted, DeclareTheirModels, TellModelsApart}
+use Rattle.mpslp_canonical.proofs.ReadLemmas.{read-as-printed}
+use Rattle.mpslp_canonical.proofs.WholeWalk.{whole_items, whole-walk}
+use Rattle.mpslp_canonical.proofs.ListedItems.{whole_of, listed-items}
+use Rattle.mpslp_canonical.proofs.ListedParts.{listed_decl}
+use Rattle.mpslp_canonical.proofs.ListingFacts.{sound-listing}
+use Rattle.mpslp_canonical.proofs.GoodWhole.{good-whole}
+use Rattle.mpslp_canonical.proofs.ListedMeaning.{draft-means}
+use Rattle.mpslp_canonical.proofs.ListedConsistency.{consistent-if_once}
+use Rattle.mpslp_canonical.proofs.FilledOnce.{filled-once}
+use Rattle.mpslp_canonical.proofs.OneAnswer.{one-model}
+
+pub canonical-walk : (m : LinearModel) → IsSound m → Walk [] empty_draft (whole_items (whole_of (listing_of m))) (listed_decl (listing_of m))
+canonical-walk m sound = whole-walk (whole_of (listing_of m)) (good-whole (listing_of m) (sound-listing m sound))
+
+pub canonical-items : (m : LinearModel) → IsSound m → map item_of (read_lines (canonical_mps m)) ≡ whole_items (whole_of (listing_of m))
+canonical-items m sound =
+    let read : IsReadAsPrinted m = read-as-printed m sound in
+    ap (map item_of) read.lines ∙ read.items ∙ listed-items (listing_of m)
+
+pub canonical-declarations : (m : LinearModel) → IsSound m → declarations_of (canonical_mps m) ≡ listed_decl (listing_of m)
+canonical-declarations m sound = ap (declared_items [] empty_draft) (canonical-items m sound) ∙ (canonical-walk m sound).declares
+
+-- The canonical text of a sound model declares it, where its declarations are consistent.
+pub declares-if_consistent : (m : LinearModel) → IsSound m → AreConsistent (listed_decl (listing_of m)) → DeclaresMps (canonical_mps m) m
+declares-if_consistent m sound consistent =
+    let read : IsReadAsPrinted m = read-as-printed m sound in
+    record {
+      text = both_so (has_end (canonical_mps m)) _ read.end
+          (both_so (list_all is_legal_line (read_lines (canonical_mps m))) _ (ap (list_all is_legal_line) read.lines ∙ read.legal)
+          (ap (have_good_form [] empty_draft) (canonical-items m sound) ∙ (canonical-walk m sound).good));
+      means = subst (λ (ds : Declarations). Means ds m) (sym (canonical-declarations m sound)) (record { consistent = consistent; meant = draft-means m sound });
+    }
+
+-- The canonical text of a sound model declares it.
+pub canonical-declares : DeclareTheirModels
+canonical-declares m sound = declares-if_consistent m sound (consistent-if_once (listing_of m) (sound-listing m sound) (filled-once (listing_of m) (sound-listing m sound)))
+
+-- Sound models have the same canonical text exactly if they are the same.
+pub tells-apart : TellModelsApart
+tells-apart m n sound other = (
+  λ same. one-model (canonical_mps m) m n (canonical-declares m sound) (subst (λ (text : List ℕ). DeclaresMps text n) (sym same) (canonical-declares n other)),
+  ap canonical_mps,
+)

@@ -1,0 +1,192 @@
+-- The draft of a sound listing's canonical declarations, map by map.
+use Rattle.std.proofs.Common.{◌≡◌, refl, sym, ap, ◌∙◌, List, [], ◌∷◌, ◌++◌, ℕ, Bool, true, false, not, cond, map, append_assoc}
+use Rattle.std.specs.Prelude.{Option, Some, None, is_some, filter, ◌&&◌, ◌||◌}
+use Rattle.std.specs.List.{flat_map}
+use Rattle.std.specs.Ordering.{eq_by_cmp}
+use Rattle.std.specs.Cmp.Lexicographic.{texts_ties}
+use Rattle.std.specs.FinMap.{find, is_sorted}
+use Rattle.std.proofs.lemmas.List.{append-nil}
+use Rattle.mpslp_decimal.specs.Decimal.{Number, IsDecimal, is_decimal, is_zero, negated}
+use Rattle.mpslp_model.specs.Name.{is_mps_name, is_one_of}
+use Rattle.mpslp_model.specs.Model.{Column, Place, bytes_cmp, place_cmp, is_sound_row, is_sound_column}
+use Rattle.mpslp_model.specs.Declaration.{RowForm, Draft, draft_of, empty_draft, at_name, has_name, names_in}
+use Rattle.mpslp_model.proofs.EachLemmas.{Each, Each-all}
+use Rattle.mpslp_model.proofs.PutsLemmas.{T_from, puts, puts-append, find-front, finds_own}
+use Rattle.mpslp_model.proofs.PartedLemmas.{parted-give}
+use Rattle.mpslp_model.proofs.DraftLemmas.{rows-all, right_sides-all, ranges-all, columns-all, lowers-all, uppers-all, marked-all, integers-all, binaries-all}
+use Rattle.mpslp_model.proofs.MeaningFromNoFault.{sorted-mapped}
+use Rattle.mpslp_model.proofs.SortedDrafts.{bytes_total, tied_names}
+use Rattle.mpslp_canonical.specs.Listing.{Listing}
+use Rattle.mpslp_canonical.specs.CanonicalMps.{column_cells, printed_cells, is_integer_kind, is_integer_column, is_continuous_column}
+use Rattle.mpslp_canonical.proofs.CanonicalItems.{to_cell, cells_in}
+use Rattle.mpslp_canonical.proofs.EntryLemmas.{first_there, then_told, told, all_told, sorted-kept, find-puts, puts-own, find-kept, sorted-told, find-told, filter-not_not}
+use Rattle.mpslp_canonical.proofs.ListedParts.{form_told, value_told, side_told, range_told, column_lower, column_upper, row_forms, own_column, listed_decl, from_cells, rows-part, right_sides-part, ranges-part, columns-part, marked-part, integers-part, binaries-part, lowers-part, uppers-part}
+
+-- ---- a sound listing
+
+-- a decimal that is not 0, of a row or the objective and of a column that are there
+abbrev pub is_sound_entry : Listing → Place × Number → Bool
+is_sound_entry m entry =
+    is_decimal entry.1 && (not (is_zero entry.1) && (is_one_of (names_in m.columns) entry.0.column && is_one_of (m.objective ∷ names_in m.rows) entry.0.row))
+
+pub record IsSoundListing (m : Listing) : Type 0 where
+  pub objective : is_mps_name m.objective ≡ true
+  pub no_row : is_one_of (names_in m.rows) m.objective ≡ false
+  pub constant : IsDecimal m.constant
+  pub rows : Each (λ row. is_sound_row row ≡ true) m.rows
+  pub columns : Each (λ column. is_sound_column column ≡ true) m.columns
+  pub coefficients : Each (λ entry. is_sound_entry m entry ≡ true) m.coefficients
+  pub rows_sorted : is_sorted bytes_cmp m.rows ≡ true
+  pub columns_sorted : is_sorted bytes_cmp m.columns ≡ true
+  pub coefficients_sorted : is_sorted place_cmp m.coefficients ≡ true
+
+abbrev pub drafted : Listing → Draft
+drafted m = draft_of (listed_decl m)
+
+-- ---- small facts on entries
+
+pub one_of-names : {X : Type 0} (q : List ℕ) (es : List (List ℕ × X)) → is_one_of (names_in es) q ≡ has_name es q
+one_of-names q [] = refl
+one_of-names {X} q (e ∷ es) =
+    ap (λ (b : Bool). b || is_one_of (names_in es) q) (texts_ties q e.0)
+    ∙ elim (eq_by_cmp bytes_cmp q e.0) as (λ b. (b || is_one_of (names_in es) q) ≡ is_some (cond b (Some e.1) (find bytes_cmp q es))) [ true ↦ refl | false ↦ one_of-names q es ]
+
+pub none_is : {X : Type 0} (o : Option X) → is_some o ≡ false → o ≡ None
+none_is None h = refl
+none_is (Some x) h = cc
+
+-- a sorted list finds its own entries
+pub own-found : {X : Type 0} (es : List (List ℕ × X)) → is_sorted bytes_cmp es ≡ true → Each (λ e. at_name es e.0 ≡ Some e.1) es
+own-found es h = finds_own bytes_cmp bytes_total tied_names es (T_from (is_sorted bytes_cmp es) h)
+
+pub names_sorted : {X Y : Type 0} (g : X → Y) (es : List (List ℕ × X)) → is_sorted bytes_cmp es ≡ true → is_sorted bytes_cmp (map (λ e. (e.0, g e.1)) es) ≡ true
+names_sorted g es h = sorted-mapped (λ e. g e.1) es ∙ h
+
+pub at-mapped : {X Y : Type 0} (g : X → Y) (q : List ℕ) (es : List (List ℕ × X)) → at_name (map (λ e. (e.0, g e.1)) es) q ≡ then_told (λ x. Some (g x)) (at_name es q)
+at-mapped g q [] = refl
+at-mapped {X} {Y} g q (e ∷ es) =
+    elim (eq_by_cmp bytes_cmp q e.0) as (λ b. cond b (Some (g e.1)) (at_name (map (λ d. (d.0, g d.1)) es) q) ≡ then_told (λ x. Some (g x)) (cond b (Some e.1) (at_name es q))) [
+      | true ↦ refl
+      | false ↦ at-mapped g q es
+    ]
+
+-- ---- rows
+
+pub rows-drafted : (m : Listing) → IsSoundListing m → (drafted m).rows ≡ row_forms m.rows
+rows-drafted m h =
+    rows-all (listed_decl m) empty_draft ∙ ap (λ (es : List (List ℕ × RowForm)). puts bytes_cmp es []) (rows-part m)
+    ∙ puts-own bytes_cmp bytes_total tied_names (row_forms m.rows) (names_sorted form_told m.rows h.rows_sorted)
+
+pub row-at : (m : Listing) → IsSoundListing m → (q : List ℕ) → at_name (drafted m).rows q ≡ then_told (λ row. Some (form_told row)) (at_name m.rows q)
+row-at m h q = ap (λ (es : List (List ℕ × RowForm)). at_name es q) (rows-drafted m h) ∙ at-mapped form_told q m.rows
+
+puts-told : (q : List ℕ) (o : Option Number) → puts bytes_cmp (told q o) [] ≡ told q o
+puts-told q None = refl
+puts-told q (Some d) = refl
+
+pub right_side-at : (m : Listing) → IsSoundListing m → (q : List ℕ)
+    → at_name (drafted m).right_sides q ≡ first_there (then_told side_told (at_name m.rows q)) (at_name (told m.objective (value_told (negated m.constant))) q)
+right_side-at m h q =
+    let mine = told m.objective (value_told (negated m.constant)) in
+    let rows = all_told side_told m.rows in
+    ap (λ (es : List (List ℕ × Number)). at_name es q)
+    (right_sides-all (listed_decl m) empty_draft ∙ ap (λ (es : List (List ℕ × Number)). puts bytes_cmp es []) (right_sides-part m) ∙ puts-append bytes_cmp mine rows []
+    ∙ ap (puts bytes_cmp rows) (puts-told m.objective (value_told (negated m.constant))))
+    ∙ find-puts bytes_cmp bytes_total tied_names q rows mine (sorted-told bytes_cmp side_told m.rows h.rows_sorted)
+    ∙ ap (λ (o : Option Number). first_there o (at_name mine q)) (find-told bytes_cmp side_told bytes_total tied_names q m.rows h.rows_sorted)
+
+pub range-at : (m : Listing) → IsSoundListing m → (q : List ℕ) → at_name (drafted m).ranges q ≡ then_told range_told (at_name m.rows q)
+range-at m h q =
+    ap (λ (es : List (List ℕ × Number)). at_name es q)
+    (ranges-all (listed_decl m) empty_draft ∙ ap (λ (es : List (List ℕ × Number)). puts bytes_cmp es []) (ranges-part m)
+    ∙ puts-own bytes_cmp bytes_total tied_names (all_told range_told m.rows) (sorted-told bytes_cmp range_told m.rows h.rows_sorted))
+    ∙ find-told bytes_cmp range_told bytes_total tied_names q m.rows h.rows_sorted
+
+-- ---- columns
+
+pub lower-at : (m : Listing) → IsSoundListing m → (q : List ℕ) → at_name (drafted m).lowers q ≡ then_told column_lower (at_name m.columns q)
+lower-at m h q =
+    ap (λ (es : List _). at_name es q)
+    (lowers-all (listed_decl m) empty_draft ∙ ap (λ (es : List _). puts bytes_cmp es []) (lowers-part m)
+    ∙ puts-own bytes_cmp bytes_total tied_names (all_told column_lower m.columns) (sorted-told bytes_cmp column_lower m.columns h.columns_sorted))
+    ∙ find-told bytes_cmp column_lower bytes_total tied_names q m.columns h.columns_sorted
+
+pub upper-at : (m : Listing) → IsSoundListing m → (q : List ℕ) → at_name (drafted m).uppers q ≡ then_told column_upper (at_name m.columns q)
+upper-at m h q =
+    ap (λ (es : List _). at_name es q)
+    (uppers-all (listed_decl m) empty_draft ∙ ap (λ (es : List _). puts bytes_cmp es []) (uppers-part m)
+    ∙ puts-own bytes_cmp bytes_total tied_names (all_told column_upper m.columns) (sorted-told bytes_cmp column_upper m.columns h.columns_sorted))
+    ∙ find-told bytes_cmp column_upper bytes_total tied_names q m.columns h.columns_sorted
+
+abbrev pub named : {X : Type 0} → List ℕ × X → List ℕ × Unit {0}
+named entry = (entry.0, tt)
+
+-- each cell of a column names it, and there is one
+own-all : (name : List ℕ) (cells : List (List ℕ × Number)) → Each (λ e. e ≡ (name, tt)) (flat_map own_column (map (to_cell name) cells))
+own-all name [] = tt
+own-all name (cell ∷ cells) = (refl, own-all name cells)
+
+own-some : (name objective : List ℕ) (cells : List (List ℕ × Number)) → is_some (at_name (flat_map own_column (map (to_cell name) (printed_cells objective cells))) name) ≡ true
+own-some name objective [] = find-front bytes_cmp bytes_total tied_names name tt []
+own-some name objective (cell ∷ cells) = find-front bytes_cmp bytes_total tied_names name tt (flat_map own_column (map (to_cell name) cells))
+
+abbrev names_of_cells : Listing → List ℕ × Column → List (List ℕ × Unit {0})
+names_of_cells m column = flat_map own_column (cells_in m column)
+
+pub columns-parted : (m : Listing) (p : List ℕ × Column → Bool) (columns : List (List ℕ × Column)) → is_sorted bytes_cmp columns ≡ true
+    → puts bytes_cmp (from_cells own_column m (filter p columns) ++ from_cells own_column m (filter (λ column. not (p column)) columns)) [] ≡ map named columns
+columns-parted m p columns h =
+    parted-give bytes_cmp bytes_total tied_names named (names_of_cells m) p columns (T_from (is_sorted bytes_cmp (map named columns)) (names_sorted (λ _. tt) columns h))
+    (Each-all _ (λ column. own-some column.0 m.objective (column_cells m column.0)) columns)
+    (Each-all _ (λ column. own-all column.0 (printed_cells m.objective (column_cells m column.0))) columns)
+
+pub columns-drafted : (m : Listing) → IsSoundListing m → (drafted m).columns ≡ map named m.columns
+columns-drafted m h =
+    columns-all (listed_decl m) empty_draft
+    ∙ ap (λ (es : List (List ℕ × Unit {0})). puts bytes_cmp es [])
+    (columns-part m
+    ∙ ap (λ (cs : List (List ℕ × Column)). from_cells own_column m (filter is_continuous_column m.columns) ++ from_cells own_column m cs) (sym (filter-not_not is_integer_column m.columns)))
+    ∙ columns-parted m is_continuous_column m.columns h.columns_sorted
+
+filter-all : {X : Type 0} (xs : List X) → filter (λ _. true) xs ≡ xs
+filter-all [] = refl
+filter-all (x ∷ xs) = ap (λ (ys : List _). x ∷ ys) (filter-all xs)
+
+filter-no : {X : Type 0} (xs : List X) → filter (λ _. not true) xs ≡ []
+filter-no [] = refl
+filter-no (x ∷ xs) = filter-no xs
+
+pub marked-drafted : (m : Listing) → IsSoundListing m → (drafted m).marked ≡ map named (filter is_integer_column m.columns)
+marked-drafted m h =
+    let integers = filter is_integer_column m.columns in
+    marked-all (listed_decl m) empty_draft
+    ∙ ap (λ (es : List (List ℕ × Unit {0})). puts bytes_cmp es [])
+    (marked-part m ∙ sym (append-nil (from_cells own_column m integers)) ∙ sym (λ i. from_cells own_column m (filter-all integers i) ++ from_cells own_column m (filter-no integers i)))
+    ∙ columns-parted m (λ _. true) integers (sorted-kept bytes_cmp is_integer_column m.columns h.columns_sorted)
+
+one-part : {X Y : Type 0} (f : X → List Y) (xs : List X) → flat_map f xs ≡ flat_map f (filter (λ _. true) xs) ++ flat_map f (filter (λ _. not true) xs)
+one-part f [] = refl
+one-part f (x ∷ xs) = ap (λ (ys : List _). f x ++ ys) (one-part f xs) ∙ sym (append_assoc (f x) (flat_map f (filter (λ _. true) xs)) (flat_map f (filter (λ _. not true) xs)))
+
+-- columns of one part alone
+pub plain-alone : (m : Listing) (columns : List (List ℕ × Column)) → is_sorted bytes_cmp columns ≡ true → puts bytes_cmp (from_cells own_column m columns) [] ≡ map named columns
+plain-alone m columns h =
+    ap (λ (es : List (List ℕ × Unit {0})). puts bytes_cmp es []) (one-part (λ column. flat_map own_column (cells_in m column)) columns)
+    ∙ columns-parted m (λ _. true) columns h
+
+pub marked-at : (m : Listing) → IsSoundListing m → (q : List ℕ) (column : Column) → at_name m.columns q ≡ Some column → has_name (drafted m).marked q ≡ is_integer_kind column.kind
+marked-at m h q column is =
+    ap (λ (es : List (List ℕ × Unit {0})). has_name es q) (marked-drafted m h)
+    ∙ ap is_some (at-mapped (λ _. tt) q (filter is_integer_column m.columns))
+    ∙ ap (λ (o : Option Column). is_some (then_told (λ _. Some tt) o)) (find-kept bytes_cmp bytes_total tied_names (λ c. is_integer_kind c.kind) q m.columns h.columns_sorted ∙ ap (then_told (λ c. cond (is_integer_kind c.kind) (Some c) None)) is)
+    ∙ by (is_integer_kind column.kind)
+  where
+    by : (b : Bool) → is_some (then_told {V = Unit {0}} (λ _. Some tt) (cond b (Some column) None)) ≡ b
+    by true = refl
+    by false = refl
+
+pub integers-drafted : (m : Listing) → (drafted m).integers ≡ []
+integers-drafted m = integers-all (listed_decl m) empty_draft ∙ ap (λ (es : List (List ℕ × Unit {0})). puts bytes_cmp es []) (integers-part m)
+
+pub binaries-drafted : (m : Listing) → (drafted m).binaries ≡ []
+binaries-drafted m = binaries-all (listed_decl m) empty_draft ∙ ap (λ (es : List (List ℕ × Unit {0})). puts bytes_cmp es []) (binaries-part m)

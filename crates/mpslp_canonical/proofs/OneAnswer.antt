@@ -1,0 +1,14 @@
+-- Bytes declare one model, and have one first fault.
+use Rattle.std.proofs.Common.{◌≡◌, sym, ◌∙◌}
+use Rattle.std.specs.Prelude.{Some}
+use Rattle.mpslp_model.specs.declared.faults.Fault.{Fault}
+use Rattle.mpslp_mps.specs.Laws.{DeclareOneModel, HaveOneFirstFault}
+
+pub one-model : DeclareOneModel
+one-model bytes m n first second = first.means.meant.model ∙ sym second.means.meant.model
+
+one-told : (a b : Fault) → Some a ≡ Some b → a ≡ b
+one-told a b e = cc
+
+pub one-fault : HaveOneFirstFault
+one-fault bytes a b first second = one-told a b (sym first ∙ second)

@@ -1,0 +1,122 @@
+-- The canonical texts of worked files, by computation.
+use Rattle.std.proofs.Common.{refl}
+use Rattle.std.specs.Prelude.{ℕ, List, ◌∷◌, [], take, drop, ◌++◌, codes}
+use Rattle.std.specs.Fmt.{digits}
+use Rattle.mpslp_decimal.specs.Decimal.{trailing_zeros}
+use Rattle.mpslp_canonical.proofs.DraftText.{IsPrinted, printed-from_passes}
+use Rattle.mpslp_mps.proofs.WorkedFiles as files
+
+pub small : IsPrinted files.small (files.text files.small_again_lines)
+unfolding digits trailing_zeros
+small = printed-from_passes files.small (files.text files.small_again_lines) files.small_passes refl refl
+
+pub small_with_returns : IsPrinted files.small_with_returns (files.text files.small_again_lines)
+unfolding digits trailing_zeros
+small_with_returns = printed-from_passes files.small_with_returns (files.text files.small_again_lines) files.small_with_returns_passes refl refl
+
+pub small_without_last_feed : IsPrinted files.small_without_last_feed (files.text files.small_again_lines)
+unfolding digits trailing_zeros
+small_without_last_feed = printed-from_passes files.small_without_last_feed (files.text files.small_again_lines) files.small_without_last_feed_passes refl refl
+
+pub small_with_text_after_end : IsPrinted files.small_with_text_after_end (files.text files.small_again_lines)
+unfolding digits trailing_zeros
+small_with_text_after_end = printed-from_passes files.small_with_text_after_end (files.text files.small_again_lines) files.small_with_text_after_end_passes refl refl
+
+pub small_again : IsPrinted files.small_again (files.text files.small_again_lines)
+unfolding digits trailing_zeros
+small_again = printed-from_passes files.small_again (files.text files.small_again_lines) files.small_again_passes refl refl
+
+pub small_maximized : IsPrinted files.small_maximized (files.text (take 1 files.small_again_lines ++ codes "OBJSENSE" ∷ codes "    MAX" ∷ drop 1 files.small_again_lines))
+unfolding digits trailing_zeros
+small_maximized = printed-from_passes files.small_maximized (files.text (take 1 files.small_again_lines ++ codes "OBJSENSE" ∷ codes "    MAX" ∷ drop 1 files.small_again_lines)) files.small_maximized_passes refl refl
+
+abbrev ranges_lines : List (List ℕ)
+ranges_lines =
+    codes "NAME" ∷ codes "ROWS" ∷ codes " N  C" ∷ codes " G  E1" ∷ codes " G  E2" ∷ codes " E  E3" ∷ codes " G  G1"
+    ∷ codes " G  L1" ∷ codes "COLUMNS" ∷ codes "    X  E1  1" ∷ codes "    X  E2  1" ∷ codes "    X  E3  1"
+    ∷ codes "    X  G1  1" ∷ codes "    X  L1  1" ∷ codes "RHS" ∷ codes "    RHS  E1  10" ∷ codes "    RHS  E2  7"
+    ∷ codes "    RHS  E3  10" ∷ codes "    RHS  G1  10" ∷ codes "    RHS  L1  8" ∷ codes "RANGES"
+    ∷ codes "    RNG  E1  3" ∷ codes "    RNG  E2  3" ∷ codes "    RNG  G1  2" ∷ codes "    RNG  L1  2" ∷ codes "ENDATA"
+    ∷ []
+
+pub ranges : IsPrinted files.ranges (files.text ranges_lines)
+unfolding digits trailing_zeros
+ranges = printed-from_passes files.ranges (files.text ranges_lines) files.ranges_passes refl refl
+
+abbrev unit_integer_lines : List (List ℕ)
+unit_integer_lines =
+    codes "NAME" ∷ codes "ROWS" ∷ codes " N  C" ∷ codes "COLUMNS" ∷ codes "    MARKER  'MARKER'  'INTORG'"
+    ∷ codes "    X  C  1" ∷ codes "    MARKER  'MARKER'  'INTEND'" ∷ codes "BOUNDS" ∷ codes " UP  BND  X  1"
+    ∷ codes "ENDATA" ∷ []
+
+pub fixed_columns : IsPrinted files.fixed_columns (files.text unit_integer_lines)
+unfolding digits trailing_zeros
+fixed_columns = printed-from_passes files.fixed_columns (files.text unit_integer_lines) files.fixed_columns_passes refl refl
+
+pub binary_bound : IsPrinted files.binary_bound (files.text unit_integer_lines)
+unfolding digits trailing_zeros
+binary_bound = printed-from_passes files.binary_bound (files.text unit_integer_lines) files.binary_bound_passes refl refl
+
+pub integer_without_upper : IsPrinted files.integer_without_upper (files.text (take 8 unit_integer_lines ++ codes " PL  BND  X" ∷ codes "ENDATA" ∷ []))
+unfolding digits trailing_zeros
+integer_without_upper = printed-from_passes files.integer_without_upper (files.text (take 8 unit_integer_lines ++ codes " PL  BND  X" ∷ codes "ENDATA" ∷ [])) files.integer_without_upper_passes refl refl
+
+abbrev one_column : List (List ℕ)
+one_column = codes "NAME" ∷ codes "ROWS" ∷ codes " N  C" ∷ codes "COLUMNS" ∷ codes "    X  C  1" ∷ []
+
+pub constant : IsPrinted files.constant (files.text (one_column ++ codes "RHS" ∷ codes "    RHS  C  5" ∷ codes "ENDATA" ∷ []))
+unfolding digits trailing_zeros
+constant = printed-from_passes files.constant (files.text (one_column ++ codes "RHS" ∷ codes "    RHS  C  5" ∷ codes "ENDATA" ∷ [])) files.constant_passes refl refl
+
+pub negative_upper : IsPrinted files.negative_upper (files.text (one_column ++ codes "BOUNDS" ∷ codes " MI  BND  X" ∷ codes " UP  BND  X  -1" ∷ codes "ENDATA" ∷ []))
+unfolding digits trailing_zeros
+negative_upper = printed-from_passes files.negative_upper (files.text (one_column ++ codes "BOUNDS" ∷ codes " MI  BND  X" ∷ codes " UP  BND  X  -1" ∷ codes "ENDATA" ∷ [])) files.negative_upper_passes refl refl
+
+pub zero_upper : IsPrinted files.zero_upper (files.text (one_column ++ codes "BOUNDS" ∷ codes " FX  BND  X  0" ∷ codes "ENDATA" ∷ []))
+unfolding digits trailing_zeros
+zero_upper = printed-from_passes files.zero_upper (files.text (one_column ++ codes "BOUNDS" ∷ codes " FX  BND  X  0" ∷ codes "ENDATA" ∷ [])) files.zero_upper_passes refl refl
+
+pub infinite_bounds : IsPrinted files.infinite_bounds (files.text (one_column ++ codes "BOUNDS" ∷ codes " FR  BND  X" ∷ codes "ENDATA" ∷ []))
+unfolding digits trailing_zeros
+infinite_bounds = printed-from_passes files.infinite_bounds (files.text (one_column ++ codes "BOUNDS" ∷ codes " FR  BND  X" ∷ codes "ENDATA" ∷ [])) files.infinite_bounds_passes refl refl
+
+-- these are their own canonical texts
+pub empty_column : IsPrinted files.empty_column (files.empty_column)
+unfolding digits trailing_zeros
+empty_column = printed-from_passes files.empty_column (files.empty_column) files.empty_column_passes refl refl
+
+pub integer_bounds : IsPrinted files.integer_bounds (files.integer_bounds)
+unfolding digits trailing_zeros
+integer_bounds = printed-from_passes files.integer_bounds (files.integer_bounds) files.integer_bounds_passes refl refl
+
+pub maximized : IsPrinted files.maximized (files.maximized)
+unfolding digits trailing_zeros
+maximized = printed-from_passes files.maximized (files.maximized) files.maximized_passes refl refl
+
+pub maximized_on_header : IsPrinted files.maximized_on_header (files.maximized)
+unfolding digits trailing_zeros
+maximized_on_header = printed-from_passes files.maximized_on_header (files.maximized) files.maximized_on_header_passes refl refl
+
+pub maximized_by_long_word : IsPrinted files.maximized_by_long_word (files.maximized)
+unfolding digits trailing_zeros
+maximized_by_long_word = printed-from_passes files.maximized_by_long_word (files.maximized) files.maximized_by_long_word_passes refl refl
+
+pub maximized_with_tabs : IsPrinted files.maximized_with_tabs (files.maximized)
+unfolding digits trailing_zeros
+maximized_with_tabs = printed-from_passes files.maximized_with_tabs (files.maximized) files.maximized_with_tabs_passes refl refl
+
+pub not_maximized : IsPrinted files.not_maximized (files.not_maximized)
+unfolding digits trailing_zeros
+not_maximized = printed-from_passes files.not_maximized (files.not_maximized) files.not_maximized_passes refl refl
+
+abbrev usual_layout_lines : List (List ℕ)
+usual_layout_lines =
+    codes "NAME" ∷ codes "ROWS" ∷ codes " N  COST" ∷ codes " E  BAL" ∷ codes " G  DEM" ∷ codes "COLUMNS"
+    ∷ codes "    B  COST  1" ∷ codes "    B  BAL  -1" ∷ codes "    MARKER  'MARKER'  'INTORG'" ∷ codes "    A  COST  3"
+    ∷ codes "    A  BAL  1" ∷ codes "    A  DEM  1" ∷ codes "    MARKER  'MARKER'  'INTEND'" ∷ codes "RHS"
+    ∷ codes "    RHS  DEM  2.5" ∷ codes "BOUNDS" ∷ codes " UP  BND  A  10" ∷ codes " UP  BND  B  4" ∷ codes "ENDATA"
+    ∷ []
+
+pub usual_layout : IsPrinted files.usual_layout (files.text usual_layout_lines)
+unfolding digits trailing_zeros
+usual_layout = printed-from_passes files.usual_layout (files.text usual_layout_lines) files.usual_layout_passes refl refl

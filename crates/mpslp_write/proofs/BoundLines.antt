@@ -1,0 +1,81 @@
+-- The lines of the bounds of a column, case by case.
+use Rattle.std.proofs.Common.{◌≡◌, refl, sym, ap, ◌∙◌, ℕ, Bool, true, false, cond, List, [], ◌∷◌, ◌++◌, map}
+use Rattle.std.specs.Prelude.{Option, Some, None, ◌||◌, if◌then◌else◌}
+use Rattle.mpslp_decimal.specs.Decimal.{Number, is_zero}
+use Rattle.mpslp_model.specs.Refusal.{is_nonempty}
+use Rattle.mpslp_model.specs.declared.kinds.Kind.{Kind}
+use Rattle.mpslp_model.specs.declared.kinds.Kind.TheVariants.{Continuous, Integer}
+use Rattle.mpslp_model.specs.declared.kinds.Limit.{Limit}
+use Rattle.mpslp_model.specs.declared.kinds.Limit.TheVariants.{MinusInf, Finite, PlusInf}
+use Rattle.mpslp_mps.specs.declared.bound_types.BoundType.TheVariants as bounds
+use Rattle.mpslp_canonical.specs.PrintedValues.{PrintedBound, bare, valued, have_same_value, printed_lower, printed_upper, printed_bounds}
+use Rattle.mpslp_write.specs.LinesAt.{are_fixed, are_free}
+
+pub map-append : {X Y : Type 0} (f : X → Y) (xs ys : List X) → map f (xs ++ ys) ≡ map f xs ++ map f ys
+map-append f [] ys = refl
+map-append {X} {Y} f (x ∷ xs) ys = ap (λ (l : List Y). f x ∷ l) (map-append f xs ys)
+
+pub free-bounds : (kind : Kind) (lower upper : Limit) → are_free lower upper ≡ true → bare bounds.Free ∷ [] ≡ printed_bounds kind lower upper
+free-bounds kind MinusInf MinusInf h = cc
+free-bounds kind MinusInf (Finite b) h = cc
+free-bounds kind MinusInf PlusInf h = refl
+free-bounds kind (Finite a) MinusInf h = cc
+free-bounds kind (Finite a) (Finite b) h = cc
+free-bounds kind (Finite a) PlusInf h = cc
+free-bounds kind PlusInf MinusInf h = cc
+free-bounds kind PlusInf (Finite b) h = cc
+free-bounds kind PlusInf PlusInf h = cc
+
+pub fixed-bounds : (kind : Kind) (lower upper : Limit) → are_fixed lower upper ≡ true → (value : Number) × (upper ≡ Finite value) × (valued bounds.Fixed value ∷ [] ≡ printed_bounds kind lower upper)
+fixed-bounds kind MinusInf MinusInf h = absurd cc
+fixed-bounds kind MinusInf (Finite b) h = absurd cc
+fixed-bounds kind MinusInf PlusInf h = absurd cc
+fixed-bounds kind (Finite a) MinusInf h = absurd cc
+fixed-bounds kind (Finite a) (Finite b) h =
+    (b, refl, sym (ap (λ (same : Bool). cond same (valued bounds.Fixed b ∷ []) (printed_lower (Finite a) ++ printed_upper kind (Finite b))) h))
+fixed-bounds kind (Finite a) PlusInf h = absurd cc
+fixed-bounds kind PlusInf MinusInf h = absurd cc
+fixed-bounds kind PlusInf (Finite b) h = absurd cc
+fixed-bounds kind PlusInf PlusInf h = absurd cc
+
+pub other-bounds : (kind : Kind) (lower upper : Limit) → are_free lower upper ≡ false → are_fixed lower upper ≡ false
+    → printed_lower lower ++ printed_upper kind upper ≡ printed_bounds kind lower upper
+other-bounds kind MinusInf MinusInf h k = refl
+other-bounds kind MinusInf (Finite b) h k = refl
+other-bounds kind MinusInf PlusInf h k = cc
+other-bounds kind (Finite a) MinusInf h k = refl
+other-bounds kind (Finite a) (Finite b) h k =
+    sym (ap (λ (same : Bool). cond same (valued bounds.Fixed b ∷ []) (printed_lower (Finite a) ++ printed_upper kind (Finite b))) k)
+other-bounds kind (Finite a) PlusInf h k = refl
+other-bounds kind PlusInf MinusInf h k = refl
+other-bounds kind PlusInf (Finite b) h k = refl
+other-bounds kind PlusInf PlusInf h k = refl
+
+-- ---- whether there are any
+
+nonempty-append : {X : Type 0} (xs ys : List X) → (is_nonempty xs || is_nonempty ys) ≡ is_nonempty (xs ++ ys)
+nonempty-append [] ys = refl
+nonempty-append (x ∷ xs) ys = refl
+
+or-true : (a : Bool) → (a || true) ≡ true
+or-true true = refl
+or-true false = refl
+
+finite-nonempty : (same : Bool) (both : List PrintedBound) (one : PrintedBound) → is_nonempty both ≡ true → true ≡ is_nonempty (cond same (one ∷ []) both)
+finite-nonempty true both one h = refl
+finite-nonempty false both one h = sym h
+
+pub bounds-nonempty : (kind : Kind) (lower upper : Limit) → (is_nonempty (printed_lower lower) || is_nonempty (printed_upper kind upper)) ≡ is_nonempty (printed_bounds kind lower upper)
+bounds-nonempty kind MinusInf MinusInf = refl
+bounds-nonempty kind MinusInf (Finite b) = refl
+bounds-nonempty kind MinusInf PlusInf = refl
+bounds-nonempty kind (Finite a) MinusInf = nonempty-append (printed_lower (Finite a)) (printed_upper kind MinusInf)
+bounds-nonempty kind (Finite a) (Finite b) =
+    let lower = printed_lower (Finite a) in
+    let upper = printed_upper kind (Finite b) in
+    or-true (is_nonempty lower)
+    ∙ finite-nonempty (have_same_value a b) (lower ++ upper) (valued bounds.Fixed b) (sym (nonempty-append lower upper) ∙ or-true (is_nonempty lower))
+bounds-nonempty kind (Finite a) PlusInf = nonempty-append (printed_lower (Finite a)) (printed_upper kind PlusInf)
+bounds-nonempty kind PlusInf MinusInf = refl
+bounds-nonempty kind PlusInf (Finite b) = refl
+bounds-nonempty kind PlusInf PlusInf = refl

@@ -1,0 +1,232 @@
+-- The lines of columns, as they are put one after another.
+use Rattle.std.proofs.Common.{◌≡◌, refl, sym, ap, subst, ◌∙◌, ℕ, zero, suc, ◌<◌, ◌≤◌, Bool, true, false, not, cond, List, [], ◌∷◌, ◌++◌, length, map, append-nil, arith}
+use Rattle.std.specs.Prelude.{Option, Some, None, slice_get, slice_index_or, position, filter, ◌&&◌, unwrap_or, if◌then◌else◌}
+use Rattle.std.specs.List.{flat_map, cons_option}
+use Rattle.std.specs.Option.{option_map, option_map_or}
+use Rattle.std.specs.Bool.{beq}
+use Rattle.std.specs.Cmp.{first_so, second_so}
+use Rattle.std.specs.FinMap.{find, entries}
+use Rattle.std.proofs.lemmas.List.Quantifiers.{position-Some}
+use Rattle.std.proofs.lemmas.Option.{slice_get-map, slice_get-get_or, get_or_from_slice_get}
+use Rattle.mpslp_decimal.specs.Decimal.{Number, is_decimal, is_zero, zero_number}
+use Rattle.mpslp_model.specs.Name.{same_bytes}
+use Rattle.mpslp_model.specs.Model.{LinearModel, Place, Column, place_cmp, IsSound}
+use Rattle.mpslp_model.specs.Views.{coefficient_at, column_elements}
+use Rattle.mpslp_model.specs.Views as views
+use Rattle.mpslp_model.specs.declared.kinds.Kind.{Kind}
+use Rattle.mpslp_model.specs.declared.kinds.Kind.TheVariants.{Continuous, Integer}
+use Rattle.mpslp_model.specs.declared.kinds.Limit.{Limit}
+use Rattle.mpslp_model.proofs.BoolLemmas.{not_so}
+use Rattle.mpslp_model.proofs.DraftEntries.{same_place}
+use Rattle.mpslp_model.proofs.SlotLemmas.{same_name}
+use Rattle.mpslp_model.proofs.SortedDrafts.{place_total}
+use Rattle.mpslp_mps.specs.DataLine.{opening_word, closing_word}
+use Rattle.mpslp_canonical.specs.Listing.{Listing, listing_of}
+use Rattle.mpslp_canonical.specs.Printed.{PrintedLine}
+use Rattle.mpslp_canonical.specs.CanonicalMps.{Lines, bound_line, column_bound_lines, cell_line, cell_at, column_cells, printed_cells, column_lines, is_integer_kind, is_integer_column, is_continuous_column, integer_part, marker_line}
+use Rattle.mpslp_model.specs.Refusal.{is_nonempty}
+use Rattle.mpslp_write.specs.LinesAt.{lines_at, is_wanted, of_kind, element_lines, objective_line_at, objective_lines, kind_of}
+use Rattle.mpslp_canonical.specs.PrintedValues.{PrintedBound, printed_bounds}
+use Rattle.mpslp_write.proofs.LinesAtLemmas.{both_seen, lines_seen, nonempty_seen, nonempty-map}
+use Rattle.mpslp_canonical.proofs.EntryLemmas.{found-each}
+use Rattle.mpslp_canonical.proofs.CoefficientMap.{place_at}
+use Rattle.mpslp_canonical.proofs.DraftMaps.{is_sound_entry, IsSoundListing}
+use Rattle.mpslp_canonical.proofs.ListingFacts.{sound-listing}
+use Rattle.mpslp_write.proofs.CellLemmas.{by_row, column-cells}
+
+-- ---- kinds
+
+pub kind-is : (column : Column) → kind_of (views.is_integer_column column) ≡ column.kind
+kind-is column = by column.kind
+  where
+    by : (k : Kind) → kind_of (views.is_integer_column (record { kind = k; lower = column.lower; upper = column.upper })) ≡ k
+    by Continuous = refl
+    by Integer = refl
+
+tests-same : (column : Column) → views.is_integer_column column ≡ is_integer_kind column.kind
+tests-same column = by column.kind
+  where
+    by : (k : Kind) → views.is_integer_column (record { kind = k; lower = column.lower; upper = column.upper }) ≡ is_integer_kind k
+    by Continuous = refl
+    by Integer = refl
+
+-- ---- the column of a number
+
+abbrev Columns : Type 0
+Columns = List (List ℕ × Column)
+
+no_bool : (b : Bool) → ◌≡◌ {A = Option Bool} None (Some b) → ⊥
+no_bool b e = cc
+
+-- whether the column of a number is integer, as a view tells it
+at-kind : (es : Columns) (j : ℕ) (b : Bool) → option_map views.is_integer_column (slice_get (map (λ e. e.1) es) j) ≡ Some b
+    → (e : List ℕ × Column) × (slice_get es j ≡ Some e) × (is_integer_column e ≡ b)
+at-kind es j b is = by (slice_get es j) refl (ap (option_map views.is_integer_column) (sym (slice_get-map (λ (e : List ℕ × Column). e.1) es j)) ∙ is)
+  where
+    by : (o : Option (List ℕ × Column)) → slice_get es j ≡ o → option_map views.is_integer_column (option_map (λ (e : List ℕ × Column). e.1) o) ≡ Some b
+        → (e : List ℕ × Column) × (slice_get es j ≡ Some e) × (is_integer_column e ≡ b)
+    by None at h = absurd (no_bool b h)
+    by (Some e) at h = let told : views.is_integer_column e.1 ≡ b = cc in (e, at, sym (tests-same e.1) ∙ told)
+
+-- the lines of the column of a number, if it is of the kind that is wanted
+pub kind-lines : (integer : Bool) (f : List ℕ × Column → Lines) (es : Columns) (j : ℕ) (b : Bool)
+    → option_map views.is_integer_column (slice_get (map (λ e. e.1) es) j) ≡ Some b → cond (is_wanted integer b) (lines_at f es j) [] ≡ lines_at (of_kind integer f) es j
+kind-lines integer f es j b is =
+    let (e, at, kind) = at-kind es j b is in
+    (λ i. cond (is_wanted integer (sym kind i)) (option_map_or f (at i) []) []) ∙ sym (ap (λ (o : Option (List ℕ × Column)). option_map_or (of_kind integer f) o []) at)
+
+-- as the code tests it
+pub wanted-is : (integer b : Bool) → beq b integer ≡ is_wanted integer b
+wanted-is true true = refl
+wanted-is true false = refl
+wanted-is false true = refl
+wanted-is false false = refl
+
+-- each column has lines
+has-cells : (objective : List ℕ) (cells : List (List ℕ × Number)) (g : List ℕ × Number → PrintedLine) → is_nonempty (map g (printed_cells objective cells)) ≡ true
+has-cells objective [] g = refl
+has-cells objective (cell ∷ cells) g = refl
+
+-- an integer column has lines in the integer part
+pub integer-lines : (m : Listing) (es : Columns) (j : ℕ) (b : Bool) → option_map views.is_integer_column (slice_get (map (λ e. e.1) es) j) ≡ Some b
+    → is_nonempty (lines_at (of_kind true (column_lines m)) es j) ≡ b
+integer-lines m es j b is =
+    let (e, at, kind) = at-kind es j b is in
+    ap (λ (o : Option (List ℕ × Column)). is_nonempty (option_map_or (of_kind true (column_lines m)) o [])) at
+    ∙ ap (λ (k : Bool). is_nonempty (cond k (column_lines m e) [])) kind ∙ by b e
+  where
+    by : (k : Bool) (e : List ℕ × Column) → is_nonempty (cond k (column_lines m e) []) ≡ k
+    by true e = has-cells m.objective (column_cells m e.0) (cell_line e.0)
+    by false e = refl
+
+pub integer-some : (lines : Lines) → is_nonempty lines ≡ true → marker_line opening_word ∷ (lines ++ marker_line closing_word ∷ []) ≡ integer_part lines
+integer-some [] h = cc
+integer-some (line ∷ lines) h = refl
+
+pub integer-none : (lines : Lines) → is_nonempty lines ≡ false → [] ≡ integer_part lines
+integer-none [] h = refl
+integer-none (line ∷ lines) h = cc
+
+-- ---- the lines of one column
+
+-- what is printed by the name of an entry
+pub named-lines : {X : Type 0} (g : List ℕ → Lines) (es : List (List ℕ × X)) (j : ℕ) → j < length (map (λ e. e.0) es) → g (slice_index_or (map (λ e. e.0) es) j []) ≡ lines_at (λ e. g e.0) es j
+named-lines {X} g es j h = by (slice_get es j) (sym (slice_get-map (λ (e : List ℕ × X). e.0) es j) ∙ slice_get-get_or (map (λ (e : List ℕ × X). e.0) es) j [] h)
+  where
+    by : (o : Option (List ℕ × X)) → option_map (λ (e : List ℕ × X). e.0) o ≡ Some (slice_index_or (map (λ (e : List ℕ × X). e.0) es) j [])
+        → g (slice_index_or (map (λ (e : List ℕ × X). e.0) es) j []) ≡ option_map_or (λ (e : List ℕ × X). g e.0) o []
+    by None is = absurd (no_name _ is)
+      where
+        no_name : (name : List ℕ) → ◌≡◌ {A = Option (List ℕ)} None (Some name) → ⊥
+        no_name name e = cc
+    by (Some e) is = let same : slice_index_or (map (λ (e : List ℕ × X). e.0) es) j [] ≡ e.0 = cc in ap g same
+
+elements-lines : (column : List ℕ) (es : List (Place × Number)) → flat_map (element_lines column) es ≡ map (cell_line column) (map by_row es)
+elements-lines column [] = refl
+elements-lines column (e ∷ es) = ap (λ (l : Lines). cell_line column (e.0.row, e.1) ∷ l) (elements-lines column es)
+
+module _ (m : LinearModel) (sound : IsSound m) (column : List ℕ) where
+  abbrev here : Option Number
+  here = find place_cmp (place_at m.objective column) (entries m.coefficients)
+
+  abbrev row_lines : Lines
+  row_lines = flat_map (element_lines column) (column_elements m column)
+
+  not-zero : (v : Number) → here ≡ Some v → is_zero v ≡ false
+  not-zero v is =
+      let h = sound-listing m sound in
+      let at = found-each place_cmp place_total same_place (λ place value. is_sound_entry (listing_of m) (place, value) ≡ true) (listing_of m).coefficients h.coefficients (place_at m.objective column) v is in
+      not_so (is_zero v) (first_so (not (is_zero v)) _ (second_so (is_decimal v) _ at))
+
+  joined : (o : Option Number) (es : List (Place × Number)) → ((v : Number) → o ≡ Some v → is_zero v ≡ false)
+      → objective_line_at m.objective column (unwrap_or o zero_number) es ++ map (cell_line column) (map by_row es)
+      ≡ map (cell_line column) (printed_cells m.objective (cons_option (option_map (λ (value : Number). (m.objective, value)) o) (map by_row es)))
+  joined None [] kept = refl
+  joined None (e ∷ es) kept = refl
+  joined (Some v) [] kept = refl
+  joined (Some v) (e ∷ es) kept =
+      ap (λ (b : Bool). cond b [] (cell_line column (m.objective, v) ∷ []) ++ map (cell_line column) (map by_row (e ∷ es))) (kept v refl)
+
+  pub column-joined : objective_lines m column ++ row_lines ≡ map (cell_line column) (printed_cells m.objective (column_cells (listing_of m) column))
+  column-joined =
+      ap (λ (l : Lines). objective_lines m column ++ l) (elements-lines column (column_elements m column))
+      ∙ joined here (column_elements m column) not-zero
+      ∙ ap (λ (cells : List (List ℕ × Number)). map (cell_line column) (printed_cells m.objective cells)) (sym (column-cells m sound column))
+
+-- ---- the objective's line, and that of an element
+
+pub cell-needed : (objective column : List ℕ) (value : Number) (es : List (Place × Number)) → is_zero value ≡ false
+    → cell_line column (objective, value) ∷ [] ≡ objective_line_at objective column value es
+cell-needed objective column value [] h = refl
+cell-needed objective column value (e ∷ es) h = sym (ap (λ (b : Bool). cond b [] (cell_line column (objective, value) ∷ [])) h)
+
+pub cell-alone : (objective column : List ℕ) (value : Number) (es : List (Place × Number)) → length es ≤ 0 → cell_line column (objective, value) ∷ [] ≡ objective_line_at objective column value es
+cell-alone objective column value [] h = refl
+cell-alone objective column value (e ∷ es) h = absurd (omega arith)
+
+-- an element as the views number it
+pub element-seen : (m : LinearModel) (es : List (Place × Number)) (k i : ℕ) (value : Number)
+    → ◌≡◌ {A = Option (Option ℕ × Number)} (slice_get (map (λ e. (views.row_index m e.0.row, e.1)) es) k) (Some (Some i, value))
+    → (e : Place × Number) × (slice_get es k ≡ Some e) × (views.row_index m e.0.row ≡ Some i) × (e.1 ≡ value)
+element-seen m es k i value is = by (slice_get es k) refl (sym (slice_get-map number es k) ∙ is)
+  where
+    number : Place × Number → Option ℕ × Number
+    number e = (views.row_index m e.0.row, e.1)
+
+    none_seen : (y : Option ℕ × Number) → ◌≡◌ {A = Option (Option ℕ × Number)} None (Some y) → ⊥
+    none_seen y e = cc
+
+    by : (o : Option (Place × Number)) → slice_get es k ≡ o → ◌≡◌ {A = Option (Option ℕ × Number)} (option_map number o) (Some (Some i, value))
+        → (e : Place × Number) × (slice_get es k ≡ Some e) × (views.row_index m e.0.row ≡ Some i) × (e.1 ≡ value)
+    by None at h = absurd (none_seen _ h)
+    by (Some e) at h =
+        let pair : number e ≡ (Some i, value) = cc in
+        (e, at, ap (λ (p : Option ℕ × Number). p.0) pair, ap (λ (p : Option ℕ × Number). p.1) pair)
+
+pub row-within : (m : LinearModel) (row : List ℕ) (i : ℕ) → views.row_index m row ≡ Some i → i < views.num_rows m
+row-within m row i is = (position-Some (same_bytes row) (views.row_names m) i [] is).0
+
+pub row-named : (m : LinearModel) (row name : List ℕ) (i : ℕ) → views.row_index m row ≡ Some i → slice_get (views.row_names m) i ≡ Some name → name ≡ row
+row-named m row name i is named =
+    let passes = (position-Some (same_bytes row) (views.row_names m) i [] is).1 in
+    let at = get_or_from_slice_get (views.row_names m) i name [] named in
+    sym (same_name row name (sym (ap (same_bytes row) at) ∙ passes))
+
+-- ---- the bounds of the column of a number, by the views
+
+bounds-seen : (es : Columns) (j : ℕ) (integer : Bool) (lower upper : Limit)
+    → option_map views.is_integer_column (slice_get (map (λ e. e.1) es) j) ≡ Some integer
+    → option_map (λ column. column.lower) (slice_get (map (λ e. e.1) es) j) ≡ Some lower
+    → option_map (λ column. column.upper) (slice_get (map (λ e. e.1) es) j) ≡ Some upper
+    → option_map (λ column. printed_bounds (kind_of (views.is_integer_column column)) column.lower column.upper) (slice_get (map (λ e. e.1) es) j)
+    ≡ Some (printed_bounds (kind_of integer) lower upper)
+bounds-seen es j integer lower upper p q r =
+    let at = slice_get (map (λ (e : List ℕ × Column). e.1) es) j in
+    both_seen (λ (column : Column). (views.is_integer_column column, column.lower)) (λ (column : Column). column.upper)
+    (λ (pair : Bool × Limit) (u : Limit). printed_bounds (kind_of pair.0) pair.1 u) at (integer, lower) upper
+    (both_seen views.is_integer_column (λ (column : Column). column.lower) (λ (i : Bool) (l : Limit). (i, l)) at integer lower p q) r
+
+by-kind : (es : Columns) (j : ℕ)
+    → lines_at (λ (e : List ℕ × Column). map (bound_line e.0) (printed_bounds (kind_of (views.is_integer_column e.1)) e.1.lower e.1.upper)) es j ≡ lines_at column_bound_lines es j
+by-kind es j = λ i. lines_at (λ (e : List ℕ × Column). map (bound_line e.0) (printed_bounds (kind-is e.1 i) e.1.lower e.1.upper)) es j
+
+pub bounds-lines : (es : Columns) (j : ℕ) (name : List ℕ) (integer : Bool) (lower upper : Limit) → slice_get (map (λ e. e.0) es) j ≡ Some name
+    → option_map views.is_integer_column (slice_get (map (λ e. e.1) es) j) ≡ Some integer
+    → option_map (λ column. column.lower) (slice_get (map (λ e. e.1) es) j) ≡ Some lower
+    → option_map (λ column. column.upper) (slice_get (map (λ e. e.1) es) j) ≡ Some upper
+    → map (bound_line name) (printed_bounds (kind_of integer) lower upper) ≡ lines_at column_bound_lines es j
+bounds-lines es j name integer lower upper named p q r =
+    lines_seen es j (λ (column : Column). printed_bounds (kind_of (views.is_integer_column column)) column.lower column.upper)
+    (λ (n : List ℕ) (bs : List PrintedBound). map (bound_line n) bs) name _ named (bounds-seen es j integer lower upper p q r)
+    ∙ by-kind es j
+
+pub bounds-here : (es : Columns) (j : ℕ) (integer : Bool) (lower upper : Limit)
+    → option_map views.is_integer_column (slice_get (map (λ e. e.1) es) j) ≡ Some integer
+    → option_map (λ column. column.lower) (slice_get (map (λ e. e.1) es) j) ≡ Some lower
+    → option_map (λ column. column.upper) (slice_get (map (λ e. e.1) es) j) ≡ Some upper
+    → is_nonempty (printed_bounds (kind_of integer) lower upper) ≡ is_nonempty (lines_at column_bound_lines es j)
+bounds-here es j integer lower upper p q r =
+    sym (nonempty_seen es j (λ (column : Column). printed_bounds (kind_of (views.is_integer_column column)) column.lower column.upper)
+    (λ (n : List ℕ) (bs : List PrintedBound). map (bound_line n) bs) (printed_bounds (kind_of integer) lower upper) _ (bounds-seen es j integer lower upper p q r)
+    (λ name. nonempty-map (bound_line name) (printed_bounds (kind_of integer) lower upper)))
+    ∙ ap is_nonempty (by-kind es j)

@@ -1,0 +1,24 @@
+use Rattle.std.proofs.Common.{refl, sym, subst, [], Bool, true}
+use Rattle.mpslp_write.specs.Output.{HasPut}
+use Rattle.mpslp_write.proofs.OutputLemmas.{HasPut-sent, HasPut-failed}
+use Rattle.mpslp_write.proofs.output.Sent.send.Goals as goal
+
+pub returns-in-Ok : goal.returns-in-Ok
+returns-in-Ok g c first text =
+    let sink = g.W.Sink in
+    let sent = c.args.self.now in
+    subst (λ (b : Bool). HasPut sink.holds sink.failed sink.count first c.args.sink.now (record { waiting = c.args.piece.now; taken = sent.taken; has_failed = b }) text
+    → HasPut sink.holds sink.failed sink.count first c.put_all.new.sink (record { waiting = []; taken = c.put_all.new.tally; has_failed = b }) text)
+    (sym c.if-self.false)
+    (λ h. HasPut-sent sink.holds sink.failed sink.count first c.args.sink.now c.put_all.new.sink text c.args.piece.now sent.taken c.put_all.new.tally h
+    c.in-Ok.ensures.written c.in-Ok.ensures.tally c.in-Ok.ensures.calls c.in-Ok.ensures.stays)
+
+pub returns-in-Err : goal.returns-in-Err
+returns-in-Err g c first text =
+    let sink = g.W.Sink in
+    let sent = c.args.self.now in
+    subst (λ (b : Bool). HasPut sink.holds sink.failed sink.count first c.args.sink.now (record { waiting = c.args.piece.now; taken = sent.taken; has_failed = b }) text
+    → HasPut sink.holds sink.failed sink.count first c.put_all.new.sink (record { waiting = []; taken = c.put_all.new.tally; has_failed = true }) text)
+    (sym c.if-self.false)
+    (λ h. HasPut-failed sink.holds sink.failed sink.count first c.args.sink.now c.put_all.new.sink text c.args.piece.now sent.taken c.put_all.new.tally h
+    c.in-Err.ensures.taken c.in-Err.ensures.calls (c.in-Err.ensures.fails refl))

@@ -1,0 +1,51 @@
+-- Lines that are printed of one entry after another.
+use Rattle.std.specs.Prelude.{ℕ, Bool, true, false, not, List, [], ◌∷◌, slice_get, if◌then◌else◌}
+use Rattle.std.specs.Option.{option_map_or}
+use Rattle.mpslp_decimal.specs.Decimal.{Number, is_zero}
+use Rattle.mpslp_model.specs.Model.{LinearModel, Place, Column}
+use Rattle.mpslp_model.specs.Views.{coefficient_at, column_elements}
+use Rattle.mpslp_model.specs.declared.kinds.Kind.{Kind}
+use Rattle.mpslp_model.specs.declared.kinds.Kind.TheVariants.{Continuous, Integer}
+use Rattle.mpslp_model.specs.declared.kinds.Limit.{Limit}
+use Rattle.mpslp_model.specs.declared.kinds.Limit.TheVariants.{MinusInf, Finite, PlusInf}
+use Rattle.mpslp_canonical.specs.PrintedValues.{have_same_value}
+use Rattle.mpslp_canonical.specs.CanonicalMps.{Lines, is_integer_column, cell_line}
+
+-- the lines of the entry of this number, if there is one
+abbrev pub lines_at : {X : Type 0} → (X → Lines) → List X → ℕ → Lines
+lines_at lines_of entries i = option_map_or lines_of (slice_get entries i) []
+
+-- whether a column is of the kind that is wanted: integer, or not
+abbrev pub is_wanted : Bool → Bool → Bool
+is_wanted true is_integer = is_integer
+is_wanted false is_integer = not is_integer
+
+-- the lines of a column of the kind that is wanted
+abbrev pub of_kind : Bool → (List ℕ × Column → Lines) → List ℕ × Column → Lines
+of_kind integer lines_of column = if is_wanted integer (is_integer_column column) then lines_of column else []
+
+-- the line of a coefficient of a row
+abbrev pub element_lines : List ℕ → Place × Number → Lines
+element_lines column element = cell_line column (element.0.row, element.1) ∷ []
+
+-- The line of the objective, with its value there: a column has it where that is not 0, or where it has no other coefficients.
+abbrev pub objective_line_at : List ℕ → List ℕ → Number → List (Place × Number) → Lines
+objective_line_at objective column value [] = cell_line column (objective, value) ∷ []
+objective_line_at objective column value (element ∷ elements) = if is_zero value then [] else cell_line column (objective, value) ∷ []
+
+abbrev pub objective_lines : LinearModel → List ℕ → Lines
+objective_lines m column = objective_line_at m.objective column (coefficient_at m m.objective column) (column_elements m column)
+
+abbrev pub kind_of : Bool → Kind
+kind_of true = Integer
+kind_of false = Continuous
+
+-- both bounds are finite and have the same value
+abbrev pub are_fixed : Limit → Limit → Bool
+are_fixed (Finite lower) (Finite upper) = have_same_value lower upper
+are_fixed _ _ = false
+
+-- neither bound is finite
+abbrev pub are_free : Limit → Limit → Bool
+are_free MinusInf PlusInf = true
+are_free _ _ = false

@@ -1,0 +1,214 @@
+//! The section BOUNDS.
+
+ghost use Rattle.std.specs.Prelude.{◌≡◌, ◌<◌, [], ◌∷◌, ◌++◌, map};
+ghost use Rattle.std.specs.List.{flat_map};
+ghost use Rattle.std.specs.FinMap.{entries};
+ghost use Rattle.mpslp_decimal.specs.Decimal.{Number};
+ghost use Rattle.mpslp_model.specs.Views.{num_columns};
+ghost use Rattle.mpslp_mps.specs.declared.bound_types.BoundType.TheVariants.{Fixed};
+ghost use Rattle.mpslp_model.specs.declared.kinds.Limit.TheVariants.{Finite};
+ghost use Rattle.mpslp_canonical.specs.PrintedValues.{valued, printed_lower, printed_upper, printed_bounds};
+ghost use Rattle.mpslp_canonical.specs.CanonicalMps.{bound_line, column_bound_lines, bounds_section};
+ghost use Rattle.mpslp_canonical.specs.Listing.{listing_of};
+ghost use Rattle.mpslp_model.specs.Refusal.{is_nonempty};
+ghost use Rattle.mpslp_write.specs.LinesAt.{lines_at, kind_of, are_fixed, are_free};
+ghost use Rattle.mpslp_write.specs.Output.{Prints};
+
+use crate::lines::{put_bare_bound, put_valued_bound};
+use crate::output::Buffer;
+use crate::values::have_same_value;
+use mpslp_model::{Limit, Model, Sink};
+
+/// Puts the line of a lower bound, unless it is 0.
+fn put_lower<W: Sink>(sink: &mut W, buffer: &mut Buffer, column: &[u8], lower: &Limit)
+    ensures { Prints W.holds W.failed W.count sink.old sink.new buffer.old buffer.new (map (bound_line column.now) (printed_lower lower.now)) }
+{
+    match lower {
+        Limit::MinusInf => put_bare_bound(sink, buffer, b"MI", column),
+        Limit::Finite(value) => {
+            if !value.is_zero() {
+                put_valued_bound(sink, buffer, b"LO", column, *value);
+            }
+        }
+        Limit::PlusInf => {}
+    }
+}
+
+/// Puts the line of an upper bound. Plus infinity has one for an integer column alone, which would end
+/// at 1 without it.
+fn put_upper<W: Sink>(
+    sink: &mut W,
+    buffer: &mut Buffer,
+    column: &[u8],
+    integer: bool,
+    upper: &Limit,
+)
+    ensures { Prints W.holds W.failed W.count sink.old sink.new buffer.old buffer.new (map (bound_line column.now) (printed_upper (kind_of integer) upper.now)) }
+{
+    match upper {
+        Limit::MinusInf => {}
+        Limit::Finite(value) => put_valued_bound(sink, buffer, b"UP", column, *value),
+        Limit::PlusInf => {
+            if integer {
+                put_bare_bound(sink, buffer, b"PL", column);
+            }
+        }
+    }
+}
+
+/// Puts the lines of a lower and an upper bound, one after the other.
+fn put_both<W: Sink>(
+    sink: &mut W,
+    buffer: &mut Buffer,
+    column: &[u8],
+    integer: bool,
+    lower: &Limit,
+    upper: &Limit,
+)
+    ensures { Prints W.holds W.failed W.count sink.old sink.new buffer.old buffer.new (map (bound_line column.now) (printed_lower lower.now ++ printed_upper (kind_of integer) upper.now)) }
+{
+    put_lower(sink, buffer, column, lower);
+    put_upper(sink, buffer, column, integer, upper);
+}
+
+/// Whether both bounds are finite and have the same value.
+fn are_fixed(lower: &Limit, upper: &Limit) -> bool
+    ensures { result ≡ are_fixed lower.now upper.now }
+{
+    match lower {
+        Limit::Finite(lower) => match upper {
+            Limit::Finite(upper) => have_same_value(*lower, *upper),
+            _ => false,
+        },
+        _ => false,
+    }
+}
+
+/// Whether neither bound is finite.
+fn are_free(lower: &Limit, upper: &Limit) -> bool
+    ensures { result ≡ are_free lower.now upper.now }
+{
+    match lower {
+        Limit::MinusInf => match upper {
+            Limit::PlusInf => true,
+            _ => false,
+        },
+        _ => false,
+    }
+}
+
+/// Puts the lines of the bounds of a column.
+fn put_bounds_of<W: Sink>(
+    sink: &mut W,
+    buffer: &mut Buffer,
+    column: &[u8],
+    integer: bool,
+    lower: &Limit,
+    upper: &Limit,
+)
+    ensures { Prints W.holds W.failed W.count sink.old sink.new buffer.old buffer.new (map (bound_line column.now) (printed_bounds (kind_of integer) lower.now upper.now)) }
+{
+    if are_free(lower, upper) {
+        put_bare_bound(sink, buffer, b"FR", column);
+        return;
+    }
+    if are_fixed(lower, upper) {
+        put_fixed(sink, buffer, column, upper);
+        return;
+    }
+    put_both(sink, buffer, column, integer, lower, upper);
+}
+
+/// Puts the line of a fixed column.
+fn put_fixed<W: Sink>(sink: &mut W, buffer: &mut Buffer, column: &[u8], upper: &Limit)
+    ensures { (value : Number) → upper.now ≡ Finite value → Prints W.holds W.failed W.count sink.old sink.new buffer.old buffer.new (map (bound_line column.now) (valued Fixed value ∷ [])) }
+{
+    match upper {
+        Limit::Finite(value) => put_valued_bound(sink, buffer, b"FX", column, *value),
+        _ => {}
+    }
+}
+
+/// Whether a lower bound has a line.
+fn has_lower(lower: &Limit) -> bool
+    ensures { result ≡ is_nonempty (printed_lower lower.now) }
+{
+    match lower {
+        Limit::MinusInf => true,
+        Limit::Finite(value) => !value.is_zero(),
+        Limit::PlusInf => false,
+    }
+}
+
+/// Whether an upper bound has a line.
+fn has_upper(integer: bool, upper: &Limit) -> bool
+    ensures { result ≡ is_nonempty (printed_upper (kind_of integer) upper.now) }
+{
+    match upper {
+        Limit::MinusInf => false,
+        Limit::Finite(_) => true,
+        Limit::PlusInf => integer,
+    }
+}
+
+/// Puts the lines of the bounds of the column of number `j`.
+fn put_bounds<W: Sink>(model: &Model, j: usize, sink: &mut W, buffer: &mut Buffer)
+    requires { j < num_columns model.now }
+    ensures { Prints W.holds W.failed W.count sink.old sink.new buffer.old buffer.new (lines_at column_bound_lines (entries model.now.columns) j) }
+{
+    let lower = model.col_lower(j);
+    let upper = model.col_upper(j);
+    let integer = model.is_integer(j);
+    put_bounds_of(
+        sink,
+        buffer,
+        model.column_name(j).as_bytes(),
+        integer,
+        &lower,
+        &upper,
+    );
+}
+
+/// Puts the lines of the bounds of all columns.
+fn put_all_bounds<W: Sink>(model: &Model, sink: &mut W, buffer: &mut Buffer)
+    ensures { Prints W.holds W.failed W.count sink.old sink.new buffer.old buffer.new (flat_map column_bound_lines (entries model.now.columns)) }
+{
+    for j in 0..model.num_cols() {
+        if buffer.has_failed() {
+            return;
+        }
+        put_bounds(model, j, sink, buffer);
+    }
+}
+
+/// Whether the column of number `j` has a line in BOUNDS.
+fn has_bounds(model: &Model, j: usize) -> bool
+    requires { j < num_columns model.now }
+    ensures { result ≡ is_nonempty (lines_at column_bound_lines (entries model.now.columns) j) }
+{
+    let lower = has_lower(&model.col_lower(j));
+    let upper = has_upper(model.is_integer(j), &model.col_upper(j));
+    lower || upper
+}
+
+/// Whether a column has a line in BOUNDS.
+fn has_any_bounds(model: &Model) -> bool
+    ensures { result ≡ is_nonempty (flat_map column_bound_lines (entries model.now.columns)) }
+{
+    for j in 0..model.num_cols() {
+        if has_bounds(model, j) {
+            return true;
+        }
+    }
+    false
+}
+
+/// Puts the section BOUNDS, or nothing where all bounds are those that a column has without a line.
+pub(crate) fn put_bounds_section<W: Sink>(model: &Model, sink: &mut W, buffer: &mut Buffer)
+    ensures { Prints W.holds W.failed W.count sink.old sink.new buffer.old buffer.new (bounds_section (listing_of model.now)) }
+{
+    if has_any_bounds(model) {
+        buffer.put(sink, b"BOUNDS\n");
+        put_all_bounds(model, sink, buffer);
+    }
+}

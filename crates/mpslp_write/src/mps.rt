@@ -1,0 +1,53 @@
+//! The canonical MPS text of a model, written to a sink.
+
+ghost use Rattle.std.specs.Prelude.{◌≡◌, ◌+◌, ◌≤◌, true, false, None, length, IsOk};
+ghost use Rattle.mpslp_model.specs.Formats.{IsWritten};
+ghost use Rattle.mpslp_canonical.specs.CanonicalMps.{canonical_mps, canonical_lines, sense_lines};
+ghost use Rattle.mpslp_write.specs.Output.{Prints};
+
+use crate::bounds::put_bounds_section;
+use crate::columns::put_columns_section;
+use crate::output::Buffer;
+use crate::rows::{put_ranges_section, put_right_sides_section, put_rows_section};
+use mpslp_model::{Model, Sense, Sink, WriteFault};
+
+/// Puts the section OBJSENSE, where the objective is maximized.
+fn put_sense<W: Sink>(sense: Sense, sink: &mut W, buffer: &mut Buffer)
+    ensures { Prints W.holds W.failed W.count sink.old sink.new buffer.old buffer.new (sense_lines sense) }
+{
+    match sense {
+        Sense::Minimize => {}
+        Sense::Maximize => buffer.put(sink, b"OBJSENSE\n    MAX\n"),
+    }
+}
+
+/// Puts the canonical lines of a model.
+fn put_lines<W: Sink>(model: &Model, sink: &mut W, buffer: &mut Buffer)
+    ensures { Prints W.holds W.failed W.count sink.old sink.new buffer.old buffer.new (canonical_lines model.now) }
+{
+    buffer.put(sink, b"NAME\n");
+    put_sense(model.objective_sense(), sink, buffer);
+    put_rows_section(model, sink, buffer);
+    put_columns_section(model, sink, buffer);
+    put_right_sides_section(model, sink, buffer);
+    put_ranges_section(model, sink, buffer);
+    put_bounds_section(model, sink, buffer);
+    buffer.put(sink, b"ENDATA\n");
+}
+
+/// Writes the canonical MPS text of a model to a sink, in as many calls as it has bytes at most, and
+/// does not flush. The text waits in a buffer of 65,536 bytes between calls; no memory is taken.
+///
+/// A sink that fails is answered by [`Write`](WriteFault::Write): it has taken that many first bytes of
+/// the text, a number that stays at 2^64 - 1, and nothing else, and it is not called again.
+/// [`NotLp`](WriteFault::NotLp) is never answered.
+pub fn write_mps<W: Sink>(model: &Model, sink: &mut W) -> Result<(), WriteFault>
+    ensures answer { IsWritten (λ _. None) canonical_mps W.holds W.failed model.now sink.old sink.new result }
+    ensures succeeds { W.failed sink.new ≡ false → IsOk result }
+    ensures calls { W.count sink.new ≤ W.count sink.old + length (canonical_mps model.now) }
+    ensures stays { W.failed sink.old ≡ true → W.failed sink.new ≡ true }
+{
+    let mut buffer = Buffer::new();
+    put_lines(model, sink, &mut buffer);
+    buffer.finish(sink)
+}

@@ -1,0 +1,194 @@
+//! The sections of rows: ROWS, RHS and RANGES.
+
+ghost use Rattle.std.specs.Prelude.{◌≡◌, ◌<◌, [], ◌∷◌, ◌++◌, Some, slice_get};
+ghost use Rattle.std.specs.List.{flat_map};
+ghost use Rattle.std.specs.Option.{option_map};
+ghost use Rattle.std.specs.FinMap.{entries};
+ghost use Rattle.mpslp_decimal.specs.Decimal.{negated};
+ghost use Rattle.mpslp_model.specs.Views.{num_rows, rows_of};
+ghost use Rattle.mpslp_canonical.specs.PrintedValues.{printed_side, printed_range};
+ghost use Rattle.mpslp_canonical.specs.CanonicalMps.{row_line, side_lines, row_side_lines, range_lines, rows_section, right_sides_section, ranges_section};
+ghost use Rattle.mpslp_canonical.specs.Listing.{listing_of};
+ghost use Rattle.mpslp_model.specs.Refusal.{is_nonempty};
+ghost use Rattle.mpslp_write.specs.LinesAt.{lines_at};
+ghost use Rattle.mpslp_write.specs.Output.{Prints};
+
+use crate::lines::{put_short_line, put_value_line};
+use crate::output::Buffer;
+use crate::values::{range_of, row_letter, side_of};
+use mpslp_decimal::Decimal;
+use mpslp_model::{Model, Sink};
+
+/// Puts the line of the row of number `i` in ROWS.
+fn put_row<W: Sink>(model: &Model, i: usize, sink: &mut W, buffer: &mut Buffer)
+    requires { i < num_rows model.now }
+    ensures { Prints W.holds W.failed W.count sink.old sink.new buffer.old buffer.new (lines_at (λ row. row_line row ∷ []) (entries model.now.rows) i) }
+{
+    let letter = row_letter(&model.row_lower(i), &model.row_upper(i));
+    put_short_line(sink, buffer, letter, model.row_name(i).as_bytes());
+}
+
+/// Puts the lines of all rows in ROWS.
+fn put_rows<W: Sink>(model: &Model, sink: &mut W, buffer: &mut Buffer)
+    ensures { Prints W.holds W.failed W.count sink.old sink.new buffer.old buffer.new (flat_map (λ row. row_line row ∷ []) (entries model.now.rows)) }
+{
+    for i in 0..model.num_rows() {
+        if buffer.has_failed() {
+            return;
+        }
+        put_row(model, i, sink, buffer);
+    }
+}
+
+/// Puts the section ROWS: the objective, and then the rows.
+pub(crate) fn put_rows_section<W: Sink>(model: &Model, sink: &mut W, buffer: &mut Buffer)
+    ensures { Prints W.holds W.failed W.count sink.old sink.new buffer.old buffer.new (rows_section (listing_of model.now)) }
+{
+    buffer.put(sink, b"ROWS\n");
+    put_short_line(sink, buffer, b"N", model.objective_name().as_bytes());
+    put_rows(model, sink, buffer);
+}
+
+/// The right side that is printed of the row of number `i`.
+fn side_at(model: &Model, i: usize) -> Decimal
+    requires { i < num_rows model.now }
+    ensures { option_map (λ row. printed_side row.lower row.upper) (slice_get (rows_of model.now) i) ≡ Some result }
+{
+    side_of(&model.row_lower(i), &model.row_upper(i))
+}
+
+/// Puts the line of a right side, unless it is 0.
+fn put_side<W: Sink>(sink: &mut W, buffer: &mut Buffer, row: &[u8], value: Decimal)
+    ensures { Prints W.holds W.failed W.count sink.old sink.new buffer.old buffer.new (side_lines row.now value) }
+{
+    if !value.is_zero() {
+        put_value_line(sink, buffer, b"RHS", row, value);
+    }
+}
+
+/// Puts the right side of the row of number `i`.
+fn put_row_side<W: Sink>(model: &Model, i: usize, sink: &mut W, buffer: &mut Buffer)
+    requires { i < num_rows model.now }
+    ensures { Prints W.holds W.failed W.count sink.old sink.new buffer.old buffer.new (lines_at row_side_lines (entries model.now.rows) i) }
+{
+    let side = side_at(model, i);
+    put_side(sink, buffer, model.row_name(i).as_bytes(), side);
+}
+
+/// Puts the right sides of all rows.
+fn put_row_sides<W: Sink>(model: &Model, sink: &mut W, buffer: &mut Buffer)
+    ensures { Prints W.holds W.failed W.count sink.old sink.new buffer.old buffer.new (flat_map row_side_lines (entries model.now.rows)) }
+{
+    for i in 0..model.num_rows() {
+        if buffer.has_failed() {
+            return;
+        }
+        put_row_side(model, i, sink, buffer);
+    }
+}
+
+/// Whether the right side of the row of number `i` has a line.
+fn has_row_side(model: &Model, i: usize) -> bool
+    requires { i < num_rows model.now }
+    ensures { result ≡ is_nonempty (lines_at row_side_lines (entries model.now.rows) i) }
+{
+    let side = side_at(model, i);
+    !side.is_zero()
+}
+
+/// Whether a right side of a row has a line.
+fn has_row_sides(model: &Model) -> bool
+    ensures { result ≡ is_nonempty (flat_map row_side_lines (entries model.now.rows)) }
+{
+    for i in 0..model.num_rows() {
+        if has_row_side(model, i) {
+            return true;
+        }
+    }
+    false
+}
+
+/// Whether RHS has a line.
+fn has_right_sides(model: &Model) -> bool
+    ensures { result ≡ is_nonempty (side_lines model.now.objective (negated model.now.constant) ++ flat_map row_side_lines (entries model.now.rows)) }
+{
+    let offset = model.objective_offset();
+    !offset.is_zero() || has_row_sides(model)
+}
+
+/// Puts the section RHS: the negated constant of the objective, and then the right sides of the rows,
+/// without those that are 0. Where all are, nothing is put.
+pub(crate) fn put_right_sides_section<W: Sink>(model: &Model, sink: &mut W, buffer: &mut Buffer)
+    ensures { Prints W.holds W.failed W.count sink.old sink.new buffer.old buffer.new (right_sides_section (listing_of model.now)) }
+{
+    if has_right_sides(model) {
+        buffer.put(sink, b"RHS\n");
+        let objective = model.objective_name().as_bytes();
+        put_side(sink, buffer, objective, model.objective_offset());
+        put_row_sides(model, sink, buffer);
+    }
+}
+
+/// The range that is printed of the row of number `i`.
+fn range_at(model: &Model, i: usize) -> Option<Decimal>
+    requires { i < num_rows model.now }
+    ensures { option_map (λ row. printed_range row.lower row.upper) (slice_get (rows_of model.now) i) ≡ Some result }
+{
+    range_of(&model.row_lower(i), &model.row_upper(i))
+}
+
+/// Puts the range of the row of number `i`, if it has one.
+fn put_range<W: Sink>(model: &Model, i: usize, sink: &mut W, buffer: &mut Buffer)
+    requires { i < num_rows model.now }
+    ensures { Prints W.holds W.failed W.count sink.old sink.new buffer.old buffer.new (lines_at range_lines (entries model.now.rows) i) }
+{
+    match range_at(model, i) {
+        Some(range) => put_value_line(sink, buffer, b"RNG", model.row_name(i).as_bytes(), range),
+        None => {}
+    }
+}
+
+/// Puts the ranges of all rows.
+fn put_ranges<W: Sink>(model: &Model, sink: &mut W, buffer: &mut Buffer)
+    ensures { Prints W.holds W.failed W.count sink.old sink.new buffer.old buffer.new (flat_map range_lines (entries model.now.rows)) }
+{
+    for i in 0..model.num_rows() {
+        if buffer.has_failed() {
+            return;
+        }
+        put_range(model, i, sink, buffer);
+    }
+}
+
+/// Whether the row of number `i` has a range.
+fn has_range(model: &Model, i: usize) -> bool
+    requires { i < num_rows model.now }
+    ensures { result ≡ is_nonempty (lines_at range_lines (entries model.now.rows) i) }
+{
+    match range_at(model, i) {
+        Some(_) => true,
+        None => false,
+    }
+}
+
+/// Whether a row has a range.
+fn has_ranges(model: &Model) -> bool
+    ensures { result ≡ is_nonempty (flat_map range_lines (entries model.now.rows)) }
+{
+    for i in 0..model.num_rows() {
+        if has_range(model, i) {
+            return true;
+        }
+    }
+    false
+}
+
+/// Puts the section RANGES, or nothing where no row has a range.
+pub(crate) fn put_ranges_section<W: Sink>(model: &Model, sink: &mut W, buffer: &mut Buffer)
+    ensures { Prints W.holds W.failed W.count sink.old sink.new buffer.old buffer.new (ranges_section (listing_of model.now)) }
+{
+    if has_ranges(model) {
+        buffer.put(sink, b"RANGES\n");
+        put_ranges(model, sink, buffer);
+    }
+}

@@ -1,0 +1,144 @@
+//! The canonical text of worked files, and a sink that fails. Memory is ample.
+
+use crate::write_mps;
+use mpslp_model::{Sink, ToWrite, WriteFault};
+use mpslp_mps::read_mps;
+use std::alloc::Global;
+use std::io;
+use std::io::Write;
+
+/// A file in which lines stand in another order and with other words than in the canonical text.
+const FILE: &str = "* sample
+NAME  sample
+OBJSENSE  MAX
+ROWS
+ N  COST
+ L  LIM
+ G  MYG
+ E  EQ
+ G  BETWEEN
+ N  FREE
+COLUMNS
+    Y  COST  2  MYG  1.50
+    M  'MARKER'  'INTORG'
+    K  LIM  1
+    B  COST  -1
+    M  'MARKER'  'INTEND'
+    X  LIM  3e0  EQ  2
+    EMPTY  COST  0
+RHS
+    COST  5  LIM  4
+    MYG  0  EQ  7
+    BETWEEN  1
+RANGES
+    BETWEEN  2.5
+BOUNDS
+ PL  BND  K
+ LO  BND  X  -1
+ UP  BND  X  10
+ FR  BND  Y
+ENDATA
+";
+
+const TEXT: &str = "NAME
+OBJSENSE
+    MAX
+ROWS
+ N  COST
+ G  BETWEEN
+ E  EQ
+ N  FREE
+ L  LIM
+ G  MYG
+COLUMNS
+    EMPTY  COST  0
+    X  EQ  2
+    X  LIM  3
+    Y  COST  2
+    Y  MYG  1.5
+    MARKER  'MARKER'  'INTORG'
+    B  COST  -1
+    K  LIM  1
+    MARKER  'MARKER'  'INTEND'
+RHS
+    RHS  COST  5
+    RHS  BETWEEN  1
+    RHS  EQ  7
+    RHS  LIM  4
+RANGES
+    RNG  BETWEEN  2.5
+BOUNDS
+ UP  BND  B  1
+ PL  BND  K
+ LO  BND  X  -1
+ UP  BND  X  10
+ FR  BND  Y
+ENDATA
+";
+
+/// A file, and its text, in which no row has a right side or a range, and no column a bound of its own.
+const PLAIN_FILE: &str = "ROWS
+ N  C
+ N  D
+COLUMNS
+    X  C  1  D  10
+RHS
+RANGES
+BOUNDS
+ENDATA
+";
+
+const PLAIN_TEXT: &str = "NAME
+ROWS
+ N  C
+ N  D
+COLUMNS
+    X  C  1
+    X  D  10
+ENDATA
+";
+
+/// Takes two bytes in each write while it has room, and then none.
+#[derive(Drop)]
+struct SmallWriter {
+    room: usize,
+}
+
+impl Write for SmallWriter {
+    fn write(&mut self, piece: &[u8]) -> io::Result<usize> {
+        let taken = piece.len().min(self.room).min(2);
+        self.room -= taken;
+        Ok(taken)
+    }
+
+    fn flush(&mut self) -> io::Result<()> {
+        Ok(())
+    }
+}
+
+/// What is answered where the model of a file is written; `None` where the file has none.
+fn write_file<W: Sink>(alloc: Global, file: &str, sink: &mut W) -> Option<Result<(), WriteFault>> {
+    match read_mps(alloc, file.as_bytes()) {
+        Ok(model) => Some(write_mps(&model, sink)),
+        Err(_) => None,
+    }
+}
+
+#[test]
+fn writes_canonical_texts_in_one_call(rt: HostRuntime) {
+    for (file, text) in [(FILE, TEXT), (PLAIN_FILE, PLAIN_TEXT), (TEXT, TEXT)] {
+        let mut held = Vec::new(rt.alloc());
+        let mut sink = ToWrite::new(&mut held);
+        assert!(rt; matches!(write_file(rt.alloc(), file, &mut sink), Some(Ok(()))));
+        assert_eq!(rt; sink.calls(), 1);
+        assert_eq!(rt; held.as_slice(), text.as_bytes());
+    }
+}
+
+#[test]
+fn a_sink_that_fails_is_told(rt: HostRuntime) {
+    let mut sink = ToWrite::new(SmallWriter { room: 9 });
+    let answer = write_file(rt.alloc(), FILE, &mut sink);
+    assert!(rt; matches!(answer, Some(Err(WriteFault::Write { written: 9 }))));
+    assert_eq!(rt; sink.calls(), 6);
+}
