@@ -25,7 +25,8 @@ use Rattle.mpslp_model.proofs.MeaningFromNoFault.{sorted-filtered}
 -- ---- a part of a list, by a test
 
 -- where none of the first ones passes, the others decide
-filter_behind : {X : Type 0} (q : X → Bool) (xs : List X) (i : ℕ) → i ≤ length xs → AllWithin (λ x. q x ≡ false) xs 0 i → filter q xs ≡ filter q (drop i xs)
+filter_behind : {X : Type 0} (q : X → Bool) (xs : List X) (i : ℕ) → i ≤ length xs
+    → AllWithin (λ x. q x ≡ false) xs 0 i → filter q xs ≡ filter q (drop i xs)
 filter_behind q xs zero le none = refl
 filter_behind q [] (suc i) le none = absurd (omega arith)
 filter_behind {X} q (x ∷ xs) (suc i) le none =
@@ -39,7 +40,8 @@ filter_none {X} q (x ∷ xs) none =
     ∙ filter_none q xs (λ k d low high. none (suc k) d (omega arith) (omega arith))
 
 -- where the first ones pass and no other does, they are what is kept
-filter_front : {X : Type 0} (q : X → Bool) (xs : List X) (n : ℕ) → n ≤ length xs → IsPartitionPoint (λ x. q x ≡ true) (λ x. q x ≡ false) xs n → filter q xs ≡ take n xs
+filter_front : {X : Type 0} (q : X → Bool) (xs : List X) (n : ℕ) → n ≤ length xs
+    → IsPartitionPoint (λ x. q x ≡ true) (λ x. q x ≡ false) xs n → filter q xs ≡ take n xs
 filter_front q xs zero le point = filter_none q xs point.1
 filter_front q [] (suc n) le point = absurd (omega arith)
 filter_front {X} q (x ∷ xs) (suc n) le point =
@@ -48,7 +50,8 @@ filter_front {X} q (x ∷ xs) (suc n) le point =
     ((λ k d low high. point.0 (suc k) d (omega arith) (omega arith)), (λ k d low high. point.1 (suc k) d (omega arith) (omega arith))))
 
 -- what is kept of an entry and those behind it: a test of two parts, where the first is left to the entries that pass the second
-keep_step : {X : Type 0} (test : X → Bool) (e : X) (kept own : List X) (o c : Bool) → test e ≡ not (o && c) → kept ≡ filter test own → cond (not o && c) (e ∷ kept) kept ≡ filter test (cond c (e ∷ own) own)
+keep_step : {X : Type 0} (test : X → Bool) (e : X) (kept own : List X) (o c : Bool) → test e ≡ not (o && c) → kept ≡ filter test own
+    → cond (not o && c) (e ∷ kept) kept ≡ filter test (cond c (e ∷ own) own)
 keep_step {X} test e kept own true true is more = more ∙ sym (ap (λ (b : Bool). cond b (e ∷ filter test own) (filter test own)) is)
 keep_step {X} test e kept own false true is more = ap (λ (xs : List X). e ∷ xs) more ∙ sym (ap (λ (b : Bool). cond b (e ∷ filter test own) (filter test own)) is)
 keep_step test e kept own true false is more = more
@@ -59,14 +62,18 @@ keep_step test e kept own false false is more = more
 position_is : {X : Type 0} (p : X → Bool) (xs : List X) (i : ℕ) → position p xs ≡ Some i → (i < length xs) × (position_or_len p xs ≡ i)
 position_is p xs i at = by (nat_lt (position_or_len p xs) (length xs)) refl at
   where
-    by : (b : Bool) → nat_lt (position_or_len p xs) (length xs) ≡ b → cond b (Some (position_or_len p xs)) None ≡ Some i → (i < length xs) × (position_or_len p xs ≡ i)
-    by true less h = let same : position_or_len p xs ≡ i = same_Some (position_or_len p xs) i h in (subst (λ (n : ℕ). n < length xs) same (ltb-true (position_or_len p xs) (length xs) less), same)
+    by : (b : Bool) → nat_lt (position_or_len p xs) (length xs) ≡ b → cond b (Some (position_or_len p xs)) None ≡ Some i
+        → (i < length xs) × (position_or_len p xs ≡ i)
+    by true less h =
+        let same : position_or_len p xs ≡ i = same_Some (position_or_len p xs) i h in
+        (subst (λ (n : ℕ). n < length xs) same (ltb-true (position_or_len p xs) (length xs) less), same)
     by false _ h = absurd cc
 
 position_past : {X : Type 0} (p : X → Bool) (xs : List X) → position p xs ≡ None → length xs ≤ position_or_len p xs
 position_past p xs at = by (nat_lt (position_or_len p xs) (length xs)) refl at
   where
-    by : (b : Bool) → nat_lt (position_or_len p xs) (length xs) ≡ b → cond b (Some (position_or_len p xs)) None ≡ None → length xs ≤ position_or_len p xs
+    by : (b : Bool) → nat_lt (position_or_len p xs) (length xs) ≡ b → cond b (Some (position_or_len p xs)) None ≡ None
+        → length xs ≤ position_or_len p xs
     by true _ h = absurd cc
     by false past _ = ltb-false (position_or_len p xs) (length xs) past
 
@@ -125,25 +132,29 @@ module _ {K : Type 0} (R : K → K → Ordering) (o : IsTotalOrder R) where
         ∙ ap (λ (ys : List (K × X)). e ∷ ys) (above_kept k x es tie (second_so (is_lt (R x e.0)) (below_all R x es) above))
 
     -- without the entries that have the key: one is left out at most
-    without_key : (k : K) (es : List (K × X)) → is_sorted R es ≡ true → filter (λ e. not (is_eq (R k e.0))) es ≡ remove es (position_or_len (λ e. is_eq (R k e.0)) es)
+    without_key : (k : K) (es : List (K × X)) → is_sorted R es ≡ true
+        → filter (λ e. not (is_eq (R k e.0))) es ≡ remove es (position_or_len (λ e. is_eq (R k e.0)) es)
     without_key k [] sorted = refl
     without_key k (e ∷ es) sorted =
         let n = position_or_len (λ (y : K × X). is_eq (R k y.0)) es in
         let kept = filter (λ (y : K × X). not (is_eq (R k y.0))) es in
         elim (is_eq (R k e.0)) as (λ b. is_eq (R k e.0) ≡ b → cond (not b) (e ∷ kept) kept ≡ remove (e ∷ es) (cond (not b) (1 + n) 0)) [
           | true ↦ λ tie. above_kept k e.0 es tie (first_so (below_all R e.0 es) (is_sorted R es) sorted)
-          | false ↦ λ _. ap (λ (ys : List (K × X)). e ∷ ys) (without_key k es (second_so (below_all R e.0 es) (is_sorted R es) sorted)) ∙ ap (λ (i : ℕ). remove (e ∷ es) i) (sym (suc_of n))
+          | false ↦ λ _. ap (λ (ys : List (K × X)). e ∷ ys) (without_key k es (second_so (below_all R e.0 es) (is_sorted R es) sorted))
+              ∙ ap (λ (i : ℕ). remove (e ∷ es) i) (sym (suc_of n))
         ] refl
 
 -- where an entry has the key, it is the one that is left out
-pub without_found : {K X : Type 0} (R : K → K → Ordering) (o : IsTotalOrder R) (k : K) (es : List (K × X)) (i : ℕ) → is_sorted R es ≡ true → position (λ e. is_eq (R k e.0)) es ≡ Some i
+without_found : {K X : Type 0} (R : K → K → Ordering) (o : IsTotalOrder R) (k : K) (es : List (K × X)) (i : ℕ) → is_sorted R es ≡ true
+    → position (λ e. is_eq (R k e.0)) es ≡ Some i
     → (i < length es) × (filter (λ e. not (is_eq (R k e.0))) es ≡ remove es i)
 without_found {K} {X} R o k es i sorted at =
     let place = position_is (λ (e : K × X). is_eq (R k e.0)) es i at in
     (place.0, without_key R o k es sorted ∙ ap (remove es) place.1)
 
 -- where none has it, all stay
-pub without_none : {K X : Type 0} (R : K → K → Ordering) (o : IsTotalOrder R) (k : K) (es : List (K × X)) → is_sorted R es ≡ true → position (λ e. is_eq (R k e.0)) es ≡ None
+without_none : {K X : Type 0} (R : K → K → Ordering) (o : IsTotalOrder R) (k : K) (es : List (K × X)) → is_sorted R es ≡ true
+    → position (λ e. is_eq (R k e.0)) es ≡ None
     → filter (λ e. not (is_eq (R k e.0))) es ≡ es
 without_none {K} {X} R o k es sorted at =
     let n = position_or_len (λ (e : K × X). is_eq (R k e.0)) es in
@@ -165,18 +176,22 @@ by_first Greater b h = cc
 
 module _ {X : Type 0} where
   -- the columns of coefficients that stand behind are not lower
-  below_columns : (x : Place) (es : List (Place × X)) (i : ℕ) (d : Place × X) → below_all place_cmp x es ≡ true → i < length es → is_le (bytes_cmp x.column (get_or es i d).0.column) ≡ true
+  below_columns : (x : Place) (es : List (Place × X)) (i : ℕ) (d : Place × X) → below_all place_cmp x es ≡ true → i < length es
+      → is_le (bytes_cmp x.column (get_or es i d).0.column) ≡ true
   below_columns x [] i d h in' = absurd (omega arith)
-  below_columns x (e ∷ es) zero d h in' = by_first (bytes_cmp x.column e.0.column) (bytes_cmp x.row e.0.row) (first_so (is_lt (place_cmp x e.0)) (below_all place_cmp x es) h)
+  below_columns x (e ∷ es) zero d h in' =
+      by_first (bytes_cmp x.column e.0.column) (bytes_cmp x.row e.0.row) (first_so (is_lt (place_cmp x e.0)) (below_all place_cmp x es) h)
   below_columns x (e ∷ es) (suc i) d h in' = below_columns x es i d (second_so (is_lt (place_cmp x e.0)) (below_all place_cmp x es) h) (omega arith)
 
   columns_rise : (es : List (Place × X)) (i j : ℕ) (d : Place × X) → is_sorted place_cmp es ≡ true → i ≤ j → j < length es
       → is_le (bytes_cmp (get_or es i d).0.column (get_or es j d).0.column) ≡ true
   columns_rise [] i j d sorted le in' = absurd (omega arith)
   columns_rise (e ∷ es) zero zero d sorted le in' = at_most_itself bytes_cmp nat_list_cmp_total e.0.column
-  columns_rise (e ∷ es) zero (suc j) d sorted le in' = below_columns e.0 es j d (first_so (below_all place_cmp e.0 es) (is_sorted place_cmp es) sorted) (omega arith)
+  columns_rise (e ∷ es) zero (suc j) d sorted le in' =
+      below_columns e.0 es j d (first_so (below_all place_cmp e.0 es) (is_sorted place_cmp es) sorted) (omega arith)
   columns_rise (e ∷ es) (suc i) zero d sorted le in' = absurd (omega arith)
-  columns_rise (e ∷ es) (suc i) (suc j) d sorted le in' = columns_rise es i j d (second_so (below_all place_cmp e.0 es) (is_sorted place_cmp es) sorted) (omega arith) (omega arith)
+  columns_rise (e ∷ es) (suc i) (suc j) d sorted le in' =
+      columns_rise es i j d (second_so (below_all place_cmp e.0 es) (is_sorted place_cmp es) sorted) (omega arith) (omega arith)
 
   -- coefficients of lower columns stand in front
   pub lower_parted : (column : List ℕ) (es : List (Place × X)) → is_sorted place_cmp es ≡ true → IsPartitionedBy (λ e. is_gt (bytes_cmp column e.0.column)) es
@@ -192,8 +207,9 @@ module _ {X : Type 0} where
       let longer : length (drop start es) ≡ length es - start = length-drop start es in
       let inside : start + j < length es = omega arith in
       let rise : is_le (bytes_cmp x.0.column y.0.column) ≡ true = columns_rise es (start + i) (start + j) d sorted (omega arith) inside in
-      let tie : is_eq (bytes_cmp column y.0.column) ≡ true = sym (texts_ties column y.0.column) ∙ ap (λ (e : Place × X). same_bytes column e.0.column) (sym (get_or-drop start es j d)) ∙ own in
-      ap (λ (e : Place × X). same_bytes column e.0.column) (get_or-drop start es i d) ∙ texts_ties column x.0.column
+      let same : Place × X → Bool = λ e. same_bytes column e.0.column in
+      let tie : is_eq (bytes_cmp column y.0.column) ≡ true = sym (texts_ties column y.0.column) ∙ ap same (sym (get_or-drop start es j d)) ∙ own in
+      ap same (get_or-drop start es i d) ∙ texts_ties column x.0.column
       ∙ ties_too bytes_cmp nat_list_cmp_total column x.0.column y.0.column rise (behind (start + i) d (omega arith) (omega arith)) tie
 
   -- a lower column is not the column
@@ -206,40 +222,48 @@ module _ {X : Type 0} where
       → IsPartitionPoint (λ e. same_bytes column e.0.column ≡ true) (λ e. same_bytes column e.0.column ≡ false) (drop start es) count
       → take count (drop start es) ≡ filter (λ e. same_bytes column e.0.column) es
   own_part column es start count le few lower own =
-      sym (filter_behind (λ (e : Place × X). same_bytes column e.0.column) es start le (λ k d low high. lower_fails column (get_or es k d) (lower.0 k d low high))
-      ∙ filter_front (λ (e : Place × X). same_bytes column e.0.column) (drop start es) count few own)
+      let same : Place × X → Bool = λ e. same_bytes column e.0.column in
+      sym (filter_behind same es start le (λ k d low high. lower_fails column (get_or es k d) (lower.0 k d low high))
+      ∙ filter_front same (drop start es) count few own)
 
   -- they stand in order
-  pub own_sorted : (column : List ℕ) (es : List (Place × X)) → is_sorted place_cmp es ≡ true → is_sorted place_cmp (filter (λ e. same_bytes column e.0.column) es) ≡ true
+  pub own_sorted : (column : List ℕ) (es : List (Place × X)) → is_sorted place_cmp es ≡ true
+      → is_sorted place_cmp (filter (λ e. same_bytes column e.0.column) es) ≡ true
   own_sorted column es sorted =
-      true_from (is_sorted place_cmp (filter (λ (e : Place × X). same_bytes column e.0.column) es)) (sorted-filtered (λ (e : Place × X). same_bytes column e.0.column) es (T_from (is_sorted place_cmp es) sorted))
+      let same : Place × X → Bool = λ e. same_bytes column e.0.column in
+      true_from (is_sorted place_cmp (filter same es)) (sorted-filtered same es (T_from (is_sorted place_cmp es) sorted))
 
   -- those of rows are all but the one at the objective's place
-  pub beside_objective : (objective column : List ℕ) (es : List (Place × X))
+  beside_objective : (objective column : List ℕ) (es : List (Place × X))
       → filter (λ e. not (same_bytes objective e.0.row) && same_bytes column e.0.column) es
       ≡ filter (λ e. not (is_eq (place_cmp (record { row = objective; column = column }) e.0))) (filter (λ e. same_bytes column e.0.column) es)
   beside_objective objective column [] = refl
   beside_objective objective column (e ∷ es) =
       let place : Place = record { row = objective; column = column } in
-      keep_step (λ (y : Place × X). not (is_eq (place_cmp place y.0))) e (filter (λ (y : Place × X). not (same_bytes objective y.0.row) && same_bytes column y.0.column) es) (filter (λ (y : Place × X). same_bytes column y.0.column) es)
+      keep_step (λ (y : Place × X). not (is_eq (place_cmp place y.0))) e
+      (filter (λ (y : Place × X). not (same_bytes objective y.0.row) && same_bytes column y.0.column) es) (filter (λ (y : Place × X). same_bytes column y.0.column) es)
       (same_bytes objective e.0.row) (same_bytes column e.0.column) (ap not (sym (place_ties place e.0))) (beside_objective objective column es)
 
   abbrev pub elements : List ℕ → List ℕ → List (Place × X) → List (Place × X)
   elements objective column es = filter (λ e. not (same_bytes objective e.0.row) && same_bytes column e.0.column) es
 
   -- The elements of a column are its part without the objective's coefficient, where it has one of number i.
-  pub elements_beside : (objective column : List ℕ) (es part : List (Place × X)) (i : ℕ) → part ≡ filter (λ e. same_bytes column e.0.column) es → is_sorted place_cmp part ≡ true
-      → position (λ e. is_eq (place_cmp (record { row = objective; column = column }) e.0)) part ≡ Some i → (i < length part) × (elements objective column es ≡ remove part i)
+  pub elements_beside : (objective column : List ℕ) (es part : List (Place × X)) (i : ℕ)
+      → part ≡ filter (λ e. same_bytes column e.0.column) es → is_sorted place_cmp part ≡ true
+      → position (λ e. is_eq (place_cmp (record { row = objective; column = column }) e.0)) part ≡ Some i
+      → (i < length part) × (elements objective column es ≡ remove part i)
   elements_beside objective column es part i own sorted at =
       let place : Place = record { row = objective; column = column } in
       let found = without_found place_cmp place_total place part i sorted at in
       (found.0, beside_objective objective column es ∙ ap (filter (λ (e : Place × X). not (is_eq (place_cmp place e.0)))) (sym own) ∙ found.1)
 
-  pub elements_whole : (objective column : List ℕ) (es part : List (Place × X)) → part ≡ filter (λ e. same_bytes column e.0.column) es → is_sorted place_cmp part ≡ true
+  pub elements_whole : (objective column : List ℕ) (es part : List (Place × X))
+      → part ≡ filter (λ e. same_bytes column e.0.column) es → is_sorted place_cmp part ≡ true
       → position (λ e. is_eq (place_cmp (record { row = objective; column = column }) e.0)) part ≡ None → elements objective column es ≡ part
   elements_whole objective column es part own sorted at =
       let place : Place = record { row = objective; column = column } in
-      beside_objective objective column es ∙ ap (filter (λ (e : Place × X). not (is_eq (place_cmp place e.0)))) (sym own) ∙ without_none place_cmp place_total place part sorted at
+      beside_objective objective column es ∙ ap (filter (λ (e : Place × X). not (is_eq (place_cmp place e.0)))) (sym own)
+      ∙ without_none place_cmp place_total place part sorted at
 
 -- ---- one left out
 
