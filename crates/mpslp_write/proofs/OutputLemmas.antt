@@ -10,7 +10,7 @@ use Rattle.mpslp_model.specs.Devices.{Grows, TookMore}
 use Rattle.mpslp_model.specs.Formats.{TookFirst, IsWritten}
 use Rattle.mpslp_model.proofs.GrowsLemmas.{Grows-nil, Grows-append}
 use Rattle.std.specs.List.{flat_map}
-use Rattle.mpslp_write.specs.CanonicalMps.{Lines}
+use Rattle.mpslp_canonical.specs.CanonicalMps.{Lines}
 use Rattle.mpslp_write.proofs.LinesAtLemmas.{flat_map-rest}
 use Rattle.mpslp_write.specs.Output.{Gathered, nothing_gathered, with_waiting, IsUnderWay, IsCutOff, HasPut, Emits, Prints, IsTaken, answer_of}
 use Rattle.mpslp_canonical.specs.Printed.{PrintedLine, printed, text_of}
