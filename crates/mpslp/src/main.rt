@@ -4,16 +4,13 @@
 use mpslp_convert::{ConvertFault, RunFault, load, report, run, same_model};
 use mpslp_model::{FromRead, Sink, Source, ToWrite, put_all};
 use mpslp_write::Mps;
-use std::io::{BufWriter, ErrorKind};
+use std::io::ErrorKind;
 use std::process::ExitCode;
 use std::rt::{Env, Files};
 use std::{env, fs, io};
 
 /// The most bytes that an input may have.
 const MAX_BYTES: u64 = 1_073_741_824;
-
-/// Room for the text that is not written yet.
-const BUFFER: usize = 65_536;
 
 const USAGE: &[u8] = b"usage: mpslp canon mps mps PATH | mpslp same mps PATH mps PATH\n";
 
@@ -86,15 +83,8 @@ fn load_path<R: Input + Files + AllocGlobal>(rt: &R, path: &str) -> Result<Vec<u
 
 /// Writes the canonical text of what the source has to standard output.
 fn canon_source<R: Print + AllocGlobal, S: Source>(rt: &R, source: &mut S) -> Result<(), RunFault> {
-    match BufWriter::with_capacity(rt.alloc(), BUFFER, io::writer(rt)) {
-        Ok(output) => run::<Mps, Mps, _, _>(
-            rt.alloc(),
-            MAX_BYTES,
-            source,
-            &mut ToWrite::new(output),
-        ),
-        Err(_) => Err(RunFault::OutOfMemory),
-    }
+    let mut output = ToWrite::new(io::writer(rt));
+    run::<Mps, Mps, _, _>(rt.alloc(), MAX_BYTES, source, &mut output)
 }
 
 fn canon<R: Input + Files + Print + AllocGlobal>(rt: &R, path: &str) -> Result<(), RunFault> {
