@@ -9,7 +9,7 @@ use Rattle.mpslp_model.specs.declared.kinds.Limit.{Limit}
 use Rattle.mpslp_model.specs.declared.kinds.Limit.TheVariants.{MinusInf, Finite, PlusInf}
 use Rattle.mpslp_mps.specs.declared.bound_types.BoundType.TheVariants as bounds
 use Rattle.mpslp_canonical.specs.PrintedValues.{PrintedBound, bare, valued, have_same_value, printed_lower, printed_upper, printed_bounds}
-use Rattle.mpslp_write.specs.LinesAt.{are_fixed, are_free}
+use Rattle.mpslp_write.specs.LinesAt.{fixed_value, are_free}
 
 pub map-append : {X Y : Type 0} (f : X → Y) (xs ys : List X) → map f (xs ++ ys) ≡ map f xs ++ map f ys
 map-append f [] ys = refl
@@ -26,26 +26,40 @@ free-bounds kind PlusInf MinusInf h = cc
 free-bounds kind PlusInf (Finite b) h = cc
 free-bounds kind PlusInf PlusInf h = cc
 
-pub fixed-bounds : (kind : Kind) (lower upper : Limit) → are_fixed lower upper ≡ true → (value : Number) × (upper ≡ Finite value) × (valued bounds.Fixed value ∷ [] ≡ printed_bounds kind lower upper)
-fixed-bounds kind MinusInf MinusInf h = absurd cc
-fixed-bounds kind MinusInf (Finite b) h = absurd cc
-fixed-bounds kind MinusInf PlusInf h = absurd cc
-fixed-bounds kind (Finite a) MinusInf h = absurd cc
-fixed-bounds kind (Finite a) (Finite b) h =
-    (b, refl, sym (ap (λ (same : Bool). cond same (valued bounds.Fixed b ∷ []) (printed_lower (Finite a) ++ printed_upper kind (Finite b))) h))
-fixed-bounds kind (Finite a) PlusInf h = absurd cc
-fixed-bounds kind PlusInf MinusInf h = absurd cc
-fixed-bounds kind PlusInf (Finite b) h = absurd cc
-fixed-bounds kind PlusInf PlusInf h = absurd cc
+none_fixed : (v : Number) → ◌≡◌ {A = Option Number} None (Some v) → ⊥
+none_fixed v e = cc
 
-pub other-bounds : (kind : Kind) (lower upper : Limit) → are_free lower upper ≡ false → are_fixed lower upper ≡ false
+pub fixed-bounds : (kind : Kind) (lower upper : Limit) (value : Number) → fixed_value lower upper ≡ Some value → valued bounds.Fixed value ∷ [] ≡ printed_bounds kind lower upper
+fixed-bounds kind MinusInf MinusInf value h = absurd (none_fixed value h)
+fixed-bounds kind MinusInf (Finite b) value h = absurd (none_fixed value h)
+fixed-bounds kind MinusInf PlusInf value h = absurd (none_fixed value h)
+fixed-bounds kind (Finite a) MinusInf value h = absurd (none_fixed value h)
+fixed-bounds kind (Finite a) (Finite b) value h =
+    elim (have_same_value a b) as (λ same. cond same (Some b) None ≡ Some value
+    → valued bounds.Fixed value ∷ [] ≡ cond same (valued bounds.Fixed b ∷ []) (printed_lower (Finite a) ++ printed_upper kind (Finite b))) [
+      | true ↦ λ told. let same : value ≡ b = cc in ap (λ (v : Number). valued bounds.Fixed v ∷ []) same
+      | false ↦ λ told. absurd (none_fixed value told)
+    ] h
+fixed-bounds kind (Finite a) PlusInf value h = absurd (none_fixed value h)
+fixed-bounds kind PlusInf MinusInf value h = absurd (none_fixed value h)
+fixed-bounds kind PlusInf (Finite b) value h = absurd (none_fixed value h)
+fixed-bounds kind PlusInf PlusInf value h = absurd (none_fixed value h)
+
+some_fixed : (v : Number) → ◌≡◌ {A = Option Number} (Some v) None → ⊥
+some_fixed v e = cc
+
+pub other-bounds : (kind : Kind) (lower upper : Limit) → are_free lower upper ≡ false → fixed_value lower upper ≡ None
     → printed_lower lower ++ printed_upper kind upper ≡ printed_bounds kind lower upper
 other-bounds kind MinusInf MinusInf h k = refl
 other-bounds kind MinusInf (Finite b) h k = refl
 other-bounds kind MinusInf PlusInf h k = cc
 other-bounds kind (Finite a) MinusInf h k = refl
 other-bounds kind (Finite a) (Finite b) h k =
-    sym (ap (λ (same : Bool). cond same (valued bounds.Fixed b ∷ []) (printed_lower (Finite a) ++ printed_upper kind (Finite b))) k)
+    elim (have_same_value a b) as (λ same. cond same (Some b) None ≡ None
+    → printed_lower (Finite a) ++ printed_upper kind (Finite b) ≡ cond same (valued bounds.Fixed b ∷ []) (printed_lower (Finite a) ++ printed_upper kind (Finite b))) [
+      | true ↦ λ told. absurd (some_fixed b told)
+      | false ↦ λ told. refl
+    ] k
 other-bounds kind (Finite a) PlusInf h k = refl
 other-bounds kind PlusInf MinusInf h k = refl
 other-bounds kind PlusInf (Finite b) h k = refl

@@ -157,9 +157,9 @@ module _ {S : Type 0} {holds : S → List ℕ → Type 0} {failed : S → Bool} 
     puts = λ first text h. record {
       under_way = λ works. absurd (not_both fails works);
       cut_off = λ is.
-      let was = h.cut_off is in
-      let len = length-append text piece in
-      record { fails = was.fails; took = TookFirst-more holds failed count first s text piece buffer.taken was.took; calls = omega (arith, len, was.calls) };
+          let was = h.cut_off is in
+          let len = length-append text piece in
+          record { fails = was.fails; took = TookFirst-more holds failed count first s text piece buffer.taken was.took; calls = omega (arith, len, was.calls) };
     };
   }
 

@@ -12,9 +12,3 @@ side-nonempty row value =
 
 abbrev pub range_at_name : List ℕ → Option Number → Lines
 range_at_name row range = option_map_or (λ value. vector_line (codes "RNG") row value ∷ []) range []
-
-pub side-written : (row : List ℕ) (value : Number) → is_zero value ≡ false → vector_line (codes "RHS") row value ∷ [] ≡ side_lines row value
-side-written row value h = sym (ap (λ (b : Bool). cond b [] (vector_line (codes "RHS") row value ∷ [])) h)
-
-pub side-left_out : (row : List ℕ) (value : Number) → is_zero value ≡ true → [] ≡ side_lines row value
-side-left_out row value h = sym (ap (λ (b : Bool). cond b [] (vector_line (codes "RHS") row value ∷ [])) h)

@@ -1,5 +1,5 @@
 -- Lines that are printed of one entry after another.
-use Rattle.std.specs.Prelude.{ℕ, Bool, true, false, not, List, [], ◌∷◌, slice_get, if◌then◌else◌}
+use Rattle.std.specs.Prelude.{ℕ, Bool, true, false, not, List, [], ◌∷◌, slice_get, Option, Some, None, if◌then◌else◌}
 use Rattle.std.specs.Option.{option_map_or}
 use Rattle.mpslp_decimal.specs.Decimal.{Number, is_zero}
 use Rattle.mpslp_model.specs.Model.{LinearModel, Place, Column}
@@ -40,10 +40,10 @@ abbrev pub kind_of : Bool → Kind
 kind_of true = Integer
 kind_of false = Continuous
 
--- both bounds are finite and have the same value
-abbrev pub are_fixed : Limit → Limit → Bool
-are_fixed (Finite lower) (Finite upper) = have_same_value lower upper
-are_fixed _ _ = false
+-- the value of a column whose bounds are finite and have the same value
+abbrev pub fixed_value : Limit → Limit → Option Number
+fixed_value (Finite lower) (Finite upper) = if have_same_value lower upper then Some upper else None
+fixed_value _ _ = None
 
 -- neither bound is finite
 abbrev pub are_free : Limit → Limit → Bool

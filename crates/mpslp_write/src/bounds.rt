@@ -1,22 +1,20 @@
 //! The section BOUNDS.
 
-ghost use Rattle.std.specs.Prelude.{◌≡◌, ◌<◌, [], ◌∷◌, ◌++◌, map};
+ghost use Rattle.std.specs.Prelude.{◌≡◌, ◌<◌, [], ◌∷◌, ◌++◌, Some, None, map, if◌then◌else◌};
 ghost use Rattle.std.specs.List.{flat_map};
 ghost use Rattle.std.specs.FinMap.{entries};
-ghost use Rattle.mpslp_decimal.specs.Decimal.{Number};
 ghost use Rattle.mpslp_model.specs.Views.{num_columns};
-ghost use Rattle.mpslp_mps.specs.declared.bound_types.BoundType.TheVariants.{Fixed};
-ghost use Rattle.mpslp_model.specs.declared.kinds.Limit.TheVariants.{Finite};
-ghost use Rattle.mpslp_canonical.specs.PrintedValues.{valued, printed_lower, printed_upper, printed_bounds};
+ghost use Rattle.mpslp_canonical.specs.PrintedValues.{have_same_value, printed_lower, printed_upper, printed_bounds};
 ghost use Rattle.mpslp_canonical.specs.CanonicalMps.{bound_line, column_bound_lines, bounds_section};
 ghost use Rattle.mpslp_canonical.specs.Listing.{listing_of};
 ghost use Rattle.mpslp_model.specs.Refusal.{is_nonempty};
-ghost use Rattle.mpslp_write.specs.LinesAt.{lines_at, kind_of, are_fixed, are_free};
+ghost use Rattle.mpslp_write.specs.LinesAt.{lines_at, kind_of, fixed_value, are_free};
 ghost use Rattle.mpslp_write.specs.Output.{Prints};
 
 use crate::lines::{put_bare_bound, put_valued_bound};
 use crate::output::Buffer;
 use crate::values::have_same_value;
+use mpslp_decimal::Decimal;
 use mpslp_model::{Limit, Model, Sink};
 
 /// Puts the line of a lower bound, unless it is 0.
@@ -71,16 +69,27 @@ fn put_both<W: Sink>(
     put_upper(sink, buffer, column, integer, upper);
 }
 
-/// Whether both bounds are finite and have the same value.
-fn are_fixed(lower: &Limit, upper: &Limit) -> bool
-    ensures { result ≡ are_fixed lower.now upper.now }
+/// The value of a column whose bounds are finite and have the same value.
+fn fixed_value(lower: &Limit, upper: &Limit) -> Option<Decimal>
+    ensures { result ≡ fixed_value lower.now upper.now }
 {
     match lower {
         Limit::Finite(lower) => match upper {
-            Limit::Finite(upper) => have_same_value(*lower, *upper),
-            _ => false,
+            Limit::Finite(upper) => value_if_same(lower, upper),
+            _ => None,
         },
-        _ => false,
+        _ => None,
+    }
+}
+
+/// The upper one of two numbers that have the same value.
+fn value_if_same(lower: &Decimal, upper: &Decimal) -> Option<Decimal>
+    ensures { result ≡ (if have_same_value lower.now upper.now then Some upper.now else None) }
+{
+    if have_same_value(*lower, *upper) {
+        Some(*upper)
+    } else {
+        None
     }
 }
 
@@ -112,20 +121,9 @@ fn put_bounds_of<W: Sink>(
         put_bare_bound(sink, buffer, b"FR", column);
         return;
     }
-    if are_fixed(lower, upper) {
-        put_fixed(sink, buffer, column, upper);
-        return;
-    }
-    put_both(sink, buffer, column, integer, lower, upper);
-}
-
-/// Puts the line of a fixed column.
-fn put_fixed<W: Sink>(sink: &mut W, buffer: &mut Buffer, column: &[u8], upper: &Limit)
-    ensures { (value : Number) → upper.now ≡ Finite value → Prints W.holds W.failed W.count sink.old sink.new buffer.old buffer.new (map (bound_line column.now) (valued Fixed value ∷ [])) }
-{
-    match upper {
-        Limit::Finite(value) => put_valued_bound(sink, buffer, b"FX", column, *value),
-        _ => {}
+    match fixed_value(lower, upper) {
+        Some(value) => put_valued_bound(sink, buffer, b"FX", column, value),
+        None => put_both(sink, buffer, column, integer, lower, upper),
     }
 }
 

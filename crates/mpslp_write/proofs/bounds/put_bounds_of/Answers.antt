@@ -10,13 +10,13 @@ returns-then-are_free g c =
     prints_same (ap (map (bound_line c.args.column.now)) (free-bounds (kind_of c.args.integer) c.args.lower.now c.args.upper.now (sym c.are_free.ensures ∙ c.if-are_free.true)))
     c.put_bare_bound.ensures
 
-pub returns-then-are_fixed : goal.returns-then-are_fixed
-returns-then-are_fixed g c =
-    let (value, is, lines) = fixed-bounds (kind_of c.args.integer) c.args.lower.now c.args.upper.now (sym c.are_fixed.ensures ∙ c.if-are_fixed.true) in
-    prints_same (ap (map (bound_line c.args.column.now)) lines) (c.put_fixed.ensures value is)
+pub returns-in-Some : goal.returns-in-Some
+returns-in-Some g c =
+    prints_same (ap (map (bound_line c.args.column.now)) (fixed-bounds (kind_of c.args.integer) c.args.lower.now c.args.upper.now c.in-Some.value (sym c.fixed_value.ensures ∙ c.in-Some.is)))
+    c.put_valued_bound.ensures
 
-pub returns : goal.returns
-returns g c =
+pub returns-in-None : goal.returns-in-None
+returns-in-None g c =
     prints_same (ap (map (bound_line c.args.column.now))
-    (other-bounds (kind_of c.args.integer) c.args.lower.now c.args.upper.now (sym c.are_free.ensures ∙ c.if-are_free.false) (sym c.are_fixed.ensures ∙ c.if-are_fixed.false)))
+    (other-bounds (kind_of c.args.integer) c.args.lower.now c.args.upper.now (sym c.are_free.ensures ∙ c.if-are_free.false) (sym c.fixed_value.ensures ∙ c.in-None.is)))
     c.put_both.ensures
