@@ -1,7 +1,6 @@
 //! Worked files at MPS: what each is converted to, or the line of its fault. Memory is ample.
 
-use crate::laws;
-use crate::{ConvertFault, RunFault, canonical, is_canonical, load, report, run, same_model};
+use crate::{ConvertFault, RunFault, canonical, is_canonical, laws, load, report, run, same_model};
 use mpslp_model::{FaultKind, FromRead, Sink, Source, ToWrite};
 use mpslp_write::Mps;
 use std::alloc::{AllocError, Global};
@@ -338,7 +337,11 @@ const CHANGES: [(usize, &str, &str); 22] = [
     (12, " SC  B  X  4", "line 12: SemiContinuous\n"),
     (12, " UP  B  Z  4", "line 12: UnknownColumn\n"),
     (12, " UP  B  X  -1e30", "line 12: InfiniteValue\n"),
-    (12, " UP  B  X  4\n UP  B  X  4", "line 13: DuplicateBound\n"),
+    (
+        12,
+        " UP  B  X  4\n UP  B  X  4",
+        "line 13: DuplicateBound\n",
+    ),
     (11, "RANGES\n    G  C  1\nBOUNDS", "line 12: RangeOnFree\n"),
     (13, "", "file: MissingEnd\n"),
 ];
@@ -366,11 +369,21 @@ fn faults_are_told_by_their_lines(rt: HostRuntime) -> Result<(), Fail> {
         );
     }
     assert_eq!(rt;
-        told(alloc, MUCH, b"NAME\nROWS\n N  C\n L  R\nCOLUMNS\nRHS\n    A  R  1\nENDATA\n")?.as_slice(),
+        told(
+            alloc,
+            MUCH,
+            b"NAME\nROWS\n N  C\n L  R\nCOLUMNS\nRHS\n    A  R  1\nENDATA\n"
+        )?
+        .as_slice(),
         "file: NoColumns\n".as_bytes()
     );
     assert_eq!(rt;
-        told(alloc, MUCH, b"NAME\nROWS\n L  obj\nCOLUMNS\n    X  obj  1\nENDATA\n")?.as_slice(),
+        told(
+            alloc,
+            MUCH,
+            b"NAME\nROWS\n L  obj\nCOLUMNS\n    X  obj  1\nENDATA\n"
+        )?
+        .as_slice(),
         "line 4: DuplicateRow\n".as_bytes()
     );
     Ok(())
@@ -421,11 +434,25 @@ fn the_sense_is_kept(rt: HostRuntime) -> Result<(), Fail> {
     let expected = joined(alloc, &[HEADS[0], PRODUCTION])?;
     for head in HEADS {
         let text = joined(alloc, &[head, PRODUCTION])?;
-        assert_eq!(rt; told(alloc, MUCH, &text)?.as_slice(), expected.as_slice(), "at {head}");
+        assert_eq!(rt;
+            told(alloc, MUCH, &text)?.as_slice(),
+            expected.as_slice(),
+            "at {head}"
+        );
         assert!(rt; matches!(same_model::<Mps, Mps>(alloc, &text, &expected), Ok(true)));
     }
-    assert!(rt; matches!(same_model::<Mps, Mps>(alloc, &expected, PRODUCTION.as_bytes()), Ok(false)));
-    assert!(rt; matches!(same_model::<Mps, Mps>(alloc, PRODUCTION.as_bytes(), &expected), Ok(false)));
+    assert!(rt;
+        matches!(
+            same_model::<Mps, Mps>(alloc, &expected, PRODUCTION.as_bytes()),
+            Ok(false)
+        )
+    );
+    assert!(rt;
+        matches!(
+            same_model::<Mps, Mps>(alloc, PRODUCTION.as_bytes(), &expected),
+            Ok(false)
+        )
+    );
     Ok(())
 }
 
@@ -456,7 +483,9 @@ fn canonical_texts_are_known(rt: HostRuntime) -> Result<(), Fail> {
     assert!(rt; matches!(is_canonical::<Mps>(alloc, expected), Ok(true)));
     assert!(rt; matches!(is_canonical::<Mps>(alloc, &expected[..148]), Ok(false)));
     let refused = is_canonical::<Mps>(alloc, b"NAME\n");
-    assert!(rt; matches!(refused, Err(ConvertFault::First(fault)) if fault.kind == FaultKind::MissingEnd));
+    assert!(rt;
+        matches!(refused, Err(ConvertFault::First(fault)) if fault.kind == FaultKind::MissingEnd)
+    );
     let Ok(converted) = canonical::<Mps, Mps>(alloc, text) else {
         assert!(rt; false);
         return Ok(());
@@ -473,7 +502,12 @@ fn models_are_compared(rt: HostRuntime) {
     let (marked, binary) = (MARKED.as_bytes(), BINARY.as_bytes());
     assert!(rt; matches!(same_model::<Mps, Mps>(alloc, marked, binary), Ok(true)));
     assert!(rt; matches!(same_model::<Mps, Mps>(alloc, binary, marked), Ok(true)));
-    assert!(rt; matches!(same_model::<Mps, Mps>(alloc, marked, UNBOUNDED.as_bytes()), Ok(false)));
+    assert!(rt;
+        matches!(
+            same_model::<Mps, Mps>(alloc, marked, UNBOUNDED.as_bytes()),
+            Ok(false)
+        )
+    );
     let first = same_model::<Mps, Mps>(alloc, b"", b"X\n");
     assert!(rt; matches!(first, Err(ConvertFault::First(fault)) if fault.line == 0));
     let second = same_model::<Mps, Mps>(alloc, marked, b"X\n");
@@ -543,9 +577,18 @@ fn inputs_have_at_most_so_many_bytes(rt: HostRuntime) -> Result<(), Fail> {
     let alloc = rt.alloc();
     let text = SMALL.as_bytes();
     assert_eq!(rt; text.len(), 147);
-    assert_eq!(rt; told(alloc, 147, text)?.as_slice(), SMALL_CANONICAL.as_bytes());
-    assert_eq!(rt; told(alloc, 146, text)?.as_slice(), b"file: TooLong\n".as_slice());
-    assert_eq!(rt; told(alloc, 0, b"")?.as_slice(), b"file: MissingEnd\n".as_slice());
+    assert_eq!(rt;
+        told(alloc, 147, text)?.as_slice(),
+        SMALL_CANONICAL.as_bytes()
+    );
+    assert_eq!(rt;
+        told(alloc, 146, text)?.as_slice(),
+        b"file: TooLong\n".as_slice()
+    );
+    assert_eq!(rt;
+        told(alloc, 0, b"")?.as_slice(),
+        b"file: MissingEnd\n".as_slice()
+    );
     let mut source = FromRead::new(text);
     assert!(rt; matches!(load(alloc, 146, &mut source), Err(RunFault::TooLong)));
     let mut source = FromRead::new(text);
