@@ -484,7 +484,7 @@ fn canonical_texts_are_known(rt: HostRuntime) -> Result<(), Fail> {
     assert!(rt; matches!(is_canonical::<Mps>(alloc, &expected[..148]), Ok(false)));
     let refused = is_canonical::<Mps>(alloc, b"NAME\n");
     assert!(rt;
-        matches!(refused, Err(ConvertFault::First(fault)) if fault.kind == FaultKind::MissingEnd)
+        matches!(&refused, Err(ConvertFault::First(fault)) if fault.kind == FaultKind::MissingEnd)
     );
     let Ok(converted) = canonical::<Mps, Mps>(alloc, text) else {
         assert!(rt; false);
@@ -509,9 +509,9 @@ fn models_are_compared(rt: HostRuntime) {
         )
     );
     let first = same_model::<Mps, Mps>(alloc, b"", b"X\n");
-    assert!(rt; matches!(first, Err(ConvertFault::First(fault)) if fault.line == 0));
+    assert!(rt; matches!(&first, Err(ConvertFault::First(fault)) if fault.line == 0));
     let second = same_model::<Mps, Mps>(alloc, marked, b"X\n");
-    assert!(rt; matches!(second, Err(ConvertFault::Second(fault)) if fault.line == 1));
+    assert!(rt; matches!(&second, Err(ConvertFault::Second(fault)) if fault.line == 1));
 }
 
 /// Gives one byte in each read, but fails in one of them: in the first one, at 1.
@@ -612,7 +612,10 @@ fn a_read_that_fails_writes_nothing(rt: HostRuntime) {
         let mut writer = FailingWriter::new(alloc, 1000, false);
         let mut sink = ToWrite::new(&mut writer);
         let answer = run_mps(alloc, 147, &mut source, &mut sink);
-        assert!(rt; matches!(answer, Err(RunFault::Read)), "in read {fails_in}");
+        assert!(rt;
+            matches!(&answer, Err(RunFault::Read)),
+            "in read {fails_in}"
+        );
         assert_eq!(rt; sink.calls(), 0);
         assert_eq!(rt; writer.flushes, 0);
     }
@@ -626,7 +629,7 @@ fn a_write_that_fails_tells_how_much_was_taken(rt: HostRuntime) {
         let mut writer = FailingWriter::new(alloc, room, false);
         let mut sink = ToWrite::new(&mut writer);
         let answer = run_mps(alloc, 147, &mut source, &mut sink);
-        assert!(rt; matches!(answer, Err(RunFault::Write { written }) if written == room as u64));
+        assert!(rt; matches!(&answer, Err(RunFault::Write { written }) if *written == room as u64));
         assert_eq!(rt; writer.held.as_slice(), &SMALL_CANONICAL.as_bytes()[..room]);
         assert_eq!(rt; writer.flushes, 0);
     }
@@ -639,7 +642,7 @@ fn a_flush_that_fails_tells_the_whole_length(rt: HostRuntime) {
     let mut writer = FailingWriter::new(alloc, 1000, true);
     let mut sink = ToWrite::new(&mut writer);
     let answer = run_mps(alloc, 147, &mut source, &mut sink);
-    assert!(rt; matches!(answer, Err(RunFault::Write { written: 149 })));
+    assert!(rt; matches!(&answer, Err(RunFault::Write { written: 149 })));
     assert_eq!(rt; writer.held.as_slice(), SMALL_CANONICAL.as_bytes());
     assert_eq!(rt; writer.flushes, 1);
 }
