@@ -10,8 +10,10 @@ import argparse
 import os
 import resource
 import shutil
+import signal
 import subprocess
 import sys
+import threading
 import time
 from pathlib import Path
 
@@ -89,14 +91,20 @@ class Result:
         self.failure = failure
 
 
-def run_once(program, source):
+def run_once(program, source, limit):
     OUTPUT.unlink(missing_ok=True)
     start = time.perf_counter()
     process = program.start(source)
+    timer = threading.Timer(limit, process.kill)
+    timer.start()
     _, status, usage = os.wait4(process.pid, 0)
+    timer.cancel()
     seconds = time.perf_counter() - start
     process.returncode = os.waitstatus_to_exitcode(status)
-    return Result(seconds, usage.ru_maxrss * 1024, failure_of(process.returncode))
+    failure = failure_of(process.returncode)
+    if process.returncode == -signal.SIGKILL and seconds >= limit:
+        failure = f"stopped after {limit} s"
+    return Result(seconds, usage.ru_maxrss * 1024, failure)
 
 
 def failure_of(code):
@@ -110,10 +118,10 @@ def failure_of(code):
     return None
 
 
-def best_of(program, source, runs):
+def best_of(program, source, runs, limit):
     results = []
     for _ in range(runs):
-        result = run_once(program, source)
+        result = run_once(program, source, limit)
         if result.failure:
             return result
         results.append(result)
@@ -165,14 +173,14 @@ def memory_text(size):
     return text if size > own else "at most " + text
 
 
-def compare(sources, candidates, runs):
+def compare(sources, candidates, runs, limit):
     print("| file | MB | program | seconds | MB/s | peak memory, MB |")
     print("|---|---|---|---|---|---|")
     for name, words in sources:
         source = generated(name, words)
         read_once(source)
         for program in candidates:
-            print(table_line(source, program, best_of(program, source, runs)), flush=True)
+            print(table_line(source, program, best_of(program, source, runs, limit)), flush=True)
     OUTPUT.unlink(missing_ok=True)
 
 
@@ -207,6 +215,7 @@ def arguments():
                         help="the hostile files in place of the kinds")
     parser.add_argument("--seed", type=int, default=1)
     parser.add_argument("--runs", type=int, default=3)
+    parser.add_argument("--limit", type=int, default=600, help="seconds after which a run is stopped")
     parser.add_argument("--read", action="store_true", help="read files, and write none")
     parser.add_argument("--program", default=DEFAULT_PROGRAM, help="the path of mpslp")
     parser.add_argument("--reader", default=DEFAULT_READER, help="the path of bench_read")
@@ -231,7 +240,7 @@ def check(parser, options):
 def main():
     options = arguments()
     candidates = readers(options.reader) if options.read else programs(options.program)
-    compare(wanted_files(options), present(candidates), options.runs)
+    compare(wanted_files(options), present(candidates), options.runs, options.limit)
 
 
 if __name__ == "__main__":
