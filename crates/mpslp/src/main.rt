@@ -15,7 +15,7 @@ const MAX_BYTES: u64 = 1_073_741_824;
 const USAGE: &[u8] = b"usage: mpslp canon mps mps PATH | mpslp same mps PATH mps PATH\n";
 
 /// What the words of the command line ask for. A path of `-` is standard input.
-#[derive(Clone, Copy)]
+#[derive(Clone, Copy, Debug, PartialEq)]
 enum Job<'a> {
     Canon { path: &'a str },
     Same { first: &'a str, second: &'a str },
@@ -81,43 +81,45 @@ fn load_path<R: Input + Files + AllocGlobal>(rt: &R, path: &str) -> Result<Vec<u
     }
 }
 
-/// Writes the canonical text of what the source has to standard output.
-fn canon_source<R: Print + AllocGlobal, S: Source>(rt: &R, source: &mut S) -> Result<(), RunFault> {
-    let mut output = ToWrite::new(io::writer(rt));
-    run::<Mps, Mps, _, _>(rt.alloc(), MAX_BYTES, source, &mut output)
-}
-
-fn canon<R: Input + Files + Print + AllocGlobal>(rt: &R, path: &str) -> Result<(), RunFault> {
+/// Writes the canonical text of what standard input or a file has.
+fn canon<R: Input + Files + AllocGlobal, W: Sink>(
+    rt: &R,
+    path: &str,
+    output: &mut W,
+) -> Result<(), RunFault> {
+    let alloc = rt.alloc();
     if path == "-" {
-        canon_source(rt, &mut FromRead::new(rt.reader()))
+        run::<Mps, Mps, _, W>(alloc, MAX_BYTES, &mut FromRead::new(rt.reader()), output)
     } else {
-        canon_source(rt, &mut FromRead::new(open(rt, path)?))
+        run::<Mps, Mps, _, W>(alloc, MAX_BYTES, &mut FromRead::new(open(rt, path)?), output)
     }
 }
 
-/// Prints a line to standard output.
-fn print<R: Print>(rt: &R, line: &[u8]) -> Result<(), RunFault> {
+/// Prints a line.
+fn print<W: Sink>(output: &mut W, line: &[u8]) -> Result<(), RunFault> {
     let mut written = 0;
-    match put_all(&mut ToWrite::new(io::writer(rt)), &mut written, line) {
+    match put_all(output, &mut written, line) {
         Ok(()) => Ok(()),
         Err(_) => Err(RunFault::Write { written }),
     }
 }
 
-fn same<R: Input + Files + Print + AllocGlobal>(
+/// Prints whether two inputs declare the same model.
+fn same<R: Input + Files + AllocGlobal, W: Sink>(
     rt: &R,
     first: &str,
     second: &str,
+    output: &mut W,
 ) -> Result<End, End> {
     let one = load_path(rt, first).map_err(End::FaultOfFirst)?;
     let other = load_path(rt, second).map_err(End::FaultOfSecond)?;
     match same_model::<Mps, Mps>(rt.alloc(), &one, &other) {
         Ok(true) => {
-            print(rt, b"same\n")?;
+            print(output, b"same\n")?;
             Ok(End::Done)
         }
         Ok(false) => {
-            print(rt, b"not the same\n")?;
+            print(output, b"not the same\n")?;
             Ok(End::NotTheSame)
         }
         Err(ConvertFault::First(fault)) => Err(End::FaultOfFirst(RunFault::File(fault))),
@@ -139,12 +141,13 @@ fn perform<R: Input + Files + Print + Env + AllocGlobal>(rt: &R) -> Result<End, 
         }
         Err(_) => return Err(End::Usage),
     };
+    let mut output = ToWrite::new(io::writer(rt));
     match job_of(&words) {
         Some(Job::Canon { path }) => {
-            canon(rt, path)?;
+            canon(rt, path, &mut output)?;
             Ok(End::Done)
         }
-        Some(Job::Same { first, second }) => same(rt, first, second),
+        Some(Job::Same { first, second }) => same(rt, first, second, &mut output),
         None => Err(End::Usage),
     }
 }
@@ -190,3 +193,6 @@ fn main(rt: HostRuntime) -> ExitCode {
     };
     ExitCode::from(finish(&mut ToWrite::new(rt.stderr()), &end))
 }
+
+#[cfg(test)]
+mod tests;

@@ -1,5 +1,8 @@
 //! Worked files at MPS: what each is converted to, or the line of its fault. Memory is ample.
 
+mod faults;
+mod large;
+
 use crate::{ConvertFault, RunFault, canonical, is_canonical, laws, load, report, run, same_model};
 use mpslp_model::{FaultKind, FromRead, Sink, Source, ToWrite};
 use mpslp_write::Mps;
