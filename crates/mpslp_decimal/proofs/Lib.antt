@@ -14,4 +14,5 @@ pub mod ValueLemmas
 pub mod SpellsLemmas
 pub mod OrderOfValues
 pub mod SumLemmas
+pub mod ExactLaws
 pub mod WorkedNumbers
