@@ -1,5 +1,5 @@
 -- When so many units of a power of ten are ten to the twentieth, counted in units of the least exponent.
-use Rattle.std.proofs.Common.{◌≡◌, refl, sym, ap, ◌∙◌, ℕ, zero, suc, Bool, true, false, arith, ◌<◌, ◌≤◌, ◌+◌, ◌*◌, ◌^◌, lit<}
+use Rattle.std.proofs.Common.{◌≡◌, refl, sym, ap, ◌∙◌, ℕ, zero, suc, Bool, true, false, arith, ◌<◌, ◌≤◌, ◌+◌, ◌-◌, ◌*◌, ◌^◌, lit<}
 use Rattle.std.specs.Prelude.{ℤ, pos, negsuc, ◌≤ℤ◌, ◌<ℤ◌, ◌-ℤ◌, nat_le, unsigned_abs, ◌==◌, not}
 use Rattle.std.proofs.Math.Nat.{pow-le-pow_right}
 use Rattle.std.proofs.lemmas.Nat.{pow-add}
@@ -59,21 +59,21 @@ infinite-large s (pos n) h = let l : 520 ≤ n + 500 = above n h in large s (n +
     above n h = omega (arith, ints)
 infinite-large s (negsuc n) h = absurd (omega (arith, ints))
 
-height-small : (e : ℤ) → e ≤ℤ pos 2 → height e ≤ 502
-height-small (pos n) h = omega (arith, ints)
-height-small (negsuc n) h = omega arith
+height-small : (e : ℤ) → e ≤ℤ negsuc 15 → height e ≤ 484
+height-small (pos n) h = absurd (omega (arith, ints))
+height-small (negsuc n) h = omega (arith, ints)
 
-pub infinite-small : (s : ℕ) (e : ℤ) → s < 10 ^ 18 → e ≤ℤ pos 2 → false ≡ nat_le (10 ^ 520) (s * 10 ^ height e)
+pub infinite-small : (s : ℕ) (e : ℤ) → s < 10 ^ 36 → e ≤ℤ negsuc 15 → false ≡ nat_le (10 ^ 520) (s * 10 ^ height e)
 infinite-small s e few h =
-    let le : 10 ^ (18 + height e) ≤ 10 ^ 520 = let l : 18 + height e ≤ 520 = (let k = height-small e h in omega arith) in pow-le-pow_right ten_positive l in
-    let same : 10 ^ 18 * 10 ^ height e ≡ 10 ^ (18 + height e) = powers 18 (height e) (18 + height e) refl in
-    small s (10 ^ height e) (10 ^ 18) (10 ^ 520) few (pow_positive (height e)) (omega (arith, same, le))
+    let le : 10 ^ (36 + height e) ≤ 10 ^ 520 = let l : 36 + height e ≤ 520 = (let k = height-small e h in omega arith) in pow-le-pow_right ten_positive l in
+    let same : 10 ^ 36 * 10 ^ height e ≡ 10 ^ (36 + height e) = powers 36 (height e) (36 + height e) refl in
+    small s (10 ^ height e) (10 ^ 36) (10 ^ 520) few (pow_positive (height e)) (omega (arith, same, le))
 
 size-of_places : (e z : ℤ) → z ≡ pos 20 -ℤ e → e <ℤ pos 20 → pos (unsigned_abs z) ≡ pos 20 -ℤ e
 size-of_places e (pos k) is below = is
 size-of_places e (negsuc k) is below = absurd (omega (arith, ints))
 
-pub infinite-between : (s : ℕ) (e z : ℤ) (p : ℕ) → p ≡ 10 ^ unsigned_abs z → z ≡ pos 20 -ℤ e → e <ℤ pos 20 → pos 2 <ℤ e → nat_le p s ≡ nat_le (10 ^ 520) (s * 10 ^ height e)
+pub infinite-between : (s : ℕ) (e z : ℤ) (p : ℕ) → p ≡ 10 ^ unsigned_abs z → z ≡ pos 20 -ℤ e → e <ℤ pos 20 → negsuc 15 <ℤ e → nat_le p s ≡ nat_le (10 ^ 520) (s * 10 ^ height e)
 infinite-between s (pos n) z p power is below above =
     let places : pos (unsigned_abs z) ≡ pos 20 -ℤ pos n = size-of_places (pos n) z is below in
     let sum : unsigned_abs z + (n + 500) ≡ 520 = total (unsigned_abs z) n places in
@@ -83,4 +83,29 @@ infinite-between s (pos n) z p power is below above =
   where
     total : (k n : ℕ) → pos k ≡ pos 20 -ℤ pos n → k + (n + 500) ≡ 520
     total k n h = omega (arith, ints)
-infinite-between s (negsuc n) z p power is below above = absurd (omega (arith, ints))
+infinite-between s (negsuc n) z p power is below above =
+    let places : pos (unsigned_abs z) ≡ pos 20 -ℤ negsuc n = size-of_places (negsuc n) z is below in
+    let few : n < 15 = few_below n above in
+    let sum : unsigned_abs z + (499 - n) ≡ 520 = total (unsigned_abs z) n places few in
+    ap (λ (q : ℕ). nat_le q s) power
+    ∙ between s (10 ^ (499 - n)) (10 ^ unsigned_abs z) (pow_positive (499 - n))
+    ∙ ap (λ (t : ℕ). nat_le t (s * 10 ^ (499 - n))) (powers (unsigned_abs z) (499 - n) 520 sum)
+  where
+    few_below : (n : ℕ) → negsuc 15 <ℤ negsuc n → n < 15
+    few_below n h = omega (arith, ints)
+
+    total : (k n : ℕ) → pos k ≡ pos 20 -ℤ negsuc n → n < 15 → k + (499 - n) ≡ 520
+    total k n h few = omega (arith, ints)
+
+-- the power between the two is one of 128 bits
+pub power-fits : (z e : ℤ) → z ≡ pos 20 -ℤ e → e <ℤ pos 20 → negsuc 15 <ℤ e → 10 ^ unsigned_abs z < 2 ^ 128
+power-fits z e is below above =
+    let few : unsigned_abs z ≤ 35 = by z e is below above in
+    let p : 10 ^ unsigned_abs z ≤ 10 ^ 35 = pow-le-pow_right ten_positive few in
+    omega (arith, p)
+  where
+    by : (z e : ℤ) → z ≡ pos 20 -ℤ e → e <ℤ pos 20 → negsuc 15 <ℤ e → unsigned_abs z ≤ 35
+    by (pos k) (pos n) is below above = omega (arith, ints)
+    by (pos k) (negsuc n) is below above = omega (arith, ints)
+    by (negsuc k) (pos n) is below above = absurd (omega (arith, ints))
+    by (negsuc k) (negsuc n) is below above = absurd (omega (arith, ints))

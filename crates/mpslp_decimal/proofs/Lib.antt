@@ -14,4 +14,6 @@ pub mod ValueLemmas
 pub mod SpellsLemmas
 pub mod OrderOfValues
 pub mod SumLemmas
+pub mod WideLemmas
+pub mod ExactLaws
 pub mod WorkedNumbers

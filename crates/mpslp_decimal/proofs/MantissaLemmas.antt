@@ -6,15 +6,15 @@ use Rattle.std.proofs.lemmas.List.{append-nil}
 use Rattle.mpslp_decimal.specs.Literal.{digits_sum, is_digit, is_point}
 use Rattle.mpslp_decimal.specs.Scan.{IsSignificandOf, digits_front, after_digits, after_point, fraction_front, mantissa_front}
 use Rattle.mpslp_decimal.specs.declared.literal.Significand.{Significand}
-use Rattle.mpslp_decimal.specs.declared.literal.Significand.TheVariants.{Few}
+use Rattle.mpslp_decimal.specs.declared.literal.Significand.TheVariants.{Short}
 use Rattle.mpslp_decimal.proofs.CutLemmas.{digits_sum-append}
 
 -- before the first digit
-pub no-digits : IsSignificandOf (Few 0 0) 0
+pub no-digits : IsSignificandOf (Short 0 0) 0
 no-digits = (record { value = refl; ends = λ h. absurd (omega arith) }, lit< tt)
 
 -- the digits before the point, read first
-pub first-digits : (text : List ℕ) (whole : Significand) → ((n : ℕ) → IsSignificandOf (Few 0 0) n → IsSignificandOf whole (n * 10 ^ length (digits_front text) + digits_sum (digits_front text)))
+pub first-digits : (text : List ℕ) (whole : Significand) → ((n : ℕ) → IsSignificandOf (Short 0 0) n → IsSignificandOf whole (n * 10 ^ length (digits_front text) + digits_sum (digits_front text)))
     → IsSignificandOf whole (digits_sum (digits_front text))
 first-digits text whole h = subst (IsSignificandOf whole) (none (10 ^ length (digits_front text)) (digits_sum (digits_front text))) (h 0 no-digits)
   where
@@ -23,7 +23,7 @@ first-digits text whole h = subst (IsSignificandOf whole) (none (10 ^ length (di
 
 -- those after it, read behind them
 pub all-digits : (text fraction : List ℕ) (whole result : Significand)
-    → ((n : ℕ) → IsSignificandOf (Few 0 0) n → IsSignificandOf whole (n * 10 ^ length (digits_front text) + digits_sum (digits_front text)))
+    → ((n : ℕ) → IsSignificandOf (Short 0 0) n → IsSignificandOf whole (n * 10 ^ length (digits_front text) + digits_sum (digits_front text)))
     → ((n : ℕ) → IsSignificandOf whole n → IsSignificandOf result (n * 10 ^ length (digits_front fraction) + digits_sum (digits_front fraction)))
     → fraction_front text ≡ digits_front fraction → IsSignificandOf result (digits_sum (mantissa_front text))
 all-digits text fraction whole result first more e =
@@ -32,7 +32,7 @@ all-digits text fraction whole result first more e =
 
 -- where there is no point
 pub only-digits : (text : List ℕ) (whole : Significand) → fraction_front text ≡ []
-    → ((n : ℕ) → IsSignificandOf (Few 0 0) n → IsSignificandOf whole (n * 10 ^ length (digits_front text) + digits_sum (digits_front text))) → IsSignificandOf whole (digits_sum (mantissa_front text))
+    → ((n : ℕ) → IsSignificandOf (Short 0 0) n → IsSignificandOf whole (n * 10 ^ length (digits_front text) + digits_sum (digits_front text))) → IsSignificandOf whole (digits_sum (mantissa_front text))
 only-digits text whole e first =
     subst (IsSignificandOf whole) (ap digits_sum (sym (append-nil (digits_front text)) ∙ ap (λ (f : List ℕ). digits_front text ++ f) (sym e))) (first-digits text whole first)
 

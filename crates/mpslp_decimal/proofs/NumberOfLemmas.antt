@@ -1,6 +1,6 @@
 -- What the parts of a literal give as its decimal.
 use Rattle.std.proofs.Common.{◌≡◌, refl, sym, ap, subst, ◌∙◌, List, [], ◌∷◌, length, ℕ, zero, suc, Bool, true, false, arith, ◌<◌, ◌≤◌, ◌+◌, ◌-◌, ◌*◌, ◌^◌, ◌%◌, pow-suc, lit<}
-use Rattle.std.specs.Prelude.{ℤ, pos, negsuc, ◌+ℤ◌, ◌-ℤ◌, neg_ℤ, unsigned_abs, min, ◌&&◌, not, ◌==◌, nat_lt, nat_le, if◌then◌else◌, Result, Ok, Err}
+use Rattle.std.specs.Prelude.{ℤ, pos, negsuc, ◌+ℤ◌, ◌-ℤ◌, neg_ℤ, unsigned_abs, min, ◌&&◌, not, ◌==◌, nat_lt, nat_le, if◌then◌else◌, Option, Some, Result, Ok, Err}
 use Rattle.std.specs.List.{list_all}
 use Rattle.std.specs.Cmp.{first_so, second_so}
 use Rattle.std.proofs.Math.Nat.{pow-le-pow_right}
@@ -9,13 +9,14 @@ use Rattle.std.proofs.lemmas.Bool.{le-ltb, lt-ltb, ltb-true, ltb-false}
 use Rattle.std.proofs.lemmas.Bool.Decides.{nat_tests}
 use Rattle.mpslp_decimal.specs.Decimal.{Number, normal, has_few_digits, has_small_exponent, zero_number}
 use Rattle.mpslp_decimal.specs.Literal.{is_digit, is_minus, without_sign, digits_sum, are_digits, signed, signed_value, fraction_digits, mantissa_digits, exponent_part, is_literal, literal_value, number_of}
-use Rattle.mpslp_decimal.specs.Scan.{IsStripped, IsSignificandOf, zeros_of, in_range, IsScanOf}
+use Rattle.mpslp_decimal.specs.Scan.{IsStripped, IsSignificandOf, parts_of, zeros_of, in_range, IsScanOf}
 use Rattle.mpslp_decimal.specs.declared.literal.NumberFault.{NumberFault}
 use Rattle.mpslp_decimal.specs.declared.literal.NumberFault.TheVariants.{BadNumber, LongNumber, TooManyDigits, ExponentRange}
 use Rattle.mpslp_decimal.specs.declared.literal.Scan.{Scan}
 use Rattle.mpslp_decimal.specs.declared.literal.Significand.{Significand}
-use Rattle.mpslp_decimal.specs.declared.literal.Significand.TheVariants.{Few, Many}
+use Rattle.mpslp_decimal.specs.declared.literal.Significand.TheVariants.{Many}
 use Rattle.mpslp_decimal.proofs.CutLemmas.{AreDigits}
+use Rattle.mpslp_decimal.proofs.SignificandLemmas.{parts-are, parts-zeros}
 use Rattle.mpslp_decimal.proofs.NormalLemmas.{normal-tens, size-signed, pow_positive}
 
 -- ---- the tests in turn
@@ -66,8 +67,8 @@ pub stripped-normal : (minus : Bool) (n m z : ℕ) (e : ℤ) → IsStripped n m 
 stripped-normal minus n m z e s some few =
     (λ i. normal (record { mantissa = signed minus (sym s.value i); exponent = back e z i })) ∙ normal-tens minus m z (e +ℤ pos z) (s.ends some) few
 
-few_digits-signed : (minus : Bool) (m : ℕ) (e : ℤ) (b : Bool) → nat_lt m (10 ^ 18) ≡ b → has_few_digits (record { mantissa = signed minus m; exponent = e }) ≡ b
-few_digits-signed minus m e b h = ap (λ (n : ℕ). nat_lt n (10 ^ 18)) (size-signed minus m) ∙ h
+few_digits-signed : (minus : Bool) (m : ℕ) (e : ℤ) (b : Bool) → nat_lt m (10 ^ 36) ≡ b → has_few_digits (record { mantissa = signed minus m; exponent = e }) ≡ b
+few_digits-signed minus m e b h = ap (λ (n : ℕ). nat_lt n (10 ^ 36)) (size-signed minus m) ∙ h
 
 -- ---- how many zeros there can be
 
@@ -174,10 +175,29 @@ not-zero : (m : ℕ) → (m ≡ 0 → ⊥) → 0 < m
 not-zero zero h = absurd (h refl)
 not-zero (suc m) h = omega arith
 
-pub scan-ends : (scan : Scan) (text : List ℕ) (m z : ℕ) → IsScanOf scan text → scan.significand ≡ Few m z → (m ≡ 0 → ⊥) → 0 < m % 10
+pub number-zero : (scan : Scan) (text : List ℕ) (m z : ℕ) → IsScanOf scan text → parts_of scan.significand ≡ Some (m, z) → m ≡ 0 → length text ≤ 255 → Ok zero_number ≡ number_of text
+number-zero scan text m z s e none short =
+    sym (number-value text zero_number s.literal short (zero-normal text (digits_sum (mantissa_digits text)) (signed_value (exponent_part text) -ℤ pos (length (fraction_digits text))) nothing))
+  where
+    stripped : IsStripped (digits_sum (mantissa_digits text)) m z
+    stripped = (parts-are scan.significand (digits_sum (mantissa_digits text)) m z e s.significand).0
+
+    nothing : digits_sum (mantissa_digits text) ≡ 0
+    nothing = sym stripped.value ∙ ap (λ (k : ℕ). k * 10 ^ z) none ∙ no_times (10 ^ z)
+      where
+        no_times : (p : ℕ) → 0 * p ≡ 0
+        no_times p = omega arith
+
+pub scan-ends : (scan : Scan) (text : List ℕ) (m z : ℕ) → IsScanOf scan text → parts_of scan.significand ≡ Some (m, z) → (m ≡ 0 → ⊥) → 0 < m % 10
 scan-ends scan text m z s e some =
-    let parts = subst (λ (t : Significand). IsSignificandOf t (digits_sum (mantissa_digits text))) e s.significand in
+    let parts = parts-are scan.significand (digits_sum (mantissa_digits text)) m z e s.significand in
     parts.0.ends (positive-product m (10 ^ z) (digits_sum (mantissa_digits text)) (not-zero m some) (pow_positive z) parts.0.value)
+
+pub scan-few : (scan : Scan) (text : List ℕ) (m z : ℕ) → IsScanOf scan text → parts_of scan.significand ≡ Some (m, z) → m < 10 ^ 36
+scan-few scan text m z s e = (parts-are scan.significand (digits_sum (mantissa_digits text)) m z e s.significand).1
+
+pub scan-zeros : (scan : Scan) (text : List ℕ) (m z : ℕ) → IsScanOf scan text → parts_of scan.significand ≡ Some (m, z) → length text ≤ 255 → z ≤ 255
+scan-zeros scan text m z s e short = let same : zeros_of scan.significand ≡ z = parts-zeros scan.significand m z e in omega (arith, s.zeros_within)
 
 pub number-many : (scan : Scan) (text : List ℕ) → IsScanOf scan text → scan.significand ≡ Many → length text ≤ 255 → Err TooManyDigits ≡ number_of text
 number-many scan text s e short = by parts
@@ -188,30 +208,30 @@ number-many scan text s e short = by parts
     minus : Bool
     minus = is_minus text
 
-    parts : (m : ℕ) × (z : ℕ) × (IsStripped n m z × (10 ^ 18 ≤ m))
+    parts : (m : ℕ) × (z : ℕ) × (IsStripped n m z × (10 ^ 36 ≤ m))
     parts = subst (λ (t : Significand). IsSignificandOf t n) e s.significand
 
     digits : AreDigits (mantissa_digits text)
     digits = digits-each (mantissa_digits text) (second_so (nat_lt 0 (length (mantissa_digits text))) (list_all is_digit (mantissa_digits text)) (first_so (are_digits (mantissa_digits text)) _ s.literal))
 
-    by : (m : ℕ) × (z : ℕ) × (IsStripped n m z × (10 ^ 18 ≤ m)) → Err TooManyDigits ≡ number_of text
+    by : (m : ℕ) × (z : ℕ) × (IsStripped n m z × (10 ^ 36 ≤ m)) → Err TooManyDigits ≡ number_of text
     by (m, z, (is, long)) =
         let exponent = (signed_value (exponent_part text) -ℤ pos (length (fraction_digits text))) +ℤ pos z in
         let few : z < length (mantissa_digits text) = few-zeros n m z (length (mantissa_digits text)) is (omega arith) (digits_sum-small (mantissa_digits text) digits) in
         let some : 0 < n = positive-product m (10 ^ z) n (omega arith) (pow_positive z) is.value in
         let value : normal (literal_value text) ≡ record { mantissa = signed minus m; exponent = exponent } =
         stripped-normal minus n m z (signed_value (exponent_part text) -ℤ pos (length (fraction_digits text))) is some (omega (arith, s.digits_within)) in
-        let not_few : nat_lt m (10 ^ 18) ≡ false = le-ltb m (10 ^ 18) long in
+        let not_few : nat_lt m (10 ^ 36) ≡ false = le-ltb m (10 ^ 36) long in
         sym (number-value text (record { mantissa = signed minus m; exponent = exponent }) s.literal short value
         ∙ many-answer (record { mantissa = signed minus m; exponent = exponent }) (few_digits-signed minus m exponent false not_few))
 
-pub number-few : (scan : Scan) (text : List ℕ) (m z : ℕ) (exponent : ℤ) → IsScanOf scan text → scan.significand ≡ Few m z → (m ≡ 0 → ⊥) → length text ≤ 255
+pub number-few : (scan : Scan) (text : List ℕ) (m z : ℕ) (exponent : ℤ) → IsScanOf scan text → parts_of scan.significand ≡ Some (m, z) → (m ≡ 0 → ⊥) → length text ≤ 255
     → exponent ≡ (scan.exponent +ℤ pos z) -ℤ pos scan.places → in_range (record { mantissa = signed scan.is_negative m; exponent = exponent }) ≡ number_of text
 number-few scan text m z exponent s e nonzero short is =
     (λ i. in_range (record { mantissa = signed (s.negative i) m; exponent = told i }))
     ∙ capped-range (is_minus power) size places z (signed minus m) places_short zeros_short
     ∙ sym (number-value text value s.literal short (stripped-normal minus n m z raw_exponent parts.0 some (omega (arith, zeros_short)))
-    ∙ few-answer value (few_digits-signed minus m (raw_exponent +ℤ pos z) true (lt-ltb m (10 ^ 18) parts.1)))
+    ∙ few-answer value (few_digits-signed minus m (raw_exponent +ℤ pos z) true (lt-ltb m (10 ^ 36) parts.1)))
   where
     power : List ℕ
     power = exponent_part text
@@ -234,11 +254,11 @@ number-few scan text m z exponent s e nonzero short is =
     value : Number
     value = record { mantissa = signed minus m; exponent = raw_exponent +ℤ pos z }
 
-    parts : IsStripped n m z × (m < 10 ^ 18)
-    parts = subst (λ (t : Significand). IsSignificandOf t n) e s.significand
+    parts : IsStripped n m z × (m < 10 ^ 36)
+    parts = parts-are scan.significand n m z e s.significand
 
     zeros_short : z ≤ 255
-    zeros_short = let same : zeros_of scan.significand ≡ z = ap zeros_of e in omega (arith, s.zeros_within)
+    zeros_short = scan-zeros scan text m z s e short
 
     places_short : places ≤ 255
     places_short = omega (arith, s.places, s.places_within)

@@ -5,7 +5,7 @@ use Rattle.std.specs.List.{list_any, before_first, after_first}
 use Rattle.std.specs.Cmp.{first_so, second_so}
 use Rattle.std.specs.Ordering.{int_eq}
 use Rattle.std.specs.Fmt.{decimal, digits}
-use Rattle.std.proofs.lemmas.Fmt.{length-decimal-le}
+use Rattle.std.proofs.lemmas.Fmt.{length-decimal-le, length-decimal-le_wide}
 use Rattle.std.proofs.lemmas.List.{append-nil, length-replicate}
 use Rattle.std.proofs.lemmas.Int.{ints}
 use Rattle.std.proofs.lemmas.Bool.{le-leb, lt-ltb, ltb-true, le-ltb, leb-true, ltb-false}
@@ -161,7 +161,7 @@ value-unsigned n (d ∷ ds) s =
 
 record Mantissa (m : ℕ) (ds : List ℕ) : Type 0 where
   spells : Spells m ds
-  short : length ds ≤ 18
+  short : length ds ≤ 36
   ends : 0 < m % 10
 
 abbrev zeros_text : ℕ → List ℕ
@@ -259,9 +259,9 @@ pub signed-size : (z : ℤ) → signed (int_le z (negsuc 0)) (unsigned_abs z) �
 signed-size (pos n) = refl
 signed-size (negsuc n) = ap (λ (b : Bool). signed b (suc n)) (le-leb 0 n (omega arith))
 
-mantissa-form : (m : ℕ) → m < 10 ^ 18 → 0 < m % 10 → Mantissa m (decimal m)
+mantissa-form : (m : ℕ) → m < 10 ^ 36 → 0 < m % 10 → Mantissa m (decimal m)
 mantissa-form m h e =
-    record { spells = decimal-spells m (omega (arith, h)); short = length-decimal-le 18 m (omega arith) h (omega (arith, h)); ends = e }
+    record { spells = decimal-spells m (omega (arith, h)); short = length-decimal-le_wide 36 m (omega arith) h (omega (arith, h)); ends = e }
 
 after_e : (t : List ℕ) → codes "e" ++ t ≡ 101 ∷ t
 after_e t = refl
@@ -297,7 +297,7 @@ exponent_text n h = (decimal-spells n (omega (arith, h)), length-decimal-le 20 n
 unsigned-digits : (n : ℕ) (ds : List ℕ) → Spells n ds → are_digits (without_sign ds) ≡ true
 unsigned-digits n ds s = ap are_digits (no_sign ds (begins-digits ds s.digits s.some)) ∙ are-digits ds s.digits s.some
 
-pub scaled-read : (minus : Bool) (m : ℕ) (e : ℤ) → m < 10 ^ 18 → 0 < m % 10 → IsDecimal (decimal_at minus m e)
+pub scaled-read : (minus : Bool) (m : ℕ) (e : ℤ) → m < 10 ^ 36 → 0 < m % 10 → IsDecimal (decimal_at minus m e)
     → read_signed minus (scaled_text (decimal m) e) ≡ Ok (decimal_at minus m e)
 scaled-read minus m (pos n) small ends ok = by (nat_le n 5) refl
   where
@@ -350,7 +350,7 @@ number-text d ok = by (is_zero d) refl
         ap number_of (ap (λ (b : Bool). cond b (codes "0") (sign_text (is_negative d) ++ scaled_text (decimal (unsigned_abs d.mantissa)) d.exponent)) z)
         ∙ zero-read ∙ ap (λ (x : Number). Ok x) (sym (zero-is d ok z))
     by false z =
-        let small : unsigned_abs d.mantissa < 10 ^ 18 = ltb-true (unsigned_abs d.mantissa) (10 ^ 18) (first_so (has_few_digits d) (has_small_exponent d && is_normal d) ok) in
+        let small : unsigned_abs d.mantissa < 10 ^ 36 = ltb-true (unsigned_abs d.mantissa) (10 ^ 36) (first_so (has_few_digits d) (has_small_exponent d && is_normal d) ok) in
         ap number_of (nonzero_text z)
         ∙ scaled-read (is_negative d) (unsigned_abs d.mantissa) d.exponent small (nonzero-ends d ok z) (subst IsDecimal (sym whole) ok)
         ∙ ap (λ (x : Number). Ok x) whole
@@ -377,7 +377,7 @@ pointed_bytes c padded h =
     let each = front_digits (take c padded) (drop c padded) (subst AreDigits (sym (take-drop c padded)) h) in
     joined_bytes (take c padded) (46 ∷ drop c padded) (digit_bytes (take c padded) each.0) (refl, digit_bytes (drop c padded) each.1)
 
-scaled-bytes : (m : ℕ) (e : ℤ) → m < 2 ^ 64 → unsigned_abs e ≤ 500 → NumberBytes (scaled_text (decimal m) e)
+scaled-bytes : (m : ℕ) (e : ℤ) → m < 10 ^ 64 → unsigned_abs e ≤ 500 → NumberBytes (scaled_text (decimal m) e)
 scaled-bytes m (pos n) h few = by (nat_le n 5) refl
   where
     ds : AreDigits (decimal m)

@@ -126,33 +126,38 @@ compare-right a b r s places p q h e is back =
 ten_positive : 0 < 10
 ten_positive = lit< tt
 
-far-above : (n places : ℕ) → 18 < places → 10 ^ 18 ≤ suc n * 10 ^ places
-far-above n places h =
-    let p : 10 ^ 18 ≤ 10 ^ places = (let l : 18 ≤ places = omega arith in pow-le-pow_right ten_positive l) in
+far-times : (n places : ℕ) → 36 < places → 10 ^ 37 ≤ suc n * 10 ^ places
+far-times n places h =
+    let p : 10 ^ 37 ≤ 10 ^ places = pow-le-pow_right ten_positive h in
     let b : 10 ^ places ≤ suc n * 10 ^ places = at_least n (10 ^ places) in
     omega arith
   where
     at_least : (n p : ℕ) → p ≤ suc n * p
     at_least n p = grind arith
 
-within : (other : ℤ) → unsigned_abs other < 10 ^ 18 → (other <ℤ pos (10 ^ 18)) × (neg_ℤ (pos (10 ^ 18)) <ℤ other)
+pub far-above : (m : ℤ) (places : ℕ) → (m ≡ pos 0 → ⊥) → 36 < places → 10 ^ 37 ≤ unsigned_abs m * 10 ^ places
+far-above (pos zero) places nonzero h = absurd (nonzero refl)
+far-above (pos (suc n)) places nonzero h = far-times n places h
+far-above (negsuc n) places nonzero h = far-times n places h
+
+within : (other : ℤ) → unsigned_abs other < 10 ^ 36 → (other <ℤ pos (10 ^ 36)) × (neg_ℤ (pos (10 ^ 36)) <ℤ other)
 within (pos n) h = (omega (arith, ints), omega (arith, ints))
 within (negsuc n) h = (omega (arith, ints), omega (arith, ints))
 
-pub compare-far : (m other : ℤ) (places : ℕ) → (m ≡ pos 0 → ⊥) → 18 < places → unsigned_abs other < 10 ^ 18 → int_cmp m (pos 0) ≡ int_cmp (m *ℤ pos (10 ^ places)) other
-compare-far (pos zero) other places nonzero far small = absurd (nonzero refl)
-compare-far (pos (suc n)) other places nonzero far small =
-    let l = far-above n places far in
+pub compare-far : (m other : ℤ) (places : ℕ) → 10 ^ 37 ≤ unsigned_abs m * 10 ^ places → unsigned_abs other < 10 ^ 36 → int_cmp m (pos 0) ≡ int_cmp (m *ℤ pos (10 ^ places)) other
+compare-far (pos zero) other places far small = absurd (omega (arith, far))
+compare-far (pos (suc n)) other places far small =
+    let l : 10 ^ 36 ≤ suc n * 10 ^ places = omega (arith, far) in
     let b = within other small in
     sym (int_cmp_is (pos (suc n)) (pos 0) Greater (omega (arith, ints))) ∙ int_cmp_is (pos (suc n) *ℤ pos (10 ^ places)) other Greater (above (suc n * 10 ^ places) l b.0)
   where
-    above : (p : ℕ) → 10 ^ 18 ≤ p → other <ℤ pos (10 ^ 18) → other <ℤ pos p
+    above : (p : ℕ) → 10 ^ 36 ≤ p → other <ℤ pos (10 ^ 36) → other <ℤ pos p
     above p l h = omega (arith, ints)
-compare-far (negsuc n) other places nonzero far small =
-    let l = far-above n places far in
+compare-far (negsuc n) other places far small =
+    let l : 10 ^ 36 ≤ suc n * 10 ^ places = omega (arith, far) in
     let b = within other small in
     let e : negsuc n *ℤ pos (10 ^ places) ≡ neg_ℤ (pos (suc n * 10 ^ places)) = signed_times true (suc n) (10 ^ places) in
     sym (int_cmp_is (negsuc n) (pos 0) Less (omega (arith, ints))) ∙ int_cmp_is (negsuc n *ℤ pos (10 ^ places)) other Less (rw e (below (suc n * 10 ^ places) l b.1))
   where
-    below : (p : ℕ) → 10 ^ 18 ≤ p → neg_ℤ (pos (10 ^ 18)) <ℤ other → neg_ℤ (pos p) <ℤ other
+    below : (p : ℕ) → 10 ^ 36 ≤ p → neg_ℤ (pos (10 ^ 36)) <ℤ other → neg_ℤ (pos p) <ℤ other
     below p l h = omega (arith, ints)

@@ -1,9 +1,9 @@
 -- One more digit behind a number, and its significand.
-use Rattle.std.proofs.Common.{◌≡◌, refl, sym, ap, ◌∙◌, ℕ, zero, suc, arith, ◌<◌, ◌≤◌, ◌+◌, ◌*◌, ◌^◌, pow-suc, add-one, lit<, subst}
+use Rattle.std.proofs.Common.{◌≡◌, refl, sym, ap, ◌∙◌, ℕ, zero, suc, arith, ◌<◌, ◌≤◌, ◌+◌, ◌*◌, ◌^◌, pow-suc, add-one, lit<, subst, Option, Some, None}
 use Rattle.std.proofs.Math.Nat.{pow-le-pow_right, mul-le-mul_left}
-use Rattle.mpslp_decimal.specs.Scan.{IsStripped, IsSignificandOf}
+use Rattle.mpslp_decimal.specs.Scan.{IsStripped, IsSignificandOf, parts_of, zeros_of}
 use Rattle.mpslp_decimal.specs.declared.literal.Significand.{Significand}
-use Rattle.mpslp_decimal.specs.declared.literal.Significand.TheVariants.{Few, Many}
+use Rattle.mpslp_decimal.specs.declared.literal.Significand.TheVariants.{Short, Long, Many}
 use Rattle.mpslp_decimal.proofs.NormalLemmas.{pow_positive}
 
 pub pow-next : (k : ℕ) → 10 ^ (k + 1) ≡ 10 ^ k * 10
@@ -36,7 +36,7 @@ at_least : (n m z : ℕ) → IsStripped n m z → m ≤ n
 at_least n m z s = let b : m ≤ m * 10 ^ z = below_product m (10 ^ z) (pow_positive z) in omega (arith, s.value)
 
 -- too many digits stay too many
-many-more : (n d : ℕ) → d < 10 → IsSignificandOf Many n → IsSignificandOf Many (n * 10 + d)
+pub many-more : (n d : ℕ) → d < 10 → IsSignificandOf Many n → IsSignificandOf Many (n * 10 + d)
 many-more n zero small (m, z, (s, long)) = (m, z + 1, (stripped-zero n m z s, long))
 many-more n (suc d) small (m, z, (s, long)) =
     let b = at_least n m z s in (n * 10 + suc d, 0, (stripped-digit n (suc d) (omega arith) small, omega arith))
@@ -48,42 +48,45 @@ further : (m i j : ℕ) → i ≤ j → m * 10 ^ i ≤ m * 10 ^ j
 further m i j h = mul-le-mul_left m (pow-le-pow_right ten_positive h)
 
 -- digits that reach the limit before the last of the zeros is put in
-pub many-digit : (n m z i d : ℕ) → IsStripped n m z → i ≤ z → 10 ^ 17 ≤ m * 10 ^ i → 0 < d → d < 10 → IsSignificandOf Many (n * 10 + d)
-many-digit n m z i d s within long some small =
+pub many-digit : (n m z i v d : ℕ) → IsStripped n m z → v ≡ m * 10 ^ i → i ≤ z → 10 ^ 35 ≤ v → 0 < d → d < 10 → IsSignificandOf Many (n * 10 + d)
+many-digit n m z i v d s value within long some small =
     let b = further m i z within in
-    (n * 10 + d, 0, (stripped-digit n d some small, omega (arith, s.value)))
-
--- the digits with the zeros put in, and the digit behind them
-pub few-digit : (n m z d : ℕ) → IsStripped n m z → m * 10 ^ (z + 1) < 10 ^ 18 → 0 < d → d < 10 → IsSignificandOf (Few (m * 10 ^ (z + 1) + d) 0) (n * 10 + d)
-few-digit n m z d s few some small =
-    let e : m * 10 ^ (z + 1) ≡ n * 10 = tens m z n s.value in
-    (rw e (stripped-digit n d some small), omega (arith, e))
-
--- the significand as its variant
-pub as-few : (s : Significand) (m z n : ℕ) → s ≡ Few m z → IsSignificandOf s n → IsStripped n m z
-as-few s m z n e h = (subst (λ (t : Significand). IsSignificandOf t n) e h).0
+    (n * 10 + d, 0, (stripped-digit n d some small, omega (arith, s.value, value)))
 
 -- the mantissa after one more zero is put in
 pub one-more-zero : (v m i : ℕ) → v ≡ m * 10 ^ i → v * 10 ≡ m * 10 ^ (i + 1)
 one-more-zero v m i h = sym (tens m i v (sym h))
 
-pub few-digit-at : (s : Significand) (n m z i v d e : ℕ) → s ≡ Few m z → IsSignificandOf s n → v ≡ m * 10 ^ i → i ≡ z + 1 → v < 10 ^ 18 → e ≡ d → 0 < d → d < 10
-    → IsSignificandOf (Few (v + e) 0) (n * 10 + d)
-few-digit-at s n m z i v d e is h value at few same some small =
+-- the digits with the zeros put in, and the digit behind them
+pub digit-behind : (n m z i v d e : ℕ) → IsStripped n m z → v ≡ m * 10 ^ i → i ≡ z + 1 → v < 10 ^ 36 → e ≡ d → 0 < d → d < 10
+    → IsStripped (n * 10 + d) (v + e) 0 × (v + e < 10 ^ 36)
+digit-behind n m z i v d e s value at few same some small =
     let whole : v ≡ m * 10 ^ (z + 1) = value ∙ ap (λ (k : ℕ). m * 10 ^ k) at in
-    subst (λ (x : ℕ). IsSignificandOf (Few x 0) (n * 10 + d)) (λ i. sym whole i + sym same i)
-    (few-digit n m z d (as-few s m z n is h) (omega (arith, whole)) some small)
+    let all : m * 10 ^ (z + 1) ≡ n * 10 = tens m z n s.value in
+    let is : n * 10 + d ≡ v + e = omega (arith, whole, all, same) in
+    (subst (λ (x : ℕ). IsStripped (n * 10 + d) x 0) is (stripped-digit n d some small), room n v d e (whole ∙ all) few same small)
+  where
+    room : (n v d e : ℕ) → v ≡ n * 10 → v < 10 ^ 36 → e ≡ d → d < 10 → v + e < 10 ^ 36
+    room n v d e tens few same small = omega arith
 
-pub many-digit-at : (s : Significand) (n m z i v d : ℕ) → s ≡ Few m z → IsSignificandOf s n → v ≡ m * 10 ^ i → i ≤ z → 10 ^ 17 ≤ v → 0 < d → d < 10
-    → IsSignificandOf Many (n * 10 + d)
-many-digit-at s n m z i v d is h value within long some small =
-    many-digit n m z i d (as-few s m z n is h) within (omega (arith, value)) some small
+pub zero-behind : (n m z d : ℕ) → IsStripped n m z → d ≡ 0 → IsStripped (n * 10 + d) m (z + 1)
+zero-behind n m z d s none = rw none (stripped-zero n m z s)
 
-pub zero-digit-at : (s : Significand) (n m z d : ℕ) → s ≡ Few m z → IsSignificandOf s n → d ≡ 0 → IsSignificandOf (Few m (z + 1)) (n * 10 + d)
-zero-digit-at s n m z d is h none =
-    let parts = subst (λ (t : Significand). IsSignificandOf t n) is h in
-    rw none (stripped-zero n m z parts.0, parts.1)
+same_Some : (p q : ℕ × ℕ) → ◌≡◌ {A = Option (ℕ × ℕ)} (Some p) (Some q) → p ≡ q
+same_Some p q e = cc
 
-pub many-stays : (s : Significand) (n d : ℕ) → s ≡ Many → IsSignificandOf s n → d < 10 → IsSignificandOf s (n * 10 + d)
-many-stays s n d is h small =
-    subst (λ (t : Significand). IsSignificandOf t (n * 10 + d)) (sym is) (many-more n d small (subst (λ (t : Significand). IsSignificandOf t n) is h))
+-- the parts of a significand
+pub parts-are : (s : Significand) (n m z : ℕ) → parts_of s ≡ Some (m, z) → IsSignificandOf s n → IsStripped n m z × (m < 10 ^ 36)
+parts-are (Short a b) n m z e h = subst (λ (p : ℕ × ℕ). IsStripped n p.0 p.1 × (p.0 < 10 ^ 36)) (same_Some (a, b) (m, z) e) h
+parts-are (Long a b) n m z e h = subst (λ (p : ℕ × ℕ). IsStripped n p.0 p.1 × (p.0 < 10 ^ 36)) (same_Some (a, b) (m, z) e) h
+parts-are Many n m z e h = absurd cc
+
+pub parts-zeros : (s : Significand) (m z : ℕ) → parts_of s ≡ Some (m, z) → zeros_of s ≡ z
+parts-zeros (Short a b) m z e = ap (λ (p : ℕ × ℕ). p.1) (same_Some (a, b) (m, z) e)
+parts-zeros (Long a b) m z e = ap (λ (p : ℕ × ℕ). p.1) (same_Some (a, b) (m, z) e)
+parts-zeros Many m z e = absurd cc
+
+pub parts-none : (s : Significand) → parts_of s ≡ None → s ≡ Many
+parts-none (Short a b) e = absurd cc
+parts-none (Long a b) e = absurd cc
+parts-none Many e = refl

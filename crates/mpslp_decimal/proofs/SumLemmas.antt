@@ -58,13 +58,13 @@ one-zero-less d z n e ends = rw more (regroup (d / 10) (10 ^ z) ∙ ap (λ (x : 
 -- by the number without its zeros
 pub decimal_of-stripped : (minus : Bool) (n m z : ℕ) (e : ℤ) → IsStripped n m z → 0 < n → z < 1100
     → decimal_of (record { mantissa = signed minus n; exponent = e })
-    ≡ (if nat_lt m (10 ^ 18) && has_small_exponent (record { mantissa = signed minus m; exponent = e +ℤ pos z }) then Some (record { mantissa = signed minus m; exponent = e +ℤ pos z }) else None)
+    ≡ (if nat_lt m (10 ^ 36) && has_small_exponent (record { mantissa = signed minus m; exponent = e +ℤ pos z }) then Some (record { mantissa = signed minus m; exponent = e +ℤ pos z }) else None)
 decimal_of-stripped minus n m z e s some few =
     let is = stripped-normal minus n m z e s some few in
     let ends : is_normal (record { mantissa = signed minus m; exponent = e +ℤ pos z }) ≡ true = ends-well (signed minus m) (e +ℤ pos z) (rw size-signed (s.ends some)) in
     ap (λ (d : Number). if is_decimal d then Some d else None) is
     ∙ ap (λ (b : Bool). if has_few_digits (record { mantissa = signed minus m; exponent = e +ℤ pos z }) && (has_small_exponent (record { mantissa = signed minus m; exponent = e +ℤ pos z }) && b) then Some (record { mantissa = signed minus m; exponent = e +ℤ pos z }) else None) ends
-    ∙ (λ i. if nat_lt (size-signed minus m i) (10 ^ 18) && and_true (has_small_exponent (record { mantissa = signed minus m; exponent = e +ℤ pos z })) i then Some (record { mantissa = signed minus m; exponent = e +ℤ pos z }) else None)
+    ∙ (λ i. if nat_lt (size-signed minus m i) (10 ^ 36) && and_true (has_small_exponent (record { mantissa = signed minus m; exponent = e +ℤ pos z })) i then Some (record { mantissa = signed minus m; exponent = e +ℤ pos z }) else None)
   where
     and_true : (b : Bool) → (b && true) ≡ b
     and_true true = refl
@@ -174,12 +174,12 @@ sum-stripped a b minus n m z p q h is s some few =
     ∙ ap (λ (x : ℤ). decimal_of (at_scale x)) (sym (sum-scaled a b p q h))
 
 pub sum-some : (a b : Number) (minus : Bool) (n : ℕ) → IsDecimal a → IsDecimal b → b.exponent ≤ℤ a.exponent → a.mantissa *ℤ pos (10 ^ surplus a.exponent b.exponent) +ℤ b.mantissa ≡ signed minus n
-    → 0 < n → n < 10 ^ 37 → decimal_of (record { mantissa = signed minus n; exponent = b.exponent }) ≡ sum_of a b
-sum-some a b minus n p q h is some small = by (strip 37 n small some)
+    → 0 < n → n < 10 ^ 39 → decimal_of (record { mantissa = signed minus n; exponent = b.exponent }) ≡ sum_of a b
+sum-some a b minus n p q h is some small = by (strip 39 n small some)
   where
     by : (m : ℕ) × (z : ℕ) × IsStripped n m z → decimal_of (record { mantissa = signed minus n; exponent = b.exponent }) ≡ sum_of a b
     by (m, z, s) =
-        let few : z < 37 = zeros-below n m z 37 s.value (positive m (s.ends some)) small in
+        let few : z < 39 = zeros-below n m z 39 s.value (positive m (s.ends some)) small in
         sum-stripped a b minus n m z p q h is s some (omega arith)
       where
         positive : (m : ℕ) → 0 < m % 10 → 0 < m
@@ -224,7 +224,7 @@ last-digit x y ends = by (unsigned_abs (x *ℤ pos 10 +ℤ y) % 10) refl
             none : (n k : ℕ) → n ≡ k * 10 → 0 < n % 10 → ⊥
             none n k e h = omega (arith, e, h)
 
-triangle : (x y : ℤ) → unsigned_abs x ≤ unsigned_abs (x +ℤ y) + unsigned_abs y
+pub triangle : (x y : ℤ) → unsigned_abs x ≤ unsigned_abs (x +ℤ y) + unsigned_abs y
 triangle x y = by x y (x +ℤ y) refl
   where
     by : (x y z : ℤ) → x +ℤ y ≡ z → unsigned_abs x ≤ unsigned_abs z + unsigned_abs y
@@ -239,16 +239,16 @@ triangle x y = by x y (x +ℤ y) refl
 
 -- ---- the answers of `decimal_of`
 
-pub decimal-many : (minus : Bool) (n m z : ℕ) (e : ℤ) → IsStripped n m z → 0 < n → z < 1100 → 10 ^ 18 ≤ m → None ≡ decimal_of (record { mantissa = signed minus n; exponent = e })
+pub decimal-many : (minus : Bool) (n m z : ℕ) (e : ℤ) → IsStripped n m z → 0 < n → z < 1100 → 10 ^ 36 ≤ m → None ≡ decimal_of (record { mantissa = signed minus n; exponent = e })
 decimal-many minus n m z e s some few long =
     sym (decimal_of-stripped minus n m z e s some few
-    ∙ ap (λ (b : Bool). if b && has_small_exponent (record { mantissa = signed minus m; exponent = e +ℤ pos z }) then Some (record { mantissa = signed minus m; exponent = e +ℤ pos z }) else None) (le-ltb m (10 ^ 18) long))
+    ∙ ap (λ (b : Bool). if b && has_small_exponent (record { mantissa = signed minus m; exponent = e +ℤ pos z }) then Some (record { mantissa = signed minus m; exponent = e +ℤ pos z }) else None) (le-ltb m (10 ^ 36) long))
 
-pub decimal-few : (minus : Bool) (n m z : ℕ) (e : ℤ) → IsStripped n m z → 0 < n → z < 1100 → m < 10 ^ 18
+pub decimal-few : (minus : Bool) (n m z : ℕ) (e : ℤ) → IsStripped n m z → 0 < n → z < 1100 → m < 10 ^ 36
     → result_ok (in_range (record { mantissa = signed minus m; exponent = e +ℤ pos z })) ≡ decimal_of (record { mantissa = signed minus n; exponent = e })
 decimal-few minus n m z e s some few short =
     sym (decimal_of-stripped minus n m z e s some few
-    ∙ ap (λ (b : Bool). if b && has_small_exponent (record { mantissa = signed minus m; exponent = e +ℤ pos z }) then Some (record { mantissa = signed minus m; exponent = e +ℤ pos z }) else None) (lt-ltb m (10 ^ 18) short)
+    ∙ ap (λ (b : Bool). if b && has_small_exponent (record { mantissa = signed minus m; exponent = e +ℤ pos z }) then Some (record { mantissa = signed minus m; exponent = e +ℤ pos z }) else None) (lt-ltb m (10 ^ 36) short)
     ∙ by (has_small_exponent (record { mantissa = signed minus m; exponent = e +ℤ pos z })) (record { mantissa = signed minus m; exponent = e +ℤ pos z }))
   where
     by : (b : Bool) (d : Number) → (if b then Some d else None) ≡ result_ok (if b then Ok d else Err ExponentRange)
@@ -263,14 +263,33 @@ whole-number n h = record { value = once_nat n; ends = λ _. h }
     once_nat : (n : ℕ) → n * 10 ^ 0 ≡ n
     once_nat n = omega arith
 
-few-digits : (d : Number) → IsDecimal d → unsigned_abs d.mantissa < 10 ^ 18
-few-digits d ok = ltb-true (unsigned_abs d.mantissa) (10 ^ 18) (first_so (has_few_digits d) (has_small_exponent d && is_normal d) ok)
+few-digits : (d : Number) → IsDecimal d → unsigned_abs d.mantissa < 10 ^ 36
+few-digits d ok = ltb-true (unsigned_abs d.mantissa) (10 ^ 36) (first_so (has_few_digits d) (has_small_exponent d && is_normal d) ok)
 
-pub sum-far : (a b : Number) (places : ℕ) → IsDecimal a → IsDecimal b → b.exponent ≤ℤ a.exponent → is_zero a ≡ false → is_zero b ≡ false
-    → places ≡ unsigned_abs (a.exponent -ℤ b.exponent) → 18 < places → None ≡ sum_of a b
-sum-far a b zero p q h x y e far = absurd (omega arith)
-sum-far a b (suc j) p q h x y e far =
-    decimal-many minus n n 0 b.exponent stripped some (omega arith) long ∙ sum-stripped a b minus n n 0 p q h total stripped some (omega arith)
+sum-bound : (x y : ℤ) → unsigned_abs (x +ℤ y) ≤ unsigned_abs x + unsigned_abs y
+sum-bound x y = by x y (x +ℤ y) refl
+  where
+    by : (x y z : ℤ) → x +ℤ y ≡ z → unsigned_abs z ≤ unsigned_abs x + unsigned_abs y
+    by (pos a) (pos b) (pos c) e = omega (arith, ints)
+    by (pos a) (pos b) (negsuc c) e = omega (arith, ints)
+    by (pos a) (negsuc b) (pos c) e = omega (arith, ints)
+    by (pos a) (negsuc b) (negsuc c) e = omega (arith, ints)
+    by (negsuc a) (pos b) (pos c) e = omega (arith, ints)
+    by (negsuc a) (pos b) (negsuc c) e = omega (arith, ints)
+    by (negsuc a) (negsuc b) (pos c) e = omega (arith, ints)
+    by (negsuc a) (negsuc b) (negsuc c) e = omega (arith, ints)
+
+-- a sum that is too far from 0: zeros stand behind one of both, since two mantissas together do not reach so far
+pub sum-far : (a b : Number) (places : ℕ) → IsDecimal a → IsDecimal b → b.exponent ≤ℤ a.exponent → is_zero b ≡ false
+    → places ≡ unsigned_abs (a.exponent -ℤ b.exponent) → 2 * 10 ^ 36 ≤ unsigned_abs (a.mantissa *ℤ pos (10 ^ places) +ℤ b.mantissa) → None ≡ sum_of a b
+sum-far a b zero p q h y e far =
+    let both = sum-bound (a.mantissa *ℤ pos (10 ^ 0)) b.mantissa in
+    let size : unsigned_abs (a.mantissa *ℤ pos (10 ^ 0)) ≡ unsigned_abs a.mantissa * 10 ^ 0 = unsigned_abs-mul a.mantissa (pos (10 ^ 0)) in
+    let left = few-digits a p in
+    let right = few-digits b q in
+    absurd (omega (arith, both, size, left, right, far))
+sum-far a b (suc j) p q h y e far =
+    decimal-many minus n n 0 b.exponent stripped some (omega arith) (omega (arith, far)) ∙ sum-stripped a b minus n n 0 p q h total stripped some (omega arith)
   where
     up : surplus a.exponent b.exponent ≡ suc j
     up = surplus-up a.exponent b.exponent h ∙ sym e
@@ -299,24 +318,6 @@ sum-far a b (suc j) p q h x y e far =
     some : 0 < n
     some = omega (arith, ends)
 
-    long : 10 ^ 18 ≤ n
-    long =
-        let t = triangle (a.mantissa *ℤ pos (10 ^ suc j)) b.mantissa in
-        let size : unsigned_abs (a.mantissa *ℤ pos (10 ^ suc j)) ≡ unsigned_abs a.mantissa * 10 ^ suc j = unsigned_abs-mul a.mantissa (pos (10 ^ suc j)) in
-        let power : 10 ^ 19 ≤ 10 ^ suc j = pow-le-pow_right ten_positive far in
-        let most : 10 ^ suc j ≤ unsigned_abs a.mantissa * 10 ^ suc j = at_least (unsigned_abs a.mantissa) (10 ^ suc j) (nonzero-ends a p x) in
-        let small = few-digits b q in
-        bound n (unsigned_abs (a.mantissa *ℤ pos (10 ^ suc j))) (unsigned_abs a.mantissa * 10 ^ suc j) (10 ^ suc j) (unsigned_abs b.mantissa) t size power most small
-      where
-        at_least : (m p : ℕ) → 0 < m % 10 → p ≤ m * p
-        at_least m p h = let k : 0 < m = omega (arith, h) in step m p k
-          where
-            step : (m p : ℕ) → 0 < m → p ≤ m * p
-            step m p h = grind arith
-
-        bound : (n x m t y : ℕ) → x ≤ n + y → x ≡ m → 10 ^ 19 ≤ t → t ≤ m → y < 10 ^ 18 → 10 ^ 18 ≤ n
-        bound n x m t y a b c d e = omega (arith, a, b, c, d, e)
-
 -- the sum at the smaller exponent, as it is counted
 pub beside-sum : (a b : Number) (places : ℕ) (s x y : ℤ) → b.exponent ≤ℤ a.exponent → places ≡ unsigned_abs (a.exponent -ℤ b.exponent) → x ≡ a.mantissa → y ≡ b.mantissa → s ≡ (x *ℤ pos (10 ^ places)) +ℤ y
     → a.mantissa *ℤ pos (10 ^ surplus a.exponent b.exponent) +ℤ b.mantissa ≡ s
@@ -341,31 +342,3 @@ signed-below (pos n) = sym (ap (λ (b : Bool). signed b n) (no_less n))
     no_less : (n : ℕ) → nat_lt n 0 ≡ false
     no_less n = grind (arith, nat_tests)
 signed-below (negsuc n) = refl
-
-sum-bound : (x y : ℤ) → unsigned_abs (x +ℤ y) ≤ unsigned_abs x + unsigned_abs y
-sum-bound x y = by x y (x +ℤ y) refl
-  where
-    by : (x y z : ℤ) → x +ℤ y ≡ z → unsigned_abs z ≤ unsigned_abs x + unsigned_abs y
-    by (pos a) (pos b) (pos c) e = omega (arith, ints)
-    by (pos a) (pos b) (negsuc c) e = omega (arith, ints)
-    by (pos a) (negsuc b) (pos c) e = omega (arith, ints)
-    by (pos a) (negsuc b) (negsuc c) e = omega (arith, ints)
-    by (negsuc a) (pos b) (pos c) e = omega (arith, ints)
-    by (negsuc a) (pos b) (negsuc c) e = omega (arith, ints)
-    by (negsuc a) (negsuc b) (pos c) e = omega (arith, ints)
-    by (negsuc a) (negsuc b) (negsuc c) e = omega (arith, ints)
-
--- a sum of what was shifted is far from the limit of its type
-pub sum-small : (m y : ℤ) (places : ℕ) → unsigned_abs m < 10 ^ 18 → unsigned_abs y < 10 ^ 18 → places ≤ 18 → unsigned_abs (m *ℤ pos (10 ^ places) +ℤ y) < 10 ^ 37
-sum-small m y places few small short =
-    let b = sum-bound (m *ℤ pos (10 ^ places)) y in
-    let size : unsigned_abs (m *ℤ pos (10 ^ places)) ≡ unsigned_abs m * 10 ^ places = unsigned_abs-mul m (pos (10 ^ places)) in
-    let power : 10 ^ places ≤ 10 ^ 18 = pow-le-pow_right ten_positive short in
-    let product : unsigned_abs m * 10 ^ places ≤ 10 ^ 18 * 10 ^ 18 = both (unsigned_abs m) (10 ^ 18) (10 ^ places) (10 ^ 18) (omega arith) power in
-    bound (unsigned_abs (m *ℤ pos (10 ^ places) +ℤ y)) (unsigned_abs (m *ℤ pos (10 ^ places))) (unsigned_abs m * 10 ^ places) (unsigned_abs y) b size product small
-  where
-    both : (a b c d : ℕ) → a ≤ b → c ≤ d → a * c ≤ b * d
-    both a b c d h k = mul-le-mul h k
-
-    bound : (n x m y : ℕ) → n ≤ x + y → x ≡ m → m ≤ 10 ^ 18 * 10 ^ 18 → y < 10 ^ 18 → n < 10 ^ 37
-    bound n x m y a b c d = omega (arith, a, b, c, d)

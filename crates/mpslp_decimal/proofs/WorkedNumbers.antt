@@ -127,9 +127,33 @@ greatest_exponent_by_zeros-text = refl
 
 -- ---- refusals
 
-pub nineteen_digits : number_of (codes "1234567890123456789") ≡ Err TooManyDigits
+pub thirty_seven_digits : number_of (codes "1234567890123456789012345678901234567") ≡ Err TooManyDigits
+unfolding digits trailing_zeros
+thirty_seven_digits = refl
+
+pub nineteen_digits : number_of (codes "1234567890123456789") ≡ Ok (decimal_value (pos 1234567890123456789) (pos 0))
 unfolding digits trailing_zeros
 nineteen_digits = refl
+
+pub nineteen_digits-text : number_text (decimal_value (pos 1234567890123456789) (pos 0)) ≡ codes "1234567890123456789"
+unfolding digits trailing_zeros
+nineteen_digits-text = refl
+
+pub nineteen_places : number_of (codes "0.1234567890123456789") ≡ Ok (decimal_value (pos 1234567890123456789) (negsuc 18))
+unfolding digits trailing_zeros
+nineteen_places = refl
+
+pub nineteen_places-text : number_text (decimal_value (pos 1234567890123456789) (negsuc 18)) ≡ codes "1234567890123456789e-19"
+unfolding digits trailing_zeros
+nineteen_places-text = refl
+
+pub thirty_six_digits : number_of (codes "123456789012345678901234567890123456") ≡ Ok (decimal_value (pos 123456789012345678901234567890123456) (pos 0))
+unfolding digits trailing_zeros
+thirty_six_digits = refl
+
+pub thirty_six_digits-text : number_text (decimal_value (pos 123456789012345678901234567890123456) (pos 0)) ≡ codes "123456789012345678901234567890123456"
+unfolding digits trailing_zeros
+thirty_six_digits-text = refl
 
 pub exponent_too_large : number_of (codes "1e501") ≡ Err ExponentRange
 unfolding digits trailing_zeros
@@ -185,9 +209,21 @@ pub sum_carries_over : sum_of (decimal_value (pos 999999999999999999) (pos 0)) (
 unfolding digits trailing_zeros
 sum_carries_over = refl
 
-pub sum_needs_nineteen_digits : sum_of (decimal_value (pos 999999999999999999) (pos 0)) (decimal_value (pos 1) (negsuc 0)) ≡ None
+pub sum_of_nineteen_digits : sum_of (decimal_value (pos 999999999999999999) (pos 0)) (decimal_value (pos 1) (negsuc 0)) ≡ Some (decimal_value (pos 9999999999999999991) (negsuc 0))
 unfolding digits trailing_zeros
-sum_needs_nineteen_digits = refl
+sum_of_nineteen_digits = refl
+
+pub sum_needs_thirty_seven_digits : sum_of (decimal_value (pos 999999999999999999999999999999999999) (pos 0)) (decimal_value (pos 1) (negsuc 0)) ≡ None
+unfolding digits trailing_zeros
+sum_needs_thirty_seven_digits = refl
+
+pub sum_of_exponents_far_apart : sum_of (decimal_value (pos 1) (pos 36)) (decimal_value (pos 1) (pos 0)) ≡ None
+unfolding digits trailing_zeros
+sum_of_exponents_far_apart = refl
+
+pub sum_of_exponents_within : sum_of (decimal_value (pos 1) (pos 35)) (decimal_value (pos 1) (pos 0)) ≡ Some (decimal_value (pos 100000000000000000000000000000000001) (pos 0))
+unfolding digits trailing_zeros
+sum_of_exponents_within = refl
 
 pub sum_above_the_exponents : sum_of (decimal_value (pos 5) (pos 500)) (decimal_value (pos 5) (pos 500)) ≡ None
 unfolding digits trailing_zeros

@@ -8,7 +8,7 @@ use Rattle.mpslp_decimal.specs.Decimal.{Number, has_small_exponent}
 use Rattle.mpslp_decimal.specs.declared.literal.NumberFault.{NumberFault}
 use Rattle.mpslp_decimal.specs.declared.literal.NumberFault.TheVariants.{ExponentRange}
 use Rattle.mpslp_decimal.specs.declared.literal.Significand.{Significand}
-use Rattle.mpslp_decimal.specs.declared.literal.Significand.TheVariants.{Few, Many}
+use Rattle.mpslp_decimal.specs.declared.literal.Significand.TheVariants.{Short, Long, Many}
 use Rattle.mpslp_decimal.specs.declared.literal.Scan.{Scan}
 
 -- a number without the zeros at its end, and how many zeros these are
@@ -18,11 +18,19 @@ pub record IsStripped (n mantissa zeros : ℕ) : Type 0 where
 
 -- the significand of a number: the number stripped, or that this has too many digits
 abbrev pub IsSignificandOf : Significand → ℕ → Type 0
-IsSignificandOf (Few mantissa zeros) n = IsStripped n mantissa zeros × (mantissa < 10 ^ MAX_DIGITS)
+IsSignificandOf (Short mantissa zeros) n = IsStripped n mantissa zeros × (mantissa < 10 ^ MAX_DIGITS)
+IsSignificandOf (Long mantissa zeros) n = IsStripped n mantissa zeros × (mantissa < 10 ^ MAX_DIGITS)
 IsSignificandOf Many n = (mantissa : ℕ) × (zeros : ℕ) × (IsStripped n mantissa zeros × (10 ^ MAX_DIGITS ≤ mantissa))
 
+-- the number stripped and how many zeros it lost, unless it has too many digits
+abbrev pub parts_of : Significand → Option (ℕ × ℕ)
+parts_of (Short mantissa zeros) = Some (mantissa, zeros)
+parts_of (Long mantissa zeros) = Some (mantissa, zeros)
+parts_of Many = None
+
 abbrev pub zeros_of : Significand → ℕ
-zeros_of (Few mantissa zeros) = zeros
+zeros_of (Short mantissa zeros) = zeros
+zeros_of (Long mantissa zeros) = zeros
 zeros_of Many = 0
 
 -- the exponent, no further from 0 than the cap

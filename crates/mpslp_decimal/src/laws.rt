@@ -1,8 +1,9 @@
 //! What holds of all decimals and texts, said by functions that do nothing: their contracts are proved
 //! for every value.
 
-ghost use Rattle.std.specs.Prelude.{◌≡◌, ◌↔◌, ℕ, List, Ok};
-ghost use Rattle.mpslp_decimal.specs.Decimal.{Number, HasSameValue, IsDecimal};
+ghost use Rattle.std.specs.Prelude.{◌≡◌, ◌↔◌, ◌+ℤ◌, ℕ, List, Ok, Some};
+ghost use Rattle.std.specs.declared.cmp.Ordering.{Ordering};
+ghost use Rattle.mpslp_decimal.specs.Decimal.{Number, HasSameValue, IsBelow, IsDecimal, order_of, scaled, sum_of};
 ghost use Rattle.mpslp_decimal.specs.Literal.{Spells, number_of};
 ghost use Rattle.mpslp_decimal.specs.NumberText.{number_text};
 
@@ -33,4 +34,16 @@ pub fn text_is_read_back()
 /// Decimals with one text are one.
 pub fn one_text()
     ensures { (a b : Number) → IsDecimal a → IsDecimal b → number_text a ≡ number_text b → a ≡ b }
+{}
+
+/// A decimal comes before another one exactly if its mantissa is less where both are written with the
+/// smaller one of their exponents.
+pub fn order_is_by_value()
+    ensures { (a b : Number) → IsDecimal a → IsDecimal b → (order_of a b ≡ Ordering.Less) ↔ IsBelow a b }
+{}
+
+/// A decimal is the sum of two others exactly if it counts as many units of the least exponent as both of
+/// them together, as whole numbers; where no decimal does, there is no sum.
+pub fn sums_are_exact()
+    ensures { (a b d : Number) → (sum_of a b ≡ Some d) ↔ (IsDecimal d × (scaled d ≡ scaled a +ℤ scaled b)) }
 {}

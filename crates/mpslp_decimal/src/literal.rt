@@ -3,7 +3,7 @@
 ghost use Rattle.std.specs.Prelude.{ℤ, pos, ◌+ℤ◌, ◌-ℤ◌, ◌%◌, unsigned_abs, ◌≡◌, ℕ, ◌+◌, ◌*◌, ◌^◌, ◌<◌, ◌≤◌, ◌↔◌, IsTrue, IsSome, IfSome, MatchOption, length, take, drop, not, false};
 ghost use Rattle.std.specs.List.{prefix_len};
 ghost use Rattle.mpslp_decimal.specs.Literal.{signed, is_digit, is_minus, without_sign, digits_sum, are_digits, is_literal, number_of};
-ghost use Rattle.mpslp_decimal.specs.Scan.{in_range, IsSignificandOf, zeros_of, exponent_of, exponent_after, digits_front, after_digits, mantissa_front, fraction_front, after_mantissa, IsScanOf};
+ghost use Rattle.mpslp_decimal.specs.Scan.{in_range, IsSignificandOf, parts_of, zeros_of, exponent_of, exponent_after, digits_front, after_digits, mantissa_front, fraction_front, after_mantissa, IsScanOf};
 
 use crate::number::{Decimal, MAX_DIGITS, MAX_EXPONENT, MIN_EXPONENT};
 
@@ -13,8 +13,11 @@ pub const MAX_LITERAL_LEN: usize = 255;
 /// An exponent of this size is out of range, however many digits stand before or after the point.
 const EXPONENT_CAP: u32 = 100_000;
 
+/// A mantissa from here on may have no room for a further digit in 64 bits.
+const SHORT_ROOM: u64 = 100_000_000_000_000_000;
+
 /// Ten to the `MAX_DIGITS - 1`: a mantissa from here on takes no further digit. The proofs compare the two.
-const MANTISSA_ROOM: u64 = 100_000_000_000_000_000;
+const LONG_ROOM: u128 = 100_000_000_000_000_000_000_000_000_000_000_000;
 
 /// Why a text is not taken as a decimal. Where several hold, the first of this list is told.
 #[derive(Clone, Copy, Debug, PartialEq, Eq)]
@@ -29,11 +32,13 @@ pub enum NumberFault {
     ExponentRange,
 }
 
-/// The number that digits write.
+/// The number that digits write. Most have few digits, and are counted in 64 bits.
 #[derive(Clone, Copy)]
 enum Significand {
     /// The number without the zeros at its end, and how many zeros these are.
-    Few(u64, usize),
+    Short(u64, usize),
+    /// The same of a number that 64 bits may not hold.
+    Long(u128, usize),
     /// Without the zeros at its end the number has more than `MAX_DIGITS` digits.
     Many,
 }
@@ -46,21 +51,63 @@ impl Significand {
         ensures value { (n : ℕ) → IsSignificandOf self n → IsSignificandOf result (n * 10 + digit) }
         ensures zeros { zeros_of result ≤ zeros_of self + 1 }
     {
-        let Significand::Few(mantissa, zeros) = self else {
-            return self;
-        };
-        if digit == 0 {
-            return Significand::Few(mantissa, zeros + 1);
+        match self {
+            Significand::Short(mantissa, zeros) => short_followed_by(mantissa, zeros, digit),
+            Significand::Long(mantissa, zeros) => long_followed_by(mantissa, zeros, digit),
+            Significand::Many => Significand::Many,
         }
-        let mut mantissa = mantissa;
-        for _place in 0..zeros + 1 {
-            if mantissa >= MANTISSA_ROOM {
-                return Significand::Many;
-            }
-            mantissa *= 10;
-        }
-        Significand::Few(mantissa + u64::from(digit), 0)
     }
+
+    /// The number without the zeros at its end, and how many zeros these are; `None` where it has too many digits.
+    fn parts(self) -> Option<(u128, usize)>
+        ensures { result ≡ parts_of self }
+    {
+        match self {
+            Significand::Short(mantissa, zeros) => Some((u128::from(mantissa), zeros)),
+            Significand::Long(mantissa, zeros) => Some((mantissa, zeros)),
+            Significand::Many => None,
+        }
+    }
+}
+
+/// The significand of a mantissa with zeros and one more digit behind it, in 64 bits as long as it fits.
+fn short_followed_by(mantissa: u64, zeros: usize, digit: u8) -> Significand
+    requires digit { digit < 10 }
+    requires room { zeros + 1 < 2 ^ 64 }
+    ensures value { (n : ℕ) → IsSignificandOf (Significand.Short mantissa zeros) n → IsSignificandOf result (n * 10 + digit) }
+    ensures zeros { zeros_of result ≤ zeros + 1 }
+{
+    if digit == 0 {
+        return Significand::Short(mantissa, zeros + 1);
+    }
+    let mut shifted = mantissa;
+    for _place in 0..zeros + 1 {
+        if shifted >= SHORT_ROOM {
+            return long_followed_by(u128::from(mantissa), zeros, digit);
+        }
+        shifted *= 10;
+    }
+    Significand::Short(shifted + u64::from(digit), 0)
+}
+
+/// The significand of a mantissa with zeros and one more digit behind it, as long as it has few enough digits.
+fn long_followed_by(mantissa: u128, zeros: usize, digit: u8) -> Significand
+    requires digit { digit < 10 }
+    requires room { zeros + 1 < 2 ^ 64 }
+    ensures value { (n : ℕ) → IsSignificandOf (Significand.Long mantissa zeros) n → IsSignificandOf result (n * 10 + digit) }
+    ensures zeros { zeros_of result ≤ zeros + 1 }
+{
+    if digit == 0 {
+        return Significand::Long(mantissa, zeros + 1);
+    }
+    let mut shifted = mantissa;
+    for _place in 0..zeros + 1 {
+        if shifted >= LONG_ROOM {
+            return Significand::Many;
+        }
+        shifted *= 10;
+    }
+    Significand::Long(shifted + u128::from(digit), 0)
 }
 
 /// The parts of a literal.
@@ -142,7 +189,7 @@ fn scan_mantissa(text: &[u8]) -> (Mantissa, &[u8])
     ensures digits_within { result.0.digits ≤ length text.now }
     ensures places_within { result.0.places ≤ length text.now }
 {
-    let (whole, after_whole) = scan_digits(text, Significand::Few(0, 0));
+    let (whole, after_whole) = scan_digits(text, Significand::Short(0, 0));
     let digits = text.len() - after_whole.len();
     match after_whole {
         [b'.', fraction @ ..] => {
@@ -210,7 +257,7 @@ fn normal_exponent(exponent: i32, zeros: usize, places: usize) -> i32
 /// The decimal of a mantissa that does not end in a zero, where its exponent is in range.
 pub(crate) fn in_range(
     is_negative: bool,
-    mantissa: u64,
+    mantissa: u128,
     exponent: i32,
 ) -> Result<Decimal, NumberFault>
     requires ends { 0 < mantissa % 10 }
@@ -220,7 +267,7 @@ pub(crate) fn in_range(
     if exponent < MIN_EXPONENT || exponent > MAX_EXPONENT {
         return Err(NumberFault::ExponentRange);
     }
-    let size = i128::from(mantissa);
+    let size = mantissa as i128;
     let mantissa = if is_negative { -size } else { size };
     Ok(Decimal::from_parts(mantissa, exponent))
 }
@@ -235,14 +282,12 @@ pub(crate) fn parse(text: &[u8]) -> Result<Decimal, NumberFault>
     if text.len() > MAX_LITERAL_LEN {
         return Err(NumberFault::LongNumber);
     }
-    match scan.significand {
-        Significand::Many => Err(NumberFault::TooManyDigits),
-        Significand::Few(mantissa, zeros) => {
-            if mantissa == 0 {
-                return Ok(Decimal::zero());
-            }
-            let exponent = normal_exponent(scan.exponent, zeros, scan.places);
-            in_range(scan.is_negative, mantissa, exponent)
-        }
+    let Some((mantissa, zeros)) = scan.significand.parts() else {
+        return Err(NumberFault::TooManyDigits);
+    };
+    if mantissa == 0 {
+        return Ok(Decimal::zero());
     }
+    let exponent = normal_exponent(scan.exponent, zeros, scan.places);
+    in_range(scan.is_negative, mantissa, exponent)
 }

@@ -8,7 +8,7 @@ use crate::literal::{self, NumberFault};
 use std::marker::Model;
 
 /// The most digits that the mantissa of a decimal has.
-pub const MAX_DIGITS: u32 = 18;
+pub const MAX_DIGITS: u32 = 36;
 
 /// The least exponent of a decimal.
 pub const MIN_EXPONENT: i32 = -500;

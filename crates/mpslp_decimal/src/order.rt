@@ -1,6 +1,6 @@
 //! The order of decimals, by value.
 
-ghost use Rattle.std.specs.Prelude.{◌≡◌, ℤ, pos, ◌*ℤ◌, ◌^◌, ◌<◌, ◌≤◌, unsigned_abs};
+ghost use Rattle.std.specs.Prelude.{◌≡◌, ℤ, pos, ◌+◌, ◌*◌, ◌*ℤ◌, ◌^◌, ◌<◌, ◌≤◌, unsigned_abs, MatchOption};
 ghost use Rattle.std.specs.Ordering.{int_cmp, on, then_cmp, as_partial_cmp};
 ghost use Rattle.std.specs.Cmp.{partial_order_from_own_ties};
 ghost use Rattle.std.specs.Cmp.Rules.{comparing};
@@ -49,24 +49,24 @@ fn compare(left: Decimal, right: Decimal) -> Ordering
 
 /// Compares a mantissa with so many zeros behind it with another one.
 fn compare_shifted(mantissa: i128, places: u32, other: i128) -> Ordering
-    requires mantissa { unsigned_abs mantissa < 10 ^ MAX_DIGITS }
-    requires other { unsigned_abs other < 10 ^ MAX_DIGITS }
+    requires { unsigned_abs other < 10 ^ MAX_DIGITS }
     ensures { result ≡ int_cmp (mantissa *ℤ pos (10 ^ places)) other }
 {
-    if mantissa == 0 {
-        return 0.cmp(&other);
+    match shifted(mantissa, places) {
+        Some(shifted) => shifted.cmp(&other),
+        None => mantissa.cmp(&0),
     }
-    if places > MAX_DIGITS {
-        return mantissa.cmp(&0);
-    }
-    shifted(mantissa, places).cmp(&other)
 }
 
-/// A mantissa with so many zeros behind it.
-pub(crate) fn shifted(mantissa: i128, places: u32) -> i128
-    requires mantissa { unsigned_abs mantissa < 10 ^ MAX_DIGITS }
-    requires places { places ≤ MAX_DIGITS }
-    ensures { result ≡ mantissa *ℤ pos (10 ^ places) }
+/// A mantissa with so many zeros behind it; `None` where that has more digits than two mantissas together.
+pub(crate) fn shifted(mantissa: i128, places: u32) -> Option<i128>
+    ensures { MatchOption result (10 ^ (MAX_DIGITS + 1) ≤ unsigned_abs mantissa * 10 ^ places) (λ shifted. shifted ≡ mantissa *ℤ pos (10 ^ places)) }
 {
-    mantissa * 10i128.pow(places)
+    if mantissa == 0 {
+        return Some(0);
+    }
+    if places > MAX_DIGITS {
+        return None;
+    }
+    mantissa.checked_mul(10i128.pow(places))
 }

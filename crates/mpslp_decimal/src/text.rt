@@ -1,6 +1,6 @@
 //! The canonical text of a decimal.
 
-ghost use Rattle.std.specs.Prelude.{◌≡◌, ◌+◌, ◌≤◌, ◌++◌, ◌<◌, ℕ, List, [], length, replicate, unsigned_abs};
+ghost use Rattle.std.specs.Prelude.{◌≡◌, ◌+◌, ◌≤◌, ◌++◌, ◌<◌, ℕ, List, [], length, replicate, unsigned_abs, decimal};
 ghost use Rattle.mpslp_decimal.specs.NumberText.{number_text, sign_text, scaled_text, with_point};
 
 use crate::number::Decimal;
@@ -25,6 +25,18 @@ impl Model for DecimalText {
     ghost view = { λ t. t.bytes.items };
 }
 
+/// The digits of a mantissa's size. Most are few, and are printed faster in 64 bits.
+fn format_size(buffer: &mut Buffer, size: u128) -> &[u8]
+    ensures digits { result.now ≡ decimal size }
+    ensures short { length result.now ≤ 40 }
+{
+    if size <= u64::MAX as u128 {
+        buffer.format(size as u64).as_bytes()
+    } else {
+        buffer.format(size).as_bytes()
+    }
+}
+
 impl DecimalText {
     /// A place that holds no text yet.
     pub fn new() -> DecimalText
@@ -45,8 +57,8 @@ impl DecimalText {
         self.clear();
         self.append_sign(value);
         let mut buffer = Buffer::new();
-        let digits = buffer.format(value.mantissa().unsigned_abs() as u64);
-        self.append_scaled(digits.as_bytes(), value.exponent());
+        let digits = format_size(&mut buffer, value.mantissa().unsigned_abs());
+        self.append_scaled(digits, value.exponent());
         self.bytes.as_slice()
     }
 
@@ -76,7 +88,7 @@ impl DecimalText {
     /// Appends digits times ten to the exponent.
     fn append_scaled(&mut self, digits: &[u8], exponent: i32)
         requires room { length self.old ≤ 1 }
-        requires digits { length digits.now ≤ 20 }
+        requires digits { length digits.now ≤ 40 }
         requires exponent { unsigned_abs exponent ≤ 500 }
         ensures { self.new ≡ self.old ++ scaled_text digits.now exponent }
     {
@@ -97,7 +109,7 @@ impl DecimalText {
     /// Appends digits with a point before the last places, and zeros in front where there are too few digits.
     fn append_with_point(&mut self, digits: &[u8], places: usize)
         requires room { length self.old ≤ 1 }
-        requires digits { length digits.now ≤ 20 }
+        requires digits { length digits.now ≤ 40 }
         requires places { places ≤ 18 }
         ensures { self.new ≡ self.old ++ with_point places digits.now }
     {

@@ -74,7 +74,7 @@ fn read_text(alloc: Global, text: &[u8]) -> Result<Builder, ReadFault>
 ///
 /// Any bytes may come. Lines are read up to that of ENDATA, and what follows it is not looked at. Limits: a line has at
 /// most [`MAX_LINE_LEN`](crate::MAX_LINE_LEN) bytes, a name at most 255, a number literal at most 255, and a decimal has at
-/// most 18 digits; the text may be of any length. Every line that is legal in the CPLEX file format reference and in this
+/// most 36 digits; the text may be of any length. Every line that is legal in the CPLEX file format reference and in this
 /// profile is read as the reference says; `docs/FORMATS.md` has each rule.
 ///
 /// # Errors

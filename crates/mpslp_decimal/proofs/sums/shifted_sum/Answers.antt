@@ -1,40 +1,21 @@
-use Rattle.std.proofs.Common.{◌≡◌, ◌∙◌, ◌^◌, ℕ, ap, rules, arith, to_z, of_z}
-use Rattle.std.specs.Prelude.{ℤ, pos, ◌*ℤ◌, ◌+ℤ◌, ◌<◌, ◌≤◌, unsigned_abs, FitsSigned}
-use Rattle.std.proofs.lemmas.Int.{fits_signed_from_abs}
+use Rattle.std.proofs.Common.{◌≡◌, ◌≤◌, ◌*◌, ◌^◌, ◌∙◌, ℕ, ap, subst, sym, rules, to_z, of_z, Option}
+use Rattle.std.specs.Prelude.{ℤ, pos, ◌+ℤ◌, ◌*ℤ◌, unsigned_abs, MatchOption}
 use mir.Syntax.{w128}
-use Rattle.mpslp_decimal.proofs.SumLemmas.{sum-small}
+use Rattle.mpslp_decimal.proofs.WideLemmas.{far-sum, sum-held}
 use Rattle.mpslp_decimal.proofs.sums.shifted_sum.Goals as goal
 
--- the sum, as the code's types hold it
-record Held (sum whole : ℤ) : Type 0 where
-  is : sum ≡ whole
-  small : unsigned_abs whole < 10 ^ 37
+pub returns : goal.returns
+returns c =
+    let mantissa : to_z w128 (of_z w128 c.args.mantissa) ≡ c.args.mantissa = search rules in
+    let other : to_z w128 (of_z w128 c.args.other) ≡ c.args.other = search rules in
+    let held : to_z w128 (of_z w128 c.in_ok-shifted.field-0) ≡ c.in_ok-shifted.field-0 = search rules in
+    sum-held c.checked_add.result (to_z w128 (of_z w128 c.in_ok-shifted.field-0) +ℤ to_z w128 (of_z w128 c.args.other)) (c.args.mantissa *ℤ pos (10 ^ c.args.places) +ℤ c.args.other)
+    c.checked_add.ensures
+    (λ i. (held ∙ c.in_ok-shifted.ensures ∙ ap (λ (z : ℤ). z *ℤ pos (10 ^ c.args.places)) mantissa) i +ℤ other i)
 
-held : (m other shifted : ℤ) (places : ℕ) → to_z w128 (of_z w128 m) ≡ m → to_z w128 (of_z w128 other) ≡ other → to_z w128 (of_z w128 shifted) ≡ shifted
-    → shifted ≡ to_z w128 (of_z w128 m) *ℤ pos (10 ^ places) → unsigned_abs m < 10 ^ 18 → places ≤ 18 → unsigned_abs other < 10 ^ 18
-    → Held (to_z w128 (of_z w128 shifted) +ℤ to_z w128 (of_z w128 other)) (m *ℤ pos (10 ^ places) +ℤ other)
-held m other shifted places a b c is few short small = record {
-  is = (λ i. (c ∙ is ∙ ap (λ (z : ℤ). z *ℤ pos (10 ^ places)) a) i +ℤ b i);
-  small = sum-small m other places few small short;
-}
-
-fits : (z : ℤ) → unsigned_abs z < 10 ^ 37 → FitsSigned w128 z
-fits z small = fits_signed_from_abs w128 z (omega (arith, small))
-
-back : (sum whole : ℤ) → Held sum whole → to_z w128 (of_z w128 sum) ≡ whole
-back sum whole h = let f : FitsSigned w128 whole = fits whole h.small in let e : to_z w128 (of_z w128 whole) ≡ whole = search rules in ap (λ (z : ℤ). to_z w128 (of_z w128 z)) h.is ∙ e
-
-pub overflow_add-result : goal.overflow_add-result
-overflow_add-result c =
-    let h = held c.args.mantissa c.args.other c.shifted.result c.args.places (search rules) (search rules) (search rules) c.shifted.ensures c.requires.mantissa c.requires.places c.requires.other in
-    rw h.is (fits (c.args.mantissa *ℤ pos (10 ^ c.args.places) +ℤ c.args.other) h.small)
-
-pub returns-clause-sum : goal.returns-clause-sum
-returns-clause-sum c =
-    let h = held c.args.mantissa c.args.other c.shifted.result c.args.places (search rules) (search rules) (search rules) c.shifted.ensures c.requires.mantissa c.requires.places c.requires.other in
-    back (to_z w128 (of_z w128 c.shifted.result) +ℤ to_z w128 (of_z w128 c.args.other)) (c.args.mantissa *ℤ pos (10 ^ c.args.places) +ℤ c.args.other) h
-
-pub returns-clause-small : goal.returns-clause-small
-returns-clause-small c =
-    let h = held c.args.mantissa c.args.other c.shifted.result c.args.places (search rules) (search rules) (search rules) c.shifted.ensures c.requires.mantissa c.requires.places c.requires.other in
-    rw (back (to_z w128 (of_z w128 c.shifted.result) +ℤ to_z w128 (of_z w128 c.args.other)) (c.args.mantissa *ℤ pos (10 ^ c.args.places) +ℤ c.args.other) h) h.small
+pub returns-in_err-shifted : goal.returns-in_err-shifted
+returns-in_err-shifted c =
+    let mantissa : to_z w128 (of_z w128 c.args.mantissa) ≡ c.args.mantissa = search rules in
+    let far : 10 ^ 37 ≤ unsigned_abs c.args.mantissa * 10 ^ c.args.places = subst (λ (m : ℤ). 10 ^ 37 ≤ unsigned_abs m * 10 ^ c.args.places) mantissa c.in_err-shifted.ensures in
+    subst (λ (r : Option ℤ). MatchOption r (2 * 10 ^ 36 ≤ unsigned_abs (c.args.mantissa *ℤ pos (10 ^ c.args.places) +ℤ c.args.other)) (λ s. s ≡ c.args.mantissa *ℤ pos (10 ^ c.args.places) +ℤ c.args.other))
+    (sym c.from_residual.ensures) (far-sum c.args.mantissa c.args.other (10 ^ c.args.places) far c.requires)

@@ -4,7 +4,7 @@ use Rattle.mpslp_decimal.proofs.sums.stripped.Goals as goal
 
 pub overflow_add-zeros : goal.overflow_add-zeros
 overflow_add-zeros c =
-    let few : c.loop-digits.zeros < 37 = zeros-below c.args.number c.loop-digits.digits c.loop-digits.zeros 37 c.loop-digits.invariant.value c.loop-digits.invariant.some c.requires.small in omega arith
+    let few : c.loop-digits.zeros < 39 = zeros-below c.args.number c.loop-digits.digits c.loop-digits.zeros 39 c.loop-digits.invariant.value c.loop-digits.invariant.some c.requires.small in omega arith
 
 pub loop-digits-preserved : goal.loop-digits-preserved
 loop-digits-preserved c = record {
@@ -13,4 +13,4 @@ loop-digits-preserved c = record {
 }
 
 pub returns-clause-zeros : goal.returns-clause-zeros
-returns-clause-zeros c = zeros-below c.args.number c.loop-digits.digits c.loop-digits.zeros 37 c.loop-digits.invariant.value c.loop-digits.invariant.some c.requires.small
+returns-clause-zeros c = zeros-below c.args.number c.loop-digits.digits c.loop-digits.zeros 39 c.loop-digits.invariant.value c.loop-digits.invariant.some c.requires.small

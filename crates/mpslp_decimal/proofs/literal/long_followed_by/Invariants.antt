@@ -1,9 +1,9 @@
 use Rattle.std.proofs.Common.{◌≡◌, ◌*◌, ◌^◌, ◌<◌}
-use Rattle.mpslp_decimal.proofs.literal.Significand.followed_by.Given as goal
+use Rattle.mpslp_decimal.proofs.literal.long_followed_by.Given as goal
 
 -- the mantissa with so many zeros put in
 abbrev pub invariant-loop-place : goal.invariant-loop-place
 invariant-loop-place l = record {
-  value : l.mantissa ≡ l.initial.mantissa * 10 ^ l._place;
-  small : 0 < l._place → l.mantissa < 10 ^ 18;
+  value : l.shifted ≡ l.initial.shifted * 10 ^ l._place;
+  small : 0 < l._place → l.shifted < 10 ^ 36;
 }
