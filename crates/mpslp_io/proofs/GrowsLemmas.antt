@@ -1,5 +1,5 @@
 -- What a sink holds after several pieces, one after another.
-use Rattle.std.proofs.Common.{◌≡◌, ℕ, ◌+◌, List, [], ◌++◌, sym, subst, append_assoc, append-nil, take, drop}
+use Rattle.std.proofs.Common.{ℕ, ◌+◌, List, [], ◌++◌, sym, subst, append_assoc, append-nil, take, drop}
 use Rattle.std.proofs.Math.Seq.{take-add}
 use Rattle.mpslp_io.specs.Devices.{Grows, KeepsHeld}
 

@@ -1,6 +1,6 @@
 -- The lines of columns, as they are put one after another.
-use Rattle.std.proofs.Common.{◌≡◌, refl, sym, ap, subst, ◌∙◌, ℕ, zero, suc, ◌<◌, ◌≤◌, Bool, true, false, not, cond, List, [], ◌∷◌, ◌++◌, length, map, append-nil, arith}
-use Rattle.std.specs.Prelude.{Option, Some, None, slice_get, slice_index_or, position, filter, ◌&&◌, unwrap_or, if◌then◌else◌}
+use Rattle.std.proofs.Common.{◌≡◌, refl, sym, ap, ◌∙◌, ℕ, ◌<◌, ◌≤◌, Bool, true, false, not, cond, List, [], ◌∷◌, ◌++◌, length, map, arith}
+use Rattle.std.specs.Prelude.{Option, Some, None, slice_get, slice_index_or, unwrap_or}
 use Rattle.std.specs.List.{flat_map, cons_option}
 use Rattle.std.specs.Option.{option_map, option_map_or}
 use Rattle.std.specs.Cmp.{first_so, second_so}
@@ -22,14 +22,14 @@ use Rattle.mpslp_model.proofs.SortedDrafts.{place_total}
 use Rattle.mpslp_mps.specs.DataLine.{opening_word, closing_word}
 use Rattle.mpslp_canonical.specs.Listing.{Listing, listing_of}
 use Rattle.mpslp_canonical.specs.Printed.{PrintedLine}
-use Rattle.mpslp_canonical.specs.CanonicalMps.{Lines, bound_line, column_bound_lines, cell_line, cell_at, column_cells, printed_cells, column_lines, is_integer_kind, is_integer_column, is_continuous_column, integer_part, marker_line}
+use Rattle.mpslp_canonical.specs.CanonicalMps.{Lines, bound_line, column_bound_lines, cell_line, column_cells, printed_cells, column_lines, is_integer_kind, is_integer_column, integer_part, marker_line}
 use Rattle.mpslp_model.specs.Refusal.{is_nonempty}
 use Rattle.mpslp_write.specs.LinesAt.{lines_at, is_wanted, of_kind, element_lines, objective_line_at, objective_lines, kind_of}
 use Rattle.mpslp_canonical.specs.PrintedValues.{PrintedBound, printed_bounds}
 use Rattle.mpslp_write.proofs.LinesAtLemmas.{both_seen, lines_seen, nonempty_seen, nonempty-map}
 use Rattle.mpslp_canonical.proofs.EntryLemmas.{found-each}
 use Rattle.mpslp_canonical.proofs.CoefficientMap.{place_at}
-use Rattle.mpslp_canonical.proofs.DraftMaps.{is_sound_entry, IsSoundListing}
+use Rattle.mpslp_canonical.proofs.DraftMaps.{is_sound_entry}
 use Rattle.mpslp_canonical.proofs.ListingFacts.{sound-listing}
 use Rattle.mpslp_write.proofs.CellLemmas.{by_row, column-cells}
 

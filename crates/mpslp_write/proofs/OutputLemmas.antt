@@ -1,6 +1,6 @@
 -- How what was put grows piece by piece, and by what is handed to the sink.
 use Rattle.std.proofs.Common.{◌≡◌, refl, sym, ap, subst, ◌∙◌, ℕ, ◌+◌, ◌-◌, ◌^◌, ◌<◌, ◌≤◌, min, Bool, true, false, inl, inr, List, [], ◌∷◌, ◌++◌, length, take, drop, append_assoc, append-nil, arith}
-use Rattle.std.specs.Prelude.{Result, Ok, Err, Option, None, IsOk}
+use Rattle.std.specs.Prelude.{Result, Ok, Err, None, IsOk}
 use Rattle.mpslp_model.specs.Model.{LinearModel}
 use Rattle.mpslp_model.specs.declared.faults.WriteFault.{WriteFault}
 use Rattle.mpslp_model.specs.declared.faults.WriteFault.TheVariants.{Write, NotLp}
@@ -13,7 +13,7 @@ use Rattle.mpslp_io.proofs.GrowsLemmas.{Grows-nil, Grows-append}
 use Rattle.std.specs.List.{flat_map}
 use Rattle.mpslp_canonical.specs.CanonicalMps.{Lines}
 use Rattle.mpslp_write.proofs.LinesAtLemmas.{flat_map-rest}
-use Rattle.mpslp_write.specs.Output.{Gathered, nothing_gathered, with_waiting, IsUnderWay, IsCutOff, HasPut, Emits, Prints, answer_of}
+use Rattle.mpslp_write.specs.Output.{Gathered, nothing_gathered, with_waiting, HasPut, Emits, Prints, answer_of}
 use Rattle.mpslp_canonical.specs.Printed.{PrintedLine, printed, text_of}
 
 text_of-append : (front back : List PrintedLine) → text_of (front ++ back) ≡ text_of front ++ text_of back

@@ -1,8 +1,8 @@
-use Rattle.std.proofs.Common.{◌≡◌, sym, ap, ◌∙◌, Bool}
+use Rattle.std.proofs.Common.{sym, ap, ◌∙◌, Bool}
 use Rattle.std.specs.Prelude.{◌||◌}
 use Rattle.std.specs.FinMap.{entries}
 use Rattle.mpslp_model.specs.Refusal.{is_nonempty}
-use Rattle.mpslp_canonical.specs.PrintedValues.{printed_lower, printed_upper, printed_bounds}
+use Rattle.mpslp_canonical.specs.PrintedValues.{printed_upper}
 use Rattle.mpslp_model.specs.declared.kinds.Kind.{Kind}
 use Rattle.mpslp_write.specs.LinesAt.{kind_of}
 use Rattle.mpslp_write.proofs.BoundLines.{bounds-nonempty}

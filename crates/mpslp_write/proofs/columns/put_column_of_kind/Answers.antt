@@ -1,5 +1,4 @@
-use Rattle.std.proofs.Common.{◌≡◌, sym, ap, ◌∙◌, Bool, cond, []}
-use Rattle.std.specs.FinMap.{entries}
+use Rattle.std.proofs.Common.{sym, ap, ◌∙◌, Bool, cond, []}
 use Rattle.mpslp_canonical.specs.Listing.{listing_of}
 use Rattle.mpslp_canonical.specs.CanonicalMps.{column_lines}
 use Rattle.mpslp_write.specs.LinesAt.{lines_at}

@@ -1,4 +1,4 @@
-use Rattle.std.proofs.Common.{◌≡◌, refl, sym, subst, [], ◌++◌}
+use Rattle.std.proofs.Common.{sym, subst, []}
 use Rattle.mpslp_write.specs.Output.{Gathered, HasPut}
 use Rattle.mpslp_canonical.specs.CanonicalMps.{canonical_mps}
 use Rattle.mpslp_write.proofs.OutputLemmas.{HasPut-nothing, taken-written, taken-succeeds}
