@@ -1,13 +1,15 @@
--- How long the parts of the line of a fault are.
-use Rattle.std.proofs.Common.{◌≡◌, ℕ, ◌+◌, ◌-◌, ◌^◌, ◌≤◌, min, subst, List, [], ◌∷◌, ◌++◌, length, true, not, ap, ◌∙◌, lit≤, arith}
+-- How long the line of a fault and its parts are, and what a sink took of it.
+use Rattle.std.proofs.Common.{◌≡◌, ℕ, ◌+◌, ◌<◌, ◌≤◌, subst, List, [], ◌∷◌, ◌++◌, length, true, not, ap, ◌∙◌, lit≤, arith}
 use Rattle.std.specs.Prelude.{nat_le, ◌&&◌}
 use Rattle.std.specs.Cmp.{first_so, second_so}
 use Rattle.std.specs.List.{list_all}
 use Rattle.std.proofs.lemmas.Bool.Decides.{nat_tests}
 use Rattle.std.proofs.lemmas.List.{length-append}
-use Rattle.mpslp_model.specs.Devices.{TookMore}
+use Rattle.mpslp_io.specs.Devices.{TookMore}
 use Rattle.mpslp_model.specs.FaultName.{kind_name}
 use Rattle.mpslp_model.specs.Formats.{TookFirst}
+use Rattle.mpslp_convert.specs.FaultLine.{fault_text, fault_line}
+use Rattle.mpslp_convert.specs.declared.faults.RunFault.{RunFault}
 use Rattle.mpslp_model.specs.Name.{IsMpsName, has_name_length, is_visible, same_bytes, marker}
 use Rattle.mpslp_model.specs.declared.faults.FaultKind.{FaultKind}
 use Rattle.mpslp_model.specs.declared.faults.FaultKind.TheVariants.{LineTooLong, BadByte, Quadratic, Sos, Indicator, SemiContinuous, UnknownSection, SectionOrder, SectionRepeated, FieldCount, BadToken, BadType, BadMarker, NameLength, NameByte, NameMarker, NameLikeExponent, BadNumber, LongNumber, TooManyDigits, ExponentRange, SecondSet, UnknownRow, UnknownColumn, ColumnSplit, DuplicateRow, DuplicateEntry, DuplicateRhs, DuplicateRange, DuplicateBound, RangeOnFree, ConstantInRow, MixedSenses, InfiniteValue, MissingEnd, NoColumns, InfiniteLimit, RangeInexact, LimitTooLarge, LimitsCrossed, NegativeUpper, BoundsCrossed, BinaryBounds}
@@ -71,6 +73,10 @@ named-bound before name after all legal one two =
     let one_len = ap length one ∙ length-append before (32 ∷ []) in
     let two_len = ap length two ∙ length-append after name in
     omega (arith, short, one_len, two_len)
+
+-- a line ends
+pub fault_line-some : (fault : RunFault) → 0 < length (fault_line fault)
+fault_line-some fault = let len = length-append (fault_text fault) (10 ∷ []) in omega (arith, len)
 
 -- what a sink took of a piece, told of a text that is the piece
 pub TookFirst-of : {S : Type 0} (holds : S → List ℕ → Type 0) (old new : S) (piece text : List ℕ) (tally : ℕ) → piece ≡ text

@@ -1,13 +1,9 @@
 -- How the fault of a run is told: its line, and the exit status of a program that it ends.
-use Rattle.std.specs.Prelude.{◌≡◌, ℕ, List, [], ◌∷◌, ◌++◌, Bool, true, Option, None, Some, Result, Ok, Err, ◌==◌, if◌then◌else◌, codes, decimal}
-use Rattle.mpslp_model.specs.Devices.{Grows}
+use Rattle.std.specs.Prelude.{ℕ, List, [], ◌++◌, Option, None, Some, ◌==◌, if◌then◌else◌, codes, decimal}
 use Rattle.mpslp_model.specs.FaultName.{kind_name}
-use Rattle.mpslp_model.specs.Formats.{TookFirst}
 use Rattle.mpslp_model.specs.declared.faults.Fault.{Fault}
 use Rattle.mpslp_model.specs.declared.faults.NameAt.{NameAt}
 use Rattle.mpslp_model.specs.declared.faults.NameAt.TheVariants.{Objective, Row, Column}
-use Rattle.mpslp_model.specs.declared.faults.WriteFault.{WriteFault}
-use Rattle.mpslp_model.specs.declared.faults.WriteFault.TheVariants as write
 use Rattle.mpslp_convert.specs.declared.faults.RunFault.{RunFault}
 use Rattle.mpslp_convert.specs.declared.faults.RunFault.TheVariants.{Read, TooLong, File, NotLp, Write, OutOfMemory}
 
@@ -48,9 +44,3 @@ status_of (File fault) = 2
 status_of (NotLp place) = 2
 status_of (Write written) = 4
 status_of OutOfMemory = 5
-
--- A line was written whole; or the sink has failed, and took its first bytes.
-abbrev pub IsReport : {S : Type 0} → (S → List ℕ → Type 0) → (S → Bool) → List ℕ → S → S → Result (Unit {0}) WriteFault → Type 0
-IsReport holds failed line old new (Ok _) = Grows holds old new line
-IsReport holds failed line old new (Err (write.Write written)) = (failed new ≡ true) × TookFirst holds old new line written
-IsReport holds failed line old new (Err (write.NotLp place)) = ⊥

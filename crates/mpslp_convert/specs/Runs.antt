@@ -1,8 +1,8 @@
 -- What is answered of a source that is read to its end, and of a sink that takes a model's text.
-use Rattle.std.specs.Prelude.{◌≡◌, ℕ, ◌<◌, ◌≤◌, List, Bool, true, false, Option, None, Some, Result, Ok, Err, Vec, IfSome, length}
-use Rattle.std.specs.Io.KnownBytes.{Consumes}
+use Rattle.std.specs.Prelude.{◌≡◌, ℕ, ◌+◌, ◌<◌, ◌≤◌, List, Bool, true, false, Option, None, Some, Result, Ok, Err, Vec, IfSome, length}
+use Rattle.std.specs.Io.KnownBytes.{Consumes, IsAtEnd}
 use Rattle.std.specs.declared.alloc.Global.{Global}
-use Rattle.mpslp_model.specs.Devices.{Grows}
+use Rattle.mpslp_io.specs.Devices.{Grows}
 use Rattle.mpslp_model.specs.Formats.{TookFirst}
 use Rattle.mpslp_model.specs.Model.{LinearModel}
 use Rattle.mpslp_convert.specs.Conversions.{Declares, HasFirstFault, Unfit, TextOf}
@@ -22,59 +22,72 @@ abbrev pub TakesAtMost : ℕ → Option (List ℕ) → Option (List ℕ) → Typ
 TakesAtMost most old new = (taken : List ℕ) × (length taken ≤ most) × Consumes old new taken
 
 -- A source gave these bytes to its end, within the limit, and has not failed.
-pub record Given (left : Option (List ℕ)) (source_failed : Bool) (limit : ℕ) (bytes : List ℕ) : Type 0 where
-  pub works : source_failed ≡ false
+pub record SourceGave (left left_now : Option (List ℕ)) (failed : Bool) (limit : ℕ) (bytes : List ℕ) : Type 0 where
+  pub works : failed ≡ false
   pub within : length bytes ≤ limit
   pub all : IsAll left bytes
+  pub end : IsAtEnd left_now
 
--- The source had these bytes left, within the limit, and has not failed.
-pub record Had (left : Option (List ℕ)) (source_failed : Bool) (limit : ℕ) (bytes : List ℕ) : Type 0 where
+-- A source had these bytes left, within the limit, and has not failed.
+pub record SourceHeld (left : Option (List ℕ)) (failed : Bool) (limit : ℕ) (bytes : List ℕ) : Type 0 where
   pub left_is : left ≡ Some bytes
   pub within : length bytes ≤ limit
-  pub works : source_failed ≡ false
+  pub works : failed ≡ false
 
--- The source had more bytes left than the limit, and has not failed.
-pub record HadMore (left : Option (List ℕ)) (source_failed : Bool) (limit : ℕ) (bytes : List ℕ) : Type 0 where
+-- A source had more bytes left than the limit, and has not failed.
+pub record SourceHeldMore (left : Option (List ℕ)) (failed : Bool) (limit : ℕ) (bytes : List ℕ) : Type 0 where
   pub left_is : left ≡ Some bytes
   pub beyond : limit < length bytes
-  pub works : source_failed ≡ false
+  pub works : failed ≡ false
 
 -- All that was left in a source, or why not. `failed` is whether the source has failed in the end.
-abbrev pub IsLoad : Option (List ℕ) → Bool → ℕ → Result (Vec ℕ Global) RunFault → Type 0
-IsLoad left failed limit (Ok bytes) = Given left failed limit bytes.items
-IsLoad left failed limit (Err Read) = failed ≡ true
-IsLoad left failed limit (Err TooLong) = (failed ≡ false) × IsLonger left limit
-IsLoad left failed limit (Err (File fault)) = ⊥
-IsLoad left failed limit (Err (NotLp place)) = ⊥
-IsLoad left failed limit (Err (Write written)) = ⊥
-IsLoad left failed limit (Err OutOfMemory) = failed ≡ false
+abbrev pub IsLoad : Option (List ℕ) → Option (List ℕ) → Bool → ℕ → Result (Vec ℕ Global) RunFault → Type 0
+IsLoad left left_now failed limit (Ok bytes) = SourceGave left left_now failed limit bytes.items
+IsLoad left left_now failed limit (Err Read) = failed ≡ true
+IsLoad left left_now failed limit (Err TooLong) = (failed ≡ false) × IsLonger left limit
+IsLoad left left_now failed limit (Err (File fault)) = ⊥
+IsLoad left left_now failed limit (Err (NotLp place)) = ⊥
+IsLoad left left_now failed limit (Err (Write written)) = ⊥
+IsLoad left left_now failed limit (Err OutOfMemory) = failed ≡ false
 
--- The text of a model was written whole and handed on, or why not.
-abbrev pub IsPut : {S : Type 0} → Unfit → TextOf → (S → List ℕ → Type 0) → (S → Bool) → LinearModel → S → S → Result (Unit {0}) RunFault → Type 0
-IsPut unfit text holds failed m old new (Ok _) = (unfit m ≡ None) × (failed new ≡ false) × Grows holds old new (text m)
-IsPut unfit text holds failed m old new (Err Read) = ⊥
-IsPut unfit text holds failed m old new (Err TooLong) = ⊥
-IsPut unfit text holds failed m old new (Err (File fault)) = ⊥
-IsPut unfit text holds failed m old new (Err (NotLp place)) = (unfit m ≡ Some place) × (new ≡ old)
-IsPut unfit text holds failed m old new (Err (Write written)) =
-    (unfit m ≡ None) × (failed new ≡ true) × TookFirst holds old new (text m) written
-IsPut unfit text holds failed m old new (Err OutOfMemory) = ⊥
+-- A sink took a whole text and was flushed, in few calls: each write takes a byte at least.
+pub record IsHandedOn {S : Type 0} (holds : S → List ℕ → Type 0) (failed : S → Bool) (count : S → ℕ) (old new : S) (text : List ℕ) : Type 0 where
+  pub works : failed new ≡ false
+  pub took : Grows holds old new text
+  pub calls : count new ≤ count old + length text + 1
 
--- All that was left in a source declares a model in one format, and its text in the other was written whole; or why not.
--- But where a write failed nothing was written.
-abbrev pub IsRun : {S : Type 0} → Declares → HasFirstFault → Unfit → TextOf → (S → List ℕ → Type 0) → (S → Bool)
-    → Option (List ℕ) → Bool → ℕ → S → S → Result (Unit {0}) RunFault → Type 0
-IsRun declares first_fault unfit text holds failed left source_failed limit old new (Ok _) =
-    (bytes : List ℕ) × (m : LinearModel) × Given left source_failed limit bytes × declares bytes m × (unfit m ≡ None)
-    × (failed new ≡ false) × Grows holds old new (text m)
-IsRun declares first_fault unfit text holds failed left source_failed limit old new (Err Read) = (source_failed ≡ true) × (new ≡ old)
-IsRun declares first_fault unfit text holds failed left source_failed limit old new (Err TooLong) =
+-- A sink has failed, and took the first bytes of a text before.
+pub record IsCutShort {S : Type 0} (holds : S → List ℕ → Type 0) (failed : S → Bool) (count : S → ℕ) (old new : S) (text : List ℕ) (written : ℕ)
+    : Type 0 where
+  pub fails : failed new ≡ true
+  pub took : TookFirst holds old new text written
+  pub calls : count new ≤ count old + length text + 1
+
+-- The text of a model was handed on, or why not.
+abbrev pub IsPut : {S : Type 0} → Unfit → TextOf → (S → List ℕ → Type 0) → (S → Bool) → (S → ℕ) → LinearModel → S → S → Result (Unit {0}) RunFault → Type 0
+IsPut unfit text holds failed count m old new (Ok _) = (unfit m ≡ None) × IsHandedOn holds failed count old new (text m)
+IsPut unfit text holds failed count m old new (Err Read) = ⊥
+IsPut unfit text holds failed count m old new (Err TooLong) = ⊥
+IsPut unfit text holds failed count m old new (Err (File fault)) = ⊥
+IsPut unfit text holds failed count m old new (Err (NotLp place)) = (unfit m ≡ Some place) × (new ≡ old)
+IsPut unfit text holds failed count m old new (Err (Write written)) = (unfit m ≡ None) × IsCutShort holds failed count old new (text m) written
+IsPut unfit text holds failed count m old new (Err OutOfMemory) = ⊥
+
+-- All that was left in a source declares a model in one format, and its text in the other was handed on; or why not.
+-- In each case but `Ok` and `Write` the sink was not called.
+abbrev pub IsRun : {S : Type 0} → Declares → HasFirstFault → Unfit → TextOf → (S → List ℕ → Type 0) → (S → Bool) → (S → ℕ)
+    → Option (List ℕ) → Option (List ℕ) → Bool → ℕ → S → S → Result (Unit {0}) RunFault → Type 0
+IsRun declares first_fault unfit text holds failed count left left_now source_failed limit old new (Ok _) =
+    (bytes : List ℕ) × (m : LinearModel) × SourceGave left left_now source_failed limit bytes × declares bytes m × (unfit m ≡ None)
+    × IsHandedOn holds failed count old new (text m)
+IsRun declares first_fault unfit text holds failed count left left_now source_failed limit old new (Err Read) = (source_failed ≡ true) × (new ≡ old)
+IsRun declares first_fault unfit text holds failed count left left_now source_failed limit old new (Err TooLong) =
     (source_failed ≡ false) × IsLonger left limit × (new ≡ old)
-IsRun declares first_fault unfit text holds failed left source_failed limit old new (Err (File fault)) =
-    (bytes : List ℕ) × Given left source_failed limit bytes × first_fault bytes fault × (new ≡ old)
-IsRun declares first_fault unfit text holds failed left source_failed limit old new (Err (NotLp place)) =
-    (bytes : List ℕ) × (m : LinearModel) × Given left source_failed limit bytes × declares bytes m × (unfit m ≡ Some place) × (new ≡ old)
-IsRun declares first_fault unfit text holds failed left source_failed limit old new (Err (Write written)) =
-    (bytes : List ℕ) × (m : LinearModel) × Given left source_failed limit bytes × declares bytes m × (unfit m ≡ None)
-    × (failed new ≡ true) × TookFirst holds old new (text m) written
-IsRun declares first_fault unfit text holds failed left source_failed limit old new (Err OutOfMemory) = (source_failed ≡ false) × (new ≡ old)
+IsRun declares first_fault unfit text holds failed count left left_now source_failed limit old new (Err (File fault)) =
+    (bytes : List ℕ) × SourceGave left left_now source_failed limit bytes × first_fault bytes fault × (new ≡ old)
+IsRun declares first_fault unfit text holds failed count left left_now source_failed limit old new (Err (NotLp place)) =
+    (bytes : List ℕ) × (m : LinearModel) × SourceGave left left_now source_failed limit bytes × declares bytes m × (unfit m ≡ Some place) × (new ≡ old)
+IsRun declares first_fault unfit text holds failed count left left_now source_failed limit old new (Err (Write written)) =
+    (bytes : List ℕ) × (m : LinearModel) × SourceGave left left_now source_failed limit bytes × declares bytes m × (unfit m ≡ None)
+    × IsCutShort holds failed count old new (text m) written
+IsRun declares first_fault unfit text holds failed count left left_now source_failed limit old new (Err OutOfMemory) = (source_failed ≡ false) × (new ≡ old)

@@ -14,7 +14,7 @@ pub(crate) struct Collected {
 }
 
 impl Collected {
-    pub fn new(alloc: Global) -> Collected
+    pub(crate) fn new(alloc: Global) -> Collected
         ensures empty { result.bytes.items ≡ [] }
         ensures works { result.failed ≡ false }
     {
@@ -25,7 +25,7 @@ impl Collected {
         }
     }
 
-    pub fn into_bytes(self) -> Vec<u8>
+    pub(crate) fn into_bytes(self) -> Vec<u8>
         ensures { result.items ≡ self.bytes.items }
     {
         self.bytes

@@ -18,7 +18,7 @@ pub(crate) struct Comparison<'a> {
 
 impl<'a> Comparison<'a> {
     /// Nothing was taken yet.
-    pub fn with(wanted: &'a [u8]) -> Comparison<'a>
+    pub(crate) fn with(wanted: &'a [u8]) -> Comparison<'a>
         ensures { Compared result.differs result.rest.now (length wanted.now ∷ wanted.now) }
     {
         Comparison {
@@ -29,7 +29,7 @@ impl<'a> Comparison<'a> {
     }
 
     /// Whether exactly the wanted text was taken.
-    pub fn is_same(&self) -> bool
+    pub(crate) fn is_same(&self) -> bool
         ensures { (wanted text : List ℕ) → Compared self.now.differs self.now.rest.now (length wanted ∷ (wanted ++ text))
             → Decides result (wanted ≡ text) }
     {

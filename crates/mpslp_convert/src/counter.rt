@@ -13,13 +13,13 @@ pub(crate) struct Counter {
 }
 
 impl Counter {
-    pub fn new() -> Counter
+    pub(crate) fn new() -> Counter
         ensures { result.taken ≡ 0 }
     {
         Counter { taken: 0, calls: 0 }
     }
 
-    pub fn taken(&self) -> u64
+    pub(crate) fn taken(&self) -> u64
         ensures { result ≡ self.now.taken }
     {
         self.taken

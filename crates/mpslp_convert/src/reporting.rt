@@ -1,7 +1,8 @@
 //! How the fault of a run is told.
 
 ghost use Rattle.std.specs.Prelude.{◌≡◌, ◌+◌, ◌≤◌, ◌++◌, ℕ, List, [], true, false, Option, length, IsOk, decimal};
-ghost use Rattle.mpslp_convert.specs.FaultLine.{line_text, name_text, place_text, file_text, fault_text, fault_line, status_of, IsReport};
+ghost use Rattle.mpslp_convert.specs.FaultLine.{line_text, name_text, place_text, file_text, fault_text, fault_line, status_of};
+ghost use Rattle.mpslp_model.specs.Formats.{IsTaken};
 
 use crate::faults::RunFault;
 use arrayvec::ArrayVec;
@@ -183,17 +184,18 @@ fn line_of(fault: &RunFault) -> Line
 ///
 /// # Errors
 ///
-/// [`Write`](WriteFault::Write) where the sink has failed: it has taken that many first bytes of the line,
-/// and nothing else. [`NotLp`](WriteFault::NotLp) is never answered.
-pub fn report<W: Sink>(fault: &RunFault, writer: &mut W) -> Result<(), WriteFault>
-    ensures answer { IsReport W.holds W.failed (fault_line fault.now) writer.old writer.new result }
-    ensures succeeds { W.failed writer.new ≡ false → IsOk result }
-    ensures calls { W.count writer.new ≤ W.count writer.old + length (fault_line fault.now) }
-    ensures stays { W.failed writer.old ≡ true → W.failed writer.new ≡ true }
+/// [`Write`](WriteFault::Write) exactly where the sink has failed when the call ends: it has taken that
+/// many first bytes of the line, and nothing else. [`NotLp`](WriteFault::NotLp) is never answered.
+pub fn report<W: Sink>(fault: &RunFault, sink: &mut W) -> Result<(), WriteFault>
+    ensures answer { IsTaken W.holds W.failed sink.old sink.new (fault_line fault.now) result }
+    ensures succeeds { W.failed sink.new ≡ false → IsOk result }
+    ensures works { IsOk result → W.failed sink.new ≡ false }
+    ensures calls { W.count sink.new ≤ W.count sink.old + length (fault_line fault.now) }
+    ensures stays { W.failed sink.old ≡ true → W.failed sink.new ≡ true }
 {
     let line = line_of(fault);
     let mut tally = 0;
-    match put_all(writer, &mut tally, line.as_bytes()) {
+    match put_all(sink, &mut tally, line.as_bytes()) {
         Ok(()) => Ok(()),
         Err(_) => Err(WriteFault::Write { written: tally }),
     }

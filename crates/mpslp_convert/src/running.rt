@@ -1,12 +1,12 @@
 //! Conversions between a source and a sink.
 
-ghost use Rattle.std.specs.Prelude.{◌≡◌, ◌+◌, ◌-◌, ◌^◌, ◌≤◌, ℕ, List, true, false, None, Some, min, length, OnOk, IsOkUnless};
+ghost use Rattle.std.specs.Prelude.{◌≡◌, ◌+◌, ◌-◌, ◌^◌, ◌≤◌, ℕ, List, true, false, None, Some, min, length, IfOk, OnOk, IsOkUnless};
 ghost use Rattle.std.specs.Io.KnownBytes.{IsAtEnd};
 ghost use Rattle.mpslp_model.specs.Model.{LinearModel};
 ghost use Rattle.mpslp_model.specs.declared.faults.Fault.{Fault};
 ghost use Rattle.mpslp_model.specs.declared.faults.NameAt.{NameAt};
 ghost use Rattle.mpslp_convert.specs.Conversions.{IsErrUnless};
-ghost use Rattle.mpslp_convert.specs.Runs.{Had, HadMore, IsLoad, IsPut, IsRun, TakesAtMost};
+ghost use Rattle.mpslp_convert.specs.Runs.{SourceHeld, SourceHeldMore, IsLoad, IsPut, IsRun, TakesAtMost};
 
 use crate::counter::Counter;
 use crate::faults::RunFault;
@@ -18,21 +18,24 @@ const PIECE: usize = 65_536;
 
 /// All bytes of a source.
 ///
-/// No more than `max_bytes + 1` bytes are read, in at most `max_bytes + 1` calls.
+/// No more than `max_bytes + 1` bytes are read, in at most `max_bytes + 1` calls. A read of 0 bytes is
+/// the end, and no other one follows it. A source that has failed stays failed.
 ///
 /// # Errors
 ///
 /// [`Read`](RunFault::Read) exactly where the source has failed when the call ends, and else
 /// [`TooLong`](RunFault::TooLong) where it had more than `max_bytes` bytes left;
 /// [`OutOfMemory`](RunFault::OutOfMemory) where memory was refused. The others are never answered.
-pub fn load<R: Source>(alloc: Global, max_bytes: u64, reader: &mut R) -> Result<Vec<u8>, RunFault>
-    ensures answer { IsLoad (R.left reader.old) (R.failed reader.new) max_bytes result }
-    ensures accepts { (bytes : List ℕ) → Had (R.left reader.old) (R.failed reader.new) max_bytes bytes → IsOkUnless result RunFault.OutOfMemory }
-    ensures too_long { (bytes : List ℕ) → HadMore (R.left reader.old) (R.failed reader.new) max_bytes bytes
+pub fn load<R: Source>(alloc: Global, max_bytes: u64, source: &mut R) -> Result<Vec<u8>, RunFault>
+    ensures answer { IsLoad (R.left source.old) (R.left source.new) (R.failed source.new) max_bytes result }
+    ensures accepts { (bytes : List ℕ) → SourceHeld (R.left source.old) (R.failed source.new) max_bytes bytes → IsOkUnless result RunFault.OutOfMemory }
+    ensures too_long { (bytes : List ℕ) → SourceHeldMore (R.left source.old) (R.failed source.new) max_bytes bytes
         → IsErrUnless result RunFault.TooLong RunFault.OutOfMemory }
-    ensures end { OnOk result (IsAtEnd (R.left reader.new)) }
-    ensures asked { TakesAtMost (max_bytes + 1) (R.left reader.old) (R.left reader.new) }
-    ensures calls { R.count reader.new ≤ R.count reader.old + max_bytes + 1 }
+    ensures end { OnOk result (IsAtEnd (R.left source.new)) }
+    ensures asked { TakesAtMost (max_bytes + 1) (R.left source.old) (R.left source.new) }
+    ensures calls { R.count source.new ≤ R.count source.old + max_bytes + 1 }
+    ensures calls_to_end { IfOk result (λ bytes. R.count source.new ≤ R.count source.old + length bytes.items + 1) }
+    ensures stays { R.failed source.old ≡ true → R.failed source.new ≡ true }
 {
     let mut bytes = Vec::new(alloc);
     let mut room = max_bytes;
@@ -43,7 +46,7 @@ pub fn load<R: Source>(alloc: Global, max_bytes: u64, reader: &mut R) -> Result<
         } else {
             PIECE
         };
-        let taken = match reader.read(&mut buffer[..ask]) {
+        let taken = match source.read(&mut buffer[..ask]) {
             Ok(0) => return Ok(bytes),
             Ok(taken) => taken,
             Err(_) => return Err(RunFault::Read),
@@ -71,17 +74,16 @@ fn text_len<B: Format>(model: &Model) -> u64
 }
 
 /// Writes the text of a model, and flushes once.
-fn put_model<B: Format, W: Sink>(model: &Model, writer: &mut W) -> Result<(), RunFault>
-    ensures answer { IsPut B.unfit B.text W.holds W.failed model.now writer.old writer.new result }
-    ensures calls { W.count writer.new ≤ W.count writer.old + length (B.text model.now) + 1 }
-    ensures stays { W.failed writer.old ≡ true → W.failed writer.new ≡ true }
+fn put_model<B: Format, W: Sink>(model: &Model, sink: &mut W) -> Result<(), RunFault>
+    ensures answer { IsPut B.unfit B.text W.holds W.failed W.count model.now sink.old sink.new result }
+    ensures stays { W.failed sink.old ≡ true → W.failed sink.new ≡ true }
 {
-    match B::write(model, writer) {
+    match B::write(model, sink) {
         Ok(()) => {}
         Err(WriteFault::NotLp(place)) => return Err(RunFault::NotLp(place)),
         Err(WriteFault::Write { written }) => return Err(RunFault::Write { written }),
     }
-    if writer.flush().is_err() {
+    if sink.flush().is_err() {
         return Err(RunFault::Write {
             written: text_len::<B>(model),
         });
@@ -92,38 +94,53 @@ fn put_model<B: Format, W: Sink>(model: &Model, writer: &mut W) -> Result<(), Ru
 /// Reads a source to its end, and writes to the sink the canonical text in B of the model that its bytes
 /// declare in A, flushed once.
 ///
-/// The source is read as by [`load`]. Nothing is written before all bytes were read and accepted.
+/// The source is read as by [`load`]. Nothing is written before all bytes were read and accepted: the
+/// source is at its end after `Ok` and after each fault but [`Read`](RunFault::Read),
+/// [`TooLong`](RunFault::TooLong) and [`OutOfMemory`](RunFault::OutOfMemory). The sink is called at most
+/// once for each byte of the text, and once to flush it. Either device stays failed once it has failed.
+///
+/// What is written is known where the sink's writer tells what it holds, as a `Vec` does:
+///
+/// ```
+/// let mut source = FromRead::new(bytes);
+/// let mut sink = ToWrite::new(Vec::new(alloc));
+/// run::<Mps, Mps, _, _>(alloc, max_bytes, &mut source, &mut sink)?;
+/// let text = sink.into_inner();
+/// ```
 ///
 /// # Errors
 ///
 /// The first [`RunFault`] that applies, in the order in which they are listed there, and want of memory
 /// where it happens. After [`Write`](RunFault::Write) the sink has taken exactly the first bytes of the
-/// text that are told, all of them where the flush failed; after any other fault it is as it was.
+/// text that are told, all of them where the flush failed; after any other fault it is as it was, and
+/// was not called.
 pub fn run<A: Format, B: Format, R: Source, W: Sink>(
     alloc: Global,
     max_bytes: u64,
-    reader: &mut R,
-    writer: &mut W,
+    source: &mut R,
+    sink: &mut W,
 ) -> Result<(), RunFault>
-    ensures answer { IsRun A.declares A.first_fault B.unfit B.text W.holds W.failed
-        (R.left reader.old) (R.failed reader.new) max_bytes writer.old writer.new result }
-    ensures accepts { (bytes : List ℕ) (m : LinearModel) → Had (R.left reader.old) (R.failed reader.new) max_bytes bytes → A.declares bytes m
-        → B.unfit m ≡ None → W.failed writer.new ≡ false → IsOkUnless result RunFault.OutOfMemory }
-    ensures too_long { (bytes : List ℕ) → HadMore (R.left reader.old) (R.failed reader.new) max_bytes bytes
+    ensures answer { IsRun A.declares A.first_fault B.unfit B.text W.holds W.failed W.count
+        (R.left source.old) (R.left source.new) (R.failed source.new) max_bytes sink.old sink.new result }
+    ensures accepts { (bytes : List ℕ) (m : LinearModel) → SourceHeld (R.left source.old) (R.failed source.new) max_bytes bytes → A.declares bytes m
+        → B.unfit m ≡ None → W.failed sink.new ≡ false → IsOkUnless result RunFault.OutOfMemory }
+    ensures too_long { (bytes : List ℕ) → SourceHeldMore (R.left source.old) (R.failed source.new) max_bytes bytes
         → IsErrUnless result RunFault.TooLong RunFault.OutOfMemory }
-    ensures refuses { (bytes : List ℕ) (fault : Fault) → Had (R.left reader.old) (R.failed reader.new) max_bytes bytes
+    ensures refuses { (bytes : List ℕ) (fault : Fault) → SourceHeld (R.left source.old) (R.failed source.new) max_bytes bytes
         → A.first_fault bytes fault → IsErrUnless result (RunFault.File fault) RunFault.OutOfMemory }
-    ensures cannot_tell { (bytes : List ℕ) (m : LinearModel) (place : NameAt) → Had (R.left reader.old) (R.failed reader.new) max_bytes bytes
+    ensures cannot_tell { (bytes : List ℕ) (m : LinearModel) (place : NameAt) → SourceHeld (R.left source.old) (R.failed source.new) max_bytes bytes
         → A.declares bytes m → B.unfit m ≡ Some place → IsErrUnless result (RunFault.NotLp place) RunFault.OutOfMemory }
-    ensures asked { TakesAtMost (max_bytes + 1) (R.left reader.old) (R.left reader.new) }
-    ensures calls { R.count reader.new ≤ R.count reader.old + max_bytes + 1 }
+    ensures asked { TakesAtMost (max_bytes + 1) (R.left source.old) (R.left source.new) }
+    ensures calls { R.count source.new ≤ R.count source.old + max_bytes + 1 }
+    ensures source_stays { R.failed source.old ≡ true → R.failed source.new ≡ true }
+    ensures sink_stays { W.failed sink.old ≡ true → W.failed sink.new ≡ true }
 {
-    let bytes = load(alloc, max_bytes, reader)?;
+    let bytes = load(alloc, max_bytes, source)?;
     let model = match A::read(alloc, &bytes) {
         Ok(model) => model,
         Err(ReadFault::File(fault)) => return Err(RunFault::File(fault)),
         Err(ReadFault::Failed) => unreachable!(),
         Err(ReadFault::OutOfMemory) => return Err(RunFault::OutOfMemory),
     };
-    put_model::<B, W>(&model, writer)
+    put_model::<B, W>(&model, sink)
 }

@@ -3,8 +3,11 @@
 mod faults;
 mod large;
 
+ghost use Rattle.std.specs.Prelude.{◌≡◌, IfOk};
+ghost use Rattle.mpslp_model.specs.Model.{LinearModel};
+
 use crate::{ConvertFault, RunFault, canonical, is_canonical, laws, load, report, run, same_model};
-use mpslp_model::{FaultKind, FromRead, Sink, Source, ToWrite};
+use mpslp_model::{FaultKind, Format, FromRead, Sink, Source, ToWrite};
 use mpslp_write::Mps;
 use std::alloc::{AllocError, Global};
 use std::io;
@@ -21,6 +24,20 @@ fn run_mps<R: Source, W: Sink>(
     sink: &mut W,
 ) -> Result<(), RunFault> {
     run::<Mps, Mps, R, W>(alloc, max_bytes, source, sink)
+}
+
+/// A run into a `Vec`: what it holds then is what the caller of a run knows by contracts alone.
+fn run_in_memory<A: Format, B: Format>(
+    alloc: Global,
+    max_bytes: u64,
+    bytes: &[u8],
+) -> Result<Vec<u8>, RunFault>
+    ensures { (m : LinearModel) → A.declares bytes.now m → IfOk result (λ out. out.items ≡ B.text m) }
+{
+    let mut source = FromRead::new(bytes);
+    let mut sink = ToWrite::new(Vec::new(alloc));
+    run::<A, B, _, _>(alloc, max_bytes, &mut source, &mut sink)?;
+    Ok(sink.into_inner())
 }
 
 /// All that the program writes: the canonical text, or the line of the fault behind what was written before.
@@ -628,6 +645,59 @@ fn inputs_have_at_most_so_many_bytes(rt: HostRuntime) -> Result<(), Fail> {
     };
     assert_eq!(rt; loaded.as_slice(), text);
     Ok(())
+}
+
+/// Gives a whole text, then 0 bytes, and then the text again.
+#[derive(Drop)]
+struct PausingReader<'a> {
+    text: &'a [u8],
+    reads: u64,
+}
+
+impl Read for PausingReader<'_> {
+    fn read(&mut self, buffer: &mut [u8]) -> io::Result<usize> {
+        self.reads = self.reads.saturating_add(1);
+        if self.reads == 2 {
+            return Ok(0);
+        }
+        let given = self.text.len().min(buffer.len());
+        buffer[..given].copy_from_slice(&self.text[..given]);
+        Ok(given)
+    }
+}
+
+#[test]
+fn a_read_of_0_bytes_is_the_end(rt: HostRuntime) -> Result<(), Fail> {
+    let alloc = rt.alloc();
+    let mut source = FromRead::new(PausingReader {
+        text: SMALL.as_bytes(),
+        reads: 0,
+    });
+    let Ok(loaded) = load(alloc, MUCH, &mut source) else {
+        assert!(rt; false);
+        return Ok(());
+    };
+    assert_eq!(rt; loaded.as_slice(), SMALL.as_bytes());
+    assert_eq!(rt; source.calls(), 2);
+    assert_eq!(rt; source.into_inner().reads, 2);
+    Ok(())
+}
+
+#[test]
+fn a_run_writes_once_and_flushes_once(rt: HostRuntime) {
+    let alloc = rt.alloc();
+    let mut source = FromRead::new(SMALL.as_bytes());
+    let mut sink = ToWrite::new(FailingWriter::new(alloc, 149, false));
+    let answer = run_mps(alloc, 147, &mut source, &mut sink);
+    assert!(rt; matches!(&answer, Ok(())));
+    assert_eq!(rt; source.calls(), 2);
+    assert_eq!(rt; source.into_inner().len(), 0);
+    assert_eq!(rt; sink.calls(), 2);
+    let writer = sink.into_inner();
+    assert_eq!(rt; writer.flushes, 1);
+    assert_eq!(rt; writer.held.as_slice(), SMALL_CANONICAL.as_bytes());
+    let text = run_in_memory::<Mps, Mps>(alloc, 147, SMALL.as_bytes());
+    assert!(rt; matches!(&text, Ok(text) if text.as_slice() == SMALL_CANONICAL.as_bytes()));
 }
 
 #[test]

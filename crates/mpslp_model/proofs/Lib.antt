@@ -34,5 +34,3 @@ pub mod NameLemmas
 mod WorkedNames
 mod WorkedRows
 mod WorkedModels
-pub mod DeviceLemmas
-pub mod GrowsLemmas

@@ -1,7 +1,7 @@
 -- What the calls of a format answer.
 use Rattle.std.specs.Prelude.{◌≡◌, ℕ, ◌-◌, ◌^◌, ◌≤◌, min, List, length, take, Bool, true, Option, None, Some, Result, Ok, Err}
 use Rattle.mpslp_model.specs.Model.{LinearModel}
-use Rattle.mpslp_model.specs.Devices.{Grows}
+use Rattle.mpslp_io.specs.Devices.{Grows}
 use Rattle.mpslp_model.specs.declared.faults.Fault.{Fault}
 use Rattle.mpslp_model.specs.declared.faults.NameAt.{NameAt}
 use Rattle.mpslp_model.specs.declared.faults.ReadFault.{ReadFault}
@@ -22,6 +22,12 @@ pub record TookFirst {S : Type 0} (holds : S → List ℕ → Type 0) (old new :
   pub within : count ≤ length text
   pub told_is : told ≡ min count (2 ^ 64 - 1)
   pub holds_them : Grows holds old new (take count text)
+
+-- A sink took a text; or its first bytes, before it failed.
+abbrev pub IsTaken : {S : Type 0} → (S → List ℕ → Type 0) → (S → Bool) → S → S → List ℕ → Result (Unit {0}) WriteFault → Type 0
+IsTaken holds failed old new text (Ok _) = Grows holds old new text
+IsTaken holds failed old new text (Err (Write written)) = (failed new ≡ true) × TookFirst holds old new text written
+IsTaken holds failed old new text (Err (NotLp place)) = ⊥
 
 -- The text of a model was written; or its first bytes, before the sink failed; or the sink was not called, since the
 -- model has what the format cannot tell.

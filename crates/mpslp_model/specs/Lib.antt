@@ -20,5 +20,4 @@ pub mod FaultFound
 pub mod Finish
 pub mod Same
 pub mod SameLaws
-pub mod Devices
 pub mod Formats

@@ -6,9 +6,9 @@ ghost use Rattle.mpslp_model.specs.Formats.{IsAnswerTo, IsWritten};
 ghost use Rattle.mpslp_model.specs.declared.faults.Fault.{Fault};
 ghost use Rattle.mpslp_model.specs.declared.faults.NameAt.{NameAt};
 
-use crate::devices::Sink;
 use crate::faults::{ReadFault, WriteFault};
 use crate::linear::Model;
+use mpslp_io::Sink;
 use std::alloc::Global;
 
 /// A format of model files: how its bytes are read, how a model is written, and the laws that hold the
@@ -37,12 +37,13 @@ pub trait Format {
 
     /// Writes the canonical text of the model to the sink, in as many calls as it has bytes at most,
     /// and does not flush. A model that the format cannot tell is answered by
-    /// [`NotLp`](WriteFault::NotLp) with the place, and the sink is not called. A sink that fails is
-    /// answered by [`Write`](WriteFault::Write): it has taken that many first bytes of the text, and
-    /// nothing else. No memory is taken.
+    /// [`NotLp`](WriteFault::NotLp) with the place, and the sink is not called. A sink that has failed
+    /// when the call ends is answered by [`Write`](WriteFault::Write): it has taken that many first bytes
+    /// of the text, and nothing else. No memory is taken.
     fn write<W: Sink>(model: &Model, sink: &mut W) -> Result<(), WriteFault>
         ensures answer { IsWritten unfit text W.holds W.failed model.now sink.old sink.new result }
         ensures succeeds { unfit model.now ≡ None → W.failed sink.new ≡ false → IsOk result }
+        ensures works { IsOk result → W.failed sink.new ≡ false }
         ensures calls { W.count sink.new ≤ W.count sink.old + length (text model.now) }
         ensures stays { W.failed sink.old ≡ true → W.failed sink.new ≡ true };
 

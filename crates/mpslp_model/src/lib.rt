@@ -4,13 +4,13 @@
 //! columns, coefficients, bounds. This crate says which declarations go together, which model they
 //! mean, and which fault is told where they mean none.
 //!
-//! What bytes are read from and written to, and what a format of model files is held to, stand here
-//! too, as the traits [`Source`], [`Sink`] and [`Format`]; [`put_all`] writes a whole piece to a sink.
+//! What a format of model files is held to stands here too, as the trait [`Format`]. The devices that
+//! a format is written to are those of `mpslp_io`, and are to be had here as well: [`Source`], [`Sink`],
+//! [`put_all`] and what goes with them.
 #![tactic(auto)]
 
 mod building;
 mod columns;
-mod devices;
 mod entries;
 mod faults;
 mod finding;
@@ -21,18 +21,14 @@ pub mod laws;
 mod limits;
 mod linear;
 mod names;
-mod put;
-mod streams;
 
 pub use building::Builder;
-pub use devices::{IoFailed, Sink, Source};
 pub use faults::{BuildFault, Fault, FaultKind, NameAt, ReadFault, WriteFault};
 pub use formats::Format;
 pub use kinds::{Kind, Limit, RowType, Sense};
 pub use linear::Model;
+pub use mpslp_io::{FromRead, IoFailed, Sink, Source, ToWrite, put_all};
 pub use names::{MAX_NAME_LEN, Name, NameFault};
-pub use put::put_all;
-pub use streams::{FromRead, ToWrite};
 
 #[cfg(test)]
 mod tests;

@@ -1,7 +1,7 @@
 -- The cells of a column are its coefficient in the objective, if it has one, and then its coefficients in rows as a model numbers them.
-use Rattle.std.proofs.Common.{◌≡◌, refl, sym, ap, subst, ◌∙◌, ℕ, Bool, true, false, not, cond, List, [], ◌∷◌, ◌++◌, map, length}
-use Rattle.std.specs.Prelude.{Option, Some, None, is_some, filter, filter_map, ◌&&◌, ◌||◌}
-use Rattle.std.specs.List.{flat_map, cons_option}
+use Rattle.std.proofs.Common.{◌≡◌, refl, sym, ap, subst, ◌∙◌, ℕ, Bool, true, false, not, cond, List, [], ◌∷◌, map}
+use Rattle.std.specs.Prelude.{Option, Some, None, filter, filter_map, ◌&&◌, ◌||◌}
+use Rattle.std.specs.List.{cons_option}
 use Rattle.std.specs.Option.{option_map}
 use Rattle.std.specs.Ordering.{is_eq, is_lt, eq_by_cmp, ordering_then}
 use Rattle.std.specs.Cmp.{first_so, second_so, tied_itself}
@@ -12,7 +12,7 @@ use Rattle.std.specs.FinMap.{find, is_sorted}
 use Rattle.std.specs.FinMap.Entries.{below_all, is_sorted-where_key, find-where_key, same_entries}
 use Rattle.mpslp_decimal.specs.Decimal.{Number, is_decimal, is_zero}
 use Rattle.mpslp_model.specs.Name.{same_bytes, is_one_of}
-use Rattle.mpslp_model.specs.Model.{LinearModel, Row, Place, bytes_cmp, place_cmp, IsSound}
+use Rattle.mpslp_model.specs.Model.{LinearModel, Place, bytes_cmp, place_cmp, IsSound}
 use Rattle.mpslp_model.specs.Declaration.{names_in}
 use Rattle.mpslp_model.specs.Views.{column_elements}
 use Rattle.mpslp_model.proofs.BoolLemmas.{both_so}

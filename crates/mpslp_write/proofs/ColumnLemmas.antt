@@ -1,9 +1,8 @@
 -- The lines of columns, as they are put one after another.
-use Rattle.std.proofs.Common.{◌≡◌, refl, sym, ap, subst, ◌∙◌, ℕ, zero, suc, ◌<◌, ◌≤◌, Bool, true, false, not, cond, List, [], ◌∷◌, ◌++◌, length, map, append-nil, arith}
-use Rattle.std.specs.Prelude.{Option, Some, None, slice_get, slice_index_or, position, filter, ◌&&◌, unwrap_or, if◌then◌else◌}
+use Rattle.std.proofs.Common.{◌≡◌, refl, sym, ap, ◌∙◌, ℕ, ◌<◌, ◌≤◌, Bool, true, false, not, cond, List, [], ◌∷◌, ◌++◌, length, map, arith}
+use Rattle.std.specs.Prelude.{Option, Some, None, slice_get, slice_index_or, unwrap_or}
 use Rattle.std.specs.List.{flat_map, cons_option}
 use Rattle.std.specs.Option.{option_map, option_map_or}
-use Rattle.std.specs.Bool.{beq}
 use Rattle.std.specs.Cmp.{first_so, second_so}
 use Rattle.std.specs.FinMap.{find, entries}
 use Rattle.std.proofs.lemmas.List.Quantifiers.{position-Some}
@@ -23,14 +22,14 @@ use Rattle.mpslp_model.proofs.SortedDrafts.{place_total}
 use Rattle.mpslp_mps.specs.DataLine.{opening_word, closing_word}
 use Rattle.mpslp_canonical.specs.Listing.{Listing, listing_of}
 use Rattle.mpslp_canonical.specs.Printed.{PrintedLine}
-use Rattle.mpslp_canonical.specs.CanonicalMps.{Lines, bound_line, column_bound_lines, cell_line, cell_at, column_cells, printed_cells, column_lines, is_integer_kind, is_integer_column, is_continuous_column, integer_part, marker_line}
+use Rattle.mpslp_canonical.specs.CanonicalMps.{Lines, bound_line, column_bound_lines, cell_line, column_cells, printed_cells, column_lines, is_integer_kind, is_integer_column, integer_part, marker_line}
 use Rattle.mpslp_model.specs.Refusal.{is_nonempty}
 use Rattle.mpslp_write.specs.LinesAt.{lines_at, is_wanted, of_kind, element_lines, objective_line_at, objective_lines, kind_of}
 use Rattle.mpslp_canonical.specs.PrintedValues.{PrintedBound, printed_bounds}
 use Rattle.mpslp_write.proofs.LinesAtLemmas.{both_seen, lines_seen, nonempty_seen, nonempty-map}
 use Rattle.mpslp_canonical.proofs.EntryLemmas.{found-each}
 use Rattle.mpslp_canonical.proofs.CoefficientMap.{place_at}
-use Rattle.mpslp_canonical.proofs.DraftMaps.{is_sound_entry, IsSoundListing}
+use Rattle.mpslp_canonical.proofs.DraftMaps.{is_sound_entry}
 use Rattle.mpslp_canonical.proofs.ListingFacts.{sound-listing}
 use Rattle.mpslp_write.proofs.CellLemmas.{by_row, column-cells}
 
@@ -69,18 +68,11 @@ at-kind es j b is = by (slice_get es j) refl (ap (option_map views.is_integer_co
     by (Some e) at h = let told : views.is_integer_column e.1 ≡ b = cc in (e, at, sym (tests-same e.1) ∙ told)
 
 -- the lines of the column of a number, if it is of the kind that is wanted
-pub kind-lines : (integer : Bool) (f : List ℕ × Column → Lines) (es : Columns) (j : ℕ) (b : Bool)
-    → option_map views.is_integer_column (slice_get (map (λ e. e.1) es) j) ≡ Some b → cond (is_wanted integer b) (lines_at f es j) [] ≡ lines_at (of_kind integer f) es j
-kind-lines integer f es j b is =
+pub kind-lines : (kind : Kind) (f : List ℕ × Column → Lines) (es : Columns) (j : ℕ) (b : Bool)
+    → option_map views.is_integer_column (slice_get (map (λ e. e.1) es) j) ≡ Some b → cond (is_wanted kind b) (lines_at f es j) [] ≡ lines_at (of_kind kind f) es j
+kind-lines wanted f es j b is =
     let (e, at, kind) = at-kind es j b is in
-    (λ i. cond (is_wanted integer (sym kind i)) (option_map_or f (at i) []) []) ∙ sym (ap (λ (o : Option (List ℕ × Column)). option_map_or (of_kind integer f) o []) at)
-
--- as the code tests it
-pub wanted-is : (integer b : Bool) → beq b integer ≡ is_wanted integer b
-wanted-is true true = refl
-wanted-is true false = refl
-wanted-is false true = refl
-wanted-is false false = refl
+    (λ i. cond (is_wanted wanted (sym kind i)) (option_map_or f (at i) []) []) ∙ sym (ap (λ (o : Option (List ℕ × Column)). option_map_or (of_kind wanted f) o []) at)
 
 -- each column has lines
 has-cells : (objective : List ℕ) (cells : List (List ℕ × Number)) (g : List ℕ × Number → PrintedLine) → is_nonempty (map g (printed_cells objective cells)) ≡ true
@@ -89,10 +81,10 @@ has-cells objective (cell ∷ cells) g = refl
 
 -- an integer column has lines in the integer part
 pub integer-lines : (m : Listing) (es : Columns) (j : ℕ) (b : Bool) → option_map views.is_integer_column (slice_get (map (λ e. e.1) es) j) ≡ Some b
-    → is_nonempty (lines_at (of_kind true (column_lines m)) es j) ≡ b
+    → is_nonempty (lines_at (of_kind Integer (column_lines m)) es j) ≡ b
 integer-lines m es j b is =
     let (e, at, kind) = at-kind es j b is in
-    ap (λ (o : Option (List ℕ × Column)). is_nonempty (option_map_or (of_kind true (column_lines m)) o [])) at
+    ap (λ (o : Option (List ℕ × Column)). is_nonempty (option_map_or (of_kind Integer (column_lines m)) o [])) at
     ∙ ap (λ (k : Bool). is_nonempty (cond k (column_lines m e) [])) kind ∙ by b e
   where
     by : (k : Bool) (e : List ℕ × Column) → is_nonempty (cond k (column_lines m e) []) ≡ k

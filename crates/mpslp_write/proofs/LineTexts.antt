@@ -1,6 +1,8 @@
--- The pieces of a line, one after another, are its text.
-use Rattle.std.proofs.Common.{◌≡◌, sym, ap, ◌∙◌, ℕ, List, [], ◌∷◌, ◌++◌, append_assoc, append-nil}
+-- The pieces of a line, one after another, are its text; and a text has bytes.
+use Rattle.std.proofs.Common.{◌≡◌, ◌<◌, sym, ap, ◌∙◌, ℕ, List, [], ◌∷◌, ◌++◌, length, append_assoc, append-nil, arith}
 use Rattle.std.specs.Prelude.{codes}
+use Rattle.mpslp_model.specs.Model.{LinearModel}
+use Rattle.mpslp_canonical.specs.CanonicalMps.{canonical_mps}
 use Rattle.mpslp_canonical.specs.Printed.{short_line, long_line, text_of}
 
 -- what stands before a field
@@ -36,3 +38,6 @@ valued_text a c n =
     ∙ ap (λ (l : List ℕ). codes " " ++ l)
     (append_assoc a ((gap ++ codes "BND") ++ ((gap ++ c) ++ (gap ++ n))) line_end
     ∙ ap (λ (l : List ℕ). a ++ ((gap ++ codes "BND") ++ l)) (append_assoc (gap ++ c) (gap ++ n) line_end)))
+
+pub canonical_mps-some : (m : LinearModel) → 0 < length (canonical_mps m)
+canonical_mps-some m = omega arith

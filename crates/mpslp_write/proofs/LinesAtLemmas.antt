@@ -1,12 +1,12 @@
 -- Lines of one entry after another, and of an entry as it is seen through a model's views.
-use Rattle.std.proofs.Common.{◌≡◌, refl, sym, ap, ◌∙◌, ℕ, zero, suc, ◌<◌, ◌≤◌, ◌+◌, add-one, Bool, true, false, not, cond, List, [], ◌∷◌, ◌++◌, length, map, take, drop, append_assoc, append-nil, arith}
+use Rattle.std.proofs.Common.{◌≡◌, refl, sym, ap, ◌∙◌, ℕ, zero, suc, ◌≤◌, ◌+◌, add-one, Bool, true, false, cond, List, [], ◌∷◌, ◌++◌, length, map, take, drop, append_assoc, append-nil, arith}
 use Rattle.std.specs.Prelude.{Option, Some, None, slice_get, filter, ◌||◌}
-use Rattle.std.specs.List.{flat_map, list_any}
+use Rattle.std.specs.List.{flat_map}
 use Rattle.std.specs.Option.{option_map, option_map_or}
 use Rattle.std.proofs.lemmas.List.{length-map}
 use Rattle.std.proofs.lemmas.Option.{slice_get-map}
 use Rattle.mpslp_mps.specs.declared.sections.Section.{Section}
-use Rattle.mpslp_canonical.specs.CanonicalMps.{Lines, header_line, under_header, integer_part, marker_line}
+use Rattle.mpslp_canonical.specs.CanonicalMps.{Lines, header_line, under_header}
 use Rattle.mpslp_model.specs.Refusal.{is_nonempty}
 use Rattle.mpslp_write.specs.LinesAt.{lines_at}
 

@@ -1,18 +1,19 @@
 -- How what was put grows piece by piece, and by what is handed to the sink.
-use Rattle.std.proofs.Common.{◌≡◌, refl, sym, ap, subst, ◌∙◌, ℕ, ◌+◌, ◌-◌, ◌^◌, ◌≤◌, min, Bool, true, false, List, [], ◌∷◌, ◌++◌, length, take, drop, append_assoc, append-nil, arith}
-use Rattle.std.specs.Prelude.{Result, Ok, Err, Option, None, IsOk}
+use Rattle.std.proofs.Common.{◌≡◌, refl, sym, ap, subst, ◌∙◌, ℕ, ◌+◌, ◌-◌, ◌^◌, ◌<◌, ◌≤◌, min, Bool, true, false, inl, inr, List, [], ◌∷◌, ◌++◌, length, take, drop, append_assoc, append-nil, arith}
+use Rattle.std.specs.Prelude.{Result, Ok, Err, None, IsOk}
 use Rattle.mpslp_model.specs.Model.{LinearModel}
 use Rattle.mpslp_model.specs.declared.faults.WriteFault.{WriteFault}
 use Rattle.mpslp_model.specs.declared.faults.WriteFault.TheVariants.{Write, NotLp}
 use Rattle.std.proofs.Math.Seq.{take-append-add}
+use Rattle.std.proofs.lemmas.Bool.{cases_lt}
 use Rattle.std.proofs.lemmas.List.{length-append, take-append-le}
-use Rattle.mpslp_model.specs.Devices.{Grows, TookMore}
-use Rattle.mpslp_model.specs.Formats.{TookFirst, IsWritten}
-use Rattle.mpslp_model.proofs.GrowsLemmas.{Grows-nil, Grows-append}
+use Rattle.mpslp_io.specs.Devices.{Grows, TookMore}
+use Rattle.mpslp_model.specs.Formats.{TookFirst, IsTaken, IsWritten}
+use Rattle.mpslp_io.proofs.GrowsLemmas.{Grows-nil, Grows-append}
 use Rattle.std.specs.List.{flat_map}
 use Rattle.mpslp_canonical.specs.CanonicalMps.{Lines}
 use Rattle.mpslp_write.proofs.LinesAtLemmas.{flat_map-rest}
-use Rattle.mpslp_write.specs.Output.{Gathered, nothing_gathered, with_waiting, IsUnderWay, IsCutOff, HasPut, Emits, Prints, IsTaken, answer_of}
+use Rattle.mpslp_write.specs.Output.{Gathered, nothing_gathered, with_waiting, HasPut, Emits, Prints, answer_of}
 use Rattle.mpslp_canonical.specs.Printed.{PrintedLine, printed, text_of}
 
 text_of-append : (front back : List PrintedLine) → text_of (front ++ back) ≡ text_of front ++ text_of back
@@ -39,7 +40,7 @@ module _ {S : Type 0} (holds : S → List ℕ → Type 0) (failed : S → Bool) 
   -- nothing was put yet
   pub HasPut-nothing : (s : S) → HasPut holds failed count s s nothing_gathered []
   HasPut-nothing s = record {
-    under_way = λ _. record { sent = []; parts = refl; sent_is = Grows-nil holds s; taken_is = omega arith; calls = omega arith; stays = λ h. h };
+    under_way = λ _. record { sent = []; parts = refl; sent_is = Grows-nil holds s; taken_is = omega arith; calls = omega arith; stays = λ h. h; works = λ some. absurd (omega arith) };
     cut_off = λ is. absurd (not_both is refl);
   }
 
@@ -56,6 +57,7 @@ module _ {S : Type 0} (holds : S → List ℕ → Type 0) (failed : S → Bool) 
           taken_is = was.taken_is;
           calls = was.calls;
           stays = was.stays;
+          works = was.works;
         };
     cut_off = λ fails.
         let was = h.cut_off fails in
@@ -67,8 +69,9 @@ module _ {S : Type 0} (holds : S → List ℕ → Type 0) (failed : S → Bool) 
   pub HasPut-sent : (first old new : S) (text piece : List ℕ) (taken later : ℕ)
       → HasPut holds failed count first old (record { waiting = piece; taken = taken; has_failed = false }) text → Grows holds old new piece
       → later ≡ min (taken + length piece) (2 ^ 64 - 1) → count new ≤ count old + length piece → (failed old ≡ true → failed new ≡ true)
+      → (0 < length piece → failed new ≡ false) → (length piece ≡ 0 → new ≡ old)
       → HasPut holds failed count first new (record { waiting = []; taken = later; has_failed = false }) text
-  HasPut-sent first old new text piece taken later h grows is calls stays = record {
+  HasPut-sent first old new text piece taken later h grows is calls stays works same = record {
     under_way = λ _.
         let was = h.under_way refl in
         let whole : length text ≡ length was.sent + length piece = ap length was.parts ∙ length-append was.sent piece in
@@ -81,6 +84,12 @@ module _ {S : Type 0} (holds : S → List ℕ → Type 0) (failed : S → Bool) 
           taken_is = omega arith;
           calls = omega arith;
           stays = λ f. stays (was.stays f);
+          works = λ some. elim (cases_lt 0 (length piece)) [
+            | inl more ↦ works more
+            | inr none ↦
+                let e : length piece ≡ 0 = omega arith in
+                subst (λ s. failed s ≡ false) (sym (same e)) (was.works (omega arith))
+          ];
         };
     cut_off = λ fails. absurd (not_both fails refl);
   }
@@ -191,6 +200,17 @@ module _ {S : Type 0} (holds : S → List ℕ → Type 0) (failed : S → Bool) 
             let called = was.calls in
             let whole : length text ≡ length was.sent + length buffer.waiting = ap length was.parts ∙ length-append was.sent buffer.waiting in
             omega arith
+      ] refl
+
+  pub works-end : (first now : S) (buffer : Gathered) (text : List ℕ) → HasPut holds failed count first now buffer text → buffer.waiting ≡ [] → 0 < length text
+      → IsOk (answer_of buffer) → failed now ≡ false
+  works-end first now buffer text h none some =
+      elim (buffer.has_failed) as (λ b. buffer.has_failed ≡ b → IsOk (answer_of (record { waiting = buffer.waiting; taken = buffer.taken; has_failed = b })) → failed now ≡ false) [
+        | true ↦ λ fails ok. absurd cc
+        | false ↦ λ works ok.
+            let was = h.under_way works in
+            let whole : length text ≡ length was.sent = ap length (was.parts ∙ ap (λ (l : List ℕ). was.sent ++ l) none ∙ append-nil was.sent) in
+            was.works (omega arith)
       ] refl
 
   pub stays-end : (first now : S) (buffer : Gathered) (text : List ℕ) → HasPut holds failed count first now buffer text → failed first ≡ true → failed now ≡ true

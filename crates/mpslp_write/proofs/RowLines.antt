@@ -1,6 +1,6 @@
 -- The lines of the right side and of the range of a row.
-use Rattle.std.proofs.Common.{◌≡◌, refl, sym, ap, ◌∙◌, ℕ, Bool, true, false, not, cond, List, [], ◌∷◌, ◌++◌}
-use Rattle.std.specs.Prelude.{Option, Some, None, ◌||◌, codes}
+use Rattle.std.proofs.Common.{◌≡◌, refl, ℕ, true, false, not, cond, List, [], ◌∷◌}
+use Rattle.std.specs.Prelude.{Option, codes}
 use Rattle.std.specs.Option.{option_map_or}
 use Rattle.mpslp_decimal.specs.Decimal.{Number, is_zero}
 use Rattle.mpslp_model.specs.Refusal.{is_nonempty}

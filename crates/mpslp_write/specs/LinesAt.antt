@@ -15,14 +15,14 @@ use Rattle.mpslp_canonical.specs.CanonicalMps.{Lines, is_integer_column, cell_li
 abbrev pub lines_at : {X : Type 0} → (X → Lines) → List X → ℕ → Lines
 lines_at lines_of entries i = option_map_or lines_of (slice_get entries i) []
 
--- whether a column is of the kind that is wanted: integer, or not
-abbrev pub is_wanted : Bool → Bool → Bool
-is_wanted true is_integer = is_integer
-is_wanted false is_integer = not is_integer
+-- whether a column that is integer, or not, is of the kind that is wanted
+abbrev pub is_wanted : Kind → Bool → Bool
+is_wanted Integer is_integer = is_integer
+is_wanted Continuous is_integer = not is_integer
 
 -- the lines of a column of the kind that is wanted
-abbrev pub of_kind : Bool → (List ℕ × Column → Lines) → List ℕ × Column → Lines
-of_kind integer lines_of column = if is_wanted integer (is_integer_column column) then lines_of column else []
+abbrev pub of_kind : Kind → (List ℕ × Column → Lines) → List ℕ × Column → Lines
+of_kind kind lines_of column = if is_wanted kind (is_integer_column column) then lines_of column else []
 
 -- the line of a coefficient of a row
 abbrev pub element_lines : List ℕ → Place × Number → Lines

@@ -1,11 +1,11 @@
 -- What a writer has put so far: a sink took the first bytes of the text, and the others wait in a buffer.
-use Rattle.std.specs.Prelude.{◌≡◌, ℕ, ◌+◌, ◌-◌, ◌^◌, ◌≤◌, min, Bool, true, false, List, [], ◌++◌, length, refl, Result, Ok, Err, if◌then◌else◌}
+use Rattle.std.specs.Prelude.{◌≡◌, ℕ, ◌+◌, ◌-◌, ◌^◌, ◌<◌, ◌≤◌, min, Bool, true, false, List, [], ◌++◌, length, refl, Result, Ok, Err, if◌then◌else◌}
 use Rattle.std.specs.Coded.{Coded, code_by, coded×, coded_list, coded_ℕ, coded_bool}
-use Rattle.mpslp_model.specs.Devices.{Grows}
+use Rattle.mpslp_io.specs.Devices.{Grows}
 use Rattle.mpslp_canonical.specs.Printed.{PrintedLine, text_of}
 use Rattle.mpslp_model.specs.Formats.{TookFirst}
 use Rattle.mpslp_model.specs.declared.faults.WriteFault.{WriteFault}
-use Rattle.mpslp_model.specs.declared.faults.WriteFault.TheVariants.{Write, NotLp}
+use Rattle.mpslp_model.specs.declared.faults.WriteFault.TheVariants.{Write}
 
 -- The bytes that wait, how many bytes the sink took, a number that stays at 2^64 - 1, and whether the sink failed.
 pub record Gathered : Type 0 where
@@ -36,6 +36,7 @@ pub record IsUnderWay {S : Type 0} (holds : S → List ℕ → Type 0) (failed :
   pub taken_is : buffer.taken ≡ min (length sent) (2 ^ 64 - 1)
   pub calls : count now ≤ count first + length sent
   pub stays : failed first ≡ true → failed now ≡ true
+  pub works : 0 < length sent → failed now ≡ false
 
 -- It took the first bytes of the text, and then failed.
 pub record IsCutOff {S : Type 0} (holds : S → List ℕ → Type 0) (failed : S → Bool) (count : S → ℕ) (first now : S) (buffer : Gathered) (text : List ℕ)
@@ -64,12 +65,6 @@ pub record Emits {S : Type 0} (holds : S → List ℕ → Type 0) (failed : S �
 pub record Prints {S : Type 0} (holds : S → List ℕ → Type 0) (failed : S → Bool) (count : S → ℕ) (old new : S) (before after : Gathered)
     (lines : List PrintedLine) : Type 0 where
   pub emits : Emits holds failed count old new before after (text_of lines)
-
--- Nothing more waits: the sink took the text, or its first bytes before it failed.
-abbrev pub IsTaken : {S : Type 0} → (S → List ℕ → Type 0) → (S → Bool) → S → S → List ℕ → Result (Unit {0}) WriteFault → Type 0
-IsTaken holds failed first now text (Ok _) = Grows holds first now text
-IsTaken holds failed first now text (Err (Write written)) = (failed now ≡ true) × TookFirst holds first now text written
-IsTaken holds failed first now text (Err (NotLp place)) = ⊥
 
 -- what is told of a sink that took all that it was handed, or failed
 abbrev pub answer_of : Gathered → Result (Unit {0}) WriteFault

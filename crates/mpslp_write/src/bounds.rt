@@ -15,7 +15,18 @@ use crate::lines::{put_bare_bound, put_valued_bound};
 use crate::output::Buffer;
 use crate::values::have_same_value;
 use mpslp_decimal::Decimal;
-use mpslp_model::{Limit, Model, Sink};
+use mpslp_model::{Kind, Limit, Model, Sink};
+
+/// The kind of a column that is integer, or not.
+fn kind_of(is_integer: bool) -> Kind
+    ensures { result ≡ kind_of is_integer }
+{
+    if is_integer {
+        Kind::Integer
+    } else {
+        Kind::Continuous
+    }
+}
 
 /// Puts the line of a lower bound, unless it is 0.
 fn put_lower<W: Sink>(sink: &mut W, buffer: &mut Buffer, column: &[u8], lower: &Limit)
@@ -34,23 +45,16 @@ fn put_lower<W: Sink>(sink: &mut W, buffer: &mut Buffer, column: &[u8], lower: &
 
 /// Puts the line of an upper bound. Plus infinity has one for an integer column alone, which would end
 /// at 1 without it.
-fn put_upper<W: Sink>(
-    sink: &mut W,
-    buffer: &mut Buffer,
-    column: &[u8],
-    integer: bool,
-    upper: &Limit,
-)
-    ensures { Prints W.holds W.failed W.count sink.old sink.new buffer.old buffer.new (map (bound_line column.now) (printed_upper (kind_of integer) upper.now)) }
+fn put_upper<W: Sink>(sink: &mut W, buffer: &mut Buffer, column: &[u8], kind: Kind, upper: &Limit)
+    ensures { Prints W.holds W.failed W.count sink.old sink.new buffer.old buffer.new (map (bound_line column.now) (printed_upper kind upper.now)) }
 {
     match upper {
         Limit::MinusInf => {}
         Limit::Finite(value) => put_valued_bound(sink, buffer, b"UP", column, *value),
-        Limit::PlusInf => {
-            if integer {
-                put_bare_bound(sink, buffer, b"PL", column);
-            }
-        }
+        Limit::PlusInf => match kind {
+            Kind::Continuous => {}
+            Kind::Integer => put_bare_bound(sink, buffer, b"PL", column),
+        },
     }
 }
 
@@ -59,14 +63,14 @@ fn put_both<W: Sink>(
     sink: &mut W,
     buffer: &mut Buffer,
     column: &[u8],
-    integer: bool,
+    kind: Kind,
     lower: &Limit,
     upper: &Limit,
 )
-    ensures { Prints W.holds W.failed W.count sink.old sink.new buffer.old buffer.new (map (bound_line column.now) (printed_lower lower.now ++ printed_upper (kind_of integer) upper.now)) }
+    ensures { Prints W.holds W.failed W.count sink.old sink.new buffer.old buffer.new (map (bound_line column.now) (printed_lower lower.now ++ printed_upper kind upper.now)) }
 {
     put_lower(sink, buffer, column, lower);
-    put_upper(sink, buffer, column, integer, upper);
+    put_upper(sink, buffer, column, kind, upper);
 }
 
 /// The value of a column whose bounds are finite and have the same value.
@@ -111,11 +115,11 @@ fn put_bounds_of<W: Sink>(
     sink: &mut W,
     buffer: &mut Buffer,
     column: &[u8],
-    integer: bool,
+    kind: Kind,
     lower: &Limit,
     upper: &Limit,
 )
-    ensures { Prints W.holds W.failed W.count sink.old sink.new buffer.old buffer.new (map (bound_line column.now) (printed_bounds (kind_of integer) lower.now upper.now)) }
+    ensures { Prints W.holds W.failed W.count sink.old sink.new buffer.old buffer.new (map (bound_line column.now) (printed_bounds kind lower.now upper.now)) }
 {
     if are_free(lower, upper) {
         put_bare_bound(sink, buffer, b"FR", column);
@@ -123,7 +127,7 @@ fn put_bounds_of<W: Sink>(
     }
     match fixed_value(lower, upper) {
         Some(value) => put_valued_bound(sink, buffer, b"FX", column, value),
-        None => put_both(sink, buffer, column, integer, lower, upper),
+        None => put_both(sink, buffer, column, kind, lower, upper),
     }
 }
 
@@ -139,13 +143,16 @@ fn has_lower(lower: &Limit) -> bool
 }
 
 /// Whether an upper bound has a line.
-fn has_upper(integer: bool, upper: &Limit) -> bool
-    ensures { result ≡ is_nonempty (printed_upper (kind_of integer) upper.now) }
+fn has_upper(kind: Kind, upper: &Limit) -> bool
+    ensures { result ≡ is_nonempty (printed_upper kind upper.now) }
 {
     match upper {
         Limit::MinusInf => false,
         Limit::Finite(_) => true,
-        Limit::PlusInf => integer,
+        Limit::PlusInf => match kind {
+            Kind::Continuous => false,
+            Kind::Integer => true,
+        },
     }
 }
 
@@ -156,12 +163,12 @@ fn put_bounds<W: Sink>(model: &Model, j: usize, sink: &mut W, buffer: &mut Buffe
 {
     let lower = model.col_lower(j);
     let upper = model.col_upper(j);
-    let integer = model.is_integer(j);
+    let kind = kind_of(model.is_integer(j));
     put_bounds_of(
         sink,
         buffer,
         model.column_name(j).as_bytes(),
-        integer,
+        kind,
         &lower,
         &upper,
     );
@@ -185,7 +192,7 @@ fn has_bounds(model: &Model, j: usize) -> bool
     ensures { result ≡ is_nonempty (lines_at column_bound_lines (entries model.now.columns) j) }
 {
     let lower = has_lower(&model.col_lower(j));
-    let upper = has_upper(model.is_integer(j), &model.col_upper(j));
+    let upper = has_upper(kind_of(model.is_integer(j)), &model.col_upper(j));
     lower || upper
 }
 

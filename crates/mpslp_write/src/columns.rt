@@ -1,19 +1,19 @@
 //! The section COLUMNS.
 
-ghost use Rattle.std.specs.Prelude.{◌≡◌, ◌<◌, true, [], ◌∷◌, length};
+ghost use Rattle.std.specs.Prelude.{◌≡◌, ◌<◌, [], ◌∷◌, length};
 ghost use Rattle.std.specs.List.{flat_map};
 ghost use Rattle.std.specs.FinMap.{entries};
 ghost use Rattle.mpslp_model.specs.Views.{num_columns, column_name, column_elements};
 ghost use Rattle.mpslp_canonical.specs.CanonicalMps.{column_lines, columns_section, integer_part};
 ghost use Rattle.mpslp_canonical.specs.Listing.{listing_of};
 ghost use Rattle.mpslp_model.specs.Refusal.{is_nonempty};
-ghost use Rattle.mpslp_write.specs.LinesAt.{lines_at, of_kind, element_lines, objective_lines};
+ghost use Rattle.mpslp_write.specs.LinesAt.{lines_at, is_wanted, of_kind, element_lines, objective_lines};
 ghost use Rattle.mpslp_write.specs.Output.{Prints};
 
 use crate::lines::put_value_line;
 use crate::output::Buffer;
 use mpslp_model::laws::each_model_is_sound;
-use mpslp_model::{Model, Sink};
+use mpslp_model::{Kind, Model, Sink};
 
 /// Puts the line of the coefficient of number `k` among those of rows in the column of number `j`.
 fn put_element<W: Sink>(model: &Model, j: usize, k: usize, sink: &mut W, buffer: &mut Buffer)
@@ -71,37 +71,47 @@ fn put_column<W: Sink>(model: &Model, j: usize, sink: &mut W, buffer: &mut Buffe
     put_elements(model, j, sink, buffer);
 }
 
-/// Puts the lines of the column of number `j`, if it is integer exactly where those are wanted.
+/// Whether a column that is integer, or not, is of the kind that is wanted.
+fn is_wanted(kind: Kind, is_integer: bool) -> bool
+    ensures { result ≡ is_wanted kind is_integer }
+{
+    match kind {
+        Kind::Continuous => !is_integer,
+        Kind::Integer => is_integer,
+    }
+}
+
+/// Puts the lines of the column of number `j`, if it is of the kind.
 fn put_column_of_kind<W: Sink>(
     model: &Model,
     j: usize,
-    integer: bool,
+    kind: Kind,
     sink: &mut W,
     buffer: &mut Buffer,
 )
     requires { j < num_columns model.now }
-    ensures { Prints W.holds W.failed W.count sink.old sink.new buffer.old buffer.new (lines_at (of_kind integer (column_lines (listing_of model.now))) (entries model.now.columns) j) }
+    ensures { Prints W.holds W.failed W.count sink.old sink.new buffer.old buffer.new (lines_at (of_kind kind (column_lines (listing_of model.now))) (entries model.now.columns) j) }
 {
-    if model.is_integer(j) == integer {
+    if is_wanted(kind, model.is_integer(j)) {
         put_column(model, j, sink, buffer);
     }
 }
 
-/// Puts the lines of all columns that are integer, or of all others.
-fn put_columns<W: Sink>(model: &Model, integer: bool, sink: &mut W, buffer: &mut Buffer)
-    ensures { Prints W.holds W.failed W.count sink.old sink.new buffer.old buffer.new (flat_map (of_kind integer (column_lines (listing_of model.now))) (entries model.now.columns)) }
+/// Puts the lines of all columns of the kind.
+fn put_columns<W: Sink>(model: &Model, kind: Kind, sink: &mut W, buffer: &mut Buffer)
+    ensures { Prints W.holds W.failed W.count sink.old sink.new buffer.old buffer.new (flat_map (of_kind kind (column_lines (listing_of model.now))) (entries model.now.columns)) }
 {
     for j in 0..model.num_cols() {
         if buffer.has_failed() {
             return;
         }
-        put_column_of_kind(model, j, integer, sink, buffer);
+        put_column_of_kind(model, j, kind, sink, buffer);
     }
 }
 
 /// Whether a column is integer.
 fn has_integer_columns(model: &Model) -> bool
-    ensures { result ≡ is_nonempty (flat_map (of_kind true (column_lines (listing_of model.now))) (entries model.now.columns)) }
+    ensures { result ≡ is_nonempty (flat_map (of_kind Kind.Integer (column_lines (listing_of model.now))) (entries model.now.columns)) }
 {
     for j in 0..model.num_cols() {
         if model.is_integer(j) {
@@ -113,11 +123,11 @@ fn has_integer_columns(model: &Model) -> bool
 
 /// Puts the lines of the integer columns between marker lines, or nothing where no column is integer.
 fn put_integer_part<W: Sink>(model: &Model, sink: &mut W, buffer: &mut Buffer)
-    ensures { Prints W.holds W.failed W.count sink.old sink.new buffer.old buffer.new (integer_part (flat_map (of_kind true (column_lines (listing_of model.now))) (entries model.now.columns))) }
+    ensures { Prints W.holds W.failed W.count sink.old sink.new buffer.old buffer.new (integer_part (flat_map (of_kind Kind.Integer (column_lines (listing_of model.now))) (entries model.now.columns))) }
 {
     if has_integer_columns(model) {
         buffer.put(sink, b"    MARKER  'MARKER'  'INTORG'\n");
-        put_columns(model, true, sink, buffer);
+        put_columns(model, Kind::Integer, sink, buffer);
         buffer.put(sink, b"    MARKER  'MARKER'  'INTEND'\n");
     }
 }
@@ -128,6 +138,6 @@ pub(crate) fn put_columns_section<W: Sink>(model: &Model, sink: &mut W, buffer: 
     ensures { Prints W.holds W.failed W.count sink.old sink.new buffer.old buffer.new (columns_section (listing_of model.now)) }
 {
     buffer.put(sink, b"COLUMNS\n");
-    put_columns(model, false, sink, buffer);
+    put_columns(model, Kind::Continuous, sink, buffer);
     put_integer_part(model, sink, buffer);
 }

@@ -38,12 +38,15 @@ fn put_lines<W: Sink>(model: &Model, sink: &mut W, buffer: &mut Buffer)
 /// Writes the canonical MPS text of a model to a sink, in as many calls as it has bytes at most, and
 /// does not flush. The text waits in a buffer of 65,536 bytes between calls; no memory is taken.
 ///
-/// A sink that fails is answered by [`Write`](WriteFault::Write): it has taken that many first bytes of
-/// the text, a number that stays at 2^64 - 1, and nothing else, and it is not called again.
-/// [`NotLp`](WriteFault::NotLp) is never answered.
+/// # Errors
+///
+/// [`Write`](WriteFault::Write) exactly where the sink has failed when the call ends: it has taken that
+/// many first bytes of the text, a number that stays at 2^64 - 1, and nothing else, and it is not called
+/// again. [`NotLp`](WriteFault::NotLp) is never answered.
 pub fn write_mps<W: Sink>(model: &Model, sink: &mut W) -> Result<(), WriteFault>
     ensures answer { IsWritten (λ _. None) canonical_mps W.holds W.failed model.now sink.old sink.new result }
     ensures succeeds { W.failed sink.new ≡ false → IsOk result }
+    ensures works { IsOk result → W.failed sink.new ≡ false }
     ensures calls { W.count sink.new ≤ W.count sink.old + length (canonical_mps model.now) }
     ensures stays { W.failed sink.old ≡ true → W.failed sink.new ≡ true }
 {

@@ -1,7 +1,8 @@
 //! The text on its way to a sink: gathered in a buffer, and handed over when that is full.
 
-ghost use Rattle.std.specs.Prelude.{◌≡◌, ◌+◌, ◌≤◌, List, [], ◌++◌, ℕ, true, length};
-ghost use Rattle.mpslp_write.specs.Output.{Gathered, gathered, nothing_gathered, with_waiting, HasPut, KeepsPut, Emits, IsTaken, answer_of};
+ghost use Rattle.std.specs.Prelude.{◌≡◌, ◌+◌, ◌<◌, ◌≤◌, List, [], ◌++◌, ℕ, true, false, length, IsOk};
+ghost use Rattle.mpslp_write.specs.Output.{Gathered, gathered, nothing_gathered, with_waiting, HasPut, KeepsPut, Emits, answer_of};
+ghost use Rattle.mpslp_model.specs.Formats.{IsTaken};
 
 use arrayvec::ArrayVec;
 use mpslp_model::{Sink, WriteFault, put_all};
@@ -96,6 +97,7 @@ impl Buffer {
         ensures answer { (first : W) (text : List ℕ) → HasPut W.holds W.failed W.count first sink.old self.old text → IsTaken W.holds W.failed first sink.new text result }
         ensures calls { (first : W) (text : List ℕ) → HasPut W.holds W.failed W.count first sink.old self.old text → W.count sink.new ≤ W.count first + length text }
         ensures stays { (first : W) (text : List ℕ) → HasPut W.holds W.failed W.count first sink.old self.old text → W.failed first ≡ true → W.failed sink.new ≡ true }
+        ensures works { (first : W) (text : List ℕ) → HasPut W.holds W.failed W.count first sink.old self.old text → 0 < length text → IsOk result → W.failed sink.new ≡ false }
     {
         self.hand_over(sink);
         self.answer()

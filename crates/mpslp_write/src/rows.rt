@@ -1,12 +1,10 @@
 //! The sections of rows: ROWS, RHS and RANGES.
 
-ghost use Rattle.std.specs.Prelude.{◌≡◌, ◌<◌, [], ◌∷◌, ◌++◌, Some, slice_get};
+ghost use Rattle.std.specs.Prelude.{◌≡◌, ◌<◌, [], ◌∷◌, ◌++◌};
 ghost use Rattle.std.specs.List.{flat_map};
-ghost use Rattle.std.specs.Option.{option_map};
 ghost use Rattle.std.specs.FinMap.{entries};
 ghost use Rattle.mpslp_decimal.specs.Decimal.{negated};
-ghost use Rattle.mpslp_model.specs.Views.{num_rows, rows_of};
-ghost use Rattle.mpslp_canonical.specs.PrintedValues.{printed_side, printed_range};
+ghost use Rattle.mpslp_model.specs.Views.{num_rows};
 ghost use Rattle.mpslp_canonical.specs.CanonicalMps.{row_line, side_lines, row_side_lines, range_lines, rows_section, right_sides_section, ranges_section};
 ghost use Rattle.mpslp_canonical.specs.Listing.{listing_of};
 ghost use Rattle.mpslp_model.specs.Refusal.{is_nonempty};
@@ -15,7 +13,7 @@ ghost use Rattle.mpslp_write.specs.Output.{Prints};
 
 use crate::lines::{put_short_line, put_value_line};
 use crate::output::Buffer;
-use crate::values::{range_of, row_letter, side_of};
+use crate::values::{range_at, row_letter, side_at};
 use mpslp_decimal::Decimal;
 use mpslp_model::{Model, Sink};
 
@@ -47,14 +45,6 @@ pub(crate) fn put_rows_section<W: Sink>(model: &Model, sink: &mut W, buffer: &mu
     buffer.put(sink, b"ROWS\n");
     put_short_line(sink, buffer, b"N", model.objective_name().as_bytes());
     put_rows(model, sink, buffer);
-}
-
-/// The right side that is printed of the row of number `i`.
-fn side_at(model: &Model, i: usize) -> Decimal
-    requires { i < num_rows model.now }
-    ensures { option_map (λ row. printed_side row.lower row.upper) (slice_get (rows_of model.now) i) ≡ Some result }
-{
-    side_of(&model.row_lower(i), &model.row_upper(i))
 }
 
 /// Puts the line of a right side, unless it is 0.
@@ -127,14 +117,6 @@ pub(crate) fn put_right_sides_section<W: Sink>(model: &Model, sink: &mut W, buff
         put_side(sink, buffer, objective, model.objective_offset());
         put_row_sides(model, sink, buffer);
     }
-}
-
-/// The range that is printed of the row of number `i`.
-fn range_at(model: &Model, i: usize) -> Option<Decimal>
-    requires { i < num_rows model.now }
-    ensures { option_map (λ row. printed_range row.lower row.upper) (slice_get (rows_of model.now) i) ≡ Some result }
-{
-    range_of(&model.row_lower(i), &model.row_upper(i))
 }
 
 /// Puts the range of the row of number `i`, if it has one.

@@ -1,13 +1,15 @@
 //! What is printed of the limits of a row and of the bounds of a column.
 
-ghost use Rattle.std.specs.Prelude.{◌≡◌, [], ◌∷◌, None, if◌then◌else◌};
+ghost use Rattle.std.specs.Prelude.{◌≡◌, ◌<◌, [], ◌∷◌, None, Some, slice_get, if◌then◌else◌};
+ghost use Rattle.std.specs.Option.{option_map};
 ghost use Rattle.mpslp_decimal.specs.Decimal.{difference_of};
+ghost use Rattle.mpslp_model.specs.Views.{num_rows, rows_of};
 ghost use Rattle.mpslp_mps.specs.DataLine.{letter_of};
 ghost use Rattle.mpslp_canonical.specs.PrintedValues.{have_same_value, printed_type, printed_side, printed_range};
 
 use mpslp_decimal::Decimal;
 use mpslp_decimal::laws::each_value_is_a_decimal;
-use mpslp_model::Limit;
+use mpslp_model::{Limit, Model};
 use std::cmp::Ordering;
 
 /// Whether the numbers have the same value.
@@ -51,7 +53,7 @@ pub(crate) fn row_letter(lower: &Limit, upper: &Limit) -> &'static [u8]
 }
 
 /// The right side of a row, and 0 where it has no limits.
-pub(crate) fn side_of(lower: &Limit, upper: &Limit) -> Decimal
+fn side_of(lower: &Limit, upper: &Limit) -> Decimal
     ensures { result ≡ printed_side lower.now upper.now }
 {
     match lower {
@@ -61,6 +63,14 @@ pub(crate) fn side_of(lower: &Limit, upper: &Limit) -> Decimal
             _ => Decimal::zero(),
         },
     }
+}
+
+/// The right side that is printed of the row of number `i`.
+pub(crate) fn side_at(model: &Model, i: usize) -> Decimal
+    requires { i < num_rows model.now }
+    ensures { option_map (λ row. printed_side row.lower row.upper) (slice_get (rows_of model.now) i) ≡ Some result }
+{
+    side_of(&model.row_lower(i), &model.row_upper(i))
 }
 
 /// How far apart two limits lie that differ.
@@ -75,7 +85,7 @@ fn distance(lower: &Decimal, upper: &Decimal) -> Option<Decimal>
 }
 
 /// The range of a row that has two limits that differ.
-pub(crate) fn range_of(lower: &Limit, upper: &Limit) -> Option<Decimal>
+fn range_of(lower: &Limit, upper: &Limit) -> Option<Decimal>
     ensures { result ≡ printed_range lower.now upper.now }
 {
     match lower {
@@ -85,4 +95,12 @@ pub(crate) fn range_of(lower: &Limit, upper: &Limit) -> Option<Decimal>
         },
         _ => None,
     }
+}
+
+/// The range that is printed of the row of number `i`.
+pub(crate) fn range_at(model: &Model, i: usize) -> Option<Decimal>
+    requires { i < num_rows model.now }
+    ensures { option_map (λ row. printed_range row.lower row.upper) (slice_get (rows_of model.now) i) ≡ Some result }
+{
+    range_of(&model.row_lower(i), &model.row_upper(i))
 }

@@ -1,5 +1,5 @@
-use Rattle.std.proofs.Common.{◌≡◌, sym, ◌∙◌, ap, subst}
-use Rattle.std.specs.Prelude.{IfOk, None, Some}
+use Rattle.std.proofs.Common.{◌≡◌, ◌∙◌, ap, subst}
+use Rattle.std.specs.Prelude.{IfOk}
 use Rattle.mpslp_convert.proofs.ConversionLemmas.{conversion_of, place_is_told, text_keeps}
 use Rattle.mpslp_convert.proofs.conversion.canonical.Goals as goal
 

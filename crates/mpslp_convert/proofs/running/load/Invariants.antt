@@ -1,15 +1,16 @@
-use Rattle.std.proofs.Common.{◌≡◌, ◌≤◌, ◌+◌, length}
+use Rattle.std.proofs.Common.{◌≡◌, ◌≤◌, ◌+◌, true, length}
 use Rattle.std.specs.Io.KnownBytes.{Consumes}
 use Rattle.mpslp_convert.proofs.running.load.Given as goal
 
 abbrev pub invariant-reads : goal.invariant-reads
 invariant-reads g l =
-    let source = g.R.Source in
+    let device = g.R.Source in
     record {
-      taken : Consumes (source.left l.fn.reader) (source.left l.reader) l.bytes.items;
+      taken : Consumes (device.left l.fn.source) (device.left l.source) l.bytes.items;
       counted : length l.bytes.items + l.room ≡ l.max_bytes;
       full : length l.buffer ≡ 65536;
-      calls : source.count l.reader ≤ source.count l.fn.reader + length l.bytes.items;
+      calls : device.count l.source ≤ device.count l.fn.source + length l.bytes.items;
+      stays : device.failed l.fn.source ≡ true → device.failed l.source ≡ true;
     }
 
 abbrev pub decreases-reads : goal.decreases-reads

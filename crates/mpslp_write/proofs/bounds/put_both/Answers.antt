@@ -1,12 +1,11 @@
 use Rattle.std.proofs.Common.{sym}
 use Rattle.mpslp_canonical.specs.PrintedValues.{printed_lower, printed_upper}
 use Rattle.mpslp_canonical.specs.CanonicalMps.{bound_line}
-use Rattle.mpslp_write.specs.LinesAt.{kind_of}
 use Rattle.mpslp_write.proofs.BoundLines.{map-append}
 use Rattle.mpslp_write.proofs.OutputLemmas.{prints_then, prints_same}
 use Rattle.mpslp_write.proofs.bounds.put_both.Goals as goal
 
 pub returns : goal.returns
 returns g c =
-    prints_same (sym (map-append (bound_line c.args.column.now) (printed_lower c.args.lower.now) (printed_upper (kind_of c.args.integer) c.args.upper.now)))
+    prints_same (sym (map-append (bound_line c.args.column.now) (printed_lower c.args.lower.now) (printed_upper c.args.kind c.args.upper.now)))
     (prints_then c.put_lower.ensures c.put_upper.ensures)

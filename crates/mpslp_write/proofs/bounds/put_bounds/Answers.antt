@@ -1,14 +1,13 @@
-use Rattle.std.proofs.Common.{◌≡◌, ap, ◌∙◌, List, ℕ, map}
+use Rattle.std.proofs.Common.{◌∙◌, map}
 use Rattle.std.specs.FinMap.{entries}
 use Rattle.mpslp_canonical.specs.PrintedValues.{printed_bounds}
 use Rattle.mpslp_canonical.specs.CanonicalMps.{bound_line}
-use Rattle.mpslp_write.specs.LinesAt.{kind_of}
 use Rattle.mpslp_write.proofs.ColumnLemmas.{bounds-lines}
 use Rattle.mpslp_write.proofs.OutputLemmas.{prints_same}
 use Rattle.mpslp_write.proofs.bounds.put_bounds.Goals as goal
 
 pub returns : goal.returns
 returns g c =
-    prints_same (ap (λ (name : List ℕ). map (bound_line name) (printed_bounds (kind_of c.is_integer-integer.result) c.col_lower-lower.result c.col_upper-upper.result)) c.as_bytes.ensures
-    ∙ bounds-lines (entries c.args.model.now.columns) c.args.j _ _ _ _ c.column_name.ensures c.is_integer-integer.ensures c.col_lower-lower.ensures c.col_upper-upper.ensures)
+    prints_same ((λ i. map (bound_line (c.as_bytes.ensures i)) (printed_bounds (c.kind_of-kind.ensures i) c.col_lower-lower.result c.col_upper-upper.result))
+    ∙ bounds-lines (entries c.args.model.now.columns) c.args.j _ _ _ _ c.column_name.ensures c.is_integer.ensures c.col_lower-lower.ensures c.col_upper-upper.ensures)
     c.put_bounds_of.ensures

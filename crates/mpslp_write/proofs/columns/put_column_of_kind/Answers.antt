@@ -1,24 +1,23 @@
-use Rattle.std.proofs.Common.{◌≡◌, sym, ap, ◌∙◌, Bool, cond, []}
-use Rattle.std.specs.FinMap.{entries}
+use Rattle.std.proofs.Common.{sym, ap, ◌∙◌, Bool, cond, []}
 use Rattle.mpslp_canonical.specs.Listing.{listing_of}
 use Rattle.mpslp_canonical.specs.CanonicalMps.{column_lines}
 use Rattle.mpslp_write.specs.LinesAt.{lines_at}
-use Rattle.mpslp_write.proofs.ColumnLemmas.{kind-lines, wanted-is}
+use Rattle.mpslp_write.proofs.ColumnLemmas.{kind-lines}
 use Rattle.mpslp_write.proofs.OutputLemmas.{prints_same, prints_nothing}
 use Rattle.mpslp_write.proofs.columns.put_column_of_kind.Goals as goal
 
-pub returns-then-is_integer-integer : goal.returns-then-is_integer-integer
-returns-then-is_integer-integer g c =
+pub returns-then-is_wanted : goal.returns-then-is_wanted
+returns-then-is_wanted g c =
     let m = listing_of c.args.model.now in
     let lines = lines_at (column_lines m) m.columns c.args.j in
-    prints_same (sym (ap (λ (wanted : Bool). cond wanted lines []) (sym (wanted-is c.args.integer c.is_integer.result) ∙ c.if-is_integer-integer.true))
-    ∙ kind-lines c.args.integer (column_lines m) m.columns c.args.j c.is_integer.result c.is_integer.ensures)
+    prints_same (sym (ap (λ (wanted : Bool). cond wanted lines []) (sym c.is_wanted.ensures ∙ c.if-is_wanted.true))
+    ∙ kind-lines c.args.kind (column_lines m) m.columns c.args.j c.is_integer.result c.is_integer.ensures)
     c.put_column.ensures
 
-pub returns-else-is_integer-integer : goal.returns-else-is_integer-integer
-returns-else-is_integer-integer g c =
+pub returns-else-is_wanted : goal.returns-else-is_wanted
+returns-else-is_wanted g c =
     let m = listing_of c.args.model.now in
     let lines = lines_at (column_lines m) m.columns c.args.j in
-    prints_same (sym (ap (λ (wanted : Bool). cond wanted lines []) (sym (wanted-is c.args.integer c.is_integer.result) ∙ c.if-is_integer-integer.false))
-    ∙ kind-lines c.args.integer (column_lines m) m.columns c.args.j c.is_integer.result c.is_integer.ensures)
+    prints_same (sym (ap (λ (wanted : Bool). cond wanted lines []) (sym c.is_wanted.ensures ∙ c.if-is_wanted.false))
+    ∙ kind-lines c.args.kind (column_lines m) m.columns c.args.j c.is_integer.result c.is_integer.ensures)
     (prints_nothing c.args.sink.now c.args.buffer.now)

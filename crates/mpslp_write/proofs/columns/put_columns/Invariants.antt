@@ -1,4 +1,4 @@
-use Rattle.std.proofs.Common.{[], ◌∷◌, take}
+use Rattle.std.proofs.Common.{take}
 use Rattle.std.specs.List.{flat_map}
 use Rattle.std.specs.FinMap.{entries}
 use Rattle.mpslp_canonical.specs.CanonicalMps.{column_lines}
@@ -10,4 +10,4 @@ use Rattle.mpslp_write.proofs.columns.put_columns.Given as goal
 -- the lines of the entries so far were put
 abbrev pub invariant-loop-j : goal.invariant-loop-j
 invariant-loop-j g l =
-    Prints g.W.Sink.holds g.W.Sink.failed g.W.Sink.count l.fn.sink l.sink l.fn.buffer l.buffer (flat_map (of_kind l.integer (column_lines (listing_of l.model))) (take l.j (entries l.model.columns)))
+    Prints g.W.Sink.holds g.W.Sink.failed g.W.Sink.count l.fn.sink l.sink l.fn.buffer l.buffer (flat_map (of_kind l.kind (column_lines (listing_of l.model))) (take l.j (entries l.model.columns)))

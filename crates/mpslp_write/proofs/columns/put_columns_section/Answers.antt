@@ -1,7 +1,7 @@
-use Rattle.std.proofs.Common.{◌≡◌, ap, sym, ◌∙◌, refl, true, false, [], ◌∷◌, ◌++◌}
+use Rattle.std.proofs.Common.{refl, [], ◌∷◌, ◌++◌}
 use Rattle.mpslp_mps.specs.declared.sections.Section.TheVariants.{Columns}
 use Rattle.mpslp_canonical.specs.Listing.{listing_of}
-use Rattle.mpslp_canonical.specs.CanonicalMps.{Lines, header_line, column_lines, is_continuous_column, is_integer_column, integer_part}
+use Rattle.mpslp_canonical.specs.CanonicalMps.{header_line, column_lines, is_continuous_column, is_integer_column, integer_part}
 use Rattle.mpslp_write.proofs.LinesAtLemmas.{flat_map-filter}
 use Rattle.mpslp_write.proofs.OutputLemmas.{prints_then, prints_same, prints_text}
 use Rattle.mpslp_write.proofs.columns.put_columns_section.Goals as goal

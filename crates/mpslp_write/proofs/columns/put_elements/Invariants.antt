@@ -1,4 +1,4 @@
-use Rattle.std.proofs.Common.{[], ◌∷◌, take}
+use Rattle.std.proofs.Common.{take}
 use Rattle.std.specs.List.{flat_map}
 use Rattle.mpslp_model.specs.Views.{column_name, column_elements}
 use Rattle.mpslp_write.specs.LinesAt.{element_lines}

@@ -1,4 +1,4 @@
-use Rattle.std.proofs.Common.{sym, ◌∙◌, refl, true, [], ◌∷◌}
+use Rattle.std.proofs.Common.{sym, ◌∙◌, refl, [], ◌∷◌}
 use Rattle.mpslp_mps.specs.DataLine.{opening_word, closing_word}
 use Rattle.mpslp_canonical.specs.CanonicalMps.{marker_line}
 use Rattle.mpslp_write.proofs.ColumnLemmas.{integer-some, integer-none}

@@ -1,7 +1,8 @@
-use Rattle.std.proofs.Common.{◌≡◌, refl, sym, subst, [], ◌++◌}
+use Rattle.std.proofs.Common.{sym, subst, []}
 use Rattle.mpslp_write.specs.Output.{Gathered, HasPut}
 use Rattle.mpslp_canonical.specs.CanonicalMps.{canonical_mps}
 use Rattle.mpslp_write.proofs.OutputLemmas.{HasPut-nothing, taken-written, taken-succeeds}
+use Rattle.mpslp_write.proofs.LineTexts.{canonical_mps-some}
 use Rattle.mpslp_write.proofs.mps.write_mps.Goals as goal
 
 pub returns : goal.returns
@@ -14,6 +15,7 @@ returns g c =
     record {
       answer = taken-written sink.holds sink.failed canonical_mps c.args.model.now first c.finish.new.sink c.finish.result (c.finish.ensures.answer first text put);
       succeeds = taken-succeeds sink.holds sink.failed first c.finish.new.sink text c.finish.result (c.finish.ensures.answer first text put);
+      works = c.finish.ensures.works first text put (canonical_mps-some c.args.model.now);
       calls = c.finish.ensures.calls first text put;
       stays = c.finish.ensures.stays first text put;
     }

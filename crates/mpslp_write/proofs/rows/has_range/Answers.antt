@@ -1,8 +1,7 @@
-use Rattle.std.proofs.Common.{◌≡◌, sym, ap, ◌∙◌, refl, ℕ, List, [], ◌∷◌, true, false}
-use Rattle.std.specs.Prelude.{slice_get, Some, None}
+use Rattle.std.proofs.Common.{sym, ap, ◌∙◌, refl, true, false}
+use Rattle.std.specs.Prelude.{Some, None}
 use Rattle.std.specs.FinMap.{entries}
 use Rattle.mpslp_model.specs.Model.{Row}
-use Rattle.mpslp_model.specs.Views.{rows_of}
 use Rattle.mpslp_canonical.specs.PrintedValues.{printed_range}
 use Rattle.mpslp_write.proofs.LinesAtLemmas.{nonempty_seen}
 use Rattle.mpslp_write.proofs.RowLines.{range_at_name}

@@ -1,12 +1,9 @@
-use Rattle.std.proofs.Common.{◌≡◌, sym, ap, ◌∙◌, refl, ℕ, List, [], ◌∷◌}
-use Rattle.std.specs.Prelude.{slice_get, Some}
+use Rattle.std.proofs.Common.{ap, ◌∙◌, refl, ℕ, List}
+use Rattle.std.specs.Prelude.{Some}
 use Rattle.std.specs.FinMap.{entries}
 use Rattle.mpslp_model.specs.Model.{Row}
-use Rattle.mpslp_model.specs.Views.{rows_of}
-use Rattle.std.specs.Option.{option_map_or}
-use Rattle.std.specs.Prelude.{codes, None}
+use Rattle.std.specs.Prelude.{None}
 use Rattle.mpslp_canonical.specs.PrintedValues.{printed_range}
-use Rattle.mpslp_canonical.specs.CanonicalMps.{vector_line}
 use Rattle.mpslp_write.proofs.LinesAtLemmas.{lines_seen, nothing_seen}
 use Rattle.mpslp_write.proofs.RowLines.{range_at_name}
 use Rattle.mpslp_write.proofs.OutputLemmas.{prints_same, prints_nothing}

@@ -1,4 +1,4 @@
-use Rattle.std.proofs.Common.{[], ◌∷◌, take}
+use Rattle.std.proofs.Common.{take}
 use Rattle.std.specs.List.{flat_map}
 use Rattle.std.specs.FinMap.{entries}
 use Rattle.mpslp_canonical.specs.CanonicalMps.{range_lines}

@@ -1,4 +1,4 @@
-use Rattle.std.proofs.Common.{◌≡◌, sym, ap, ◌∙◌, refl, ℕ, List, [], ◌∷◌, ◌++◌}
+use Rattle.std.proofs.Common.{sym, ◌∙◌, refl, [], ◌∷◌}
 use Rattle.mpslp_mps.specs.declared.sections.Section.TheVariants.{Rhs}
 use Rattle.mpslp_canonical.specs.CanonicalMps.{header_line, side_lines}
 use Rattle.mpslp_write.proofs.LinesAtLemmas.{under-some, under-none}

@@ -1,4 +1,4 @@
-use Rattle.std.proofs.Common.{sym, ◌∙◌, [], ◌∷◌, arith}
+use Rattle.std.proofs.Common.{sym, ◌∙◌, arith}
 use Rattle.std.specs.FinMap.{entries}
 use Rattle.mpslp_canonical.specs.CanonicalMps.{row_side_lines}
 use Rattle.mpslp_write.proofs.LinesAtLemmas.{flat_map-next, all-taken}

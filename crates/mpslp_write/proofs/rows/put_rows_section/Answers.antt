@@ -1,7 +1,7 @@
-use Rattle.std.proofs.Common.{◌≡◌, ap, ◌∙◌, refl, ℕ, List, [], ◌∷◌, ◌++◌}
+use Rattle.std.proofs.Common.{◌∙◌, refl, [], ◌∷◌}
 use Rattle.std.specs.FinMap.{entries}
 use Rattle.mpslp_mps.specs.declared.sections.Section.TheVariants.{Rows}
-use Rattle.mpslp_canonical.specs.CanonicalMps.{Lines, header_line, objective_line, row_line}
+use Rattle.mpslp_canonical.specs.CanonicalMps.{header_line, objective_line, row_line}
 use Rattle.mpslp_write.proofs.LinesAtLemmas.{map-flat_map}
 use Rattle.mpslp_write.proofs.OutputLemmas.{prints_then, prints_same, prints_text}
 use Rattle.mpslp_write.proofs.rows.put_rows_section.Goals as goal

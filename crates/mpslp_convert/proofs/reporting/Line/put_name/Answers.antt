@@ -1,4 +1,4 @@
-use Rattle.std.proofs.Common.{◌≡◌, ◌≤◌, ◌++◌, length, refl, subst, sym, arith}
+use Rattle.std.proofs.Common.{◌++◌, refl, subst, sym, arith}
 use Rattle.std.proofs.lemmas.List.{length-append}
 use Rattle.mpslp_model.specs.Name.{IsMpsName}
 use Rattle.mpslp_convert.proofs.FaultLineLemmas.{named-bound}

@@ -11,7 +11,8 @@ returns-in-Ok g c first text =
     → HasPut sink.holds sink.failed sink.count first c.put_all.new.sink (record { waiting = []; taken = c.put_all.new.tally; has_failed = b }) text)
     (sym c.if-self.false)
     (λ h. HasPut-sent sink.holds sink.failed sink.count first c.args.sink.now c.put_all.new.sink text c.args.piece.now sent.taken c.put_all.new.tally h
-    c.in-Ok.ensures.written c.in-Ok.ensures.tally c.in-Ok.ensures.calls c.in-Ok.ensures.stays)
+    c.in-Ok.ensures.written c.in-Ok.ensures.tally c.in-Ok.ensures.calls c.in-Ok.ensures.stays
+    (c.in-Ok.ensures.works refl) (λ none. (c.in-Ok.ensures.nothing none).1))
 
 pub returns-in-Err : goal.returns-in-Err
 returns-in-Err g c first text =

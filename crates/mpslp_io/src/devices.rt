@@ -5,7 +5,7 @@
 
 ghost use Rattle.std.specs.Prelude.{◌≡◌, ℕ, ◌≤◌, ◌↔◌, List, Bool, true, length, Option, IfOk, IsErr};
 ghost use Rattle.std.specs.Io.KnownBytes.{ReadConsumes};
-ghost use Rattle.mpslp_model.specs.Devices.{raised, Takes, KeepsHeld};
+ghost use Rattle.mpslp_io.specs.Devices.{raised, Takes, KeepsHeld};
 
 use thiserror::Error;
 
@@ -28,7 +28,8 @@ pub trait Source {
     /// Puts the next bytes into the front of the buffer, and answers how many: no more than the
     /// buffer has room for, and 0 in a buffer with room only where none are left. Answers
     /// [`IoFailed`] exactly where the source has failed when the call ends, in this call or an earlier
-    /// one; then it has the bytes left that it had before, and stays failed.
+    /// one; then it has the bytes left that it had before, and stays failed. A read into a buffer without
+    /// room is a call too.
     fn read(&mut self, buffer: &mut [u8]) -> Result<usize, IoFailed>
         ensures bound { IfOk result (λ n. n ≤ length buffer.new) }
         ensures bytes { ReadConsumes (left self.old) (left self.new) result buffer.new }
@@ -59,7 +60,8 @@ pub trait Sink {
 
     /// Takes the first bytes of the piece, and answers how many: no more than the piece has, and at
     /// least one where it has any. Answers [`IoFailed`] exactly where the sink has failed when the call
-    /// ends, in this call or an earlier one; then it has taken nothing, and stays failed.
+    /// ends, in this call or an earlier one; then it has taken nothing, and stays failed. A write of the
+    /// empty piece is a call too.
     fn write(&mut self, piece: &[u8]) -> Result<usize, IoFailed>
         ensures bytes { Takes holds self.old self.new piece.now result }
         ensures fails { IsErr result ↔ (failed self.new ≡ true) }

@@ -1,11 +1,10 @@
-use Rattle.std.proofs.Common.{◌≡◌, sym, ap, ◌∙◌, refl, ℕ, List, [], ◌∷◌}
+use Rattle.std.proofs.Common.{sym, ap, ◌∙◌}
 use Rattle.std.specs.Prelude.{slice_get, Some}
-use Rattle.std.specs.FinMap.{entries}
 use Rattle.mpslp_model.specs.Model.{Row}
 use Rattle.mpslp_model.specs.Views.{rows_of}
 use Rattle.mpslp_canonical.specs.PrintedValues.{printed_side}
 use Rattle.mpslp_write.proofs.LinesAtLemmas.{both_seen}
-use Rattle.mpslp_write.proofs.rows.side_at.Goals as goal
+use Rattle.mpslp_write.proofs.values.side_at.Goals as goal
 
 pub returns : goal.returns
 returns c =

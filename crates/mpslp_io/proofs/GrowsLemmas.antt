@@ -1,7 +1,7 @@
 -- What a sink holds after several pieces, one after another.
-use Rattle.std.proofs.Common.{◌≡◌, ℕ, ◌+◌, List, [], ◌++◌, sym, subst, append_assoc, append-nil, take, drop}
+use Rattle.std.proofs.Common.{ℕ, ◌+◌, List, [], ◌++◌, sym, subst, append_assoc, append-nil, take, drop}
 use Rattle.std.proofs.Math.Seq.{take-add}
-use Rattle.mpslp_model.specs.Devices.{Grows, KeepsHeld}
+use Rattle.mpslp_io.specs.Devices.{Grows, KeepsHeld}
 
 pub Grows-nil : {S : Type 0} (holds : S → List ℕ → Type 0) (s : S) → Grows holds s s []
 Grows-nil holds s before held = subst (holds s) (sym (append-nil before)) held

@@ -1,5 +1,5 @@
--- What std says of the bytes that a writer holds, where they are known.
-use Rattle.std.proofs.Common.{◌≡◌, ℕ, List, ◌++◌, None, Some, Option, ap, ◌∙◌}
+-- What std says of the bytes that a writer holds, where they are known; and of a device whose call did not fail.
+use Rattle.std.proofs.Common.{◌≡◌, refl, sym, ℕ, Bool, true, false, List, ◌++◌, None, Some, Option, ap, ◌∙◌}
 use Rattle.std.specs.Io.KnownBytes.{Keeps, Appends}
 
 -- known bytes that grow are the old ones and what was appended
@@ -13,3 +13,8 @@ pub keeps_some : (a b : Option (List ℕ)) (before : List ℕ) → Keeps a b →
 keeps_some None b before kept known = absurd (cc)
 keeps_some (Some x) None before kept known = absurd kept
 keeps_some (Some x) (Some y) before kept known = ap Some kept ∙ known
+
+-- a device that answers no error has not failed
+pub works_still : (failed : Bool) → (failed ≡ true → false ≡ true) → failed ≡ false
+works_still true no_error = sym (no_error refl)
+works_still false no_error = refl

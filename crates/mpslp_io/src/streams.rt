@@ -1,7 +1,7 @@
 //! The readers and writers of std as devices.
 
 ghost use Rattle.std.specs.Prelude.{◌≡◌, ◌↔◌, ℕ, List, true, false, Some, IsErr};
-ghost use Rattle.mpslp_model.specs.Devices.{raised};
+ghost use Rattle.mpslp_io.specs.Devices.{raised};
 
 use crate::devices::{IoFailed, Sink, Source};
 use std::io::{Read, Write};
@@ -65,10 +65,18 @@ impl<R: Read> FromRead<R> {
             reads: Calls::none(),
         }
     }
+
+    /// The reader, as it stands: it has the bytes left that the source had.
+    pub fn into_inner(self) -> R
+        ensures { R.remaining result ≡ ⟦<FromRead<R> as Source>⟧.left self }
+    {
+        self.reader
+    }
 }
 
 /// Each `read` reads once, and not at all where an earlier one failed. Whatever error the reader
-/// answers is a failure, [`Interrupted`](std::io::ErrorKind::Interrupted) too.
+/// answers is a failure, [`Interrupted`](std::io::ErrorKind::Interrupted) too. A buffer without room is
+/// handed to the reader like any other.
 impl<R: Read> Source for FromRead<R> {
     ghost left = { λ s. R.remaining s.reader };
 
@@ -112,12 +120,19 @@ impl<W: Write> ToWrite<W> {
             writes: Calls::none(),
         }
     }
+
+    /// The writer, as it stands: it holds the bytes that the sink held. It is not flushed.
+    pub fn into_inner(self) -> W
+        ensures { (bytes : List ℕ) → ⟦<ToWrite<W> as Sink>⟧.holds self bytes ↔ (W.contents result ≡ Some bytes) }
+    {
+        self.writer
+    }
 }
 
 /// Each `write` writes once and each `flush` flushes once, and not at all where an earlier call failed.
 /// Whatever error the writer answers is a failure,
 /// [`Interrupted`](std::io::ErrorKind::Interrupted) too, and so is a write that takes 0 bytes of a piece
-/// that has some.
+/// that has some. The empty piece is handed to the writer like any other.
 impl<W: Write> Sink for ToWrite<W> {
     ghost holds = { λ s bytes. W.contents s.writer ≡ Some bytes };
 
@@ -249,6 +264,22 @@ mod tests {
     }
 
     #[test]
+    fn a_buffer_without_room_is_a_read(rt: HostRuntime) {
+        let mut source = FromRead::new(b"abc".as_slice());
+        assert_eq!(rt; source.read(&mut []), Ok(0));
+        assert_eq!(rt; source.calls(), 1);
+        assert_eq!(rt; source.into_inner(), b"abc".as_slice());
+        let mut source = FromRead::new(FailingReader {
+            fails_in: 1,
+            reads: 0,
+        });
+        assert_eq!(rt; source.read(&mut []), Err(IoFailed));
+        assert_eq!(rt; source.read(&mut []), Err(IoFailed));
+        assert_eq!(rt; source.calls(), 2);
+        assert_eq!(rt; source.into_inner().reads, 1);
+    }
+
+    #[test]
     fn a_reader_that_failed_is_not_read_again(rt: HostRuntime) {
         let mut reader = FailingReader {
             fails_in: 2,
@@ -269,15 +300,14 @@ mod tests {
 
     #[test]
     fn writes_and_flushes(rt: HostRuntime) -> Result<(), Fail> {
-        let mut held = Vec::new(rt.alloc());
-        let mut sink = ToWrite::new(&mut held);
+        let mut sink = ToWrite::new(Vec::new(rt.alloc()));
         assert_eq!(rt; sink.calls(), 0);
         assert_eq!(rt; sink.write(b"abc"), Ok(3));
         assert_eq!(rt; sink.write(b""), Ok(0));
         assert_eq!(rt; sink.flush(), Ok(()));
         assert_eq!(rt; sink.has_failed(), false);
         assert_eq!(rt; sink.calls(), 3);
-        assert_eq!(rt; held.as_slice(), b"abc".as_slice());
+        assert_eq!(rt; sink.into_inner().as_slice(), b"abc".as_slice());
         Ok(())
     }
 

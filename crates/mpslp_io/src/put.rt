@@ -1,7 +1,7 @@
 //! Whole pieces, written to a sink.
 
-ghost use Rattle.std.specs.Prelude.{◌≡◌, ◌≤◌, ◌+◌, ◌-◌, ◌^◌, min, true, length, IsErr, OnOk};
-ghost use Rattle.mpslp_model.specs.Devices.{Grows, TookMore};
+ghost use Rattle.std.specs.Prelude.{◌≡◌, ◌<◌, ◌≤◌, ◌+◌, ◌-◌, ◌^◌, min, true, false, length, IsOk, IsErr, OnOk};
+ghost use Rattle.mpslp_io.specs.Devices.{Grows, TookMore};
 
 use crate::devices::{IoFailed, Sink};
 
@@ -9,13 +9,16 @@ use crate::devices::{IoFailed, Sink};
 /// number of bytes that the sink took is added to the tally, which stays at 2^64 - 1.
 ///
 /// Answers [`IoFailed`] where the sink fails before it has the whole piece: it has taken the first
-/// bytes of the piece, as many as the tally has grown by, and nothing else, and it stays failed. The
-/// empty piece makes no call, and is written to a sink that has failed too.
+/// bytes of the piece, as many as the tally has grown by, and nothing else, and it stays failed. So a
+/// piece that has bytes is answered by `Ok` exactly where the sink works when the call ends. The empty
+/// piece makes no call: it is written to whatever sink, also to one that has failed.
 pub fn put_all<W: Sink>(sink: &mut W, tally: &mut u64, piece: &[u8]) -> Result<(), IoFailed>
     ensures written { OnOk result (Grows W.holds sink.old sink.new piece.now) }
     ensures tally { OnOk result (tally.new ≡ min (tally.old + length piece.now) (2 ^ 64 - 1)) }
     ensures taken { TookMore W.holds sink.old sink.new piece.now tally.old tally.new }
     ensures fails { IsErr result → W.failed sink.new ≡ true }
+    ensures works { IsOk result → 0 < length piece.now → W.failed sink.new ≡ false }
+    ensures nothing { length piece.now ≡ 0 → IsOk result × (sink.new ≡ sink.old) × (tally.new ≡ tally.old) }
     ensures stays { W.failed sink.old ≡ true → W.failed sink.new ≡ true }
     ensures calls { W.count sink.new ≤ W.count sink.old + length piece.now }
 {
@@ -66,5 +69,16 @@ mod tests {
         assert_eq!(rt; put_all(&mut sink, &mut tally, b"fghij"), Err(IoFailed));
         assert_eq!(rt; tally, 16);
         assert_eq!(rt; sink.calls(), 6);
+    }
+
+    #[test]
+    fn the_empty_piece_is_written_to_a_sink_that_failed(rt: HostRuntime) {
+        let mut tally = 0;
+        let mut sink = ToWrite::new(SmallWriter { room: 0 });
+        assert_eq!(rt; put_all(&mut sink, &mut tally, b"a"), Err(IoFailed));
+        assert_eq!(rt; put_all(&mut sink, &mut tally, b""), Ok(()));
+        assert_eq!(rt; sink.has_failed(), true);
+        assert_eq!(rt; sink.calls(), 1);
+        assert_eq!(rt; tally, 0);
     }
 }

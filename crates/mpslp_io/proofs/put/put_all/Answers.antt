@@ -1,7 +1,8 @@
-use Rattle.std.proofs.Common.{◌<◌, arith}
+use Rattle.std.proofs.Common.{◌<◌, refl, arith}
 use Rattle.std.proofs.lemmas.List.{take_rest, length-drop}
-use Rattle.mpslp_model.proofs.GrowsLemmas.{Grows-nil, Grows-more}
-use Rattle.mpslp_model.proofs.put.put_all.Goals as goal
+use Rattle.mpslp_io.proofs.DeviceLemmas.{works_still}
+use Rattle.mpslp_io.proofs.GrowsLemmas.{Grows-nil, Grows-more}
+use Rattle.mpslp_io.proofs.put.put_all.Goals as goal
 
 pub loop-at-init : goal.loop-at-init
 loop-at-init g c = record {
@@ -10,6 +11,8 @@ loop-at-init g c = record {
   tally_is = omega arith;
   calls = omega arith;
   stays = λ h. h;
+  works = λ some. absurd (omega (arith, some));
+  untouched = λ none. (refl, refl);
 }
 
 pub loop-at-preserved : goal.loop-at-preserved
@@ -24,4 +27,15 @@ loop-at-preserved g c =
       tally_is = omega arith;
       calls = omega (arith, some, c.write.ensures.counted);
       stays = λ h. c.write.ensures.stays (before.stays h);
+      works = λ _. works_still _ c.in_ok-taken.ensures.fails.1;
+      untouched = λ none. absurd (omega (arith, none, some));
     }
+
+pub returns-clause-works : goal.returns-clause-works
+returns-clause-works g c = λ _ some. let at_end = c.loop-at-test.false in c.loop-at.invariant.works (omega arith)
+
+pub returns-clause-nothing : goal.returns-clause-nothing
+returns-clause-nothing g c = λ none.
+    let within = c.loop-at.invariant.within in
+    let same = c.loop-at.invariant.untouched (omega arith) in
+    (refl, same.0, same.1)
