@@ -3,6 +3,7 @@
 ghost use Rattle.std.specs.Prelude.{◌≡◌, Some, IfSome, IfNone, IfOk, MatchResult, refl};
 ghost use Rattle.std.proofs.Common.{rules};
 ghost use Rattle.std.specs.List.{list_all};
+ghost use Rattle.std.specs.Result.{result_err};
 ghost use Rattle.std.specs.Hash as fed;
 ghost use Rattle.std.specs.Cmp.{partial_equiv_from_equiv};
 ghost use Rattle.std.specs.Cmp.Lexicographic.{nat_list_cmp_total, nat_list_eq_equiv, texts_po, texts_ties};
@@ -119,10 +120,14 @@ fn is_marker(bytes: &[u8]) -> bool
 }
 
 impl Name {
-    /// The name of these bytes, or the first refusal that they meet.
-    pub fn new(alloc: Global, bytes: &[u8]) -> Result<Name, NameFault>
-        ensures refused { IfSome (name_refusal bytes.now) (λ fault. result ≡ Err fault) }
-        ensures taken { IfNone (name_refusal bytes.now) (MatchResult result (λ name. name ≡ bytes.now) (λ fault. fault ≡ NameFault.OutOfMemory)) }
+    /// Whether the bytes are a name, and else the first refusal that they meet. It takes no memory, and never answers
+    /// [`OutOfMemory`](NameFault::OutOfMemory).
+    ///
+    /// # Errors
+    ///
+    /// `NameLength`, `NameByte` and `NameMarker`, in this order.
+    pub fn check(bytes: &[u8]) -> Result<(), NameFault>
+        ensures { result_err result ≡ name_refusal bytes.now }
     {
         if bytes.is_empty() || bytes.len() > MAX_NAME_LEN {
             return Err(NameFault::NameLength);
@@ -133,6 +138,19 @@ impl Name {
         if is_marker(bytes) {
             return Err(NameFault::NameMarker);
         }
+        Ok(())
+    }
+
+    /// The name of these bytes, or the first refusal that they meet.
+    ///
+    /// # Errors
+    ///
+    /// What [`check`](Self::check) answers, and only where that is no refusal, `OutOfMemory`.
+    pub fn new(alloc: Global, bytes: &[u8]) -> Result<Name, NameFault>
+        ensures refused { IfSome (name_refusal bytes.now) (λ fault. result ≡ Err fault) }
+        ensures taken { IfNone (name_refusal bytes.now) (MatchResult result (λ name. name ≡ bytes.now) (λ fault. fault ≡ NameFault.OutOfMemory)) }
+    {
+        Name::check(bytes)?;
         match bytes.to_vec(alloc) {
             Ok(bytes) => Ok(Name { bytes }),
             Err(_) => Err(NameFault::OutOfMemory),
