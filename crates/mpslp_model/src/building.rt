@@ -1,16 +1,14 @@
 //! A builder, to which the parts of a model are declared in any order.
 
-ghost use Rattle.std.specs.Prelude.{◌≡◌, ◌&&◌, ◌||◌, false, Some, IsTrue, IfOk, is_some};
-ghost use Rattle.std.specs.Option.{ForSome, option_map, option_map_or};
-ghost use Rattle.mpslp_decimal.specs.Decimal.{is_infinite_size};
-ghost use Rattle.mpslp_model.specs.Name.{IsMpsName, same_bytes};
-ghost use Rattle.mpslp_model.specs.Sides.{is_plus_infinite, is_minus_infinite};
-ghost use Rattle.mpslp_model.specs.Declaration.{empty_draft, adding, adding_all, declare_sense, declare_objective, declare_row, by_type, declare_range, declare_column, declare_coefficient, declare_right_side, declare_marked, declare_integer, right_side_declared, bounds_declared, is_objective, has_row, has_column, has_name, has_entry, is_free_form, is_free_row, is_limits_form, is_row_by_limits};
-ghost use Rattle.mpslp_model.specs.Refusal.{those_of, refusals, bounds_refusals};
-ghost use Rattle.mpslp_model.specs.Made.{is_given};
-ghost use Rattle.mpslp_model.specs.Answer.{Answers, HasMemory, first_refusal};
+ghost use Rattle.std.specs.Prelude.{◌≡◌, IsTrue, IfOk};
+ghost use Rattle.std.specs.Option.{ForSome, option_map};
+ghost use Rattle.mpslp_model.specs.Name.{IsMpsName};
+ghost use Rattle.mpslp_model.specs.Declaration.{empty_draft, adding, adding_all, declare_sense, declare_objective, declare_row, by_type, declare_range, declare_column, declare_coefficient, declare_right_side, declare_marked, declare_integer, right_side_declared, bounds_declared, is_free_form, is_limits_form};
+ghost use Rattle.mpslp_model.specs.Refusal.{refusals, bounds_refusals};
+ghost use Rattle.mpslp_model.specs.Made.{is_given, IsMade};
+ghost use Rattle.mpslp_model.specs.Answer.{Answers, HasMemory};
 
-use crate::entries::{PlaceAt, Position, SortedMap, put_both};
+use crate::entries::{Position, SortedMap, put_both};
 use crate::faults::BuildFault;
 use crate::kinds::{Limit, RowType, Sense};
 use crate::names::Name;
@@ -55,7 +53,7 @@ impl Form {
     }
 
     /// Whether the row is of type N.
-    fn is_free(&self) -> bool
+    pub(crate) fn is_free(&self) -> bool
         ensures { result ≡ is_free_form self.now }
     {
         match self.kind {
@@ -65,7 +63,7 @@ impl Form {
     }
 
     /// Whether the row is declared by its limits.
-    fn has_limits(&self) -> bool
+    pub(crate) fn has_limits(&self) -> bool
         ensures { result ≡ is_limits_form self.now }
     {
         match self.kind {
@@ -112,29 +110,6 @@ impl Model for Builder {
     ghost invariant = { λ b. IsMade (draft b) };
 }
 
-/// Answers the first fault whose test holds, if there is one.
-fn refuse(tests: &[(bool, BuildFault)]) -> Result<(), BuildFault>
-    ensures { result ≡ first_refusal (those_of tests.now) }
-{
-    for (holds, fault) in tests {
-        if *holds {
-            return Err(*fault);
-        }
-    }
-    Ok(())
-}
-
-/// Whether the lower side is plus infinity, or the upper one minus infinity.
-fn have_infinite_side(lower: &Option<Limit>, upper: &Option<Limit>) -> bool
-    ensures { result ≡ (option_map_or is_plus_infinite lower.now false || option_map_or is_minus_infinite upper.now false) }
-{
-    match (lower, upper) {
-        (Some(Limit::PlusInf), _) => true,
-        (_, Some(Limit::MinusInf)) => true,
-        _ => false,
-    }
-}
-
 /// A side that is given, with a copy of its column's name.
 fn side_entry(
     alloc: Global,
@@ -148,13 +123,6 @@ fn side_entry(
         Some(limit) => Ok(Some((Name::copied(alloc, column)?, limit))),
         None => Ok(None),
     }
-}
-
-/// Whether the names have the same bytes.
-fn is_same(a: &[u8], b: &[u8]) -> bool
-    ensures { result ≡ same_bytes a.now b.now }
-{
-    a == b
 }
 
 impl Builder {
@@ -180,113 +148,11 @@ impl Builder {
         }
     }
 
-    /// Whether the objective has its name.
-    pub fn has_objective(&self) -> bool
-        ensures { result ≡ is_some self.now.objective }
+    /// Legal declarations made what is declared. That is what is known of the parts, so it needs no test.
+    pub(crate) fn is_made(&self)
+        ensures { IsMade self.now }
     {
-        self.objective.is_some()
-    }
-
-    /// Whether the objective has this name.
-    fn is_objective(&self, name: &[u8]) -> bool
-        ensures { result ≡ is_objective self.now name.now }
-    {
-        match &self.objective {
-            Some(objective) => is_same(name, objective.as_bytes()),
-            None => false,
-        }
-    }
-
-    /// Whether a row of this name is declared; the objective counts.
-    pub fn has_row(&self, name: &[u8]) -> bool
-        ensures { result ≡ has_row self.now name.now }
-    {
-        self.is_objective(name) || self.rows.has(&name)
-    }
-
-    /// Whether a column of this name is declared.
-    pub fn has_column(&self, name: &[u8]) -> bool
-        ensures { result ≡ has_column self.now name.now }
-    {
-        self.columns.has(&name)
-    }
-
-    /// Whether a row of this name is declared by type N.
-    fn is_free_row(&self, name: &[u8]) -> bool
-        ensures { result ≡ is_free_row self.now name.now }
-    {
-        match self.rows.find(&name) {
-            Some(form) => form.is_free(),
-            None => false,
-        }
-    }
-
-    /// Whether a row of this name is declared by its limits.
-    fn is_row_by_limits(&self, name: &[u8]) -> bool
-        ensures { result ≡ is_row_by_limits self.now name.now }
-    {
-        match self.rows.find(&name) {
-            Some(form) => form.has_limits(),
-            None => false,
-        }
-    }
-
-    /// Whether the sense is declared.
-    fn has_sense(&self) -> bool
-        ensures { result ≡ is_some self.now.sense }
-    {
-        self.sense.is_some()
-    }
-
-    /// Whether the right side of this name is declared, as such, by the limits of a row or by the constant.
-    fn has_right_side(&self, row: &[u8]) -> bool
-        ensures { result ≡ (has_name self.now.right_sides row.now || (is_row_by_limits self.now row.now || (is_objective self.now row.now && is_some self.now.constant))) }
-    {
-        self.right_sides.has(&row)
-            || (self.is_row_by_limits(row) || (self.is_objective(row) && self.constant.is_some()))
-    }
-
-    /// Whether the range of this name is declared, as such or by the limits of a row.
-    fn has_range(&self, row: &[u8]) -> bool
-        ensures { result ≡ (has_name self.now.ranges row.now || is_row_by_limits self.now row.now) }
-    {
-        self.ranges.has(&row) || self.is_row_by_limits(row)
-    }
-
-    /// Whether this is the objective or a row of type N.
-    fn has_no_sides(&self, row: &[u8]) -> bool
-        ensures { result ≡ (is_objective self.now row.now || is_free_row self.now row.now) }
-    {
-        self.is_objective(row) || self.is_free_row(row)
-    }
-
-    /// Whether a coefficient is declared there, 0 or not.
-    fn has_coefficient(&self, row: &[u8], column: &[u8]) -> bool
-        ensures { result ≡ has_entry self.now (record { row = row.now; column = column.now }) }
-    {
-        self.coefficients.has(&PlaceAt { row, column })
-    }
-
-    /// Whether a side that is given is declared already.
-    fn has_side(&self, column: &[u8], lower: &Option<Limit>, upper: &Option<Limit>) -> bool
-        ensures { result ≡ ((is_some lower.now && has_name self.now.lowers column.now) || (is_some upper.now && has_name self.now.uppers column.now)) }
-    {
-        (lower.is_some() && self.lowers.has(&column))
-            || (upper.is_some() && self.uppers.has(&column))
-    }
-
-    /// Whether a column of this name is declared as marked.
-    fn is_marked(&self, column: &[u8]) -> bool
-        ensures { result ≡ has_name self.now.marked column.now }
-    {
-        self.marked.has(&column)
-    }
-
-    /// Whether a column of this name is declared as integer.
-    fn is_integer(&self, column: &[u8]) -> bool
-        ensures { result ≡ has_name self.now.integers column.now }
-    {
-        self.integers.has(&column)
+        let _sense = self.sense;
     }
 
     /// Declares the sense. If it is never declared, the objective is minimized.
@@ -298,7 +164,7 @@ impl Builder {
         ensures answers { Answers (refusals self.old (declare_sense sense)) result (self.new ≡ adding self.old (declare_sense sense)) (self.new ≡ self.old) }
         ensures memory { HasMemory result }
     {
-        refuse(&[(self.has_sense(), BuildFault::DuplicateSense)])?;
+        self.check_sense()?;
         self.sense = Some(sense);
         Ok(())
     }
@@ -312,10 +178,7 @@ impl Builder {
         ensures answers { Answers (refusals self.old (declare_objective name)) result (self.new ≡ adding self.old (declare_objective name)) (self.new ≡ self.old) }
         ensures memory { HasMemory result }
     {
-        refuse(&[
-            (self.has_objective(), BuildFault::SecondObjective),
-            (self.has_row(name.as_bytes()), BuildFault::DuplicateRow),
-        ])?;
+        self.check_objective(name.as_bytes())?;
         self.objective = Some(name);
         Ok(())
     }
@@ -328,7 +191,7 @@ impl Builder {
     pub fn row(&mut self, name: Name, row_type: RowType) -> Result<(), BuildFault>
         ensures { Answers (refusals self.old (declare_row name (by_type row_type))) result (self.new ≡ adding self.old (declare_row name (by_type row_type))) (self.new ≡ self.old) }
     {
-        refuse(&[(self.has_row(name.as_bytes()), BuildFault::DuplicateRow)])?;
+        self.check_row(name.as_bytes())?;
         self.rows.put(name, Form::of_type(row_type))?;
         Ok(())
     }
@@ -342,10 +205,7 @@ impl Builder {
     pub fn rhs(&mut self, row: &[u8], value: Decimal) -> Result<(), BuildFault>
         ensures { Answers (refusals self.old (declare_right_side row.now value)) result (self.new ≡ adding_all self.old (right_side_declared self.old row.now value)) (self.new ≡ self.old) }
     {
-        refuse(&[
-            (!self.has_row(row), BuildFault::UnknownRow),
-            (self.has_right_side(row), BuildFault::DuplicateRhs),
-        ])?;
+        self.check_rhs(row)?;
         if self.is_free_row(row) {
             return Ok(());
         }
@@ -365,12 +225,7 @@ impl Builder {
     pub fn range(&mut self, row: &[u8], value: Decimal) -> Result<(), BuildFault>
         ensures { Answers (refusals self.old (declare_range row.now value)) result (self.new ≡ adding self.old (declare_range row.now value)) (self.new ≡ self.old) }
     {
-        refuse(&[
-            (!self.has_row(row), BuildFault::UnknownRow),
-            (self.has_range(row), BuildFault::DuplicateRange),
-            (self.has_no_sides(row), BuildFault::RangeOnFree),
-            (value.is_infinite_size(), BuildFault::InfiniteValue),
-        ])?;
+        self.check_range(row, value)?;
         let name = Name::copied(self.alloc, row)?;
         each_value_is_a_decimal(value);
         self.ranges.put(name, value)?;
@@ -406,14 +261,7 @@ impl Builder {
     ) -> Result<(), BuildFault>
         ensures { let declared = declare_coefficient (record { row = row.now; column = column.now }) value in Answers (refusals self.old declared) result (self.new ≡ adding self.old declared) (self.new ≡ self.old) }
     {
-        refuse(&[
-            (!self.has_row(row), BuildFault::UnknownRow),
-            (!self.has_column(column), BuildFault::UnknownColumn),
-            (
-                self.has_coefficient(row, column),
-                BuildFault::DuplicateEntry,
-            ),
-        ])?;
+        self.check_coefficient(row, column)?;
         let row_name = Name::copied(self.alloc, row)?;
         let column_name = Name::copied(self.alloc, column)?;
         each_value_is_a_decimal(value);
@@ -440,17 +288,7 @@ impl Builder {
         requires upper { ForSome upper (λ side. IsTrue (is_given side)) }
         ensures { Answers (bounds_refusals self.old column.now lower upper) result (self.new ≡ adding_all self.old (bounds_declared column.now lower upper)) (self.new ≡ self.old) }
     {
-        refuse(&[
-            (!self.has_column(column), BuildFault::UnknownColumn),
-            (
-                self.has_side(column, &lower, &upper),
-                BuildFault::DuplicateBound,
-            ),
-            (
-                have_infinite_side(&lower, &upper),
-                BuildFault::InfiniteValue,
-            ),
-        ])?;
+        self.check_bounds(column, &lower, &upper)?;
         let lower = side_entry(self.alloc, column, lower)?;
         let upper = side_entry(self.alloc, column, upper)?;
         put_both(&mut self.lowers, lower, &mut self.uppers, upper)?;
@@ -466,7 +304,7 @@ impl Builder {
     pub fn marked(&mut self, column: &[u8]) -> Result<(), BuildFault>
         ensures { Answers (refusals self.old (declare_marked column.now)) result (self.new ≡ adding self.old (declare_marked column.now)) (self.new ≡ self.old) }
     {
-        refuse(&[(!self.has_column(column), BuildFault::UnknownColumn)])?;
+        self.check_marked(column)?;
         if self.is_marked(column) {
             return Ok(());
         }
@@ -483,7 +321,7 @@ impl Builder {
     pub fn integer(&mut self, column: &[u8]) -> Result<(), BuildFault>
         ensures { Answers (refusals self.old (declare_integer column.now)) result (self.new ≡ adding self.old (declare_integer column.now)) (self.new ≡ self.old) }
     {
-        refuse(&[(!self.has_column(column), BuildFault::UnknownColumn)])?;
+        self.check_integer(column)?;
         if self.is_integer(column) {
             return Ok(());
         }

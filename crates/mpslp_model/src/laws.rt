@@ -1,10 +1,12 @@
 //! Laws of names, of declarations and of the models that they mean. Each is the contract of a function that does
 //! nothing: to call it is to cite the law.
 
+ghost use Rattle.mpslp_model.specs.Made.{IsMade};
 ghost use Rattle.mpslp_model.specs.Model.{IsSound};
 ghost use Rattle.mpslp_model.specs.Name.{IsMpsName};
 ghost use Rattle.mpslp_model.specs.Laws.{LpNamesAreMpsNames, MeanOneModel, MeanTheSameInAnyOrder};
 
+use crate::building::Builder;
 use crate::linear::Model;
 use crate::names::Name;
 
@@ -22,6 +24,14 @@ pub fn declarations_mean_one_model()
 pub fn order_is_of_no_account()
     ensures { MeanTheSameInAnyOrder }
 {}
+
+/// What a builder holds was made by legal declarations, one after another, and none of them was refused. So what is true
+/// of every such draft, as that its maps are sorted, needs no `requires` of who declares more.
+pub fn each_builder_is_made(builder: &Builder)
+    ensures { IsMade builder.now }
+{
+    builder.is_made()
+}
 
 /// Every model is sound: sides that values meet, a column at least, and each coefficient not 0 and of a row, or the
 /// objective, and a column that are there.

@@ -22,6 +22,7 @@ mod limits;
 mod linear;
 mod names;
 mod put;
+mod refusals;
 mod streams;
 
 pub use building::Builder;

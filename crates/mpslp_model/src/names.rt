@@ -215,5 +215,7 @@ mod tests {
             Name::new(alloc, b"'MARKER'".as_slice()).err(),
             Some(NameFault::NameMarker)
         );
+        assert_eq!(rt; Name::check(b"LIM1".as_slice()), Ok(()));
+        assert_eq!(rt; Name::check(b"a b".as_slice()), Err(NameFault::NameByte));
     }
 }

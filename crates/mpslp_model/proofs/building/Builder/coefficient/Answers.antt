@@ -3,12 +3,12 @@ use Rattle.std.specs.FinMap.{put}
 use Rattle.mpslp_decimal.specs.Decimal.{Number}
 use Rattle.mpslp_model.specs.Model.{Place, place_cmp}
 use Rattle.mpslp_model.specs.Declaration.{declare_coefficient, has_row, has_column, has_entry}
-use Rattle.mpslp_model.specs.Refusal.{refusal_tests}
+use Rattle.mpslp_model.specs.Refusal.{refusals}
 use Rattle.mpslp_model.specs.Made.{IsMade}
 use Rattle.mpslp_model.specs.BuilderDraft.{draft}
 use Rattle.mpslp_model.specs.declared.faults.BuildFault.{BuildFault}
 use Rattle.mpslp_model.specs.declared.faults.BuildFault.TheVariants.{UnknownRow, UnknownColumn, DuplicateEntry}
-use Rattle.mpslp_model.proofs.AnswerLemmas.{none_holds, made_next, made_now, known_row, known_column, row_is_legal, column_is_legal}
+use Rattle.mpslp_model.proofs.AnswerLemmas.{none_refused, made_next, made_now, known_row, known_column, row_is_legal, column_is_legal}
 use Rattle.mpslp_model.proofs.RefusalLemmas.{rest_none}
 use Rattle.mpslp_model.proofs.building.Builder.coefficient.Goals as goal
 
@@ -16,7 +16,7 @@ pub copied-requires : goal.copied-requires
 copied-requires c =
     let all = c.args.self.now in
     let d = declare_coefficient (record { row = c.args.row.now; column = c.args.column.now }) c.args.value in
-    let none = none_holds (refusal_tests all d) (λ i. (not (c.has_row.ensures i), UnknownRow) ∷ (not (c.has_column.ensures i), UnknownColumn) ∷ (c.has_coefficient.ensures i, DuplicateEntry) ∷ []) c.in_ok-refuse.ensures in
+    let none = none_refused (refusals all d) c.in_ok-check_coefficient.ensures in
     let last : List (Bool × BuildFault) = (has_entry all (record { row = c.args.row.now; column = c.args.column.now }), DuplicateEntry) ∷ [] in
     let more : List (Bool × BuildFault) = (not (has_column all c.args.column.now), UnknownColumn) ∷ last in
     row_is_legal all c.args.row.now (made_now c.self.view_is c.self.invariant) (known_row all c.args.row.now more none)
@@ -25,7 +25,7 @@ pub copied-requires-2 : goal.copied-requires-2
 copied-requires-2 c =
     let all = c.args.self.now in
     let d = declare_coefficient (record { row = c.args.row.now; column = c.args.column.now }) c.args.value in
-    let none = none_holds (refusal_tests all d) (λ i. (not (c.has_row.ensures i), UnknownRow) ∷ (not (c.has_column.ensures i), UnknownColumn) ∷ (c.has_coefficient.ensures i, DuplicateEntry) ∷ []) c.in_ok-refuse.ensures in
+    let none = none_refused (refusals all d) c.in_ok-check_coefficient.ensures in
     let last : List (Bool × BuildFault) = (has_entry all (record { row = c.args.row.now; column = c.args.column.now }), DuplicateEntry) ∷ [] in
     let more : List (Bool × BuildFault) = (not (has_column all c.args.column.now), UnknownColumn) ∷ last in
     column_is_legal all c.args.column.now (made_now c.self.view_is c.self.invariant)
@@ -34,7 +34,7 @@ copied-requires-2 c =
 pub invariant_of-self-2 : goal.invariant_of-self-2
 invariant_of-self-2 c =
     let d = declare_coefficient (record { row = c.args.row.now; column = c.args.column.now }) c.args.value in
-    let none = none_holds (refusal_tests c.args.self.now d) (λ i. (not (c.has_row.ensures i), UnknownRow) ∷ (not (c.has_column.ensures i), UnknownColumn) ∷ (c.has_coefficient.ensures i, DuplicateEntry) ∷ []) c.in_ok-refuse.ensures in
+    let none = none_refused (refusals c.args.self.now d) c.in_ok-check_coefficient.ensures in
     let place : ◌≡◌ {A = Place} c.new.result (record { row = c.args.row.now; column = c.args.column.now }) =
     c.new.ensures ∙ (λ i. record { row = c.in_ok-row_name.ensures i; column = c.in_ok-column_name.ensures i }) in
     subst (λ (coefficients : List (Place × Number)). IsMade (record (draft c.self.inside) { coefficients = coefficients }))

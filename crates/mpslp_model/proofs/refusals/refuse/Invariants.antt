@@ -1,7 +1,7 @@
 use Rattle.std.proofs.Common.{◌≡◌, drop}
 use Rattle.mpslp_model.specs.Refusal.{those_of}
 use Rattle.mpslp_model.specs.Answer.{first_refusal}
-use Rattle.mpslp_model.proofs.building.refuse.Given as goal
+use Rattle.mpslp_model.proofs.refusals.refuse.Given as goal
 
 -- what is left decides
 abbrev pub invariant-loop-holds : goal.invariant-loop-holds
