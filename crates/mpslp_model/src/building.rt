@@ -5,7 +5,7 @@ ghost use Rattle.std.specs.Option.{ForSome, option_map};
 ghost use Rattle.mpslp_model.specs.Name.{IsMpsName};
 ghost use Rattle.mpslp_model.specs.Declaration.{empty_draft, adding, adding_all, declare_sense, declare_objective, declare_row, by_type, declare_range, declare_column, declare_coefficient, declare_right_side, declare_marked, declare_integer, right_side_declared, bounds_declared, is_free_form, is_limits_form};
 ghost use Rattle.mpslp_model.specs.Refusal.{refusals, bounds_refusals};
-ghost use Rattle.mpslp_model.specs.Made.{is_given, IsMade};
+ghost use Rattle.mpslp_model.specs.Made.{is_given};
 ghost use Rattle.mpslp_model.specs.Answer.{Answers, HasMemory};
 
 use crate::entries::{Position, SortedMap, put_both};
@@ -146,13 +146,6 @@ impl Builder {
             integers: SortedMap::new(alloc),
             binaries: SortedMap::new(alloc),
         }
-    }
-
-    /// Legal declarations made what is declared. That is what is known of the parts, so it needs no test.
-    pub(crate) fn is_made(&self)
-        ensures { IsMade self.now }
-    {
-        let _sense = self.sense;
     }
 
     /// Declares the sense. If it is never declared, the objective is minimized.

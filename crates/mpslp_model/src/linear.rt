@@ -7,7 +7,7 @@ ghost use Rattle.std.specs.Bool.{Decides};
 ghost use Rattle.std.specs.Ordering.{is_eq};
 ghost use Rattle.std.specs.FinMap.{is_sorted};
 ghost use Rattle.mpslp_model.specs.Name.{same_bytes};
-ghost use Rattle.mpslp_model.specs.Model.{IsSound, bytes_cmp};
+ghost use Rattle.mpslp_model.specs.Model.{bytes_cmp};
 ghost use Rattle.mpslp_model.specs.Same.{same_number, same_limit, same_kind, IsSameObjective};
 ghost use Rattle.mpslp_model.specs.Views.{row_names, column_names, rows_of, columns_of, num_rows, num_columns, num_elements, row_name, column_name, row_index, column_index, row_sense, right_hand_side, row_range, is_integer_column, coefficient_at, column_elements, numbered_elements};
 
@@ -270,13 +270,6 @@ fn range_of(row: RowLimits) -> Decimal
 }
 
 impl Model {
-    /// The model is sound. That is what is known of its parts, so it needs no test.
-    pub(crate) fn is_sound(&self)
-        ensures { IsSound self.now }
-    {
-        let _sense = self.sense;
-    }
-
     /// How many rows there are; the objective is none.
     pub fn num_rows(&self) -> usize
         ensures { result ≡ num_rows self.now }

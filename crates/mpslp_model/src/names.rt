@@ -41,7 +41,7 @@ pub enum NameFault {
 /// are not `'MARKER'`. Contracts see its bytes.
 #[derive(Debug, Drop)]
 pub struct Name {
-    bytes: Vec<u8>,
+    pub(crate) bytes: Vec<u8>,
 }
 
 impl Model for Name {
@@ -165,13 +165,6 @@ impl Name {
         Ok(Name {
             bytes: bytes.to_vec(alloc)?,
         })
-    }
-
-    /// The bytes are an MPS name. That is what is known of them, so it needs no test.
-    pub(crate) fn is_legal(&self)
-        ensures { IsMpsName self.now }
-    {
-        let _len = self.bytes.len();
     }
 
     /// The bytes of the name.
