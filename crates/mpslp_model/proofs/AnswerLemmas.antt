@@ -12,7 +12,8 @@ use Rattle.std.proofs.Math.Dec.{T}
 use Rattle.mpslp_model.specs.Name.{is_mps_name}
 use Rattle.mpslp_model.specs.Model.{bytes_cmp}
 use Rattle.mpslp_model.specs.Declaration.{Declaration, Draft, adding, has_name, is_objective, has_row, has_column, adding_all, bounds_declared}
-use Rattle.mpslp_model.specs.Refusal.{those_of, refusals, bounds_refusals}
+use Rattle.mpslp_model.specs.Lists.{those_of}
+use Rattle.mpslp_model.specs.Refusal.{refusals, bounds_refusals}
 use Rattle.mpslp_model.specs.Made.{is_given, is_legal, IsMade}
 use Rattle.mpslp_model.specs.Sides.{is_plus_infinite, is_minus_infinite}
 use Rattle.mpslp_model.specs.declared.kinds.Limit.{Limit}

@@ -7,14 +7,15 @@ use Rattle.std.proofs.lemmas.List.{length-map, drop_more}
 use Rattle.std.proofs.lemmas.Option.{slice_get-get_or, slice_get_past}
 use Rattle.std.proofs.lemmas.Bool.Decides.{nat_tests}
 use Rattle.mpslp_model.specs.Declaration.{Draft}
-use Rattle.mpslp_model.specs.Meaning.{head_of, whole_fault, row_passes}
-use Rattle.mpslp_model.specs.FaultFound.{columns_alone, row_test, column_test, kind_of_row_fault, kind_of_column_fault, named, told, IsThere}
+use Rattle.mpslp_model.specs.Lists.{head_of}
+use Rattle.mpslp_model.specs.Meaning.{whole_fault, row_passes}
+use Rattle.mpslp_model.specs.FaultFound.{columns_alone, row_test, column_test, kind_of_row_fault, kind_of_column_fault, named, fault_found, IsThere}
 use Rattle.mpslp_model.specs.declared.faults.FaultKind.{FaultKind}
 use Rattle.mpslp_model.specs.declared.limits.RowFault.{RowFault}
 use Rattle.mpslp_model.specs.declared.limits.RowFault.TheVariants as rows
-use Rattle.mpslp_model.specs.declared.finding.ColumnFault.{ColumnFault}
-use Rattle.mpslp_model.specs.declared.finding.ColumnFault.TheVariants as columns
-use Rattle.mpslp_model.specs.declared.finding.FoundFault.TheVariants as found
+use Rattle.mpslp_model.specs.declared.bounds.ColumnFault.{ColumnFault}
+use Rattle.mpslp_model.specs.declared.bounds.ColumnFault.TheVariants as columns
+use Rattle.mpslp_model.specs.declared.file_faults.FoundFault.TheVariants as found
 
 -- the first of those that pass a test is the one that passes it first
 first_passing : {X Y : Type 0} (p : X → Bool) (f : X → Y) (xs : List X) → head_of (map f (filter p xs)) ≡ slice_get (map f xs) (position_or_len p xs)
@@ -67,7 +68,7 @@ of_row all rows.LimitTooLarge = refl
 of_row all rows.LimitsCrossed = refl
 
 pub row_found : (all : Draft) (fault : RowFault) (i : ℕ) → position (row_passes all (row_test fault)) all.rows ≡ Some i
-    → (named all (kind_of_row_fault fault) ≡ Some (told all (found.Row fault i))) × IsThere all (found.Row fault i)
+    → (named all (kind_of_row_fault fault) ≡ Some (fault_found all (found.Row fault i))) × IsThere all (found.Row fault i)
 row_found all fault i h =
     let at = found_at (row_passes all (row_test fault)) (λ row. row.0) (kind_of_row_fault fault) all.rows i h in
     (of_row all fault ∙ at.0, at.1)
@@ -99,7 +100,7 @@ columns_suffice all columns.BoundsCrossed = refl
 columns_suffice all columns.BinaryBounds = refl
 
 pub column_found : (all : Draft) (fault : ColumnFault) (j : ℕ) → position (λ column. column_test fault all column.0) all.columns ≡ Some j
-    → (named all (kind_of_column_fault fault) ≡ Some (told all (found.Column fault j))) × IsThere all (found.Column fault j)
+    → (named all (kind_of_column_fault fault) ≡ Some (fault_found all (found.Column fault j))) × IsThere all (found.Column fault j)
 column_found all fault j h =
     let at = found_at (λ column. column_test fault all column.0) (λ column. column.0) (kind_of_column_fault fault) all.columns j h in
     (of_column all fault ∙ at.0, at.1)

@@ -8,7 +8,7 @@ ghost use Rattle.mpslp_model.specs.declared.faults.NameAt.{NameAt};
 
 use crate::devices::Sink;
 use crate::faults::{ReadFault, WriteFault};
-use crate::linear::Model;
+use crate::model::Model;
 use std::alloc::Global;
 
 /// A format of model files: how its bytes are read, how a model is written, and the laws that hold the

@@ -8,8 +8,8 @@ ghost use Rattle.mpslp_model.specs.Model.{IsSound};
 ghost use Rattle.mpslp_model.specs.Name.{IsMpsName};
 ghost use Rattle.mpslp_model.specs.Laws.{FaultsAreExact, LpNamesAreMpsNames, MeanOneModel, MeanTheSameInAnyOrder};
 
-use crate::building::Builder;
-use crate::linear::Model;
+use crate::builder::Builder;
+use crate::model::Model;
 use crate::names::Name;
 
 /// Every name that is legal in LP is legal in MPS too.

@@ -8,29 +8,30 @@
 //! too, as the traits [`Source`], [`Sink`] and [`Format`]; [`put_all`] writes a whole piece to a sink.
 #![tactic(auto)]
 
-mod building;
-mod columns;
+mod bounds;
+mod builder;
 mod devices;
-mod entries;
+mod elements;
 mod faults;
-mod finding;
-mod finishing;
+mod file_faults;
+mod finish;
 mod formats;
 mod kinds;
 pub mod laws;
 mod limits;
-mod linear;
+mod model;
 mod names;
 mod put;
 mod refusals;
+mod sorted_map;
 mod streams;
 
-pub use building::Builder;
+pub use builder::Builder;
 pub use devices::{IoFailed, Sink, Source};
 pub use faults::{BuildFault, Fault, FaultKind, NameAt, ReadFault, WriteFault};
 pub use formats::Format;
 pub use kinds::{Kind, Limit, RowType, Sense};
-pub use linear::Model;
+pub use model::Model;
 pub use names::{MAX_NAME_LEN, Name, NameFault};
 pub use put::put_all;
 pub use streams::{FromRead, ToWrite};

@@ -7,13 +7,14 @@ ghost use Rattle.std.specs.Option.{option_map_or};
 ghost use Rattle.mpslp_model.specs.Name.{same_bytes};
 ghost use Rattle.mpslp_model.specs.Sides.{is_plus_infinite, is_minus_infinite};
 ghost use Rattle.mpslp_model.specs.Declaration.{declare_objective, declare_range, declare_marked, declare_integer, is_objective, has_row, has_column, has_name, has_entry, is_free_row, is_row_by_limits};
-ghost use Rattle.mpslp_model.specs.Refusal.{those_of, sense_tests, row_tests, rhs_tests, coefficient_tests, refusals, bounds_refusals};
+ghost use Rattle.mpslp_model.specs.Lists.{those_of};
+ghost use Rattle.mpslp_model.specs.Refusal.{sense_tests, row_tests, rhs_tests, coefficient_tests, refusals, bounds_refusals};
 ghost use Rattle.mpslp_model.specs.Answer.{first_refusal};
 
-use crate::building::Builder;
-use crate::entries::PlaceAt;
+use crate::builder::Builder;
 use crate::faults::BuildFault;
 use crate::kinds::Limit;
+use crate::sorted_map::BorrowedKey;
 use mpslp_decimal::Decimal;
 
 /// Answers the first fault whose test holds, if there is one.
@@ -106,10 +107,10 @@ impl Builder {
     }
 
     /// Whether the right side of this name is declared, as such, by the limits of a row or by the constant.
-    fn has_right_side(&self, row: &[u8]) -> bool
-        ensures { result ≡ (has_name self.now.right_sides row.now || (is_row_by_limits self.now row.now || (is_objective self.now row.now && is_some self.now.constant))) }
+    fn has_rhs(&self, row: &[u8]) -> bool
+        ensures { result ≡ (has_name self.now.rhs_values row.now || (is_row_by_limits self.now row.now || (is_objective self.now row.now && is_some self.now.constant))) }
     {
-        self.right_sides.has(&row)
+        self.rhs_values.has(&row)
             || (self.is_row_by_limits(row) || (self.is_objective(row) && self.constant.is_some()))
     }
 
@@ -131,7 +132,7 @@ impl Builder {
     fn has_coefficient(&self, row: &[u8], column: &[u8]) -> bool
         ensures { result ≡ has_entry self.now (record { row = row.now; column = column.now }) }
     {
-        self.coefficients.has(&PlaceAt { row, column })
+        self.coefficients.has(&BorrowedKey { row, column })
     }
 
     /// Whether a side that is given is declared already.
@@ -202,7 +203,7 @@ impl Builder {
     {
         refuse(&[
             (!self.has_row(row), BuildFault::UnknownRow),
-            (self.has_right_side(row), BuildFault::DuplicateRhs),
+            (self.has_rhs(row), BuildFault::DuplicateRhs),
         ])
     }
 

@@ -1,5 +1,5 @@
 use Rattle.std.proofs.Common.{◌≡◌, drop}
-use Rattle.mpslp_model.specs.Refusal.{those_of}
+use Rattle.mpslp_model.specs.Lists.{those_of}
 use Rattle.mpslp_model.specs.Answer.{first_refusal}
 use Rattle.mpslp_model.proofs.refusals.refuse.Given as goal
 
