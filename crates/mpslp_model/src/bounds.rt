@@ -1,6 +1,6 @@
 //! The kind and bounds of a column, from what is declared of it, and what may be wrong with them.
 
-ghost use Rattle.std.specs.Prelude.{◌≡◌, ◌&&◌, ◌||◌, not, is_some, is_none, unwrap_or, if◌then◌else◌};
+ghost use Rattle.std.specs.Prelude.{◌≡◌, ◌&&◌, ◌||◌, not, is_none, unwrap_or, if◌then◌else◌};
 ghost use Rattle.std.specs.Option.{option_copied};
 ghost use Rattle.mpslp_decimal.specs.Decimal.{zero_number};
 ghost use Rattle.mpslp_model.specs.Declaration.{at_name, has_name, is_integer};
@@ -17,7 +17,7 @@ use mpslp_decimal::Decimal;
 use std::marker::Model;
 
 /// What may be wrong with the bounds of a column, in the order in which it is told.
-#[derive(Clone, Copy, Debug)]
+#[derive(Clone, Copy)]
 pub(crate) enum ColumnFault {
     /// The upper bound is below 0 and no lower one is declared.
     NegativeUpper,
@@ -73,50 +73,22 @@ impl<'a> ColumnParts<'a> {
         bound_of(self.lowers, column).is_none() && bound_of(self.uppers, column).is_none()
     }
 
-    /// Whether the column is declared as marked.
-    fn is_marked(&self, column: &[u8]) -> bool
-        ensures { result ≡ has_name self.now.marked column.now }
-    {
-        self.marked.has(&column)
-    }
-
-    /// Whether the column is declared as integer.
-    fn is_integer(&self, column: &[u8]) -> bool
-        ensures { result ≡ has_name self.now.integers column.now }
-    {
-        self.integers.has(&column)
-    }
-
-    /// Whether the column is declared as binary.
-    fn is_binary(&self, column: &[u8]) -> bool
-        ensures { result ≡ has_name self.now.binaries column.now }
-    {
-        self.binaries.has(&column)
-    }
-
     /// Whether the column takes whole numbers alone.
     fn takes_whole_numbers(&self, column: &[u8]) -> bool
         ensures { result ≡ is_integer self.now column.now }
     {
-        self.is_marked(column) || (self.is_integer(column) || self.is_binary(column))
+        self.marked.has(&column) || (self.integers.has(&column) || self.binaries.has(&column))
     }
 
     /// The upper bound of a column where none is declared.
     fn default_upper(&self, column: &[u8]) -> Limit
         ensures { result ≡ default_upper self.now column.now }
     {
-        if self.is_binary(column) || (self.is_marked(column) && self.has_no_side(column)) {
+        if self.binaries.has(&column) || (self.marked.has(&column) && self.has_no_side(column)) {
             Limit::Finite(one())
         } else {
             Limit::PlusInf
         }
-    }
-
-    /// Whether the lower bound of this column is declared.
-    fn has_lower(&self, column: &[u8]) -> bool
-        ensures { result ≡ is_some (at_name self.now.lowers column.now) }
-    {
-        bound_of(self.lowers, column).is_some()
     }
 
     /// The lower bound of a column.
@@ -159,7 +131,7 @@ impl<'a> ColumnParts<'a> {
     fn has_negative_upper(&self, column: &[u8]) -> bool
         ensures { result ≡ has_negative_upper self.now column.now }
     {
-        !self.has_lower(column)
+        bound_of(self.lowers, column).is_none()
             && !is_at_most(Limit::Finite(Decimal::zero()), self.upper_bound(column))
     }
 
@@ -174,7 +146,7 @@ impl<'a> ColumnParts<'a> {
     fn has_binary_bounds(&self, column: &[u8]) -> bool
         ensures { result ≡ has_binary_bounds self.now column.now }
     {
-        self.is_binary(column)
+        self.binaries.has(&column)
             && !(is_at_most(Limit::Finite(Decimal::zero()), self.lower_bound(column))
                 && is_at_most(self.upper_bound(column), Limit::Finite(one())))
     }

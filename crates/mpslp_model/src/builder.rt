@@ -43,15 +43,6 @@ impl Model for Form {
 }
 
 impl Form {
-    /// A row by its type.
-    fn of_type(row_type: RowType) -> Form
-        ensures { result ≡ by_type row_type }
-    {
-        Form {
-            kind: FormKind::ByType(row_type),
-        }
-    }
-
     /// Whether the row is of type N.
     pub(crate) fn is_free(&self) -> bool
         ensures { result ≡ is_free_form self.now }
@@ -185,7 +176,8 @@ impl Builder {
         ensures { Answers (refusals self.old (declare_row name (by_type row_type))) result (self.new ≡ adding self.old (declare_row name (by_type row_type))) (self.new ≡ self.old) }
     {
         self.check_row(name.as_bytes())?;
-        self.rows.put(name, Form::of_type(row_type))?;
+        let kind = FormKind::ByType(row_type);
+        self.rows.put(name, Form { kind })?;
         Ok(())
     }
 
@@ -298,7 +290,7 @@ impl Builder {
         ensures { Answers (refusals self.old (declare_marked column.now)) result (self.new ≡ adding self.old (declare_marked column.now)) (self.new ≡ self.old) }
     {
         self.check_marked(column)?;
-        if self.is_marked(column) {
+        if self.marked.has(&column) {
             return Ok(());
         }
         let name = Name::copied(self.alloc, column)?;
@@ -315,7 +307,7 @@ impl Builder {
         ensures { Answers (refusals self.old (declare_integer column.now)) result (self.new ≡ adding self.old (declare_integer column.now)) (self.new ≡ self.old) }
     {
         self.check_integer(column)?;
-        if self.is_integer(column) {
+        if self.integers.has(&column) {
             return Ok(());
         }
         let name = Name::copied(self.alloc, column)?;

@@ -152,8 +152,7 @@ pub enum FaultKind {
 }
 
 impl FaultKind {
-    /// The place of the kind among all, counted from 1. Where several faults of one line could be told, it is the one
-    /// whose kind has the least rank.
+    /// The rank of the kind in the order of the kinds, counted from 1. Of several faults, that of the least rank is told.
     pub fn rank(self) -> u8
         ensures { result ≡ kind_rank self }
     {

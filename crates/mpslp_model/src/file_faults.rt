@@ -65,7 +65,7 @@ fn first_column(parts: &ColumnParts, fault: ColumnFault, columns: &[(Name, ())])
 }
 
 /// What is found wrong, and where.
-#[derive(Clone, Copy, Debug)]
+#[derive(Clone, Copy)]
 pub(crate) enum FoundFault {
     /// There is no column.
     NoColumns,

@@ -16,7 +16,7 @@ use mpslp_decimal::Decimal;
 use mpslp_decimal::laws::each_value_is_a_decimal;
 
 /// What may be wrong with the limits of a row, in the order in which it is told.
-#[derive(Clone, Copy, Debug)]
+#[derive(Clone, Copy)]
 pub(crate) enum RowFault {
     /// The right side is infinite where it may not be.
     InfiniteLimit,

@@ -169,13 +169,6 @@ impl marker::Model for Model {
     ghost invariant = { AreModelParts };
 }
 
-/// How many entries there are.
-fn count_of<X>(entries: &[(Name, X)]) -> usize
-    ensures { result ≡ length entries.now }
-{
-    entries.len()
-}
-
 /// The number of the entry of this name. Entries stand in the order of their names.
 fn index_of<X>(entries: &[(Name, X)], name: &[u8]) -> Option<usize>
     requires { IsTrue (is_sorted bytes_cmp entries.now) }
@@ -274,14 +267,14 @@ impl Model {
     pub fn num_rows(&self) -> usize
         ensures { result ≡ num_rows self.now }
     {
-        count_of(&self.rows)
+        self.rows.as_slice().len()
     }
 
     /// How many columns there are.
     pub fn num_cols(&self) -> usize
         ensures { result ≡ num_columns self.now }
     {
-        count_of(&self.columns)
+        self.columns.as_slice().len()
     }
 
     /// How many coefficients of rows are not 0; the objective's are not counted.

@@ -40,13 +40,6 @@ fn have_infinite_side(lower: &Option<Limit>, upper: &Option<Limit>) -> bool
     }
 }
 
-/// Whether the names have the same bytes.
-fn is_same(a: &[u8], b: &[u8]) -> bool
-    ensures { result ≡ same_bytes a.now b.now }
-{
-    a == b
-}
-
 impl Builder {
     /// Whether the objective has its name.
     pub fn has_objective(&self) -> bool
@@ -60,7 +53,7 @@ impl Builder {
         ensures { result ≡ is_objective self.now name.now }
     {
         match &self.objective {
-            Some(objective) => is_same(name, objective.as_bytes()),
+            Some(objective) => name == objective.as_bytes(),
             None => false,
         }
     }
@@ -99,13 +92,6 @@ impl Builder {
         }
     }
 
-    /// Whether the sense is declared.
-    fn has_sense(&self) -> bool
-        ensures { result ≡ is_some self.now.sense }
-    {
-        self.sense.is_some()
-    }
-
     /// Whether the right side of this name is declared, as such, by the limits of a row or by the constant.
     fn has_rhs(&self, row: &[u8]) -> bool
         ensures { result ≡ (has_name self.now.rhs_values row.now || (is_row_by_limits self.now row.now || (is_objective self.now row.now && is_some self.now.constant))) }
@@ -128,33 +114,12 @@ impl Builder {
         self.is_objective(row) || self.is_free_row(row)
     }
 
-    /// Whether a coefficient is declared there, 0 or not.
-    fn has_coefficient(&self, row: &[u8], column: &[u8]) -> bool
-        ensures { result ≡ has_entry self.now (record { row = row.now; column = column.now }) }
-    {
-        self.coefficients.has(&BorrowedKey { row, column })
-    }
-
     /// Whether a side that is given is declared already.
     fn has_side(&self, column: &[u8], lower: &Option<Limit>, upper: &Option<Limit>) -> bool
         ensures { result ≡ ((is_some lower.now && has_name self.now.lowers column.now) || (is_some upper.now && has_name self.now.uppers column.now)) }
     {
         (lower.is_some() && self.lowers.has(&column))
             || (upper.is_some() && self.uppers.has(&column))
-    }
-
-    /// Whether a column of this name is declared as marked.
-    pub(crate) fn is_marked(&self, column: &[u8]) -> bool
-        ensures { result ≡ has_name self.now.marked column.now }
-    {
-        self.marked.has(&column)
-    }
-
-    /// Whether a column of this name is declared as integer.
-    pub(crate) fn is_integer(&self, column: &[u8]) -> bool
-        ensures { result ≡ has_name self.now.integers column.now }
-    {
-        self.integers.has(&column)
     }
 
     /// The refusal that [`sense`](Self::sense) would have now.
@@ -165,7 +130,7 @@ impl Builder {
     pub fn check_sense(&self) -> Result<(), BuildFault>
         ensures { result ≡ first_refusal (those_of (sense_tests self.now)) }
     {
-        refuse(&[(self.has_sense(), BuildFault::DuplicateSense)])
+        refuse(&[(self.sense.is_some(), BuildFault::DuplicateSense)])
     }
 
     /// The refusal that [`objective`](Self::objective) would have now.
@@ -235,7 +200,7 @@ impl Builder {
             (!self.has_row(row), BuildFault::UnknownRow),
             (!self.has_column(column), BuildFault::UnknownColumn),
             (
-                self.has_coefficient(row, column),
+                self.coefficients.has(&BorrowedKey { row, column }),
                 BuildFault::DuplicateEntry,
             ),
         ])

@@ -1,7 +1,7 @@
 use Rattle.std.proofs.Common.{refl, sym, ap, subst, ◌∙◌, ℕ, List, [], ◌∷◌, not}
 use Rattle.std.specs.FinMap.{put}
 use Rattle.mpslp_model.specs.Model.{bytes_cmp}
-use Rattle.mpslp_model.specs.Declaration.{declare_marked}
+use Rattle.mpslp_model.specs.Declaration.{Draft, declare_marked, has_name}
 use Rattle.mpslp_model.specs.Refusal.{refusals}
 use Rattle.mpslp_model.specs.Made.{IsMade}
 use Rattle.mpslp_model.specs.BuilderDraft.{draft}
@@ -10,11 +10,11 @@ use Rattle.mpslp_model.proofs.AnswerLemmas.{none_refused, made_next, made_now, d
 use Rattle.mpslp_model.proofs.SortedDrafts.{sorted-from_made}
 use Rattle.mpslp_model.proofs.builder.Builder.marked.Goals as goal
 
-pub returns-then-is_marked : goal.returns-then-is_marked
-returns-then-is_marked c =
+pub returns-then-has : goal.returns-then-has
+returns-then-has c =
     let d = declare_marked c.args.column.now in
     let all = c.args.self.now in
-    let there = sym c.is_marked.ensures ∙ c.if-is_marked.true in
+    let there = ap (λ (d : Draft). has_name d.marked c.args.column.now) (sym c.self.view_is) ∙ sym c.has.ensures ∙ c.if-has.true in
     declared (refusals all d) _ _ (none_refused (refusals all d) c.in_ok-check_marked.ensures)
     (ap (λ (names : List (List ℕ × Unit {0})). record all { marked = names }) (put_again c.args.column.now all.marked (sorted-from_made all (made_now c.self.view_is c.self.invariant)).marked there))
 

@@ -17,6 +17,6 @@ invariant_of-self-2 c =
     let d = declare_row c.args.name (by_type c.args.row_type) in
     let unrefused = c.in_ok-check_row.ensures ∙ ap (λ (n : List ℕ). first_refusal (refusals c.args.self.now (declare_row n (by_type c.args.row_type)))) c.as_bytes.ensures in
     subst (λ (rows : List (List ℕ × RowForm)). IsMade (record (draft c.self.inside) { rows = rows }))
-    (sym (c.in_ok-put.ensures.ok ∙ ap (λ (form : RowForm). put bytes_cmp c.args.name form c.self.inside.rows) c.of_type.ensures))
+    (sym c.in_ok-put.ensures.ok)
     (made_next d c.self.view_is c.self.invariant (both_so (is_mps_name c.args.name) true (ap is_mps_name (sym c.name.view_is) ∙ c.name.invariant) refl)
     (none_refused (refusals c.args.self.now d) unrefused))
