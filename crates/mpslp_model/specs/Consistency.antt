@@ -42,7 +42,7 @@ slots_of (declare_constant _) = constant_slot ∷ []
 slots_of (declare_row name form) = row_slot name ∷ (if is_limits_form form then rhs_slot name ∷ range_slot name ∷ [] else [])
 slots_of (declare_rhs row _) = rhs_slot row ∷ []
 slots_of (declare_range row _) = range_slot row ∷ []
-slots_of (declare_coefficient place _) = coefficient_slot place ∷ []
+slots_of (declare_coefficient key _) = coefficient_slot key ∷ []
 slots_of (declare_lower column _) = lower_slot column ∷ []
 slots_of (declare_upper column _) = upper_slot column ∷ []
 slots_of _ = []
@@ -55,7 +55,7 @@ all_slots (declaration ∷ more) = slots_of declaration ++ all_slots more
 abbrev pub is_known : Draft → Declaration → Bool
 is_known all (declare_rhs row _) = has_row all row
 is_known all (declare_range row _) = has_row all row
-is_known all (declare_coefficient place _) = has_row all place.row && has_column all place.column
+is_known all (declare_coefficient key _) = has_row all key.row && has_column all key.column
 is_known all (declare_lower column _) = has_column all column
 is_known all (declare_upper column _) = has_column all column
 is_known all (declare_marked column) = has_column all column

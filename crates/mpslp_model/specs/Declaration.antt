@@ -78,7 +78,7 @@ adding all (declare_row name form) = record all { rows = put bytes_cmp name form
 adding all (declare_rhs row value) = record all { rhs_values = put bytes_cmp row value all.rhs_values }
 adding all (declare_range row value) = record all { ranges = put bytes_cmp row value all.ranges }
 adding all (declare_column name) = record all { columns = put bytes_cmp name tt all.columns }
-adding all (declare_coefficient place value) = record all { coefficients = put key_cmp place value all.coefficients }
+adding all (declare_coefficient key value) = record all { coefficients = put key_cmp key value all.coefficients }
 adding all (declare_lower column limit) = record all { lowers = put bytes_cmp column limit all.lowers }
 adding all (declare_upper column limit) = record all { uppers = put bytes_cmp column limit all.uppers }
 adding all (declare_marked column) = record all { marked = put bytes_cmp column tt all.marked }
@@ -115,7 +115,7 @@ has_column all name = has_name all.columns name
 
 -- whether a coefficient is declared there, 0 or not
 abbrev pub has_entry : Draft → CoefficientKey → Bool
-has_entry all place = is_some (find key_cmp place all.coefficients)
+has_entry all key = is_some (find key_cmp key all.coefficients)
 
 abbrev pub is_integer : Draft → List ℕ → Bool
 is_integer all name = has_name all.marked name || (has_name all.integers name || has_name all.binaries name)

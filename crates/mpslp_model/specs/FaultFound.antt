@@ -1,5 +1,5 @@
 -- What is found wrong with a draft as a whole: what it is, and where.
-use Rattle.std.specs.Prelude.{ℕ, ◌<◌, Bool, List, length, Option, Some, None, slice_get}
+use Rattle.std.specs.Prelude.{ℕ, ◌<◌, ◌||◌, Bool, List, length, Option, Some, None, slice_get}
 use Rattle.std.specs.Option.{option_map}
 use Rattle.mpslp_decimal.specs.Decimal.{Number}
 use Rattle.mpslp_model.specs.Declaration.{RowForm, Draft, empty_draft, names_in}
@@ -22,6 +22,12 @@ row_test rows.InfiniteLimit form b r = has_infinite_rhs form b r
 row_test rows.RangeInexact form b r = is_inexact (limits_of form b r)
 row_test rows.LimitTooLarge form b r = is_too_large (limits_of form b r)
 row_test rows.LimitsCrossed form b r = is_crossed (limits_of form b r)
+
+-- whether anything is wrong with a row
+abbrev pub is_faulty_row : RowForm → Number → Option Number → Bool
+is_faulty_row form b r =
+    let limits = limits_of form b r in
+    has_infinite_rhs form b r || (is_inexact limits || (is_too_large limits || is_crossed limits))
 
 -- what is declared of columns, without all else
 abbrev pub columns_alone : Draft → Draft

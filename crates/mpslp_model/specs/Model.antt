@@ -102,9 +102,9 @@ is_sound_column column = is_mps_name column.0 && are_sides column.1.lower column
 -- a decimal that is not 0, of a row or the objective and of a column that are there
 abbrev pub is_sound_coefficient : LinearModel → CoefficientKey × Number → Bool
 is_sound_coefficient m coefficient =
-    let place = coefficient.0 in
+    let key = coefficient.0 in
     is_decimal coefficient.1 && (not (is_zero coefficient.1)
-    && (is_one_of (maps.keys m.columns) place.column && is_one_of (m.objective ∷ maps.keys m.rows) place.row))
+    && (is_one_of (maps.keys m.columns) key.column && is_one_of (m.objective ∷ maps.keys m.rows) key.row))
 
 -- What holds of every model.
 pub record IsSound (m : LinearModel) : Type 0 where

@@ -33,8 +33,8 @@ rhs_tests all row =
 
 -- whatever the value is
 abbrev pub coefficient_tests : Draft → CoefficientKey → List (Bool × BuildFault)
-coefficient_tests all place =
-    (not (has_row all place.row), UnknownRow) ∷ (not (has_column all place.column), UnknownColumn) ∷ (has_entry all place, DuplicateEntry) ∷ []
+coefficient_tests all key =
+    (not (has_row all key.row), UnknownRow) ∷ (not (has_column all key.column), UnknownColumn) ∷ (has_entry all key, DuplicateEntry) ∷ []
 
 -- the tests of a declaration
 abbrev pub refusal_tests : Draft → Declaration → List (Bool × BuildFault)
@@ -47,7 +47,7 @@ refusal_tests all (declare_range row value) =
     (not (has_row all row), UnknownRow) ∷ (has_name all.ranges row || is_row_by_limits all row, DuplicateRange)
     ∷ (is_objective all row || is_free_row all row, RangeOnFree) ∷ (is_infinite_size value, InfiniteValue) ∷ []
 refusal_tests all (declare_column name) = []
-refusal_tests all (declare_coefficient place value) = coefficient_tests all place
+refusal_tests all (declare_coefficient key value) = coefficient_tests all key
 refusal_tests all (declare_lower column limit) =
     (not (has_column all column), UnknownColumn) ∷ (has_name all.lowers column, DuplicateBound) ∷ (is_plus_infinite limit, InfiniteValue) ∷ []
 refusal_tests all (declare_upper column limit) =

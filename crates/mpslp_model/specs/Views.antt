@@ -80,7 +80,7 @@ row_range row = distance row.lower row.upper
 
 -- ---- coefficients
 
--- the coefficient at a place; one that is not there is 0
+-- the coefficient of this row and column; one that is not there is 0
 abbrev pub coefficient_at : LinearModel → List ℕ → List ℕ → Number
 coefficient_at m row column = unwrap_or (maps.find key_cmp (record { row = row; column = column }) (maps.entries m.coefficients)) zero_number
 

@@ -1,16 +1,17 @@
 //! What is wrong with a builder's declarations as a whole.
 
 ghost use Rattle.std.specs.Prelude.{◌≡◌, ◌<◌, Some, None, position, length, filter_map, unwrap_or};
+ghost use Rattle.std.specs.List.{list_any};
 ghost use Rattle.std.specs.Option.{option_map, ForSome};
 ghost use Rattle.mpslp_decimal.specs.Decimal.{zero_number};
 ghost use Rattle.mpslp_model.specs.Declaration.{at_name};
 ghost use Rattle.mpslp_model.specs.Lists.{head_of};
 ghost use Rattle.mpslp_model.specs.Meaning.{file_fault};
-ghost use Rattle.mpslp_model.specs.FaultFound.{columns_alone, row_test, column_test, kind_of_row_fault, kind_of_column_fault, named, fault_found, IsThere};
+ghost use Rattle.mpslp_model.specs.FaultFound.{columns_alone, is_faulty_row, row_test, column_test, kind_of_row_fault, kind_of_column_fault, named, fault_found, IsThere};
 
 use crate::bounds::{ColumnFault, ColumnParts};
 use crate::builder::{Builder, Form};
-use crate::limits::{RowFault, row_has};
+use crate::limits::{RowFault, is_faulty_row, row_has};
 use crate::names::Name;
 use crate::sorted_map::SortedMap;
 use mpslp_decimal::Decimal;
@@ -35,7 +36,25 @@ pub(crate) fn range_of(ranges: &SortedMap<Name, Decimal>, row: &[u8]) -> Option<
     }
 }
 
-/// The number of the first row with which this is wrong.
+/// Whether anything is wrong with a row. Of most files nothing is, and then no kind of fault is looked for apart.
+fn has_faulty_row(
+    rows: &[(Name, Form)],
+    rhs_values: &SortedMap<Name, Decimal>,
+    ranges: &SortedMap<Name, Decimal>,
+) -> bool
+    ensures { result ≡ list_any (λ row. is_faulty_row row.1 (unwrap_or (at_name rhs_values.now row.0) zero_number) (at_name ranges.now row.0)) rows.now }
+{
+    rows.iter().any(|row| {
+        let name = row.0.as_bytes();
+        is_faulty_row(
+            &row.1.kind,
+            rhs_of(rhs_values, name),
+            &range_of(ranges, name),
+        )
+    })
+}
+
+/// The index of the first row with which this is wrong.
 fn first_row(
     fault: RowFault,
     rows: &[(Name, Form)],
@@ -48,14 +67,14 @@ fn first_row(
         let name = row.0.as_bytes();
         row_has(
             fault,
-            row.1.kind,
+            &row.1.kind,
             rhs_of(rhs_values, name),
-            range_of(ranges, name),
+            &range_of(ranges, name),
         )
     })
 }
 
-/// The number of the first of these columns with which this is wrong.
+/// The index of the first of these columns with which this is wrong.
 fn first_column(parts: &ColumnParts, fault: ColumnFault, columns: &[(Name, ())]) -> Option<usize>
     ensures { result ≡ position (λ column. column_test fault parts.now column.0) columns.now }
 {
@@ -69,9 +88,9 @@ fn first_column(parts: &ColumnParts, fault: ColumnFault, columns: &[(Name, ())])
 pub(crate) enum FoundFault {
     /// There is no column.
     NoColumns,
-    /// The row of this number has this fault, and none before it.
+    /// The row at this index has this fault, and none before it.
     Row(RowFault, usize),
-    /// The column of this number has this fault, and none before it.
+    /// The column at this index has this fault, and none before it.
     Column(ColumnFault, usize),
 }
 
@@ -94,8 +113,12 @@ impl Builder {
         ensures fault { option_map (fault_found self.now) result ≡ head_of (filter_map (λ fault. named self.now (kind_of_row_fault fault)) faults.now) }
         ensures there { ForSome result (IsThere self.now) }
     {
+        let rows = self.rows.as_slice();
+        if !has_faulty_row(rows, &self.rhs_values, &self.ranges) {
+            return None;
+        }
         for fault in faults {
-            let found = first_row(*fault, self.rows.as_slice(), &self.rhs_values, &self.ranges);
+            let found = first_row(*fault, rows, &self.rhs_values, &self.ranges);
             if let Some(at) = found {
                 return Some(FoundFault::Row(*fault, at));
             }

@@ -46,7 +46,7 @@ fn kind_of_column_fault(fault: ColumnFault) -> FaultKind
     }
 }
 
-/// The name of the entry of this number, taken out and not copied.
+/// The name of the entry at this index, taken out and not copied.
 fn name_out_of<X: Drop>(mut entries: Vec<(Name, X)>, at: usize) -> Name
     requires { at < vec_len entries }
     ensures { slice_get (names_in entries.items) at ≡ Some result }
@@ -66,8 +66,8 @@ fn whole_fault(kind: FaultKind, name: Option<Name>) -> Fault
 }
 
 /// The limits of a row; where they are no decimals, those of a row without limits.
-fn limits_or_none(form: FormKind, rhs: Decimal, range: Option<Decimal>) -> RowLimits
-    ensures { result ≡ unwrap_or (limits_of (row_form form) rhs range) (plain_limits types.Free zero_number) }
+fn limits_or_none(form: &FormKind, rhs: Decimal, range: &Option<Decimal>) -> RowLimits
+    ensures { result ≡ unwrap_or (limits_of (row_form form.now) rhs range.now) (plain_limits types.Free zero_number) }
 {
     match limits_of(form, rhs, range) {
         Some(limits) => limits,
@@ -88,7 +88,7 @@ fn with_limits(
         .map(|row| {
             let rhs = rhs_of(rhs_values, row.0.as_bytes());
             let range = range_of(ranges, row.0.as_bytes());
-            let limits = limits_or_none(row.1.kind, rhs, range);
+            let limits = limits_or_none(&row.1.kind, rhs, &range);
             (row.0, limits)
         })
         .collect(alloc)

@@ -7,7 +7,7 @@ ghost use Rattle.mpslp_decimal.specs.Decimal.{decimal_cmp, is_infinite_size, siz
 ghost use Rattle.mpslp_model.specs.Model.{is_at_most};
 ghost use Rattle.mpslp_model.specs.Limits.{sides, plain_limits, ranged_limits, limits_of, has_infinite_rhs, is_large_limit, distance_passes, is_inexact, is_too_large, is_crossed};
 ghost use Rattle.mpslp_model.specs.BuilderDraft.{row_form};
-ghost use Rattle.mpslp_model.specs.FaultFound.{row_test};
+ghost use Rattle.mpslp_model.specs.FaultFound.{is_faulty_row, row_test};
 
 use crate::builder::FormKind;
 use crate::kinds::{Limit, RowType, is_negative};
@@ -96,20 +96,23 @@ fn ranged_limits(row_type: RowType, rhs: Decimal, range: Decimal) -> Option<RowL
 }
 
 /// The limits of a row, where they are decimals.
-pub(crate) fn limits_of(form: FormKind, rhs: Decimal, range: Option<Decimal>) -> Option<RowLimits>
-    ensures { result ≡ limits_of (row_form form) rhs range }
+pub(crate) fn limits_of(form: &FormKind, rhs: Decimal, range: &Option<Decimal>) -> Option<RowLimits>
+    ensures { result ≡ limits_of (row_form form.now) rhs range.now }
 {
     match (form, range) {
-        (FormKind::ByType(row_type), None) => Some(plain_limits(row_type, rhs)),
-        (FormKind::ByType(row_type), Some(range)) => ranged_limits(row_type, rhs, range),
-        (FormKind::ByLimits(lower, upper), _) => Some(RowLimits { lower, upper }),
+        (FormKind::ByType(row_type), None) => Some(plain_limits(*row_type, rhs)),
+        (FormKind::ByType(row_type), Some(range)) => ranged_limits(*row_type, rhs, *range),
+        (FormKind::ByLimits(lower, upper), _) => Some(RowLimits {
+            lower: *lower,
+            upper: *upper,
+        }),
     }
 }
 
 /// Whether the right side is infinite where it may not be: it lies on the far side of its type, or a range or an equation
 /// needs it.
-fn has_infinite_rhs(form: FormKind, rhs: Decimal, range: Option<Decimal>) -> bool
-    ensures { result ≡ has_infinite_rhs (row_form form) rhs range }
+fn has_infinite_rhs(form: &FormKind, rhs: Decimal, range: &Option<Decimal>) -> bool
+    ensures { result ≡ has_infinite_rhs (row_form form.now) rhs range.now }
 {
     match form {
         FormKind::ByType(RowType::AtMost) => {
@@ -170,23 +173,23 @@ fn is_large_distance(limits: RowLimits) -> bool
 }
 
 /// Whether a computed limit or the distance is no decimal.
-fn is_inexact(limits: Option<RowLimits>) -> bool
-    ensures { result ≡ is_inexact limits }
+fn is_inexact(limits: &Option<RowLimits>) -> bool
+    ensures { result ≡ is_inexact limits.now }
 {
     match limits {
-        Some(limits) => is_inexact_distance(limits),
+        Some(limits) => is_inexact_distance(*limits),
         None => true,
     }
 }
 
 /// Whether a computed limit or the distance has size 10^20 or more.
-fn is_too_large(limits: Option<RowLimits>) -> bool
-    ensures { result ≡ is_too_large limits }
+fn is_too_large(limits: &Option<RowLimits>) -> bool
+    ensures { result ≡ is_too_large limits.now }
 {
     match limits {
         Some(limits) => {
             is_large_limit(limits.lower)
-                || (is_large_limit(limits.upper) || is_large_distance(limits))
+                || (is_large_limit(limits.upper) || is_large_distance(*limits))
         }
         None => false,
     }
@@ -220,8 +223,8 @@ pub(crate) fn is_at_most(a: Limit, b: Limit) -> bool
 }
 
 /// Whether the lower limit is above the upper one.
-fn is_crossed(limits: Option<RowLimits>) -> bool
-    ensures { result ≡ is_crossed limits }
+fn is_crossed(limits: &Option<RowLimits>) -> bool
+    ensures { result ≡ is_crossed limits.now }
 {
     match limits {
         Some(limits) => !is_at_most(limits.lower, limits.upper),
@@ -229,14 +232,28 @@ fn is_crossed(limits: Option<RowLimits>) -> bool
     }
 }
 
+/// Whether anything is wrong with a row of this form, right side and range. Its limits are built once.
+pub(crate) fn is_faulty_row(form: &FormKind, rhs: Decimal, range: &Option<Decimal>) -> bool
+    ensures { result ≡ is_faulty_row (row_form form.now) rhs range.now }
+{
+    let limits = limits_of(form, rhs, range);
+    has_infinite_rhs(form, rhs, range)
+        || (is_inexact(&limits) || (is_too_large(&limits) || is_crossed(&limits)))
+}
+
 /// Whether this is wrong with a row of this form, right side and range.
-pub(crate) fn row_has(fault: RowFault, form: FormKind, rhs: Decimal, range: Option<Decimal>) -> bool
-    ensures { result ≡ row_test fault (row_form form) rhs range }
+pub(crate) fn row_has(
+    fault: RowFault,
+    form: &FormKind,
+    rhs: Decimal,
+    range: &Option<Decimal>,
+) -> bool
+    ensures { result ≡ row_test fault (row_form form.now) rhs range.now }
 {
     match fault {
         RowFault::InfiniteLimit => has_infinite_rhs(form, rhs, range),
-        RowFault::RangeInexact => is_inexact(limits_of(form, rhs, range)),
-        RowFault::LimitTooLarge => is_too_large(limits_of(form, rhs, range)),
-        RowFault::LimitsCrossed => is_crossed(limits_of(form, rhs, range)),
+        RowFault::RangeInexact => is_inexact(&limits_of(form, rhs, range)),
+        RowFault::LimitTooLarge => is_too_large(&limits_of(form, rhs, range)),
+        RowFault::LimitsCrossed => is_crossed(&limits_of(form, rhs, range)),
     }
 }

@@ -61,7 +61,7 @@ impl<'a> Query<Name> for &'a [u8] {
     }
 }
 
-/// Where a coefficient stands, by copied names. Contracts see it as a `CoefficientKey`.
+/// The key of a coefficient, by names of its own. Contracts see it as a `CoefficientKey`.
 #[derive(Debug, PartialEq, Drop)]
 pub(crate) struct OwnedKey {
     row: Name,
@@ -79,7 +79,7 @@ impl Model for OwnedKey {
 }
 
 impl OwnedKey {
-    /// The place in this row and column.
+    /// The key of this row and column.
     pub(crate) fn new(row: Name, column: Name) -> OwnedKey
         ensures { result ≡ record { row = row; column = column } }
     {
@@ -101,7 +101,7 @@ impl OwnedKey {
     }
 }
 
-/// How two places stand to each other, by column and then by row.
+/// How two keys of coefficients stand to each other, by column and then by row.
 fn compare_by_column(row: &[u8], column: &[u8], other: &OwnedKey) -> Ordering
     ensures { result ≡ key_cmp (record { row = row.now; column = column.now }) other.now }
 {
@@ -120,7 +120,7 @@ impl Key for OwnedKey {
     }
 }
 
-/// A place by names that are not its own.
+/// The key of a coefficient, by names that are not its own.
 #[derive(Clone, Copy)]
 pub(crate) struct BorrowedKey<'a> {
     pub(crate) row: &'a [u8],
@@ -128,14 +128,14 @@ pub(crate) struct BorrowedKey<'a> {
 }
 
 impl<'a> Query<OwnedKey> for BorrowedKey<'a> {
-    ghost key = { λ place. record { row = place.row.now; column = place.column.now } };
+    ghost key = { λ key. record { row = key.row.now; column = key.column.now } };
 
     fn compare(&self, other: &OwnedKey) -> Ordering {
         compare_by_column(self.row, self.column, other)
     }
 }
 
-/// The entry of number `i`.
+/// The entry at index `i`.
 pub(crate) fn entry_at<K, V>(entries: &[(K, V)], i: usize) -> &(K, V)
     requires { i < length entries.now }
     ensures { slice_get entries.now i ≡ Some result.now }
@@ -143,7 +143,7 @@ pub(crate) fn entry_at<K, V>(entries: &[(K, V)], i: usize) -> &(K, V)
     &entries[i]
 }
 
-/// The place of the first entry that is not below the key.
+/// The index of the first entry that is not below the key, or else how many entries there are.
 fn index_of_key<K: Key, V, Q: Query<K>>(entries: &[(K, V)], query: &Q) -> usize
     requires { IsTrue (is_sorted K.cmp entries.now) }
     ensures { result ≡ position_or_len (λ entry. is_le (K.cmp (Q.key query.now) entry.0)) entries.now }
@@ -151,7 +151,7 @@ fn index_of_key<K: Key, V, Q: Query<K>>(entries: &[(K, V)], query: &Q) -> usize
     entries.partition_point(|entry| query.compare(&entry.0).is_gt())
 }
 
-/// The number of the entry at a key, if there is one.
+/// The index of the entry at a key, if there is one.
 pub(crate) fn index_of_entry<K: Key, V, Q: Query<K>>(entries: &[(K, V)], query: &Q) -> Option<usize>
     requires { IsTrue (is_sorted K.cmp entries.now) }
     ensures { result ≡ position (λ entry. is_eq (K.cmp (Q.key query.now) entry.0)) entries.now }
@@ -184,7 +184,7 @@ pub(crate) fn find_entry<'a, K: Key, V, Q: Query<K>>(
     None
 }
 
-/// Puts an entry in its place. No entry at its key is there. It takes memory only where the vector is full.
+/// Puts an entry where its key belongs. No entry at its key is there. It takes memory only where the vector is full.
 fn put_entry<K: Key + Drop, V: Drop>(
     entries: &mut Vec<(K, V)>,
     key: K,
