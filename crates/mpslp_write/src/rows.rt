@@ -9,7 +9,7 @@ ghost use Rattle.mpslp_model.specs.Views.{num_rows, rows_of};
 ghost use Rattle.mpslp_canonical.specs.PrintedValues.{printed_side, printed_range};
 ghost use Rattle.mpslp_canonical.specs.CanonicalMps.{row_line, side_lines, row_side_lines, range_lines, rows_section, right_sides_section, ranges_section};
 ghost use Rattle.mpslp_canonical.specs.Listing.{listing_of};
-ghost use Rattle.mpslp_model.specs.Refusal.{is_nonempty};
+ghost use Rattle.mpslp_model.specs.Lists.{is_nonempty};
 ghost use Rattle.mpslp_write.specs.LinesAt.{lines_at};
 ghost use Rattle.mpslp_write.specs.Output.{Prints};
 
