@@ -4,7 +4,8 @@ use Rattle.std.specs.List.{flat_map}
 use Rattle.mpslp_decimal.specs.Decimal.{Number, is_zero}
 use Rattle.mpslp_model.specs.Name.{same_bytes}
 use Rattle.mpslp_model.specs.Model.{Column}
-use Rattle.mpslp_model.specs.Consistency.{Slot, lower_slot, upper_slot, same_slot, slots_of, are_distinct}
+use Rattle.mpslp_model.specs.Lists.{are_distinct}
+use Rattle.mpslp_model.specs.Consistency.{Slot, lower_slot, upper_slot, same_slot, slots_of}
 use Rattle.mpslp_model.specs.declared.kinds.Kind.{Kind}
 use Rattle.mpslp_model.specs.declared.kinds.Kind.TheVariants.{Continuous, Integer}
 use Rattle.mpslp_model.specs.declared.kinds.Limit.{Limit}

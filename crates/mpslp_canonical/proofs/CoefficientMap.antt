@@ -7,15 +7,15 @@ use Rattle.std.specs.Cmp.{first_so, second_so}
 use Rattle.std.specs.FinMap.{find}
 use Rattle.mpslp_decimal.specs.Decimal.{Number, is_decimal, is_zero}
 use Rattle.mpslp_model.specs.Name.{same_bytes, is_one_of}
-use Rattle.mpslp_model.specs.Model.{Column, Place, place_cmp}
+use Rattle.mpslp_model.specs.Model.{Column, CoefficientKey, key_cmp}
 use Rattle.mpslp_model.specs.Declaration.{empty_draft, names_in}
 use Rattle.mpslp_model.proofs.EachLemmas.{Each, Each-append, Each-flat_map, Each-all}
 use Rattle.mpslp_model.proofs.PutsLemmas.{puts, find-front, some_cons, some_append_left, some_append_right}
 use Rattle.mpslp_model.proofs.DraftLemmas.{coefficients-all}
-use Rattle.mpslp_model.proofs.DraftEntries.{same_place}
+use Rattle.mpslp_model.proofs.DraftEntries.{same_key}
 use Rattle.mpslp_model.proofs.LaterDrafts.{value_in}
 use Rattle.mpslp_model.proofs.SlotLemmas.{same_name}
-use Rattle.mpslp_model.proofs.SortedDrafts.{place_total}
+use Rattle.mpslp_model.proofs.SortedDrafts.{key_total}
 use Rattle.mpslp_canonical.specs.Listing.{Listing}
 use Rattle.mpslp_canonical.specs.CanonicalMps.{cell_at, column_cells, printed_cells, is_integer_column, is_continuous_column}
 use Rattle.mpslp_canonical.proofs.CanonicalItems.{to_cell, cells_in}
@@ -26,21 +26,21 @@ use Rattle.mpslp_canonical.proofs.DraftMaps.{is_sound_entry, IsSoundListing, dra
 abbrev pub is_kept : Number → Bool
 is_kept value = not (is_zero value)
 
-abbrev pub place_at : List ℕ → List ℕ → Place
+abbrev pub place_at : List ℕ → List ℕ → CoefficientKey
 place_at row column = record { row = row; column = column }
 
 -- what is printed at a place is what is there; 0 is printed where nothing is
-abbrev pub IsTrueCell : List (Place × Number) → List ℕ → List ℕ × Number → Type 0
-IsTrueCell coefficients column cell = find place_cmp (place_at cell.0 column) coefficients ≡ cond (is_kept cell.1) (Some cell.1) None
+abbrev pub IsTrueCell : List (CoefficientKey × Number) → List ℕ → List ℕ × Number → Type 0
+IsTrueCell coefficients column cell = find key_cmp (place_at cell.0 column) coefficients ≡ cond (is_kept cell.1) (Some cell.1) None
 
-abbrev AllKept : List (Place × Number) → Type 0
-AllKept coefficients = (place : Place) (value : Number) → find place_cmp place coefficients ≡ Some value → is_kept value ≡ true
+abbrev AllKept : List (CoefficientKey × Number) → Type 0
+AllKept coefficients = (place : CoefficientKey) (value : Number) → find key_cmp place coefficients ≡ Some value → is_kept value ≡ true
 
-cells-true : (coefficients : List (Place × Number)) (column : List ℕ) → AllKept coefficients → (rows : List (List ℕ)) → Each (IsTrueCell coefficients column) (filter_map (cell_at coefficients column) rows)
+cells-true : (coefficients : List (CoefficientKey × Number)) (column : List ℕ) → AllKept coefficients → (rows : List (List ℕ)) → Each (IsTrueCell coefficients column) (filter_map (cell_at coefficients column) rows)
 cells-true coefficients column kept [] = tt
-cells-true coefficients column kept (row ∷ rows) = by (find place_cmp (place_at row column) coefficients) refl (cells-true coefficients column kept rows)
+cells-true coefficients column kept (row ∷ rows) = by (find key_cmp (place_at row column) coefficients) refl (cells-true coefficients column kept rows)
   where
-    by : (o : Option Number) → find place_cmp (place_at row column) coefficients ≡ o → Each (IsTrueCell coefficients column) (filter_map (cell_at coefficients column) rows)
+    by : (o : Option Number) → find key_cmp (place_at row column) coefficients ≡ o → Each (IsTrueCell coefficients column) (filter_map (cell_at coefficients column) rows)
         → Each (IsTrueCell coefficients column) (cons_option (option_map (λ (value : Number). (row, value)) o) (filter_map (cell_at coefficients column) rows))
     by None is more = more
     by (Some d) is more = (is ∙ sym (ap (λ (b : Bool). cond b (Some d) None) (kept (place_at row column) d is)), more)
@@ -53,14 +53,14 @@ printed-true : (m : Listing) (column : List ℕ) → AllKept m.coefficients → 
 printed-true m column kept = by (column_cells m column) refl (cells-true m.coefficients column kept (m.objective ∷ map (λ row. row.0) m.rows))
   where
     by : (cells : List (List ℕ × Number)) → column_cells m column ≡ cells → Each (IsTrueCell m.coefficients column) cells → Each (IsTrueCell m.coefficients column) (printed_cells m.objective cells)
-    by [] is h = (none-first m.objective (find place_cmp (place_at m.objective column) m.coefficients) (filter_map (cell_at m.coefficients column) (map (λ row. row.0) m.rows)) is, tt)
+    by [] is h = (none-first m.objective (find key_cmp (place_at m.objective column) m.coefficients) (filter_map (cell_at m.coefficients column) (map (λ row. row.0) m.rows)) is, tt)
     by (cell ∷ cells) is h = h
 
 -- as entries
-abbrev IsTrueEntry : List (Place × Number) → Place × Number → Type 0
-IsTrueEntry coefficients entry = find place_cmp entry.0 coefficients ≡ cond (is_kept entry.1) (Some entry.1) None
+abbrev IsTrueEntry : List (CoefficientKey × Number) → CoefficientKey × Number → Type 0
+IsTrueEntry coefficients entry = find key_cmp entry.0 coefficients ≡ cond (is_kept entry.1) (Some entry.1) None
 
-entries-true : (coefficients : List (Place × Number)) (column : List ℕ) (cells : List (List ℕ × Number)) → Each (IsTrueCell coefficients column) cells
+entries-true : (coefficients : List (CoefficientKey × Number)) (column : List ℕ) (cells : List (List ℕ × Number)) → Each (IsTrueCell coefficients column) cells
     → Each (IsTrueEntry coefficients) (flat_map own_coefficient (map (to_cell column) cells))
 entries-true coefficients column [] h = tt
 entries-true coefficients column (cell ∷ cells) h = (h.0, entries-true coefficients column cells h.1)
@@ -72,30 +72,30 @@ columns-true m kept columns =
 
 -- ---- each coefficient is printed
 
-abbrev SomeAt : Place → List (Place × Number) → Type 0
-SomeAt place es = is_some (find place_cmp place es) ≡ true
+abbrev SomeAt : CoefficientKey → List (CoefficientKey × Number) → Type 0
+SomeAt place es = is_some (find key_cmp place es) ≡ true
 
-row-hit : (coefficients : List (Place × Number)) (row column : List ℕ) (value : Number) → find place_cmp (place_at row column) coefficients ≡ Some value → (rows : List (List ℕ)) → is_one_of rows row ≡ true
+row-hit : (coefficients : List (CoefficientKey × Number)) (row column : List ℕ) (value : Number) → find key_cmp (place_at row column) coefficients ≡ Some value → (rows : List (List ℕ)) → is_one_of rows row ≡ true
     → SomeAt (place_at row column) (flat_map own_coefficient (map (to_cell column) (filter_map (cell_at coefficients column) rows)))
 row-hit coefficients row column value is [] h = cc
 row-hit coefficients row column value is (x ∷ rows) h =
-    by (same_bytes row x) refl h (find place_cmp (place_at x column) coefficients) refl (λ later. row-hit coefficients row column value is rows later)
+    by (same_bytes row x) refl h (find key_cmp (place_at x column) coefficients) refl (λ later. row-hit coefficients row column value is rows later)
   where
     nothing : ◌≡◌ {A = Option Number} None (Some value) → ⊥
     nothing e = cc
 
-    by : (b : Bool) → same_bytes row x ≡ b → (b || is_one_of rows row) ≡ true → (o : Option Number) → find place_cmp (place_at x column) coefficients ≡ o
+    by : (b : Bool) → same_bytes row x ≡ b → (b || is_one_of rows row) ≡ true → (o : Option Number) → find key_cmp (place_at x column) coefficients ≡ o
         → (is_one_of rows row ≡ true → SomeAt (place_at row column) (flat_map own_coefficient (map (to_cell column) (filter_map (cell_at coefficients column) rows))))
         → SomeAt (place_at row column) (flat_map own_coefficient (map (to_cell column) (cons_option (option_map (λ (d : Number). (x, d)) o) (filter_map (cell_at coefficients column) rows))))
-    by true e k None at more = absurd (nothing (sym at ∙ ap (λ (n : List ℕ). find place_cmp (place_at n column) coefficients) (sym (same_name row x e)) ∙ is))
+    by true e k None at more = absurd (nothing (sym at ∙ ap (λ (n : List ℕ). find key_cmp (place_at n column) coefficients) (sym (same_name row x e)) ∙ is))
     by true e k (Some d) at more =
         let rest = flat_map own_coefficient (map (to_cell column) (filter_map (cell_at coefficients column) rows)) in
-        ap (λ (n : List ℕ). is_some (find place_cmp (place_at n column) ((place_at x column, d) ∷ rest))) (same_name row x e) ∙ find-front place_cmp place_total same_place (place_at x column) d rest
+        ap (λ (n : List ℕ). is_some (find key_cmp (place_at n column) ((place_at x column, d) ∷ rest))) (same_name row x e) ∙ find-front key_cmp key_total same_key (place_at x column) d rest
     by false e k None at more = more k
     by false e k (Some d) at more =
-        some_cons place_cmp place_total same_place (place_at row column) (place_at x column) d (flat_map own_coefficient (map (to_cell column) (filter_map (cell_at coefficients column) rows))) (more k)
+        some_cons key_cmp key_total same_key (place_at row column) (place_at x column) d (flat_map own_coefficient (map (to_cell column) (filter_map (cell_at coefficients column) rows))) (more k)
 
-printed-hit : (place : Place) (column objective : List ℕ) (cells : List (List ℕ × Number)) → SomeAt place (flat_map own_coefficient (map (to_cell column) cells))
+printed-hit : (place : CoefficientKey) (column objective : List ℕ) (cells : List (List ℕ × Number)) → SomeAt place (flat_map own_coefficient (map (to_cell column) cells))
     → SomeAt place (flat_map own_coefficient (map (to_cell column) (printed_cells objective cells)))
 printed-hit place column objective [] h = cc
 printed-hit place column objective (cell ∷ cells) h = h
@@ -104,46 +104,46 @@ any-name : (name : List ℕ) (columns : List (List ℕ × Column)) → is_one_of
 any-name name [] = refl
 any-name name (column ∷ columns) = ap (λ (b : Bool). same_bytes name column.0 || b) (any-name name columns)
 
-join-some : (place : Place) (left right : List (Place × Number)) → (is_some (find place_cmp place left) || is_some (find place_cmp place right)) ≡ true → SomeAt place (left ++ right)
-join-some place left right h = by (is_some (find place_cmp place left)) refl h
+join-some : (place : CoefficientKey) (left right : List (CoefficientKey × Number)) → (is_some (find key_cmp place left) || is_some (find key_cmp place right)) ≡ true → SomeAt place (left ++ right)
+join-some place left right h = by (is_some (find key_cmp place left)) refl h
   where
-    by : (b : Bool) → is_some (find place_cmp place left) ≡ b → (b || is_some (find place_cmp place right)) ≡ true → SomeAt place (left ++ right)
-    by true e k = some_append_left place_cmp place_total same_place place left right e
-    by false e k = some_append_right place_cmp place_total same_place place left right k
+    by : (b : Bool) → is_some (find key_cmp place left) ≡ b → (b || is_some (find key_cmp place right)) ≡ true → SomeAt place (left ++ right)
+    by true e k = some_append_left key_cmp key_total same_key place left right e
+    by false e k = some_append_right key_cmp key_total same_key place left right k
 
 module _ (m : Listing) (h : IsSoundListing m) where
-  abbrev IsSoundAt : Place → Number → Type 0
+  abbrev IsSoundAt : CoefficientKey → Number → Type 0
   IsSoundAt place value = is_sound_entry m (place, value) ≡ true
 
-  sound-at : (place : Place) (value : Number) → find place_cmp place m.coefficients ≡ Some value → IsSoundAt place value
-  sound-at place value is = found-each place_cmp place_total same_place IsSoundAt m.coefficients h.coefficients place value is
+  sound-at : (place : CoefficientKey) (value : Number) → find key_cmp place m.coefficients ≡ Some value → IsSoundAt place value
+  sound-at place value is = found-each key_cmp key_total same_key IsSoundAt m.coefficients h.coefficients place value is
 
   all-kept : AllKept m.coefficients
   all-kept place value is =
       first_so (is_kept value) _ (second_so (is_decimal value) _ (sound-at place value is))
 
-  hit : (place : Place) (value : Number) → find place_cmp place m.coefficients ≡ Some value → (column : List ℕ × Column) → same_bytes place.column column.0 ≡ true
+  hit : (place : CoefficientKey) (value : Number) → find key_cmp place m.coefficients ≡ Some value → (column : List ℕ × Column) → same_bytes place.column column.0 ≡ true
       → SomeAt place (flat_map own_coefficient (cells_in m column))
   hit place value is column e =
       let named : place.column ≡ column.0 = same_name place.column column.0 e in
-      let here : find place_cmp (place_at place.row column.0) m.coefficients ≡ Some value = ap (λ (n : List ℕ). find place_cmp (place_at place.row n) m.coefficients) (sym named) ∙ is in
+      let here : find key_cmp (place_at place.row column.0) m.coefficients ≡ Some value = ap (λ (n : List ℕ). find key_cmp (place_at place.row n) m.coefficients) (sym named) ∙ is in
       let names = is_one_of (names_in m.columns) place.column in
       let rows = is_one_of (m.objective ∷ names_in m.rows) place.row in
       let there : rows ≡ true = second_so names rows (second_so (is_kept value) (names && rows) (second_so (is_decimal value) (is_kept value && (names && rows)) (sound-at place value is))) in
-      ap (λ (n : List ℕ). is_some (find place_cmp (place_at place.row n) (flat_map own_coefficient (cells_in m column)))) named
+      ap (λ (n : List ℕ). is_some (find key_cmp (place_at place.row n) (flat_map own_coefficient (cells_in m column)))) named
       ∙ printed-hit (place_at place.row column.0) column.0 m.objective (column_cells m column.0)
       (row-hit m.coefficients place.row column.0 value here (m.objective ∷ map (λ row. row.0) m.rows) there)
 
-  each-printed : (place : Place) → SomeAt place m.coefficients
+  each-printed : (place : CoefficientKey) → SomeAt place m.coefficients
       → SomeAt place (from_cells own_coefficient m (filter is_continuous_column m.columns) ++ from_cells own_coefficient m (filter (λ column. not (is_continuous_column column)) m.columns))
   each-printed place some =
-      let found = value_in (find place_cmp place m.coefficients) some in
+      let found = value_in (find key_cmp place m.coefficients) some in
       let names = is_one_of (names_in m.columns) place.column in
       let rows = is_one_of (m.objective ∷ names_in m.rows) place.row in
       let sound = sound-at place found.0 found.1 in
       let there : names ≡ true = first_so names rows (second_so (is_kept found.0) (names && rows) (second_so (is_decimal found.0) (is_kept found.0 && (names && rows)) sound)) in
       join-some place (from_cells own_coefficient m (filter is_continuous_column m.columns)) (from_cells own_coefficient m (filter (λ column. not (is_continuous_column column)) m.columns))
-      (found-either place_cmp place_total same_place (λ column. flat_map own_coefficient (cells_in m column)) is_continuous_column (λ column. same_bytes place.column column.0) place m.columns
+      (found-either key_cmp key_total same_key (λ column. flat_map own_coefficient (cells_in m column)) is_continuous_column (λ column. same_bytes place.column column.0) place m.columns
       (sym (any-name place.column m.columns) ∙ there) (hit place found.0 found.1))
 
   -- The coefficients that are declared, but for the zeros, are the listing's.
@@ -153,8 +153,8 @@ module _ (m : Listing) (h : IsSoundListing m) where
       let others = from_cells own_coefficient m (filter (λ column. not (is_continuous_column column)) m.columns) in
       ap (filter (λ entry. not (is_zero entry.1)))
       (coefficients-all (listed_decl m) empty_draft
-      ∙ ap (λ (es : List (Place × Number)). puts place_cmp es [])
+      ∙ ap (λ (es : List (CoefficientKey × Number)). puts key_cmp es [])
       (coefficients-part m ∙ ap (λ (cs : List (List ℕ × Column)). plain ++ from_cells own_coefficient m cs) (sym (filter-not_not is_integer_column m.columns))))
-      ∙ puts-kept place_cmp place_total same_place is_kept m.coefficients (plain ++ others) h.coefficients_sorted
+      ∙ puts-kept key_cmp key_total same_key is_kept m.coefficients (plain ++ others) h.coefficients_sorted
       (Each-append (IsTrueEntry m.coefficients) plain others (columns-true m all-kept (filter is_continuous_column m.columns)) (columns-true m all-kept (filter (λ column. not (is_continuous_column column)) m.columns)))
       each-printed

@@ -8,24 +8,24 @@ use Rattle.std.specs.FinMap.{find, is_sorted}
 use Rattle.std.proofs.lemmas.List.{append-nil}
 use Rattle.mpslp_decimal.specs.Decimal.{Number, IsDecimal, is_decimal, is_zero, negated}
 use Rattle.mpslp_model.specs.Name.{is_mps_name, is_one_of}
-use Rattle.mpslp_model.specs.Model.{Column, Place, bytes_cmp, place_cmp, is_sound_row, is_sound_column}
+use Rattle.mpslp_model.specs.Model.{Column, CoefficientKey, bytes_cmp, key_cmp, is_sound_row, is_sound_column}
 use Rattle.mpslp_model.specs.Declaration.{RowForm, Draft, draft_of, empty_draft, at_name, has_name, names_in}
 use Rattle.mpslp_model.proofs.EachLemmas.{Each, Each-all}
 use Rattle.mpslp_model.proofs.PutsLemmas.{T_from, puts, puts-append, find-front, finds_own}
 use Rattle.mpslp_model.proofs.PartedLemmas.{parted-give}
-use Rattle.mpslp_model.proofs.DraftLemmas.{rows-all, right_sides-all, ranges-all, columns-all, lowers-all, uppers-all, marked-all, integers-all, binaries-all}
+use Rattle.mpslp_model.proofs.DraftLemmas.{rows-all, rhs_values-all, ranges-all, columns-all, lowers-all, uppers-all, marked-all, integers-all, binaries-all}
 use Rattle.mpslp_model.proofs.MeaningFromNoFault.{sorted-mapped}
 use Rattle.mpslp_model.proofs.SortedDrafts.{bytes_total, tied_names}
 use Rattle.mpslp_canonical.specs.Listing.{Listing}
 use Rattle.mpslp_canonical.specs.CanonicalMps.{column_cells, printed_cells, is_integer_kind, is_integer_column, is_continuous_column}
 use Rattle.mpslp_canonical.proofs.CanonicalItems.{to_cell, cells_in}
 use Rattle.mpslp_canonical.proofs.EntryLemmas.{first_there, then_told, told, all_told, sorted-kept, find-puts, puts-own, find-kept, sorted-told, find-told, filter-not_not}
-use Rattle.mpslp_canonical.proofs.ListedParts.{form_told, value_told, side_told, range_told, column_lower, column_upper, row_forms, own_column, listed_decl, from_cells, rows-part, right_sides-part, ranges-part, columns-part, marked-part, integers-part, binaries-part, lowers-part, uppers-part}
+use Rattle.mpslp_canonical.proofs.ListedParts.{form_told, value_told, side_told, range_told, column_lower, column_upper, row_forms, own_column, listed_decl, from_cells, rows-part, rhs_values-part, ranges-part, columns-part, marked-part, integers-part, binaries-part, lowers-part, uppers-part}
 
 -- ---- a sound listing
 
 -- a decimal that is not 0, of a row or the objective and of a column that are there
-abbrev pub is_sound_entry : Listing → Place × Number → Bool
+abbrev pub is_sound_entry : Listing → CoefficientKey × Number → Bool
 is_sound_entry m entry =
     is_decimal entry.1 && (not (is_zero entry.1) && (is_one_of (names_in m.columns) entry.0.column && is_one_of (m.objective ∷ names_in m.rows) entry.0.row))
 
@@ -38,7 +38,7 @@ pub record IsSoundListing (m : Listing) : Type 0 where
   pub coefficients : Each (λ entry. is_sound_entry m entry ≡ true) m.coefficients
   pub rows_sorted : is_sorted bytes_cmp m.rows ≡ true
   pub columns_sorted : is_sorted bytes_cmp m.columns ≡ true
-  pub coefficients_sorted : is_sorted place_cmp m.coefficients ≡ true
+  pub coefficients_sorted : is_sorted key_cmp m.coefficients ≡ true
 
 abbrev pub drafted : Listing → Draft
 drafted m = draft_of (listed_decl m)
@@ -85,12 +85,12 @@ puts-told q None = refl
 puts-told q (Some d) = refl
 
 pub right_side-at : (m : Listing) → IsSoundListing m → (q : List ℕ)
-    → at_name (drafted m).right_sides q ≡ first_there (then_told side_told (at_name m.rows q)) (at_name (told m.objective (value_told (negated m.constant))) q)
+    → at_name (drafted m).rhs_values q ≡ first_there (then_told side_told (at_name m.rows q)) (at_name (told m.objective (value_told (negated m.constant))) q)
 right_side-at m h q =
     let mine = told m.objective (value_told (negated m.constant)) in
     let rows = all_told side_told m.rows in
     ap (λ (es : List (List ℕ × Number)). at_name es q)
-    (right_sides-all (listed_decl m) empty_draft ∙ ap (λ (es : List (List ℕ × Number)). puts bytes_cmp es []) (right_sides-part m) ∙ puts-append bytes_cmp mine rows []
+    (rhs_values-all (listed_decl m) empty_draft ∙ ap (λ (es : List (List ℕ × Number)). puts bytes_cmp es []) (rhs_values-part m) ∙ puts-append bytes_cmp mine rows []
     ∙ ap (puts bytes_cmp rows) (puts-told m.objective (value_told (negated m.constant))))
     ∙ find-puts bytes_cmp bytes_total tied_names q rows mine (sorted-told bytes_cmp side_told m.rows h.rows_sorted)
     ∙ ap (λ (o : Option Number). first_there o (at_name mine q)) (find-told bytes_cmp side_told bytes_total tied_names q m.rows h.rows_sorted)

@@ -4,7 +4,7 @@ use Rattle.std.specs.Prelude.{◌&&◌, not, filter, unwrap_or}
 use Rattle.std.specs.Cmp.{first_so, second_so}
 use Rattle.std.specs.FinMap.{is_sorted, entries-from_sorted}
 use Rattle.mpslp_decimal.specs.Decimal.{is_zero}
-use Rattle.mpslp_model.specs.Model.{LinearModel, bytes_cmp, place_cmp}
+use Rattle.mpslp_model.specs.Model.{LinearModel, bytes_cmp, key_cmp}
 use Rattle.mpslp_model.specs.Declaration.{Draft}
 use Rattle.mpslp_model.specs.Bounds.{column_of}
 use Rattle.mpslp_model.specs.Meaning.{objective_name, constant_of, row_entry, model_of}
@@ -33,15 +33,15 @@ listing_in all = record {
 }
 
 abbrev pub is_in_order : Listing → Bool
-is_in_order m = is_sorted bytes_cmp m.rows && (is_sorted bytes_cmp m.columns && is_sorted place_cmp m.coefficients)
+is_in_order m = is_sorted bytes_cmp m.rows && (is_sorted bytes_cmp m.columns && is_sorted key_cmp m.coefficients)
 
 pub listing_of-model : (all : Draft) → is_in_order (listing_in all) ≡ true → listing_of (model_of all) ≡ listing_in all
 listing_of-model all h =
     let m = listing_in all in
-    let more = second_so (is_sorted bytes_cmp m.rows) (is_sorted bytes_cmp m.columns && is_sorted place_cmp m.coefficients) h in
-    let rows = entries-from_sorted bytes_cmp m.rows (T_from (is_sorted bytes_cmp m.rows) (first_so (is_sorted bytes_cmp m.rows) (is_sorted bytes_cmp m.columns && is_sorted place_cmp m.coefficients) h)) in
-    let columns = entries-from_sorted bytes_cmp m.columns (T_from (is_sorted bytes_cmp m.columns) (first_so (is_sorted bytes_cmp m.columns) (is_sorted place_cmp m.coefficients) more)) in
-    let coefficients = entries-from_sorted place_cmp m.coefficients (T_from (is_sorted place_cmp m.coefficients) (second_so (is_sorted bytes_cmp m.columns) (is_sorted place_cmp m.coefficients) more)) in
+    let more = second_so (is_sorted bytes_cmp m.rows) (is_sorted bytes_cmp m.columns && is_sorted key_cmp m.coefficients) h in
+    let rows = entries-from_sorted bytes_cmp m.rows (T_from (is_sorted bytes_cmp m.rows) (first_so (is_sorted bytes_cmp m.rows) (is_sorted bytes_cmp m.columns && is_sorted key_cmp m.coefficients) h)) in
+    let columns = entries-from_sorted bytes_cmp m.columns (T_from (is_sorted bytes_cmp m.columns) (first_so (is_sorted bytes_cmp m.columns) (is_sorted key_cmp m.coefficients) more)) in
+    let coefficients = entries-from_sorted key_cmp m.coefficients (T_from (is_sorted key_cmp m.coefficients) (second_so (is_sorted bytes_cmp m.columns) (is_sorted key_cmp m.coefficients) more)) in
     λ i. record { sense = m.sense; objective = m.objective; constant = m.constant; rows = rows i; columns = columns i; coefficients = coefficients i }
 
 pub printed-from_passes : (bytes output : List ℕ) → Passes bytes → is_in_order (listing_in (draft_in bytes)) ≡ true

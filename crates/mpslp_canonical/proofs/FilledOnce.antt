@@ -8,7 +8,8 @@ use Rattle.std.proofs.lemmas.List.Concat.{flat_map-append}
 use Rattle.mpslp_model.specs.Name.{same_bytes}
 use Rattle.mpslp_model.specs.Model.{Column, bytes_cmp}
 use Rattle.mpslp_model.specs.Declaration.{declare_objective, at_name, names_in}
-use Rattle.mpslp_model.specs.Consistency.{Slot, row_slot, right_side_slot, range_slot, same_slot, slots_of, all_slots, are_distinct}
+use Rattle.mpslp_model.specs.Lists.{are_distinct}
+use Rattle.mpslp_model.specs.Consistency.{Slot, row_slot, rhs_slot, range_slot, same_slot, slots_of, all_slots}
 use Rattle.mpslp_model.specs.declared.kinds.Sense.{Sense}
 use Rattle.mpslp_model.specs.declared.kinds.Sense.TheVariants.{Minimize, Maximize}
 use Rattle.mpslp_model.proofs.BoolLemmas.{not_so}
@@ -141,14 +142,14 @@ bounds-fill columns = flat_map-flat_map (made_of slots_of bound_decl) bounds_in 
 
 abbrev sections : Listing → List (List Slot)
 sections m =
-    sense_slots m.sense ∷ row_slots m ∷ flat_map (column_slots m) (listed_columns m) ∷ map right_side_slot (names_in (side_values m))
+    sense_slots m.sense ∷ row_slots m ∷ flat_map (column_slots m) (listed_columns m) ∷ map rhs_slot (names_in (side_values m))
     ∷ map range_slot (names_in (all_told range_told m.rows)) ∷ flat_map bound_slots m.columns ∷ []
 
 sections-once : (m : Listing) → IsSoundListing m → Sections 0 (sections m)
 sections-once m h =
     let rows : Section 1 (row_slots m) = record { once = row_slots-distinct m h; rank = (refl, all-named 1 row_slot (λ _. refl) (m.objective ∷ names_in m.rows)) } in
     let side_names = names_in (side_values m) in
-    let sides : Section 3 (map right_side_slot side_names) = record { once = side_slots-distinct m h; rank = all-named 3 right_side_slot (λ _. refl) side_names } in
+    let sides : Section 3 (map rhs_slot side_names) = record { once = side_slots-distinct m h; rank = all-named 3 rhs_slot (λ _. refl) side_names } in
     let range_names = names_in (all_told range_told m.rows) in
     let ranges : Section 4 (map range_slot range_names) = record { once = range_slots-distinct m h; rank = all-named 4 range_slot (λ _. refl) range_names } in
     (sense-section m.sense, (rows, (columns-section m h, (sides, (ranges, (bounds-section m h, tt))))))

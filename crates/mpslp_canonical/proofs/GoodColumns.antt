@@ -9,17 +9,17 @@ use Rattle.std.specs.FinMap.Entries.{below_all}
 use Rattle.mpslp_decimal.specs.Decimal.{Number, IsDecimal, is_decimal}
 use Rattle.mpslp_decimal.proofs.NumberTextLemmas.{number-text}
 use Rattle.mpslp_model.specs.Name.{same_bytes, marker}
-use Rattle.mpslp_model.specs.Model.{Column, Place, bytes_cmp, place_cmp, is_sound_row, is_sound_column}
+use Rattle.mpslp_model.specs.Model.{Column, CoefficientKey, bytes_cmp, key_cmp, is_sound_row, is_sound_column}
 use Rattle.mpslp_model.specs.Declaration.{Declaration, declare_objective, Draft, empty_draft, adding, adding_all, at_name, has_name, has_column}
-use Rattle.mpslp_model.specs.Refusal.{is_nonempty}
+use Rattle.mpslp_model.specs.Lists.{is_nonempty}
 use Rattle.mpslp_model.specs.declared.kinds.Sense.{Sense}
 use Rattle.mpslp_model.specs.declared.kinds.Sense.TheVariants.{Minimize, Maximize}
 use Rattle.mpslp_model.proofs.EachLemmas.{Each, Each-weaker, Each-map, Each-flat_map, Each-filter, Each-all}
 use Rattle.mpslp_model.proofs.PutsLemmas.{puts}
 use Rattle.mpslp_model.proofs.CoefficientLemmas.{flat_map-flat_map}
 use Rattle.mpslp_model.proofs.DraftLemmas.{column_part, columns-all}
-use Rattle.mpslp_model.proofs.DraftEntries.{same_place}
-use Rattle.mpslp_model.proofs.SortedDrafts.{bytes_total, place_total, tied_names}
+use Rattle.mpslp_model.proofs.DraftEntries.{same_key}
+use Rattle.mpslp_model.proofs.SortedDrafts.{bytes_total, key_total, tied_names}
 use Rattle.mpslp_mps.proofs.RowsWalk.{row_decl}
 use Rattle.mpslp_mps.proofs.ColumnsWalk.{cell_decl, GoodCell, AreOf, Group, cells_of, IsGroup, AreApart, AreAbsent}
 use Rattle.mpslp_canonical.specs.Listing.{Listing}
@@ -61,15 +61,15 @@ groups-apart m (column ∷ columns) h = (
 abbrev IsGoodPair : List ℕ × Number → Type 0
 IsGoodPair cell = (same_bytes cell.0 marker ≡ false) × IsDecimal cell.1
 
-pairs-good : (coefficients : List (Place × Number)) (column : List ℕ) → Each (λ e. IsDecimal e.1) coefficients → (rows : List (List ℕ)) → Each (λ row. same_bytes row marker ≡ false) rows
+pairs-good : (coefficients : List (CoefficientKey × Number)) (column : List ℕ) → Each (λ e. IsDecimal e.1) coefficients → (rows : List (List ℕ)) → Each (λ row. same_bytes row marker ≡ false) rows
     → Each IsGoodPair (filter_map (cell_at coefficients column) rows)
 pairs-good coefficients column h [] names = tt
-pairs-good coefficients column h (row ∷ rows) names = by (find place_cmp (place_at row column) coefficients) refl (pairs-good coefficients column h rows names.1)
+pairs-good coefficients column h (row ∷ rows) names = by (find key_cmp (place_at row column) coefficients) refl (pairs-good coefficients column h rows names.1)
   where
-    by : (o : Option Number) → find place_cmp (place_at row column) coefficients ≡ o → Each IsGoodPair (filter_map (cell_at coefficients column) rows)
+    by : (o : Option Number) → find key_cmp (place_at row column) coefficients ≡ o → Each IsGoodPair (filter_map (cell_at coefficients column) rows)
         → Each IsGoodPair (cons_option (option_map (λ (value : Number). (row, value)) o) (filter_map (cell_at coefficients column) rows))
     by None is more = more
-    by (Some d) is more = ((names.0, found-each place_cmp place_total same_place (λ _ x. IsDecimal x) coefficients h (place_at row column) d is), more)
+    by (Some d) is more = ((names.0, found-each key_cmp key_total same_key (λ _ x. IsDecimal x) coefficients h (place_at row column) d is), more)
 
 printed-good : (objective : List ℕ) (cells : List (List ℕ × Number)) → same_bytes objective marker ≡ false → Each IsGoodPair cells → Each IsGoodPair (printed_cells objective cells)
 printed-good objective [] o h = ((o, refl), tt)

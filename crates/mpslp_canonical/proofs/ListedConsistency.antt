@@ -8,9 +8,10 @@ use Rattle.std.specs.Cmp.Lexicographic.{texts_ties}
 use Rattle.std.specs.FinMap.{find}
 use Rattle.mpslp_decimal.specs.Decimal.{Number, is_decimal, is_zero, is_infinite_size, negated, difference_of}
 use Rattle.mpslp_model.specs.Name.{same_bytes}
-use Rattle.mpslp_model.specs.Model.{Row, Column, Place, place_cmp, is_bounded_decimal, has_bounded_distance}
+use Rattle.mpslp_model.specs.Model.{Row, Column, CoefficientKey, key_cmp, is_bounded_decimal, has_bounded_distance}
 use Rattle.mpslp_model.specs.Declaration.{RowForm, by_type, Declaration, declare_objective, Declarations, at_name, has_name, has_row, has_column, is_objective, is_free_form, is_free_row}
-use Rattle.mpslp_model.specs.Consistency.{is_known, is_allowed, has_objective_side, declares_objective, same_slot, all_slots, are_distinct, AreConsistent}
+use Rattle.mpslp_model.specs.Lists.{are_distinct}
+use Rattle.mpslp_model.specs.Consistency.{is_known, is_allowed, has_objective_rhs, declares_objective, same_slot, all_slots, AreConsistent}
 use Rattle.mpslp_model.specs.declared.kinds.Sense.{Sense}
 use Rattle.mpslp_model.specs.declared.kinds.Sense.TheVariants.{Minimize, Maximize}
 use Rattle.mpslp_model.specs.declared.kinds.Limit.{Limit}
@@ -62,9 +63,9 @@ Known m d = is_known (drafted m) d ≡ true
 abbrev KnownCell : Listing → Cell → Type 0
 KnownCell m cell = (has_row (drafted m) cell.row ≡ true) × (has_column (drafted m) cell.column ≡ true)
 
-rows-of-cells : (P : List ℕ → Type 0) (coefficients : List (Place × Number)) (column : List ℕ) (rows : List (List ℕ)) → Each P rows → Each (λ cell. P cell.0) (filter_map (cell_at coefficients column) rows)
+rows-of-cells : (P : List ℕ → Type 0) (coefficients : List (CoefficientKey × Number)) (column : List ℕ) (rows : List (List ℕ)) → Each P rows → Each (λ cell. P cell.0) (filter_map (cell_at coefficients column) rows)
 rows-of-cells P coefficients column [] h = tt
-rows-of-cells P coefficients column (row ∷ rows) h = by (find place_cmp (place_at row column) coefficients) (rows-of-cells P coefficients column rows h.1)
+rows-of-cells P coefficients column (row ∷ rows) h = by (find key_cmp (place_at row column) coefficients) (rows-of-cells P coefficients column rows h.1)
   where
     by : (o : Option Number) → Each (λ cell. P cell.0) (filter_map (cell_at coefficients column) rows)
         → Each (λ cell. P cell.0) (cons_option (option_map (λ (value : Number). (row, value)) o) (filter_map (cell_at coefficients column) rows))
@@ -229,7 +230,7 @@ pub consistent-if_once : (m : Listing) → IsSoundListing m → are_distinct sam
 consistent-if_once m h once = record {
   objective = named-first m.objective m.sense _;
   once = once;
-  one_constant = ap (λ (o : Option Number). not (is_some o && has_objective_side (drafted m))) (constant-drafted m);
+  one_constant = ap (λ (o : Option Number). not (is_some o && has_objective_rhs (drafted m))) (constant-drafted m);
   known = all-known m h;
   allowed = all-allowed m h;
 }

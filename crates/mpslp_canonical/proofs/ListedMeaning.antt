@@ -12,10 +12,10 @@ use Rattle.mpslp_decimal.specs.Decimal.{Number, IsDecimal, is_decimal, is_zero, 
 use Rattle.mpslp_decimal.proofs.NumberTextLemmas.{zero-is}
 use Rattle.mpslp_decimal.proofs.OrderLemmas.{same_decimal}
 use Rattle.mpslp_model.specs.Model.{LinearModel, Row, Column, bytes_cmp, is_at_most, is_bounded_decimal, is_lower_side, is_upper_side, are_sides, is_sound_row, is_sound_column, IsSound}
-use Rattle.mpslp_model.specs.Declaration.{RowForm, by_type, Declaration, declare_sense, declare_objective, declare_row, declare_right_side, declare_range, declare_column, declare_coefficient, declare_lower, declare_upper, declare_marked, Declarations, Draft, empty_draft, adding, adding_all, at_name, has_name, names_in}
-use Rattle.mpslp_model.specs.Limits.{limits_of, plain_limits, has_infinite_right_side}
+use Rattle.mpslp_model.specs.Declaration.{RowForm, by_type, Declaration, declare_sense, declare_objective, declare_row, declare_rhs, declare_range, declare_column, declare_coefficient, declare_lower, declare_upper, declare_marked, Declarations, Draft, empty_draft, adding, adding_all, at_name, has_name, names_in}
+use Rattle.mpslp_model.specs.Limits.{limits_of, plain_limits, has_infinite_rhs}
 use Rattle.mpslp_model.specs.Bounds.{zero_limit, one_limit, lower_bound, upper_bound, column_of, has_negative_upper, has_binary_bounds}
-use Rattle.mpslp_model.specs.Meaning.{objective_name, constant_of, right_side_or_zero, row_limits, row_entry, row_passes, model_of, DraftMeans}
+use Rattle.mpslp_model.specs.Meaning.{objective_name, constant_of, rhs_or_zero, row_limits, row_entry, row_passes, model_of, DraftMeans}
 use Rattle.mpslp_model.specs.declared.kinds.Sense.{Sense}
 use Rattle.mpslp_model.specs.declared.kinds.Sense.TheVariants.{Minimize, Maximize}
 use Rattle.mpslp_model.specs.declared.kinds.Limit.{Limit}
@@ -58,7 +58,7 @@ stays-all part value (d ∷ ds) h all is = stays-all part value ds h.1 (adding a
 pub record EachKind (P : Declaration → Type 0) (objective : List ℕ) : Type 0 where
   pub of_objective : P (declare_objective objective)
   pub of_row : (x : List ℕ) (form : RowForm) → P (declare_row x form)
-  pub of_right_side : (x : List ℕ) (v : Number) → P (declare_right_side x v)
+  pub of_right_side : (x : List ℕ) (v : Number) → P (declare_rhs x v)
   pub of_range : (x : List ℕ) (v : Number) → P (declare_range x v)
   pub of_column : (x : List ℕ) → P (declare_column x)
   pub of_marked : (x : List ℕ) → P (declare_marked x)
@@ -179,11 +179,11 @@ pub constant-back : (m : Listing) → IsSoundListing m → constant_of (drafted 
 constant-back m h =
     let all = drafted m in
     let named_so : objective_name all ≡ m.objective = ap (λ (o : Option (List ℕ)). unwrap_or o []) (objective-drafted m) in
-    let side : at_name all.right_sides m.objective ≡ value_told (negated m.constant) =
+    let side : at_name all.rhs_values m.objective ≡ value_told (negated m.constant) =
     right_side-at m h m.objective ∙ ap (λ (o : Option Row). first_there (then_told side_told o) (at_name (told m.objective (value_told (negated m.constant))) m.objective)) (objective-no-row m h)
     ∙ told-own m.objective (value_told (negated m.constant)) in
-    ap (λ (o : Option Number). unwrap_or o (negated (unwrap_or (at_name all.right_sides (objective_name all)) zero_number))) (constant-drafted m)
-    ∙ ap (λ (n : List ℕ). negated (unwrap_or (at_name all.right_sides n) zero_number)) named_so
+    ap (λ (o : Option Number). unwrap_or o (negated (unwrap_or (at_name all.rhs_values (objective_name all)) zero_number))) (constant-drafted m)
+    ∙ ap (λ (n : List ℕ). negated (unwrap_or (at_name all.rhs_values n) zero_number)) named_so
     ∙ ap (λ (o : Option Number). negated (unwrap_or o zero_number)) side
     ∙ ap negated (value-back (negated m.constant) (negated-decimal m.constant h.constant))
     ∙ negated-twice m.constant
@@ -209,11 +209,11 @@ other-name m h row is = by (eq_by_cmp bytes_cmp row.0 m.objective) refl
     by false e = refl
 
 pub side-back : (m : Listing) → IsSoundListing m → (row : List ℕ × Row) → is_sound_row row ≡ true → at_name m.rows row.0 ≡ Some row.1
-    → right_side_or_zero (drafted m) row.0 ≡ printed_side row.1.lower row.1.upper
+    → rhs_or_zero (drafted m) row.0 ≡ printed_side row.1.lower row.1.upper
 side-back m h row sound is =
     let mine = told m.objective (value_told (negated m.constant)) in
     let value = printed_side row.1.lower row.1.upper in
-    let found : at_name (drafted m).right_sides row.0 ≡ value_told value =
+    let found : at_name (drafted m).rhs_values row.0 ≡ value_told value =
     right_side-at m h row.0 ∙ ap (λ (o : Option Row). first_there (then_told side_told o) (at_name mine row.0)) is
     ∙ ap (first_there (value_told value)) (told-other row.0 m.objective (value_told (negated m.constant)) (other-name m h row is))
     ∙ first_none (value_told value) in
@@ -312,24 +312,24 @@ finite_size a h = by (is_infinite_size a) refl (second_so (is_decimal a) (not (i
     by true e k = cc
     by false e k = refl
 
-finite-side : (l u : Limit) → are_sides l u ≡ true → has_infinite_right_side (by_type (printed_type l u)) (printed_side l u) (printed_range l u) ≡ false
+finite-side : (l u : Limit) → are_sides l u ≡ true → has_infinite_rhs (by_type (printed_type l u)) (printed_side l u) (printed_range l u) ≡ false
 finite-side MinusInf MinusInf h = cc
 finite-side MinusInf (Finite b) h = and_false (is_infinite_size b) _ (finite_size b (first_so (is_bounded_decimal b) _ h))
 finite-side MinusInf PlusInf h = refl
 finite-side (Finite a) MinusInf h = and_false (is_infinite_size a) _ (finite_size a (first_so (is_bounded_decimal a) _ h))
 finite-side (Finite a) (Finite b) h =
     let finite = finite_size a (first_so (is_bounded_decimal a) _ h) in
-    elim (have_same_value a b) as (λ t. has_infinite_right_side (by_type (cond t Equal AtLeast)) a (cond t None (difference_of b a)) ≡ false) [
+    elim (have_same_value a b) as (λ t. has_infinite_rhs (by_type (cond t Equal AtLeast)) a (cond t None (difference_of b a)) ≡ false) [
       | true ↦ finite
       | false ↦ and_false (is_infinite_size a) _ finite
     ]
 finite-side (Finite a) PlusInf h = and_false (is_infinite_size a) _ (finite_size a (first_so (is_bounded_decimal a) _ h))
 finite-side PlusInf u h = cc
 
-finite-row : (m : Listing) → IsSoundListing m → (row : List ℕ × Row) → IsOwnRow m row → not (row_passes (drafted m) has_infinite_right_side (told_row row)) ≡ true
+finite-row : (m : Listing) → IsSoundListing m → (row : List ℕ × Row) → IsOwnRow m row → not (row_passes (drafted m) has_infinite_rhs (told_row row)) ≡ true
 finite-row m h row k =
-    so_not (row_passes (drafted m) has_infinite_right_side (told_row row))
-    ((λ i. has_infinite_right_side (form_told row.1) (side-back m h row k.0 k.1 i) (range-back m h row k.1 i)) ∙ finite-side row.1.lower row.1.upper (row_sides row k.0))
+    so_not (row_passes (drafted m) has_infinite_rhs (told_row row))
+    ((λ i. has_infinite_rhs (form_told row.1) (side-back m h row k.0 k.1 i) (range-back m h row k.1 i)) ∙ finite-side row.1.lower row.1.upper (row_sides row k.0))
 
 nonnegative-upper : (m : Listing) → IsSoundListing m → (column : List ℕ × Column) → IsOwnColumn m column → not (has_negative_upper (drafted m) column.0) ≡ true
 nonnegative-upper m h column k = by (at_name (drafted m).lowers column.0) refl
@@ -363,10 +363,10 @@ draft-means m sound =
     let h = sound-listing m sound in
     let all = drafted listing in
     record {
-      finite_right_sides = ap (list_all (λ row. not (row_passes all has_infinite_right_side row))) (rows-drafted listing h)
-          ∙ list_all-from_Each (λ row. not (row_passes all has_infinite_right_side row)) (row_forms listing.rows)
-          (Each-map (λ row. not (row_passes all has_infinite_right_side row) ≡ true) told_row listing.rows
-          (Each-weaker (IsOwnRow listing) (λ row. not (row_passes all has_infinite_right_side (told_row row)) ≡ true) (finite-row listing h) listing.rows (own-rows listing h)));
+      finite_rhs_values = ap (list_all (λ row. not (row_passes all has_infinite_rhs row))) (rows-drafted listing h)
+          ∙ list_all-from_Each (λ row. not (row_passes all has_infinite_rhs row)) (row_forms listing.rows)
+          (Each-map (λ row. not (row_passes all has_infinite_rhs row) ≡ true) told_row listing.rows
+          (Each-weaker (IsOwnRow listing) (λ row. not (row_passes all has_infinite_rhs (told_row row)) ≡ true) (finite-row listing h) listing.rows (own-rows listing h)));
       exact_limits = ap (list_all (λ row. is_some (row_limits all row))) (rows-drafted listing h)
           ∙ list_all-from_Each (λ row. is_some (row_limits all row)) (row_forms listing.rows)
           (Each-map (λ row. is_some (row_limits all row) ≡ true) told_row listing.rows

@@ -10,7 +10,8 @@ use Rattle.mpslp_decimal.specs.Decimal.{Number}
 use Rattle.mpslp_model.specs.Name.{same_bytes, is_one_of}
 use Rattle.mpslp_model.specs.Model.{Column, bytes_cmp}
 use Rattle.mpslp_model.specs.Declaration.{names_in}
-use Rattle.mpslp_model.specs.Consistency.{Slot, same_slot, are_distinct}
+use Rattle.mpslp_model.specs.Lists.{are_distinct}
+use Rattle.mpslp_model.specs.Consistency.{Slot, same_slot}
 use Rattle.mpslp_model.proofs.BoolLemmas.{both_so, so_not}
 use Rattle.mpslp_model.proofs.EachLemmas.{Each, Each-weaker, Each-append, Each-map, Each-flat_map, Each-all}
 use Rattle.mpslp_model.proofs.DistinctLemmas.{IsNew, Apart, distinct-flat_map, distinct-sorted}

@@ -6,8 +6,8 @@ use Rattle.std.specs.Option.{option_map_or}
 use Rattle.std.proofs.lemmas.List.{append-nil}
 use Rattle.std.proofs.lemmas.List.Concat.{flat_map-append}
 use Rattle.mpslp_decimal.specs.Decimal.{Number, is_zero, negated}
-use Rattle.mpslp_model.specs.Model.{Row, Column, Place}
-use Rattle.mpslp_model.specs.Declaration.{RowForm, by_type, Declaration, declare_sense, declare_objective, declare_row, declare_right_side, declare_range, declare_lower, declare_upper, Declarations}
+use Rattle.mpslp_model.specs.Model.{Row, Column, CoefficientKey}
+use Rattle.mpslp_model.specs.Declaration.{RowForm, by_type, Declaration, declare_sense, declare_objective, declare_row, declare_rhs, declare_range, declare_lower, declare_upper, Declarations}
 use Rattle.mpslp_model.specs.declared.kinds.Sense.{Sense}
 use Rattle.mpslp_model.specs.declared.kinds.Kind.{Kind}
 use Rattle.mpslp_model.specs.declared.kinds.Kind.TheVariants.{Continuous, Integer}
@@ -15,7 +15,7 @@ use Rattle.mpslp_model.specs.declared.kinds.Limit.{Limit}
 use Rattle.mpslp_model.specs.declared.kinds.Limit.TheVariants.{MinusInf, Finite, PlusInf}
 use Rattle.mpslp_model.proofs.BoundsLemmas.{unless_zero, lower_told, upper_told}
 use Rattle.mpslp_model.proofs.CoefficientLemmas.{flat_map-flat_map}
-use Rattle.mpslp_model.proofs.DraftLemmas.{row_part, right_side_part, range_part, column_part, coefficient_part, lower_part, upper_part, marked_part, integer_part, binary_part}
+use Rattle.mpslp_model.proofs.DraftLemmas.{row_part, rhs_part, range_part, column_part, coefficient_part, lower_part, upper_part, marked_part, integer_part, binary_part}
 use Rattle.mpslp_mps.specs.declared.bound_types.BoundType.TheVariants as bounds
 use Rattle.mpslp_mps.proofs.RowsWalk.{row_decl, Side, side_decl, range_decl}
 use Rattle.mpslp_mps.proofs.ColumnsWalk.{Cell, cell_decl, cells_of}
@@ -58,7 +58,7 @@ row_forms rows = map (λ row. (row.0, form_told row.1)) rows
 abbrev pub own_column : Cell → List (List ℕ × Unit {0})
 own_column cell = (cell.column, tt) ∷ []
 
-abbrev pub own_coefficient : Cell → List (Place × Number)
+abbrev pub own_coefficient : Cell → List (CoefficientKey × Number)
 own_coefficient cell = (record { row = cell.row; column = cell.column }, cell.value) ∷ []
 
 abbrev pub own_side : Side → List (List ℕ × Number)
@@ -184,18 +184,18 @@ rows-part m =
 rows-silent : {Y : Type 0} (part : Declaration → List Y) → ((x : List ℕ) (form : RowForm) → part (declare_row x form) ≡ []) → (m : Listing) → flat_map (made_of part row_decl) (whole_of m).rows ≡ []
 rows-silent part h m = flat-none (made_of part row_decl) (λ row. ap (λ (ys : List _). ys ++ []) (h row.0 (by_type row.1))) (whole_of m).rows
 
-pub right_sides-part : (m : Listing) → flat_map right_side_part (listed_decl m) ≡ told m.objective (value_told (negated m.constant)) ++ all_told side_told m.rows
-right_sides-part m =
+pub rhs_values-part : (m : Listing) → flat_map rhs_part (listed_decl m) ≡ told m.objective (value_told (negated m.constant)) ++ all_told side_told m.rows
+rhs_values-part m =
     let sides = told m.objective (value_told (negated m.constant)) ++ all_told side_told m.rows in
-    joined-parts right_side_part (whole_of m) [] [] [] sides [] [] (record {
-      of_sense = sense-none right_side_part (λ _. refl) m.sense;
+    joined-parts rhs_part (whole_of m) [] [] [] sides [] [] (record {
+      of_sense = sense-none rhs_part (λ _. refl) m.sense;
       of_objective = refl;
-      of_rows = rows-silent right_side_part (λ _ _. refl) m;
-      of_plain = flat-none (made_of right_side_part (cell_decl false)) (λ _. refl) (cells_of (whole_of m).plain);
-      of_integers = flat-none (made_of right_side_part (cell_decl true)) (λ _. refl) (cells_of (whole_of m).integers);
+      of_rows = rows-silent rhs_part (λ _ _. refl) m;
+      of_plain = flat-none (made_of rhs_part (cell_decl false)) (λ _. refl) (cells_of (whole_of m).plain);
+      of_integers = flat-none (made_of rhs_part (cell_decl true)) (λ _. refl) (cells_of (whole_of m).integers);
       of_sides = sides-made m;
-      of_ranges = flat-none (made_of right_side_part range_decl) (λ _. refl) (whole_of m).late.ranges;
-      of_bounds = flat-none (made_of right_side_part bound_decl) (bound-none right_side_part (λ _ _. refl) (λ _ _. refl)) (whole_of m).late.bounds;
+      of_ranges = flat-none (made_of rhs_part range_decl) (λ _. refl) (whole_of m).late.ranges;
+      of_bounds = flat-none (made_of rhs_part bound_decl) (bound-none rhs_part (λ _ _. refl) (λ _ _. refl)) (whole_of m).late.bounds;
     }) ∙ append-nil sides
 
 pub ranges-part : (m : Listing) → flat_map range_part (listed_decl m) ≡ all_told range_told m.rows
@@ -215,7 +215,7 @@ ranges-part m =
 -- a map into which the lines of columns alone put something
 cells-part : {Y : Type 0} (part : Declaration → List Y) (plain integers : Cell → List Y) → ((s : Sense) → part (declare_sense s) ≡ []) → ((x : List ℕ) → part (declare_objective x) ≡ [])
     → ((x : List ℕ) (form : RowForm) → part (declare_row x form) ≡ []) → ((cell : Cell) → made_of part (cell_decl false) cell ≡ plain cell) → ((cell : Cell) → made_of part (cell_decl true) cell ≡ integers cell)
-    → ((x : List ℕ) (v : Number) → part (declare_right_side x v) ≡ []) → ((x : List ℕ) (v : Number) → part (declare_range x v) ≡ []) → ((x : List ℕ) (l : Limit) → part (declare_lower x l) ≡ [])
+    → ((x : List ℕ) (v : Number) → part (declare_rhs x v) ≡ []) → ((x : List ℕ) (v : Number) → part (declare_range x v) ≡ []) → ((x : List ℕ) (l : Limit) → part (declare_lower x l) ≡ [])
     → ((x : List ℕ) (l : Limit) → part (declare_upper x l) ≡ []) → (m : Listing)
     → flat_map part (listed_decl m) ≡ from_cells plain m (filter is_continuous_column m.columns) ++ from_cells integers m (filter is_integer_column m.columns)
 cells-part part plain integers sense objective rows p q sides ranges lowers uppers m =

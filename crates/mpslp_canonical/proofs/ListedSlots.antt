@@ -7,9 +7,10 @@ use Rattle.std.specs.Cmp.{first_so, second_so}
 use Rattle.std.specs.FinMap.{find, is_sorted}
 use Rattle.mpslp_decimal.specs.Decimal.{Number}
 use Rattle.mpslp_model.specs.Name.{same_bytes}
-use Rattle.mpslp_model.specs.Model.{Place, bytes_cmp, place_cmp}
+use Rattle.mpslp_model.specs.Model.{CoefficientKey, bytes_cmp, key_cmp}
 use Rattle.mpslp_model.specs.Declaration.{Declarations, names_in}
-use Rattle.mpslp_model.specs.Consistency.{Slot, sense_slot, objective_slot, constant_slot, row_slot, right_side_slot, range_slot, coefficient_slot, lower_slot, upper_slot, same_slot, slots_of, all_slots, are_distinct}
+use Rattle.mpslp_model.specs.Lists.{are_distinct}
+use Rattle.mpslp_model.specs.Consistency.{Slot, sense_slot, objective_slot, constant_slot, row_slot, rhs_slot, range_slot, coefficient_slot, lower_slot, upper_slot, same_slot, slots_of, all_slots}
 use Rattle.mpslp_model.proofs.BoolLemmas.{both_so, both_false, not_so, so_not, nor}
 use Rattle.mpslp_model.proofs.EachLemmas.{Each, Each-weaker}
 use Rattle.mpslp_model.proofs.DistinctLemmas.{IsNew, distinct-append, distinct-sorted}
@@ -28,7 +29,7 @@ rank sense_slot = 0
 rank objective_slot = 1
 rank (row_slot _) = 1
 rank (coefficient_slot _) = 2
-rank (right_side_slot _) = 3
+rank (rhs_slot _) = 3
 rank (range_slot _) = 4
 rank (lower_slot _) = 5
 rank (upper_slot _) = 5
@@ -39,7 +40,7 @@ same-rank sense_slot sense_slot h = refl
 same-rank objective_slot objective_slot h = refl
 same-rank constant_slot constant_slot h = refl
 same-rank (row_slot a) (row_slot b) h = refl
-same-rank (right_side_slot a) (right_side_slot b) h = refl
+same-rank (rhs_slot a) (rhs_slot b) h = refl
 same-rank (range_slot a) (range_slot b) h = refl
 same-rank (coefficient_slot a) (coefficient_slot b) h = refl
 same-rank (lower_slot a) (lower_slot b) h = refl
@@ -112,12 +113,12 @@ column-new row column other h (cell ∷ cells) =
     (and_none (same_bytes cell.0 row) (same_bytes other column) h) (column-new row column other h cells)
 
 -- nor is one of another row
-row-new : (coefficients : List (Place × Number)) (row column : List ℕ) (rows : List (List ℕ)) → list_any (λ later. same_bytes later row) rows ≡ false
+row-new : (coefficients : List (CoefficientKey × Number)) (row column : List ℕ) (rows : List (List ℕ)) → list_any (λ later. same_bytes later row) rows ≡ false
     → IsNew same_slot (coefficient_slot (place_at row column)) (flat_map cell_slot (map (to_cell column) (filter_map (cell_at coefficients column) rows)))
 row-new coefficients row column [] h = refl
 row-new coefficients row column (x ∷ rows) h =
     let parts = nor (same_bytes x row) (list_any (λ later. same_bytes later row) rows) h in
-    by (find place_cmp (place_at x column) coefficients) parts.0 (row-new coefficients row column rows parts.1)
+    by (find key_cmp (place_at x column) coefficients) parts.0 (row-new coefficients row column rows parts.1)
   where
     by : (o : Option Number) → same_bytes x row ≡ false
         → IsNew same_slot (coefficient_slot (place_at row column)) (flat_map cell_slot (map (to_cell column) (filter_map (cell_at coefficients column) rows)))
@@ -128,12 +129,12 @@ row-new coefficients row column (x ∷ rows) h =
         (none_and (same_bytes x row) (same_bytes column column) apart) more
 
 -- the coefficients of a column stand in different rows
-pub column-distinct : (coefficients : List (Place × Number)) (column : List ℕ) (rows : List (List ℕ)) → are_distinct same_bytes rows ≡ true
+pub column-distinct : (coefficients : List (CoefficientKey × Number)) (column : List ℕ) (rows : List (List ℕ)) → are_distinct same_bytes rows ≡ true
     → are_distinct same_slot (flat_map cell_slot (map (to_cell column) (filter_map (cell_at coefficients column) rows))) ≡ true
 column-distinct coefficients column [] h = refl
 column-distinct coefficients column (row ∷ rows) h =
     let any = list_any (λ later. same_bytes later row) rows in
-    by (find place_cmp (place_at row column) coefficients) (row-new coefficients row column rows (not_so any (first_so (not any) (are_distinct same_bytes rows) h)))
+    by (find key_cmp (place_at row column) coefficients) (row-new coefficients row column rows (not_so any (first_so (not any) (are_distinct same_bytes rows) h)))
     (column-distinct coefficients column rows (second_so (not any) (are_distinct same_bytes rows) h))
   where
     by : (o : Option Number) → IsNew same_slot (coefficient_slot (place_at row column)) (flat_map cell_slot (map (to_cell column) (filter_map (cell_at coefficients column) rows)))

@@ -8,7 +8,7 @@ use Rattle.std.specs.FinMap.{is_sorted, entries, entries_sorted}
 use Rattle.std.specs.FinMap.Entries.{below_all}
 use Rattle.mpslp_decimal.specs.Decimal.{Number, IsDecimal, is_decimal, is_infinite_size}
 use Rattle.mpslp_model.specs.Name.{is_mps_name, has_name_length, is_visible, same_bytes, marker}
-use Rattle.mpslp_model.specs.Model.{LinearModel, Row, Column, bytes_cmp, place_cmp, limit_of, is_bounded_decimal, is_lower_side, is_upper_side, is_at_most, are_sides, has_bounded_distance, is_sound_row, is_sound_column, is_sound_coefficient, IsSound}
+use Rattle.mpslp_model.specs.Model.{LinearModel, Row, Column, bytes_cmp, key_cmp, limit_of, is_bounded_decimal, is_lower_side, is_upper_side, is_at_most, are_sides, has_bounded_distance, is_sound_row, is_sound_column, is_sound_coefficient, IsSound}
 use Rattle.mpslp_model.specs.declared.kinds.Limit.{Limit}
 use Rattle.mpslp_model.specs.declared.kinds.Limit.TheVariants.{Finite}
 use Rattle.mpslp_model.proofs.BoolLemmas.{not_so}
@@ -31,7 +31,7 @@ sound-listing m h = record {
   coefficients = Each-from_list_all (is_sound_coefficient m) (entries m.coefficients) h.coefficients;
   rows_sorted = true_from (is_sorted bytes_cmp (entries m.rows)) (entries_sorted m.rows);
   columns_sorted = true_from (is_sorted bytes_cmp (entries m.columns)) (entries_sorted m.columns);
-  coefficients_sorted = true_from (is_sorted place_cmp (entries m.coefficients)) (entries_sorted m.coefficients);
+  coefficients_sorted = true_from (is_sorted key_cmp (entries m.coefficients)) (entries_sorted m.coefficients);
 }
 
 -- ---- what soundness gives

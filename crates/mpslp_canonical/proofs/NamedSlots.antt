@@ -6,7 +6,8 @@ use Rattle.mpslp_decimal.specs.Decimal.{Number, negated}
 use Rattle.mpslp_model.specs.Name.{same_bytes}
 use Rattle.mpslp_model.specs.Model.{Row, bytes_cmp}
 use Rattle.mpslp_model.specs.Declaration.{names_in, at_name}
-use Rattle.mpslp_model.specs.Consistency.{Slot, objective_slot, row_slot, right_side_slot, range_slot, same_slot, slots_of, are_distinct}
+use Rattle.mpslp_model.specs.Lists.{are_distinct}
+use Rattle.mpslp_model.specs.Consistency.{Slot, objective_slot, row_slot, rhs_slot, range_slot, same_slot, slots_of}
 use Rattle.mpslp_model.proofs.BoolLemmas.{both_so, so_not}
 use Rattle.mpslp_model.proofs.DistinctLemmas.{distinct-sorted}
 use Rattle.mpslp_model.proofs.SlotLemmas.{same_name}
@@ -55,8 +56,8 @@ filled-names make (side ∷ sides) = ap (λ (slots : List Slot). make side.row �
 abbrev pub side_values : Listing → List (List ℕ × Number)
 side_values m = told m.objective (value_told (negated m.constant)) ++ all_told side_told m.rows
 
-pub sides-fill : (m : Listing) → flat_map (made_of slots_of side_decl) (sides_in m) ≡ map right_side_slot (names_in (side_values m))
-sides-fill m = filled-names right_side_slot (sides_in m) ∙ ap (λ (sides : List (List ℕ × Number)). map right_side_slot (names_in sides)) (sides-made m)
+pub sides-fill : (m : Listing) → flat_map (made_of slots_of side_decl) (sides_in m) ≡ map rhs_slot (names_in (side_values m))
+sides-fill m = filled-names rhs_slot (sides_in m) ∙ ap (λ (sides : List (List ℕ × Number)). map rhs_slot (names_in sides)) (sides-made m)
 
 pub ranges-fill : (m : Listing) → flat_map (made_of slots_of range_decl) (flat_map row_range m.rows) ≡ map range_slot (names_in (all_told range_told m.rows))
 ranges-fill m = filled-names range_slot (flat_map row_range m.rows) ∙ ap (λ (ranges : List (List ℕ × Number)). map range_slot (names_in ranges)) (ranges-made m.rows)
@@ -68,9 +69,9 @@ objective-new m h =
     any-turned m.objective (names_in (all_told side_told m.rows)) ∙ one_of-names m.objective (all_told side_told m.rows)
     ∙ ap is_some (find-told bytes_cmp side_told bytes_total tied_names m.objective m.rows h.rows_sorted ∙ ap (then_told side_told) absent)
 
-pub side_slots-distinct : (m : Listing) → IsSoundListing m → are_distinct same_slot (map right_side_slot (names_in (side_values m))) ≡ true
+pub side_slots-distinct : (m : Listing) → IsSoundListing m → are_distinct same_slot (map rhs_slot (names_in (side_values m))) ≡ true
 side_slots-distinct m h =
-    distinct-map same_bytes right_side_slot (λ a b. refl) (names_in (side_values m)) ∙ by (value_told (negated m.constant))
+    distinct-map same_bytes rhs_slot (λ a b. refl) (names_in (side_values m)) ∙ by (value_told (negated m.constant))
   where
     rows : are_distinct same_bytes (names_in (all_told side_told m.rows)) ≡ true
     rows = distinct-sorted bytes_cmp bytes_total same_bytes same_name (all_told side_told m.rows) (sorted-told bytes_cmp side_told m.rows h.rows_sorted)

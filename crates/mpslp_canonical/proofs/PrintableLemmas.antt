@@ -11,7 +11,7 @@ use Rattle.std.proofs.lemmas.Bool.{ltb-true, leb-true}
 use Rattle.mpslp_decimal.specs.Decimal.{Number, IsDecimal, is_decimal, is_zero, is_infinite_size, zero_number, negated, difference_of}
 use Rattle.mpslp_decimal.specs.NumberText.{number_text}
 use Rattle.mpslp_model.specs.Name.{is_mps_name, has_name_length, is_visible, same_bytes, marker}
-use Rattle.mpslp_model.specs.Model.{LinearModel, Row, Column, Place, place_cmp, is_bounded_decimal, is_lower_side, is_upper_side, is_at_most, are_sides, has_bounded_distance, is_sound_row, is_sound_column, is_sound_coefficient, IsSound}
+use Rattle.mpslp_model.specs.Model.{LinearModel, Row, Column, CoefficientKey, key_cmp, is_bounded_decimal, is_lower_side, is_upper_side, is_at_most, are_sides, has_bounded_distance, is_sound_row, is_sound_column, is_sound_coefficient, IsSound}
 use Rattle.mpslp_model.specs.declared.kinds.Sense.{Sense}
 use Rattle.mpslp_model.specs.declared.kinds.Sense.TheVariants.{Minimize, Maximize}
 use Rattle.mpslp_model.specs.declared.kinds.Kind.{Kind}
@@ -172,8 +172,8 @@ cells-printable : (column : List ℕ) (cells : List (List ℕ × Number)) → Wo
 cells-printable column [] c h = tt
 cells-printable column (cell ∷ cells) c h = (value-printable column cell.0 cell.1 c h.0.0 h.0.1, cells-printable column cells c h.1)
 
-cell-found : (coefficients : List (Place × Number)) (column row : List ℕ) → Each (λ e. IsDecimal e.1) coefficients → Word row → Holds IsCell (cell_at coefficients column row)
-cell-found coefficients column row h w = by (find place_cmp (record { row = row; column = column }) coefficients) (each-found place_cmp IsDecimal (record { row = row; column = column }) coefficients h)
+cell-found : (coefficients : List (CoefficientKey × Number)) (column row : List ℕ) → Each (λ e. IsDecimal e.1) coefficients → Word row → Holds IsCell (cell_at coefficients column row)
+cell-found coefficients column row h w = by (find key_cmp (record { row = row; column = column }) coefficients) (each-found key_cmp IsDecimal (record { row = row; column = column }) coefficients h)
   where
     by : (o : Option Number) → Holds IsDecimal o → Holds IsCell (option_map (λ (value : Number). (row, value)) o)
     by None k = tt
@@ -326,8 +326,8 @@ columns_section-printable m h = (
       (part-printable (flat_map (column_lines m) (filter is_integer_column m.columns)) (columns-printable m h (filter is_integer_column m.columns) (kept is_integer_column m.columns h.columns))),
 )
 
-right_sides-printable : (m : Listing) → IsListed m → AllPrintable (right_sides_section m)
-right_sides-printable m h =
+rhs_values-printable : (m : Listing) → IsListed m → AllPrintable (right_sides_section m)
+rhs_values-printable m h =
     under-printable Rhs (side_lines m.objective (negated m.constant) ++ flat_map row_side_lines m.rows)
     (in-turn (side_lines m.objective (negated m.constant)) (flat_map row_side_lines m.rows)
     (side-printable m.objective (negated m.constant) (name-word m.objective h.objective) (negated-decimal m.constant h.constant))
@@ -355,7 +355,7 @@ listed-printable m h =
       in-turn (sense_lines m.sense) rows_on (sense-printable m.sense)
           (in-turn (rows_section m) columns_on (rows-printable m h)
           (in-turn (columns_section m) sides_on (columns_section-printable m h)
-          (in-turn (right_sides_section m) ranges_on (right_sides-printable m h)
+          (in-turn (right_sides_section m) ranges_on (rhs_values-printable m h)
           (in-turn (ranges_section m) bounds_on (ranges-printable m h)
           (in-turn (bounds_section m) ending (bounds_section-printable m h) (header-printable EndData, tt)))))),
     )

@@ -6,7 +6,7 @@ use Rattle.std.specs.FinMap.{find}
 use Rattle.mpslp_decimal.specs.Decimal.{Number, is_zero, negated, zero_number}
 use Rattle.mpslp_decimal.specs.NumberText.{number_text}
 use Rattle.mpslp_model.specs.Name.{marker}
-use Rattle.mpslp_model.specs.Model.{LinearModel, Row, Column, Place, place_cmp}
+use Rattle.mpslp_model.specs.Model.{LinearModel, Row, Column, CoefficientKey, key_cmp}
 use Rattle.mpslp_model.specs.declared.kinds.Sense.{Sense}
 use Rattle.mpslp_model.specs.declared.kinds.Sense.TheVariants.{Minimize, Maximize}
 use Rattle.mpslp_model.specs.declared.kinds.Kind.{Kind}
@@ -56,8 +56,8 @@ abbrev pub cell_line : List ℕ → List ℕ × Number → PrintedLine
 cell_line column cell = long_line (column ∷ cell.0 ∷ number_text cell.1 ∷ [])
 
 -- the coefficient of a row, or of the objective, if the column has one there
-abbrev pub cell_at : List (Place × Number) → List ℕ → List ℕ → Option (List ℕ × Number)
-cell_at coefficients column row = option_map (λ value. (row, value)) (find place_cmp (record { row = row; column = column }) coefficients)
+abbrev pub cell_at : List (CoefficientKey × Number) → List ℕ → List ℕ → Option (List ℕ × Number)
+cell_at coefficients column row = option_map (λ value. (row, value)) (find key_cmp (record { row = row; column = column }) coefficients)
 
 -- the objective first, then the rows
 abbrev pub column_cells : Listing → List ℕ → List (List ℕ × Number)

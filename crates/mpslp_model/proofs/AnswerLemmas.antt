@@ -2,6 +2,7 @@
 use Rattle.std.proofs.Common.{◌≡◌, refl, sym, ap, subst, ◌∙◌, ℕ, Bool, true, false, cond, not, List, [], ◌∷◌}
 use Rattle.std.specs.Prelude.{◌||◌, ◌&&◌, IsTrue, Option, Some, None, is_some, Ok, Err}
 use Rattle.std.specs.List.{list_all}
+use Rattle.std.specs.Result.{IsErrAnd}
 use Rattle.std.specs.Option.{ForSome, option_map, option_map_or}
 use Rattle.std.specs.Ordering.{eq_by_cmp}
 use Rattle.std.specs.Cmp.{first_so, second_so}
@@ -11,13 +12,14 @@ use Rattle.std.proofs.Math.Dec.{T}
 use Rattle.mpslp_model.specs.Name.{is_mps_name}
 use Rattle.mpslp_model.specs.Model.{bytes_cmp}
 use Rattle.mpslp_model.specs.Declaration.{Declaration, Draft, adding, has_name, is_objective, has_row, has_column, adding_all, bounds_declared}
-use Rattle.mpslp_model.specs.Refusal.{those_of, refusals, bounds_refusals}
+use Rattle.mpslp_model.specs.Lists.{those_of}
+use Rattle.mpslp_model.specs.Refusal.{refusals, bounds_refusals}
 use Rattle.mpslp_model.specs.Made.{is_given, is_legal, IsMade}
 use Rattle.mpslp_model.specs.Sides.{is_plus_infinite, is_minus_infinite}
 use Rattle.mpslp_model.specs.declared.kinds.Limit.{Limit}
 use Rattle.mpslp_model.specs.declared.faults.BuildFault.{BuildFault}
 use Rattle.mpslp_model.specs.declared.faults.BuildFault.TheVariants.{UnknownRow, UnknownColumn, DuplicateBound, InfiniteValue, OutOfMemory}
-use Rattle.mpslp_model.specs.Answer.{Answers, first_refusal}
+use Rattle.mpslp_model.specs.Answer.{Answer, Answers, first_refusal}
 use Rattle.mpslp_model.proofs.EachLemmas.{imp_all}
 use Rattle.mpslp_model.proofs.SlotLemmas.{same_name}
 use Rattle.mpslp_model.proofs.LaterDrafts.{objective_is}
@@ -36,6 +38,12 @@ pub first_answered : (faults : List BuildFault) (fault : BuildFault) (P Q : Type
 first_answered [] fault P Q h q = cc
 first_answered (first ∷ later) fault P Q h q = (h, q)
 
+-- what a question answers is handed on
+pub handed_on : (faults : List BuildFault) (answer : Answer) (fault : BuildFault) (P Q : Type 0)
+    → IsErrAnd answer (λ told. told ≡ fault) → Err fault ≡ first_refusal faults → Q → Answers faults answer P Q
+handed_on faults (Ok x) fault P Q told first q = absurd told
+handed_on faults (Err e) fault P Q told first q = first_answered faults e P Q (cc) q
+
 -- nothing is refused, and it is declared
 pub declared : (faults : List BuildFault) (P Q : Type 0) → faults ≡ [] → P → Answers faults (Ok tt) P Q
 declared [] P Q h p = p
@@ -46,11 +54,12 @@ pub no_memory : (faults : List BuildFault) (P Q : Type 0) → faults ≡ [] → 
 no_memory [] P Q h q = (refl, q)
 no_memory (first ∷ later) P Q h q = cc
 
--- ---- what stands where a call is not refused
+pub want_of_memory : (faults : List BuildFault) (answer : Answer) (P Q : Type 0) → IsErrAnd answer (λ told. told ≡ OutOfMemory) → faults ≡ [] → Q
+    → Answers faults answer P Q
+want_of_memory faults (Ok x) P Q told none q = absurd told
+want_of_memory faults (Err e) P Q told none q = subst (λ (t : BuildFault). Answers faults (Err t) P Q) (sym told) (no_memory faults P Q none q)
 
--- no test holds of those that were made
-pub none_holds : (given : List (Bool × BuildFault)) {tests : List (Bool × BuildFault)} → tests ≡ given → Ok tt ≡ first_refusal (those_of tests) → those_of given ≡ []
-none_holds given {tests} same h = none_refused (those_of given) (h ∙ ap (λ (ts : List (Bool × BuildFault)). first_refusal (those_of ts)) same)
+-- ---- what stands where a call is not refused
 
 -- one more declaration is made
 pub made_next : {inner all : Draft} (d : Declaration) → inner ≡ all → IsMade inner → is_legal d ≡ true → refusals all d ≡ [] → IsMade (adding inner d)
@@ -139,7 +148,7 @@ put_in entry sides = option_map_or (λ e. put bytes_cmp e.0 e.1 sides) entry sid
 abbrev pub with_sides : Draft → List ℕ → Option Limit → Option Limit → Draft
 with_sides all column lower upper = record all { lowers = put_in (entry_of column lower) all.lowers; uppers = put_in (entry_of column upper) all.uppers }
 
-sides-added : (all : Draft) (column : List ℕ) (lower upper : Option Limit) → adding_all all (bounds_declared column lower upper) ≡ with_sides all column lower upper
+pub sides-added : (all : Draft) (column : List ℕ) (lower upper : Option Limit) → adding_all all (bounds_declared column lower upper) ≡ with_sides all column lower upper
 sides-added all column None None = refl
 sides-added all column (Some l) None = refl
 sides-added all column None (Some u) = refl

@@ -16,10 +16,10 @@ use Rattle.std.proofs.lemmas.Option.{same_Some, slice_get-get_or}
 use Rattle.std.proofs.lemmas.List.Edits.{length-remove, get_or-remove_below, get_or-remove_above}
 use Rattle.std.proofs.Math.ListN.{drop_of_length-le}
 use Rattle.mpslp_model.specs.Name.{same_bytes}
-use Rattle.mpslp_model.specs.Model.{Place, bytes_cmp, place_cmp, place_total}
+use Rattle.mpslp_model.specs.Model.{CoefficientKey, bytes_cmp, key_cmp, key_total}
 use Rattle.mpslp_model.proofs.PutsLemmas.{equal_from, true_from, T_from}
 use Rattle.mpslp_model.proofs.SearchLemmas.{less_from, suc_of}
-use Rattle.mpslp_model.proofs.SlotLemmas.{place_ties}
+use Rattle.mpslp_model.proofs.SlotLemmas.{key_ties}
 use Rattle.mpslp_model.proofs.MeaningFromNoFault.{sorted-filtered}
 
 -- ---- a part of a list, by a test
@@ -176,30 +176,30 @@ by_first Greater b h = cc
 
 module _ {X : Type 0} where
   -- the columns of coefficients that stand behind are not lower
-  below_columns : (x : Place) (es : List (Place × X)) (i : ℕ) (d : Place × X) → below_all place_cmp x es ≡ true → i < length es
+  below_columns : (x : CoefficientKey) (es : List (CoefficientKey × X)) (i : ℕ) (d : CoefficientKey × X) → below_all key_cmp x es ≡ true → i < length es
       → is_le (bytes_cmp x.column (get_or es i d).0.column) ≡ true
   below_columns x [] i d h in' = absurd (omega arith)
   below_columns x (e ∷ es) zero d h in' =
-      by_first (bytes_cmp x.column e.0.column) (bytes_cmp x.row e.0.row) (first_so (is_lt (place_cmp x e.0)) (below_all place_cmp x es) h)
-  below_columns x (e ∷ es) (suc i) d h in' = below_columns x es i d (second_so (is_lt (place_cmp x e.0)) (below_all place_cmp x es) h) (omega arith)
+      by_first (bytes_cmp x.column e.0.column) (bytes_cmp x.row e.0.row) (first_so (is_lt (key_cmp x e.0)) (below_all key_cmp x es) h)
+  below_columns x (e ∷ es) (suc i) d h in' = below_columns x es i d (second_so (is_lt (key_cmp x e.0)) (below_all key_cmp x es) h) (omega arith)
 
-  columns_rise : (es : List (Place × X)) (i j : ℕ) (d : Place × X) → is_sorted place_cmp es ≡ true → i ≤ j → j < length es
+  columns_rise : (es : List (CoefficientKey × X)) (i j : ℕ) (d : CoefficientKey × X) → is_sorted key_cmp es ≡ true → i ≤ j → j < length es
       → is_le (bytes_cmp (get_or es i d).0.column (get_or es j d).0.column) ≡ true
   columns_rise [] i j d sorted le in' = absurd (omega arith)
   columns_rise (e ∷ es) zero zero d sorted le in' = at_most_itself bytes_cmp nat_list_cmp_total e.0.column
   columns_rise (e ∷ es) zero (suc j) d sorted le in' =
-      below_columns e.0 es j d (first_so (below_all place_cmp e.0 es) (is_sorted place_cmp es) sorted) (omega arith)
+      below_columns e.0 es j d (first_so (below_all key_cmp e.0 es) (is_sorted key_cmp es) sorted) (omega arith)
   columns_rise (e ∷ es) (suc i) zero d sorted le in' = absurd (omega arith)
   columns_rise (e ∷ es) (suc i) (suc j) d sorted le in' =
-      columns_rise es i j d (second_so (below_all place_cmp e.0 es) (is_sorted place_cmp es) sorted) (omega arith) (omega arith)
+      columns_rise es i j d (second_so (below_all key_cmp e.0 es) (is_sorted key_cmp es) sorted) (omega arith) (omega arith)
 
   -- coefficients of lower columns stand in front
-  pub lower_parted : (column : List ℕ) (es : List (Place × X)) → is_sorted place_cmp es ≡ true → IsPartitionedBy (λ e. is_gt (bytes_cmp column e.0.column)) es
+  pub lower_parted : (column : List ℕ) (es : List (CoefficientKey × X)) → is_sorted key_cmp es ≡ true → IsPartitionedBy (λ e. is_gt (bytes_cmp column e.0.column)) es
   lower_parted column es sorted i j d le in' above =
       below_too bytes_cmp nat_list_cmp_total column (get_or es i d).0.column (get_or es j d).0.column (columns_rise es i j d sorted le in') above
 
   -- behind them those of the column stand in front
-  pub own_parted : (column : List ℕ) (es : List (Place × X)) (start : ℕ) → is_sorted place_cmp es ≡ true
+  pub own_parted : (column : List ℕ) (es : List (CoefficientKey × X)) (start : ℕ) → is_sorted key_cmp es ≡ true
       → AllWithin (λ e. is_gt (bytes_cmp column e.0.column) ≡ false) es start (length es) → IsPartitionedBy (λ e. same_bytes column e.0.column) (drop start es)
   own_parted column es start sorted behind i j d le in' own =
       let x = get_or es (start + i) d in
@@ -207,63 +207,63 @@ module _ {X : Type 0} where
       let longer : length (drop start es) ≡ length es - start = length-drop start es in
       let inside : start + j < length es = omega arith in
       let rise : is_le (bytes_cmp x.0.column y.0.column) ≡ true = columns_rise es (start + i) (start + j) d sorted (omega arith) inside in
-      let same : Place × X → Bool = λ e. same_bytes column e.0.column in
+      let same : CoefficientKey × X → Bool = λ e. same_bytes column e.0.column in
       let tie : is_eq (bytes_cmp column y.0.column) ≡ true = sym (texts_ties column y.0.column) ∙ ap same (sym (get_or-drop start es j d)) ∙ own in
       ap same (get_or-drop start es i d) ∙ texts_ties column x.0.column
       ∙ ties_too bytes_cmp nat_list_cmp_total column x.0.column y.0.column rise (behind (start + i) d (omega arith) (omega arith)) tie
 
   -- a lower column is not the column
-  lower_fails : (column : List ℕ) (e : Place × X) → is_gt (bytes_cmp column e.0.column) ≡ true → same_bytes column e.0.column ≡ false
+  lower_fails : (column : List ℕ) (e : CoefficientKey × X) → is_gt (bytes_cmp column e.0.column) ≡ true → same_bytes column e.0.column ≡ false
   lower_fails column e above = texts_ties column e.0.column ∙ greater_untied (bytes_cmp column e.0.column) above
 
   -- The coefficients of a column are the part between the first that is not of a lower column and the first of a higher one.
-  pub own_part : (column : List ℕ) (es : List (Place × X)) (start count : ℕ) → start ≤ length es → count ≤ length (drop start es)
+  pub own_part : (column : List ℕ) (es : List (CoefficientKey × X)) (start count : ℕ) → start ≤ length es → count ≤ length (drop start es)
       → IsPartitionPoint (λ e. is_gt (bytes_cmp column e.0.column) ≡ true) (λ e. is_gt (bytes_cmp column e.0.column) ≡ false) es start
       → IsPartitionPoint (λ e. same_bytes column e.0.column ≡ true) (λ e. same_bytes column e.0.column ≡ false) (drop start es) count
       → take count (drop start es) ≡ filter (λ e. same_bytes column e.0.column) es
   own_part column es start count le few lower own =
-      let same : Place × X → Bool = λ e. same_bytes column e.0.column in
+      let same : CoefficientKey × X → Bool = λ e. same_bytes column e.0.column in
       sym (filter_behind same es start le (λ k d low high. lower_fails column (get_or es k d) (lower.0 k d low high))
       ∙ filter_front same (drop start es) count few own)
 
   -- they stand in order
-  pub own_sorted : (column : List ℕ) (es : List (Place × X)) → is_sorted place_cmp es ≡ true
-      → is_sorted place_cmp (filter (λ e. same_bytes column e.0.column) es) ≡ true
+  pub own_sorted : (column : List ℕ) (es : List (CoefficientKey × X)) → is_sorted key_cmp es ≡ true
+      → is_sorted key_cmp (filter (λ e. same_bytes column e.0.column) es) ≡ true
   own_sorted column es sorted =
-      let same : Place × X → Bool = λ e. same_bytes column e.0.column in
-      true_from (is_sorted place_cmp (filter same es)) (sorted-filtered same es (T_from (is_sorted place_cmp es) sorted))
+      let same : CoefficientKey × X → Bool = λ e. same_bytes column e.0.column in
+      true_from (is_sorted key_cmp (filter same es)) (sorted-filtered same es (T_from (is_sorted key_cmp es) sorted))
 
   -- those of rows are all but the one at the objective's place
-  beside_objective : (objective column : List ℕ) (es : List (Place × X))
+  beside_objective : (objective column : List ℕ) (es : List (CoefficientKey × X))
       → filter (λ e. not (same_bytes objective e.0.row) && same_bytes column e.0.column) es
-      ≡ filter (λ e. not (is_eq (place_cmp (record { row = objective; column = column }) e.0))) (filter (λ e. same_bytes column e.0.column) es)
+      ≡ filter (λ e. not (is_eq (key_cmp (record { row = objective; column = column }) e.0))) (filter (λ e. same_bytes column e.0.column) es)
   beside_objective objective column [] = refl
   beside_objective objective column (e ∷ es) =
-      let place : Place = record { row = objective; column = column } in
-      keep_step (λ (y : Place × X). not (is_eq (place_cmp place y.0))) e
-      (filter (λ (y : Place × X). not (same_bytes objective y.0.row) && same_bytes column y.0.column) es) (filter (λ (y : Place × X). same_bytes column y.0.column) es)
-      (same_bytes objective e.0.row) (same_bytes column e.0.column) (ap not (sym (place_ties place e.0))) (beside_objective objective column es)
+      let place : CoefficientKey = record { row = objective; column = column } in
+      keep_step (λ (y : CoefficientKey × X). not (is_eq (key_cmp place y.0))) e
+      (filter (λ (y : CoefficientKey × X). not (same_bytes objective y.0.row) && same_bytes column y.0.column) es) (filter (λ (y : CoefficientKey × X). same_bytes column y.0.column) es)
+      (same_bytes objective e.0.row) (same_bytes column e.0.column) (ap not (sym (key_ties place e.0))) (beside_objective objective column es)
 
-  abbrev pub elements : List ℕ → List ℕ → List (Place × X) → List (Place × X)
+  abbrev pub elements : List ℕ → List ℕ → List (CoefficientKey × X) → List (CoefficientKey × X)
   elements objective column es = filter (λ e. not (same_bytes objective e.0.row) && same_bytes column e.0.column) es
 
   -- The elements of a column are its part without the objective's coefficient, where it has one of number i.
-  pub elements_beside : (objective column : List ℕ) (es part : List (Place × X)) (i : ℕ)
-      → part ≡ filter (λ e. same_bytes column e.0.column) es → is_sorted place_cmp part ≡ true
-      → position (λ e. is_eq (place_cmp (record { row = objective; column = column }) e.0)) part ≡ Some i
+  pub elements_beside : (objective column : List ℕ) (es part : List (CoefficientKey × X)) (i : ℕ)
+      → part ≡ filter (λ e. same_bytes column e.0.column) es → is_sorted key_cmp part ≡ true
+      → position (λ e. is_eq (key_cmp (record { row = objective; column = column }) e.0)) part ≡ Some i
       → (i < length part) × (elements objective column es ≡ remove part i)
   elements_beside objective column es part i own sorted at =
-      let place : Place = record { row = objective; column = column } in
-      let found = without_found place_cmp place_total place part i sorted at in
-      (found.0, beside_objective objective column es ∙ ap (filter (λ (e : Place × X). not (is_eq (place_cmp place e.0)))) (sym own) ∙ found.1)
+      let place : CoefficientKey = record { row = objective; column = column } in
+      let found = without_found key_cmp key_total place part i sorted at in
+      (found.0, beside_objective objective column es ∙ ap (filter (λ (e : CoefficientKey × X). not (is_eq (key_cmp place e.0)))) (sym own) ∙ found.1)
 
-  pub elements_whole : (objective column : List ℕ) (es part : List (Place × X))
-      → part ≡ filter (λ e. same_bytes column e.0.column) es → is_sorted place_cmp part ≡ true
-      → position (λ e. is_eq (place_cmp (record { row = objective; column = column }) e.0)) part ≡ None → elements objective column es ≡ part
+  pub elements_whole : (objective column : List ℕ) (es part : List (CoefficientKey × X))
+      → part ≡ filter (λ e. same_bytes column e.0.column) es → is_sorted key_cmp part ≡ true
+      → position (λ e. is_eq (key_cmp (record { row = objective; column = column }) e.0)) part ≡ None → elements objective column es ≡ part
   elements_whole objective column es part own sorted at =
-      let place : Place = record { row = objective; column = column } in
-      beside_objective objective column es ∙ ap (filter (λ (e : Place × X). not (is_eq (place_cmp place e.0)))) (sym own)
-      ∙ without_none place_cmp place_total place part sorted at
+      let place : CoefficientKey = record { row = objective; column = column } in
+      beside_objective objective column es ∙ ap (filter (λ (e : CoefficientKey × X). not (is_eq (key_cmp place e.0)))) (sym own)
+      ∙ without_none key_cmp key_total place part sorted at
 
 -- ---- one left out
 

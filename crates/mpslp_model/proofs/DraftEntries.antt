@@ -13,8 +13,8 @@ use Rattle.std.specs.FinMap.{put, is_sorted, slice_cmp-IsAntisymmetric, nat_cmp-
 use Rattle.std.specs.FinMap.Entries.{by_order, is_sorted-put}
 use Rattle.mpslp_decimal.specs.Decimal.{Number, is_decimal}
 use Rattle.mpslp_model.specs.Name.{is_mps_name}
-use Rattle.mpslp_model.specs.Model.{Place, bytes_cmp, place_cmp, place_total}
-use Rattle.mpslp_model.specs.Declaration.{RowForm, Declaration, declare_objective, declare_constant, declare_row, declare_right_side, declare_column, declare_coefficient, declare_lower, declare_upper, Declarations, Draft, empty_draft, adding, adding_all, has_row, has_column}
+use Rattle.mpslp_model.specs.Model.{CoefficientKey, bytes_cmp, key_cmp, key_total}
+use Rattle.mpslp_model.specs.Declaration.{RowForm, Declaration, declare_objective, declare_constant, declare_row, declare_rhs, declare_column, declare_coefficient, declare_lower, declare_upper, Declarations, Draft, empty_draft, adding, adding_all, has_row, has_column}
 use Rattle.mpslp_model.specs.Made.{is_given, are_given, is_legal}
 use Rattle.mpslp_model.specs.Sides.{is_plus_infinite, is_minus_infinite, have_infinite_side}
 use Rattle.mpslp_model.specs.Consistency.{is_known, is_allowed}
@@ -33,8 +33,8 @@ put_all {K} {X} R p k v (e ∷ es) tied h all =
       | orders.Greater ↦ λ _. both_so (p e) (list_all p (put R k v es)) (first_so (p e) (list_all p es) all) (put_all R p k v es tied h (second_so (p e) (list_all p es) all))
     ] refl
 
-same_key : (a b : List ℕ) → bytes_cmp a b ≡ orders.Equal → a ≡ b
-same_key a b h = slice_cmp-IsAntisymmetric nat_cmp-IsAntisymmetric a b h
+same_name_of : (a b : List ℕ) → bytes_cmp a b ≡ orders.Equal → a ≡ b
+same_name_of a b h = slice_cmp-IsAntisymmetric nat_cmp-IsAntisymmetric a b h
 
 then_first : (a b : Ordering) → ordering_then a b ≡ orders.Equal → a ≡ orders.Equal
 then_first orders.Less b h = h
@@ -47,17 +47,17 @@ then_second orders.Equal b h = h
 then_second orders.Greater b h = cc
 
 -- places that tie are equal
-pub same_place : (a b : Place) → place_cmp a b ≡ orders.Equal → a ≡ b
-same_place a b h =
-    let columns = same_key a.column b.column (then_first (bytes_cmp a.column b.column) (bytes_cmp a.row b.row) h) in
-    let rows = same_key a.row b.row (then_second (bytes_cmp a.column b.column) (bytes_cmp a.row b.row) h) in
+pub same_key : (a b : CoefficientKey) → key_cmp a b ≡ orders.Equal → a ≡ b
+same_key a b h =
+    let columns = same_name_of a.column b.column (then_first (bytes_cmp a.column b.column) (bytes_cmp a.row b.row) h) in
+    let rows = same_name_of a.row b.row (then_second (bytes_cmp a.column b.column) (bytes_cmp a.row b.row) h) in
     λ i. record { row = rows i; column = columns i }
 
 put_names : {X : Type 0} (p : List ℕ × X → Bool) (k : List ℕ) (v : X) (es : List (List ℕ × X)) → p (k, v) ≡ true → list_all p es ≡ true → list_all p (put bytes_cmp k v es) ≡ true
-put_names p k v es h all = put_all bytes_cmp p k v es (λ j tie. ap (λ (n : List ℕ). p (n, v)) (sym (same_key k j tie)) ∙ h) h all
+put_names p k v es h all = put_all bytes_cmp p k v es (λ j tie. ap (λ (n : List ℕ). p (n, v)) (sym (same_name_of k j tie)) ∙ h) h all
 
-put_places : {X : Type 0} (p : Place × X → Bool) (k : Place) (v : X) (es : List (Place × X)) → p (k, v) ≡ true → list_all p es ≡ true → list_all p (put place_cmp k v es) ≡ true
-put_places p k v es h all = put_all place_cmp p k v es (λ j tie. ap (λ (n : Place). p (n, v)) (sym (same_place k j tie)) ∙ h) h all
+put_keys : {X : Type 0} (p : CoefficientKey × X → Bool) (k : CoefficientKey) (v : X) (es : List (CoefficientKey × X)) → p (k, v) ≡ true → list_all p es ≡ true → list_all p (put key_cmp k v es) ≡ true
+put_keys p k v es h all = put_all key_cmp p k v es (λ j tie. ap (λ (n : CoefficientKey). p (n, v)) (sym (same_key k j tie)) ∙ h) h all
 
 -- ---- a draft whose entries are good, beside the draft of all
 
@@ -66,21 +66,21 @@ pub record IsGood (all draft : Draft) : Type 0 where
   pub objective : option_map_or is_mps_name draft.objective true ≡ true
   pub constant : option_map_or is_decimal draft.constant true ≡ true
   pub rows : list_all (λ e. is_mps_name e.0 && (are_given e.1 && not (have_infinite_side e.1))) draft.rows ≡ true
-  pub right_sides : list_all (λ e. is_decimal e.1) draft.right_sides ≡ true
+  pub rhs_values : list_all (λ e. is_decimal e.1) draft.rhs_values ≡ true
   pub columns : list_all (λ e. is_mps_name e.0) draft.columns ≡ true
   pub coefficients : list_all (λ e. is_decimal e.1 && (has_row all e.0.row && has_column all e.0.column)) draft.coefficients ≡ true
   pub lowers : list_all (λ e. is_given e.1 && not (is_plus_infinite e.1)) draft.lowers ≡ true
   pub uppers : list_all (λ e. is_given e.1 && not (is_minus_infinite e.1)) draft.uppers ≡ true
   pub rows_sorted : T (is_sorted bytes_cmp draft.rows)
   pub columns_sorted : T (is_sorted bytes_cmp draft.columns)
-  pub coefficients_sorted : T (is_sorted place_cmp draft.coefficients)
+  pub coefficients_sorted : T (is_sorted key_cmp draft.coefficients)
 
 good-adding : (all draft : Draft) (d : Declaration) → IsGood all draft → is_legal d ≡ true → is_known all d ≡ true → is_allowed all d ≡ true → IsGood all (adding draft d)
 good-adding all b (declare_objective name) g legal known allowed = record {
   objective = legal;
   constant = g.constant;
   rows = g.rows;
-  right_sides = g.right_sides;
+  rhs_values = g.rhs_values;
   columns = g.columns;
   coefficients = g.coefficients;
   lowers = g.lowers;
@@ -93,7 +93,7 @@ good-adding all b (declare_constant value) g legal known allowed = record {
   objective = g.objective;
   constant = legal;
   rows = g.rows;
-  right_sides = g.right_sides;
+  rhs_values = g.rhs_values;
   columns = g.columns;
   coefficients = g.coefficients;
   lowers = g.lowers;
@@ -108,7 +108,7 @@ good-adding all b (declare_row name form) g legal known allowed = record {
   rows = put_names (λ (e : List ℕ × RowForm). is_mps_name e.0 && (are_given e.1 && not (have_infinite_side e.1))) name form b.rows
       (both_so (is_mps_name name) (are_given form && not (have_infinite_side form)) (first_so (is_mps_name name) (are_given form) legal)
       (both_so (are_given form) (not (have_infinite_side form)) (second_so (is_mps_name name) (are_given form) legal) allowed)) g.rows;
-  right_sides = g.right_sides;
+  rhs_values = g.rhs_values;
   columns = g.columns;
   coefficients = g.coefficients;
   lowers = g.lowers;
@@ -117,11 +117,11 @@ good-adding all b (declare_row name form) g legal known allowed = record {
   columns_sorted = g.columns_sorted;
   coefficients_sorted = g.coefficients_sorted;
 }
-good-adding all b (declare_right_side row value) g legal known allowed = record {
+good-adding all b (declare_rhs row value) g legal known allowed = record {
   objective = g.objective;
   constant = g.constant;
   rows = g.rows;
-  right_sides = put_names (λ (e : List ℕ × Number). is_decimal e.1) row value b.right_sides legal g.right_sides;
+  rhs_values = put_names (λ (e : List ℕ × Number). is_decimal e.1) row value b.rhs_values legal g.rhs_values;
   columns = g.columns;
   coefficients = g.coefficients;
   lowers = g.lowers;
@@ -134,7 +134,7 @@ good-adding all b (declare_column name) g legal known allowed = record {
   objective = g.objective;
   constant = g.constant;
   rows = g.rows;
-  right_sides = g.right_sides;
+  rhs_values = g.rhs_values;
   columns = put_names (λ (e : List ℕ × Unit {0}). is_mps_name e.0) name tt b.columns legal g.columns;
   coefficients = g.coefficients;
   lowers = g.lowers;
@@ -147,21 +147,21 @@ good-adding all b (declare_coefficient place value) g legal known allowed = reco
   objective = g.objective;
   constant = g.constant;
   rows = g.rows;
-  right_sides = g.right_sides;
+  rhs_values = g.rhs_values;
   columns = g.columns;
-  coefficients = put_places (λ (e : Place × Number). is_decimal e.1 && (has_row all e.0.row && has_column all e.0.column)) place value b.coefficients
+  coefficients = put_keys (λ (e : CoefficientKey × Number). is_decimal e.1 && (has_row all e.0.row && has_column all e.0.column)) place value b.coefficients
       (both_so (is_decimal value) (has_row all place.row && has_column all place.column) legal known) g.coefficients;
   lowers = g.lowers;
   uppers = g.uppers;
   rows_sorted = g.rows_sorted;
   columns_sorted = g.columns_sorted;
-  coefficients_sorted = is_sorted-put place_cmp place_total place value b.coefficients g.coefficients_sorted;
+  coefficients_sorted = is_sorted-put key_cmp key_total place value b.coefficients g.coefficients_sorted;
 }
 good-adding all b (declare_lower column limit) g legal known allowed = record {
   objective = g.objective;
   constant = g.constant;
   rows = g.rows;
-  right_sides = g.right_sides;
+  rhs_values = g.rhs_values;
   columns = g.columns;
   coefficients = g.coefficients;
   lowers = put_names (λ (e : List ℕ × Limit). is_given e.1 && not (is_plus_infinite e.1)) column limit b.lowers (both_so (is_given limit) (not (is_plus_infinite limit)) legal allowed) g.lowers;
@@ -174,7 +174,7 @@ good-adding all b (declare_upper column limit) g legal known allowed = record {
   objective = g.objective;
   constant = g.constant;
   rows = g.rows;
-  right_sides = g.right_sides;
+  rhs_values = g.rhs_values;
   columns = g.columns;
   coefficients = g.coefficients;
   lowers = g.lowers;
@@ -187,7 +187,7 @@ good-adding all b _ g legal known allowed = record {
   objective = g.objective;
   constant = g.constant;
   rows = g.rows;
-  right_sides = g.right_sides;
+  rhs_values = g.rhs_values;
   columns = g.columns;
   coefficients = g.coefficients;
   lowers = g.lowers;
@@ -207,4 +207,4 @@ good-adding_all all (d ∷ more) draft g legal known allowed =
 
 -- no entries
 pub empty_good : (all : Draft) → IsGood all empty_draft
-empty_good all = record { objective = refl; constant = refl; rows = refl; right_sides = refl; columns = refl; coefficients = refl; lowers = refl; uppers = refl; rows_sorted = tt; columns_sorted = tt; coefficients_sorted = tt }
+empty_good all = record { objective = refl; constant = refl; rows = refl; rhs_values = refl; columns = refl; coefficients = refl; lowers = refl; uppers = refl; rows_sorted = tt; columns_sorted = tt; coefficients_sorted = tt }

@@ -2,8 +2,8 @@
 use Rattle.std.proofs.Common.{◌≡◌, refl, sym, ap, ◌∙◌, List, [], ◌∷◌, ℕ}
 use Rattle.std.specs.List.{flat_map}
 use Rattle.mpslp_decimal.specs.Decimal.{Number}
-use Rattle.mpslp_model.specs.Model.{Place, bytes_cmp, place_cmp}
-use Rattle.mpslp_model.specs.Declaration.{RowForm, Declaration, declare_row, declare_right_side, declare_range, declare_column, declare_coefficient, declare_lower, declare_upper, declare_marked, declare_integer, declare_binary, Declarations, Draft, adding, adding_all}
+use Rattle.mpslp_model.specs.Model.{CoefficientKey, bytes_cmp, key_cmp}
+use Rattle.mpslp_model.specs.Declaration.{RowForm, Declaration, declare_row, declare_rhs, declare_range, declare_column, declare_coefficient, declare_lower, declare_upper, declare_marked, declare_integer, declare_binary, Declarations, Draft, adding, adding_all}
 use Rattle.mpslp_model.specs.declared.kinds.Limit.{Limit}
 use Rattle.mpslp_model.proofs.PutsLemmas.{puts, puts-append}
 
@@ -13,9 +13,9 @@ abbrev pub row_part : Declaration → List (List ℕ × RowForm)
 row_part (declare_row name form) = (name, form) ∷ []
 row_part _ = []
 
-abbrev pub right_side_part : Declaration → List (List ℕ × Number)
-right_side_part (declare_right_side row value) = (row, value) ∷ []
-right_side_part _ = []
+abbrev pub rhs_part : Declaration → List (List ℕ × Number)
+rhs_part (declare_rhs row value) = (row, value) ∷ []
+rhs_part _ = []
 
 abbrev pub range_part : Declaration → List (List ℕ × Number)
 range_part (declare_range row value) = (row, value) ∷ []
@@ -25,7 +25,7 @@ abbrev pub column_part : Declaration → List (List ℕ × Unit {0})
 column_part (declare_column name) = (name, tt) ∷ []
 column_part _ = []
 
-abbrev pub coefficient_part : Declaration → List (Place × Number)
+abbrev pub coefficient_part : Declaration → List (CoefficientKey × Number)
 coefficient_part (declare_coefficient place value) = (place, value) ∷ []
 coefficient_part _ = []
 
@@ -60,14 +60,14 @@ rows-all [] all = refl
 rows-all (d ∷ ds) all =
     rows-all ds (adding all d) ∙ ap (puts bytes_cmp (flat_map row_part ds)) (rows-one all d) ∙ sym (puts-append bytes_cmp (row_part d) (flat_map row_part ds) all.rows)
 
-right_sides-one : (all : Draft) (d : Declaration) → (adding all d).right_sides ≡ puts bytes_cmp (right_side_part d) all.right_sides
-right_sides-one all (declare_right_side row value) = refl
-right_sides-one all _ = refl
+rhs_values-one : (all : Draft) (d : Declaration) → (adding all d).rhs_values ≡ puts bytes_cmp (rhs_part d) all.rhs_values
+rhs_values-one all (declare_rhs row value) = refl
+rhs_values-one all _ = refl
 
-pub right_sides-all : (ds : Declarations) (all : Draft) → (adding_all all ds).right_sides ≡ puts bytes_cmp (flat_map right_side_part ds) all.right_sides
-right_sides-all [] all = refl
-right_sides-all (d ∷ ds) all =
-    right_sides-all ds (adding all d) ∙ ap (puts bytes_cmp (flat_map right_side_part ds)) (right_sides-one all d) ∙ sym (puts-append bytes_cmp (right_side_part d) (flat_map right_side_part ds) all.right_sides)
+pub rhs_values-all : (ds : Declarations) (all : Draft) → (adding_all all ds).rhs_values ≡ puts bytes_cmp (flat_map rhs_part ds) all.rhs_values
+rhs_values-all [] all = refl
+rhs_values-all (d ∷ ds) all =
+    rhs_values-all ds (adding all d) ∙ ap (puts bytes_cmp (flat_map rhs_part ds)) (rhs_values-one all d) ∙ sym (puts-append bytes_cmp (rhs_part d) (flat_map rhs_part ds) all.rhs_values)
 
 ranges-one : (all : Draft) (d : Declaration) → (adding all d).ranges ≡ puts bytes_cmp (range_part d) all.ranges
 ranges-one all (declare_range row value) = refl
@@ -87,14 +87,14 @@ columns-all [] all = refl
 columns-all (d ∷ ds) all =
     columns-all ds (adding all d) ∙ ap (puts bytes_cmp (flat_map column_part ds)) (columns-one all d) ∙ sym (puts-append bytes_cmp (column_part d) (flat_map column_part ds) all.columns)
 
-coefficients-one : (all : Draft) (d : Declaration) → (adding all d).coefficients ≡ puts place_cmp (coefficient_part d) all.coefficients
+coefficients-one : (all : Draft) (d : Declaration) → (adding all d).coefficients ≡ puts key_cmp (coefficient_part d) all.coefficients
 coefficients-one all (declare_coefficient place value) = refl
 coefficients-one all _ = refl
 
-pub coefficients-all : (ds : Declarations) (all : Draft) → (adding_all all ds).coefficients ≡ puts place_cmp (flat_map coefficient_part ds) all.coefficients
+pub coefficients-all : (ds : Declarations) (all : Draft) → (adding_all all ds).coefficients ≡ puts key_cmp (flat_map coefficient_part ds) all.coefficients
 coefficients-all [] all = refl
 coefficients-all (d ∷ ds) all =
-    coefficients-all ds (adding all d) ∙ ap (puts place_cmp (flat_map coefficient_part ds)) (coefficients-one all d) ∙ sym (puts-append place_cmp (coefficient_part d) (flat_map coefficient_part ds) all.coefficients)
+    coefficients-all ds (adding all d) ∙ ap (puts key_cmp (flat_map coefficient_part ds)) (coefficients-one all d) ∙ sym (puts-append key_cmp (coefficient_part d) (flat_map coefficient_part ds) all.coefficients)
 
 lowers-one : (all : Draft) (d : Declaration) → (adding all d).lowers ≡ puts bytes_cmp (lower_part d) all.lowers
 lowers-one all (declare_lower column limit) = refl

@@ -8,10 +8,10 @@ use Rattle.std.specs.Ordering.{eq_by_cmp}
 use Rattle.mpslp_decimal.specs.Decimal.{Number}
 use Rattle.mpslp_model.specs.Model.{bytes_cmp}
 use Rattle.mpslp_model.specs.Declaration.{RowForm, Draft, at_name, names_in}
-use Rattle.mpslp_model.specs.Limits.{limits_of, has_infinite_right_side, is_inexact, is_too_large, is_crossed}
+use Rattle.mpslp_model.specs.Limits.{limits_of, has_infinite_rhs, is_inexact, is_too_large, is_crossed}
 use Rattle.mpslp_model.specs.Bounds.{has_negative_upper, has_crossed_bounds, has_binary_bounds}
-use Rattle.mpslp_model.specs.Refusal.{is_nonempty}
-use Rattle.mpslp_model.specs.Meaning.{whole_fault, row_passes, head_of, rows_where, names_with, named_faults, file_fault}
+use Rattle.mpslp_model.specs.Lists.{is_nonempty, head_of}
+use Rattle.mpslp_model.specs.Meaning.{whole_fault, row_passes, rows_where, names_with, named_faults, file_fault}
 use Rattle.mpslp_model.specs.declared.faults.Fault.{Fault}
 use Rattle.mpslp_model.specs.declared.faults.FaultKind.{FaultKind}
 use Rattle.mpslp_model.specs.declared.faults.FaultKind.TheVariants.{NoColumns, InfiniteLimit, RangeInexact, LimitTooLarge, LimitsCrossed, NegativeUpper, BoundsCrossed, BinaryBounds}
@@ -28,7 +28,7 @@ passes_columns all test = list_all (λ name. not (test all name)) (names_in all.
 -- No row and no column passes a test of a fault, and there is a column.
 pub record HasNoFault (all : Draft) : Type 0 where
   pub column : is_nonempty all.columns ≡ true
-  pub right_sides : passes_rows all has_infinite_right_side ≡ true
+  pub rhs_values : passes_rows all has_infinite_rhs ≡ true
   pub exact : passes_rows all (λ form b r. is_inexact (limits_of form b r)) ≡ true
   pub small : passes_rows all (λ form b r. is_too_large (limits_of form b r)) ≡ true
   pub straight : passes_rows all (λ form b r. is_crossed (limits_of form b r)) ≡ true
@@ -124,7 +124,7 @@ no_fault-from_none all h =
     let h7 = later all BoundsCrossed k7 h6 in
     record {
       column = test_of there none (head_of (named_faults all)) h;
-      right_sides = rows_pass all has_infinite_right_side (here all InfiniteLimit k2 h1);
+      rhs_values = rows_pass all has_infinite_rhs (here all InfiniteLimit k2 h1);
       exact = rows_pass all (λ form b r. is_inexact (limits_of form b r)) (here all RangeInexact k3 h2);
       small = rows_pass all (λ form b r. is_too_large (limits_of form b r)) (here all LimitTooLarge k4 h3);
       straight = rows_pass all (λ form b r. is_crossed (limits_of form b r)) (here all LimitsCrossed k5 h4);
@@ -143,7 +143,7 @@ none-from_no_fault all f =
     let k3 = LimitTooLarge ∷ k4 in
     let k2 = RangeInexact ∷ k3 in
     ap (λ (b : Bool). cond b (head_of (named_faults all)) (Some (whole_fault NoColumns None))) f.column
-    ∙ add all InfiniteLimit k2 (pass_rows all has_infinite_right_side f.right_sides)
+    ∙ add all InfiniteLimit k2 (pass_rows all has_infinite_rhs f.rhs_values)
     (add all RangeInexact k3 (pass_rows all (λ form b r. is_inexact (limits_of form b r)) f.exact)
     (add all LimitTooLarge k4 (pass_rows all (λ form b r. is_too_large (limits_of form b r)) f.small)
     (add all LimitsCrossed k5 (pass_rows all (λ form b r. is_crossed (limits_of form b r)) f.straight)

@@ -3,7 +3,7 @@ use Rattle.std.proofs.Common.{◌≡◌, sym, ap, subst, ◌∙◌, map, Bool, t
 use Rattle.std.specs.Prelude.{None, filter, is_some, unwrap_or}
 use Rattle.std.specs.FinMap as maps
 use Rattle.mpslp_decimal.specs.Decimal.{Number, is_zero, zero_number}
-use Rattle.mpslp_model.specs.Model.{Place, bytes_cmp, place_cmp, IsSound}
+use Rattle.mpslp_model.specs.Model.{CoefficientKey, bytes_cmp, key_cmp, IsSound}
 use Rattle.mpslp_model.specs.ModelParts.{linear_model, AreModelParts}
 use Rattle.mpslp_model.specs.Declaration.{Draft}
 use Rattle.mpslp_model.specs.Made.{IsMade}
@@ -12,7 +12,7 @@ use Rattle.mpslp_model.specs.Limits.{plain_limits}
 use Rattle.mpslp_model.specs.Meaning.{objective_name, constant_of, row_limits, row_entry, model_of, file_fault, DraftMeans}
 use Rattle.mpslp_model.specs.declared.kinds.Sense.TheVariants.{Minimize}
 use Rattle.mpslp_model.specs.declared.kinds.RowType.TheVariants.{Free}
-use Rattle.mpslp_model.specs.declared.linear.Model.TheInside.{Inside}
+use Rattle.mpslp_model.specs.declared.model.Model.TheInside.{Inside}
 use Rattle.mpslp_model.proofs.PutsLemmas.{true_from}
 use Rattle.mpslp_model.proofs.MadeDrafts.{meant-from_made}
 use Rattle.mpslp_model.proofs.SortedDrafts.{sorted-from_made}
@@ -40,11 +40,11 @@ meant_model all m p = λ i. record {
 pub meant_parts : (all : Draft) (m : Inside) → IsMade all → is_some all.objective ≡ true → file_fault all ≡ None → AreMeantParts all m → AreModelParts m
 meant_parts all m made there none p =
     let sorted = sorted-from_made all made in
-    let kept : Place × Number → Bool = λ entry. not (is_zero entry.1) in
+    let kept : CoefficientKey × Number → Bool = λ entry. not (is_zero entry.1) in
     record {
       rows = ap (maps.is_sorted bytes_cmp) p.rows ∙ sorted-mapped (λ row. unwrap_or (row_limits all row) (plain_limits Free zero_number)) all.rows ∙ true_from _ sorted.rows;
       columns = ap (maps.is_sorted bytes_cmp) p.columns ∙ sorted-mapped (λ column. column_of all column.0) all.columns ∙ true_from _ sorted.columns;
-      coefficients = ap (maps.is_sorted place_cmp) p.coefficients ∙ true_from _ (sorted-filtered kept all.coefficients sorted.coefficients);
+      coefficients = ap (maps.is_sorted key_cmp) p.coefficients ∙ true_from _ (sorted-filtered kept all.coefficients sorted.coefficients);
       sound = subst IsSound (sym (meant_model all m p)) (meant-from_made all made there none).sound;
     }
 

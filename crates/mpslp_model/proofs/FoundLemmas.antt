@@ -1,20 +1,25 @@
 -- The fault that is found first is the one that is told.
 use Rattle.std.proofs.Common.{◌≡◌, refl, sym, ap, ◌∙◌, ℕ, suc, drop, ◌<◌, ◌+◌, List, [], ◌∷◌, length, map, Bool, true, false, cond, not, arith}
-use Rattle.std.specs.Prelude.{Option, Some, None, position, filter, filter_map, slice_get, slice_index_or, nat_lt}
+use Rattle.std.specs.Prelude.{◌||◌, Option, Some, None, position, filter, filter_map, slice_get, slice_index_or, nat_lt}
 use Rattle.std.specs.Option.{option_map}
-use Rattle.std.specs.List.{position_or_len, cons_option}
+use Rattle.std.specs.List.{list_any, position_or_len, cons_option}
 use Rattle.std.proofs.lemmas.List.{length-map, drop_more}
 use Rattle.std.proofs.lemmas.Option.{slice_get-get_or, slice_get_past}
 use Rattle.std.proofs.lemmas.Bool.Decides.{nat_tests}
-use Rattle.mpslp_model.specs.Declaration.{Draft}
-use Rattle.mpslp_model.specs.Meaning.{head_of, whole_fault, row_passes}
-use Rattle.mpslp_model.specs.FaultFound.{columns_alone, row_test, column_test, kind_of_row_fault, kind_of_column_fault, named, told, IsThere}
+use Rattle.mpslp_decimal.specs.Decimal.{Number}
+use Rattle.mpslp_model.specs.Declaration.{RowForm, Draft}
+use Rattle.mpslp_model.specs.Limits.{limits_of, has_infinite_rhs, is_inexact, is_too_large, is_crossed}
+use Rattle.mpslp_model.specs.Lists.{head_of}
+use Rattle.mpslp_model.specs.Meaning.{whole_fault, row_passes}
+use Rattle.mpslp_model.specs.FaultFound.{columns_alone, is_faulty_row, row_test, column_test, kind_of_row_fault, kind_of_column_fault, named, fault_found, IsThere}
+use Rattle.mpslp_model.specs.declared.faults.Fault.{Fault}
 use Rattle.mpslp_model.specs.declared.faults.FaultKind.{FaultKind}
 use Rattle.mpslp_model.specs.declared.limits.RowFault.{RowFault}
 use Rattle.mpslp_model.specs.declared.limits.RowFault.TheVariants as rows
-use Rattle.mpslp_model.specs.declared.finding.ColumnFault.{ColumnFault}
-use Rattle.mpslp_model.specs.declared.finding.ColumnFault.TheVariants as columns
-use Rattle.mpslp_model.specs.declared.finding.FoundFault.TheVariants as found
+use Rattle.mpslp_model.specs.declared.bounds.ColumnFault.{ColumnFault}
+use Rattle.mpslp_model.specs.declared.bounds.ColumnFault.TheVariants as columns
+use Rattle.mpslp_model.specs.declared.file_faults.FoundFault.TheVariants as found
+use Rattle.mpslp_model.proofs.BoolLemmas.{nor}
 
 -- the first of those that pass a test is the one that passes it first
 first_passing : {X Y : Type 0} (p : X → Bool) (f : X → Y) (xs : List X) → head_of (map f (filter p xs)) ≡ slice_get (map f xs) (position_or_len p xs)
@@ -67,7 +72,7 @@ of_row all rows.LimitTooLarge = refl
 of_row all rows.LimitsCrossed = refl
 
 pub row_found : (all : Draft) (fault : RowFault) (i : ℕ) → position (row_passes all (row_test fault)) all.rows ≡ Some i
-    → (named all (kind_of_row_fault fault) ≡ Some (told all (found.Row fault i))) × IsThere all (found.Row fault i)
+    → (named all (kind_of_row_fault fault) ≡ Some (fault_found all (found.Row fault i))) × IsThere all (found.Row fault i)
 row_found all fault i h =
     let at = found_at (row_passes all (row_test fault)) (λ row. row.0) (kind_of_row_fault fault) all.rows i h in
     (of_row all fault ∙ at.0, at.1)
@@ -75,6 +80,45 @@ row_found all fault i h =
 pub no_row_found : (all : Draft) (fault : RowFault) → position (row_passes all (row_test fault)) all.rows ≡ None → named all (kind_of_row_fault fault) ≡ None
 no_row_found all fault h =
     of_row all fault ∙ ap (option_map (λ (name : List ℕ). whole_fault (kind_of_row_fault fault) (Some name))) (found_none (row_passes all (row_test fault)) (λ row. row.0) all.rows h)
+
+-- a row with which nothing is wrong
+faultless : (fault : RowFault) (form : RowForm) (b : Number) (r : Option Number) → is_faulty_row form b r ≡ false → row_test fault form b r ≡ false
+faultless fault form b r h =
+    let limits = limits_of form b r in
+    let first = nor (has_infinite_rhs form b r) (is_inexact limits || (is_too_large limits || is_crossed limits)) h in
+    let second = nor (is_inexact limits) (is_too_large limits || is_crossed limits) first.1 in
+    let third = nor (is_too_large limits) (is_crossed limits) second.1 in
+    by fault first.0 second.0 third.0 third.1
+  where
+    by : (f : RowFault) → has_infinite_rhs form b r ≡ false → is_inexact (limits_of form b r) ≡ false → is_too_large (limits_of form b r) ≡ false
+        → is_crossed (limits_of form b r) ≡ false → row_test f form b r ≡ false
+    by rows.InfiniteLimit i e t x = i
+    by rows.RangeInexact i e t x = e
+    by rows.LimitTooLarge i e t x = t
+    by rows.LimitsCrossed i e t x = x
+
+-- where nothing passes a test, nothing passes one that is harder to pass
+none_passing : {X : Type 0} (easy hard : X → Bool) → ((x : X) → easy x ≡ false → hard x ≡ false) → (xs : List X) → list_any easy xs ≡ false → position_or_len hard xs ≡ length xs
+none_passing easy hard f [] h = refl
+none_passing easy hard f (x ∷ xs) h =
+    let both = nor (easy x) (list_any easy xs) h in
+    let rest : position_or_len hard xs ≡ length xs = none_passing easy hard f xs both.1 in
+    ap (λ (b : Bool). cond (not b) (1 + position_or_len hard xs) 0) (f x both.0) ∙ omega (arith, rest)
+
+nowhere : {X : Type 0} (easy hard : X → Bool) → ((x : X) → easy x ≡ false → hard x ≡ false) → (xs : List X) → list_any easy xs ≡ false → position hard xs ≡ None
+nowhere easy hard f xs h = by (position_or_len hard xs) (length xs) (none_passing easy hard f xs h)
+  where
+    by : (n len : ℕ) → n ≡ len → cond (nat_lt n len) (Some n) None ≡ None
+    by n len e = let t : nat_lt n len ≡ false = grind (arith, nat_tests, e) in ap (λ (b : Bool). cond b (Some n) None) t
+
+-- no row is faulty, so no fault of a row is there
+pub no_faulty_row : (all : Draft) (faults : List RowFault) → list_any (row_passes all is_faulty_row) all.rows ≡ false
+    → head_of (filter_map (λ fault. named all (kind_of_row_fault fault)) faults) ≡ None
+no_faulty_row all [] h = refl
+no_faulty_row all (fault ∷ faults) h =
+    ap (λ (o : Option Fault). head_of (cons_option o (filter_map (λ fault. named all (kind_of_row_fault fault)) faults)))
+    (no_row_found all fault (nowhere (row_passes all is_faulty_row) (row_passes all (row_test fault)) (λ row. faultless fault row.1 _ _) all.rows h))
+    ∙ no_faulty_row all faults h
 
 -- ---- columns
 
@@ -99,7 +143,7 @@ columns_suffice all columns.BoundsCrossed = refl
 columns_suffice all columns.BinaryBounds = refl
 
 pub column_found : (all : Draft) (fault : ColumnFault) (j : ℕ) → position (λ column. column_test fault all column.0) all.columns ≡ Some j
-    → (named all (kind_of_column_fault fault) ≡ Some (told all (found.Column fault j))) × IsThere all (found.Column fault j)
+    → (named all (kind_of_column_fault fault) ≡ Some (fault_found all (found.Column fault j))) × IsThere all (found.Column fault j)
 column_found all fault j h =
     let at = found_at (λ column. column_test fault all column.0) (λ column. column.0) (kind_of_column_fault fault) all.columns j h in
     (of_column all fault ∙ at.0, at.1)

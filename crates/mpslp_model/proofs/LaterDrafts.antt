@@ -7,7 +7,7 @@ use Rattle.std.specs.FinMap.{put}
 use Rattle.std.specs.Cmp.Lexicographic.{nat_list_eq_equiv}
 use Rattle.mpslp_model.specs.Name.{same_bytes}
 use Rattle.mpslp_model.specs.Model.{bytes_cmp}
-use Rattle.mpslp_model.specs.Declaration.{RowForm, Declaration, declare_sense, declare_objective, declare_constant, declare_row, declare_right_side, declare_range, declare_column, declare_coefficient, declare_lower, declare_upper, declare_marked, declare_integer, declare_binary, Declarations, Draft, adding, adding_all, at_name, has_name, has_row, has_column, is_objective}
+use Rattle.mpslp_model.specs.Declaration.{RowForm, Declaration, declare_sense, declare_objective, declare_constant, declare_row, declare_rhs, declare_range, declare_column, declare_coefficient, declare_lower, declare_upper, declare_marked, declare_integer, declare_binary, Declarations, Draft, adding, adding_all, at_name, has_name, has_row, has_column, is_objective}
 use Rattle.mpslp_model.specs.Consistency.{slots_of, is_known}
 use Rattle.mpslp_model.proofs.BoolLemmas.{both_so, or_left, or_right, not_so}
 use Rattle.mpslp_model.proofs.SlotLemmas.{at-put, has-put, are_fresh, are_fresh_in_turn, same_name}
@@ -18,7 +18,7 @@ use Rattle.mpslp_model.proofs.SlotLemmas.{at-put, has-put, are_fresh, are_fresh_
 pub record Extends (before after : Draft) : Type 0 where
   pub objective : (name : List ℕ) → before.objective ≡ Some name → after.objective ≡ Some name
   pub constant : is_some before.constant ≡ true → is_some after.constant ≡ true
-  pub right_side : (name : List ℕ) → has_name before.right_sides name ≡ true → has_name after.right_sides name ≡ true
+  pub right_side : (name : List ℕ) → has_name before.rhs_values name ≡ true → has_name after.rhs_values name ≡ true
   pub row : (name : List ℕ) (form : RowForm) → at_name before.rows name ≡ Some form → at_name after.rows name ≡ Some form
   pub column : (name : List ℕ) → has_column before name ≡ true → has_column after name ≡ true
 
@@ -67,7 +67,7 @@ extends-adding all (declare_row name form) h = record {
   row = λ q was e. at-put q name form all.rows ∙ kept_row (same_bytes q name) form (at_name all.rows q) was (λ same found. is_new_row all name q was _ h same found) e;
   column = λ _ h. h;
 }
-extends-adding all (declare_right_side row v) h = record { objective = λ _ h. h; constant = λ h. h; right_side = λ q e. more_entries q row v all.right_sides e; row = λ _ _ h. h; column = λ _ h. h }
+extends-adding all (declare_rhs row v) h = record { objective = λ _ h. h; constant = λ h. h; right_side = λ q e. more_entries q row v all.rhs_values e; row = λ _ _ h. h; column = λ _ h. h }
 extends-adding all (declare_column name) h = record { objective = λ _ h. h; constant = λ h. h; right_side = λ _ h. h; row = λ _ _ h. h; column = λ q e. more_entries q name tt all.columns e }
 extends-adding all _ h = record { objective = λ _ h. h; constant = λ h. h; right_side = λ _ h. h; row = λ _ _ h. h; column = λ _ h. h }
 
@@ -103,7 +103,7 @@ has_row-after before after q e h =
     ] refl h
 
 pub known-after : (before after : Draft) (d : Declaration) → Extends before after → is_known before d ≡ true → is_known after d ≡ true
-known-after before after (declare_right_side row v) e h = has_row-after before after row e h
+known-after before after (declare_rhs row v) e h = has_row-after before after row e h
 known-after before after (declare_range row v) e h = has_row-after before after row e h
 known-after before after (declare_coefficient place v) e h =
     both_so (has_row after place.row) (has_column after place.column)

@@ -1,4 +1,4 @@
-pub mod PutPlaceLemmas
+pub mod PutKeyLemmas
 pub mod SearchLemmas
 pub mod ViewLemmas
 pub mod ColumnLemmas

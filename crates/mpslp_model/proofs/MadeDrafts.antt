@@ -8,10 +8,11 @@ use Rattle.std.proofs.lemmas.List.{append-nil, append_assoc}
 use Rattle.std.proofs.lemmas.List.Folds.{list_all-append}
 use Rattle.mpslp_decimal.specs.Decimal.{Number, is_decimal}
 use Rattle.mpslp_model.specs.Model.{LinearModel}
-use Rattle.mpslp_model.specs.Declaration.{Declaration, declare_objective, declare_right_side, declare_lower, declare_upper, Declarations, Draft, empty_draft, adding, adding_all, draft_of, has_name, has_column, is_free_row, right_side_declared, bounds_declared}
+use Rattle.mpslp_model.specs.Declaration.{Declaration, declare_objective, declare_rhs, declare_lower, declare_upper, Declarations, Draft, empty_draft, adding, adding_all, draft_of, has_name, has_column, is_free_row, rhs_declared, bounds_declared}
 use Rattle.mpslp_model.specs.Sides.{is_plus_infinite, is_minus_infinite}
 use Rattle.mpslp_model.specs.Consistency.{has_objective, AreConsistent}
-use Rattle.mpslp_model.specs.Refusal.{those_of, refusals, refusals_in_turn, bounds_refusals}
+use Rattle.mpslp_model.specs.Lists.{those_of}
+use Rattle.mpslp_model.specs.Refusal.{refusals, refusals_in_turn, bounds_refusals}
 use Rattle.mpslp_model.specs.Made.{is_given, is_legal, IsMade}
 use Rattle.mpslp_model.specs.Meaning.{model_of, file_fault, DraftMeans}
 use Rattle.mpslp_model.specs.declared.kinds.Limit.{Limit}
@@ -61,12 +62,12 @@ pub made-adding : (all : Draft) (d : Declaration) → IsMade all → is_legal d 
 made-adding all d made legal unrefused = made-adding_all all (d ∷ []) made (both_so (is_legal d) true legal refl) (append-nil (refusals all d) ∙ unrefused)
 
 -- a right side, which of a row of type N declares nothing
-pub made-right_side : (all : Draft) (row : List ℕ) (value : Number) → IsMade all → is_decimal value ≡ true → refusals all (declare_right_side row value) ≡ []
-    → IsMade (adding_all all (right_side_declared all row value))
+pub made-right_side : (all : Draft) (row : List ℕ) (value : Number) → IsMade all → is_decimal value ≡ true → refusals all (declare_rhs row value) ≡ []
+    → IsMade (adding_all all (rhs_declared all row value))
 made-right_side all row value made legal unrefused =
-    elim (is_free_row all row) as (λ (free : Bool). IsMade (adding_all all (cond free [] (declare_right_side row value ∷ [])))) [
+    elim (is_free_row all row) as (λ (free : Bool). IsMade (adding_all all (cond free [] (declare_rhs row value ∷ [])))) [
       | true ↦ made
-      | false ↦ made-adding all (declare_right_side row value) made legal unrefused
+      | false ↦ made-adding all (declare_rhs row value) made legal unrefused
     ]
 
 -- the tests of a bound

@@ -12,14 +12,14 @@ use Rattle.std.specs.FinMap.{find, is_sorted}
 use Rattle.std.specs.FinMap.Entries.{below_all}
 use Rattle.mpslp_decimal.specs.Decimal.{Number, zero_number, is_decimal, is_zero, negated}
 use Rattle.mpslp_model.specs.Name.{same_bytes, is_mps_name, is_one_of}
-use Rattle.mpslp_model.specs.Model.{LinearModel, Row, Column, Place, bytes_cmp, place_cmp, are_sides, is_at_most, is_lower_side, is_upper_side, has_bounded_distance, is_bounded_decimal, is_sound_row, is_sound_column, is_sound_coefficient}
+use Rattle.mpslp_model.specs.Model.{LinearModel, Row, Column, CoefficientKey, bytes_cmp, key_cmp, are_sides, is_at_most, is_lower_side, is_upper_side, has_bounded_distance, is_bounded_decimal, is_sound_row, is_sound_column, is_sound_coefficient}
 use Rattle.mpslp_model.specs.Declaration.{RowForm, by_type, by_limits, Declarations, Draft, draft_of, at_name, has_name, has_row, has_column, names_in}
 use Rattle.mpslp_model.specs.Sides.{have_infinite_side, is_plus_infinite, is_minus_infinite}
-use Rattle.mpslp_model.specs.Limits.{limits_of, plain_limits, has_infinite_right_side, is_inexact, is_too_large, is_crossed}
+use Rattle.mpslp_model.specs.Limits.{limits_of, plain_limits, has_infinite_rhs, is_inexact, is_too_large, is_crossed}
 use Rattle.mpslp_model.specs.Bounds.{zero_limit, one_limit, lower_bound, upper_bound, has_no_side, column_of, has_crossed_bounds}
 use Rattle.mpslp_model.specs.Made.{is_given, are_given, is_legal}
-use Rattle.mpslp_model.specs.Refusal.{is_nonempty}
-use Rattle.mpslp_model.specs.Meaning.{right_side_or_zero, row_limits, row_entry, model_of, objective_name, file_fault, DraftMeans, Means}
+use Rattle.mpslp_model.specs.Lists.{is_nonempty}
+use Rattle.mpslp_model.specs.Meaning.{rhs_or_zero, row_limits, row_entry, model_of, objective_name, file_fault, DraftMeans, Means}
 use Rattle.mpslp_model.specs.Consistency.{AreConsistent}
 use Rattle.mpslp_model.specs.declared.kinds.Limit.{Limit}
 use Rattle.mpslp_model.specs.declared.kinds.Limit.TheVariants.{MinusInf, Finite, PlusInf}
@@ -79,21 +79,21 @@ t_both : (a b : Bool) → T a → T b → T (a && b)
 t_both true b h k = k
 t_both false b h k = h
 
-below-filtered : {X : Type 0} (p : Place × X → Bool) (x : Place) (es : List (Place × X)) → T (below_all place_cmp x es) → T (below_all place_cmp x (filter p es))
+below-filtered : {X : Type 0} (p : CoefficientKey × X → Bool) (x : CoefficientKey) (es : List (CoefficientKey × X)) → T (below_all key_cmp x es) → T (below_all key_cmp x (filter p es))
 below-filtered p x [] h = tt
 below-filtered {X} p x (e ∷ es) h =
-    let rest = below-filtered p x es (t_second (is_lt (place_cmp x e.0)) (below_all place_cmp x es) h) in
-    elim (p e) as (λ b. T (below_all place_cmp x (cond b (e ∷ filter p es) (filter p es)))) [
-      | true ↦ t_both (is_lt (place_cmp x e.0)) (below_all place_cmp x (filter p es)) (t_first (is_lt (place_cmp x e.0)) (below_all place_cmp x es) h) rest
+    let rest = below-filtered p x es (t_second (is_lt (key_cmp x e.0)) (below_all key_cmp x es) h) in
+    elim (p e) as (λ b. T (below_all key_cmp x (cond b (e ∷ filter p es) (filter p es)))) [
+      | true ↦ t_both (is_lt (key_cmp x e.0)) (below_all key_cmp x (filter p es)) (t_first (is_lt (key_cmp x e.0)) (below_all key_cmp x es) h) rest
       | false ↦ rest
     ]
 
-pub sorted-filtered : {X : Type 0} (p : Place × X → Bool) (es : List (Place × X)) → T (is_sorted place_cmp es) → T (is_sorted place_cmp (filter p es))
+pub sorted-filtered : {X : Type 0} (p : CoefficientKey × X → Bool) (es : List (CoefficientKey × X)) → T (is_sorted key_cmp es) → T (is_sorted key_cmp (filter p es))
 sorted-filtered p [] h = tt
 sorted-filtered {X} p (e ∷ es) h =
-    let rest = sorted-filtered p es (t_second (below_all place_cmp e.0 es) (is_sorted place_cmp es) h) in
-    elim (p e) as (λ b. T (is_sorted place_cmp (cond b (e ∷ filter p es) (filter p es)))) [
-      | true ↦ t_both (below_all place_cmp e.0 (filter p es)) (is_sorted place_cmp (filter p es)) (below-filtered p e.0 es (t_first (below_all place_cmp e.0 es) (is_sorted place_cmp es) h)) rest
+    let rest = sorted-filtered p es (t_second (below_all key_cmp e.0 es) (is_sorted key_cmp es) h) in
+    elim (p e) as (λ b. T (is_sorted key_cmp (cond b (e ∷ filter p es) (filter p es)))) [
+      | true ↦ t_both (below_all key_cmp e.0 (filter p es)) (is_sorted key_cmp (filter p es)) (below-filtered p e.0 es (t_first (below_all key_cmp e.0 es) (is_sorted key_cmp es) h)) rest
       | false ↦ rest
     ]
 
@@ -140,14 +140,14 @@ some_limits limits s = ap is_some s.is
 
 abbrev row_tests : Draft → List ℕ × RowForm → Bool
 row_tests all row =
-    let b = right_side_or_zero all row.0 in
+    let b = rhs_or_zero all row.0 in
     let r = at_name all.ranges row.0 in
     (is_mps_name row.0 && (are_given row.1 && not (have_infinite_side row.1)))
-    && (not (has_infinite_right_side row.1 b r) && (not (is_inexact (limits_of row.1 b r)) && (not (is_too_large (limits_of row.1 b r)) && not (is_crossed (limits_of row.1 b r)))))
+    && (not (has_infinite_rhs row.1 b r) && (not (is_inexact (limits_of row.1 b r)) && (not (is_too_large (limits_of row.1 b r)) && not (is_crossed (limits_of row.1 b r)))))
 
-sound_row : (all : Draft) (row : List ℕ × RowForm) → list_all (λ e. is_decimal e.1) all.right_sides ≡ true → row_tests all row ≡ true → IsSoundForm (row_limits all row)
+sound_row : (all : Draft) (row : List ℕ × RowForm) → list_all (λ e. is_decimal e.1) all.rhs_values ≡ true → row_tests all row ≡ true → IsSoundForm (row_limits all row)
 sound_row all row sides h =
-    let b = right_side_or_zero all row.0 in
+    let b = rhs_or_zero all row.0 in
     let r = at_name all.ranges row.0 in
     let limits = limits_of row.1 b r in
     let legal = are_given row.1 && not (have_infinite_side row.1) in
@@ -155,18 +155,18 @@ sound_row all row sides h =
     let t4 = not (is_crossed limits) in
     let t3 = not (is_too_large limits) in
     let t2 = not (is_inexact limits) in
-    let t1 = not (has_infinite_right_side row.1 b r) in
+    let t1 = not (has_infinite_rhs row.1 b r) in
     let h1 = second_so a1 (t1 && (t2 && (t3 && t4))) h in
     let h2 = second_so t1 (t2 && (t3 && t4)) h1 in
     let h3 = second_so t2 (t3 && t4) h2 in
     sound-from_no_fault row.1 b r (form-legal row.1 (second_so (is_mps_name row.0) legal (first_so a1 (t1 && (t2 && (t3 && t4))) h)))
-    (or_zero (at_name all.right_sides row.0) (found_all is_decimal row.0 all.right_sides sides))
-    (not_so (has_infinite_right_side row.1 b r) (first_so t1 (t2 && (t3 && t4)) h1)) (not_so (is_inexact limits) (first_so t2 (t3 && t4) h2))
+    (or_zero (at_name all.rhs_values row.0) (found_all is_decimal row.0 all.rhs_values sides))
+    (not_so (has_infinite_rhs row.1 b r) (first_so t1 (t2 && (t3 && t4)) h1)) (not_so (is_inexact limits) (first_so t2 (t3 && t4) h2))
     (not_so (is_too_large limits) (first_so t3 t4 h3)) (not_so (is_crossed limits) (second_so t3 t4 h3))
 
 rows_pass : (all : Draft) → IsGood all all → HasNoFault all → list_all (row_tests all) all.rows ≡ true
 rows_pass all g f =
-    and_all _ _ all.rows g.rows (and_all _ _ all.rows f.right_sides (and_all _ _ all.rows f.exact (and_all _ _ all.rows f.small f.straight)))
+    and_all _ _ all.rows g.rows (and_all _ _ all.rows f.rhs_values (and_all _ _ all.rows f.exact (and_all _ _ all.rows f.small f.straight)))
 
 -- ---- columns
 
@@ -221,21 +221,21 @@ meant-from_no_fault all w none =
     let rows_are : maps.entries m.rows ≡ map (row_entry all) all.rows = maps.entries-from_sorted bytes_cmp (map (row_entry all) all.rows) (subst T (sym (sorted-mapped row_values all.rows)) g.rows_sorted) in
     let columns_are : maps.entries m.columns ≡ map (λ column. (column.0, column_of all column.0)) all.columns =
     maps.entries-from_sorted bytes_cmp (map (λ column. (column.0, column_of all column.0)) all.columns) (subst T (sym (sorted-mapped column_values all.columns)) g.columns_sorted) in
-    let is_kept : Place × Number → Bool = λ entry. not (is_zero entry.1) in
-    let kept_are : maps.entries m.coefficients ≡ filter is_kept all.coefficients = maps.entries-from_sorted place_cmp (filter is_kept all.coefficients) (sorted-filtered is_kept all.coefficients g.coefficients_sorted) in
+    let is_kept : CoefficientKey × Number → Bool = λ entry. not (is_zero entry.1) in
+    let kept_are : maps.entries m.coefficients ≡ filter is_kept all.coefficients = maps.entries-from_sorted key_cmp (filter is_kept all.coefficients) (sorted-filtered is_kept all.coefficients g.coefficients_sorted) in
     let row_names : maps.keys m.rows ≡ names_in all.rows = ap names_in rows_are ∙ names-mapped row_values all.rows in
     let column_names : maps.keys m.columns ≡ names_in all.columns = ap names_in columns_are ∙ names-mapped column_values all.columns in
     record {
-      finite_right_sides = f.right_sides;
-      exact_limits = imp_all (row_tests all) (λ row. is_some (row_limits all row)) all.rows (λ row h. some_limits (row_limits all row) (sound_row all row g.right_sides h)) rows;
+      finite_rhs_values = f.rhs_values;
+      exact_limits = imp_all (row_tests all) (λ row. is_some (row_limits all row)) all.rows (λ row h. some_limits (row_limits all row) (sound_row all row g.rhs_values h)) rows;
       model = refl;
       sound = record {
         objective = legal_objective all.objective w.named g.objective;
         objective_is_no_row = ap (λ (names : List (List ℕ)). is_one_of names (objective_name all)) row_names ∙ one_of-names (objective_name all) all.rows ∙ w.apart (objective_name all) (named_objective all.objective w.named);
-        constant = legal_constant all.constant (unwrap_or (at_name all.right_sides (objective_name all)) zero_number) g.constant (or_zero (at_name all.right_sides (objective_name all)) (found_all is_decimal (objective_name all) all.right_sides g.right_sides));
+        constant = legal_constant all.constant (unwrap_or (at_name all.rhs_values (objective_name all)) zero_number) g.constant (or_zero (at_name all.rhs_values (objective_name all)) (found_all is_decimal (objective_name all) all.rhs_values g.rhs_values));
         has_column = subst (λ (names : List (List ℕ)). 0 < length names) (sym column_names) (some_columns (λ (e : List ℕ × Unit {0}). e.0) all.columns f.column);
         rows = ap (list_all is_sound_row) rows_are ∙ sym (map_all (row_entry all) is_sound_row all.rows)
-            ∙ imp_all (row_tests all) (λ row. is_sound_row (row_entry all row)) all.rows (λ row h. sound_entry row.0 (row_limits all row) (name_of all row h) (sound_row all row g.right_sides h)) rows;
+            ∙ imp_all (row_tests all) (λ row. is_sound_row (row_entry all row)) all.rows (λ row h. sound_entry row.0 (row_limits all row) (name_of all row h) (sound_row all row g.rhs_values h)) rows;
         columns = ap (list_all is_sound_column) columns_are ∙ sym (map_all (λ (column : List ℕ × Unit {0}). (column.0, column_of all column.0)) is_sound_column all.columns)
             ∙ imp_all (λ column. is_mps_name column.0 && not (has_crossed_bounds all column.0)) (λ column. is_sound_column (column.0, column_of all column.0)) all.columns
             (λ column h. sound_column all column.0 g (first_so (is_mps_name column.0) (not (has_crossed_bounds all column.0)) h) (second_so (is_mps_name column.0) (not (has_crossed_bounds all column.0)) h))
@@ -251,7 +251,7 @@ meant-from_no_fault all w none =
     name_of : (all : Draft) (row : List ℕ × RowForm) → row_tests all row ≡ true → is_mps_name row.0 ≡ true
     name_of all row h = first_so (is_mps_name row.0) _ (first_so (is_mps_name row.0 && (are_given row.1 && not (have_infinite_side row.1))) _ h)
 
-    sound_coefficient : (all : Draft) (m : LinearModel) (e : Place × Number) → maps.keys m.rows ≡ names_in all.rows → maps.keys m.columns ≡ names_in all.columns → m.objective ≡ objective_name all
+    sound_coefficient : (all : Draft) (m : LinearModel) (e : CoefficientKey × Number) → maps.keys m.rows ≡ names_in all.rows → maps.keys m.columns ≡ names_in all.columns → m.objective ≡ objective_name all
         → ((is_decimal e.1 && (has_row all e.0.row && has_column all e.0.column)) && not (is_zero e.1)) ≡ true → is_sound_coefficient m e ≡ true
     sound_coefficient all m e rows columns objective h =
         let place = e.0 in

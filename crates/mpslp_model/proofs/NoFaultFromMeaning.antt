@@ -10,11 +10,11 @@ use Rattle.mpslp_decimal.specs.Decimal.{Number, zero_number, is_decimal, is_nega
 use Rattle.mpslp_model.specs.Name.{is_mps_name}
 use Rattle.mpslp_model.specs.Model.{LinearModel, Row, Column, bytes_cmp, IsSound, are_sides, is_at_most, is_lower_side, is_upper_side, has_bounded_distance, is_bounded_decimal, is_sound_row, is_sound_column, limit_of}
 use Rattle.mpslp_model.specs.Declaration.{RowForm, by_type, by_limits, Declarations, Draft, draft_of, at_name, names_in}
-use Rattle.mpslp_model.specs.Limits.{sides, plain_limits, limits_of, has_infinite_right_side, is_inexact, is_too_large, is_large_limit, is_crossed}
+use Rattle.mpslp_model.specs.Limits.{sides, plain_limits, limits_of, has_infinite_rhs, is_inexact, is_too_large, is_large_limit, is_crossed}
 use Rattle.mpslp_model.specs.Bounds.{lower_bound, upper_bound, column_of, has_crossed_bounds}
 use Rattle.mpslp_model.specs.Made.{is_legal}
-use Rattle.mpslp_model.specs.Refusal.{is_nonempty}
-use Rattle.mpslp_model.specs.Meaning.{right_side_or_zero, row_limits, row_entry, model_of, file_fault, DraftMeans, Means}
+use Rattle.mpslp_model.specs.Lists.{is_nonempty}
+use Rattle.mpslp_model.specs.Meaning.{rhs_or_zero, row_limits, row_entry, model_of, file_fault, DraftMeans, Means}
 use Rattle.mpslp_model.specs.declared.kinds.Limit.{Limit}
 use Rattle.mpslp_model.specs.declared.kinds.Limit.TheVariants.{MinusInf, Finite, PlusInf}
 use Rattle.mpslp_model.specs.declared.kinds.RowType.TheVariants.{Free, AtMost, AtLeast, Equal}
@@ -67,7 +67,7 @@ finite_below : (o : Option Number) (b : Number) → sides_hold (sides (Some b) o
 finite_below None b h = cc
 finite_below (Some a) b h = finite_size b (lower_of (Finite b) (Finite a) h)
 
-no_infinite_side : (form : RowForm) (b : Number) (r : Option Number) → sides_hold (limits_of form b r) ≡ true → has_infinite_right_side form b r ≡ false
+no_infinite_side : (form : RowForm) (b : Number) (r : Option Number) → sides_hold (limits_of form b r) ≡ true → has_infinite_rhs form b r ≡ false
 no_infinite_side (by_limits l u) b r h = refl
 no_infinite_side (by_type Free) b r h = refl
 no_infinite_side (by_type AtMost) b None h = no_inf_upper (is_infinite_size b) (is_negative b) b (upper_of MinusInf (limit_of b) h)
@@ -111,7 +111,7 @@ near PlusInf u h k d = absurd cc
 
 -- a row that has no fault
 pub record PassesTests (form : RowForm) (b : Number) (r : Option Number) : Type 0 where
-  pub finite : not (has_infinite_right_side form b r) ≡ true
+  pub finite : not (has_infinite_rhs form b r) ≡ true
   pub exact : not (is_inexact (limits_of form b r)) ≡ true
   pub small : not (is_too_large (limits_of form b r)) ≡ true
   pub straight : not (is_crossed (limits_of form b r)) ≡ true
@@ -123,15 +123,15 @@ tests_of form b r name (Some row) is there h =
     let s = first_so (are_sides row.lower row.upper) (has_bounded_distance row.lower row.upper) rest in
     let n = near row.lower row.upper (lower_of row.lower row.upper s) (upper_of row.lower row.upper s) (second_so (are_sides row.lower row.upper) (has_bounded_distance row.lower row.upper) rest) in
     record {
-      finite = so_not (has_infinite_right_side form b r) (no_infinite_side form b r (ap sides_hold is ∙ s));
+      finite = so_not (has_infinite_rhs form b r) (no_infinite_side form b r (ap sides_hold is ∙ s));
       exact = so_not (is_inexact (limits_of form b r)) (ap is_inexact is ∙ n.0);
       small = so_not (is_too_large (limits_of form b r)) (ap is_too_large is ∙ n.1);
       straight = so_not (is_crossed (limits_of form b r)) (ap is_crossed is ∙ ap not (straight_of row.lower row.upper s));
     }
 
-row_tested : (all : Draft) (row : List ℕ × RowForm) → (is_sound_row (row_entry all row) && is_some (row_limits all row)) ≡ true → PassesTests row.1 (right_side_or_zero all row.0) (at_name all.ranges row.0)
+row_tested : (all : Draft) (row : List ℕ × RowForm) → (is_sound_row (row_entry all row) && is_some (row_limits all row)) ≡ true → PassesTests row.1 (rhs_or_zero all row.0) (at_name all.ranges row.0)
 row_tested all row h =
-    tests_of row.1 (right_side_or_zero all row.0) (at_name all.ranges row.0) row.0 (row_limits all row) refl
+    tests_of row.1 (rhs_or_zero all row.0) (at_name all.ranges row.0) row.0 (row_limits all row) refl
     (second_so (is_sound_row (row_entry all row)) (is_some (row_limits all row)) h) (first_so (is_sound_row (row_entry all row)) (is_some (row_limits all row)) h)
 
 not_not : (b : Bool) → b ≡ true → not (not b) ≡ true
@@ -166,10 +166,10 @@ no_fault-from_meant all m w meant =
     let tested : List ℕ × RowForm → Bool = λ row. is_sound_row (row_entry all row) && is_some (row_limits all row) in
     none-from_no_fault all (record {
       column = has_columns (λ (e : List ℕ × Unit {0}). e.0) all.columns (subst (λ (names : List (List ℕ)). 0 < length names) column_names sound.has_column);
-      right_sides = meant.finite_right_sides;
-      exact = imp_all tested (λ row. not (is_inexact (limits_of row.1 (right_side_or_zero all row.0) (at_name all.ranges row.0)))) all.rows (λ row h. let p = row_tested all row h in p.exact) rows;
-      small = imp_all tested (λ row. not (is_too_large (limits_of row.1 (right_side_or_zero all row.0) (at_name all.ranges row.0)))) all.rows (λ row h. let p = row_tested all row h in p.small) rows;
-      straight = imp_all tested (λ row. not (is_crossed (limits_of row.1 (right_side_or_zero all row.0) (at_name all.ranges row.0)))) all.rows (λ row h. let p = row_tested all row h in p.straight) rows;
+      rhs_values = meant.finite_rhs_values;
+      exact = imp_all tested (λ row. not (is_inexact (limits_of row.1 (rhs_or_zero all row.0) (at_name all.ranges row.0)))) all.rows (λ row h. let p = row_tested all row h in p.exact) rows;
+      small = imp_all tested (λ row. not (is_too_large (limits_of row.1 (rhs_or_zero all row.0) (at_name all.ranges row.0)))) all.rows (λ row h. let p = row_tested all row h in p.small) rows;
+      straight = imp_all tested (λ row. not (is_crossed (limits_of row.1 (rhs_or_zero all row.0) (at_name all.ranges row.0)))) all.rows (λ row h. let p = row_tested all row h in p.straight) rows;
       no_negative_upper = meant.no_negative_upper;
       bounds = sym (map_all (λ (e : List ℕ × Unit {0}). e.0) (λ name. not (has_crossed_bounds all name)) all.columns)
           ∙ imp_all (λ column. is_sound_column (column.0, column_of all column.0)) (λ column. not (has_crossed_bounds all column.0)) all.columns (λ column h. column_straight all column.0 h)

@@ -7,12 +7,13 @@ use Rattle.std.specs.Cmp.Lexicographic.{texts_ties, nat_list_cmp_total, nat_list
 use Rattle.std.specs.FinMap.{put}
 use Rattle.std.proofs.lemmas.List.Folds.{list_all-append}
 use Rattle.mpslp_model.specs.Name.{same_bytes}
-use Rattle.mpslp_model.specs.Model.{LinearModel, Place, bytes_cmp, place_cmp, place_total}
-use Rattle.mpslp_model.specs.Declaration.{RowForm, Declaration, declare_sense, declare_objective, declare_constant, declare_row, declare_right_side, declare_range, declare_column, declare_coefficient, declare_lower, declare_upper, declare_marked, declare_integer, declare_binary, Declarations, Draft, empty_draft, adding, adding_all, draft_of, is_limits_form}
-use Rattle.mpslp_model.specs.Consistency.{Slot, sense_slot, objective_slot, constant_slot, row_slot, right_side_slot, range_slot, coefficient_slot, lower_slot, upper_slot, same_slot, slots_of, all_slots, are_distinct, declares_objective, is_known, is_allowed, has_one_constant, AreConsistent}
+use Rattle.mpslp_model.specs.Model.{LinearModel, CoefficientKey, bytes_cmp, key_cmp, key_total}
+use Rattle.mpslp_model.specs.Declaration.{RowForm, Declaration, declare_sense, declare_objective, declare_constant, declare_row, declare_rhs, declare_range, declare_column, declare_coefficient, declare_lower, declare_upper, declare_marked, declare_integer, declare_binary, Declarations, Draft, empty_draft, adding, adding_all, draft_of, is_limits_form}
+use Rattle.mpslp_model.specs.Lists.{are_distinct}
+use Rattle.mpslp_model.specs.Consistency.{Slot, sense_slot, objective_slot, constant_slot, row_slot, rhs_slot, range_slot, coefficient_slot, lower_slot, upper_slot, same_slot, slots_of, all_slots, declares_objective, is_known, is_allowed, has_one_constant, AreConsistent}
 use Rattle.mpslp_model.specs.Meaning.{DraftMeans, Means}
 use Rattle.mpslp_model.proofs.BoolLemmas.{all_true, not_so, nor}
-use Rattle.mpslp_model.proofs.SlotLemmas.{are_apart, apart-cons, are_distinct-append, place_ties, same_name}
+use Rattle.mpslp_model.proofs.SlotLemmas.{are_apart, apart-cons, are_distinct-append, key_ties, same_name}
 use Rattle.mpslp_model.proofs.PutOrderLemmas.{put-put}
 use Rattle.mpslp_model.proofs.PermutationLemmas.{along_permutation}
 
@@ -30,10 +31,10 @@ units_turn j k es = by (same_bytes k j) refl
     by true is = subst (λ (n : List ℕ). put bytes_cmp k tt (put bytes_cmp n tt es) ≡ put bytes_cmp n tt (put bytes_cmp k tt es)) (same_name k j is) refl
     by false is = names_turn j k tt tt es is
 
-places_turn : {X : Type 0} (j k : Place) (w v : X) (es : List (Place × X)) → (same_bytes k.row j.row && same_bytes k.column j.column) ≡ false
-    → put place_cmp k v (put place_cmp j w es) ≡ put place_cmp j w (put place_cmp k v es)
-places_turn j k w v es apart =
-    sym (put-put place_cmp place_total k j v w es (sym (place_ties k j) ∙ apart))
+keys_turn : {X : Type 0} (j k : CoefficientKey) (w v : X) (es : List (CoefficientKey × X)) → (same_bytes k.row j.row && same_bytes k.column j.column) ≡ false
+    → put key_cmp k v (put key_cmp j w es) ≡ put key_cmp j w (put key_cmp k v es)
+keys_turn j k w v es apart =
+    sym (put-put key_cmp key_total k j v w es (sym (key_ties k j) ∙ apart))
 
 -- ---- two declarations
 
@@ -43,7 +44,7 @@ heads_apart a b more others h =
     (nor (same_slot b a) (list_any (same_slot b) more) (not_so filled (first_so (not filled) (are_apart (a ∷ more) others) h))).0
 
 abbrev limit_slots : List ℕ → RowForm → List Slot
-limit_slots name form = if is_limits_form form then right_side_slot name ∷ range_slot name ∷ [] else []
+limit_slots name form = if is_limits_form form then rhs_slot name ∷ range_slot name ∷ [] else []
 
 -- Two declarations that fill no slot both make the same draft in either order.
 pub adding-adding : (all : Draft) (x y : Declaration) → are_apart (slots_of x) (slots_of y) ≡ true → adding (adding all x) y ≡ adding (adding all y) x
@@ -52,13 +53,13 @@ adding-adding all (declare_objective a) (declare_objective b) h = absurd cc
 adding-adding all (declare_constant a) (declare_constant b) h = absurd cc
 adding-adding all (declare_row j w) (declare_row k v) h =
     ap (λ (rows : List (List ℕ × RowForm)). record all { rows = rows }) (names_turn j k w v all.rows (heads_apart (row_slot j) (row_slot k) (limit_slots j w) (limit_slots k v) h))
-adding-adding all (declare_right_side j w) (declare_right_side k v) h =
-    ap (λ (sides : List (List ℕ × _)). record all { right_sides = sides }) (names_turn j k w v all.right_sides (heads_apart (right_side_slot j) (right_side_slot k) [] [] h))
+adding-adding all (declare_rhs j w) (declare_rhs k v) h =
+    ap (λ (sides : List (List ℕ × _)). record all { rhs_values = sides }) (names_turn j k w v all.rhs_values (heads_apart (rhs_slot j) (rhs_slot k) [] [] h))
 adding-adding all (declare_range j w) (declare_range k v) h =
     ap (λ (ranges : List (List ℕ × _)). record all { ranges = ranges }) (names_turn j k w v all.ranges (heads_apart (range_slot j) (range_slot k) [] [] h))
 adding-adding all (declare_column j) (declare_column k) h = ap (λ (columns : List (List ℕ × Unit {0})). record all { columns = columns }) (units_turn j k all.columns)
 adding-adding all (declare_coefficient j w) (declare_coefficient k v) h =
-    ap (λ (coefficients : List (Place × _)). record all { coefficients = coefficients }) (places_turn j k w v all.coefficients (heads_apart (coefficient_slot j) (coefficient_slot k) [] [] h))
+    ap (λ (coefficients : List (CoefficientKey × _)). record all { coefficients = coefficients }) (keys_turn j k w v all.coefficients (heads_apart (coefficient_slot j) (coefficient_slot k) [] [] h))
 adding-adding all (declare_lower j w) (declare_lower k v) h =
     ap (λ (lowers : List (List ℕ × _)). record all { lowers = lowers }) (names_turn j k w v all.lowers (heads_apart (lower_slot j) (lower_slot k) [] [] h))
 adding-adding all (declare_upper j w) (declare_upper k v) h =
@@ -72,7 +73,7 @@ adding-adding all _ _ h = refl
 
 same_slot_turn : (a b : Slot) → same_slot a b ≡ same_slot b a
 same_slot_turn (row_slot a) (row_slot b) = nat_list_eq_equiv.symm a b
-same_slot_turn (right_side_slot a) (right_side_slot b) = nat_list_eq_equiv.symm a b
+same_slot_turn (rhs_slot a) (rhs_slot b) = nat_list_eq_equiv.symm a b
 same_slot_turn (range_slot a) (range_slot b) = nat_list_eq_equiv.symm a b
 same_slot_turn (coefficient_slot a) (coefficient_slot b) = λ i. nat_list_eq_equiv.symm a.row b.row i && nat_list_eq_equiv.symm a.column b.column i
 same_slot_turn (lower_slot a) (lower_slot b) = nat_list_eq_equiv.symm a b

@@ -9,10 +9,11 @@ use Rattle.std.specs.Cmp.Lexicographic.{nat_list_eq_equiv}
 use Rattle.mpslp_decimal.specs.Decimal.{Number, is_infinite_size}
 use Rattle.mpslp_model.specs.Name.{same_bytes}
 use Rattle.mpslp_model.specs.Model.{bytes_cmp}
-use Rattle.mpslp_model.specs.Declaration.{RowForm, by_type, by_limits, Declaration, declare_sense, declare_objective, declare_constant, declare_row, declare_right_side, declare_range, declare_column, declare_coefficient, declare_lower, declare_upper, declare_marked, declare_integer, declare_binary, Declarations, Draft, empty_draft, adding, adding_all, at_name, has_name, has_row, has_column, has_entry, is_objective, is_free_form, is_free_row, is_row_by_limits}
+use Rattle.mpslp_model.specs.Declaration.{RowForm, by_type, by_limits, Declaration, declare_sense, declare_objective, declare_constant, declare_row, declare_rhs, declare_range, declare_column, declare_coefficient, declare_lower, declare_upper, declare_marked, declare_integer, declare_binary, Declarations, Draft, empty_draft, adding, adding_all, at_name, has_name, has_row, has_column, has_entry, is_objective, is_free_form, is_free_row, is_row_by_limits}
 use Rattle.mpslp_model.specs.Sides.{is_plus_infinite, is_minus_infinite, have_infinite_side}
-use Rattle.mpslp_model.specs.Consistency.{Slot, sense_slot, right_side_slot, range_slot, slots_of, all_slots, same_slot, are_distinct, is_known, is_allowed, has_objective_side, has_one_constant, has_objective, AreConsistent}
-use Rattle.mpslp_model.specs.Refusal.{has_constant, those_of, refusals, refusals_in_turn}
+use Rattle.mpslp_model.specs.Lists.{are_distinct, those_of}
+use Rattle.mpslp_model.specs.Consistency.{Slot, sense_slot, rhs_slot, range_slot, slots_of, all_slots, same_slot, is_known, is_allowed, has_objective_rhs, has_one_constant, has_objective, AreConsistent}
+use Rattle.mpslp_model.specs.Refusal.{has_constant, refusals, refusals_in_turn}
 use Rattle.mpslp_model.specs.declared.faults.BuildFault.{BuildFault}
 use Rattle.mpslp_model.specs.declared.faults.BuildFault.TheVariants as builds
 use Rattle.mpslp_model.proofs.BoolLemmas.{both_so, or_left, or_right, not_so, so_not, back, nor, both_false}
@@ -24,7 +25,7 @@ use Rattle.mpslp_model.proofs.SlotLemmas.{limits_need_row, has-put, are_fresh, i
 -- The objective's name is no row's, and right sides and ranges are of rows that are declared.
 pub record HasDeclaredNames (all : Draft) : Type 0 where
   pub apart : (name : List ℕ) → is_objective all name ≡ true → has_name all.rows name ≡ false
-  pub right_sides : (name : List ℕ) → has_name all.right_sides name ≡ true → has_row all name ≡ true
+  pub rhs_values : (name : List ℕ) → has_name all.rhs_values name ≡ true → has_row all name ≡ true
   pub ranges : (name : List ℕ) → has_name all.ranges name ≡ true → has_row all name ≡ true
 
 none_there : (o : Option (List ℕ)) (q : List ℕ) (b r rest : Bool) → (not (is_some o) && rest) ≡ true → (option_map_or (same_bytes q) o false || r) ≡ true → (b || r) ≡ true
@@ -43,7 +44,7 @@ declared_names-adding all (declare_objective name) w h k =
     let none : has_row all name ≡ false = not_so (has_row all name) (first_so (not (has_row all name)) true (second_so (not (is_some all.objective)) (not (has_row all name) && true) h)) in
     record {
       apart = λ q same. ap (λ (n : List ℕ). has_name all.rows n) (same_name q name same) ∙ back (has_name all.rows name) (has_row all name) (or_right (is_objective all name) (has_name all.rows name)) none;
-      right_sides = λ q there. none_there all.objective q (same_bytes q name) (has_name all.rows q) (not (has_row all name) && true) h (w.right_sides q there);
+      rhs_values = λ q there. none_there all.objective q (same_bytes q name) (has_name all.rows q) (not (has_row all name) && true) h (w.rhs_values q there);
       ranges = λ q there. none_there all.objective q (same_bytes q name) (has_name all.rows q) (not (has_row all name) && true) h (w.ranges q there);
     }
 declared_names-adding all (declare_row name form) w h k =
@@ -55,12 +56,12 @@ declared_names-adding all (declare_row name form) w h k =
         | true ↦ λ same. absurd (let so : has_row all name ≡ true = or_left (is_objective all name) (has_name all.rows name) (ap (is_objective all) (sym (same_name q name same)) ∙ is) in cc)
         | false ↦ λ _. w.apart q is
       ] refl;
-      right_sides = λ q there. has_row-after all after q grows (w.right_sides q there);
+      rhs_values = λ q there. has_row-after all after q grows (w.rhs_values q there);
       ranges = λ q there. has_row-after all after q grows (w.ranges q there);
     }
-declared_names-adding all (declare_right_side row v) w h k = record { apart = w.apart; right_sides = λ q there. more_named all q row v all.right_sides k (w.right_sides q) there; ranges = w.ranges }
-declared_names-adding all (declare_range row v) w h k = record { apart = w.apart; right_sides = w.right_sides; ranges = λ q there. more_named all q row v all.ranges k (w.ranges q) there }
-declared_names-adding all _ w h k = record { apart = w.apart; right_sides = w.right_sides; ranges = w.ranges }
+declared_names-adding all (declare_rhs row v) w h k = record { apart = w.apart; rhs_values = λ q there. more_named all q row v all.rhs_values k (w.rhs_values q) there; ranges = w.ranges }
+declared_names-adding all (declare_range row v) w h k = record { apart = w.apart; rhs_values = w.rhs_values; ranges = λ q there. more_named all q row v all.ranges k (w.ranges q) there }
+declared_names-adding all _ w h k = record { apart = w.apart; rhs_values = w.rhs_values; ranges = w.ranges }
 
 -- ---- a declaration that is not refused
 
@@ -106,30 +107,30 @@ fine-from_none all (declare_objective name) w h =
     let b = first_none (has_row all name) builds.DuplicateRow [] (rest_none (is_some all.objective) builds.SecondObjective (((has_row all name), builds.DuplicateRow) ∷ []) h) in
     record { fresh = both_so (not (is_some all.objective)) (not (has_row all name) && true) (so_not (is_some all.objective) a) (one_slot (has_row all name) b); known = refl; allowed = refl }
 fine-from_none all (declare_constant v) w h =
-    record { fresh = one_slot (is_some all.constant) (nor (is_some all.constant) (has_objective_side all) (first_none (has_constant all) builds.DuplicateRhs [] h)).0; known = refl; allowed = refl }
+    record { fresh = one_slot (is_some all.constant) (nor (is_some all.constant) (has_objective_rhs all) (first_none (has_constant all) builds.DuplicateRhs [] h)).0; known = refl; allowed = refl }
 fine-from_none all (declare_row name (by_type type)) w h =
     record { fresh = one_slot (has_row all name) (first_none (has_row all name) builds.DuplicateRow [] h); known = refl; allowed = refl }
 fine-from_none all (declare_row name (by_limits l u)) w h =
     let infinite = have_infinite_side (by_limits l u) in
     let none = first_none (has_row all name) builds.DuplicateRow ((infinite, builds.InfiniteValue) ∷ []) h in
-    let sides = back (has_name all.right_sides name) (has_row all name) (w.right_sides name) none in
+    let sides = back (has_name all.rhs_values name) (has_row all name) (w.rhs_values name) none in
     let ranges = back (has_name all.ranges name) (has_row all name) (w.ranges name) none in
     let limits = no_limits all name none in
     record {
-      fresh = both_so (not (has_row all name)) (are_fresh all (right_side_slot name ∷ range_slot name ∷ [])) (so_not (has_row all name) none)
-          (both_so (not (has_name all.right_sides name || is_row_by_limits all name)) (not (has_name all.ranges name || is_row_by_limits all name) && true)
-          (so_not (has_name all.right_sides name || is_row_by_limits all name) (both_false (has_name all.right_sides name) (is_row_by_limits all name) sides limits))
+      fresh = both_so (not (has_row all name)) (are_fresh all (rhs_slot name ∷ range_slot name ∷ [])) (so_not (has_row all name) none)
+          (both_so (not (has_name all.rhs_values name || is_row_by_limits all name)) (not (has_name all.ranges name || is_row_by_limits all name) && true)
+          (so_not (has_name all.rhs_values name || is_row_by_limits all name) (both_false (has_name all.rhs_values name) (is_row_by_limits all name) sides limits))
           (one_slot (has_name all.ranges name || is_row_by_limits all name) (both_false (has_name all.ranges name) (is_row_by_limits all name) ranges limits)));
       known = refl;
       allowed = so_not infinite (first_none infinite builds.InfiniteValue [] (rest_none (has_row all name) builds.DuplicateRow ((infinite, builds.InfiniteValue) ∷ []) h));
     }
-fine-from_none all (declare_right_side row v) w h =
-    let filled = has_name all.right_sides row || (is_row_by_limits all row || (is_objective all row && is_some all.constant)) in
+fine-from_none all (declare_rhs row v) w h =
+    let filled = has_name all.rhs_values row || (is_row_by_limits all row || (is_objective all row && is_some all.constant)) in
     let unknown = first_none (not (has_row all row)) builds.UnknownRow ((filled, builds.DuplicateRhs) ∷ []) h in
-    let a = nor (has_name all.right_sides row) (is_row_by_limits all row || (is_objective all row && is_some all.constant))
+    let a = nor (has_name all.rhs_values row) (is_row_by_limits all row || (is_objective all row && is_some all.constant))
     (first_none filled builds.DuplicateRhs [] (rest_none (not (has_row all row)) builds.UnknownRow ((filled, builds.DuplicateRhs) ∷ []) h)) in
     let b = nor (is_row_by_limits all row) (is_objective all row && is_some all.constant) a.1 in
-    record { fresh = one_slot (has_name all.right_sides row || is_row_by_limits all row) (both_false (has_name all.right_sides row) (is_row_by_limits all row) a.0 b.0); known = is_false (has_row all row) unknown; allowed = refl }
+    record { fresh = one_slot (has_name all.rhs_values row || is_row_by_limits all row) (both_false (has_name all.rhs_values row) (is_row_by_limits all row) a.0 b.0); known = is_false (has_row all row) unknown; allowed = refl }
 fine-from_none all (declare_range row v) w h =
     let filled = has_name all.ranges row || is_row_by_limits all row in
     let free = is_objective all row || is_free_row all row in
@@ -208,12 +209,12 @@ no_side false b h = refl
 
 -- a right side more, of a row that is no objective beside a constant
 side_more : (all : Draft) (row : List ℕ) (v : Number) (o : Option (List ℕ)) → (option_map_or (same_bytes row) o false && is_some all.constant) ≡ false
-    → not (is_some all.constant && option_map_or (has_name all.right_sides) o false) ≡ true
-    → not (is_some all.constant && option_map_or (has_name (put bytes_cmp row v all.right_sides)) o false) ≡ true
+    → not (is_some all.constant && option_map_or (has_name all.rhs_values) o false) ≡ true
+    → not (is_some all.constant && option_map_or (has_name (put bytes_cmp row v all.rhs_values)) o false) ≡ true
 side_more all row v None h one = one
 side_more all row v (Some o) h one =
-    ap (λ (b : Bool). not (is_some all.constant && b)) (has-put o row v all.right_sides)
-    ∙ tested (is_some all.constant) (same_bytes o row) (has_name all.right_sides o) (ap (λ (b : Bool). b && is_some all.constant) (nat_list_eq_equiv.symm o row) ∙ h) one
+    ap (λ (b : Bool). not (is_some all.constant && b)) (has-put o row v all.rhs_values)
+    ∙ tested (is_some all.constant) (same_bytes o row) (has_name all.rhs_values o) (ap (λ (b : Bool). b && is_some all.constant) (nat_list_eq_equiv.symm o row) ∙ h) one
   where
     tested : (c s r : Bool) → (s && c) ≡ false → not (c && r) ≡ true → not (c && (s || r)) ≡ true
     tested true true r h one = cc
@@ -223,31 +224,31 @@ side_more all row v (Some o) h one =
 one-adding : (all : Draft) (d : Declaration) → HasDeclaredNames all → has_one_constant all ≡ true → refusals all d ≡ [] → has_one_constant (adding all d) ≡ true
 one-adding all (declare_objective name) w one h =
     let none = first_none (has_row all name) builds.DuplicateRow [] (rest_none (is_some all.objective) builds.SecondObjective ((has_row all name, builds.DuplicateRow) ∷ []) h) in
-    no_side (is_some all.constant) (has_name all.right_sides name) (back (has_name all.right_sides name) (has_row all name) (w.right_sides name) none)
-one-adding all (declare_constant v) w one h = so_not (has_objective_side all) (nor (is_some all.constant) (has_objective_side all) (first_none (has_constant all) builds.DuplicateRhs [] h)).1
-one-adding all (declare_right_side row v) w one h =
+    no_side (is_some all.constant) (has_name all.rhs_values name) (back (has_name all.rhs_values name) (has_row all name) (w.rhs_values name) none)
+one-adding all (declare_constant v) w one h = so_not (has_objective_rhs all) (nor (is_some all.constant) (has_objective_rhs all) (first_none (has_constant all) builds.DuplicateRhs [] h)).1
+one-adding all (declare_rhs row v) w one h =
     let clash = is_objective all row && is_some all.constant in
-    let filled = has_name all.right_sides row || (is_row_by_limits all row || clash) in
-    let a = nor (has_name all.right_sides row) (is_row_by_limits all row || clash) (first_none filled builds.DuplicateRhs [] (rest_none (not (has_row all row)) builds.UnknownRow ((filled, builds.DuplicateRhs) ∷ []) h)) in
+    let filled = has_name all.rhs_values row || (is_row_by_limits all row || clash) in
+    let a = nor (has_name all.rhs_values row) (is_row_by_limits all row || clash) (first_none filled builds.DuplicateRhs [] (rest_none (not (has_row all row)) builds.UnknownRow ((filled, builds.DuplicateRhs) ∷ []) h)) in
     side_more all row v all.objective (nor (is_row_by_limits all row) clash a.1).1 one
 one-adding all _ w one h = one
 
 one-before : (before after : Draft) → Extends before after → has_one_constant after ≡ true → has_one_constant before ≡ true
 one-before before after e one =
-    so_not (is_some before.constant && has_objective_side before)
-    (back (is_some before.constant && has_objective_side before) (is_some after.constant && has_objective_side after)
-    (λ h. both_so (is_some after.constant) (has_objective_side after) (e.constant (first_so (is_some before.constant) (has_objective_side before) h)) (side_after (second_so (is_some before.constant) (has_objective_side before) h)))
-    (not_so (is_some after.constant && has_objective_side after) one))
+    so_not (is_some before.constant && has_objective_rhs before)
+    (back (is_some before.constant && has_objective_rhs before) (is_some after.constant && has_objective_rhs after)
+    (λ h. both_so (is_some after.constant) (has_objective_rhs after) (e.constant (first_so (is_some before.constant) (has_objective_rhs before) h)) (side_after (second_so (is_some before.constant) (has_objective_rhs before) h)))
+    (not_so (is_some after.constant && has_objective_rhs after) one))
   where
-    side_from : (o : Option (List ℕ)) → before.objective ≡ o → option_map_or (has_name before.right_sides) o false ≡ true → has_objective_side after ≡ true
+    side_from : (o : Option (List ℕ)) → before.objective ≡ o → option_map_or (has_name before.rhs_values) o false ≡ true → has_objective_rhs after ≡ true
     side_from None is h = cc
-    side_from (Some name) is h = ap (λ (o : Option (List ℕ)). option_map_or (has_name after.right_sides) o false) (e.objective name is) ∙ e.right_side name h
+    side_from (Some name) is h = ap (λ (o : Option (List ℕ)). option_map_or (has_name after.rhs_values) o false) (e.objective name is) ∙ e.right_side name h
 
-    side_after : has_objective_side before ≡ true → has_objective_side after ≡ true
+    side_after : has_objective_rhs before ≡ true → has_objective_rhs after ≡ true
     side_after h = side_from before.objective refl h
 
 -- a right side of the objective leaves no room for a constant
-free_of_constant : (all : Draft) (row : List ℕ) (v : Number) → has_one_constant (adding all (declare_right_side row v)) ≡ true → (is_objective all row && is_some all.constant) ≡ false
+free_of_constant : (all : Draft) (row : List ℕ) (v : Number) → has_one_constant (adding all (declare_rhs row v)) ≡ true → (is_objective all row && is_some all.constant) ≡ false
 free_of_constant all row v one = from all.objective one
   where
     tested : (c s r : Bool) → not (c && (s || r)) ≡ true → (s && c) ≡ false
@@ -256,11 +257,11 @@ free_of_constant all row v one = from all.objective one
     tested false true r h = refl
     tested false false r h = refl
 
-    from : (o : Option (List ℕ)) → not (is_some all.constant && option_map_or (has_name (put bytes_cmp row v all.right_sides)) o false) ≡ true → (option_map_or (same_bytes row) o false && is_some all.constant) ≡ false
+    from : (o : Option (List ℕ)) → not (is_some all.constant && option_map_or (has_name (put bytes_cmp row v all.rhs_values)) o false) ≡ true → (option_map_or (same_bytes row) o false && is_some all.constant) ≡ false
     from None h = refl
     from (Some o) h =
         ap (λ (b : Bool). b && is_some all.constant) (nat_list_eq_equiv.symm row o)
-        ∙ tested (is_some all.constant) (same_bytes o row) (has_name all.right_sides o) (ap (λ (b : Bool). not (is_some all.constant && b)) (sym (has-put o row v all.right_sides)) ∙ h)
+        ∙ tested (is_some all.constant) (same_bytes o row) (has_name all.rhs_values o) (ap (λ (b : Bool). not (is_some all.constant && b)) (sym (has-put o row v all.rhs_values)) ∙ h)
 
 pub allowed-before : (before after : Draft) (d : Declaration) → Extends before after → is_allowed after d ≡ true → is_allowed before d ≡ true
 allowed-before before after (declare_range row v) e h =
@@ -286,15 +287,15 @@ none-from_fine all (declare_objective name) f one =
     pass (is_some all.objective) builds.SecondObjective ((has_row all name, builds.DuplicateRow) ∷ []) (not_so (is_some all.objective) (first_so (not (is_some all.objective)) (not (has_row all name) && true) f.fresh))
     (pass (has_row all name) builds.DuplicateRow [] (one_slot_of (has_row all name) (second_so (not (is_some all.objective)) (not (has_row all name) && true) f.fresh)) refl)
 none-from_fine all (declare_constant v) f one =
-    pass (has_constant all) builds.DuplicateRhs [] (both_false (is_some all.constant) (has_objective_side all) (one_slot_of (is_some all.constant) f.fresh) (not_so (has_objective_side all) one)) refl
+    pass (has_constant all) builds.DuplicateRhs [] (both_false (is_some all.constant) (has_objective_rhs all) (one_slot_of (is_some all.constant) f.fresh) (not_so (has_objective_rhs all) one)) refl
 none-from_fine all (declare_row name form) f one =
     pass (has_row all name) builds.DuplicateRow ((have_infinite_side form, builds.InfiniteValue) ∷ []) (not_so (has_row all name) (first_so (not (has_row all name)) _ f.fresh))
     (pass (have_infinite_side form) builds.InfiniteValue [] (not_so (have_infinite_side form) f.allowed) refl)
-none-from_fine all (declare_right_side row v) f one =
-    let filled = has_name all.right_sides row || (is_row_by_limits all row || (is_objective all row && is_some all.constant)) in
-    let a = nor (has_name all.right_sides row) (is_row_by_limits all row) (one_slot_of (has_name all.right_sides row || is_row_by_limits all row) f.fresh) in
+none-from_fine all (declare_rhs row v) f one =
+    let filled = has_name all.rhs_values row || (is_row_by_limits all row || (is_objective all row && is_some all.constant)) in
+    let a = nor (has_name all.rhs_values row) (is_row_by_limits all row) (one_slot_of (has_name all.rhs_values row || is_row_by_limits all row) f.fresh) in
     pass (not (has_row all row)) builds.UnknownRow ((filled, builds.DuplicateRhs) ∷ []) (ap not f.known)
-    (pass filled builds.DuplicateRhs [] (both_false (has_name all.right_sides row) (is_row_by_limits all row || (is_objective all row && is_some all.constant)) a.0
+    (pass filled builds.DuplicateRhs [] (both_false (has_name all.rhs_values row) (is_row_by_limits all row || (is_objective all row && is_some all.constant)) a.0
     (both_false (is_row_by_limits all row) (is_objective all row && is_some all.constant) a.1 (free_of_constant all row v one))) refl)
 none-from_fine all (declare_range row v) f one =
     let filled = has_name all.ranges row || is_row_by_limits all row in
@@ -376,7 +377,7 @@ none-fine (d ∷ more) before w one h =
     }
 
 pub empty_declared_names : HasDeclaredNames empty_draft
-empty_declared_names = record { apart = λ q h. refl; right_sides = λ q h. h; ranges = λ q h. h }
+empty_declared_names = record { apart = λ q h. refl; rhs_values = λ q h. h; ranges = λ q h. h }
 
 pub all_fresh : (slots : List Slot) → are_fresh empty_draft slots ≡ true
 all_fresh [] = refl

@@ -6,7 +6,7 @@ use Rattle.std.specs.Cmp.{first_so, second_so}
 use Rattle.mpslp_decimal.specs.Decimal.{Number, is_decimal, is_negative, is_infinite_size, size_of, normal, decimal_of, scaled, at_scale, negated, sum_of, difference_of}
 use Rattle.mpslp_model.specs.Model.{Row, limit_of, is_at_most, is_bounded_decimal, is_lower_side, is_upper_side, are_sides, has_bounded_distance}
 use Rattle.mpslp_model.specs.Declaration.{RowForm, by_type, by_limits}
-use Rattle.mpslp_model.specs.Limits.{sides, limits_of, has_infinite_right_side, is_inexact, is_too_large, is_large_limit, is_crossed}
+use Rattle.mpslp_model.specs.Limits.{sides, limits_of, has_infinite_rhs, is_inexact, is_too_large, is_large_limit, is_crossed}
 use Rattle.mpslp_model.specs.Made.{is_given}
 use Rattle.mpslp_model.specs.Sides.{is_plus_infinite, is_minus_infinite, have_infinite_side}
 use Rattle.mpslp_model.specs.declared.kinds.Limit.{Limit}
@@ -129,7 +129,7 @@ may_be_upper-given MinusInf h k = sym k
 may_be_upper-given (Finite a) h k = first_so (is_decimal a) (not (is_infinite_size a)) h
 may_be_upper-given PlusInf h k = refl
 
-sides-of_form : (form : RowForm) (b : Number) (r : Option Number) → is_legal_form form ≡ true → is_decimal b ≡ true → has_infinite_right_side form b r ≡ false → may_have_sides (limits_of form b r) ≡ true
+sides-of_form : (form : RowForm) (b : Number) (r : Option Number) → is_legal_form form ≡ true → is_decimal b ≡ true → has_infinite_rhs form b r ≡ false → may_have_sides (limits_of form b r) ≡ true
 sides-of_form (by_type Free) b None f h k = refl
 sides-of_form (by_type Free) b (Some r) f h k = refl
 sides-of_form (by_type AtMost) b None f h k = upper_limit (is_infinite_size b) (is_negative b) b h k
@@ -164,7 +164,7 @@ from_limits (Some row) m a b c =
     let s = limits-from_tests row.lower row.upper (first_so (may_be_lower row.lower) (may_be_upper row.upper) m) (second_so (may_be_lower row.lower) (may_be_upper row.upper) m) a b c in
     record { row = row; is = refl; sides = s.sides; distance = s.distance }
 
-pub sound-from_no_fault : (form : RowForm) (b : Number) (r : Option Number) → is_legal_form form ≡ true → is_decimal b ≡ true → has_infinite_right_side form b r ≡ false
+pub sound-from_no_fault : (form : RowForm) (b : Number) (r : Option Number) → is_legal_form form ≡ true → is_decimal b ≡ true → has_infinite_rhs form b r ≡ false
     → is_inexact (limits_of form b r) ≡ false → is_too_large (limits_of form b r) ≡ false → is_crossed (limits_of form b r) ≡ false → IsSoundForm (limits_of form b r)
 sound-from_no_fault form b r f h k = from_limits (limits_of form b r) (sides-of_form form b r f h k)
 

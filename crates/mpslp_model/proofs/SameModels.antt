@@ -4,7 +4,7 @@ use Rattle.std.specs.FinMap as maps
 use Rattle.mpslp_model.specs.Model.{LinearModel}
 use Rattle.mpslp_model.specs.ModelParts.{linear_model, AreModelParts}
 use Rattle.mpslp_model.specs.Same.{IsSameObjective}
-use Rattle.mpslp_model.specs.declared.linear.Model.TheInside.{Inside}
+use Rattle.mpslp_model.specs.declared.model.Model.TheInside.{Inside}
 use Rattle.mpslp_model.proofs.ViewLemmas.{rows_seen, columns_seen, coefficients_seen}
 
 -- each part of two models is the same

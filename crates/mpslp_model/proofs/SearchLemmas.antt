@@ -87,25 +87,25 @@ module _ {K X : Type 0} (R : K → K → Ordering) where
         ∙ none_below k x es h (second_so (is_lt (R x e.0)) (below_all R x es) below)
 
     -- what is found is at the place of the key, or nowhere
-    find_at_place : (k : K) (es : List (K × X)) → is_sorted R es ≡ true → find R k es ≡ value_if k (slice_get es (position_or_len (λ e. is_le (R k e.0)) es))
-    find_at_place k [] sorted = refl
-    find_at_place k (e ∷ es) sorted =
+    find_at_key : (k : K) (es : List (K × X)) → is_sorted R es ≡ true → find R k es ≡ value_if k (slice_get es (position_or_len (λ e. is_le (R k e.0)) es))
+    find_at_key k [] sorted = refl
+    find_at_key k (e ∷ es) sorted =
         let n = position_or_len (λ (e : K × X). is_le (R k e.0)) es in
         elim (R k e.0) as (λ r. R k e.0 ≡ r → cond (is_eq r) (Some e.1) (find R k es) ≡ value_if k (slice_get (e ∷ es) (cond (not (is_le r)) (1 + n) 0))) [
           | Less ↦ λ h. none_below k e.0 es h (first_so (below_all R e.0 es) (is_sorted R es) sorted) ∙ ap (λ (r : Ordering). cond (is_eq r) (Some e.1) None) (sym h)
           | Equal ↦ λ h. ap (λ (r : Ordering). cond (is_eq r) (Some e.1) None) (sym h)
-          | Greater ↦ λ h. find_at_place k es (second_so (below_all R e.0 es) (is_sorted R es) sorted) ∙ ap (λ (i : ℕ). value_if k (slice_get (e ∷ es) i)) (sym (suc_of n))
+          | Greater ↦ λ h. find_at_key k es (second_so (below_all R e.0 es) (is_sorted R es) sorted) ∙ ap (λ (i : ℕ). value_if k (slice_get (e ∷ es) i)) (sym (suc_of n))
         ] refl
 
     -- the entry at the place of the key decides
     pub found_here : (k : K) (es : List (K × X)) (i : ℕ) (e : K × X) → is_sorted R es ≡ true → i ≡ position_or_len (λ x. is_le (R k x.0)) es → i < length es → e ≡ get_or es i e
         → find R k es ≡ cond (is_eq (R k e.0)) (Some e.1) None
     found_here k es i e sorted at inside here =
-        find_at_place k es sorted ∙ ap (λ (j : ℕ). value_if k (slice_get es j)) (sym at) ∙ ap (value_if k) (slice_get_read es (length es) i e refl inside here)
+        find_at_key k es sorted ∙ ap (λ (j : ℕ). value_if k (slice_get es j)) (sym at) ∙ ap (value_if k) (slice_get_read es (length es) i e refl inside here)
 
     -- where the place of the key is the end, it is not found
     pub found_nowhere : (k : K) (es : List (K × X)) (i : ℕ) → is_sorted R es ≡ true → i ≡ position_or_len (λ x. is_le (R k x.0)) es → length es ≤ i → find R k es ≡ None
-    found_nowhere k es i sorted at past = find_at_place k es sorted ∙ ap (λ (j : ℕ). value_if k (slice_get es j)) (sym at) ∙ ap (value_if k) (slice_get_past es i past)
+    found_nowhere k es i sorted at past = find_at_key k es sorted ∙ ap (λ (j : ℕ). value_if k (slice_get es j)) (sym at) ∙ ap (value_if k) (slice_get_past es i past)
 
   -- the number of the entry that has the key
   pub number_here : (k : K) (es : List (K × X)) (i : ℕ) (e : K × X) → i ≡ position_or_len (λ x. is_le (R k x.0)) es → i < length es → e ≡ get_or es i e → is_eq (R k e.0) ≡ true

@@ -11,9 +11,10 @@ use Rattle.std.specs.FinMap.{find, put}
 use Rattle.std.specs.FinMap.Entries.{find-put}
 use Rattle.std.proofs.lemmas.List.Folds.{list_any-append, list_all-append}
 use Rattle.mpslp_model.specs.Name.{same_bytes}
-use Rattle.mpslp_model.specs.Model.{Place, bytes_cmp, place_cmp, place_total}
-use Rattle.mpslp_model.specs.Declaration.{RowForm, by_type, by_limits, Declaration, declare_sense, declare_objective, declare_constant, declare_row, declare_right_side, declare_range, declare_column, declare_coefficient, declare_lower, declare_upper, declare_marked, declare_integer, declare_binary, Declarations, Draft, adding, at_name, has_name, has_row, is_objective, has_entry, is_limits_form, is_row_by_limits}
-use Rattle.mpslp_model.specs.Consistency.{Slot, sense_slot, objective_slot, constant_slot, row_slot, right_side_slot, range_slot, coefficient_slot, lower_slot, upper_slot, same_slot, slots_of, all_slots, are_distinct}
+use Rattle.mpslp_model.specs.Model.{CoefficientKey, bytes_cmp, key_cmp, key_total}
+use Rattle.mpslp_model.specs.Declaration.{RowForm, by_type, by_limits, Declaration, declare_sense, declare_objective, declare_constant, declare_row, declare_rhs, declare_range, declare_column, declare_coefficient, declare_lower, declare_upper, declare_marked, declare_integer, declare_binary, Declarations, Draft, adding, at_name, has_name, has_row, is_objective, has_entry, is_limits_form, is_row_by_limits}
+use Rattle.mpslp_model.specs.Lists.{are_distinct}
+use Rattle.mpslp_model.specs.Consistency.{Slot, sense_slot, objective_slot, constant_slot, row_slot, rhs_slot, range_slot, coefficient_slot, lower_slot, upper_slot, same_slot, slots_of, all_slots}
 use Rattle.mpslp_model.proofs.BoolLemmas.{or_end, all_true, mixed, mixed_more}
 
 -- ---- one entry more
@@ -28,16 +29,16 @@ is_some-cond false v o = refl
 pub has-put : {X : Type 0} (q k : List ℕ) (v : X) (es : List (List ℕ × X)) → has_name (put bytes_cmp k v es) q ≡ (same_bytes q k || has_name es q)
 has-put q k v es = ap is_some (at-put q k v es) ∙ is_some-cond (same_bytes q k) v (at_name es q)
 
-pub place_ties : (a b : Place) → (same_bytes a.row b.row && same_bytes a.column b.column) ≡ eq_by_cmp place_cmp a b
-place_ties a b =
+pub key_ties : (a b : CoefficientKey) → (same_bytes a.row b.row && same_bytes a.column b.column) ≡ eq_by_cmp key_cmp a b
+key_ties a b =
     and_comm (same_bytes a.row b.row) (same_bytes a.column b.column)
     ∙ both_tied _ _ (bytes_cmp a.column b.column) (bytes_cmp a.row b.row) (texts_ties a.column b.column) (texts_ties a.row b.row)
 
-has-put_place : {X : Type 0} (q k : Place) (v : X) (es : List (Place × X))
-    → is_some (find place_cmp q (put place_cmp k v es)) ≡ ((same_bytes q.row k.row && same_bytes q.column k.column) || is_some (find place_cmp q es))
-has-put_place q k v es =
-    ap is_some (find-put place_cmp place_total q k v es)
-    ∙ is_some-cond (eq_by_cmp place_cmp q k) v (find place_cmp q es) ∙ ap (λ (b : Bool). b || is_some (find place_cmp q es)) (sym (place_ties q k))
+has-put_key : {X : Type 0} (q k : CoefficientKey) (v : X) (es : List (CoefficientKey × X))
+    → is_some (find key_cmp q (put key_cmp k v es)) ≡ ((same_bytes q.row k.row && same_bytes q.column k.column) || is_some (find key_cmp q es))
+has-put_key q k v es =
+    ap is_some (find-put key_cmp key_total q k v es)
+    ∙ is_some-cond (eq_by_cmp key_cmp q k) v (find key_cmp q es) ∙ ap (λ (b : Bool). b || is_some (find key_cmp q es)) (sym (key_ties q k))
 
 -- ---- filled slots
 
@@ -46,7 +47,7 @@ is_filled all sense_slot = is_some all.sense
 is_filled all objective_slot = is_some all.objective
 is_filled all constant_slot = is_some all.constant
 is_filled all (row_slot name) = has_row all name
-is_filled all (right_side_slot name) = has_name all.right_sides name || is_row_by_limits all name
+is_filled all (rhs_slot name) = has_name all.rhs_values name || is_row_by_limits all name
 is_filled all (range_slot name) = has_name all.ranges name || is_row_by_limits all name
 is_filled all (coefficient_slot place) = has_entry all place
 is_filled all (lower_slot name) = has_name all.lowers name
@@ -120,25 +121,25 @@ filled-adding all (declare_row name (by_type type)) (row_slot n) h =
     ap (λ (b : Bool). is_objective all n || b) (has-put n name (by_type type) all.rows) ∙ in_row (same_bytes n name) (is_objective all n) (has_name all.rows n) false refl
 filled-adding all (declare_row name (by_limits l u)) (row_slot n) h =
     ap (λ (b : Bool). is_objective all n || b) (has-put n name (by_limits l u) all.rows) ∙ in_row (same_bytes n name) (is_objective all n) (has_name all.rows n) false refl
-filled-adding all (declare_row name (by_type type)) (right_side_slot n) h =
-    ap (λ (b : Bool). has_name all.right_sides n || b) (limits_at all n name (by_type type))
-    ∙ by_type_after (same_bytes n name) (has_name all.right_sides n) (is_row_by_limits all n) (was_no_limits all n name _ h)
+filled-adding all (declare_row name (by_type type)) (rhs_slot n) h =
+    ap (λ (b : Bool). has_name all.rhs_values n || b) (limits_at all n name (by_type type))
+    ∙ by_type_after (same_bytes n name) (has_name all.rhs_values n) (is_row_by_limits all n) (was_no_limits all n name _ h)
 filled-adding all (declare_row name (by_type type)) (range_slot n) h =
     ap (λ (b : Bool). has_name all.ranges n || b) (limits_at all n name (by_type type))
     ∙ by_type_after (same_bytes n name) (has_name all.ranges n) (is_row_by_limits all n) (was_no_limits all n name _ h)
-filled-adding all (declare_row name (by_limits l u)) (right_side_slot n) h =
-    ap (λ (b : Bool). has_name all.right_sides n || b) (limits_at all n name (by_limits l u))
-    ∙ by_limits_after (same_bytes n name) (has_name all.right_sides n) (is_row_by_limits all n)
+filled-adding all (declare_row name (by_limits l u)) (rhs_slot n) h =
+    ap (λ (b : Bool). has_name all.rhs_values n || b) (limits_at all n name (by_limits l u))
+    ∙ by_limits_after (same_bytes n name) (has_name all.rhs_values n) (is_row_by_limits all n)
 filled-adding all (declare_row name (by_limits l u)) (range_slot n) h =
     ap (λ (b : Bool). has_name all.ranges n || b) (limits_at all n name (by_limits l u))
     ∙ by_limits_after (same_bytes n name) (has_name all.ranges n) (is_row_by_limits all n)
 filled-adding all (declare_row name (by_type type)) _ h = refl
 filled-adding all (declare_row name (by_limits l u)) _ h = refl
-filled-adding all (declare_right_side row v) (right_side_slot n) h =
-    ap (λ (b : Bool). b || is_row_by_limits all n) (has-put n row v all.right_sides) ∙ after_or (same_bytes n row) true (has_name all.right_sides n) (is_row_by_limits all n)
+filled-adding all (declare_rhs row v) (rhs_slot n) h =
+    ap (λ (b : Bool). b || is_row_by_limits all n) (has-put n row v all.rhs_values) ∙ after_or (same_bytes n row) true (has_name all.rhs_values n) (is_row_by_limits all n)
 filled-adding all (declare_range row v) (range_slot n) h =
     ap (λ (b : Bool). b || is_row_by_limits all n) (has-put n row v all.ranges) ∙ after_or (same_bytes n row) true (has_name all.ranges n) (is_row_by_limits all n)
-filled-adding all (declare_coefficient place v) (coefficient_slot p) h = has-put_place p place v all.coefficients ∙ or_end (same_bytes p.row place.row && same_bytes p.column place.column) (has_entry all p)
+filled-adding all (declare_coefficient place v) (coefficient_slot p) h = has-put_key p place v all.coefficients ∙ or_end (same_bytes p.row place.row && same_bytes p.column place.column) (has_entry all p)
 filled-adding all (declare_lower name v) (lower_slot n) h = has-put n name v all.lowers ∙ or_end (same_bytes n name) (has_name all.lowers n)
 filled-adding all (declare_upper name v) (upper_slot n) h = has-put n name v all.uppers ∙ or_end (same_bytes n name) (has_name all.uppers n)
 filled-adding all (declare_sense x) sense_slot h = refl

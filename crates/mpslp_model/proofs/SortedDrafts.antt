@@ -7,13 +7,13 @@ use Rattle.std.specs.FinMap.{is_sorted, slice_cmp-IsAntisymmetric, nat_cmp-IsAnt
 use Rattle.std.specs.declared.cmp.Ordering.TheVariants.{Equal}
 use Rattle.std.proofs.Math.Dec.{T}
 use Rattle.mpslp_decimal.specs.Decimal.{Number}
-use Rattle.mpslp_model.specs.Model.{Place, bytes_cmp, place_cmp}
-pub use Rattle.mpslp_model.specs.Model.{place_total}
+use Rattle.mpslp_model.specs.Model.{CoefficientKey, bytes_cmp, key_cmp}
+pub use Rattle.mpslp_model.specs.Model.{key_total}
 use Rattle.mpslp_model.specs.Declaration.{RowForm, Declarations, Draft, empty_draft, adding_all, draft_of}
 use Rattle.mpslp_model.specs.Made.{IsMade}
 use Rattle.mpslp_model.specs.declared.kinds.Limit.{Limit}
-use Rattle.mpslp_model.proofs.DraftEntries.{same_place}
-use Rattle.mpslp_model.proofs.DraftLemmas.{row_part, rows-all, right_side_part, right_sides-all, range_part, ranges-all, column_part, columns-all, coefficient_part, coefficients-all, lower_part, lowers-all, upper_part, uppers-all, marked_part, marked-all, integer_part, integers-all, binary_part, binaries-all}
+use Rattle.mpslp_model.proofs.DraftEntries.{same_key}
+use Rattle.mpslp_model.proofs.DraftLemmas.{row_part, rows-all, rhs_part, rhs_values-all, range_part, ranges-all, column_part, columns-all, coefficient_part, coefficients-all, lower_part, lowers-all, upper_part, uppers-all, marked_part, marked-all, integer_part, integers-all, binary_part, binaries-all}
 use Rattle.mpslp_model.proofs.PutsLemmas.{is_sorted-puts}
 
 -- ---- the orders of keys
@@ -21,7 +21,7 @@ use Rattle.mpslp_model.proofs.PutsLemmas.{is_sorted-puts}
 pub bytes_total : IsTotalOrder bytes_cmp
 bytes_total = nat_list_cmp_total
 
--- names that tie are the same; so are places, by `same_place`
+-- names that tie are the same; so are keys of coefficients, by `same_key`
 pub tied_names : (a b : List ℕ) → bytes_cmp a b ≡ Equal → a ≡ b
 tied_names = slice_cmp-IsAntisymmetric nat_cmp-IsAntisymmetric
 
@@ -29,10 +29,10 @@ tied_names = slice_cmp-IsAntisymmetric nat_cmp-IsAntisymmetric
 
 pub record IsSortedDraft (all : Draft) : Type 0 where
   pub rows : T (is_sorted bytes_cmp all.rows)
-  pub right_sides : T (is_sorted bytes_cmp all.right_sides)
+  pub rhs_values : T (is_sorted bytes_cmp all.rhs_values)
   pub ranges : T (is_sorted bytes_cmp all.ranges)
   pub columns : T (is_sorted bytes_cmp all.columns)
-  pub coefficients : T (is_sorted place_cmp all.coefficients)
+  pub coefficients : T (is_sorted key_cmp all.coefficients)
   pub lowers : T (is_sorted bytes_cmp all.lowers)
   pub uppers : T (is_sorted bytes_cmp all.uppers)
   pub marked : T (is_sorted bytes_cmp all.marked)
@@ -40,15 +40,15 @@ pub record IsSortedDraft (all : Draft) : Type 0 where
   pub binaries : T (is_sorted bytes_cmp all.binaries)
 
 pub empty_sorted : IsSortedDraft empty_draft
-empty_sorted = record { rows = tt; right_sides = tt; ranges = tt; columns = tt; coefficients = tt; lowers = tt; uppers = tt; marked = tt; integers = tt; binaries = tt }
+empty_sorted = record { rows = tt; rhs_values = tt; ranges = tt; columns = tt; coefficients = tt; lowers = tt; uppers = tt; marked = tt; integers = tt; binaries = tt }
 
 pub sorted-adding_all : (ds : Declarations) (all : Draft) → IsSortedDraft all → IsSortedDraft (adding_all all ds)
 sorted-adding_all ds all s = record {
   rows = subst (λ (es : List (List ℕ × RowForm)). T (is_sorted bytes_cmp es)) (sym (rows-all ds all)) (is_sorted-puts bytes_cmp bytes_total tied_names (flat_map row_part ds) all.rows s.rows);
-  right_sides = subst (λ (es : List (List ℕ × Number)). T (is_sorted bytes_cmp es)) (sym (right_sides-all ds all)) (is_sorted-puts bytes_cmp bytes_total tied_names (flat_map right_side_part ds) all.right_sides s.right_sides);
+  rhs_values = subst (λ (es : List (List ℕ × Number)). T (is_sorted bytes_cmp es)) (sym (rhs_values-all ds all)) (is_sorted-puts bytes_cmp bytes_total tied_names (flat_map rhs_part ds) all.rhs_values s.rhs_values);
   ranges = subst (λ (es : List (List ℕ × Number)). T (is_sorted bytes_cmp es)) (sym (ranges-all ds all)) (is_sorted-puts bytes_cmp bytes_total tied_names (flat_map range_part ds) all.ranges s.ranges);
   columns = subst (λ (es : List (List ℕ × Unit {0})). T (is_sorted bytes_cmp es)) (sym (columns-all ds all)) (is_sorted-puts bytes_cmp bytes_total tied_names (flat_map column_part ds) all.columns s.columns);
-  coefficients = subst (λ (es : List (Place × Number)). T (is_sorted place_cmp es)) (sym (coefficients-all ds all)) (is_sorted-puts place_cmp place_total same_place (flat_map coefficient_part ds) all.coefficients s.coefficients);
+  coefficients = subst (λ (es : List (CoefficientKey × Number)). T (is_sorted key_cmp es)) (sym (coefficients-all ds all)) (is_sorted-puts key_cmp key_total same_key (flat_map coefficient_part ds) all.coefficients s.coefficients);
   lowers = subst (λ (es : List (List ℕ × Limit)). T (is_sorted bytes_cmp es)) (sym (lowers-all ds all)) (is_sorted-puts bytes_cmp bytes_total tied_names (flat_map lower_part ds) all.lowers s.lowers);
   uppers = subst (λ (es : List (List ℕ × Limit)). T (is_sorted bytes_cmp es)) (sym (uppers-all ds all)) (is_sorted-puts bytes_cmp bytes_total tied_names (flat_map upper_part ds) all.uppers s.uppers);
   marked = subst (λ (es : List (List ℕ × Unit {0})). T (is_sorted bytes_cmp es)) (sym (marked-all ds all)) (is_sorted-puts bytes_cmp bytes_total tied_names (flat_map marked_part ds) all.marked s.marked);

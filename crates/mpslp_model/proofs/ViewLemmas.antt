@@ -16,9 +16,9 @@ use Rattle.mpslp_model.specs.Views.{row_names, row_index, is_element, column_ele
 use Rattle.mpslp_model.proofs.BoolLemmas.{both_so, not_so}
 use Rattle.std.proofs.lemmas.Option.{slice_get-map}
 use Rattle.mpslp_decimal.specs.Decimal.{Number, is_decimal, is_zero}
-use Rattle.mpslp_model.specs.Model.{Place, LinearModel, bytes_cmp, place_cmp, IsSound, is_sound_coefficient}
+use Rattle.mpslp_model.specs.Model.{CoefficientKey, LinearModel, bytes_cmp, key_cmp, IsSound, is_sound_coefficient}
 use Rattle.mpslp_model.specs.ModelParts.{linear_model, AreModelParts}
-use Rattle.mpslp_model.specs.declared.linear.Model.TheInside.{Inside}
+use Rattle.mpslp_model.specs.declared.model.Model.TheInside.{Inside}
 use Rattle.mpslp_model.proofs.PutsLemmas.{T_from}
 
 pub rows_seen : {m : Inside} {v : LinearModel} → linear_model m ≡ v → AreModelParts m → maps.entries v.rows ≡ m.rows.items
@@ -28,7 +28,7 @@ pub columns_seen : {m : Inside} {v : LinearModel} → linear_model m ≡ v → A
 columns_seen {m} {v} seen parts = ap (λ (w : LinearModel). maps.entries w.columns) (sym seen) ∙ maps.entries-from_sorted bytes_cmp m.columns.items (T_from _ parts.columns)
 
 pub coefficients_seen : {m : Inside} {v : LinearModel} → linear_model m ≡ v → AreModelParts m → maps.entries v.coefficients ≡ m.coefficients.items
-coefficients_seen {m} {v} seen parts = ap (λ (w : LinearModel). maps.entries w.coefficients) (sym seen) ∙ maps.entries-from_sorted place_cmp m.coefficients.items (T_from _ parts.coefficients)
+coefficients_seen {m} {v} seen parts = ap (λ (w : LinearModel). maps.entries w.coefficients) (sym seen) ∙ maps.entries-from_sorted key_cmp m.coefficients.items (T_from _ parts.coefficients)
 
 -- as many names as entries
 pub count_seen : {X : Type 0} {es items : List (List ℕ × X)} → es ≡ items → length items ≡ length (map (λ e. e.0) es)
@@ -81,13 +81,13 @@ else_later : (a b : Bool) → a ≡ false → (a || b) ≡ true → b ≡ true
 else_later true b none h = cc
 else_later false b none h = h
 
-pub row_is_there : (m : LinearModel) (column : List ℕ) (k : ℕ) (e : Place × Number) → IsSound m → slice_get (column_elements m column) k ≡ Some e
+pub row_is_there : (m : LinearModel) (column : List ℕ) (k : ℕ) (e : CoefficientKey × Number) → IsSound m → slice_get (column_elements m column) k ≡ Some e
     → is_some (row_index m e.0.row) ≡ true
 row_is_there m column k e sound at =
     let row = e.0.row in
     let rows = is_one_of (m.objective ∷ row_names m) row in
     let columns = is_one_of (maps.keys m.columns) e.0.column in
-    let h = kth_so (λ (c : Place × Number). is_element m c && same_bytes column c.0.column) (is_sound_coefficient m) (maps.entries m.coefficients) k e sound.coefficients at in
+    let h = kth_so (λ (c : CoefficientKey × Number). is_element m c && same_bytes column c.0.column) (is_sound_coefficient m) (maps.entries m.coefficients) k e sound.coefficients at in
     let element = is_element m e in
     let counted : element ≡ true = first_so element (same_bytes column e.0.column) (first_so (element && same_bytes column e.0.column) (is_sound_coefficient m e) h) in
     let placed : (columns && rows) ≡ true =

@@ -3,11 +3,12 @@ use Rattle.std.proofs.Common.{◌≡◌, refl, cond}
 use Rattle.std.specs.Prelude.{ℕ, pos, negsuc, Option, Some, None, List, [], ◌∷◌, codes}
 use Rattle.std.specs.FinMap as maps
 use Rattle.mpslp_decimal.specs.Decimal.{Number, trailing_zeros}
-use Rattle.mpslp_model.specs.Model.{Place, bytes_cmp, place_cmp, limit_of}
-use Rattle.mpslp_model.specs.Declaration.{by_type, by_limits, Declaration, declare_sense, declare_objective, declare_constant, declare_row, declare_right_side, declare_range, declare_column, declare_coefficient, declare_lower, declare_upper, declare_marked, declare_integer, declare_binary, Declarations, Draft, empty_draft, adding, adding_all, draft_of, right_side_declared, bounds_declared}
+use Rattle.mpslp_model.specs.Model.{CoefficientKey, bytes_cmp, key_cmp, limit_of}
+use Rattle.mpslp_model.specs.Declaration.{by_type, by_limits, Declaration, declare_sense, declare_objective, declare_constant, declare_row, declare_rhs, declare_range, declare_column, declare_coefficient, declare_lower, declare_upper, declare_marked, declare_integer, declare_binary, Declarations, Draft, empty_draft, adding, adding_all, draft_of, rhs_declared, bounds_declared}
 use Rattle.mpslp_model.specs.Bounds.{zero_limit, one_limit, column_of}
-use Rattle.mpslp_model.specs.Refusal.{is_nonempty, refusals, refusals_in_turn, bounds_refusals}
-use Rattle.mpslp_model.specs.Meaning.{head_of, whole_fault, file_fault, model_of}
+use Rattle.mpslp_model.specs.Lists.{is_nonempty, head_of}
+use Rattle.mpslp_model.specs.Refusal.{refusals, refusals_in_turn, bounds_refusals}
+use Rattle.mpslp_model.specs.Meaning.{whole_fault, file_fault, model_of}
 use Rattle.mpslp_model.specs.declared.kinds.Sense.TheVariants.{Maximize}
 use Rattle.mpslp_model.specs.declared.kinds.Kind.TheVariants.{Continuous, Integer}
 use Rattle.mpslp_model.specs.declared.kinds.Limit.{Limit}
@@ -43,7 +44,7 @@ x = codes "x"
 abbrev y : List ℕ
 y = codes "y"
 
-abbrev at : List ℕ → List ℕ → Place
+abbrev at : List ℕ → List ℕ → CoefficientKey
 at row column = record { row = row; column = column }
 
 abbrev one : Number
@@ -54,9 +55,9 @@ one = whole (pos 1)
 abbrev first_calls : Declarations
 first_calls =
     declare_objective f ∷ declare_objective (codes "g") ∷ declare_row f (by_type AtMost) ∷ declare_row r (by_type AtMost)
-    ∷ declare_row s (by_limits one_limit one_limit) ∷ declare_right_side s one ∷ declare_column x ∷ declare_column x
+    ∷ declare_row s (by_limits one_limit one_limit) ∷ declare_rhs s one ∷ declare_column x ∷ declare_column x
     ∷ declare_coefficient (at (codes "q") x) one ∷ declare_coefficient (at r y) one ∷ declare_coefficient (at r x) one ∷ declare_coefficient (at r x) one
-    ∷ declare_right_side r (whole (pos 4)) ∷ declare_right_side r (whole (pos 4)) ∷ declare_range f one ∷ declare_range r (number (pos 1) (pos 20))
+    ∷ declare_rhs r (whole (pos 4)) ∷ declare_rhs r (whole (pos 4)) ∷ declare_range f one ∷ declare_range r (number (pos 1) (pos 20))
     ∷ declare_range r (whole (negsuc 1)) ∷ declare_range r (whole (negsuc 1)) ∷ []
 
 first_answers : answers empty_draft first_calls
@@ -92,7 +93,7 @@ both_sides = refl
 
 abbrev last_calls : Declarations
 last_calls =
-    declare_marked x ∷ declare_integer x ∷ declare_binary y ∷ declare_constant (whole (pos 5)) ∷ declare_right_side f one
+    declare_marked x ∷ declare_integer x ∷ declare_binary y ∷ declare_constant (whole (pos 5)) ∷ declare_rhs f one
     ∷ declare_sense Maximize ∷ declare_sense Maximize ∷ []
 
 last_answers : answers bounded last_calls
@@ -115,7 +116,7 @@ its_columns : maps.entries (model_of finished).columns ≡ (x, record { kind = I
 its_columns = maps.entries-from_sorted bytes_cmp _ tt
 
 its_coefficients : maps.entries (model_of finished).coefficients ≡ (at r x, one) ∷ []
-its_coefficients = maps.entries-from_sorted place_cmp _ tt
+its_coefficients = maps.entries-from_sorted key_cmp _ tt
 
 its_constant : (model_of finished).constant ≡ whole (pos 5)
 its_constant = refl
@@ -124,19 +125,19 @@ its_sense : (model_of finished).sense ≡ Maximize
 its_sense = refl
 
 -- a right side of the objective is the negative of its constant
-constant_by_right_side : answers empty_draft (declare_objective f ∷ declare_right_side f (whole (negsuc 4)) ∷ declare_right_side f (whole (negsuc 4)) ∷ declare_constant one ∷ [])
+constant_by_rhs : answers empty_draft (declare_objective f ∷ declare_rhs f (whole (negsuc 4)) ∷ declare_rhs f (whole (negsuc 4)) ∷ declare_constant one ∷ [])
     ≡ None ∷ None ∷ Some builds.DuplicateRhs ∷ Some builds.DuplicateRhs ∷ []
-constant_by_right_side = refl
+constant_by_rhs = refl
 
-negated_constant : (model_of (draft_of (declare_objective f ∷ declare_right_side f (whole (negsuc 4)) ∷ []))).constant ≡ whole (pos 5)
+negated_constant : (model_of (draft_of (declare_objective f ∷ declare_rhs f (whole (negsuc 4)) ∷ []))).constant ≡ whole (pos 5)
 negated_constant = refl
 
 -- of a row of type N a right side declares nothing, and no range may be given
 abbrev with_free_row : Draft
 with_free_row = draft_of (declare_objective f ∷ declare_row r (by_type Free) ∷ [])
 
-right_side_of_free_row : right_side_declared with_free_row r one ≡ []
-right_side_of_free_row = refl
+rhs_of_free_row : rhs_declared with_free_row r one ≡ []
+rhs_of_free_row = refl
 
 range_of_free_row : refusals with_free_row (declare_range r one) ≡ builds.RangeOnFree ∷ []
 range_of_free_row = refl
@@ -211,7 +212,7 @@ unfolding trailing_zeros
 least_name = refl
 
 -- an infinite right side comes before the range that is no decimal beside it
-least_of_two : file_fault (bounded_by (declare_row r (by_type AtLeast) ∷ declare_right_side r (number (pos 1) (pos 30)) ∷ declare_range r one ∷ []))
+least_of_two : file_fault (bounded_by (declare_row r (by_type AtLeast) ∷ declare_rhs r (number (pos 1) (pos 30)) ∷ declare_range r one ∷ []))
     ≡ Some (whole_fault kinds.InfiniteLimit (Some r))
 unfolding trailing_zeros
 least_of_two = refl

@@ -4,7 +4,7 @@ use Rattle.std.specs.Prelude.{ℤ, pos, negsuc, Option, Some, None}
 use Rattle.mpslp_decimal.specs.Decimal.{Number, trailing_zeros}
 use Rattle.mpslp_model.specs.Model.{Row}
 use Rattle.mpslp_model.specs.Declaration.{by_type, by_limits}
-use Rattle.mpslp_model.specs.Limits.{limits_of, has_infinite_right_side, is_inexact, is_too_large, is_crossed}
+use Rattle.mpslp_model.specs.Limits.{limits_of, has_infinite_rhs, is_inexact, is_too_large, is_crossed}
 use Rattle.mpslp_model.specs.declared.kinds.Limit.{Limit}
 use Rattle.mpslp_model.specs.declared.kinds.Limit.TheVariants.{MinusInf, Finite, PlusInf}
 use Rattle.mpslp_model.specs.declared.kinds.RowType.TheVariants.{Free, AtMost, AtLeast, Equal}
@@ -65,19 +65,19 @@ most_finite = refl
 free_from_below : limits_of (by_type AtLeast) (number (negsuc 0) (pos 20)) None ≡ row MinusInf PlusInf
 free_from_below = refl
 
-may_be_infinite : has_infinite_right_side (by_type AtMost) (number (pos 1) (pos 20)) None ≡ false
+may_be_infinite : has_infinite_rhs (by_type AtMost) (number (pos 1) (pos 20)) None ≡ false
 may_be_infinite = refl
 
-not_beside_a_range : has_infinite_right_side (by_type AtMost) (number (pos 1) (pos 20)) (Some (whole (pos 1))) ≡ true
+not_beside_a_range : has_infinite_rhs (by_type AtMost) (number (pos 1) (pos 20)) (Some (whole (pos 1))) ≡ true
 not_beside_a_range = refl
 
-not_below_a_row : has_infinite_right_side (by_type AtMost) (number (negsuc 0) (pos 20)) None ≡ true
+not_below_a_row : has_infinite_rhs (by_type AtMost) (number (negsuc 0) (pos 20)) None ≡ true
 not_below_a_row = refl
 
-not_above_a_row : has_infinite_right_side (by_type AtLeast) (number (pos 1) (pos 20)) None ≡ true
+not_above_a_row : has_infinite_rhs (by_type AtLeast) (number (pos 1) (pos 20)) None ≡ true
 not_above_a_row = refl
 
-not_of_an_equal_row : has_infinite_right_side (by_type Equal) (number (negsuc 0) (pos 20)) None ≡ true
+not_of_an_equal_row : has_infinite_rhs (by_type Equal) (number (negsuc 0) (pos 20)) None ≡ true
 not_of_an_equal_row = refl
 
 -- ---- limits that no model has

@@ -13,8 +13,8 @@ Answers (fault ∷ later) answer IsDeclared IsUnchanged = (answer ≡ Err fault)
 Answers [] answer IsDeclared IsUnchanged = MatchResult answer (λ _. IsDeclared) (λ fault. (fault ≡ OutOfMemory) × IsUnchanged)
 
 -- of a call that takes no memory
-abbrev pub HasMemory : Answer → Type 0
-HasMemory answer = IfErr answer (λ fault. fault ≢ OutOfMemory)
+abbrev pub IsNotOutOfMemory : Answer → Type 0
+IsNotOutOfMemory answer = IfErr answer (λ fault. fault ≢ OutOfMemory)
 
 -- what is answered for want of anything to be refused, or the first refusal
 abbrev pub first_refusal : List BuildFault → Answer

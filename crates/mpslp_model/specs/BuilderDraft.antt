@@ -1,8 +1,8 @@
 -- What has been declared to a builder, from its parts.
 use Rattle.mpslp_model.specs.Declaration.{RowForm, by_type, by_limits, Draft}
-use Rattle.mpslp_model.specs.declared.building.FormKind.{FormKind}
-use Rattle.mpslp_model.specs.declared.building.FormKind.TheVariants.{ByType, ByLimits}
-use Rattle.mpslp_model.specs.declared.building.Builder.TheInside.{Inside}
+use Rattle.mpslp_model.specs.declared.builder.FormKind.{FormKind}
+use Rattle.mpslp_model.specs.declared.builder.FormKind.TheVariants.{ByType, ByLimits}
+use Rattle.mpslp_model.specs.declared.builder.Builder.TheInside.{Inside}
 
 abbrev pub row_form : FormKind → RowForm
 row_form (ByType type) = by_type type
@@ -14,7 +14,7 @@ draft b = record {
   objective = b.objective;
   constant = b.constant;
   rows = b.rows;
-  right_sides = b.right_sides;
+  rhs_values = b.rhs_values;
   ranges = b.ranges;
   columns = b.columns;
   coefficients = b.coefficients;

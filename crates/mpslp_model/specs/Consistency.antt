@@ -4,8 +4,9 @@ use Rattle.std.specs.List.{list_any, list_all}
 use Rattle.std.specs.Option.{option_map_or}
 use Rattle.mpslp_decimal.specs.Decimal.{is_infinite_size}
 use Rattle.mpslp_model.specs.Name.{same_bytes}
-use Rattle.mpslp_model.specs.Model.{Place}
-use Rattle.mpslp_model.specs.Declaration.{Declaration, declare_sense, declare_objective, declare_constant, declare_row, declare_right_side, declare_range, declare_coefficient, declare_lower, declare_upper, declare_marked, declare_integer, declare_binary, Declarations, Draft, draft_of, has_name, is_objective, has_row, has_column, is_free_row, is_limits_form}
+use Rattle.mpslp_model.specs.Model.{CoefficientKey}
+use Rattle.mpslp_model.specs.Declaration.{Declaration, declare_sense, declare_objective, declare_constant, declare_row, declare_rhs, declare_range, declare_coefficient, declare_lower, declare_upper, declare_marked, declare_integer, declare_binary, Declarations, Draft, draft_of, has_name, is_objective, has_row, has_column, is_free_row, is_limits_form}
+use Rattle.mpslp_model.specs.Lists.{are_distinct}
 use Rattle.mpslp_model.specs.Sides.{is_plus_infinite, is_minus_infinite, have_infinite_side}
 
 -- what only one declaration may fill: columns and their kinds may be declared again, all else may not
@@ -14,9 +15,9 @@ pub data Slot : Type 0 where
   objective_slot : Slot
   constant_slot : Slot
   row_slot : List ℕ → Slot
-  right_side_slot : List ℕ → Slot
+  rhs_slot : List ℕ → Slot
   range_slot : List ℕ → Slot
-  coefficient_slot : Place → Slot
+  coefficient_slot : CoefficientKey → Slot
   lower_slot : List ℕ → Slot
   upper_slot : List ℕ → Slot
 
@@ -25,7 +26,7 @@ same_slot sense_slot sense_slot = true
 same_slot objective_slot objective_slot = true
 same_slot constant_slot constant_slot = true
 same_slot (row_slot a) (row_slot b) = same_bytes a b
-same_slot (right_side_slot a) (right_side_slot b) = same_bytes a b
+same_slot (rhs_slot a) (rhs_slot b) = same_bytes a b
 same_slot (range_slot a) (range_slot b) = same_bytes a b
 same_slot (coefficient_slot a) (coefficient_slot b) = same_bytes a.row b.row && same_bytes a.column b.column
 same_slot (lower_slot a) (lower_slot b) = same_bytes a b
@@ -38,18 +39,13 @@ abbrev pub slots_of : Declaration → List Slot
 slots_of (declare_sense _) = sense_slot ∷ []
 slots_of (declare_objective name) = objective_slot ∷ row_slot name ∷ []
 slots_of (declare_constant _) = constant_slot ∷ []
-slots_of (declare_row name form) = row_slot name ∷ (if is_limits_form form then right_side_slot name ∷ range_slot name ∷ [] else [])
-slots_of (declare_right_side row _) = right_side_slot row ∷ []
+slots_of (declare_row name form) = row_slot name ∷ (if is_limits_form form then rhs_slot name ∷ range_slot name ∷ [] else [])
+slots_of (declare_rhs row _) = rhs_slot row ∷ []
 slots_of (declare_range row _) = range_slot row ∷ []
-slots_of (declare_coefficient place _) = coefficient_slot place ∷ []
+slots_of (declare_coefficient key _) = coefficient_slot key ∷ []
 slots_of (declare_lower column _) = lower_slot column ∷ []
 slots_of (declare_upper column _) = upper_slot column ∷ []
 slots_of _ = []
-
--- no two are alike
-abbrev pub are_distinct : {K : Type 0} → (K → K → Bool) → List K → Bool
-are_distinct same [] = true
-are_distinct same (x ∷ xs) = not (list_any (λ later. same later x) xs) && are_distinct same xs
 
 abbrev pub all_slots : Declarations → List Slot
 all_slots [] = []
@@ -57,9 +53,9 @@ all_slots (declaration ∷ more) = slots_of declaration ++ all_slots more
 
 -- what a declaration names is declared
 abbrev pub is_known : Draft → Declaration → Bool
-is_known all (declare_right_side row _) = has_row all row
+is_known all (declare_rhs row _) = has_row all row
 is_known all (declare_range row _) = has_row all row
-is_known all (declare_coefficient place _) = has_row all place.row && has_column all place.column
+is_known all (declare_coefficient key _) = has_row all key.row && has_column all key.column
 is_known all (declare_lower column _) = has_column all column
 is_known all (declare_upper column _) = has_column all column
 is_known all (declare_marked column) = has_column all column
@@ -76,12 +72,12 @@ is_allowed all (declare_upper column limit) = not (is_minus_infinite limit)
 is_allowed all _ = true
 
 -- the objective has a right side, which is a constant too
-abbrev pub has_objective_side : Draft → Bool
-has_objective_side all = option_map_or (has_name all.right_sides) all.objective false
+abbrev pub has_objective_rhs : Draft → Bool
+has_objective_rhs all = option_map_or (has_name all.rhs_values) all.objective false
 
 -- the constant is declared, or the objective has a right side: not both
 abbrev pub has_one_constant : Draft → Bool
-has_one_constant all = not (is_some all.constant && has_objective_side all)
+has_one_constant all = not (is_some all.constant && has_objective_rhs all)
 
 abbrev pub declares_objective : Declaration → Bool
 declares_objective (declare_objective _) = true

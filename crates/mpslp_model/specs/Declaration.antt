@@ -4,7 +4,7 @@ use Rattle.std.specs.Option.{option_map_or}
 use Rattle.std.specs.FinMap.{find, put}
 use Rattle.mpslp_decimal.specs.Decimal.{Number}
 use Rattle.mpslp_model.specs.Name.{same_bytes}
-use Rattle.mpslp_model.specs.Model.{Place, bytes_cmp, place_cmp}
+use Rattle.mpslp_model.specs.Model.{CoefficientKey, bytes_cmp, key_cmp}
 use Rattle.mpslp_model.specs.declared.kinds.Sense.{Sense}
 use Rattle.mpslp_model.specs.declared.kinds.Limit.{Limit}
 use Rattle.mpslp_model.specs.declared.kinds.RowType.{RowType}
@@ -22,10 +22,10 @@ pub data Declaration : Type 0 where
   declare_objective : List ℕ → Declaration
   declare_constant : Number → Declaration
   declare_row : List ℕ → RowForm → Declaration
-  declare_right_side : List ℕ → Number → Declaration
+  declare_rhs : List ℕ → Number → Declaration
   declare_range : List ℕ → Number → Declaration
   declare_column : List ℕ → Declaration
-  declare_coefficient : Place → Number → Declaration
+  declare_coefficient : CoefficientKey → Number → Declaration
   declare_lower : List ℕ → Limit → Declaration
   declare_upper : List ℕ → Limit → Declaration
   declare_marked : List ℕ → Declaration
@@ -42,10 +42,10 @@ pub record Draft : Type 0 where
   pub objective : Option (List ℕ)
   pub constant : Option Number
   pub rows : List (List ℕ × RowForm)
-  pub right_sides : List (List ℕ × Number)
+  pub rhs_values : List (List ℕ × Number)
   pub ranges : List (List ℕ × Number)
   pub columns : List (List ℕ × Unit {0})
-  pub coefficients : List (Place × Number)
+  pub coefficients : List (CoefficientKey × Number)
   pub lowers : List (List ℕ × Limit)
   pub uppers : List (List ℕ × Limit)
   pub marked : List (List ℕ × Unit {0})
@@ -58,7 +58,7 @@ empty_draft = record {
   objective = None;
   constant = None;
   rows = [];
-  right_sides = [];
+  rhs_values = [];
   ranges = [];
   columns = [];
   coefficients = [];
@@ -75,10 +75,10 @@ adding all (declare_sense sense) = record all { sense = Some sense }
 adding all (declare_objective name) = record all { objective = Some name }
 adding all (declare_constant value) = record all { constant = Some value }
 adding all (declare_row name form) = record all { rows = put bytes_cmp name form all.rows }
-adding all (declare_right_side row value) = record all { right_sides = put bytes_cmp row value all.right_sides }
+adding all (declare_rhs row value) = record all { rhs_values = put bytes_cmp row value all.rhs_values }
 adding all (declare_range row value) = record all { ranges = put bytes_cmp row value all.ranges }
 adding all (declare_column name) = record all { columns = put bytes_cmp name tt all.columns }
-adding all (declare_coefficient place value) = record all { coefficients = put place_cmp place value all.coefficients }
+adding all (declare_coefficient key value) = record all { coefficients = put key_cmp key value all.coefficients }
 adding all (declare_lower column limit) = record all { lowers = put bytes_cmp column limit all.lowers }
 adding all (declare_upper column limit) = record all { uppers = put bytes_cmp column limit all.uppers }
 adding all (declare_marked column) = record all { marked = put bytes_cmp column tt all.marked }
@@ -114,8 +114,8 @@ abbrev pub has_column : Draft → List ℕ → Bool
 has_column all name = has_name all.columns name
 
 -- whether a coefficient is declared there, 0 or not
-abbrev pub has_entry : Draft → Place → Bool
-has_entry all place = is_some (find place_cmp place all.coefficients)
+abbrev pub has_entry : Draft → CoefficientKey → Bool
+has_entry all key = is_some (find key_cmp key all.coefficients)
 
 abbrev pub is_integer : Draft → List ℕ → Bool
 is_integer all name = has_name all.marked name || (has_name all.integers name || has_name all.binaries name)
@@ -138,8 +138,8 @@ is_row_by_limits all name = option_map_or is_limits_form (at_name all.rows name)
 -- ---- what declares by cases
 
 -- a right side: of a row of type N nothing, however often it is given
-abbrev pub right_side_declared : Draft → List ℕ → Number → Declarations
-right_side_declared all row value = if is_free_row all row then [] else declare_right_side row value ∷ []
+abbrev pub rhs_declared : Draft → List ℕ → Number → Declarations
+rhs_declared all row value = if is_free_row all row then [] else declare_rhs row value ∷ []
 
 -- the sides of a column that are given, both, one or none
 abbrev pub bounds_declared : List ℕ → Option Limit → Option Limit → Declarations

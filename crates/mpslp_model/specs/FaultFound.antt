@@ -1,26 +1,33 @@
 -- What is found wrong with a draft as a whole: what it is, and where.
-use Rattle.std.specs.Prelude.{ℕ, ◌<◌, Bool, List, length, Option, Some, None, slice_get}
+use Rattle.std.specs.Prelude.{ℕ, ◌<◌, ◌||◌, Bool, List, length, Option, Some, None, slice_get}
 use Rattle.std.specs.Option.{option_map}
 use Rattle.mpslp_decimal.specs.Decimal.{Number}
 use Rattle.mpslp_model.specs.Declaration.{RowForm, Draft, empty_draft, names_in}
-use Rattle.mpslp_model.specs.Limits.{limits_of, has_infinite_right_side, is_inexact, is_too_large, is_crossed}
+use Rattle.mpslp_model.specs.Limits.{limits_of, has_infinite_rhs, is_inexact, is_too_large, is_crossed}
 use Rattle.mpslp_model.specs.Bounds.{has_negative_upper, has_crossed_bounds, has_binary_bounds}
-use Rattle.mpslp_model.specs.Meaning.{head_of, names_with, whole_fault}
+use Rattle.mpslp_model.specs.Lists.{head_of}
+use Rattle.mpslp_model.specs.Meaning.{names_with, whole_fault}
 use Rattle.mpslp_model.specs.declared.faults.Fault.{Fault}
 use Rattle.mpslp_model.specs.declared.faults.FaultKind.{FaultKind}
 use Rattle.mpslp_model.specs.declared.faults.FaultKind.TheVariants as kinds
 use Rattle.mpslp_model.specs.declared.limits.RowFault.{RowFault}
 use Rattle.mpslp_model.specs.declared.limits.RowFault.TheVariants as rows
-use Rattle.mpslp_model.specs.declared.finding.ColumnFault.{ColumnFault}
-use Rattle.mpslp_model.specs.declared.finding.ColumnFault.TheVariants as columns
-use Rattle.mpslp_model.specs.declared.finding.FoundFault.{FoundFault}
-use Rattle.mpslp_model.specs.declared.finding.FoundFault.TheVariants as found
+use Rattle.mpslp_model.specs.declared.bounds.ColumnFault.{ColumnFault}
+use Rattle.mpslp_model.specs.declared.bounds.ColumnFault.TheVariants as columns
+use Rattle.mpslp_model.specs.declared.file_faults.FoundFault.{FoundFault}
+use Rattle.mpslp_model.specs.declared.file_faults.FoundFault.TheVariants as found
 
 abbrev pub row_test : RowFault → RowForm → Number → Option Number → Bool
-row_test rows.InfiniteLimit form b r = has_infinite_right_side form b r
+row_test rows.InfiniteLimit form b r = has_infinite_rhs form b r
 row_test rows.RangeInexact form b r = is_inexact (limits_of form b r)
 row_test rows.LimitTooLarge form b r = is_too_large (limits_of form b r)
 row_test rows.LimitsCrossed form b r = is_crossed (limits_of form b r)
+
+-- whether anything is wrong with a row
+abbrev pub is_faulty_row : RowForm → Number → Option Number → Bool
+is_faulty_row form b r =
+    let limits = limits_of form b r in
+    has_infinite_rhs form b r || (is_inexact limits || (is_too_large limits || is_crossed limits))
 
 -- what is declared of columns, without all else
 abbrev pub columns_alone : Draft → Draft
@@ -46,10 +53,10 @@ kind_of_column_fault columns.BinaryBounds = kinds.BinaryBounds
 abbrev pub named : Draft → FaultKind → Option Fault
 named all kind = option_map (λ name. whole_fault kind (Some name)) (head_of (names_with all kind))
 
-abbrev pub told : Draft → FoundFault → Fault
-told all found.NoColumns = whole_fault kinds.NoColumns None
-told all (found.Row fault i) = whole_fault (kind_of_row_fault fault) (slice_get (names_in all.rows) i)
-told all (found.Column fault j) = whole_fault (kind_of_column_fault fault) (slice_get (names_in all.columns) j)
+abbrev pub fault_found : Draft → FoundFault → Fault
+fault_found all found.NoColumns = whole_fault kinds.NoColumns None
+fault_found all (found.Row fault i) = whole_fault (kind_of_row_fault fault) (slice_get (names_in all.rows) i)
+fault_found all (found.Column fault j) = whole_fault (kind_of_column_fault fault) (slice_get (names_in all.columns) j)
 
 -- the row or the column of this number is there
 abbrev pub IsThere : Draft → FoundFault → Type 0

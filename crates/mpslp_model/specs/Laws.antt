@@ -1,10 +1,11 @@
 -- Laws of names, declarations and their meaning.
-use Rattle.std.specs.Prelude.{◌≡◌, ℕ, List}
+use Rattle.std.specs.Prelude.{◌≡◌, ◌↔◌, ℕ, IsTrue, List, None, is_some}
 use Rattle.std.specs.List.Sorted.{IsPermutation}
 use Rattle.mpslp_model.specs.Name.{IsMpsName, IsLpName}
 use Rattle.mpslp_model.specs.Model.{LinearModel}
-use Rattle.mpslp_model.specs.Declaration.{Declarations}
-use Rattle.mpslp_model.specs.Meaning.{Means}
+use Rattle.mpslp_model.specs.Declaration.{Declarations, Draft}
+use Rattle.mpslp_model.specs.Made.{IsMade}
+use Rattle.mpslp_model.specs.Meaning.{file_fault, DraftMeans, Means}
 
 -- What is a name in LP is one in MPS.
 abbrev pub LpNamesAreMpsNames : Type 0
@@ -17,3 +18,8 @@ MeanOneModel = (declarations : Declarations) (m n : LinearModel) → Means decla
 -- The same declarations in another order mean the same model.
 abbrev pub MeanTheSameInAnyOrder : Type 0
 MeanTheSameInAnyOrder = (declarations others : Declarations) (m : LinearModel) → IsPermutation declarations others → Means declarations m → Means others m
+
+-- The declarations of a builder, the objective's name among them, have no fault of the whole exactly where they mean a
+-- model. So the end of a builder refuses no model, and makes none up.
+abbrev pub FaultsAreExact : Type 0
+FaultsAreExact = (all : Draft) → IsMade all → IsTrue (is_some all.objective) → (file_fault all ≡ None) ↔ ((m : LinearModel) × DraftMeans all m)

@@ -1,3 +1,4 @@
+pub mod Lists
 pub mod Name
 pub mod Model
 pub mod Declaration

@@ -37,12 +37,12 @@ limits_of (by_limits lower upper) b r = Some (record { lower = lower; upper = up
 -- ---- rows that no model has
 
 -- the right side is plus infinite on G, minus infinite on L, or infinite on E or beside a range
-abbrev pub has_infinite_right_side : RowForm → Number → Option Number → Bool
-has_infinite_right_side (by_type Free) b r = false
-has_infinite_right_side (by_type AtMost) b r = is_infinite_size b && (is_some r || is_negative b)
-has_infinite_right_side (by_type AtLeast) b r = is_infinite_size b && (is_some r || not (is_negative b))
-has_infinite_right_side (by_type Equal) b r = is_infinite_size b
-has_infinite_right_side (by_limits _ _) b r = false
+abbrev pub has_infinite_rhs : RowForm → Number → Option Number → Bool
+has_infinite_rhs (by_type Free) b r = false
+has_infinite_rhs (by_type AtMost) b r = is_infinite_size b && (is_some r || is_negative b)
+has_infinite_rhs (by_type AtLeast) b r = is_infinite_size b && (is_some r || not (is_negative b))
+has_infinite_rhs (by_type Equal) b r = is_infinite_size b
+has_infinite_rhs (by_limits _ _) b r = false
 
 -- a test of upper minus lower, where both are finite; it may be no decimal
 abbrev pub distance_passes : (Option Number → Bool) → Row → Bool

@@ -4,7 +4,7 @@ use Rattle.std.specs.List.{list_all}
 use Rattle.mpslp_decimal.specs.Decimal.{is_decimal}
 use Rattle.mpslp_model.specs.Name.{is_mps_name}
 use Rattle.mpslp_model.specs.Model.{is_bounded_decimal}
-use Rattle.mpslp_model.specs.Declaration.{RowForm, by_type, by_limits, Declaration, declare_sense, declare_objective, declare_constant, declare_row, declare_right_side, declare_range, declare_column, declare_coefficient, declare_lower, declare_upper, Declarations, Draft, empty_draft, draft_of}
+use Rattle.mpslp_model.specs.Declaration.{RowForm, by_type, by_limits, Declaration, declare_sense, declare_objective, declare_constant, declare_row, declare_rhs, declare_range, declare_column, declare_coefficient, declare_lower, declare_upper, Declarations, Draft, empty_draft, draft_of}
 use Rattle.mpslp_model.specs.Refusal.{refusals_in_turn}
 use Rattle.mpslp_model.specs.declared.kinds.Limit.{Limit}
 use Rattle.mpslp_model.specs.declared.kinds.Limit.TheVariants.{Finite}
@@ -24,10 +24,10 @@ is_legal (declare_sense _) = true
 is_legal (declare_objective name) = is_mps_name name
 is_legal (declare_constant value) = is_decimal value
 is_legal (declare_row name form) = is_mps_name name && are_given form
-is_legal (declare_right_side row value) = is_decimal value
+is_legal (declare_rhs row value) = is_decimal value
 is_legal (declare_range row value) = is_decimal value
 is_legal (declare_column name) = is_mps_name name
-is_legal (declare_coefficient place value) = is_decimal value
+is_legal (declare_coefficient key value) = is_decimal value
 is_legal (declare_lower column limit) = is_given limit
 is_legal (declare_upper column limit) = is_given limit
 is_legal _ = true

@@ -6,10 +6,10 @@ use Rattle.std.specs.List.{list_all}
 use Rattle.mpslp_decimal.specs.Decimal.{Number, zero_number, is_zero, negated}
 use Rattle.mpslp_model.specs.Model.{LinearModel, Row, IsSound}
 use Rattle.mpslp_model.specs.Declaration.{RowForm, Declarations, Draft, draft_of, at_name, names_in}
-use Rattle.mpslp_model.specs.Limits.{limits_of, plain_limits, has_infinite_right_side, is_inexact, is_too_large, is_crossed}
+use Rattle.mpslp_model.specs.Limits.{limits_of, plain_limits, has_infinite_rhs, is_inexact, is_too_large, is_crossed}
 use Rattle.mpslp_model.specs.Bounds.{column_of, has_negative_upper, has_crossed_bounds, has_binary_bounds}
 use Rattle.mpslp_model.specs.Consistency.{AreConsistent}
-use Rattle.mpslp_model.specs.Refusal.{is_nonempty}
+use Rattle.mpslp_model.specs.Lists.{is_nonempty, head_of}
 use Rattle.mpslp_model.specs.declared.kinds.Sense.TheVariants.{Minimize}
 use Rattle.mpslp_model.specs.declared.kinds.RowType.TheVariants.{Free}
 use Rattle.mpslp_model.specs.declared.faults.Fault.{Fault}
@@ -23,14 +23,14 @@ objective_name all = unwrap_or all.objective []
 
 -- the constant, or the negated right side of the objective, or 0
 abbrev pub constant_of : Draft → Number
-constant_of all = unwrap_or all.constant (negated (unwrap_or (at_name all.right_sides (objective_name all)) zero_number))
+constant_of all = unwrap_or all.constant (negated (unwrap_or (at_name all.rhs_values (objective_name all)) zero_number))
 
-abbrev pub right_side_or_zero : Draft → List ℕ → Number
-right_side_or_zero all name = unwrap_or (at_name all.right_sides name) zero_number
+abbrev pub rhs_or_zero : Draft → List ℕ → Number
+rhs_or_zero all name = unwrap_or (at_name all.rhs_values name) zero_number
 
 -- the limits of a row, where they are decimals
 abbrev pub row_limits : Draft → List ℕ × RowForm → Option Row
-row_limits all row = limits_of row.1 (right_side_or_zero all row.0) (at_name all.ranges row.0)
+row_limits all row = limits_of row.1 (rhs_or_zero all row.0) (at_name all.ranges row.0)
 
 -- a row whose limits are no decimals is in no model: what stands here for it is of no account
 abbrev pub row_entry : Draft → List ℕ × RowForm → List ℕ × Row
@@ -50,7 +50,7 @@ model_of all = record {
 
 -- a test of a row's form, right side and range
 abbrev pub row_passes : Draft → (RowForm → Number → Option Number → Bool) → List ℕ × RowForm → Bool
-row_passes all test row = test row.1 (right_side_or_zero all row.0) (at_name all.ranges row.0)
+row_passes all test row = test row.1 (rhs_or_zero all row.0) (at_name all.ranges row.0)
 
 -- the rows, or the columns, that pass a test, in byte order
 abbrev pub rows_where : Draft → (RowForm → Number → Option Number → Bool) → List (List ℕ)
@@ -61,7 +61,7 @@ columns_where all test = filter (test all) (names_in all.columns)
 
 -- the rows or columns that have a kind of fault
 abbrev pub names_with : Draft → FaultKind → List (List ℕ)
-names_with all InfiniteLimit = rows_where all has_infinite_right_side
+names_with all InfiniteLimit = rows_where all has_infinite_rhs
 names_with all RangeInexact = rows_where all (λ form b r. is_inexact (limits_of form b r))
 names_with all LimitTooLarge = rows_where all (λ form b r. is_too_large (limits_of form b r))
 names_with all LimitsCrossed = rows_where all (λ form b r. is_crossed (limits_of form b r))
@@ -73,10 +73,6 @@ names_with all _ = []
 -- the kinds that are told of a row or a column, in the order of kinds
 abbrev pub named_kinds : List FaultKind
 named_kinds = InfiniteLimit ∷ RangeInexact ∷ LimitTooLarge ∷ LimitsCrossed ∷ NegativeUpper ∷ BoundsCrossed ∷ BinaryBounds ∷ []
-
-abbrev pub head_of : {X : Type 0} → List X → Option X
-head_of [] = None
-head_of (x ∷ xs) = Some x
 
 -- a fault of the whole file stands on no line, which is said by line 0
 abbrev pub whole_fault : FaultKind → Option (List ℕ) → Fault
@@ -95,7 +91,7 @@ file_fault all = if is_nonempty all.columns then head_of (named_faults all) else
 -- A draft means a model: its rows have finite right sides where they need them, and limits that are decimals; the
 -- model is sound; an upper bound below 0 has a declared lower bound, and binary columns lie within 0 and 1.
 pub record DraftMeans (all : Draft) (m : LinearModel) : Type 0 where
-  pub finite_right_sides : IsTrue (list_all (λ row. not (row_passes all has_infinite_right_side row)) all.rows)
+  pub finite_rhs_values : IsTrue (list_all (λ row. not (row_passes all has_infinite_rhs row)) all.rows)
   pub exact_limits : IsTrue (list_all (λ row. is_some (row_limits all row)) all.rows)
   pub model : m ≡ model_of all
   pub sound : IsSound m

@@ -20,16 +20,16 @@ abbrev pub bytes_cmp : List ℕ → List ℕ → Ordering
 bytes_cmp = slice_cmp nat_cmp
 
 -- where a coefficient stands: a row, or the objective, and a column
-pub record Place : Type 0 where
+pub record CoefficientKey : Type 0 where
   pub row : List ℕ
   pub column : List ℕ
 
 -- By column, then by row. So the coefficients of a column stand together, in the order of their rows.
-abbrev pub place_cmp : Place → Place → Ordering
-place_cmp a b = ordering_then (bytes_cmp a.column b.column) (bytes_cmp a.row b.row)
+abbrev pub key_cmp : CoefficientKey → CoefficientKey → Ordering
+key_cmp a b = ordering_then (bytes_cmp a.column b.column) (bytes_cmp a.row b.row)
 
-pub place_total : IsTotalOrder place_cmp
-place_total = then_total (on_total (λ (p : Place). p.column) nat_list_cmp_total) (on_total (λ (p : Place). p.row) nat_list_cmp_total)
+pub key_total : IsTotalOrder key_cmp
+key_total = then_total (on_total (λ (p : CoefficientKey). p.column) nat_list_cmp_total) (on_total (λ (p : CoefficientKey). p.row) nat_list_cmp_total)
 
 -- ---- a model: what rows, columns and coefficients there are, by their names
 
@@ -49,7 +49,7 @@ pub record LinearModel : Type 0 where
   pub constant : Number
   pub rows : FinMap bytes_cmp Row
   pub columns : FinMap bytes_cmp Column
-  pub coefficients : FinMap place_cmp Number
+  pub coefficients : FinMap key_cmp Number
 
 -- ---- sides
 
@@ -100,11 +100,11 @@ abbrev pub is_sound_column : List ℕ × Column → Bool
 is_sound_column column = is_mps_name column.0 && are_sides column.1.lower column.1.upper
 
 -- a decimal that is not 0, of a row or the objective and of a column that are there
-abbrev pub is_sound_coefficient : LinearModel → Place × Number → Bool
+abbrev pub is_sound_coefficient : LinearModel → CoefficientKey × Number → Bool
 is_sound_coefficient m coefficient =
-    let place = coefficient.0 in
+    let key = coefficient.0 in
     is_decimal coefficient.1 && (not (is_zero coefficient.1)
-    && (is_one_of (maps.keys m.columns) place.column && is_one_of (m.objective ∷ maps.keys m.rows) place.row))
+    && (is_one_of (maps.keys m.columns) key.column && is_one_of (m.objective ∷ maps.keys m.rows) key.row))
 
 -- What holds of every model.
 pub record IsSound (m : LinearModel) : Type 0 where

@@ -1,8 +1,8 @@
 -- A model from its parts, and what holds of these.
 use Rattle.std.specs.Prelude.{IsTrue}
 use Rattle.std.specs.FinMap as maps
-use Rattle.mpslp_model.specs.Model.{LinearModel, bytes_cmp, place_cmp, IsSound}
-use Rattle.mpslp_model.specs.declared.linear.Model.TheInside.{Inside}
+use Rattle.mpslp_model.specs.Model.{LinearModel, bytes_cmp, key_cmp, IsSound}
+use Rattle.mpslp_model.specs.declared.model.Model.TheInside.{Inside}
 
 abbrev pub linear_model : Inside → LinearModel
 linear_model m = record {
@@ -18,5 +18,5 @@ linear_model m = record {
 pub record AreModelParts (m : Inside) : Type 0 where
   pub rows : IsTrue (maps.is_sorted bytes_cmp m.rows.items)
   pub columns : IsTrue (maps.is_sorted bytes_cmp m.columns.items)
-  pub coefficients : IsTrue (maps.is_sorted place_cmp m.coefficients.items)
+  pub coefficients : IsTrue (maps.is_sorted key_cmp m.coefficients.items)
   pub sound : IsSound (linear_model m)

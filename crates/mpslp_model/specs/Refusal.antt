@@ -2,44 +2,52 @@
 use Rattle.std.specs.Prelude.{ℕ, Bool, true, false, ◌&&◌, ◌||◌, not, List, [], ◌∷◌, ◌++◌, Option, is_some, if◌then◌else◌}
 use Rattle.std.specs.Option.{option_map_or}
 use Rattle.mpslp_decimal.specs.Decimal.{is_infinite_size}
-use Rattle.mpslp_model.specs.Declaration.{Declaration, declare_sense, declare_objective, declare_constant, declare_row, declare_right_side, declare_range, declare_column, declare_coefficient, declare_lower, declare_upper, declare_marked, declare_integer, declare_binary, Declarations, Draft, adding, has_name, is_objective, has_row, has_column, has_entry, is_free_row, is_row_by_limits}
+use Rattle.mpslp_model.specs.Declaration.{Declaration, declare_sense, declare_objective, declare_constant, declare_row, declare_rhs, declare_range, declare_column, declare_coefficient, declare_lower, declare_upper, declare_marked, declare_integer, declare_binary, Declarations, Draft, adding, has_name, is_objective, has_row, has_column, has_entry, is_free_row, is_row_by_limits}
+use Rattle.mpslp_model.specs.Model.{CoefficientKey}
+use Rattle.mpslp_model.specs.Lists.{those_of}
 use Rattle.mpslp_model.specs.Sides.{is_plus_infinite, is_minus_infinite, have_infinite_side}
-use Rattle.mpslp_model.specs.Consistency.{has_objective_side}
+use Rattle.mpslp_model.specs.Consistency.{has_objective_rhs}
 use Rattle.mpslp_model.specs.declared.kinds.Limit.{Limit}
 use Rattle.mpslp_model.specs.declared.faults.BuildFault.{BuildFault}
 use Rattle.mpslp_model.specs.declared.faults.BuildFault.TheVariants.{DuplicateSense, SecondObjective, UnknownRow, UnknownColumn, DuplicateRow, DuplicateEntry, DuplicateRhs, DuplicateRange, DuplicateBound, RangeOnFree, InfiniteValue}
 
-abbrev pub is_nonempty : {X : Type 0} → List X → Bool
-is_nonempty [] = false
-is_nonempty (x ∷ xs) = true
-
-abbrev pub when : {X : Type 0} → Bool → X → List X
-when test x = if test then x ∷ [] else []
-
 -- a constant, or a right side of the objective
 abbrev pub has_constant : Draft → Bool
-has_constant all = is_some all.constant || has_objective_side all
+has_constant all = is_some all.constant || has_objective_rhs all
 
--- the faults whose tests hold, in order
-abbrev pub those_of : {X : Type 0} → List (Bool × X) → List X
-those_of [] = []
-those_of (tested ∷ more) = if tested.0 then tested.1 ∷ those_of more else those_of more
+-- ---- the faults of a declaration after those made before it, each with its test, in the order in which they are told
 
--- the faults of a declaration after those made before it, each with its test, in the order in which they are told
+-- whatever sense is declared
+abbrev pub sense_tests : Draft → List (Bool × BuildFault)
+sense_tests all = (is_some all.sense, DuplicateSense) ∷ []
+
+-- of a row by its type, whichever it is
+abbrev pub row_tests : Draft → List ℕ → List (Bool × BuildFault)
+row_tests all name = (has_row all name, DuplicateRow) ∷ []
+
+-- whatever the value is
+abbrev pub rhs_tests : Draft → List ℕ → List (Bool × BuildFault)
+rhs_tests all row =
+    (not (has_row all row), UnknownRow)
+    ∷ (has_name all.rhs_values row || (is_row_by_limits all row || (is_objective all row && is_some all.constant)), DuplicateRhs) ∷ []
+
+-- whatever the value is
+abbrev pub coefficient_tests : Draft → CoefficientKey → List (Bool × BuildFault)
+coefficient_tests all key =
+    (not (has_row all key.row), UnknownRow) ∷ (not (has_column all key.column), UnknownColumn) ∷ (has_entry all key, DuplicateEntry) ∷ []
+
+-- the tests of a declaration
 abbrev pub refusal_tests : Draft → Declaration → List (Bool × BuildFault)
-refusal_tests all (declare_sense sense) = (is_some all.sense, DuplicateSense) ∷ []
+refusal_tests all (declare_sense sense) = sense_tests all
 refusal_tests all (declare_objective name) = (is_some all.objective, SecondObjective) ∷ (has_row all name, DuplicateRow) ∷ []
 refusal_tests all (declare_constant value) = (has_constant all, DuplicateRhs) ∷ []
-refusal_tests all (declare_row name form) = (has_row all name, DuplicateRow) ∷ (have_infinite_side form, InfiniteValue) ∷ []
-refusal_tests all (declare_right_side row value) =
-    (not (has_row all row), UnknownRow)
-    ∷ (has_name all.right_sides row || (is_row_by_limits all row || (is_objective all row && is_some all.constant)), DuplicateRhs) ∷ []
+refusal_tests all (declare_row name form) = row_tests all name ++ (have_infinite_side form, InfiniteValue) ∷ []
+refusal_tests all (declare_rhs row value) = rhs_tests all row
 refusal_tests all (declare_range row value) =
     (not (has_row all row), UnknownRow) ∷ (has_name all.ranges row || is_row_by_limits all row, DuplicateRange)
     ∷ (is_objective all row || is_free_row all row, RangeOnFree) ∷ (is_infinite_size value, InfiniteValue) ∷ []
 refusal_tests all (declare_column name) = []
-refusal_tests all (declare_coefficient place value) =
-    (not (has_row all place.row), UnknownRow) ∷ (not (has_column all place.column), UnknownColumn) ∷ (has_entry all place, DuplicateEntry) ∷ []
+refusal_tests all (declare_coefficient key value) = coefficient_tests all key
 refusal_tests all (declare_lower column limit) =
     (not (has_column all column), UnknownColumn) ∷ (has_name all.lowers column, DuplicateBound) ∷ (is_plus_infinite limit, InfiniteValue) ∷ []
 refusal_tests all (declare_upper column limit) =

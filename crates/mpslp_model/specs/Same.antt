@@ -13,14 +13,20 @@ same_number a b = int_eq a.mantissa b.mantissa && int_eq a.exponent b.exponent
 
 abbrev pub same_limit : Limit → Limit → Bool
 same_limit MinusInf MinusInf = true
+same_limit MinusInf (Finite b) = false
+same_limit MinusInf PlusInf = false
+same_limit (Finite a) MinusInf = false
 same_limit (Finite a) (Finite b) = same_number a b
+same_limit (Finite a) PlusInf = false
+same_limit PlusInf MinusInf = false
+same_limit PlusInf (Finite b) = false
 same_limit PlusInf PlusInf = true
-same_limit _ _ = false
 
 abbrev pub same_kind : Kind → Kind → Bool
 same_kind Continuous Continuous = true
+same_kind Continuous Integer = false
+same_kind Integer Continuous = false
 same_kind Integer Integer = true
-same_kind _ _ = false
 
 abbrev pub same_row : Row → Row → Bool
 same_row a b = same_limit a.lower b.lower && same_limit a.upper b.upper

@@ -4,7 +4,7 @@ use Rattle.std.specs.Ordering.{is_eq}
 use Rattle.std.specs.FinMap as maps
 use Rattle.mpslp_decimal.specs.Decimal.{Number, zero_number, decimal_cmp, difference_of}
 use Rattle.mpslp_model.specs.Name.{same_bytes}
-use Rattle.mpslp_model.specs.Model.{Place, place_cmp, Row, Column, LinearModel}
+use Rattle.mpslp_model.specs.Model.{CoefficientKey, key_cmp, Row, Column, LinearModel}
 use Rattle.mpslp_model.specs.declared.kinds.Kind.{Kind}
 use Rattle.mpslp_model.specs.declared.kinds.Kind.TheVariants.{Continuous, Integer}
 use Rattle.mpslp_model.specs.declared.kinds.Limit.{Limit}
@@ -80,19 +80,19 @@ row_range row = distance row.lower row.upper
 
 -- ---- coefficients
 
--- the coefficient at a place; one that is not there is 0
+-- the coefficient of this row and column; one that is not there is 0
 abbrev pub coefficient_at : LinearModel → List ℕ → List ℕ → Number
-coefficient_at m row column = unwrap_or (maps.find place_cmp (record { row = row; column = column }) (maps.entries m.coefficients)) zero_number
+coefficient_at m row column = unwrap_or (maps.find key_cmp (record { row = row; column = column }) (maps.entries m.coefficients)) zero_number
 
 -- of a row, and not of the objective
-abbrev pub is_element : LinearModel → Place × Number → Bool
+abbrev pub is_element : LinearModel → CoefficientKey × Number → Bool
 is_element m coefficient = not (same_bytes m.objective coefficient.0.row)
 
 abbrev pub num_elements : LinearModel → ℕ
 num_elements m = length (filter (is_element m) (maps.entries m.coefficients))
 
 -- the coefficients of rows in a column, in the order of rows
-abbrev pub column_elements : LinearModel → List ℕ → List (Place × Number)
+abbrev pub column_elements : LinearModel → List ℕ → List (CoefficientKey × Number)
 column_elements m column = filter (λ coefficient. is_element m coefficient && same_bytes column coefficient.0.column) (maps.entries m.coefficients)
 
 -- each of them by the number of its row

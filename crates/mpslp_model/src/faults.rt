@@ -2,6 +2,7 @@
 
 ghost use Rattle.std.specs.Prelude.{◌≡◌};
 ghost use Rattle.mpslp_model.specs.FaultName.{kind_name};
+ghost use Rattle.mpslp_model.specs.FaultOrder.{kind_rank};
 
 use crate::names::Name;
 use std::alloc::AllocError;
@@ -63,7 +64,7 @@ impl From<AllocError> for BuildFault {
 #[derive(Clone, Copy, Debug, PartialEq, Eq)]
 pub enum FaultKind {
     /// The line is longer than 1,048,576 bytes.
-    LineTooLong,
+    LineTooLong = 1,
     /// A byte outside a comment is neither visible ASCII nor a blank or tab.
     BadByte,
     /// A quadratic objective or row.
@@ -151,6 +152,13 @@ pub enum FaultKind {
 }
 
 impl FaultKind {
+    /// The rank of the kind in the order of the kinds, counted from 1. Of several faults, that of the least rank is told.
+    pub fn rank(self) -> u8
+        ensures { result ≡ kind_rank self }
+    {
+        self as u8
+    }
+
     /// The name of the kind.
     pub fn text(self) -> &'static str
         ensures { result.now ≡ kind_name self }

@@ -7,7 +7,7 @@ ghost use Rattle.mpslp_model.specs.declared.faults.Fault.{Fault};
 ghost use Rattle.mpslp_model.specs.declared.faults.NameAt.{NameAt};
 
 use crate::faults::{ReadFault, WriteFault};
-use crate::linear::Model;
+use crate::model::Model;
 use mpslp_io::Sink;
 use std::alloc::Global;
 

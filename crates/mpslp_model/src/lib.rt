@@ -9,24 +9,26 @@
 //! [`put_all`] and what goes with them.
 #![tactic(auto)]
 
-mod building;
-mod columns;
-mod entries;
+mod bounds;
+mod builder;
+mod elements;
 mod faults;
-mod finding;
-mod finishing;
+mod file_faults;
+mod finish;
 mod formats;
 mod kinds;
 pub mod laws;
 mod limits;
-mod linear;
+mod model;
 mod names;
+mod refusals;
+mod sorted_map;
 
-pub use building::Builder;
+pub use builder::Builder;
 pub use faults::{BuildFault, Fault, FaultKind, NameAt, ReadFault, WriteFault};
 pub use formats::Format;
 pub use kinds::{Kind, Limit, RowType, Sense};
-pub use linear::Model;
+pub use model::Model;
 pub use mpslp_io::{FromRead, IoFailed, Sink, Source, ToWrite, put_all};
 pub use names::{MAX_NAME_LEN, Name, NameFault};
 

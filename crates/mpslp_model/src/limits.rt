@@ -5,18 +5,18 @@ ghost use Rattle.std.specs.Ordering.{is_lt};
 ghost use Rattle.std.specs.Option.{option_map_or};
 ghost use Rattle.mpslp_decimal.specs.Decimal.{decimal_cmp, is_infinite_size, size_of, sum_of, difference_of};
 ghost use Rattle.mpslp_model.specs.Model.{is_at_most};
-ghost use Rattle.mpslp_model.specs.Limits.{sides, plain_limits, ranged_limits, limits_of, has_infinite_right_side, is_large_limit, distance_passes, is_inexact, is_too_large, is_crossed};
+ghost use Rattle.mpslp_model.specs.Limits.{sides, plain_limits, ranged_limits, limits_of, has_infinite_rhs, is_large_limit, distance_passes, is_inexact, is_too_large, is_crossed};
 ghost use Rattle.mpslp_model.specs.BuilderDraft.{row_form};
-ghost use Rattle.mpslp_model.specs.FaultFound.{row_test};
+ghost use Rattle.mpslp_model.specs.FaultFound.{is_faulty_row, row_test};
 
-use crate::building::FormKind;
+use crate::builder::FormKind;
 use crate::kinds::{Limit, RowType, is_negative};
-use crate::linear::RowLimits;
+use crate::model::RowLimits;
 use mpslp_decimal::Decimal;
 use mpslp_decimal::laws::each_value_is_a_decimal;
 
 /// What may be wrong with the limits of a row, in the order in which it is told.
-#[derive(Clone, Copy, Debug)]
+#[derive(Clone, Copy)]
 pub(crate) enum RowFault {
     /// The right side is infinite where it may not be.
     InfiniteLimit,
@@ -53,76 +53,75 @@ fn sides(lower: Option<Decimal>, upper: Option<Decimal>) -> Option<RowLimits>
 }
 
 /// The limits by type and right side, without a range.
-pub(crate) fn plain_limits(row_type: RowType, right_side: Decimal) -> RowLimits
-    ensures { result ≡ plain_limits row_type right_side }
+pub(crate) fn plain_limits(row_type: RowType, rhs: Decimal) -> RowLimits
+    ensures { result ≡ plain_limits row_type rhs }
 {
     let (lower, upper) = match row_type {
         RowType::Free => (Limit::MinusInf, Limit::PlusInf),
-        RowType::AtMost => (Limit::MinusInf, Limit::of(right_side)),
-        RowType::AtLeast => (Limit::of(right_side), Limit::PlusInf),
-        RowType::Equal => (Limit::of(right_side), Limit::of(right_side)),
+        RowType::AtMost => (Limit::MinusInf, Limit::of(rhs)),
+        RowType::AtLeast => (Limit::of(rhs), Limit::PlusInf),
+        RowType::Equal => (Limit::of(rhs), Limit::of(rhs)),
     };
     RowLimits { lower, upper }
 }
 
 /// The limits so far below and above the right side: the range counts downwards.
-fn below(right_side: Decimal, range: Decimal) -> Option<RowLimits>
-    ensures { result ≡ sides (difference_of right_side (size_of range)) (Some right_side) }
+fn below(rhs: Decimal, range: Decimal) -> Option<RowLimits>
+    ensures { result ≡ sides (difference_of rhs (size_of range)) (Some rhs) }
 {
-    sides(right_side.checked_sub(size_of(range)), Some(right_side))
+    sides(rhs.checked_sub(size_of(range)), Some(rhs))
 }
 
 /// The limits where the range counts upwards.
-fn above(right_side: Decimal, range: Decimal) -> Option<RowLimits>
-    ensures { result ≡ sides (Some right_side) (sum_of right_side (size_of range)) }
+fn above(rhs: Decimal, range: Decimal) -> Option<RowLimits>
+    ensures { result ≡ sides (Some rhs) (sum_of rhs (size_of range)) }
 {
-    sides(Some(right_side), right_side.checked_add(size_of(range)))
+    sides(Some(rhs), rhs.checked_add(size_of(range)))
 }
 
 /// The limits by type, right side and range, where the computed one is a decimal.
-fn ranged_limits(row_type: RowType, right_side: Decimal, range: Decimal) -> Option<RowLimits>
-    ensures { result ≡ ranged_limits row_type right_side range }
+fn ranged_limits(row_type: RowType, rhs: Decimal, range: Decimal) -> Option<RowLimits>
+    ensures { result ≡ ranged_limits row_type rhs range }
 {
     match row_type {
         RowType::Free => Some(RowLimits {
             lower: Limit::MinusInf,
             upper: Limit::PlusInf,
         }),
-        RowType::AtMost => below(right_side, range),
-        RowType::AtLeast => above(right_side, range),
-        RowType::Equal if is_negative(range) => below(right_side, range),
-        RowType::Equal => above(right_side, range),
+        RowType::AtMost => below(rhs, range),
+        RowType::AtLeast => above(rhs, range),
+        RowType::Equal if is_negative(range) => below(rhs, range),
+        RowType::Equal => above(rhs, range),
     }
 }
 
 /// The limits of a row, where they are decimals.
-pub(crate) fn limits_of(
-    form: FormKind,
-    right_side: Decimal,
-    range: Option<Decimal>,
-) -> Option<RowLimits>
-    ensures { result ≡ limits_of (row_form form) right_side range }
+pub(crate) fn limits_of(form: &FormKind, rhs: Decimal, range: &Option<Decimal>) -> Option<RowLimits>
+    ensures { result ≡ limits_of (row_form form.now) rhs range.now }
 {
     match (form, range) {
-        (FormKind::ByType(row_type), None) => Some(plain_limits(row_type, right_side)),
-        (FormKind::ByType(row_type), Some(range)) => ranged_limits(row_type, right_side, range),
-        (FormKind::ByLimits(lower, upper), _) => Some(RowLimits { lower, upper }),
+        (FormKind::ByType(row_type), None) => Some(plain_limits(*row_type, rhs)),
+        (FormKind::ByType(row_type), Some(range)) => ranged_limits(*row_type, rhs, *range),
+        (FormKind::ByLimits(lower, upper), _) => Some(RowLimits {
+            lower: *lower,
+            upper: *upper,
+        }),
     }
 }
 
 /// Whether the right side is infinite where it may not be: it lies on the far side of its type, or a range or an equation
 /// needs it.
-fn has_infinite_right_side(form: FormKind, right_side: Decimal, range: Option<Decimal>) -> bool
-    ensures { result ≡ has_infinite_right_side (row_form form) right_side range }
+fn has_infinite_rhs(form: &FormKind, rhs: Decimal, range: &Option<Decimal>) -> bool
+    ensures { result ≡ has_infinite_rhs (row_form form.now) rhs range.now }
 {
     match form {
         FormKind::ByType(RowType::AtMost) => {
-            right_side.is_infinite_size() && (range.is_some() || is_negative(right_side))
+            rhs.is_infinite_size() && (range.is_some() || is_negative(rhs))
         }
         FormKind::ByType(RowType::AtLeast) => {
-            right_side.is_infinite_size() && (range.is_some() || !is_negative(right_side))
+            rhs.is_infinite_size() && (range.is_some() || !is_negative(rhs))
         }
-        FormKind::ByType(RowType::Equal) => right_side.is_infinite_size(),
+        FormKind::ByType(RowType::Equal) => rhs.is_infinite_size(),
         FormKind::ByType(RowType::Free) | FormKind::ByLimits(_, _) => false,
     }
 }
@@ -174,23 +173,23 @@ fn is_large_distance(limits: RowLimits) -> bool
 }
 
 /// Whether a computed limit or the distance is no decimal.
-fn is_inexact(limits: Option<RowLimits>) -> bool
-    ensures { result ≡ is_inexact limits }
+fn is_inexact(limits: &Option<RowLimits>) -> bool
+    ensures { result ≡ is_inexact limits.now }
 {
     match limits {
-        Some(limits) => is_inexact_distance(limits),
+        Some(limits) => is_inexact_distance(*limits),
         None => true,
     }
 }
 
 /// Whether a computed limit or the distance has size 10^20 or more.
-fn is_too_large(limits: Option<RowLimits>) -> bool
-    ensures { result ≡ is_too_large limits }
+fn is_too_large(limits: &Option<RowLimits>) -> bool
+    ensures { result ≡ is_too_large limits.now }
 {
     match limits {
         Some(limits) => {
             is_large_limit(limits.lower)
-                || (is_large_limit(limits.upper) || is_large_distance(limits))
+                || (is_large_limit(limits.upper) || is_large_distance(*limits))
         }
         None => false,
     }
@@ -224,8 +223,8 @@ pub(crate) fn is_at_most(a: Limit, b: Limit) -> bool
 }
 
 /// Whether the lower limit is above the upper one.
-fn is_crossed(limits: Option<RowLimits>) -> bool
-    ensures { result ≡ is_crossed limits }
+fn is_crossed(limits: &Option<RowLimits>) -> bool
+    ensures { result ≡ is_crossed limits.now }
 {
     match limits {
         Some(limits) => !is_at_most(limits.lower, limits.upper),
@@ -233,19 +232,28 @@ fn is_crossed(limits: Option<RowLimits>) -> bool
     }
 }
 
+/// Whether anything is wrong with a row of this form, right side and range. Its limits are built once.
+pub(crate) fn is_faulty_row(form: &FormKind, rhs: Decimal, range: &Option<Decimal>) -> bool
+    ensures { result ≡ is_faulty_row (row_form form.now) rhs range.now }
+{
+    let limits = limits_of(form, rhs, range);
+    has_infinite_rhs(form, rhs, range)
+        || (is_inexact(&limits) || (is_too_large(&limits) || is_crossed(&limits)))
+}
+
 /// Whether this is wrong with a row of this form, right side and range.
 pub(crate) fn row_has(
     fault: RowFault,
-    form: FormKind,
-    right_side: Decimal,
-    range: Option<Decimal>,
+    form: &FormKind,
+    rhs: Decimal,
+    range: &Option<Decimal>,
 ) -> bool
-    ensures { result ≡ row_test fault (row_form form) right_side range }
+    ensures { result ≡ row_test fault (row_form form.now) rhs range.now }
 {
     match fault {
-        RowFault::InfiniteLimit => has_infinite_right_side(form, right_side, range),
-        RowFault::RangeInexact => is_inexact(limits_of(form, right_side, range)),
-        RowFault::LimitTooLarge => is_too_large(limits_of(form, right_side, range)),
-        RowFault::LimitsCrossed => is_crossed(limits_of(form, right_side, range)),
+        RowFault::InfiniteLimit => has_infinite_rhs(form, rhs, range),
+        RowFault::RangeInexact => is_inexact(&limits_of(form, rhs, range)),
+        RowFault::LimitTooLarge => is_too_large(&limits_of(form, rhs, range)),
+        RowFault::LimitsCrossed => is_crossed(&limits_of(form, rhs, range)),
     }
 }

@@ -3,6 +3,7 @@
 ghost use Rattle.std.specs.Prelude.{◌≡◌, Some, IfSome, IfNone, IfOk, MatchResult, refl};
 ghost use Rattle.std.proofs.Common.{rules};
 ghost use Rattle.std.specs.List.{list_all};
+ghost use Rattle.std.specs.Result.{result_err};
 ghost use Rattle.std.specs.Hash as fed;
 ghost use Rattle.std.specs.Cmp.{partial_equiv_from_equiv};
 ghost use Rattle.std.specs.Cmp.Lexicographic.{nat_list_cmp_total, nat_list_eq_equiv, texts_po, texts_ties};
@@ -40,7 +41,7 @@ pub enum NameFault {
 /// are not `'MARKER'`. Contracts see its bytes.
 #[derive(Debug, Drop)]
 pub struct Name {
-    bytes: Vec<u8>,
+    pub(crate) bytes: Vec<u8>,
 }
 
 impl Model for Name {
@@ -119,10 +120,14 @@ fn is_marker(bytes: &[u8]) -> bool
 }
 
 impl Name {
-    /// The name of these bytes, or the first refusal that they meet.
-    pub fn new(alloc: Global, bytes: &[u8]) -> Result<Name, NameFault>
-        ensures refused { IfSome (name_refusal bytes.now) (λ fault. result ≡ Err fault) }
-        ensures taken { IfNone (name_refusal bytes.now) (MatchResult result (λ name. name ≡ bytes.now) (λ fault. fault ≡ NameFault.OutOfMemory)) }
+    /// Whether the bytes are a name, and else the first refusal that they meet. It takes no memory, and never answers
+    /// [`OutOfMemory`](NameFault::OutOfMemory).
+    ///
+    /// # Errors
+    ///
+    /// `NameLength`, `NameByte` and `NameMarker`, in this order.
+    pub fn check(bytes: &[u8]) -> Result<(), NameFault>
+        ensures { result_err result ≡ name_refusal bytes.now }
     {
         if bytes.is_empty() || bytes.len() > MAX_NAME_LEN {
             return Err(NameFault::NameLength);
@@ -133,6 +138,19 @@ impl Name {
         if is_marker(bytes) {
             return Err(NameFault::NameMarker);
         }
+        Ok(())
+    }
+
+    /// The name of these bytes, or the first refusal that they meet.
+    ///
+    /// # Errors
+    ///
+    /// What [`check`](Self::check) answers, and only where that is no refusal, `OutOfMemory`.
+    pub fn new(alloc: Global, bytes: &[u8]) -> Result<Name, NameFault>
+        ensures refused { IfSome (name_refusal bytes.now) (λ fault. result ≡ Err fault) }
+        ensures taken { IfNone (name_refusal bytes.now) (MatchResult result (λ name. name ≡ bytes.now) (λ fault. fault ≡ NameFault.OutOfMemory)) }
+    {
+        Name::check(bytes)?;
         match bytes.to_vec(alloc) {
             Ok(bytes) => Ok(Name { bytes }),
             Err(_) => Err(NameFault::OutOfMemory),
@@ -147,13 +165,6 @@ impl Name {
         Ok(Name {
             bytes: bytes.to_vec(alloc)?,
         })
-    }
-
-    /// The bytes are an MPS name. That is what is known of them, so it needs no test.
-    pub(crate) fn is_legal(&self)
-        ensures { IsMpsName self.now }
-    {
-        let _len = self.bytes.len();
     }
 
     /// The bytes of the name.
@@ -197,5 +208,7 @@ mod tests {
             Name::new(alloc, b"'MARKER'".as_slice()).err(),
             Some(NameFault::NameMarker)
         );
+        assert_eq!(rt; Name::check(b"LIM1".as_slice()), Ok(()));
+        assert_eq!(rt; Name::check(b"a b".as_slice()), Err(NameFault::NameByte));
     }
 }

@@ -91,6 +91,35 @@ fn call_of(builder: &mut Builder, alloc: Global, call: Call<'_>) -> Result<(), B
     }
 }
 
+/// The refusal that a call would have.
+fn check_of(builder: &Builder, call: Call<'_>) -> Result<(), BuildFault> {
+    match call {
+        Call::Sense(_) => builder.check_sense(),
+        Call::Objective(name) => builder.check_objective(name.as_bytes()),
+        Call::Row(name, _) => builder.check_row(name.as_bytes()),
+        Call::Rhs(row, _) => builder.check_rhs(row.as_bytes()),
+        Call::Range(row, value) => builder.check_range(row.as_bytes(), number(value)),
+        Call::Column(_) => Ok(()),
+        Call::Coefficient(row, column, _) => {
+            builder.check_coefficient(row.as_bytes(), column.as_bytes())
+        }
+        Call::NoBounds(column) => builder.check_bounds(column.as_bytes(), &None, &None),
+        Call::Lower(column, value) => {
+            builder.check_bounds(column.as_bytes(), &Some(side(value)), &None)
+        }
+        Call::Upper(column, value) => {
+            builder.check_bounds(column.as_bytes(), &None, &Some(side(value)))
+        }
+        Call::Bounds(column, lower, upper) => builder.check_bounds(
+            column.as_bytes(),
+            &Some(side(lower)),
+            &Some(side(upper)),
+        ),
+        Call::Marked(column) => builder.check_marked(column.as_bytes()),
+        Call::Integer(column) => builder.check_integer(column.as_bytes()),
+    }
+}
+
 /// The builder after these calls, of which none is refused.
 fn built(alloc: Global, calls: &[Call<'_>]) -> Result<Builder, BuildFault> {
     let mut builder = Builder::new(alloc);
@@ -295,10 +324,10 @@ const ANSWERS: [(Call<'static>, Result<(), BuildFault>); 34] = [
     (Call::Range("n", "1"), Err(BuildFault::RangeOnFree)),
 ];
 
-/// The first of these calls that is not answered so, counted from 0.
+/// The first of these calls that is not answered so, or whose question is not, counted from 0.
 fn first_other_answer(builder: &mut Builder, alloc: Global) -> Option<usize> {
     for (i, (call, answer)) in ANSWERS.iter().enumerate() {
-        if call_of(builder, alloc, *call) != *answer {
+        if check_of(builder, *call) != *answer || call_of(builder, alloc, *call) != *answer {
             return Some(i);
         }
     }

@@ -5,7 +5,7 @@ use Rattle.mpslp_decimal.specs.Decimal.{Number}
 use Rattle.mpslp_decimal.specs.Literal.{number_of}
 use Rattle.mpslp_model.specs.Model.{limit_of}
 use Rattle.mpslp_model.specs.Declaration.{declare_lower, declare_upper, Declarations, Draft}
-use Rattle.mpslp_model.specs.Refusal.{those_of}
+use Rattle.mpslp_model.specs.Lists.{those_of}
 use Rattle.mpslp_model.specs.declared.kinds.Limit.TheVariants.{MinusInf, Finite, PlusInf}
 use Rattle.mpslp_model.proofs.EachLemmas.{Each, Each-append}
 use Rattle.mpslp_mps.specs.Line.{Fields, Item, data_line}

@@ -9,7 +9,7 @@ use Rattle.mpslp_decimal.specs.Decimal.{Number}
 use Rattle.mpslp_decimal.specs.Literal.{number_of}
 use Rattle.mpslp_model.specs.Name.{is_mps_name, same_bytes, marker}
 use Rattle.mpslp_model.specs.Declaration.{declare_column, declare_marked, declare_coefficient, Declarations, Draft, adding_all, has_column}
-use Rattle.mpslp_model.specs.Refusal.{those_of, when, is_nonempty}
+use Rattle.mpslp_model.specs.Lists.{those_of, when, is_nonempty}
 use Rattle.mpslp_model.specs.declared.faults.FaultKind.TheVariants as kinds
 use Rattle.mpslp_model.proofs.BoolLemmas.{both_false}
 use Rattle.mpslp_model.proofs.LaterDrafts.{itself_named}

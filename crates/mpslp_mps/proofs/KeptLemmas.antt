@@ -7,7 +7,7 @@ use Rattle.std.specs.FinMap.{is_sorted}
 use Rattle.std.proofs.Math.Dec.{T}
 use Rattle.mpslp_model.specs.Model.{bytes_cmp}
 use Rattle.mpslp_model.specs.Declaration.{by_type, Declaration, declare_sense, declare_objective, declare_row, declare_marked, Declarations, Draft, empty_draft, adding, adding_all}
-use Rattle.mpslp_model.specs.Refusal.{those_of}
+use Rattle.mpslp_model.specs.Lists.{those_of}
 use Rattle.mpslp_model.specs.FaultOrder.{least_kind}
 use Rattle.mpslp_model.specs.declared.kinds.RowType.{RowType}
 use Rattle.mpslp_model.specs.declared.kinds.RowType.TheVariants.{Free, AtMost, AtLeast, Equal}

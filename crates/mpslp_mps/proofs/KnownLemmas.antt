@@ -4,10 +4,10 @@ use Rattle.std.specs.Prelude.{Option, Some, None, is_none, ◌&&◌, not, codes}
 use Rattle.std.specs.List.{list_all, flat_map}
 use Rattle.std.specs.Cmp.{first_so, second_so}
 use Rattle.std.proofs.lemmas.List.Folds.{list_all-append}
-use Rattle.mpslp_model.specs.Declaration.{by_type, Declaration, declare_sense, declare_objective, declare_row, declare_right_side, declare_range, declare_column, declare_coefficient, declare_marked, Declarations, Draft, adding, adding_all, has_row, has_column, is_free_row, right_side_declared}
+use Rattle.mpslp_model.specs.Declaration.{by_type, Declaration, declare_sense, declare_objective, declare_row, declare_rhs, declare_range, declare_column, declare_coefficient, declare_marked, Declarations, Draft, adding, adding_all, has_row, has_column, is_free_row, rhs_declared}
 use Rattle.mpslp_model.specs.Consistency.{is_known}
 use Rattle.mpslp_model.specs.Name.{same_bytes}
-use Rattle.mpslp_model.specs.Refusal.{those_of, is_nonempty, when}
+use Rattle.mpslp_model.specs.Lists.{those_of, is_nonempty, when}
 use Rattle.mpslp_model.specs.declared.kinds.Sense.{Sense}
 use Rattle.mpslp_model.specs.declared.kinds.Limit.{Limit}
 use Rattle.mpslp_model.specs.declared.kinds.RowType.{RowType}
@@ -182,17 +182,17 @@ columns-known context final before fields rows h = by (is_marker_line fields) h
     by false k = of (column_line fields) k
 
 sides-known : (earlier final before : Draft) (pairs : List Pair) → HasRowsOf final before
-    → AreKnown final (flat_map (λ (pair : Pair). right_side_declared earlier pair.row (value_of pair.literal)) pairs)
-    → are_known_in_turn before (flat_map (λ (pair : Pair). right_side_declared earlier pair.row (value_of pair.literal)) pairs) ≡ true
+    → AreKnown final (flat_map (λ (pair : Pair). rhs_declared earlier pair.row (value_of pair.literal)) pairs)
+    → are_known_in_turn before (flat_map (λ (pair : Pair). rhs_declared earlier pair.row (value_of pair.literal)) pairs) ≡ true
 sides-known earlier final before [] rows h = refl
 sides-known earlier final before (pair ∷ pairs) rows h =
     let v = value_of pair.literal in
-    let more = flat_map (λ (pair : Pair). right_side_declared earlier pair.row (value_of pair.literal)) pairs in
-    elim (is_free_row earlier pair.row) as (λ b. AreKnown final (cond b [] (declare_right_side pair.row v ∷ []) ++ more) → are_known_in_turn before (cond b [] (declare_right_side pair.row v ∷ []) ++ more) ≡ true) [
+    let more = flat_map (λ (pair : Pair). rhs_declared earlier pair.row (value_of pair.literal)) pairs in
+    elim (is_free_row earlier pair.row) as (λ b. AreKnown final (cond b [] (declare_rhs pair.row v ∷ []) ++ more) → are_known_in_turn before (cond b [] (declare_rhs pair.row v ∷ []) ++ more) ≡ true) [
       | true ↦ λ k. sides-known earlier final before pairs rows k
-      | false ↦ λ k. both_so (has_row before pair.row) (are_known_in_turn (adding before (declare_right_side pair.row v)) more)
+      | false ↦ λ k. both_so (has_row before pair.row) (are_known_in_turn (adding before (declare_rhs pair.row v)) more)
           (rows pair.row (first_so (has_row final pair.row) (list_all (is_known final) more) k))
-          (sides-known earlier final (adding before (declare_right_side pair.row v)) pairs rows (second_so (has_row final pair.row) (list_all (is_known final) more) k))
+          (sides-known earlier final (adding before (declare_rhs pair.row v)) pairs rows (second_so (has_row final pair.row) (list_all (is_known final) more) k))
     ] h
 
 ranges-known : (final before : Draft) (pairs : List Pair) → HasRowsOf final before → AreKnown final (ranges_declared (record { set = []; pairs = pairs }))

@@ -10,10 +10,10 @@ use Rattle.mpslp_decimal.specs.Literal.{number_of}
 use Rattle.mpslp_decimal.specs.declared.literal.NumberFault.{NumberFault}
 use Rattle.mpslp_model.specs.Name.{is_mps_name, has_name_length, is_visible, same_bytes, marker}
 use Rattle.mpslp_model.specs.Model.{limit_of}
-use Rattle.mpslp_model.specs.Declaration.{by_type, declare_sense, declare_objective, declare_row, declare_right_side, declare_range, declare_marked, Draft, adding_all, is_free_row, right_side_declared}
+use Rattle.mpslp_model.specs.Declaration.{by_type, declare_sense, declare_objective, declare_row, declare_rhs, declare_range, declare_marked, Draft, adding_all, is_free_row, rhs_declared}
 use Rattle.mpslp_model.specs.Bounds.{zero_limit}
 use Rattle.mpslp_model.specs.Made.{is_given, is_legal}
-use Rattle.mpslp_model.specs.Refusal.{those_of}
+use Rattle.mpslp_model.specs.Lists.{those_of}
 use Rattle.mpslp_model.specs.declared.kinds.Limit.{Limit}
 use Rattle.mpslp_model.specs.declared.kinds.Limit.TheVariants.{MinusInf, Finite, PlusInf}
 use Rattle.mpslp_model.specs.declared.kinds.RowType.{RowType}
@@ -112,9 +112,9 @@ module _ (decimals : (text : List ℕ) (d : Number) → number_of text ≡ Ok d 
   sides-legal : (earlier : Draft) (fields : Fields) → list_all is_legal (declared_of (right_sides_declared earlier) (vector_line fields)) ≡ true
   sides-legal earlier fields =
       each-declared is_legal (right_sides_declared earlier) (vector_line fields)
-      (λ line. each-flat is_legal (λ (pair : Pair). right_side_declared earlier pair.row (value_of pair.literal)) line.pairs (λ pair. one pair (is_free_row earlier pair.row)))
+      (λ line. each-flat is_legal (λ (pair : Pair). rhs_declared earlier pair.row (value_of pair.literal)) line.pairs (λ pair. one pair (is_free_row earlier pair.row)))
     where
-      one : (pair : Pair) (b : Bool) → list_all is_legal (cond b [] (declare_right_side pair.row (value_of pair.literal) ∷ [])) ≡ true
+      one : (pair : Pair) (b : Bool) → list_all is_legal (cond b [] (declare_rhs pair.row (value_of pair.literal) ∷ [])) ≡ true
       one pair true = refl
       one pair false = rw (value-decimal pair.literal) refl
 

@@ -6,8 +6,9 @@ use Rattle.std.specs.Option.{option_map, option_or}
 use Rattle.std.specs.Str.Lines.{lines}
 use Rattle.std.specs.Cmp.{first_so, second_so}
 use Rattle.std.proofs.lemmas.List.Folds.{list_all-append}
-use Rattle.mpslp_model.specs.Declaration.{by_type, Declaration, declare_sense, declare_objective, declare_constant, declare_row, declare_right_side, declare_range, declare_column, declare_coefficient, declare_lower, declare_upper, declare_marked, declare_integer, declare_binary, Declarations, Draft, adding, adding_all, empty_draft, draft_of, has_row}
-use Rattle.mpslp_model.specs.Refusal.{those_of, is_nonempty, refusal_tests, refusals, refusals_in_turn}
+use Rattle.mpslp_model.specs.Declaration.{by_type, Declaration, declare_sense, declare_objective, declare_constant, declare_row, declare_rhs, declare_range, declare_column, declare_coefficient, declare_lower, declare_upper, declare_marked, declare_integer, declare_binary, Declarations, Draft, adding, adding_all, empty_draft, draft_of, has_row}
+use Rattle.mpslp_model.specs.Lists.{those_of, is_nonempty}
+use Rattle.mpslp_model.specs.Refusal.{refusal_tests, refusals, refusals_in_turn}
 use Rattle.mpslp_model.specs.Meaning.{model_of, whole_fault, file_fault}
 use Rattle.mpslp_model.specs.FaultOrder.{least_kind}
 use Rattle.mpslp_model.specs.declared.kinds.Sense.{Sense}
@@ -83,7 +84,7 @@ plain-told all (declare_sense s) h = cc
 plain-told all (declare_objective n) h = cc
 plain-told all (declare_constant v) h = those-told (refusal_tests all (declare_constant v)) refl
 plain-told all (declare_row n f) h = those-told (refusal_tests all (declare_row n f)) refl
-plain-told all (declare_right_side r v) h = those-told (refusal_tests all (declare_right_side r v)) refl
+plain-told all (declare_rhs r v) h = those-told (refusal_tests all (declare_rhs r v)) refl
 plain-told all (declare_range r v) h = those-told (refusal_tests all (declare_range r v)) refl
 plain-told all (declare_column c) h = refl
 plain-told all (declare_coefficient p v) h = those-told (refusal_tests all (declare_coefficient p v)) refl
@@ -230,7 +231,7 @@ plain-sense all (declare_sense s) h = cc
 plain-sense all (declare_objective n) h = cc
 plain-sense all (declare_constant v) h = refl
 plain-sense all (declare_row n f) h = refl
-plain-sense all (declare_right_side r v) h = refl
+plain-sense all (declare_rhs r v) h = refl
 plain-sense all (declare_range r v) h = refl
 plain-sense all (declare_column c) h = refl
 plain-sense all (declare_coefficient p v) h = refl

@@ -6,8 +6,9 @@ use Rattle.std.specs.Option.{option_map_or}
 use Rattle.std.specs.Cmp.{first_so, second_so}
 use Rattle.std.proofs.lemmas.List.{append-nil}
 use Rattle.mpslp_model.specs.Name.{same_bytes}
-use Rattle.mpslp_model.specs.Declaration.{RowForm, by_type, Declaration, declare_sense, declare_objective, declare_constant, declare_row, declare_right_side, declare_range, declare_column, declare_coefficient, declare_lower, declare_upper, declare_marked, declare_integer, declare_binary, Declarations, Draft, empty_draft, adding, adding_all, at_name, has_name, has_row, is_objective, is_free_form, is_free_row, right_side_declared}
-use Rattle.mpslp_model.specs.Refusal.{refusals, refusal_tests, when}
+use Rattle.mpslp_model.specs.Declaration.{RowForm, by_type, Declaration, declare_sense, declare_objective, declare_constant, declare_row, declare_rhs, declare_range, declare_column, declare_coefficient, declare_lower, declare_upper, declare_marked, declare_integer, declare_binary, Declarations, Draft, empty_draft, adding, adding_all, at_name, has_name, has_row, is_objective, is_free_form, is_free_row, rhs_declared}
+use Rattle.mpslp_model.specs.Lists.{when}
+use Rattle.mpslp_model.specs.Refusal.{refusals, refusal_tests}
 use Rattle.mpslp_model.specs.FaultOrder.{least_kind}
 use Rattle.mpslp_model.specs.declared.kinds.Limit.{Limit}
 use Rattle.mpslp_model.specs.declared.kinds.RowType.{RowType}
@@ -49,7 +50,7 @@ abbrev stays : Declaration → Bool
 stays (declare_objective name) = false
 stays (declare_constant value) = false
 stays (declare_row name form) = false
-stays (declare_right_side row value) = false
+stays (declare_rhs row value) = false
 stays _ = true
 
 stays-one : (all : Draft) (d : Declaration) → stays d ≡ true → HasMpsSides all → HasMpsSides (adding all d)
@@ -57,7 +58,7 @@ stays-one all (declare_sense sense) h sides = record { known = sides.known; limi
 stays-one all (declare_objective name) h sides = cc
 stays-one all (declare_constant value) h sides = cc
 stays-one all (declare_row name form) h sides = cc
-stays-one all (declare_right_side row value) h sides = cc
+stays-one all (declare_rhs row value) h sides = cc
 stays-one all (declare_range row value) h sides = record { known = sides.known; limited = sides.limited; constant = sides.constant }
 stays-one all (declare_column name) h sides = record { known = sides.known; limited = sides.limited; constant = sides.constant }
 stays-one all (declare_coefficient place value) h sides = record { known = sides.known; limited = sides.limited; constant = sides.constant }
@@ -118,7 +119,7 @@ bounds-stay (letters ∷ more) =
 objective-kept : (all : Draft) (name : List ℕ) → all.objective ≡ None → HasMpsSides all → HasMpsSides (adding all (declare_objective name))
 objective-kept all name none sides = record { known = known; limited = sides.limited; constant = sides.constant }
   where
-    known : (row : List ℕ) → has_name all.right_sides row ≡ true → has_row (adding all (declare_objective name)) row ≡ true
+    known : (row : List ℕ) → has_name all.rhs_values row ≡ true → has_row (adding all (declare_objective name)) row ≡ true
     known row h =
         let named : has_name all.rows row ≡ true = ap (λ (o : Option (List ℕ)). option_map_or (same_bytes row) o false || has_name all.rows row) (sym none) ∙ sides.known row h in
         or_right (same_bytes row name) (has_name all.rows row) named
@@ -127,7 +128,7 @@ objective-kept all name none sides = record { known = known; limited = sides.lim
 row-kept : (all : Draft) (name : List ℕ) (form : RowForm) → has_row all name ≡ false → HasMpsSides all → HasMpsSides (adding all (declare_row name form))
 row-kept all name form new sides = record { known = known; limited = limits; constant = sides.constant }
   where
-    known : (row : List ℕ) → has_name all.right_sides row ≡ true → has_row (adding all (declare_row name form)) row ≡ true
+    known : (row : List ℕ) → has_name all.rhs_values row ≡ true → has_row (adding all (declare_row name form)) row ≡ true
     known row h = ap (λ (b : Bool). is_objective all row || b) (has-put row name form all.rows) ∙ by (is_objective all row) (same_bytes row name) (has_name all.rows row) (sides.known row h)
       where
         by : (a b c : Bool) → (a || c) ≡ true → (a || (b || c)) ≡ true
@@ -135,16 +136,16 @@ row-kept all name form new sides = record { known = known; limited = limits; con
         by false true c k = refl
         by false false c k = k
 
-    limits : (row : List ℕ) → is_free_row (adding all (declare_row name form)) row ≡ true → has_name all.right_sides row ≡ false
+    limits : (row : List ℕ) → is_free_row (adding all (declare_row name form)) row ≡ true → has_name all.rhs_values row ≡ false
     limits row h =
         by (same_bytes row name) refl (sym (ap (λ (o : Option RowForm). option_map_or is_free_form o false) (at-put row name form all.rows)) ∙ h)
       where
-        none : (b : Bool) → has_name all.right_sides row ≡ b → has_row all row ≡ false → has_name all.right_sides row ≡ false
+        none : (b : Bool) → has_name all.rhs_values row ≡ b → has_row all row ≡ false → has_name all.rhs_values row ≡ false
         none true given absent = let there = sides.known row given in cc
         none false given absent = given
 
-        by : (b : Bool) → same_bytes row name ≡ b → option_map_or is_free_form (cond b (Some form) (at_name all.rows row)) false ≡ true → has_name all.right_sides row ≡ false
-        by true same k = none (has_name all.right_sides row) refl (ap (has_row all) (same_name row name same) ∙ new)
+        by : (b : Bool) → same_bytes row name ≡ b → option_map_or is_free_form (cond b (Some form) (at_name all.rows row)) false ≡ true → has_name all.rhs_values row ≡ false
+        by true same k = none (has_name all.rhs_values row) refl (ap (has_row all) (same_name row name same) ∙ new)
         by false same k = sides.limited row k
 
 none_so : (o : Option (List ℕ)) → is_none o ≡ true → o ≡ None
@@ -201,14 +202,14 @@ there_so false sided h = cc
 
 -- by the rows before the line, which are those after each of its right sides
 pairs-kept : (pairs : List Pair) (earlier all : Draft) → ((row : List ℕ) → is_free_row all row ≡ is_free_row earlier row) → HasMpsSides all
-    → declared_fault all (flat_map (λ (pair : Pair). right_side_declared earlier pair.row (value_of pair.literal)) pairs) ≡ None
-    → HasMpsSides (adding_all all (flat_map (λ (pair : Pair). right_side_declared earlier pair.row (value_of pair.literal)) pairs))
+    → declared_fault all (flat_map (λ (pair : Pair). rhs_declared earlier pair.row (value_of pair.literal)) pairs) ≡ None
+    → HasMpsSides (adding_all all (flat_map (λ (pair : Pair). rhs_declared earlier pair.row (value_of pair.literal)) pairs))
 pairs-kept [] earlier all free sides told = sides
 pairs-kept (pair ∷ pairs) earlier all free sides told =
     let value = value_of pair.literal in
-    let here = right_side_declared earlier pair.row value in
-    let more = flat_map (λ (pair : Pair). right_side_declared earlier pair.row (value_of pair.literal)) pairs in
-    let same : right_side_declared all pair.row value ≡ here = ap (λ (b : Bool). cond b [] (declare_right_side pair.row value ∷ [])) (free pair.row) in
+    let here = rhs_declared earlier pair.row value in
+    let more = flat_map (λ (pair : Pair). rhs_declared earlier pair.row (value_of pair.literal)) pairs in
+    let same : rhs_declared all pair.row value ≡ here = ap (λ (b : Bool). cond b [] (declare_rhs pair.row value ∷ [])) (free pair.row) in
     let none = both_none (declared_fault all here) (declared_fault (adding_all all here) more) (sym (told-append here more all) ∙ told) in
     let there = there_so (has_row all pair.row) _ (sym (side_told all pair.row value (limited all sides)) ∙ ap (declared_fault all) same ∙ none.0) in
     let next = subst (λ (ds : Declarations). HasMpsSides (adding_all all ds)) same (sides-after all pair.row value sides there) in
@@ -216,9 +217,9 @@ pairs-kept (pair ∷ pairs) earlier all free sides told =
     λ row. ap (λ (ds : Declarations). is_free_row (adding_all all ds) row) (sym same) ∙ same_free all pair.row value row ∙ free row in
     subst HasMpsSides (sym (adding_all-append here more all)) (pairs-kept pairs earlier (adding_all all here) after next none.1)
 
-right_sides-kept : (all : Draft) (fields : Fields) → declared_fault all (declared_of (right_sides_declared all) (vector_line fields)) ≡ None → HasMpsSides all
+rhs_values-kept : (all : Draft) (fields : Fields) → declared_fault all (declared_of (right_sides_declared all) (vector_line fields)) ≡ None → HasMpsSides all
     → HasMpsSides (adding_all all (declared_of (right_sides_declared all) (vector_line fields)))
-right_sides-kept all fields told sides = lined (vector_line fields) told
+rhs_values-kept all fields told sides = lined (vector_line fields) told
   where
     lined : (o : Option VectorLine) → declared_fault all (declared_of (right_sides_declared all) o) ≡ None → HasMpsSides (adding_all all (declared_of (right_sides_declared all) o))
     lined None k = sides
@@ -244,7 +245,7 @@ data-kept context earlier fields (Some Name) told sides = sides
 data-kept context earlier fields (Some ObjSense) told sides = stays-kept (data_declared context earlier fields (Some ObjSense)) earlier (sense-stays fields) sides
 data-kept context earlier fields (Some Rows) told sides = rows-kept earlier fields told sides
 data-kept context earlier fields (Some Columns) told sides = stays-kept (columns_line_declared context fields) earlier (columns-stay context fields) sides
-data-kept context earlier fields (Some Rhs) told sides = right_sides-kept earlier fields told sides
+data-kept context earlier fields (Some Rhs) told sides = rhs_values-kept earlier fields told sides
 data-kept context earlier fields (Some Ranges) told sides = stays-kept (declared_of ranges_declared (vector_line fields)) earlier (ranges-stay fields) sides
 data-kept context earlier fields (Some Bounds) told sides = stays-kept (bound_line_declared fields) earlier (bounds-stay fields) sides
 data-kept context earlier fields (Some EndData) told sides = sides

@@ -4,7 +4,7 @@ use Rattle.std.specs.Prelude.{◌||◌, Option, Some, None, is_some, is_none, co
 use Rattle.std.specs.List.{list_any}
 use Rattle.std.specs.Option.{option_map, option_or}
 use Rattle.mpslp_model.specs.Declaration.{declare_objective, Draft, adding_all}
-use Rattle.mpslp_model.specs.Refusal.{those_of}
+use Rattle.mpslp_model.specs.Lists.{those_of}
 use Rattle.mpslp_model.specs.FaultOrder.{least_kind}
 use Rattle.mpslp_model.specs.declared.faults.Fault.{Fault}
 use Rattle.mpslp_model.specs.declared.faults.FaultKind.{FaultKind}

@@ -2,9 +2,9 @@
 use Rattle.std.proofs.Common.{◌≡◌, refl, sym, ap, ◌∙◌, List, [], ◌∷◌, ◌++◌, ℕ, Bool, true, false, cond, map}
 use Rattle.std.specs.Prelude.{Option, Some, None, is_some, is_none, ◌||◌, codes}
 use Rattle.std.specs.List.{list_any}
-use Rattle.mpslp_model.specs.Declaration.{Declaration, declare_sense, declare_objective, declare_constant, declare_row, declare_right_side, declare_range, declare_column, declare_coefficient, declare_lower, declare_upper, declare_marked, declare_integer, declare_binary, Declarations, Draft, adding, adding_all}
+use Rattle.mpslp_model.specs.Declaration.{Declaration, declare_sense, declare_objective, declare_constant, declare_row, declare_rhs, declare_range, declare_column, declare_coefficient, declare_lower, declare_upper, declare_marked, declare_integer, declare_binary, Declarations, Draft, adding, adding_all}
 use Rattle.mpslp_model.specs.Consistency.{has_objective}
-use Rattle.mpslp_model.specs.Refusal.{those_of}
+use Rattle.mpslp_model.specs.Lists.{those_of}
 use Rattle.mpslp_model.proofs.BoolLemmas.{or_right}
 use Rattle.mpslp_model.proofs.MadeDrafts.{adding_all-append}
 use Rattle.mpslp_mps.specs.Line.{Fields, Item, skipped, header, data_line, item_of}
@@ -25,7 +25,7 @@ stays-named all (declare_objective n) h = refl
 stays-named all (declare_sense s) h = h
 stays-named all (declare_constant v) h = h
 stays-named all (declare_row n f) h = h
-stays-named all (declare_right_side r v) h = h
+stays-named all (declare_rhs r v) h = h
 stays-named all (declare_range r v) h = h
 stays-named all (declare_column c) h = h
 stays-named all (declare_coefficient p v) h = h
@@ -49,7 +49,7 @@ objective-declared (d ∷ ds) all h = by d (objective-declared ds (adding all d)
     by (declare_sense s) k = k
     by (declare_constant v) k = k
     by (declare_row n f) k = k
-    by (declare_right_side r v) k = k
+    by (declare_rhs r v) k = k
     by (declare_range r v) k = k
     by (declare_column c) k = k
     by (declare_coefficient p v) k = k

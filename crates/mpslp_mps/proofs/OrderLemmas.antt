@@ -5,8 +5,8 @@ use Rattle.std.specs.List.{list_all, flat_map}
 use Rattle.std.specs.Option.{option_or}
 use Rattle.std.specs.Cmp.{first_so, second_so}
 use Rattle.std.proofs.lemmas.List.Folds.{list_all-append}
-use Rattle.mpslp_model.specs.Declaration.{Declaration, declare_sense, declare_objective, declare_constant, declare_row, declare_right_side, declare_range, declare_column, declare_coefficient, declare_lower, declare_upper, declare_marked, declare_integer, declare_binary, Declarations, Draft, adding, adding_all, is_free_row, has_row, has_column, right_side_declared}
-use Rattle.mpslp_model.specs.Refusal.{those_of}
+use Rattle.mpslp_model.specs.Declaration.{Declaration, declare_sense, declare_objective, declare_constant, declare_row, declare_rhs, declare_range, declare_column, declare_coefficient, declare_lower, declare_upper, declare_marked, declare_integer, declare_binary, Declarations, Draft, adding, adding_all, is_free_row, has_row, has_column, rhs_declared}
+use Rattle.mpslp_model.specs.Lists.{those_of}
 use Rattle.mpslp_model.specs.declared.kinds.Sense.{Sense}
 use Rattle.mpslp_model.specs.declared.kinds.Limit.{Limit}
 use Rattle.mpslp_model.specs.declared.faults.FaultKind.{FaultKind}
@@ -218,7 +218,7 @@ row-kept all (declare_objective _) r h = cc
 row-kept all (declare_row _ _) r h = cc
 row-kept all (declare_sense _) r h = refl
 row-kept all (declare_constant _) r h = refl
-row-kept all (declare_right_side _ _) r h = refl
+row-kept all (declare_rhs _ _) r h = refl
 row-kept all (declare_range _ _) r h = refl
 row-kept all (declare_column _) r h = refl
 row-kept all (declare_coefficient _ _) r h = refl
@@ -239,7 +239,7 @@ column-kept all (declare_objective _) c h = refl
 column-kept all (declare_row _ _) c h = refl
 column-kept all (declare_sense _) c h = refl
 column-kept all (declare_constant _) c h = refl
-column-kept all (declare_right_side _ _) c h = refl
+column-kept all (declare_rhs _ _) c h = refl
 column-kept all (declare_range _ _) c h = refl
 column-kept all (declare_coefficient _ _) c h = refl
 column-kept all (declare_lower _ _) c h = refl
@@ -270,7 +270,7 @@ each-mapped p f (x ∷ xs) h = both_so (p (f x)) (list_all p (map f xs)) (h x) (
 
 -- a test that what RHS, RANGES and BOUNDS declare passes
 pub record Passes (p : Declaration → Bool) : Type 0 where
-  pub side : (r : List ℕ) (v : _) → p (declare_right_side r v) ≡ true
+  pub side : (r : List ℕ) (v : _) → p (declare_rhs r v) ≡ true
   pub range : (r : List ℕ) (v : _) → p (declare_range r v) ≡ true
   pub lower : (c : List ℕ) (l : Limit) → p (declare_lower c l) ≡ true
   pub upper : (c : List ℕ) (l : Limit) → p (declare_upper c l) ≡ true
@@ -286,11 +286,11 @@ module _ (p : Declaration → Bool) (passes : Passes p) where
   pub sides-passes : (earlier : Draft) (fields : Fields) → list_all p (declared_of (right_sides_declared earlier) (vector_line fields)) ≡ true
   sides-passes earlier fields =
       each-declared p (right_sides_declared earlier) (vector_line fields)
-      (λ line. each-flat p (λ (pair : Pair). right_side_declared earlier pair.row (value_of pair.literal)) line.pairs (λ pair. one pair (is_free_row earlier pair.row)))
+      (λ line. each-flat p (λ (pair : Pair). rhs_declared earlier pair.row (value_of pair.literal)) line.pairs (λ pair. one pair (is_free_row earlier pair.row)))
     where
-      one : (pair : Pair) (b : Bool) → list_all p (cond b [] (declare_right_side pair.row (value_of pair.literal) ∷ [])) ≡ true
+      one : (pair : Pair) (b : Bool) → list_all p (cond b [] (declare_rhs pair.row (value_of pair.literal) ∷ [])) ≡ true
       one pair true = refl
-      one pair false = both_so (p (declare_right_side pair.row (value_of pair.literal))) true (passes.side pair.row (value_of pair.literal)) refl
+      one pair false = both_so (p (declare_rhs pair.row (value_of pair.literal))) true (passes.side pair.row (value_of pair.literal)) refl
 
   pub ranges-passes : (fields : Fields) → list_all p (declared_of ranges_declared (vector_line fields)) ≡ true
   ranges-passes fields =

@@ -6,7 +6,8 @@ use Rattle.std.specs.Cmp.{first_so, second_so}
 use Rattle.std.proofs.lemmas.List.{append-nil}
 use Rattle.mpslp_model.specs.Answer.{Answers}
 use Rattle.mpslp_model.specs.Declaration.{Declaration, Declarations, Draft, adding_all}
-use Rattle.mpslp_model.specs.Refusal.{those_of, refusals, refusal_tests, refusals_in_turn}
+use Rattle.mpslp_model.specs.Lists.{those_of}
+use Rattle.mpslp_model.specs.Refusal.{refusals, refusal_tests, refusals_in_turn}
 use Rattle.mpslp_model.specs.FaultOrder.{least_kind}
 use Rattle.mpslp_model.specs.declared.faults.BuildFault.{BuildFault}
 use Rattle.mpslp_model.specs.declared.faults.BuildFault.TheVariants as builds

@@ -5,7 +5,7 @@ use Rattle.std.specs.Option.{option_map_or}
 use Rattle.std.proofs.lemmas.List.{append-nil}
 use Rattle.mpslp_decimal.specs.Decimal.{Number}
 use Rattle.mpslp_model.specs.Name.{same_bytes}
-use Rattle.mpslp_model.specs.Declaration.{RowForm, by_type, by_limits, declare_right_side, Draft, adding, adding_all, at_name, has_name, has_row, is_objective, is_free_form, is_free_row, is_limits_form, is_row_by_limits, right_side_declared}
+use Rattle.mpslp_model.specs.Declaration.{RowForm, by_type, by_limits, declare_rhs, Draft, adding, adding_all, at_name, has_name, has_row, is_objective, is_free_form, is_free_row, is_limits_form, is_row_by_limits, rhs_declared}
 use Rattle.mpslp_model.specs.Refusal.{refusals, refusal_tests}
 use Rattle.mpslp_model.specs.FaultOrder.{least_kind}
 use Rattle.mpslp_model.specs.declared.faults.BuildFault.{BuildFault}
@@ -25,7 +25,7 @@ use Rattle.mpslp_mps.proofs.RefusedLemmas.{least-refusal, told-append}
 
 -- a right side of this row is declared
 abbrev is_sided : Draft → List ℕ → Bool
-is_sided all row = has_name all.right_sides row || (is_row_by_limits all row || (is_objective all row && is_some all.constant))
+is_sided all row = has_name all.rhs_values row || (is_row_by_limits all row || (is_objective all row && is_some all.constant))
 
 -- the kind that is told, by whether the row is there and has a right side
 abbrev pub side_kind : Bool → Bool → Option FaultKind
@@ -51,7 +51,7 @@ none_so false o h = refl
 abbrev pub AreLimited : Draft → Type 0
 AreLimited all = (row : List ℕ) → is_free_row all row ≡ true → is_sided all row ≡ false
 
-limited-from : (all : Draft) → ((row : List ℕ) → is_free_row all row ≡ true → has_name all.right_sides row ≡ false) → all.constant ≡ None → AreLimited all
+limited-from : (all : Draft) → ((row : List ℕ) → is_free_row all row ≡ true → has_name all.rhs_values row ≡ false) → all.constant ≡ None → AreLimited all
 limited-from all limited constant row h =
     let given = limited row h in
     let limits = free_unlimited (at_name all.rows row) h in
@@ -63,60 +63,60 @@ limited all sides = limited-from all sides.limited sides.constant
 
 -- of one right side
 pub side_told : (all : Draft) (row : List ℕ) (value : Number) → AreLimited all
-    → declared_fault all (right_side_declared all row value) ≡ side_kind (has_row all row) (is_sided all row)
+    → declared_fault all (rhs_declared all row value) ≡ side_kind (has_row all row) (is_sided all row)
 side_told all row value free_unsided =
     elim (is_free_row all row) as (λ b. is_free_row all row ≡ b
-    → declared_fault all (cond b [] (declare_right_side row value ∷ [])) ≡ side_kind (has_row all row) (is_sided all row)) [
+    → declared_fault all (cond b [] (declare_rhs row value ∷ [])) ≡ side_kind (has_row all row) (is_sided all row)) [
       | true ↦ λ free. let there = free_row all row free in let sided = free_unsided row free in λ i. side_kind (sym there i) (sym sided i)
       | false ↦ λ _.
-          ap (λ (faults : List BuildFault). least_kind (filter_map kind_of_refusal faults)) (append-nil (refusals all (declare_right_side row value)))
-          ∙ least-refusal (refusal_tests all (declare_right_side row value)) refl refl
+          ap (λ (faults : List BuildFault). least_kind (filter_map kind_of_refusal faults)) (append-nil (refusals all (declare_rhs row value)))
+          ∙ least-refusal (refusal_tests all (declare_rhs row value)) refl refl
     ] refl
 
 -- ---- after a right side
 
 abbrev pub after_side : Draft → List ℕ → Number → Draft
-after_side all row value = adding_all all (right_side_declared all row value)
+after_side all row value = adding_all all (rhs_declared all row value)
 
 -- right sides leave the rows as they are
 same_row : (all : Draft) (row : List ℕ) (value : Number) (other : List ℕ) → has_row (after_side all row value) other ≡ has_row all other
 same_row all row value other =
-    elim (is_free_row all row) as (λ b. has_row (adding_all all (cond b [] (declare_right_side row value ∷ []))) other ≡ has_row all other) [ true ↦ refl | false ↦ refl ]
+    elim (is_free_row all row) as (λ b. has_row (adding_all all (cond b [] (declare_rhs row value ∷ []))) other ≡ has_row all other) [ true ↦ refl | false ↦ refl ]
 
 pub same_free : (all : Draft) (row : List ℕ) (value : Number) (other : List ℕ) → is_free_row (after_side all row value) other ≡ is_free_row all other
 same_free all row value other =
-    elim (is_free_row all row) as (λ b. is_free_row (adding_all all (cond b [] (declare_right_side row value ∷ []))) other ≡ is_free_row all other) [ true ↦ refl | false ↦ refl ]
+    elim (is_free_row all row) as (λ b. is_free_row (adding_all all (cond b [] (declare_rhs row value ∷ []))) other ≡ is_free_row all other) [ true ↦ refl | false ↦ refl ]
 
 same_side : (all : Draft) (row : List ℕ) (value : Number) (other : List ℕ) (second : Number)
-    → right_side_declared (after_side all row value) other second ≡ right_side_declared all other second
-same_side all row value other second = ap (λ (b : Bool). cond b [] (declare_right_side other second ∷ [])) (same_free all row value other)
+    → rhs_declared (after_side all row value) other second ≡ rhs_declared all other second
+same_side all row value other second = ap (λ (b : Bool). cond b [] (declare_rhs other second ∷ [])) (same_free all row value other)
 
 side_known : (all : Draft) (row : List ℕ) (value : Number) → HasMpsSides all → has_row all row ≡ true → (q : List ℕ)
-    → has_name (adding all (declare_right_side row value)).right_sides q ≡ true → has_row all q ≡ true
-side_known all row value sides there q h = by (same_bytes q row) refl (sym (has-put q row value all.right_sides) ∙ h)
+    → has_name (adding all (declare_rhs row value)).rhs_values q ≡ true → has_row all q ≡ true
+side_known all row value sides there q h = by (same_bytes q row) refl (sym (has-put q row value all.rhs_values) ∙ h)
   where
-    by : (b : Bool) → same_bytes q row ≡ b → (b || has_name all.right_sides q) ≡ true → has_row all q ≡ true
+    by : (b : Bool) → same_bytes q row ≡ b → (b || has_name all.rhs_values q) ≡ true → has_row all q ≡ true
     by true same k = ap (has_row all) (same_name q row same) ∙ there
     by false same k = sides.known q k
 
 side_limited : (all : Draft) (row : List ℕ) (value : Number) → HasMpsSides all → is_free_row all row ≡ false → (q : List ℕ)
-    → is_free_row all q ≡ true → has_name (adding all (declare_right_side row value)).right_sides q ≡ false
-side_limited all row value sides limited q h = has-put q row value all.right_sides ∙ by (same_bytes q row) refl
+    → is_free_row all q ≡ true → has_name (adding all (declare_rhs row value)).rhs_values q ≡ false
+side_limited all row value sides limited q h = has-put q row value all.rhs_values ∙ by (same_bytes q row) refl
   where
-    by : (b : Bool) → same_bytes q row ≡ b → (b || has_name all.right_sides q) ≡ false
+    by : (b : Bool) → same_bytes q row ≡ b → (b || has_name all.rhs_values q) ≡ false
     by true same = let free = ap (is_free_row all) (sym (same_name q row same)) ∙ h in cc
     by false same = sides.limited q h
 
 limited-after : (all : Draft) (row : List ℕ) (value : Number) → HasMpsSides all → AreLimited (after_side all row value)
 limited-after all row value sides =
-    elim (is_free_row all row) as (λ b. is_free_row all row ≡ b → AreLimited (adding_all all (cond b [] (declare_right_side row value ∷ [])))) [
+    elim (is_free_row all row) as (λ b. is_free_row all row ≡ b → AreLimited (adding_all all (cond b [] (declare_rhs row value ∷ [])))) [
       | true ↦ λ _. limited all sides
-      | false ↦ λ given. limited-from (adding all (declare_right_side row value)) (side_limited all row value sides given) sides.constant
+      | false ↦ λ given. limited-from (adding all (declare_rhs row value)) (side_limited all row value sides given) sides.constant
     ] refl
 
 pub sides-after : (all : Draft) (row : List ℕ) (value : Number) → HasMpsSides all → has_row all row ≡ true → HasMpsSides (after_side all row value)
 sides-after all row value sides there =
-    elim (is_free_row all row) as (λ b. is_free_row all row ≡ b → HasMpsSides (adding_all all (cond b [] (declare_right_side row value ∷ [])))) [
+    elim (is_free_row all row) as (λ b. is_free_row all row ≡ b → HasMpsSides (adding_all all (cond b [] (declare_rhs row value ∷ [])))) [
       | true ↦ λ _. sides
       | false ↦ λ limited. record { known = side_known all row value sides there; limited = side_limited all row value sides limited; constant = sides.constant }
     ] refl
@@ -124,13 +124,13 @@ sides-after all row value sides there =
 -- ---- two right sides
 
 abbrev both : Draft → List ℕ → Number → List ℕ → Number → Option FaultKind
-both all row value other second = declared_fault all (right_side_declared all row value ++ right_side_declared all other second)
+both all row value other second = declared_fault all (rhs_declared all row value ++ rhs_declared all other second)
 
 both_told : (all : Draft) (row : List ℕ) (value : Number) (other : List ℕ) (second : Number) → HasMpsSides all
     → both all row value other second ≡ earlier_of (side_kind (has_row all row) (is_sided all row)) (side_kind (has_row all other) (is_sided (after_side all row value) other))
 both_told all row value other second sides =
     let mid = after_side all row value in
-    told-append (right_side_declared all row value) (right_side_declared all other second) all
+    told-append (rhs_declared all row value) (rhs_declared all other second) all
     ∙ (λ i. earlier_of (side_told all row value (limited all sides) i) (declared_fault mid (sym (same_side all row value other second) i)))
     ∙ (λ i. earlier_of (side_kind (has_row all row) (is_sided all row)) (side_told mid other second (limited-after all row value sides) i))
     ∙ (λ i. earlier_of (side_kind (has_row all row) (is_sided all row)) (side_kind (same_row all row value other i) (is_sided mid other)))
@@ -149,7 +149,7 @@ row-unknown all row value other second sides h =
     by false b false d k = refl
 
 pub first-refused : (all : Draft) (row : List ℕ) (value : Number) (other : List ℕ) (second : Number) (error : LineError) → HasMpsSides all → (has_row all row && has_row all other) ≡ true
-    → IsToldAs (declared_fault all (right_side_declared all row value)) error → IsToldAs (both all row value other second) error
+    → IsToldAs (declared_fault all (rhs_declared all row value)) error → IsToldAs (both all row value other second) error
 first-refused all row value other second error sides h told =
     subst (λ (o : Option FaultKind). IsToldAs o error) (sym (both_told all row value other second sides))
     (by (has_row all row) (is_sided all row) (has_row all other) (is_sided (after_side all row value) other) error h

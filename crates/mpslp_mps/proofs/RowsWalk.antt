@@ -5,8 +5,8 @@ use Rattle.std.specs.List.{list_all}
 use Rattle.mpslp_decimal.specs.Decimal.{Number}
 use Rattle.mpslp_decimal.specs.Literal.{number_of}
 use Rattle.mpslp_model.specs.Name.{is_mps_name, has_name_length, is_visible, same_bytes, marker}
-use Rattle.mpslp_model.specs.Declaration.{by_type, declare_row, declare_right_side, declare_range, Declarations, Draft, is_free_row}
-use Rattle.mpslp_model.specs.Refusal.{those_of}
+use Rattle.mpslp_model.specs.Declaration.{by_type, declare_row, declare_rhs, declare_range, Declarations, Draft, is_free_row}
+use Rattle.mpslp_model.specs.Lists.{those_of}
 use Rattle.mpslp_model.specs.declared.kinds.RowType.{RowType}
 use Rattle.mpslp_model.specs.declared.kinds.RowType.TheVariants.{Free, AtMost, AtLeast, Equal}
 use Rattle.mpslp_model.proofs.EachLemmas.{Each, Each-append}
@@ -107,7 +107,7 @@ abbrev pub side_item : List ℕ → Side → Item
 side_item set side = data_line (set ∷ side.row ∷ side.text ∷ [])
 
 abbrev pub side_decl : Side → Declarations
-side_decl side = declare_right_side side.row side.value ∷ []
+side_decl side = declare_rhs side.row side.value ∷ []
 
 abbrev pub range_decl : Side → Declarations
 range_decl side = declare_range side.row side.value ∷ []

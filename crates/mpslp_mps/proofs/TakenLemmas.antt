@@ -4,7 +4,7 @@ use Rattle.std.specs.Prelude.{Option, Some, None}
 use Rattle.std.specs.List.{list_all, flat_map}
 use Rattle.std.specs.Option.{option_map, option_map_or}
 use Rattle.mpslp_decimal.specs.Decimal.{Number}
-use Rattle.mpslp_model.specs.Declaration.{Declarations, Draft, declare_range, right_side_declared}
+use Rattle.mpslp_model.specs.Declaration.{Declarations, Draft, declare_range, rhs_declared}
 use Rattle.mpslp_model.specs.declared.faults.FaultKind.{FaultKind}
 use Rattle.mpslp_model.specs.declared.faults.FaultKind.TheVariants as kinds
 use Rattle.mpslp_mps.specs.Line.{Fields, data_line}
@@ -56,14 +56,14 @@ pub vector-early : (first : Option (List ℕ)) (o : Option VectorLine) → are_e
 vector-early first None = refl
 vector-early first (Some line) = refl
 
-sides-pairs : (earlier : Draft) (pairs : List Pair) → flat_map (λ (pair : Pair). right_side_declared earlier pair.row (value_of pair.literal)) pairs ≡ right_sides_of earlier (map row_value pairs)
+sides-pairs : (earlier : Draft) (pairs : List Pair) → flat_map (λ (pair : Pair). rhs_declared earlier pair.row (value_of pair.literal)) pairs ≡ right_sides_of earlier (map row_value pairs)
 sides-pairs earlier [] = refl
-sides-pairs earlier (pair ∷ pairs) = ap (λ (more : Declarations). right_side_declared earlier pair.row (value_of pair.literal) ++ more) (sides-pairs earlier pairs)
+sides-pairs earlier (pair ∷ pairs) = ap (λ (more : Declarations). rhs_declared earlier pair.row (value_of pair.literal) ++ more) (sides-pairs earlier pairs)
 
-pub right_sides-are : (earlier : Draft) (o : Option VectorLine) (set : List ℕ) (values : List (List ℕ × Number)) → option_map set_values o ≡ Some (set, values)
+pub rhs_values-are : (earlier : Draft) (o : Option VectorLine) (set : List ℕ) (values : List (List ℕ × Number)) → option_map set_values o ≡ Some (set, values)
     → declared_of (right_sides_declared earlier) o ≡ right_sides_of earlier values
-right_sides-are earlier None set values h = cc
-right_sides-are earlier (Some line) set values h =
+rhs_values-are earlier None set values h = cc
+rhs_values-are earlier (Some line) set values h =
     let same = ap (λ (o : Option (List ℕ × List (List ℕ × Number))). option_map_or (λ found. found.1) o []) h in
     sides-pairs earlier line.pairs ∙ ap (right_sides_of earlier) same
 

@@ -8,7 +8,8 @@ use Rattle.std.specs.Cmp.{first_so, second_so}
 use Rattle.std.proofs.lemmas.Bool.Decides.{nat_tests}
 use Rattle.mpslp_model.proofs.BoolLemmas.{both_so}
 use Rattle.mpslp_model.specs.Declaration.{Declarations, Draft}
-use Rattle.mpslp_model.specs.Refusal.{those_of, refusals_in_turn}
+use Rattle.mpslp_model.specs.Lists.{those_of}
+use Rattle.mpslp_model.specs.Refusal.{refusals_in_turn}
 use Rattle.mpslp_model.specs.FaultOrder.{kind_rank, least_kind}
 use Rattle.mpslp_model.specs.declared.faults.BuildFault.{BuildFault}
 use Rattle.mpslp_model.specs.declared.faults.BuildFault.TheVariants as builds

@@ -2,7 +2,7 @@
 use Rattle.std.specs.Prelude.{ℕ, Bool, List, [], ◌∷◌}
 use Rattle.mpslp_decimal.specs.Decimal.{Number}
 use Rattle.mpslp_model.specs.Declaration.{declare_column, declare_marked, declare_coefficient, Declarations}
-use Rattle.mpslp_model.specs.Refusal.{when}
+use Rattle.mpslp_model.specs.Lists.{when}
 
 abbrev pub front_declared : Bool → List ℕ → Declarations
 front_declared marked column = declare_column column ∷ when marked (declare_marked column)

@@ -2,7 +2,7 @@
 use Rattle.std.specs.Prelude.{◌≡◌, ℕ, true, false, List, map, Option, None, MatchResult}
 use Rattle.std.specs.List.{flat_map}
 use Rattle.mpslp_decimal.specs.Decimal.{Number}
-use Rattle.mpslp_model.specs.Declaration.{declare_range, Declarations, Draft, adding_all, has_name, has_row, is_free_row, right_side_declared}
+use Rattle.mpslp_model.specs.Declaration.{declare_range, Declarations, Draft, adding_all, has_name, has_row, is_free_row, rhs_declared}
 use Rattle.mpslp_model.specs.FaultOrder.{least_kind}
 use Rattle.mpslp_model.specs.declared.faults.FaultKind.{FaultKind}
 use Rattle.mpslp_mps.specs.LineFault.{declaring_faults}
@@ -20,13 +20,13 @@ Declares earlier declarations answer later =
 
 -- the right sides of rows with values, and their ranges
 abbrev pub right_sides_of : Draft → List (List ℕ × Number) → Declarations
-right_sides_of earlier values = flat_map (λ value. right_side_declared earlier value.0 value.1) values
+right_sides_of earlier values = flat_map (λ value. rhs_declared earlier value.0 value.1) values
 
 abbrev pub ranges_of : List (List ℕ × Number) → Declarations
 ranges_of values = map (λ value. declare_range value.0 value.1) values
 
 -- Right sides as lines of MPS text declare them: of rows that are there and not of type N. Constants are not declared.
 pub record HasMpsSides (all : Draft) : Type 0 where
-  pub known : (row : List ℕ) → has_name all.right_sides row ≡ true → has_row all row ≡ true
-  pub limited : (row : List ℕ) → is_free_row all row ≡ true → has_name all.right_sides row ≡ false
+  pub known : (row : List ℕ) → has_name all.rhs_values row ≡ true → has_row all row ≡ true
+  pub limited : (row : List ℕ) → is_free_row all row ≡ true → has_name all.rhs_values row ≡ false
   pub constant : all.constant ≡ None

@@ -1,7 +1,8 @@
 -- The faults of a line of MPS text, after the lines before it: those of its form, and those of what it declares.
 use Rattle.std.specs.Prelude.{List, [], filter_map, Option, Some, None}
 use Rattle.mpslp_model.specs.Declaration.{Declarations, Draft}
-use Rattle.mpslp_model.specs.Refusal.{those_of, refusals_in_turn}
+use Rattle.mpslp_model.specs.Lists.{those_of}
+use Rattle.mpslp_model.specs.Refusal.{refusals_in_turn}
 use Rattle.mpslp_model.specs.declared.faults.BuildFault.{BuildFault}
 use Rattle.mpslp_model.specs.declared.faults.BuildFault.TheVariants as builds
 use Rattle.mpslp_model.specs.declared.faults.FaultKind.{FaultKind}

@@ -6,8 +6,8 @@ use Rattle.std.specs.Result.{result_unwrap_or}
 use Rattle.mpslp_decimal.specs.Decimal.{Number, zero_number}
 use Rattle.mpslp_decimal.specs.Literal.{number_of}
 use Rattle.mpslp_model.specs.Model.{limit_of}
-use Rattle.mpslp_model.specs.Declaration.{by_type, declare_sense, declare_objective, declare_row, declare_range, declare_column, declare_coefficient, declare_lower, declare_upper, declare_marked, declare_integer, Declarations, Draft, right_side_declared}
-use Rattle.mpslp_model.specs.Refusal.{when}
+use Rattle.mpslp_model.specs.Declaration.{by_type, declare_sense, declare_objective, declare_row, declare_range, declare_column, declare_coefficient, declare_lower, declare_upper, declare_marked, declare_integer, Declarations, Draft, rhs_declared}
+use Rattle.mpslp_model.specs.Lists.{when}
 use Rattle.mpslp_model.specs.Bounds.{zero_limit, one_limit}
 use Rattle.mpslp_model.specs.declared.kinds.RowType.{RowType}
 use Rattle.mpslp_model.specs.declared.kinds.RowType.TheVariants.{Free}
@@ -69,7 +69,7 @@ columns_line_declared context fields = if is_marker_line fields then [] else dec
 
 -- of the objective, the negative of its constant; of a further row of type N, nothing
 abbrev pub right_sides_declared : Draft → VectorLine → Declarations
-right_sides_declared earlier line = flat_map (λ pair. right_side_declared earlier pair.row (value_of pair.literal)) line.pairs
+right_sides_declared earlier line = flat_map (λ pair. rhs_declared earlier pair.row (value_of pair.literal)) line.pairs
 
 abbrev pub ranges_declared : VectorLine → Declarations
 ranges_declared line = map (λ pair. declare_range pair.row (value_of pair.literal)) line.pairs

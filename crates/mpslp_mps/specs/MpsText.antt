@@ -5,7 +5,7 @@ use Rattle.std.specs.Str.Lines.{lines}
 use Rattle.mpslp_model.specs.Model.{LinearModel}
 use Rattle.mpslp_model.specs.Declaration.{Declarations, Draft, empty_draft, adding_all}
 use Rattle.mpslp_model.specs.Meaning.{Means}
-use Rattle.mpslp_model.specs.Refusal.{is_nonempty}
+use Rattle.mpslp_model.specs.Lists.{is_nonempty}
 use Rattle.mpslp_mps.specs.Line.{Item, is_legal_line, item_of}
 use Rattle.mpslp_mps.specs.Section.{begins}
 use Rattle.mpslp_mps.specs.Context.{Context, context_of}

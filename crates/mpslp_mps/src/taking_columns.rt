@@ -4,7 +4,7 @@ ghost use Rattle.std.specs.Prelude.{◌≡◌, [], ◌∷◌, map, not, true, fa
 ghost use Rattle.std.specs.List.{list_all, flat_map};
 ghost use Rattle.mpslp_model.specs.Name.{IsMpsName};
 ghost use Rattle.mpslp_model.specs.Declaration.{Draft, adding, adding_all, declare_column, declare_marked, has_row, has_column};
-ghost use Rattle.mpslp_model.specs.Refusal.{when};
+ghost use Rattle.mpslp_model.specs.Lists.{when};
 ghost use Rattle.mpslp_model.specs.declared.faults.FaultKind.{FaultKind};
 ghost use Rattle.mpslp_mps.specs.declared.errors.LineError.{LineError};
 ghost use Rattle.mpslp_mps.specs.declared.sections.Section.{Section};

@@ -1,7 +1,7 @@
 //! Lines of RHS and RANGES.
 
 ghost use Rattle.std.specs.Prelude.{◌≡◌, [], ◌∷◌, ◌++◌, ◌+◌, ◌&&◌, false, nat_lt, if◌then◌else◌, map, Some, IfErr};
-ghost use Rattle.mpslp_model.specs.Declaration.{has_row, right_side_declared, declare_range};
+ghost use Rattle.mpslp_model.specs.Declaration.{has_row, rhs_declared, declare_range};
 ghost use Rattle.mpslp_model.specs.Name.{same_bytes};
 ghost use Rattle.mpslp_model.specs.FaultOrder.{kind_rank, least_kind};
 ghost use Rattle.mpslp_mps.specs.LineFault.{declaring_faults};
@@ -24,9 +24,9 @@ fn are_rows(builder: &Builder, first: &RowValue, second: &RowValue) -> bool
 }
 
 /// Declares the right side of a row.
-fn declare_right_side<'a>(builder: &mut Builder, side: RowValue<'a>) -> Result<(), LineError>
+fn declare_rhs<'a>(builder: &mut Builder, side: RowValue<'a>) -> Result<(), LineError>
     requires { HasMpsSides builder.old }
-    ensures { Declares builder.old (right_side_declared builder.old side.entry.0 side.entry.1) result builder.new }
+    ensures { Declares builder.old (rhs_declared builder.old side.entry.0 side.entry.1) result builder.new }
 {
     builder.rhs(side.row, side.value)?;
     Ok(())
@@ -39,13 +39,13 @@ fn declare_both_right_sides<'a>(
     second: RowValue<'a>,
 ) -> Result<(), LineError>
     requires { HasMpsSides builder.old }
-    ensures { Declares builder.old (right_side_declared builder.old first.entry.0 first.entry.1 ++ right_side_declared builder.old second.entry.0 second.entry.1) result builder.new }
+    ensures { Declares builder.old (rhs_declared builder.old first.entry.0 first.entry.1 ++ rhs_declared builder.old second.entry.0 second.entry.1) result builder.new }
 {
     if !are_rows(builder, &first, &second) {
         return Err(LineError::Fault(FaultKind::UnknownRow));
     }
-    declare_right_side(builder, first)?;
-    declare_right_side(builder, second)
+    declare_rhs(builder, first)?;
+    declare_rhs(builder, second)
 }
 
 /// Declares the right sides of the rows of a line.
@@ -56,7 +56,7 @@ fn declare_right_sides<'a>(builder: &mut Builder, sides: RowValues<'a>) -> Resul
     let RowValues { first, second } = sides;
     match second {
         Some(second) => declare_both_right_sides(builder, first, second),
-        None => declare_right_side(builder, first),
+        None => declare_rhs(builder, first),
     }
 }
 
@@ -83,18 +83,11 @@ fn is_same_row(first: &RowValue, second: &RowValue) -> bool
     second.row == first.row
 }
 
-/// The place of a kind among all, counted from 0.
-fn place_of_kind(kind: FaultKind) -> u8
-    ensures { result + 1 ≡ kind_rank kind }
-{
-    kind as u8
-}
-
 /// The kind of two that is told.
 fn lesser_kind(first: FaultKind, second: FaultKind) -> FaultKind
     ensures { result ≡ (if nat_lt (kind_rank second) (kind_rank first) then second else first) }
 {
-    if place_of_kind(second) < place_of_kind(first) {
+    if second.rank() < first.rank() {
         second
     } else {
         first

@@ -367,12 +367,12 @@ const RIGHT_SIDES: [(&str, &str); 4] = [
 fn tells_infinite_right_sides(rt: HostRuntime) -> Result<(), Fail> {
     let alloc = rt.alloc();
     let head = "ROWS\n N COST\n L LIM1\n G MYG\nCOLUMNS\n X COST 1 LIM1 1\n Y MYG 1\nRHS\n";
-    for (right_sides, expected) in RIGHT_SIDES {
-        let text = joined(alloc, &[head, right_sides, "ENDATA\n"])?;
+    for (rhs_values, expected) in RIGHT_SIDES {
+        let text = joined(alloc, &[head, rhs_values, "ENDATA\n"])?;
         assert_eq!(rt;
             told(alloc, &text)?.as_slice(),
             expected.as_bytes(),
-            "at {right_sides}"
+            "at {rhs_values}"
         );
     }
     Ok(())

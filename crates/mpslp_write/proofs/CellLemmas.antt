@@ -12,15 +12,15 @@ use Rattle.std.specs.FinMap.{find, is_sorted}
 use Rattle.std.specs.FinMap.Entries.{below_all, is_sorted-where_key, find-where_key, same_entries}
 use Rattle.mpslp_decimal.specs.Decimal.{Number, is_decimal, is_zero}
 use Rattle.mpslp_model.specs.Name.{same_bytes, is_one_of}
-use Rattle.mpslp_model.specs.Model.{LinearModel, Place, bytes_cmp, place_cmp, IsSound}
+use Rattle.mpslp_model.specs.Model.{LinearModel, CoefficientKey, bytes_cmp, key_cmp, IsSound}
 use Rattle.mpslp_model.specs.Declaration.{names_in}
 use Rattle.mpslp_model.specs.Views.{column_elements}
 use Rattle.mpslp_model.proofs.BoolLemmas.{both_so}
 use Rattle.mpslp_model.proofs.EachLemmas.{Each, Each-filter, Each-all}
 use Rattle.mpslp_model.proofs.PutsLemmas.{T_from, true_from}
-use Rattle.mpslp_model.proofs.DraftEntries.{same_place}
+use Rattle.mpslp_model.proofs.DraftEntries.{same_key}
 use Rattle.mpslp_model.proofs.SlotLemmas.{same_name}
-use Rattle.mpslp_model.proofs.SortedDrafts.{bytes_total, place_total, tied_names}
+use Rattle.mpslp_model.proofs.SortedDrafts.{bytes_total, key_total, tied_names}
 use Rattle.mpslp_canonical.specs.Listing.{Listing, listing_of}
 use Rattle.mpslp_canonical.specs.CanonicalMps.{cell_at, column_cells}
 use Rattle.mpslp_canonical.proofs.EntryLemmas.{found-each}
@@ -35,49 +35,49 @@ then-equal Less = refl
 then-equal Equal = refl
 then-equal Greater = refl
 
-in-one-column : (row other column : List ℕ) → place_cmp (place_at row column) (place_at other column) ≡ bytes_cmp row other
+in-one-column : (row other column : List ℕ) → key_cmp (place_at row column) (place_at other column) ≡ bytes_cmp row other
 in-one-column row other column =
     let same : bytes_cmp column column ≡ Equal = tied_itself bytes_total column in
     simp (same, then-equal)
 
-as-rows : (column row : List ℕ) (place : Place) → place.column ≡ column → place_cmp (place_at row column) place ≡ bytes_cmp row place.row
-as-rows column row place same = subst (λ (c : List ℕ). place_cmp (place_at row c) place ≡ bytes_cmp row place.row) same (in-one-column row place.row place.column)
+as-rows : (column row : List ℕ) (place : CoefficientKey) → place.column ≡ column → key_cmp (place_at row column) place ≡ bytes_cmp row place.row
+as-rows column row place same = subst (λ (c : List ℕ). key_cmp (place_at row c) place ≡ bytes_cmp row place.row) same (in-one-column row place.row place.column)
 
-as-places : (column : List ℕ) (a b : Place) → a.column ≡ column → b.column ≡ column → place_cmp a b ≡ bytes_cmp a.row b.row
-as-places column a b here there = subst (λ (c : List ℕ). place_cmp (place_at a.row c) b ≡ bytes_cmp a.row b.row) (sym here) (as-rows column a.row b there)
+as-places : (column : List ℕ) (a b : CoefficientKey) → a.column ≡ column → b.column ≡ column → key_cmp a b ≡ bytes_cmp a.row b.row
+as-places column a b here there = subst (λ (c : List ℕ). key_cmp (place_at a.row c) b ≡ bytes_cmp a.row b.row) (sym here) (as-rows column a.row b there)
 
 -- ---- coefficients of one column, by their rows
 
-abbrev pub by_row : Place × Number → List ℕ × Number
+abbrev pub by_row : CoefficientKey × Number → List ℕ × Number
 by_row entry = (entry.0.row, entry.1)
 
-abbrev InColumn : List ℕ → Place × Number → Type 0
+abbrev InColumn : List ℕ → CoefficientKey × Number → Type 0
 InColumn column entry = entry.0.column ≡ column
 
-rows-below : (column : List ℕ) (place : Place) (es : List (Place × Number)) → place.column ≡ column → Each (InColumn column) es → below_all place_cmp place es ≡ true
+rows-below : (column : List ℕ) (place : CoefficientKey) (es : List (CoefficientKey × Number)) → place.column ≡ column → Each (InColumn column) es → below_all key_cmp place es ≡ true
     → below_all bytes_cmp place.row (map by_row es) ≡ true
 rows-below column place [] here h below = refl
 rows-below column place (e ∷ es) here h below =
     both_so (is_lt (bytes_cmp place.row e.0.row)) (below_all bytes_cmp place.row (map by_row es))
-    (sym (ap is_lt (as-places column place e.0 here h.0)) ∙ first_so (is_lt (place_cmp place e.0)) (below_all place_cmp place es) below)
-    (rows-below column place es here h.1 (second_so (is_lt (place_cmp place e.0)) (below_all place_cmp place es) below))
+    (sym (ap is_lt (as-places column place e.0 here h.0)) ∙ first_so (is_lt (key_cmp place e.0)) (below_all key_cmp place es) below)
+    (rows-below column place es here h.1 (second_so (is_lt (key_cmp place e.0)) (below_all key_cmp place es) below))
 
-rows-sorted : (column : List ℕ) (es : List (Place × Number)) → Each (InColumn column) es → is_sorted place_cmp es ≡ true → is_sorted bytes_cmp (map by_row es) ≡ true
+rows-sorted : (column : List ℕ) (es : List (CoefficientKey × Number)) → Each (InColumn column) es → is_sorted key_cmp es ≡ true → is_sorted bytes_cmp (map by_row es) ≡ true
 rows-sorted column [] h sorted = refl
 rows-sorted column (e ∷ es) h sorted =
     both_so (below_all bytes_cmp e.0.row (map by_row es)) (is_sorted bytes_cmp (map by_row es))
-    (rows-below column e.0 es h.0 h.1 (first_so (below_all place_cmp e.0 es) (is_sorted place_cmp es) sorted))
-    (rows-sorted column es h.1 (second_so (below_all place_cmp e.0 es) (is_sorted place_cmp es) sorted))
+    (rows-below column e.0 es h.0 h.1 (first_so (below_all key_cmp e.0 es) (is_sorted key_cmp es) sorted))
+    (rows-sorted column es h.1 (second_so (below_all key_cmp e.0 es) (is_sorted key_cmp es) sorted))
 
-rows-found : (column row : List ℕ) (es : List (Place × Number)) → Each (InColumn column) es → find bytes_cmp row (map by_row es) ≡ find place_cmp (place_at row column) es
+rows-found : (column row : List ℕ) (es : List (CoefficientKey × Number)) → Each (InColumn column) es → find bytes_cmp row (map by_row es) ≡ find key_cmp (place_at row column) es
 rows-found column row [] h = refl
 rows-found column row (e ∷ es) h = (λ i. cond (is_eq (sym (as-rows column row e.0 h.0) i)) (Some e.1) (rows-found column row es h.1 i))
 
 -- ---- what is printed of one row after another
 
-module _ (coefficients : List (Place × Number)) (column : List ℕ) where
+module _ (coefficients : List (CoefficientKey × Number)) (column : List ℕ) where
   abbrev at : List ℕ → Option Number
-  at row = find place_cmp (place_at row column) coefficients
+  at row = find key_cmp (place_at row column) coefficients
 
   abbrev cells : List (List ℕ) → List (List ℕ × Number)
   cells names = filter_map (cell_at coefficients column) names
@@ -128,11 +128,11 @@ module _ (coefficients : List (Place × Number)) (column : List ℕ) where
 
 -- ---- both are the same
 
-abbrev is_of : List ℕ → List ℕ → Place → Bool
+abbrev is_of : List ℕ → List ℕ → CoefficientKey → Bool
 is_of objective column place = not (same_bytes objective place.row) && same_bytes column place.column
 
 module _ (m : Listing) (h : IsSoundListing m) (column : List ℕ) where
-  abbrev elements : List (Place × Number)
+  abbrev elements : List (CoefficientKey × Number)
   elements = filter (λ entry. is_of m.objective column entry.0) m.coefficients
 
   all-in : Each (InColumn column) elements
@@ -140,13 +140,13 @@ module _ (m : Listing) (h : IsSoundListing m) (column : List ℕ) where
       Each-filter (InColumn column) (λ entry. is_of m.objective column entry.0) m.coefficients
       (Each-all _ (λ entry passes. sym (same_name column entry.0.column (second_so (not (same_bytes m.objective entry.0.row)) (same_bytes column entry.0.column) passes))) m.coefficients)
 
-  sorted-elements : is_sorted place_cmp elements ≡ true
+  sorted-elements : is_sorted key_cmp elements ≡ true
   sorted-elements =
-      true_from (is_sorted place_cmp elements) (is_sorted-where_key place_cmp (is_of m.objective column) m.coefficients (T_from (is_sorted place_cmp m.coefficients) h.coefficients_sorted))
+      true_from (is_sorted key_cmp elements) (is_sorted-where_key key_cmp (is_of m.objective column) m.coefficients (T_from (is_sorted key_cmp m.coefficients) h.coefficients_sorted))
 
-  found : (row : List ℕ) → find place_cmp (place_at row column) elements ≡ cond (is_of m.objective column (place_at row column)) (at m.coefficients column row) None
+  found : (row : List ℕ) → find key_cmp (place_at row column) elements ≡ cond (is_of m.objective column (place_at row column)) (at m.coefficients column row) None
   found row =
-      find-where_key place_cmp (is_of m.objective column) (place_at row column) (λ other tie. ap (is_of m.objective column) (sym (same_place (place_at row column) other tie))) m.coefficients
+      find-where_key key_cmp (is_of m.objective column) (place_at row column) (λ other tie. ap (is_of m.objective column) (sym (same_key (place_at row column) other tie))) m.coefficients
 
   agree : (row : List ℕ) (o : Option Number) → at m.coefficients column row ≡ o
       → cond (is_one_of (names_in m.rows) row) o None ≡ cond (is_of m.objective column (place_at row column)) o None
@@ -157,7 +157,7 @@ module _ (m : Listing) (h : IsSoundListing m) (column : List ℕ) where
       there =
           let columns = is_one_of (names_in m.columns) column in
           let rows = is_one_of (m.objective ∷ names_in m.rows) row in
-          let sound = found-each place_cmp place_total same_place (λ place value. is_sound_entry m (place, value) ≡ true) m.coefficients h.coefficients (place_at row column) v is in
+          let sound = found-each key_cmp key_total same_key (λ place value. is_sound_entry m (place, value) ≡ true) m.coefficients h.coefficients (place_at row column) v is in
           second_so columns rows (second_so (not (is_zero v)) (columns && rows) (second_so (is_decimal v) (not (is_zero v) && (columns && rows)) sound))
 
       by : (b : Bool) → same_bytes row m.objective ≡ b → (b || is_one_of (names_in m.rows) row) ≡ true

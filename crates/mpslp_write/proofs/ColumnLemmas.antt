@@ -9,21 +9,21 @@ use Rattle.std.proofs.lemmas.List.Quantifiers.{position-Some}
 use Rattle.std.proofs.lemmas.Option.{slice_get-map, slice_get-get_or, get_or_from_slice_get}
 use Rattle.mpslp_decimal.specs.Decimal.{Number, is_decimal, is_zero, zero_number}
 use Rattle.mpslp_model.specs.Name.{same_bytes}
-use Rattle.mpslp_model.specs.Model.{LinearModel, Place, Column, place_cmp, IsSound}
+use Rattle.mpslp_model.specs.Model.{LinearModel, CoefficientKey, Column, key_cmp, IsSound}
 use Rattle.mpslp_model.specs.Views.{coefficient_at, column_elements}
 use Rattle.mpslp_model.specs.Views as views
 use Rattle.mpslp_model.specs.declared.kinds.Kind.{Kind}
 use Rattle.mpslp_model.specs.declared.kinds.Kind.TheVariants.{Continuous, Integer}
 use Rattle.mpslp_model.specs.declared.kinds.Limit.{Limit}
 use Rattle.mpslp_model.proofs.BoolLemmas.{not_so}
-use Rattle.mpslp_model.proofs.DraftEntries.{same_place}
+use Rattle.mpslp_model.proofs.DraftEntries.{same_key}
 use Rattle.mpslp_model.proofs.SlotLemmas.{same_name}
-use Rattle.mpslp_model.proofs.SortedDrafts.{place_total}
+use Rattle.mpslp_model.proofs.SortedDrafts.{key_total}
 use Rattle.mpslp_mps.specs.DataLine.{opening_word, closing_word}
 use Rattle.mpslp_canonical.specs.Listing.{Listing, listing_of}
 use Rattle.mpslp_canonical.specs.Printed.{PrintedLine}
 use Rattle.mpslp_canonical.specs.CanonicalMps.{Lines, bound_line, column_bound_lines, cell_line, column_cells, printed_cells, column_lines, is_integer_kind, is_integer_column, integer_part, marker_line}
-use Rattle.mpslp_model.specs.Refusal.{is_nonempty}
+use Rattle.mpslp_model.specs.Lists.{is_nonempty}
 use Rattle.mpslp_write.specs.LinesAt.{lines_at, is_wanted, of_kind, element_lines, objective_line_at, objective_lines, kind_of}
 use Rattle.mpslp_canonical.specs.PrintedValues.{PrintedBound, printed_bounds}
 use Rattle.mpslp_write.proofs.LinesAtLemmas.{both_seen, lines_seen, nonempty_seen, nonempty-map}
@@ -113,13 +113,13 @@ named-lines {X} g es j h = by (slice_get es j) (sym (slice_get-map (λ (e : List
         no_name name e = cc
     by (Some e) is = let same : slice_index_or (map (λ (e : List ℕ × X). e.0) es) j [] ≡ e.0 = cc in ap g same
 
-elements-lines : (column : List ℕ) (es : List (Place × Number)) → flat_map (element_lines column) es ≡ map (cell_line column) (map by_row es)
+elements-lines : (column : List ℕ) (es : List (CoefficientKey × Number)) → flat_map (element_lines column) es ≡ map (cell_line column) (map by_row es)
 elements-lines column [] = refl
 elements-lines column (e ∷ es) = ap (λ (l : Lines). cell_line column (e.0.row, e.1) ∷ l) (elements-lines column es)
 
 module _ (m : LinearModel) (sound : IsSound m) (column : List ℕ) where
   abbrev here : Option Number
-  here = find place_cmp (place_at m.objective column) (entries m.coefficients)
+  here = find key_cmp (place_at m.objective column) (entries m.coefficients)
 
   abbrev row_lines : Lines
   row_lines = flat_map (element_lines column) (column_elements m column)
@@ -127,10 +127,10 @@ module _ (m : LinearModel) (sound : IsSound m) (column : List ℕ) where
   not-zero : (v : Number) → here ≡ Some v → is_zero v ≡ false
   not-zero v is =
       let h = sound-listing m sound in
-      let at = found-each place_cmp place_total same_place (λ place value. is_sound_entry (listing_of m) (place, value) ≡ true) (listing_of m).coefficients h.coefficients (place_at m.objective column) v is in
+      let at = found-each key_cmp key_total same_key (λ place value. is_sound_entry (listing_of m) (place, value) ≡ true) (listing_of m).coefficients h.coefficients (place_at m.objective column) v is in
       not_so (is_zero v) (first_so (not (is_zero v)) _ (second_so (is_decimal v) _ at))
 
-  joined : (o : Option Number) (es : List (Place × Number)) → ((v : Number) → o ≡ Some v → is_zero v ≡ false)
+  joined : (o : Option Number) (es : List (CoefficientKey × Number)) → ((v : Number) → o ≡ Some v → is_zero v ≡ false)
       → objective_line_at m.objective column (unwrap_or o zero_number) es ++ map (cell_line column) (map by_row es)
       ≡ map (cell_line column) (printed_cells m.objective (cons_option (option_map (λ (value : Number). (m.objective, value)) o) (map by_row es)))
   joined None [] kept = refl
@@ -147,29 +147,29 @@ module _ (m : LinearModel) (sound : IsSound m) (column : List ℕ) where
 
 -- ---- the objective's line, and that of an element
 
-pub cell-needed : (objective column : List ℕ) (value : Number) (es : List (Place × Number)) → is_zero value ≡ false
+pub cell-needed : (objective column : List ℕ) (value : Number) (es : List (CoefficientKey × Number)) → is_zero value ≡ false
     → cell_line column (objective, value) ∷ [] ≡ objective_line_at objective column value es
 cell-needed objective column value [] h = refl
 cell-needed objective column value (e ∷ es) h = sym (ap (λ (b : Bool). cond b [] (cell_line column (objective, value) ∷ [])) h)
 
-pub cell-alone : (objective column : List ℕ) (value : Number) (es : List (Place × Number)) → length es ≤ 0 → cell_line column (objective, value) ∷ [] ≡ objective_line_at objective column value es
+pub cell-alone : (objective column : List ℕ) (value : Number) (es : List (CoefficientKey × Number)) → length es ≤ 0 → cell_line column (objective, value) ∷ [] ≡ objective_line_at objective column value es
 cell-alone objective column value [] h = refl
 cell-alone objective column value (e ∷ es) h = absurd (omega arith)
 
 -- an element as the views number it
-pub element-seen : (m : LinearModel) (es : List (Place × Number)) (k i : ℕ) (value : Number)
+pub element-seen : (m : LinearModel) (es : List (CoefficientKey × Number)) (k i : ℕ) (value : Number)
     → ◌≡◌ {A = Option (Option ℕ × Number)} (slice_get (map (λ e. (views.row_index m e.0.row, e.1)) es) k) (Some (Some i, value))
-    → (e : Place × Number) × (slice_get es k ≡ Some e) × (views.row_index m e.0.row ≡ Some i) × (e.1 ≡ value)
+    → (e : CoefficientKey × Number) × (slice_get es k ≡ Some e) × (views.row_index m e.0.row ≡ Some i) × (e.1 ≡ value)
 element-seen m es k i value is = by (slice_get es k) refl (sym (slice_get-map number es k) ∙ is)
   where
-    number : Place × Number → Option ℕ × Number
+    number : CoefficientKey × Number → Option ℕ × Number
     number e = (views.row_index m e.0.row, e.1)
 
     none_seen : (y : Option ℕ × Number) → ◌≡◌ {A = Option (Option ℕ × Number)} None (Some y) → ⊥
     none_seen y e = cc
 
-    by : (o : Option (Place × Number)) → slice_get es k ≡ o → ◌≡◌ {A = Option (Option ℕ × Number)} (option_map number o) (Some (Some i, value))
-        → (e : Place × Number) × (slice_get es k ≡ Some e) × (views.row_index m e.0.row ≡ Some i) × (e.1 ≡ value)
+    by : (o : Option (CoefficientKey × Number)) → slice_get es k ≡ o → ◌≡◌ {A = Option (Option ℕ × Number)} (option_map number o) (Some (Some i, value))
+        → (e : CoefficientKey × Number) × (slice_get es k ≡ Some e) × (views.row_index m e.0.row ≡ Some i) × (e.1 ≡ value)
     by None at h = absurd (none_seen _ h)
     by (Some e) at h =
         let pair : number e ≡ (Some i, value) = cc in

@@ -7,7 +7,7 @@ use Rattle.std.proofs.lemmas.List.{length-map}
 use Rattle.std.proofs.lemmas.Option.{slice_get-map}
 use Rattle.mpslp_mps.specs.declared.sections.Section.{Section}
 use Rattle.mpslp_canonical.specs.CanonicalMps.{Lines, header_line, under_header}
-use Rattle.mpslp_model.specs.Refusal.{is_nonempty}
+use Rattle.mpslp_model.specs.Lists.{is_nonempty}
 use Rattle.mpslp_write.specs.LinesAt.{lines_at}
 
 -- ---- one entry more

@@ -3,7 +3,7 @@ use Rattle.std.proofs.Common.{◌≡◌, refl, ℕ, true, false, not, cond, List
 use Rattle.std.specs.Prelude.{Option, codes}
 use Rattle.std.specs.Option.{option_map_or}
 use Rattle.mpslp_decimal.specs.Decimal.{Number, is_zero}
-use Rattle.mpslp_model.specs.Refusal.{is_nonempty}
+use Rattle.mpslp_model.specs.Lists.{is_nonempty}
 use Rattle.mpslp_canonical.specs.CanonicalMps.{Lines, vector_line, side_lines}
 
 pub side-nonempty : (row : List ℕ) (value : Number) → is_nonempty (side_lines row value) ≡ not (is_zero value)

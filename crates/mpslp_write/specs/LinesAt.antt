@@ -2,7 +2,7 @@
 use Rattle.std.specs.Prelude.{ℕ, Bool, true, false, not, List, [], ◌∷◌, slice_get, Option, Some, None, if◌then◌else◌}
 use Rattle.std.specs.Option.{option_map_or}
 use Rattle.mpslp_decimal.specs.Decimal.{Number, is_zero}
-use Rattle.mpslp_model.specs.Model.{LinearModel, Place, Column}
+use Rattle.mpslp_model.specs.Model.{LinearModel, CoefficientKey, Column}
 use Rattle.mpslp_model.specs.Views.{coefficient_at, column_elements}
 use Rattle.mpslp_model.specs.declared.kinds.Kind.{Kind}
 use Rattle.mpslp_model.specs.declared.kinds.Kind.TheVariants.{Continuous, Integer}
@@ -25,11 +25,11 @@ abbrev pub of_kind : Kind → (List ℕ × Column → Lines) → List ℕ × Col
 of_kind kind lines_of column = if is_wanted kind (is_integer_column column) then lines_of column else []
 
 -- the line of a coefficient of a row
-abbrev pub element_lines : List ℕ → Place × Number → Lines
+abbrev pub element_lines : List ℕ → CoefficientKey × Number → Lines
 element_lines column element = cell_line column (element.0.row, element.1) ∷ []
 
 -- The line of the objective, with its value there: a column has it where that is not 0, or where it has no other coefficients.
-abbrev pub objective_line_at : List ℕ → List ℕ → Number → List (Place × Number) → Lines
+abbrev pub objective_line_at : List ℕ → List ℕ → Number → List (CoefficientKey × Number) → Lines
 objective_line_at objective column value [] = cell_line column (objective, value) ∷ []
 objective_line_at objective column value (element ∷ elements) = if is_zero value then [] else cell_line column (objective, value) ∷ []
 

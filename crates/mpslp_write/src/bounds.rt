@@ -7,7 +7,7 @@ ghost use Rattle.mpslp_model.specs.Views.{num_columns};
 ghost use Rattle.mpslp_canonical.specs.PrintedValues.{have_same_value, printed_lower, printed_upper, printed_bounds};
 ghost use Rattle.mpslp_canonical.specs.CanonicalMps.{bound_line, column_bound_lines, bounds_section};
 ghost use Rattle.mpslp_canonical.specs.Listing.{listing_of};
-ghost use Rattle.mpslp_model.specs.Refusal.{is_nonempty};
+ghost use Rattle.mpslp_model.specs.Lists.{is_nonempty};
 ghost use Rattle.mpslp_write.specs.LinesAt.{lines_at, kind_of, fixed_value, are_free};
 ghost use Rattle.mpslp_write.specs.Output.{Prints};
 

@@ -6,7 +6,7 @@ ghost use Rattle.std.specs.FinMap.{entries};
 ghost use Rattle.mpslp_model.specs.Views.{num_columns, column_name, column_elements};
 ghost use Rattle.mpslp_canonical.specs.CanonicalMps.{column_lines, columns_section, integer_part};
 ghost use Rattle.mpslp_canonical.specs.Listing.{listing_of};
-ghost use Rattle.mpslp_model.specs.Refusal.{is_nonempty};
+ghost use Rattle.mpslp_model.specs.Lists.{is_nonempty};
 ghost use Rattle.mpslp_write.specs.LinesAt.{lines_at, is_wanted, of_kind, element_lines, objective_lines};
 ghost use Rattle.mpslp_write.specs.Output.{Prints};
 

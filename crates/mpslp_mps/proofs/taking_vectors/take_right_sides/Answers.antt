@@ -10,7 +10,7 @@ use Rattle.mpslp_mps.specs.LineAnswer.{IsToldAs}
 use Rattle.mpslp_mps.specs.DeclareAnswer.{right_sides_of}
 use Rattle.mpslp_mps.specs.declared.sections.Section.TheVariants.{Rhs}
 use Rattle.mpslp_mps.proofs.StepLemmas.{step-right_side}
-use Rattle.mpslp_mps.proofs.TakenLemmas.{form-told, declared-told, declared-is, vector-early, right_sides-are}
+use Rattle.mpslp_mps.proofs.TakenLemmas.{form-told, declared-told, declared-is, vector-early, rhs_values-are}
 use Rattle.mpslp_mps.proofs.taking_vectors.take_right_sides.Goals as goal
 
 pub returns-in_err-set : goal.returns-in_err-set
@@ -24,7 +24,7 @@ pub returns-in_err-declare_right_sides : goal.returns-in_err-declare_right_sides
 returns-in_err-declare_right_sides c =
     let fields = map (λ (field : Bor (List ℕ)). field.now) c.args.fields.now in
     let held = ap (λ (first : Option (List ℕ)). first_held (judged_by (vector_tests first) (vector_line fields))) (sym c.rhs_set.ensures) ∙ c.in_ok-set.ensures.0 in
-    let is = right_sides-are c.args.builder.now (vector_line fields) c.in_ok-set.set.now c.in_ok-set.sides c.in_ok-set.ensures.1 in
+    let is = rhs_values-are c.args.builder.now (vector_line fields) c.in_ok-set.set.now c.in_ok-set.sides c.in_ok-set.ensures.1 in
     let told = declared-told c.args.context.now c.args.builder.now fields (Some Rhs) (right_sides_of c.args.builder.now c.in_ok-set.sides) c.requires.section held is in
     let answer = subst (λ (o : Option FaultKind). IsToldAs o c.in_err-declare_right_sides.field-0.0) (sym told) c.in_err-declare_right_sides.ensures in
     search rules
@@ -33,7 +33,7 @@ pub returns : goal.returns
 returns c =
     let fields = map (λ (field : Bor (List ℕ)). field.now) c.args.fields.now in
     let held = ap (λ (first : Option (List ℕ)). first_held (judged_by (vector_tests first) (vector_line fields))) (sym c.rhs_set.ensures) ∙ c.in_ok-set.ensures.0 in
-    let is = right_sides-are c.args.builder.now (vector_line fields) c.in_ok-set.set.now c.in_ok-set.sides c.in_ok-set.ensures.1 in
+    let is = rhs_values-are c.args.builder.now (vector_line fields) c.in_ok-set.set.now c.in_ok-set.sides c.in_ok-set.ensures.1 in
     let told = declared-told c.args.context.now c.args.builder.now fields (Some Rhs) (right_sides_of c.args.builder.now c.in_ok-set.sides) c.requires.section held is in
     let same = declared-is c.args.context.now c.args.builder.now fields (Some Rhs) (right_sides_of c.args.builder.now c.in_ok-set.sides) c.requires.section is in (
       told ∙ c.in_ok-declare_right_sides.ensures.0,

@@ -3,7 +3,7 @@ use Rattle.std.specs.Prelude.{Option}
 use Rattle.std.specs.Option.{option_map_or}
 use Rattle.std.proofs.lemmas.Option.{get_or_from_slice_get}
 use Rattle.mpslp_decimal.specs.Decimal.{Number}
-use Rattle.mpslp_model.specs.Model.{Place}
+use Rattle.mpslp_model.specs.Model.{CoefficientKey}
 use Rattle.mpslp_model.specs.Views.{column_name, column_names, column_elements}
 use Rattle.mpslp_canonical.specs.CanonicalMps.{cell_line}
 use Rattle.mpslp_write.specs.LinesAt.{element_lines}
@@ -24,5 +24,5 @@ returns g c =
     let column : c.as_bytes.result.now ≡ name = c.as_bytes.ensures ∙ sym (get_or_from_slice_get (column_names m) c.args.j _ [] c.column_name.ensures) in
     let (e, at, index, value) = element-seen m (column_elements m name) c.args.k c.entry-i.result.0 c.entry-i.result.1 c.entry-i.ensures in
     let row : c.as_bytes-2.result.now ≡ e.0.row = c.as_bytes-2.ensures ∙ row-named m e.0.row _ c.entry-i.result.0 index c.row_name.ensures in
-    prints_same ((λ i. cell_line (column i) (row i, sym value i) ∷ []) ∙ sym (ap (λ (o : Option (Place × Number)). option_map_or (element_lines name) o []) at))
+    prints_same ((λ i. cell_line (column i) (row i, sym value i) ∷ []) ∙ sym (ap (λ (o : Option (CoefficientKey × Number)). option_map_or (element_lines name) o []) at))
     c.put_value_line.ensures

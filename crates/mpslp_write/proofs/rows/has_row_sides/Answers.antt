@@ -1,7 +1,7 @@
 use Rattle.std.proofs.Common.{sym, ap, ◌∙◌, arith, refl}
 use Rattle.std.specs.FinMap.{entries}
 use Rattle.mpslp_canonical.specs.CanonicalMps.{row_side_lines}
-use Rattle.mpslp_model.specs.Refusal.{is_nonempty}
+use Rattle.mpslp_model.specs.Lists.{is_nonempty}
 use Rattle.mpslp_write.proofs.LinesAtLemmas.{has-here, none-next, all-taken}
 use Rattle.mpslp_write.proofs.rows.has_row_sides.Goals as goal
 

@@ -1,0 +1,12 @@
+use Rattle.std.proofs.Common.{[], ◌∷◌, refl}
+use Rattle.mpslp_model.specs.Declaration.{declare_sense}
+use Rattle.mpslp_model.specs.Refusal.{refusals}
+use Rattle.mpslp_model.specs.declared.faults.BuildFault.TheVariants.{DuplicateSense}
+use Rattle.mpslp_model.proofs.AnswerLemmas.{none_refused, made_next}
+use Rattle.mpslp_model.proofs.builder.Builder.sense.Goals as goal
+
+pub invariant_of-self : goal.invariant_of-self
+invariant_of-self c =
+    let d = declare_sense c.args.sense in
+    made_next d c.self.view_is c.self.invariant refl
+    (none_refused (refusals c.args.self.now d) c.in_ok-check_sense.ensures)
