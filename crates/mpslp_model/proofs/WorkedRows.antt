@@ -82,11 +82,15 @@ not_of_an_equal_row = refl
 
 -- ---- limits that no model has
 
-inexact_distance : is_inexact (row (Finite (number (pos 1) (negsuc 9))) (Finite (number (pos 1) (pos 19)))) ≡ true
+long_distance : is_inexact (row (Finite (number (pos 1) (negsuc 9))) (Finite (number (pos 1) (pos 19)))) ≡ false
+unfolding trailing_zeros
+long_distance = refl
+
+inexact_distance : is_inexact (row (Finite (number (pos 1) (negsuc 19))) (Finite (number (pos 1) (pos 19)))) ≡ true
 unfolding trailing_zeros
 inexact_distance = refl
 
-inexact_side : is_inexact (limits_of (by_type AtLeast) (number (pos 1) (pos 19)) (Some (number (pos 1) (negsuc 9)))) ≡ true
+inexact_side : is_inexact (limits_of (by_type AtLeast) (number (pos 1) (pos 19)) (Some (number (pos 1) (negsuc 19)))) ≡ true
 unfolding trailing_zeros
 inexact_side = refl
 

@@ -265,10 +265,10 @@ fn outcome(alloc: Global, calls: &[Call<'_>]) -> Result<Vec<u8>, BuildFault> {
     }
 }
 
-/// Whether the words stand in the text.
-fn tells(text: &[u8], words: &str) -> bool {
-    text.windows(words.len().max(1))
-        .any(|part| part == words.as_bytes())
+/// Whether this is one of the lines of the text.
+fn tells(text: &[u8], line: &str) -> bool {
+    text.split(|byte| *byte == b'\n')
+        .any(|own| own == line.as_bytes())
 }
 
 /// Calls of one builder, one after another, and what each answers.
@@ -479,19 +479,55 @@ fn of_row<'a>(
 }
 
 /// Rows by type, right side and range, and what their views tell.
-const ROWS: [(RowType, &str, Option<&str>, &str); 12] = [
-    (RowType::Equal, "10", Some("3"), "R 10 13 rhs 13 range 3"),
-    (RowType::Equal, "10", Some("-3"), "R 7 10 rhs 10 range 3"),
-    (RowType::Equal, "10", Some("0"), "E 10 10 rhs 10 range 0"),
-    (RowType::AtLeast, "10", Some("-2"), "R 10 12 rhs 12 range 2"),
-    (RowType::AtMost, "10", Some("-2"), "R 8 10 rhs 10 range 2"),
-    (RowType::AtMost, "1e20", None, "N -inf inf rhs 0 range 0"),
-    (RowType::Free, "1", None, "N -inf inf rhs 0 range 0"),
+const ROWS: [(RowType, &str, Option<&str>, &str); 13] = [
+    (
+        RowType::Equal,
+        "10",
+        Some("3"),
+        "row R R 10 13 rhs 13 range 3",
+    ),
+    (
+        RowType::Equal,
+        "10",
+        Some("-3"),
+        "row R R 7 10 rhs 10 range 3",
+    ),
+    (
+        RowType::Equal,
+        "10",
+        Some("0"),
+        "row R E 10 10 rhs 10 range 0",
+    ),
+    (
+        RowType::AtLeast,
+        "10",
+        Some("-2"),
+        "row R R 10 12 rhs 12 range 2",
+    ),
+    (
+        RowType::AtMost,
+        "10",
+        Some("-2"),
+        "row R R 8 10 rhs 10 range 2",
+    ),
+    (
+        RowType::AtMost,
+        "1e20",
+        None,
+        "row R N -inf inf rhs 0 range 0",
+    ),
+    (RowType::Free, "1", None, "row R N -inf inf rhs 0 range 0"),
     (RowType::AtMost, "-1e20", None, "InfiniteLimit R"),
     (RowType::AtLeast, "1e20", None, "InfiniteLimit R"),
     (RowType::Equal, "1e20", None, "InfiniteLimit R"),
     (RowType::AtLeast, "9e19", Some("9e19"), "LimitTooLarge R"),
-    (RowType::AtLeast, "1e19", Some("1e-10"), "RangeInexact R"),
+    (RowType::AtLeast, "1e19", Some("1e-20"), "RangeInexact R"),
+    (
+        RowType::AtLeast,
+        "1e19",
+        Some("1e-10"),
+        "row R R 1e19 10000000000000000000.0000000001 rhs 10000000000000000000.0000000001 range 0.0000000001",
+    ),
 ];
 
 #[test]
@@ -505,7 +541,11 @@ fn limits_rows_by_type_right_side_and_range(rt: HostRuntime) -> Result<(), Fail>
 
 /// Two calls of the bounds or the kind of a column, and what its views tell.
 const COLUMNS: [(Call<'static>, Call<'static>, &str); 9] = [
-    (Call::NoBounds("X"), Call::NoBounds("X"), "continuous 0 inf"),
+    (
+        Call::NoBounds("X"),
+        Call::NoBounds("X"),
+        "column X continuous 0 inf objective 0",
+    ),
     (
         Call::Upper("X", "-1"),
         Call::NoBounds("X"),
@@ -514,22 +554,38 @@ const COLUMNS: [(Call<'static>, Call<'static>, &str); 9] = [
     (
         Call::Upper("X", "-1"),
         Call::Lower("X", "-1e20"),
-        "continuous -inf -1",
+        "column X continuous -inf -1 objective 0",
     ),
     (
         Call::Upper("X", "-1"),
         Call::Lower("X", "0"),
         "BoundsCrossed X",
     ),
-    (Call::Upper("X", "0"), Call::NoBounds("X"), "continuous 0 0"),
+    (
+        Call::Upper("X", "0"),
+        Call::NoBounds("X"),
+        "column X continuous 0 0 objective 0",
+    ),
     (
         Call::Bounds("X", "2", "2.50"),
         Call::NoBounds("X"),
-        "continuous 2 2.5",
+        "column X continuous 2 2.5 objective 0",
     ),
-    (Call::Marked("X"), Call::NoBounds("X"), "integer 0 1 "),
-    (Call::Marked("X"), Call::Lower("X", "0"), "integer 0 inf "),
-    (Call::Integer("X"), Call::NoBounds("X"), "integer 0 inf "),
+    (
+        Call::Marked("X"),
+        Call::NoBounds("X"),
+        "column X integer 0 1 objective 0",
+    ),
+    (
+        Call::Marked("X"),
+        Call::Lower("X", "0"),
+        "column X integer 0 inf objective 0",
+    ),
+    (
+        Call::Integer("X"),
+        Call::NoBounds("X"),
+        "column X integer 0 inf objective 0",
+    ),
 ];
 
 #[test]
