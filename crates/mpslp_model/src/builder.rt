@@ -70,6 +70,9 @@ impl Form {
 /// A call that is refused answers the first of its refusals, in the order in which they are listed at the call, and
 /// the builder stays as it was. Only a call that has no refusal may answer
 /// [`OutOfMemory`](BuildFault::OutOfMemory), and then too the builder stays as it was.
+///
+/// Each call that has refusals has a question, as [`check_rhs`](Self::check_rhs) of [`rhs`](Self::rhs): it tells the first
+/// of them, takes no memory, and changes nothing.
 #[derive(Debug, Drop)]
 pub struct Builder {
     pub(crate) alloc: Global,

@@ -1,11 +1,10 @@
-use Rattle.std.proofs.Common.{refl, sym, ap, subst, ◌∙◌, ℕ, List, [], ◌∷◌, not}
+use Rattle.std.proofs.Common.{refl, sym, ap, subst, ◌∙◌, ℕ, List, []}
 use Rattle.std.specs.FinMap.{put}
 use Rattle.mpslp_model.specs.Model.{bytes_cmp}
 use Rattle.mpslp_model.specs.Declaration.{Draft, declare_integer, has_name}
 use Rattle.mpslp_model.specs.Refusal.{refusals}
 use Rattle.mpslp_model.specs.Made.{IsMade}
 use Rattle.mpslp_model.specs.BuilderDraft.{draft}
-use Rattle.mpslp_model.specs.declared.faults.BuildFault.TheVariants.{UnknownColumn}
 use Rattle.mpslp_model.proofs.AnswerLemmas.{none_refused, made_next, made_now, declared, known_column, column_is_legal, put_again}
 use Rattle.mpslp_model.proofs.SortedDrafts.{sorted-from_made}
 use Rattle.mpslp_model.proofs.builder.Builder.integer.Goals as goal

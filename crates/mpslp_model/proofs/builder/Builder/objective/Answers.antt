@@ -1,9 +1,8 @@
-use Rattle.std.proofs.Common.{sym, ap, ◌∙◌, ℕ, List, [], ◌∷◌}
+use Rattle.std.proofs.Common.{sym, ap, ◌∙◌, ℕ, List}
 use Rattle.mpslp_model.specs.Name.{is_mps_name}
-use Rattle.mpslp_model.specs.Declaration.{declare_objective, has_row}
+use Rattle.mpslp_model.specs.Declaration.{declare_objective}
 use Rattle.mpslp_model.specs.Refusal.{refusals}
 use Rattle.mpslp_model.specs.Answer.{first_refusal}
-use Rattle.mpslp_model.specs.declared.faults.BuildFault.TheVariants.{SecondObjective, DuplicateRow}
 use Rattle.mpslp_model.proofs.AnswerLemmas.{none_refused, made_next}
 use Rattle.mpslp_model.proofs.builder.Builder.objective.Goals as goal
 

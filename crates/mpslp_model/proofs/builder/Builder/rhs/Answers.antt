@@ -1,4 +1,4 @@
-use Rattle.std.proofs.Common.{refl, sym, ap, subst, ◌∙◌, ℕ, List, [], ◌∷◌, not, Bool}
+use Rattle.std.proofs.Common.{refl, sym, ap, subst, ◌∙◌, ℕ, List, [], ◌∷◌, Bool}
 use Rattle.std.specs.Prelude.{◌||◌, ◌&&◌, is_some}
 use Rattle.std.specs.FinMap.{put}
 use Rattle.mpslp_decimal.specs.Decimal.{Number}
@@ -8,7 +8,7 @@ use Rattle.mpslp_model.specs.Refusal.{refusals}
 use Rattle.mpslp_model.specs.Made.{IsMade}
 use Rattle.mpslp_model.specs.BuilderDraft.{draft}
 use Rattle.mpslp_model.specs.declared.faults.BuildFault.{BuildFault}
-use Rattle.mpslp_model.specs.declared.faults.BuildFault.TheVariants.{UnknownRow, DuplicateRhs}
+use Rattle.mpslp_model.specs.declared.faults.BuildFault.TheVariants.{DuplicateRhs}
 use Rattle.mpslp_model.proofs.AnswerLemmas.{handed_on, none_refused, made_next, made_now, known_row, row_is_legal}
 use Rattle.mpslp_model.proofs.builder.Builder.rhs.Goals as goal
 

@@ -1,13 +1,10 @@
-use Rattle.std.proofs.Common.{refl, sym, ap, subst, ◌∙◌, ℕ, List, [], ◌∷◌, true, false}
-use Rattle.std.specs.FinMap.{put}
+use Rattle.std.proofs.Common.{refl, sym, ap, subst, ◌∙◌, ℕ, List, true}
 use Rattle.mpslp_model.specs.Name.{is_mps_name}
-use Rattle.mpslp_model.specs.Model.{bytes_cmp}
-use Rattle.mpslp_model.specs.Declaration.{RowForm, by_type, declare_row, has_row}
+use Rattle.mpslp_model.specs.Declaration.{RowForm, by_type, declare_row}
 use Rattle.mpslp_model.specs.Refusal.{refusals}
 use Rattle.mpslp_model.specs.Answer.{first_refusal}
 use Rattle.mpslp_model.specs.Made.{IsMade}
 use Rattle.mpslp_model.specs.BuilderDraft.{draft}
-use Rattle.mpslp_model.specs.declared.faults.BuildFault.TheVariants.{DuplicateRow, InfiniteValue}
 use Rattle.mpslp_model.proofs.AnswerLemmas.{none_refused, made_next}
 use Rattle.mpslp_model.proofs.BoolLemmas.{both_so}
 use Rattle.mpslp_model.proofs.builder.Builder.row.Goals as goal

@@ -1,7 +1,6 @@
-use Rattle.std.proofs.Common.{[], ◌∷◌, refl}
+use Rattle.std.proofs.Common.{refl}
 use Rattle.mpslp_model.specs.Declaration.{declare_sense}
 use Rattle.mpslp_model.specs.Refusal.{refusals}
-use Rattle.mpslp_model.specs.declared.faults.BuildFault.TheVariants.{DuplicateSense}
 use Rattle.mpslp_model.proofs.AnswerLemmas.{none_refused, made_next}
 use Rattle.mpslp_model.proofs.builder.Builder.sense.Goals as goal
 
