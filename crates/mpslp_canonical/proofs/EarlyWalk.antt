@@ -14,7 +14,7 @@ use Rattle.mpslp_mps.specs.Line.{Fields, Item, data_line}
 use Rattle.mpslp_mps.specs.DataLine.{letter_of, opening_word}
 use Rattle.mpslp_mps.specs.Context.{context_of, current_section, data_lines, marker_word, line_column, in_integer_part, last_column}
 use Rattle.mpslp_mps.specs.LineMeaning.{declared}
-use Rattle.mpslp_mps.specs.LineFault.{form_faults}
+use Rattle.mpslp_mps.proofs.PlacedLemmas.{form_faults}
 use Rattle.mpslp_mps.specs.declared.sections.Section.TheVariants.{Name, ObjSense, Rows, Columns}
 use Rattle.mpslp_mps.proofs.PlacedLemmas.{Walk, walk-nil, walk-cons, walk-append, section-walk}
 use Rattle.mpslp_mps.proofs.RowsWalk.{RowItem, row_item, row_decl, InRows, row_step, name-good, stays}

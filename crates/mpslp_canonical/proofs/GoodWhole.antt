@@ -34,10 +34,9 @@ use Rattle.mpslp_canonical.proofs.EntryLemmas.{then_told, puts-own}
 use Rattle.mpslp_canonical.proofs.WholeParts.{kept-all}
 use Rattle.mpslp_canonical.proofs.ListedParts.{form_told, row_forms, rows-made}
 use Rattle.mpslp_canonical.proofs.DraftMaps.{IsSoundListing, one_of-names, none_is, own-found, names_sorted, at-mapped}
-use Rattle.mpslp_canonical.proofs.ListingFacts.{row_named, row_sides, row_distance, column_sides, bounded_so, bounded_finite}
+use Rattle.mpslp_canonical.proofs.ListingFacts.{row_named, row_sides, row_distance, column_sides, bounded_so, bounded_finite, lower_of, upper_of}
 use Rattle.mpslp_model.specs.declared.kinds.RowType.TheVariants.{AtLeast, Equal}
 use Rattle.mpslp_canonical.proofs.PrintableLemmas.{Holds, side-decimal, range-decimal, negated-decimal}
-use Rattle.mpslp_canonical.proofs.ListingFacts.{lower_of, upper_of}
 use Rattle.mpslp_canonical.proofs.GoodColumns.{are-columns}
 
 -- ---- right sides and ranges are read as the numbers that they were printed from

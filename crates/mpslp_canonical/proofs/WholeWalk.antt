@@ -15,7 +15,7 @@ use Rattle.mpslp_mps.specs.Context.{has_section, is_read, is_bare_objsense, want
 use Rattle.mpslp_mps.specs.declared.sections.Section.{Section}
 use Rattle.mpslp_mps.specs.declared.sections.Section.TheVariants.{Name, ObjSense, Rows, Columns, Rhs, Ranges, Bounds, EndData}
 use Rattle.mpslp_mps.proofs.PlacedLemmas.{Walk, walk-append}
-use Rattle.mpslp_mps.proofs.ObjectiveLemmas.{named-after}
+use Rattle.mpslp_reading.proofs.ObjectiveLemmas.{named-after}
 use Rattle.mpslp_mps.proofs.RowsWalk.{RowItem, row_item, row_decl, Side, side_item, side_decl, range_decl, ReadsAs}
 use Rattle.mpslp_mps.proofs.ColumnsWalk.{Cell, cell_item, cell_decl, Group, cells_of}
 use Rattle.mpslp_mps.proofs.BoundsWalk.{Bound, bound_item, bound_decl, GoodBound}

@@ -13,7 +13,7 @@ use Rattle.mpslp_mps.specs.BoundLine.{letters_of}
 use Rattle.mpslp_mps.specs.Context.{context_of, current_section, data_lines, bound_set, first_set}
 use Rattle.mpslp_mps.specs.LineMeaning.{declared}
 use Rattle.mpslp_mps.specs.FieldFault.{set_tests}
-use Rattle.mpslp_mps.specs.LineFault.{form_faults}
+use Rattle.mpslp_mps.proofs.PlacedLemmas.{form_faults}
 use Rattle.mpslp_mps.specs.declared.bound_types.BoundType.TheVariants as bounds
 use Rattle.mpslp_mps.specs.declared.sections.Section.TheVariants.{Bounds}
 use Rattle.mpslp_mps.proofs.PlacedLemmas.{Step}

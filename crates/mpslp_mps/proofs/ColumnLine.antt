@@ -15,20 +15,25 @@ use Rattle.mpslp_model.specs.declared.faults.FaultKind.TheVariants as kinds
 use Rattle.mpslp_mps.specs.Line.{Fields, data_line}
 use Rattle.mpslp_mps.specs.DataLine.{Pair, ColumnLine, column_line, is_marker_line}
 use Rattle.mpslp_mps.specs.Context.{Context}
-use Rattle.mpslp_mps.specs.FieldFault.{Tests, judged_by, name_tests, number_tests, literals_of}
-use Rattle.mpslp_mps.specs.FirstHeld.{first_held, row_value, column_values}
+use Rattle.mpslp_reading.specs.Tests.{Tests, judged_by, first_held}
+use Rattle.mpslp_reading.specs.Field.{name_tests, number_tests}
+use Rattle.mpslp_mps.specs.FieldFault.{literals_of}
+use Rattle.mpslp_mps.specs.LineValues.{row_value, column_values}
 use Rattle.mpslp_mps.specs.DataFault.{is_split, marker_tests, column_tests, data_tests}
 use Rattle.mpslp_mps.specs.LineMeaning.{coefficient_declared, data_declared, declared_of, column_declared}
-use Rattle.mpslp_mps.specs.LineFault.{declaring_faults}
-use Rattle.mpslp_mps.specs.FirstFault.{item_fault}
-use Rattle.mpslp_mps.specs.DeclareAnswer.{declared_fault}
+use Rattle.mpslp_reading.specs.Declaring.{declaring_faults, declared_fault}
+use Rattle.mpslp_mps.specs.LineAnswer.{item_fault}
 use Rattle.mpslp_mps.specs.ColumnDeclared.{front_declared, value_declared}
 use Rattle.mpslp_mps.specs.declared.sections.Section.{Section}
 use Rattle.mpslp_mps.specs.declared.sections.Section.TheVariants.{Columns}
-use Rattle.mpslp_mps.proofs.HeldLemmas.{held-third}
-use Rattle.mpslp_mps.proofs.LeastLemmas.{is_from, earlier_of, stays-least, least-those_of, least-append}
-use Rattle.mpslp_mps.proofs.ToldLemmas.{told-form, held-among, data-rising}
-use Rattle.mpslp_mps.proofs.DeclaringLemmas.{told-after, are_from}
+use Rattle.mpslp_reading.proofs.HeldLemmas.{held-third, held-among}
+use Rattle.mpslp_reading.proofs.LeastLemmas.{is_from, earlier_of, stays-least, least-those_of, least-append}
+use Rattle.mpslp_reading.specs.LineAnswer.{IsErrorOf}
+use Rattle.mpslp_reading.specs.declared.errors.LineError.{LineError}
+use Rattle.mpslp_reading.specs.declared.errors.LineError.TheVariants as errors
+use Rattle.mpslp_reading.proofs.FirstFaultLemmas.{form-first}
+use Rattle.mpslp_mps.proofs.RisingTests.{data-rising}
+use Rattle.mpslp_reading.proofs.DeclaringLemmas.{declared-after, are_from}
 use Rattle.mpslp_mps.proofs.TakingLemmas.{is_early}
 use Rattle.mpslp_mps.proofs.ColumnTaking.{are_rows, front-none, front-there, front-rows, values-late, values-unknown}
 
@@ -60,15 +65,20 @@ early_fields (Some line) = refl
 abbrev told_under : Context → Draft → Fields → Option Section → Option FaultKind
 told_under context earlier fields section = least_kind (those_of (data_tests context earlier fields section) ++ declaring_faults earlier (data_declared context earlier fields section))
 
-pub column-form : (context : Context) (earlier : Draft) (fields : Fields) (kind : FaultKind) → context.section ≡ Some Columns → is_marker_line fields ≡ false
+column-form : (context : Context) (earlier : Draft) (fields : Fields) (kind : FaultKind) → context.section ≡ Some Columns → is_marker_line fields ≡ false
     → first_held (judged_by field_tests (column_line fields)) ≡ Some kind
-    → item_fault (record { context = context; earlier = earlier; item = data_line fields }) ≡ Some kind
+    → item_fault context earlier (data_line fields) ≡ Some kind
 column-form context earlier fields kind here plain held =
     let tests = data_tests context earlier fields (Some Columns) in
     ap (told_under context earlier fields) here
-    ∙ told-form tests kind earlier (data_declared context earlier fields (Some Columns)) (data-rising context earlier fields (Some Columns))
+    ∙ form-first tests kind earlier (data_declared context earlier fields (Some Columns)) (data-rising context earlier fields (Some Columns))
     (ap first_held (plain-tests context earlier fields plain) ∙ held_fields context earlier (column_line fields) kind held)
     (held-among (λ other. is_from other kinds.UnknownRow) (judged_by field_tests (column_line fields)) kind (early_fields (column_line fields)) held)
+
+pub column-judged : (context : Context) (earlier : Draft) (fields : Fields) (error : LineError) → context.section ≡ Some Columns → is_marker_line fields ≡ false
+    → IsErrorOf (first_held (judged_by field_tests (column_line fields))) error → IsErrorOf (item_fault context earlier (data_line fields)) error
+column-judged context earlier fields (errors.Fault kind) here plain held = column-form context earlier fields kind here plain held
+column-judged context earlier fields errors.OutOfMemory here plain held = tt
 
 -- ---- the form and what is declared
 
@@ -106,7 +116,7 @@ with_column context earlier column = adding_all earlier (front_declared context.
 
 pub column-told : (context : Context) (earlier : Draft) (fields : Fields) (column : List ℕ) (values : List (List ℕ × Number)) → context.section ≡ Some Columns
     → is_marker_line fields ≡ false → first_held (judged_by field_tests (column_line fields)) ≡ None → option_map column_values (column_line fields) ≡ Some (column, values)
-    → item_fault (record { context = context; earlier = earlier; item = data_line fields })
+    → item_fault context earlier (data_line fields)
     ≡ earlier_of (first_held (split_test context earlier column)) (declared_fault (with_column context earlier column) (flat_map (value_declared column) values))
 column-told context earlier fields column values here plain held is =
     let tests = data_tests context earlier fields (Some Columns) in
@@ -120,7 +130,7 @@ column-told context earlier fields column values here plain held is =
     ∙ held_split context earlier (column_line fields) column values held is)
     ∙ ap (earlier_of (first_held (split_test context earlier column)))
     (ap (declared_fault earlier) (column-declares context earlier fields column values plain is)
-    ∙ told-after earlier front coefficients (front-none earlier context.in_integer_part column))
+    ∙ declared-after earlier front coefficients (front-none earlier context.in_integer_part column))
 
 -- ---- the place
 
@@ -138,7 +148,7 @@ late_enough (Some kind) h = more (kind_rank kind) h
 pub place-told : (context : Context) (earlier : Draft) (fields : Fields) (column : List ℕ) (values : List (List ℕ × Number)) (kind : FaultKind) → context.section ≡ Some Columns
     → is_marker_line fields ≡ false → first_held (judged_by field_tests (column_line fields)) ≡ None → option_map column_values (column_line fields) ≡ Some (column, values)
     → first_held (place_tests context earlier column values) ≡ Some kind
-    → item_fault (record { context = context; earlier = earlier; item = data_line fields }) ≡ Some kind
+    → item_fault context earlier (data_line fields) ≡ Some kind
 place-told context earlier fields column values kind here plain held is placed =
     column-told context earlier fields column values here plain held is ∙ by (are_rows earlier values) refl (is_split context earlier column) placed
   where
@@ -175,7 +185,7 @@ placed context earlier column values h = by (are_rows earlier values) (is_split 
 pub placed-told : (context : Context) (earlier : Draft) (fields : Fields) (column : List ℕ) (values : List (List ℕ × Number)) → context.section ≡ Some Columns
     → is_marker_line fields ≡ false → first_held (judged_by field_tests (column_line fields)) ≡ None → option_map column_values (column_line fields) ≡ Some (column, values)
     → first_held (place_tests context earlier column values) ≡ None
-    → item_fault (record { context = context; earlier = earlier; item = data_line fields }) ≡ declared_fault (with_column context earlier column) (flat_map (value_declared column) values)
+    → item_fault context earlier (data_line fields) ≡ declared_fault (with_column context earlier column) (flat_map (value_declared column) values)
 placed-told context earlier fields column values here plain held is in_order =
     let coefficients = declared_fault (with_column context earlier column) (flat_map (value_declared column) values) in
     column-told context earlier fields column values here plain held is

@@ -20,8 +20,9 @@ use Rattle.mpslp_mps.specs.Line.{Fields, Item, data_line}
 use Rattle.mpslp_mps.specs.DataLine.{opening_word, closing_word}
 use Rattle.mpslp_mps.specs.Context.{context_of, current_section, data_lines, marker_word, in_integer_part, line_column, last_column}
 use Rattle.mpslp_mps.specs.LineMeaning.{declared}
-use Rattle.mpslp_mps.specs.FieldFault.{Tests, name_tests, number_tests}
-use Rattle.mpslp_mps.specs.LineFault.{form_faults}
+use Rattle.mpslp_reading.specs.Tests.{Tests}
+use Rattle.mpslp_reading.specs.Field.{name_tests, number_tests}
+use Rattle.mpslp_mps.proofs.PlacedLemmas.{form_faults}
 use Rattle.mpslp_mps.specs.declared.sections.Section.TheVariants.{Columns}
 use Rattle.mpslp_mps.proofs.SectionLemmas.{last_or-append}
 use Rattle.mpslp_mps.proofs.PlacedLemmas.{Step}

@@ -13,7 +13,7 @@ use Rattle.mpslp_mps.specs.Section.{keyword_of, section_begun, section_named, be
 use Rattle.mpslp_mps.specs.Context.{context_of, current_section, has_section, seen_in, has_seen, fields_under, data_lines_after, data_lines, is_read, is_bare_objsense, wants_sense}
 use Rattle.mpslp_mps.specs.LineMeaning.{declared}
 use Rattle.mpslp_mps.specs.HeaderFault.{may_begin, is_out_of_order}
-use Rattle.mpslp_mps.specs.LineFault.{form_faults}
+use Rattle.mpslp_mps.proofs.PlacedLemmas.{form_faults}
 use Rattle.mpslp_mps.specs.declared.sections.Section.{Section}
 use Rattle.mpslp_mps.specs.declared.sections.Section.TheVariants.{Name, ObjSense, Rows, Columns, Rhs, Ranges, Bounds, EndData}
 use Rattle.mpslp_mps.proofs.SectionLemmas.{current_section-push}

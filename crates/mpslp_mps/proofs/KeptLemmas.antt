@@ -24,15 +24,16 @@ use Rattle.mpslp_mps.specs.Context.{Context, context_of}
 use Rattle.mpslp_mps.specs.NextContext.{next_context}
 use Rattle.mpslp_mps.specs.ContextStep.{is_bare_header, after_header}
 use Rattle.mpslp_mps.specs.LineMeaning.{declared_of, sense_declared, row_of_type, row_declared, default_objective, coefficient_declared, column_declared, columns_line_declared, right_sides_declared, ranges_declared, bound_line_declared, data_declared, header_declared, declared}
-use Rattle.mpslp_mps.specs.FieldFault.{judged_by}
+use Rattle.mpslp_reading.specs.Tests.{judged_by}
 use Rattle.mpslp_mps.specs.HeaderFault.{word_tests, header_tests}
 use Rattle.mpslp_mps.specs.DataFault.{data_tests}
-use Rattle.mpslp_mps.specs.LineFault.{declaring_faults}
-use Rattle.mpslp_mps.specs.FirstFault.{item_fault}
+use Rattle.mpslp_reading.specs.Declaring.{declaring_faults}
+use Rattle.mpslp_mps.specs.LineAnswer.{item_fault}
 use Rattle.mpslp_mps.specs.ReadingState.{has_sense_in_order, has_sorted_columns, IsReading}
 use Rattle.mpslp_mps.specs.declared.sections.Section.{Section}
 use Rattle.mpslp_mps.specs.declared.sections.Section.TheVariants.{Name, ObjSense, Rows, Columns, Rhs, Ranges, Bounds, EndData}
-use Rattle.mpslp_mps.proofs.OrderLemmas.{first_test, header-fresh, each-declared, each-flat, Passes, sides-passes, ranges-passes, bounds-passes}
+use Rattle.mpslp_reading.proofs.HeldLemmas.{first_test}
+use Rattle.mpslp_mps.proofs.OrderLemmas.{header-fresh, each-declared, each-flat, Passes, sides-passes, ranges-passes, bounds-passes}
 use Rattle.mpslp_mps.proofs.StepLemmas.{step-skipped, step-header, bare-header}
 use Rattle.mpslp_mps.proofs.MpsSidesLemmas.{empty_sides, sides-kept}
 
@@ -180,7 +181,7 @@ least_none [] h = refl
 least_none (kind ∷ more) h = cc
 
 order_next : (context : Context) (earlier : Draft) (item : Item) → has_sense_in_order context earlier ≡ true
-    → item_fault (record { context = context; earlier = earlier; item = item }) ≡ None
+    → item_fault context earlier item ≡ None
     → has_sense_in_order (next_context context item) (adding_all earlier (declared context earlier item)) ≡ true
 order_next context earlier skipped order h = ap (λ (c : Context). has_sense_in_order c earlier) (step-skipped context) ∙ order
 order_next context earlier (header keyword more) order h =
@@ -206,7 +207,7 @@ reading-start = record { order = refl; sorted = refl; sides = empty_sides }
 
 -- after a line that has no fault
 pub reading-next : (context : Context) (earlier : Draft) (item : Item) → IsReading context earlier
-    → item_fault (record { context = context; earlier = earlier; item = item }) ≡ None
+    → item_fault context earlier item ≡ None
     → IsReading (next_context context item) (adding_all earlier (declared context earlier item))
 reading-next context earlier item reading h = record {
   order = order_next context earlier item reading.order h;

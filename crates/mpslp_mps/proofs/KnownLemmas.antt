@@ -21,9 +21,10 @@ use Rattle.mpslp_mps.specs.Section.{section_named, begins, is_section}
 use Rattle.mpslp_mps.specs.DataLine.{RowLine, Pair, ColumnLine, VectorLine, sense_line, sense_of, row_line, row_type, column_line, is_marker_line, vector_line}
 use Rattle.mpslp_mps.specs.BoundLine.{BoundLine, bound_type, bound_line}
 use Rattle.mpslp_mps.specs.Context.{Context, context_of, current_section, has_section}
-use Rattle.mpslp_mps.specs.LineMeaning.{declared_of, value_of, sense_declared, row_of_type, row_declared, coefficient_declared, column_declared, columns_line_declared, right_sides_declared, ranges_declared, bound_declared, bound_value, bound_line_declared, data_declared, header_declared, declared}
+use Rattle.mpslp_mps.specs.LineMeaning.{declared_of, sense_declared, row_of_type, row_declared, coefficient_declared, column_declared, columns_line_declared, right_sides_declared, ranges_declared, bound_declared, bound_value, bound_line_declared, data_declared, header_declared, declared}
+use Rattle.mpslp_reading.specs.Field.{value_of}
 use Rattle.mpslp_mps.specs.HeaderFault.{header_tests}
-use Rattle.mpslp_mps.specs.LineFault.{form_faults}
+use Rattle.mpslp_mps.proofs.PlacedLemmas.{form_faults}
 use Rattle.mpslp_mps.specs.declared.sections.Section.{Section}
 use Rattle.mpslp_mps.specs.declared.sections.Section.TheVariants.{Name, ObjSense, Rows, Columns, Rhs, Ranges, Bounds, EndData}
 use Rattle.mpslp_mps.specs.declared.bound_types.BoundType.{BoundType}

@@ -1,18 +1,16 @@
 -- Lines of MPS text without a fault declare right sides of rows that are there and not of type N.
 use Rattle.std.proofs.Common.{◌≡◌, refl, sym, ap, subst, ◌∙◌, ℕ, List, [], ◌∷◌, ◌++◌, Bool, true, false, cond}
-use Rattle.std.specs.Prelude.{◌||◌, Option, Some, None, is_none, filter_map, codes}
+use Rattle.std.specs.Prelude.{◌||◌, Option, Some, None, is_none, codes}
 use Rattle.std.specs.List.{list_all, flat_map}
 use Rattle.std.specs.Option.{option_map_or}
 use Rattle.std.specs.Cmp.{first_so, second_so}
-use Rattle.std.proofs.lemmas.List.{append-nil}
 use Rattle.mpslp_model.specs.Name.{same_bytes}
 use Rattle.mpslp_model.specs.Declaration.{RowForm, by_type, Declaration, declare_sense, declare_objective, declare_constant, declare_row, declare_right_side, declare_range, declare_column, declare_coefficient, declare_lower, declare_upper, declare_marked, declare_integer, declare_binary, Declarations, Draft, empty_draft, adding, adding_all, at_name, has_name, has_row, is_objective, is_free_form, is_free_row, right_side_declared}
-use Rattle.mpslp_model.specs.Refusal.{refusals, refusal_tests, when}
+use Rattle.mpslp_model.specs.Refusal.{when}
 use Rattle.mpslp_model.specs.FaultOrder.{least_kind}
 use Rattle.mpslp_model.specs.declared.kinds.Limit.{Limit}
 use Rattle.mpslp_model.specs.declared.kinds.RowType.{RowType}
 use Rattle.mpslp_model.specs.declared.kinds.RowType.TheVariants.{Free, AtMost, AtLeast, Equal}
-use Rattle.mpslp_model.specs.declared.faults.BuildFault.{BuildFault}
 use Rattle.mpslp_model.specs.declared.faults.FaultKind.{FaultKind}
 use Rattle.mpslp_model.specs.declared.faults.FaultKind.TheVariants as kinds
 use Rattle.mpslp_model.proofs.BoolLemmas.{or_right}
@@ -23,17 +21,19 @@ use Rattle.mpslp_mps.specs.Section.{section_named}
 use Rattle.mpslp_mps.specs.DataLine.{RowLine, Pair, ColumnLine, VectorLine, sense_line, row_line, row_type, column_line, is_marker_line, vector_line}
 use Rattle.mpslp_mps.specs.BoundLine.{BoundLine, bound_type, bound_line}
 use Rattle.mpslp_mps.specs.Context.{Context}
-use Rattle.mpslp_mps.specs.LineMeaning.{declared_of, value_of, sense_declared, row_of_type, row_declared, coefficient_declared, column_declared, columns_line_declared, right_sides_declared, ranges_declared, bound_declared, bound_value, bound_line_declared, default_objective, data_declared, header_declared, declared}
-use Rattle.mpslp_mps.specs.LineFault.{kind_of_refusal, form_faults, declaring_faults}
-use Rattle.mpslp_mps.specs.FirstFault.{item_fault}
-use Rattle.mpslp_mps.specs.DeclareAnswer.{declared_fault, HasMpsSides}
+use Rattle.mpslp_mps.specs.LineMeaning.{declared_of, sense_declared, row_of_type, row_declared, coefficient_declared, column_declared, columns_line_declared, right_sides_declared, ranges_declared, bound_declared, bound_value, bound_line_declared, default_objective, data_declared, header_declared, declared}
+use Rattle.mpslp_reading.specs.Field.{value_of}
+use Rattle.mpslp_reading.specs.Declaring.{declaring_faults, declared_fault}
+use Rattle.mpslp_mps.proofs.PlacedLemmas.{form_faults}
+use Rattle.mpslp_mps.specs.LineAnswer.{item_fault}
+use Rattle.mpslp_mps.specs.DeclareAnswer.{HasMpsSides}
 use Rattle.mpslp_mps.specs.declared.bound_types.BoundType.{BoundType}
 use Rattle.mpslp_mps.specs.declared.bound_types.BoundType.TheVariants as bounds
 use Rattle.mpslp_mps.specs.declared.sections.Section.{Section}
 use Rattle.mpslp_mps.specs.declared.sections.Section.TheVariants.{Name, ObjSense, Rows, Columns, Rhs, Ranges, Bounds, EndData}
-use Rattle.mpslp_mps.proofs.LeastLemmas.{earlier_of, least-append}
+use Rattle.mpslp_reading.proofs.LeastLemmas.{earlier_of, least-append}
 use Rattle.mpslp_mps.proofs.OrderLemmas.{each-declared, each-flat, each-mapped, sense-passes}
-use Rattle.mpslp_mps.proofs.RefusedLemmas.{least-refusal, told-append}
+use Rattle.mpslp_reading.proofs.RefusedLemmas.{declared-one, declared-append}
 use Rattle.mpslp_mps.proofs.RightSideLemmas.{side_kind, limited, side_told, same_free, sides-after}
 
 pub empty_sides : HasMpsSides empty_draft
@@ -156,8 +156,7 @@ new_row all name type told = by (has_row all name) (sym is ∙ told)
   where
     is : declared_fault all (declare_row name (by_type type) ∷ []) ≡ cond (has_row all name) (Some kinds.DuplicateRow) None
     is =
-        ap (λ (faults : List BuildFault). least_kind (filter_map kind_of_refusal faults)) (append-nil (refusals all (declare_row name (by_type type))))
-        ∙ least-refusal (refusal_tests all (declare_row name (by_type type))) refl refl
+        declared-one all (declare_row name (by_type type)) refl
 
     by : (b : Bool) → cond b (Some kinds.DuplicateRow) None ≡ None → b ≡ false
     by true k = cc
@@ -209,7 +208,7 @@ pairs-kept (pair ∷ pairs) earlier all free sides told =
     let here = right_side_declared earlier pair.row value in
     let more = flat_map (λ (pair : Pair). right_side_declared earlier pair.row (value_of pair.literal)) pairs in
     let same : right_side_declared all pair.row value ≡ here = ap (λ (b : Bool). cond b [] (declare_right_side pair.row value ∷ [])) (free pair.row) in
-    let none = both_none (declared_fault all here) (declared_fault (adding_all all here) more) (sym (told-append here more all) ∙ told) in
+    let none = both_none (declared_fault all here) (declared_fault (adding_all all here) more) (sym (declared-append here more all) ∙ told) in
     let there = there_so (has_row all pair.row) _ (sym (side_told all pair.row value (limited all sides)) ∙ ap (declared_fault all) same ∙ none.0) in
     let next = subst (λ (ds : Declarations). HasMpsSides (adding_all all ds)) same (sides-after all pair.row value sides there) in
     let after : (row : List ℕ) → is_free_row (adding_all all here) row ≡ is_free_row earlier row =
@@ -250,7 +249,7 @@ data-kept context earlier fields (Some Bounds) told sides = stays-kept (bound_li
 data-kept context earlier fields (Some EndData) told sides = sides
 
 -- after a line that has no fault
-pub sides-kept : (context : Context) (earlier : Draft) (item : Item) → item_fault (record { context = context; earlier = earlier; item = item }) ≡ None → HasMpsSides earlier
+pub sides-kept : (context : Context) (earlier : Draft) (item : Item) → item_fault context earlier item ≡ None → HasMpsSides earlier
     → HasMpsSides (adding_all earlier (declared context earlier item))
 sides-kept context earlier skipped told sides = sides
 sides-kept context earlier (header keyword more) told sides = header-kept earlier more (section_named keyword) sides

@@ -12,30 +12,22 @@ use Rattle.mpslp_model.specs.declared.kinds.Limit.{Limit}
 use Rattle.mpslp_model.specs.declared.faults.FaultKind.{FaultKind}
 use Rattle.mpslp_model.specs.declared.faults.FaultKind.TheVariants as kinds
 use Rattle.mpslp_model.proofs.BoolLemmas.{both_so, or_left, or_right, nor}
+use Rattle.mpslp_reading.proofs.HeldLemmas.{first_test, later_tests}
 use Rattle.mpslp_mps.specs.Line.{Fields, Item, skipped, header, data_line}
 use Rattle.mpslp_mps.specs.Section.{section_named, section_begun, begins, is_section}
 use Rattle.mpslp_mps.specs.DataLine.{Pair, ColumnLine, sense_line, sense_of, column_line, is_marker_line, vector_line}
 use Rattle.mpslp_mps.specs.BoundLine.{BoundLine, bound_type, bound_line}
 use Rattle.mpslp_mps.specs.Context.{Context, context_of, current_section, has_section, has_seen}
-use Rattle.mpslp_mps.specs.LineMeaning.{declared_of, value_of, sense_declared, coefficient_declared, column_declared, columns_line_declared, right_sides_declared, ranges_declared, bound_declared, bound_value, bound_line_declared}
-use Rattle.mpslp_mps.specs.FieldFault.{Tests}
+use Rattle.mpslp_mps.specs.LineMeaning.{declared_of, sense_declared, coefficient_declared, column_declared, columns_line_declared, right_sides_declared, ranges_declared, bound_declared, bound_value, bound_line_declared}
+use Rattle.mpslp_reading.specs.Field.{value_of}
+use Rattle.mpslp_reading.specs.Tests.{Tests}
 use Rattle.mpslp_mps.specs.HeaderFault.{may_begin, is_out_of_order, may_follow, header_word_tests, header_tests}
-use Rattle.mpslp_mps.specs.LineFault.{form_faults}
+use Rattle.mpslp_mps.proofs.PlacedLemmas.{form_faults}
 use Rattle.mpslp_mps.specs.declared.sections.Section.{Section}
 use Rattle.mpslp_mps.specs.declared.sections.Section.TheVariants.{Name, ObjSense, Rows, Columns, Rhs, Ranges, Bounds, EndData}
 use Rattle.mpslp_mps.specs.declared.bound_types.BoundType.{BoundType}
 use Rattle.mpslp_mps.specs.declared.bound_types.BoundType.TheVariants as bounds
 use Rattle.mpslp_mps.proofs.SectionLemmas.{current_section-push, has_section-push}
-
--- ---- tests that do not hold
-
-pub first_test : (b : Bool) (kind : FaultKind) (more : Tests) → those_of ((b, kind) ∷ more) ≡ [] → b ≡ false
-first_test true kind more h = cc
-first_test false kind more h = refl
-
-pub later_tests : (b : Bool) (kind : FaultKind) (more : Tests) → those_of ((b, kind) ∷ more) ≡ [] → those_of more ≡ []
-later_tests true kind more h = cc
-later_tests false kind more h = h
 
 -- ---- headers of a good form
 

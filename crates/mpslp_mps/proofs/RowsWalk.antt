@@ -15,8 +15,9 @@ use Rattle.mpslp_mps.specs.Line.{Fields, Item, data_line}
 use Rattle.mpslp_mps.specs.DataLine.{letter_of}
 use Rattle.mpslp_mps.specs.Context.{context_of, current_section, data_lines, fields_under, vector_set, first_set}
 use Rattle.mpslp_mps.specs.LineMeaning.{declared}
-use Rattle.mpslp_mps.specs.FieldFault.{name_tests, number_tests, set_tests}
-use Rattle.mpslp_mps.specs.LineFault.{form_faults}
+use Rattle.mpslp_reading.specs.Field.{name_tests, number_tests}
+use Rattle.mpslp_mps.specs.FieldFault.{set_tests}
+use Rattle.mpslp_mps.proofs.PlacedLemmas.{form_faults}
 use Rattle.mpslp_mps.specs.declared.sections.Section.{Section}
 use Rattle.mpslp_mps.specs.declared.sections.Section.TheVariants.{Rows, Rhs, Ranges}
 use Rattle.mpslp_mps.proofs.SectionLemmas.{current_section-push, data_lines-push}

@@ -10,7 +10,7 @@ use Rattle.mpslp_mps.specs.DataLine.{ColumnLine, VectorLine, column_line, is_mar
 use Rattle.mpslp_mps.specs.BoundLine.{BoundLine, bound_type, bound_line}
 use Rattle.mpslp_mps.specs.Context.{Seen, Context, is_bare_objsense, line_column, vector_set, bound_set}
 use Rattle.mpslp_mps.specs.NextContext.{next_part, next_set, next_context}
-use Rattle.mpslp_mps.specs.FirstHeld.{column_values, set_values}
+use Rattle.mpslp_mps.specs.LineValues.{column_values, set_values}
 use Rattle.mpslp_mps.specs.ContextStep.{seen_with, is_bare_header, after_header, after_data, after_marker, after_column, after_right_side, after_range, after_bound}
 use Rattle.mpslp_mps.specs.declared.bound_types.BoundType.{BoundType}
 use Rattle.mpslp_mps.specs.declared.sections.Section.{Section}

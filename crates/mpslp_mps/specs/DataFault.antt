@@ -8,7 +8,9 @@ use Rattle.mpslp_mps.specs.Line.{Fields}
 use Rattle.mpslp_mps.specs.DataLine.{RowLine, ColumnLine, VectorLine, sense_line, row_line, row_type, column_line, is_marker_line, third_field, marker_line, opening_word, closing_word, vector_line}
 use Rattle.mpslp_mps.specs.BoundLine.{BoundLine, bound_type, is_semi_continuous_type, bound_line}
 use Rattle.mpslp_mps.specs.Context.{Context}
-use Rattle.mpslp_mps.specs.FieldFault.{Tests, judged_by, name_tests, number_tests, literals_of, set_tests}
+use Rattle.mpslp_reading.specs.Tests.{Tests, judged_by}
+use Rattle.mpslp_reading.specs.Field.{name_tests, number_tests}
+use Rattle.mpslp_mps.specs.FieldFault.{literals_of, set_tests}
 use Rattle.mpslp_mps.specs.HeaderFault.{word_tests}
 use Rattle.mpslp_mps.specs.declared.sections.Section.{Section}
 use Rattle.mpslp_mps.specs.declared.sections.Section.TheVariants.{ObjSense, Rows, Columns, Rhs, Ranges, Bounds}

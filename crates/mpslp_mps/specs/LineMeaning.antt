@@ -2,9 +2,6 @@
 use Rattle.std.specs.Prelude.{ℕ, List, [], ◌∷◌, ◌++◌, map, Option, Some, is_none, if◌then◌else◌, codes}
 use Rattle.std.specs.List.{flat_map}
 use Rattle.std.specs.Option.{option_map_or}
-use Rattle.std.specs.Result.{result_unwrap_or}
-use Rattle.mpslp_decimal.specs.Decimal.{Number, zero_number}
-use Rattle.mpslp_decimal.specs.Literal.{number_of}
 use Rattle.mpslp_model.specs.Model.{limit_of}
 use Rattle.mpslp_model.specs.Declaration.{by_type, declare_sense, declare_objective, declare_row, declare_range, declare_column, declare_coefficient, declare_lower, declare_upper, declare_marked, declare_integer, Declarations, Draft, right_side_declared}
 use Rattle.mpslp_model.specs.Refusal.{when}
@@ -13,6 +10,7 @@ use Rattle.mpslp_model.specs.declared.kinds.RowType.{RowType}
 use Rattle.mpslp_model.specs.declared.kinds.RowType.TheVariants.{Free}
 use Rattle.mpslp_model.specs.declared.kinds.Limit.{Limit}
 use Rattle.mpslp_model.specs.declared.kinds.Limit.TheVariants.{MinusInf, PlusInf}
+use Rattle.mpslp_reading.specs.Field.{value_of}
 use Rattle.mpslp_mps.specs.Line.{Fields, Item, skipped, header, data_line}
 use Rattle.mpslp_mps.specs.Section.{section_named}
 use Rattle.mpslp_mps.specs.DataLine.{RowLine, Pair, ColumnLine, VectorLine, sense_line, sense_of, row_line, row_type, column_line, is_marker_line, vector_line}
@@ -26,10 +24,6 @@ use Rattle.mpslp_mps.specs.declared.bound_types.BoundType.TheVariants as bounds
 -- what is declared of what is there
 abbrev pub declared_of : {X : Type 0} → (X → Declarations) → Option X → Declarations
 declared_of declares found = option_map_or declares found []
-
--- the value of a literal; of what is none, which is a fault, 0
-abbrev pub value_of : List ℕ → Number
-value_of literal = result_unwrap_or (number_of literal) zero_number
 
 -- ---- OBJSENSE
 

@@ -6,7 +6,7 @@ ghost use Rattle.mpslp_model.specs.Name.{same_bytes};
 ghost use Rattle.mpslp_mps.specs.Section.{is_section};
 ghost use Rattle.mpslp_mps.specs.declared.sections.Section.{Section};
 ghost use Rattle.mpslp_mps.specs.Context.{has_seen, context_of};
-ghost use Rattle.mpslp_mps.specs.ContextStep.{seen_with, after_header, after_data, after_marker, after_column, after_right_side, after_range, after_bound};
+ghost use Rattle.mpslp_mps.specs.ContextStep.{after_header, after_data, after_marker, after_column, after_right_side, after_range, after_bound};
 ghost use Rattle.mpslp_mps.specs.HeaderFault.{may_begin, is_out_of_order};
 
 use crate::sections::Section;
@@ -43,7 +43,7 @@ pub(crate) struct LineContext {
 
 impl Model for LineContext {
     ghost use Rattle.std.specs.Option.{option_map};
-    ghost use Rattle.mpslp_mps.specs.Context.{Seen, Context};
+    ghost use Rattle.mpslp_mps.specs.Context.{Context};
 
     ghost Value = { Context };
 

@@ -1,33 +1,35 @@
 //! Data lines: what is told of their form, and what they say.
 
-ghost use Rattle.std.specs.Prelude.{◌≡◌, [], ◌∷◌, ◌++◌, map, not, if◌then◌else◌, IfOk, IfErr, Some, None, MatchResult};
+ghost use Rattle.std.specs.Prelude.{◌≡◌, [], ◌∷◌, ◌++◌, map, not, Some, None, MatchResult};
 ghost use Rattle.std.specs.Option.{option_map, option_map_or};
 ghost use Rattle.mpslp_model.specs.Name.{same_bytes};
 ghost use Rattle.mpslp_model.specs.Declaration.{Draft, declare_sense};
 ghost use Rattle.mpslp_mps.specs.DataLine.{sense_line, row_line, column_line, marker_line, opening_word, vector_line};
 ghost use Rattle.mpslp_mps.specs.BoundLine.{bound_type, bound_line};
-ghost use Rattle.mpslp_mps.specs.LineMeaning.{declared_of, value_of, sense_declared, row_declared, row_of_type};
-ghost use Rattle.mpslp_mps.specs.FieldFault.{judged_by, name_tests, number_tests, literals_of, set_tests};
+ghost use Rattle.mpslp_mps.specs.LineMeaning.{declared_of, sense_declared, row_declared, row_of_type};
+ghost use Rattle.mpslp_reading.specs.Field.{value_of, name_tests, number_tests};
+ghost use Rattle.mpslp_reading.specs.Tests.{judged_by, first_held};
+ghost use Rattle.mpslp_mps.specs.FieldFault.{literals_of, set_tests};
 ghost use Rattle.mpslp_mps.specs.HeaderFault.{word_tests};
 ghost use Rattle.mpslp_mps.specs.DataFault.{row_tests, marker_tests, vector_tests, bound_tests, bound_line_tests};
 ghost use Rattle.mpslp_model.specs.declared.faults.FaultKind.{FaultKind};
-ghost use Rattle.mpslp_mps.specs.FirstHeld.{first_held, column_values, set_values};
-ghost use Rattle.mpslp_mps.specs.LineAnswer.{IsToldAs};
+ghost use Rattle.mpslp_mps.specs.LineValues.{column_values, set_values};
+ghost use Rattle.mpslp_reading.specs.LineAnswer.{IsErrorOf};
 
 use crate::bound_types::BoundType;
 use crate::context::LineContext;
-use crate::errors::LineError;
-use crate::judging::{RowValues, is_second_set, name_fault, value_of, values_of};
 use crate::shapes::{
     BoundLine, ColumnLine, VectorLine, bound_line, column_line, marker_line, row_line, sense_line,
     third_field, vector_line,
 };
+use crate::values::{RowValues, is_second_set, values_of};
 use crate::words::{
     bound_type, is_due_word, is_opening_word, is_semi_continuous_type, is_sos_word, row_type,
     sense_of,
 };
 use mpslp_decimal::Decimal;
 use mpslp_model::{FaultKind, Name, RowType, Sense};
+use mpslp_reading::{LineError, value_of};
 use std::alloc::Global;
 
 /// The sense of a data line under OBJSENSE.
@@ -52,7 +54,7 @@ pub(crate) fn judge_sense(context: &LineContext, fields: &[&[u8]]) -> Result<Sen
 pub(crate) fn judge_row(alloc: Global, fields: &[&[u8]]) -> Result<(RowType, Name), LineError>
     ensures { let parts = row_line (map (λ field. field.now) fields.now) in
         let told = first_held (judged_by row_tests parts) in
-        MatchResult result (λ row. (told ≡ None) × ((earlier : Draft) → declared_of (row_declared earlier) parts ≡ row_of_type earlier row.1 row.0)) (IsToldAs told) }
+        MatchResult result (λ row. (told ≡ None) × ((earlier : Draft) → declared_of (row_declared earlier) parts ≡ row_of_type earlier row.1 row.0)) (IsErrorOf told) }
 {
     let Some(line) = row_line(fields) else {
         return Err(LineError::Fault(FaultKind::FieldCount));
@@ -106,18 +108,16 @@ pub(crate) fn judge_vector<'a>(
 
 /// The column and the values of a line of COLUMNS that is no marker line, but for whether the column's lines stand
 /// together.
-pub(crate) fn judge_column<'a>(fields: &[&'a [u8]]) -> Result<(&'a [u8], RowValues<'a>), FaultKind>
+pub(crate) fn judge_column<'a>(fields: &[&'a [u8]]) -> Result<(&'a [u8], RowValues<'a>), LineError>
     ensures { let parts = column_line (map (λ field. field.now) fields.now) in
         let told = first_held (judged_by (λ line. name_tests line.column ++ number_tests (literals_of line.pairs)) parts) in
-        MatchResult result (λ line. (told ≡ None) × (option_map column_values parts ≡ Some (line.0.now, line.1))) (λ kind. told ≡ Some kind) }
+        MatchResult result (λ line. (told ≡ None) × (option_map column_values parts ≡ Some (line.0.now, line.1))) (IsErrorOf told) }
 {
     let Some(line) = column_line(fields) else {
-        return Err(FaultKind::FieldCount);
+        return Err(LineError::Fault(FaultKind::FieldCount));
     };
     let ColumnLine { column, pairs } = line;
-    if let Some(kind) = name_fault(column) {
-        return Err(kind);
-    }
+    Name::check(column)?;
     let values = values_of(pairs)?;
     Ok((column, values))
 }

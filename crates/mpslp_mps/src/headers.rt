@@ -3,7 +3,7 @@
 ghost use Rattle.std.specs.Prelude.{◌≡◌, Some, None, map, MatchResult, if◌then◌else◌};
 ghost use Rattle.mpslp_mps.specs.Section.{section_named};
 ghost use Rattle.mpslp_mps.specs.ContextStep.{is_bare_header};
-ghost use Rattle.mpslp_mps.specs.FirstHeld.{first_held};
+ghost use Rattle.mpslp_reading.specs.Tests.{first_held};
 ghost use Rattle.mpslp_mps.specs.HeaderFault.{may_follow, header_word_tests, header_tests};
 
 use crate::context::LineContext;

@@ -9,10 +9,8 @@
 mod bound_types;
 mod context;
 mod data_lines;
-mod errors;
 mod fields;
 mod headers;
-mod judging;
 pub mod laws;
 mod lines;
 mod reading;
@@ -23,10 +21,11 @@ mod taking_bounds;
 mod taking_columns;
 mod taking_headers;
 mod taking_vectors;
+mod values;
 mod words;
 
 pub use bound_types::BoundType;
-pub use lines::MAX_LINE_LEN;
+pub use mpslp_reading::MAX_LINE_LEN;
 pub use reading::read_mps;
 pub use sections::Section;
 

@@ -4,25 +4,25 @@ ghost use Rattle.std.specs.Prelude.{◌≡◌, Some, map, IsTrue};
 ghost use Rattle.mpslp_mps.specs.declared.sections.Section.{Section};
 ghost use Rattle.mpslp_mps.specs.Line.{data_line, header_of, item_of};
 ghost use Rattle.mpslp_mps.specs.LineMeaning.{row_of_type};
-ghost use Rattle.mpslp_mps.specs.DeclareAnswer.{Declares};
-ghost use Rattle.mpslp_mps.specs.LineAnswer.{Takes};
+ghost use Rattle.mpslp_reading.specs.LineAnswer.{AreDeclared};
+ghost use Rattle.mpslp_mps.specs.LineAnswer.{ReadsItem};
 ghost use Rattle.mpslp_mps.specs.ReadingAnswer.{ReadsLine};
 ghost use Rattle.mpslp_mps.specs.ReadingState.{has_sense_in_order, IsReading};
 
 use crate::context::LineContext;
 use crate::data_lines::{judge_row, judge_sense};
-use crate::errors::LineError;
 use crate::fields::front_fields;
-use crate::lines::{has_legal_bytes, has_legal_length, is_data, is_skipped};
+use crate::lines::{has_legal_bytes, is_data, is_skipped};
 use crate::sections::Section;
 use crate::taking_bounds::take_bound;
 use crate::taking_columns::take_column;
 use crate::taking_headers::take_header;
 use crate::taking_vectors::{take_ranges, take_right_sides};
 use mpslp_model::{Builder, FaultKind, Name, RowType};
+use mpslp_reading::{LineError, has_legal_length};
 use std::alloc::Global;
 
-/// Takes a data line under OBJSENSE.
+/// Reads a data line under OBJSENSE.
 pub(crate) fn take_sense(
     context: &mut LineContext,
     builder: &mut Builder,
@@ -30,7 +30,7 @@ pub(crate) fn take_sense(
 ) -> Result<(), LineError>
     requires section { context.old.section ≡ Some Section.ObjSense }
     requires order { IsTrue (has_sense_in_order context.old builder.old) }
-    ensures { Takes context.old builder.old (data_line (map (λ field. field.now) fields.now)) result context.new builder.new }
+    ensures { ReadsItem context.old builder.old (data_line (map (λ field. field.now) fields.now)) result context.new builder.new }
 {
     let sense = judge_sense(context, fields)?;
     builder.sense(sense)?;
@@ -40,7 +40,7 @@ pub(crate) fn take_sense(
 
 /// Declares the row of a line of ROWS: the first one of type N is the objective.
 fn declare_row(builder: &mut Builder, row_type: RowType, name: Name) -> Result<(), LineError>
-    ensures { Declares builder.old (row_of_type builder.old name row_type) result builder.new }
+    ensures { AreDeclared builder.old (row_of_type builder.old name row_type) result builder.new }
 {
     if row_type == RowType::Free && !builder.has_objective() {
         builder.objective(name)?;
@@ -50,7 +50,7 @@ fn declare_row(builder: &mut Builder, row_type: RowType, name: Name) -> Result<(
     Ok(())
 }
 
-/// Takes a line of ROWS.
+/// Reads a line of ROWS.
 pub(crate) fn take_row(
     context: &mut LineContext,
     builder: &mut Builder,
@@ -58,7 +58,7 @@ pub(crate) fn take_row(
     fields: &[&[u8]],
 ) -> Result<(), LineError>
     requires section { context.old.section ≡ Some Section.Rows }
-    ensures { Takes context.old builder.old (data_line (map (λ field. field.now) fields.now)) result context.new builder.new }
+    ensures { ReadsItem context.old builder.old (data_line (map (λ field. field.now) fields.now)) result context.new builder.new }
 {
     let (row_type, name) = judge_row(alloc, fields)?;
     declare_row(builder, row_type, name)?;
@@ -66,7 +66,7 @@ pub(crate) fn take_row(
     Ok(())
 }
 
-/// Takes a data line.
+/// Reads a data line.
 fn take_data(
     context: &mut LineContext,
     builder: &mut Builder,
@@ -74,7 +74,7 @@ fn take_data(
     fields: &[&[u8]],
 ) -> Result<(), LineError>
     requires { IsReading context.old builder.old }
-    ensures { Takes context.old builder.old (data_line (map (λ field. field.now) fields.now)) result context.new builder.new }
+    ensures { ReadsItem context.old builder.old (data_line (map (λ field. field.now) fields.now)) result context.new builder.new }
 {
     match context.section() {
         Some(Section::ObjSense) => take_sense(context, builder, fields),
@@ -89,7 +89,7 @@ fn take_data(
     }
 }
 
-/// Takes a line that begins with no blank or tab and is not skipped.
+/// Reads a line that begins with no blank or tab and is not skipped.
 fn take_keyword(
     context: &mut LineContext,
     builder: &mut Builder,
@@ -97,7 +97,7 @@ fn take_keyword(
     fields: &[&[u8]],
 ) -> Result<(), LineError>
     requires { IsReading context.old builder.old }
-    ensures { Takes context.old builder.old (header_of (map (λ field. field.now) fields.now)) result context.new builder.new }
+    ensures { ReadsItem context.old builder.old (header_of (map (λ field. field.now) fields.now)) result context.new builder.new }
 {
     match fields {
         [keyword, more @ ..] => take_header(context, builder, alloc, keyword, more),
@@ -105,7 +105,7 @@ fn take_keyword(
     }
 }
 
-/// Takes what is read of a line.
+/// Reads what is read of a line.
 fn take_item(
     context: &mut LineContext,
     builder: &mut Builder,
@@ -113,7 +113,7 @@ fn take_item(
     line: &[u8],
 ) -> Result<(), LineError>
     requires { IsReading context.old builder.old }
-    ensures { Takes context.old builder.old (item_of line.now) result context.new builder.new }
+    ensures { ReadsItem context.old builder.old (item_of line.now) result context.new builder.new }
 {
     if is_skipped(line) {
         return Ok(());
@@ -126,7 +126,7 @@ fn take_item(
     }
 }
 
-/// Takes a line.
+/// Reads a line.
 pub(crate) fn take_line(
     context: &mut LineContext,
     builder: &mut Builder,

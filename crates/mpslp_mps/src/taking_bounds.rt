@@ -8,17 +8,17 @@ ghost use Rattle.mpslp_model.specs.Made.{is_given};
 ghost use Rattle.mpslp_model.specs.Declaration.{declare_integer, bounds_declared};
 ghost use Rattle.mpslp_mps.specs.Line.{data_line};
 ghost use Rattle.mpslp_mps.specs.LineMeaning.{bound_declared};
-ghost use Rattle.mpslp_mps.specs.LineAnswer.{Takes};
-ghost use Rattle.mpslp_mps.specs.DeclareAnswer.{Declares};
+ghost use Rattle.mpslp_mps.specs.LineAnswer.{ReadsItem};
+ghost use Rattle.mpslp_reading.specs.LineAnswer.{AreDeclared};
 ghost use Rattle.mpslp_mps.specs.BoundSides.{lower_side, upper_side, is_integer_type};
 ghost use Rattle.mpslp_mps.specs.declared.sections.Section.{Section};
 
 use crate::bound_types::BoundType;
 use crate::context::LineContext;
 use crate::data_lines::judge_bound;
-use crate::errors::LineError;
 use mpslp_decimal::Decimal;
 use mpslp_model::{Builder, Limit};
+use mpslp_reading::LineError;
 
 /// The side of 0.
 fn zero_limit() -> Limit
@@ -87,7 +87,7 @@ fn declare_sides(
     requires some { (is_some lower || is_some upper) ≡ true }
     requires lower { ForSome lower (λ side. IsTrue (is_given side)) }
     requires upper { ForSome upper (λ side. IsTrue (is_given side)) }
-    ensures { Declares builder.old (bounds_declared column.now lower upper) result builder.new }
+    ensures { AreDeclared builder.old (bounds_declared column.now lower upper) result builder.new }
 {
     builder.bounds(column, lower, upper)?;
     Ok(())
@@ -103,7 +103,7 @@ fn declare_integer_sides(
     requires some { (is_some lower || is_some upper) ≡ true }
     requires lower { ForSome lower (λ side. IsTrue (is_given side)) }
     requires upper { ForSome upper (λ side. IsTrue (is_given side)) }
-    ensures { Declares builder.old (declare_integer column.now ∷ bounds_declared column.now lower upper) result builder.new }
+    ensures { AreDeclared builder.old (declare_integer column.now ∷ bounds_declared column.now lower upper) result builder.new }
 {
     builder.integer(column)?;
     declare_sides(builder, column, lower, upper)
@@ -117,7 +117,7 @@ fn declare_bound(
     value: Limit,
 ) -> Result<(), LineError>
     requires { IsTrue (is_given value) }
-    ensures { Declares builder.old (bound_declared bound_type column.now value) result builder.new }
+    ensures { AreDeclared builder.old (bound_declared bound_type column.now value) result builder.new }
 {
     let (lower, upper) = sides_of(bound_type, &value);
     if is_integer_type(bound_type) {
@@ -126,7 +126,7 @@ fn declare_bound(
     declare_sides(builder, column, lower, upper)
 }
 
-/// Takes a line of BOUNDS that has these fields after its type.
+/// Reads a line of BOUNDS that has these fields after its type.
 fn take_typed_bound(
     context: &mut LineContext,
     builder: &mut Builder,
@@ -134,7 +134,7 @@ fn take_typed_bound(
     more: &[&[u8]],
 ) -> Result<(), LineError>
     requires { context.old.section ≡ Some Section.Bounds }
-    ensures { Takes context.old builder.old (data_line (letters.now ∷ map (λ field. field.now) more.now)) result context.new builder.new }
+    ensures { ReadsItem context.old builder.old (data_line (letters.now ∷ map (λ field. field.now) more.now)) result context.new builder.new }
 {
     let (bound_type, line, value) = judge_bound(context, letters, more)?;
     declare_bound(builder, bound_type, line.column, side_of(value))?;
@@ -142,14 +142,14 @@ fn take_typed_bound(
     Ok(())
 }
 
-/// Takes a line of BOUNDS.
+/// Reads a line of BOUNDS.
 pub(crate) fn take_bound(
     context: &mut LineContext,
     builder: &mut Builder,
     fields: &[&[u8]],
 ) -> Result<(), LineError>
     requires { context.old.section ≡ Some Section.Bounds }
-    ensures { Takes context.old builder.old (data_line (map (λ field. field.now) fields.now)) result context.new builder.new }
+    ensures { ReadsItem context.old builder.old (data_line (map (λ field. field.now) fields.now)) result context.new builder.new }
 {
     let [letters, more @ ..] = fields else {
         context.pass_data();

@@ -6,30 +6,30 @@ ghost use Rattle.mpslp_model.specs.Name.{IsMpsName};
 ghost use Rattle.mpslp_model.specs.Declaration.{Draft, adding, adding_all, declare_column, declare_marked, has_row, has_column};
 ghost use Rattle.mpslp_model.specs.Refusal.{when};
 ghost use Rattle.mpslp_model.specs.declared.faults.FaultKind.{FaultKind};
-ghost use Rattle.mpslp_mps.specs.declared.errors.LineError.{LineError};
+ghost use Rattle.mpslp_reading.specs.declared.errors.LineError.{LineError};
 ghost use Rattle.mpslp_mps.specs.declared.sections.Section.{Section};
 ghost use Rattle.mpslp_mps.specs.Line.{data_line};
 ghost use Rattle.mpslp_mps.specs.DataLine.{is_marker_line};
 ghost use Rattle.mpslp_mps.specs.DataFault.{is_split};
-ghost use Rattle.mpslp_mps.specs.FirstHeld.{first_held};
-ghost use Rattle.mpslp_mps.specs.DeclareAnswer.{Declares};
+ghost use Rattle.mpslp_reading.specs.Tests.{first_held};
+ghost use Rattle.mpslp_reading.specs.LineAnswer.{AreDeclared};
 ghost use Rattle.mpslp_mps.specs.ColumnDeclared.{front_declared, value_declared};
-ghost use Rattle.mpslp_mps.specs.LineAnswer.{Takes};
+ghost use Rattle.mpslp_mps.specs.LineAnswer.{ReadsItem};
 ghost use Rattle.mpslp_mps.specs.ReadingState.{has_sorted_columns};
 
 use crate::context::LineContext;
 use crate::data_lines::{judge_column, judge_marker};
-use crate::errors::LineError;
-use crate::judging::{RowValue, RowValues};
 use crate::shapes::is_marker_line;
+use crate::values::{RowValue, RowValues};
 use mpslp_model::{Builder, FaultKind, Name};
+use mpslp_reading::LineError;
 use std::alloc::Global;
 
-/// Takes a marker line.
+/// Reads a marker line.
 fn take_marker(context: &mut LineContext, fields: &[&[u8]]) -> Result<(), LineError>
     requires section { context.old.section ≡ Some Section.Columns }
     requires marker { is_marker_line (map (λ field. field.now) fields.now) ≡ true }
-    ensures { (earlier : Draft) → Takes context.old earlier (data_line (map (λ field. field.now) fields.now)) result context.new earlier }
+    ensures { (earlier : Draft) → ReadsItem context.old earlier (data_line (map (λ field. field.now) fields.now)) result context.new earlier }
 {
     let opens = judge_marker(context, fields)?;
     context.pass_marker(opens);
@@ -118,7 +118,7 @@ fn declare_column(
 fn declare_value(builder: &mut Builder, column: &[u8], value: RowValue<'_>) -> Result<(), LineError>
     requires column { has_column builder.old column.now ≡ true }
     requires row { has_row builder.old value.0 ≡ true }
-    ensures { Declares builder.old (value_declared column.now value.entry) result builder.new }
+    ensures { AreDeclared builder.old (value_declared column.now value.entry) result builder.new }
 {
     builder.coefficient(value.row, column, value.value)?;
     Ok(())
@@ -132,7 +132,7 @@ fn declare_values(
 ) -> Result<(), LineError>
     requires column { has_column builder.old column.now ≡ true }
     requires rows { list_all (λ value. has_row builder.old value.0) values ≡ true }
-    ensures { Declares builder.old (flat_map (value_declared column.now) values.entry) result builder.new }
+    ensures { AreDeclared builder.old (flat_map (value_declared column.now) values.entry) result builder.new }
 {
     let RowValues { first, second } = values;
     declare_value(builder, column, first)?;
@@ -142,7 +142,7 @@ fn declare_values(
     Ok(())
 }
 
-/// Takes a line of a column.
+/// Reads a line of a column.
 fn take_values(
     context: &mut LineContext,
     builder: &mut Builder,
@@ -152,7 +152,7 @@ fn take_values(
     requires section { context.old.section ≡ Some Section.Columns }
     requires plain { is_marker_line (map (λ field. field.now) fields.now) ≡ false }
     requires sorted { IsTrue (has_sorted_columns builder.old) }
-    ensures { Takes context.old builder.old (data_line (map (λ field. field.now) fields.now)) result context.new builder.new }
+    ensures { ReadsItem context.old builder.old (data_line (map (λ field. field.now) fields.now)) result context.new builder.new }
 {
     let (column, values) = judge_column(fields)?;
     judge_place(context, builder, column, &values)?;
@@ -162,7 +162,7 @@ fn take_values(
     Ok(())
 }
 
-/// Takes a line of COLUMNS.
+/// Reads a line of COLUMNS.
 pub(crate) fn take_column(
     context: &mut LineContext,
     builder: &mut Builder,
@@ -171,7 +171,7 @@ pub(crate) fn take_column(
 ) -> Result<(), LineError>
     requires section { context.old.section ≡ Some Section.Columns }
     requires sorted { IsTrue (has_sorted_columns builder.old) }
-    ensures { Takes context.old builder.old (data_line (map (λ field. field.now) fields.now)) result context.new builder.new }
+    ensures { ReadsItem context.old builder.old (data_line (map (λ field. field.now) fields.now)) result context.new builder.new }
 {
     if is_marker_line(fields) {
         take_marker(context, fields)

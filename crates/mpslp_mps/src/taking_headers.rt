@@ -7,17 +7,17 @@ ghost use Rattle.mpslp_mps.specs.declared.sections.Section.{Section};
 ghost use Rattle.mpslp_mps.specs.Line.{header};
 ghost use Rattle.mpslp_mps.specs.DataLine.{sense_line};
 ghost use Rattle.mpslp_mps.specs.LineMeaning.{declared_of, sense_declared, default_objective, header_declared};
-ghost use Rattle.mpslp_mps.specs.DeclareAnswer.{Declares};
-ghost use Rattle.mpslp_mps.specs.LineAnswer.{Takes};
+ghost use Rattle.mpslp_reading.specs.LineAnswer.{AreDeclared};
+ghost use Rattle.mpslp_mps.specs.LineAnswer.{ReadsItem};
 ghost use Rattle.mpslp_mps.specs.ReadingState.{has_sense_in_order};
 
 use crate::context::LineContext;
-use crate::errors::LineError;
 use crate::headers::{is_bare_header, judge_header};
 use crate::sections::Section;
 use crate::shapes::sense_line;
 use crate::words::sense_of;
 use mpslp_model::{Builder, Name, Sense};
+use mpslp_reading::LineError;
 use std::alloc::Global;
 
 /// The sense that follows the keyword OBJSENSE.
@@ -33,7 +33,7 @@ fn header_sense(more: &[&[u8]]) -> Option<Sense>
 /// Declares the sense that follows the keyword OBJSENSE, if one does.
 fn declare_sense(builder: &mut Builder, more: &[&[u8]]) -> Result<(), LineError>
     requires sense { builder.old.sense ≡ None }
-    ensures { Declares builder.old (declared_of sense_declared (sense_line (map (λ field. field.now) more.now))) result builder.new }
+    ensures { AreDeclared builder.old (declared_of sense_declared (sense_line (map (λ field. field.now) more.now))) result builder.new }
 {
     if let Some(sense) = header_sense(more) {
         builder.sense(sense)?;
@@ -43,7 +43,7 @@ fn declare_sense(builder: &mut Builder, more: &[&[u8]]) -> Result<(), LineError>
 
 /// Names the objective `obj`, where no row of type N has named it.
 fn declare_objective(builder: &mut Builder, alloc: Global) -> Result<(), LineError>
-    ensures { Declares builder.old (default_objective builder.old) result builder.new }
+    ensures { AreDeclared builder.old (default_objective builder.old) result builder.new }
 {
     if !builder.has_objective() {
         let name = Name::new(alloc, b"obj".as_slice())?;
@@ -60,7 +60,7 @@ fn declare_header(
     more: &[&[u8]],
 ) -> Result<(), LineError>
     requires sense { section ≡ Section.ObjSense → builder.old.sense ≡ None }
-    ensures { Declares builder.old (header_declared builder.old (map (λ field. field.now) more.now) (Some section)) result builder.new }
+    ensures { AreDeclared builder.old (header_declared builder.old (map (λ field. field.now) more.now) (Some section)) result builder.new }
 {
     match section {
         Section::ObjSense => declare_sense(builder, more),
@@ -69,7 +69,7 @@ fn declare_header(
     }
 }
 
-/// Takes a header.
+/// Reads a header.
 pub(crate) fn take_header(
     context: &mut LineContext,
     builder: &mut Builder,
@@ -78,7 +78,7 @@ pub(crate) fn take_header(
     more: &[&[u8]],
 ) -> Result<(), LineError>
     requires order { IsTrue (has_sense_in_order context.old builder.old) }
-    ensures { Takes context.old builder.old (header keyword.now (map (λ field. field.now) more.now)) result context.new builder.new }
+    ensures { ReadsItem context.old builder.old (header keyword.now (map (λ field. field.now) more.now)) result context.new builder.new }
 {
     let section = judge_header(context, keyword, more)?;
     declare_header(builder, alloc, section, more)?;

@@ -1,20 +1,21 @@
 //! Lines of RHS and RANGES.
 
-ghost use Rattle.std.specs.Prelude.{◌≡◌, [], ◌∷◌, ◌++◌, ◌+◌, ◌&&◌, false, nat_lt, if◌then◌else◌, map, Some, IfErr};
+ghost use Rattle.std.specs.Prelude.{◌≡◌, [], ◌∷◌, ◌++◌, ◌+◌, ◌&&◌, false, map, Some, None, IfErr, MatchResult};
 ghost use Rattle.mpslp_model.specs.Declaration.{has_row, right_side_declared, declare_range};
 ghost use Rattle.mpslp_model.specs.Name.{same_bytes};
-ghost use Rattle.mpslp_model.specs.FaultOrder.{kind_rank, least_kind};
-ghost use Rattle.mpslp_mps.specs.LineFault.{declaring_faults};
+ghost use Rattle.mpslp_model.specs.FaultOrder.{least_kind};
+ghost use Rattle.mpslp_reading.specs.Declaring.{declaring_faults, declared_fault};
 ghost use Rattle.mpslp_mps.specs.Line.{data_line};
-ghost use Rattle.mpslp_mps.specs.LineAnswer.{IsToldAs, Takes};
-ghost use Rattle.mpslp_mps.specs.DeclareAnswer.{Declares, HasMpsSides, right_sides_of, ranges_of};
+ghost use Rattle.mpslp_reading.specs.LineAnswer.{IsErrorOf, AreDeclared};
+ghost use Rattle.mpslp_mps.specs.LineAnswer.{ReadsItem};
+ghost use Rattle.mpslp_mps.specs.DeclareAnswer.{HasMpsSides, right_sides_of, ranges_of};
 ghost use Rattle.mpslp_mps.specs.declared.sections.Section.{Section};
 
 use crate::context::LineContext;
 use crate::data_lines::judge_vector;
-use crate::errors::LineError;
-use crate::judging::{RowValue, RowValues};
+use crate::values::{RowValue, RowValues};
 use mpslp_model::{Builder, FaultKind};
+use mpslp_reading::{LineError, lesser_kind};
 
 /// Whether both rows are declared; the objective counts.
 fn are_rows(builder: &Builder, first: &RowValue, second: &RowValue) -> bool
@@ -26,7 +27,7 @@ fn are_rows(builder: &Builder, first: &RowValue, second: &RowValue) -> bool
 /// Declares the right side of a row.
 fn declare_right_side<'a>(builder: &mut Builder, side: RowValue<'a>) -> Result<(), LineError>
     requires { HasMpsSides builder.old }
-    ensures { Declares builder.old (right_side_declared builder.old side.entry.0 side.entry.1) result builder.new }
+    ensures { AreDeclared builder.old (right_side_declared builder.old side.entry.0 side.entry.1) result builder.new }
 {
     builder.rhs(side.row, side.value)?;
     Ok(())
@@ -39,7 +40,7 @@ fn declare_both_right_sides<'a>(
     second: RowValue<'a>,
 ) -> Result<(), LineError>
     requires { HasMpsSides builder.old }
-    ensures { Declares builder.old (right_side_declared builder.old first.entry.0 first.entry.1 ++ right_side_declared builder.old second.entry.0 second.entry.1) result builder.new }
+    ensures { AreDeclared builder.old (right_side_declared builder.old first.entry.0 first.entry.1 ++ right_side_declared builder.old second.entry.0 second.entry.1) result builder.new }
 {
     if !are_rows(builder, &first, &second) {
         return Err(LineError::Fault(FaultKind::UnknownRow));
@@ -51,7 +52,7 @@ fn declare_both_right_sides<'a>(
 /// Declares the right sides of the rows of a line.
 fn declare_right_sides<'a>(builder: &mut Builder, sides: RowValues<'a>) -> Result<(), LineError>
     requires { HasMpsSides builder.old }
-    ensures { Declares builder.old (right_sides_of builder.old sides.entry) result builder.new }
+    ensures { AreDeclared builder.old (right_sides_of builder.old sides.entry) result builder.new }
 {
     let RowValues { first, second } = sides;
     match second {
@@ -60,7 +61,7 @@ fn declare_right_sides<'a>(builder: &mut Builder, sides: RowValues<'a>) -> Resul
     }
 }
 
-/// Takes a line of RHS.
+/// Reads a line of RHS.
 pub(crate) fn take_right_sides(
     context: &mut LineContext,
     builder: &mut Builder,
@@ -68,7 +69,7 @@ pub(crate) fn take_right_sides(
 ) -> Result<(), LineError>
     requires section { context.old.section ≡ Some Section.Rhs }
     requires sides { HasMpsSides builder.old }
-    ensures { Takes context.old builder.old (data_line (map (λ field. field.now) fields.now)) result context.new builder.new }
+    ensures { ReadsItem context.old builder.old (data_line (map (λ field. field.now) fields.now)) result context.new builder.new }
 {
     let (set, sides) = judge_vector(context.rhs_set(), fields)?;
     declare_right_sides(builder, sides)?;
@@ -83,38 +84,28 @@ fn is_same_row(first: &RowValue, second: &RowValue) -> bool
     second.row == first.row
 }
 
-/// The place of a kind among all, counted from 0.
-fn place_of_kind(kind: FaultKind) -> u8
-    ensures { result + 1 ≡ kind_rank kind }
-{
-    kind as u8
-}
-
-/// The kind of two that is told.
-fn lesser_kind(first: FaultKind, second: FaultKind) -> FaultKind
-    ensures { result ≡ (if nat_lt (kind_rank second) (kind_rank first) then second else first) }
-{
-    if place_of_kind(second) < place_of_kind(first) {
-        second
-    } else {
-        first
-    }
-}
-
 /// Declares the range of a row. Where it is refused, the builder stays as it was.
 fn declare_range<'a>(builder: &mut Builder, row: RowValue<'a>) -> Result<(), LineError>
-    ensures answers { Declares builder.old (declare_range row.entry.0 row.entry.1 ∷ []) result builder.new }
+    ensures answers { AreDeclared builder.old (declare_range row.entry.0 row.entry.1 ∷ []) result builder.new }
     ensures unchanged { IfErr result (λ _. builder.new ≡ builder.old) }
 {
     builder.range(row.row, row.value)?;
     Ok(())
 }
 
-/// Why a line is not taken whose first range has a fault of this kind: the fault of the second one may be told before it.
-fn error_of_both<'a>(builder: &mut Builder, kind: FaultKind, second: RowValue<'a>) -> LineError
-    ensures { IsToldAs (least_kind (kind ∷ declaring_faults builder.old (declare_range second.entry.0 second.entry.1 ∷ []))) result }
+/// The fault that a range would have now, if it has one.
+fn check_range(builder: &Builder, row: &RowValue) -> Result<(), LineError>
+    ensures { MatchResult result (λ _. declared_fault builder.now (declare_range row.now.0 row.now.1 ∷ []) ≡ None) (IsErrorOf (declared_fault builder.now (declare_range row.now.0 row.now.1 ∷ []))) }
 {
-    match declare_range(builder, second) {
+    builder.check_range(row.row, row.value)?;
+    Ok(())
+}
+
+/// Why a line is not read whose first range has a fault of this kind: the fault of the second one may be told before it.
+fn error_of_both(builder: &Builder, kind: FaultKind, second: &RowValue) -> LineError
+    ensures { IsErrorOf (least_kind (kind ∷ declaring_faults builder.now (declare_range second.now.0 second.now.1 ∷ []))) result }
+{
+    match check_range(builder, second) {
         Ok(()) => LineError::Fault(kind),
         Err(LineError::Fault(other)) => LineError::Fault(lesser_kind(kind, other)),
         Err(LineError::OutOfMemory) => LineError::OutOfMemory,
@@ -128,11 +119,11 @@ fn declare_ranges_apart<'a>(
     second: RowValue<'a>,
 ) -> Result<(), LineError>
     requires { same_bytes second.0 first.0 ≡ false }
-    ensures { Declares builder.old (declare_range first.entry.0 first.entry.1 ∷ declare_range second.entry.0 second.entry.1 ∷ []) result builder.new }
+    ensures { AreDeclared builder.old (declare_range first.entry.0 first.entry.1 ∷ declare_range second.entry.0 second.entry.1 ∷ []) result builder.new }
 {
     match declare_range(builder, first) {
         Ok(()) => declare_range(builder, second),
-        Err(LineError::Fault(kind)) => Err(error_of_both(builder, kind, second)),
+        Err(LineError::Fault(kind)) => Err(error_of_both(builder, kind, &second)),
         Err(LineError::OutOfMemory) => Err(LineError::OutOfMemory),
     }
 }
@@ -143,7 +134,7 @@ fn declare_both_ranges<'a>(
     first: RowValue<'a>,
     second: RowValue<'a>,
 ) -> Result<(), LineError>
-    ensures { Declares builder.old (declare_range first.entry.0 first.entry.1 ∷ declare_range second.entry.0 second.entry.1 ∷ []) result builder.new }
+    ensures { AreDeclared builder.old (declare_range first.entry.0 first.entry.1 ∷ declare_range second.entry.0 second.entry.1 ∷ []) result builder.new }
 {
     if !is_same_row(&first, &second) {
         return declare_ranges_apart(builder, first, second);
@@ -156,7 +147,7 @@ fn declare_both_ranges<'a>(
 
 /// Declares the ranges of the rows of a line.
 fn declare_ranges<'a>(builder: &mut Builder, ranges: RowValues<'a>) -> Result<(), LineError>
-    ensures { Declares builder.old (ranges_of ranges.entry) result builder.new }
+    ensures { AreDeclared builder.old (ranges_of ranges.entry) result builder.new }
 {
     let RowValues { first, second } = ranges;
     match second {
@@ -165,14 +156,14 @@ fn declare_ranges<'a>(builder: &mut Builder, ranges: RowValues<'a>) -> Result<()
     }
 }
 
-/// Takes a line of RANGES.
+/// Reads a line of RANGES.
 pub(crate) fn take_ranges(
     context: &mut LineContext,
     builder: &mut Builder,
     fields: &[&[u8]],
 ) -> Result<(), LineError>
     requires { context.old.section ≡ Some Section.Ranges }
-    ensures { Takes context.old builder.old (data_line (map (λ field. field.now) fields.now)) result context.new builder.new }
+    ensures { ReadsItem context.old builder.old (data_line (map (λ field. field.now) fields.now)) result context.new builder.new }
 {
     let (set, ranges) = judge_vector(context.ranges_set(), fields)?;
     declare_ranges(builder, ranges)?;

@@ -1,6 +1,6 @@
 use Rattle.std.proofs.Common.{◌≡◌, sym, ap, subst, ◌∙◌, List, ℕ, map, take, Bor}
 use Rattle.mpslp_mps.specs.Line.{Fields, Item, data_line, header_of, fields}
-use Rattle.mpslp_mps.specs.LineAnswer.{Takes}
+use Rattle.mpslp_mps.specs.LineAnswer.{ReadsItem}
 use Rattle.mpslp_mps.proofs.FrontTaking.{data-front, header-front, data-item, header-item}
 use Rattle.mpslp_mps.proofs.taking.take_item.Goals as goal
 
@@ -12,9 +12,9 @@ returns-then-is_data c =
     let names : ◌≡◌ {A = Fields} (map (λ field. field.now) c.deref.result.now) (take 6 (fields line)) =
     ap (λ (items : List (Bor (List ℕ))). map (λ (field : Bor (List ℕ)). field.now) items) c.deref.ensures.0 ∙ c.front_fields-fields.ensures in
     let item = data-item line (sym c.is_skipped.ensures ∙ c.if-is_skipped.false) (sym c.is_data.ensures ∙ c.if-is_data.true) in
-    subst (λ (i : Item). Takes context earlier i c.take_data.result c.take_data.new.context c.take_data.new.builder) (sym item)
+    subst (λ (i : Item). ReadsItem context earlier i c.take_data.result c.take_data.new.context c.take_data.new.builder) (sym item)
     (data-front context earlier (fields line) c.take_data.result c.take_data.new.context c.take_data.new.builder
-    (subst (λ (f : Fields). Takes context earlier (data_line f) c.take_data.result c.take_data.new.context c.take_data.new.builder) names c.take_data.ensures))
+    (subst (λ (f : Fields). ReadsItem context earlier (data_line f) c.take_data.result c.take_data.new.context c.take_data.new.builder) names c.take_data.ensures))
 
 pub returns-else-is_data : goal.returns-else-is_data
 returns-else-is_data c =
@@ -24,6 +24,6 @@ returns-else-is_data c =
     let names : ◌≡◌ {A = Fields} (map (λ field. field.now) c.deref-else-is_data.result.now) (take 6 (fields line)) =
     ap (λ (items : List (Bor (List ℕ))). map (λ (field : Bor (List ℕ)). field.now) items) c.deref-else-is_data.ensures.0 ∙ c.front_fields-fields.ensures in
     let item = header-item line (sym c.is_skipped.ensures ∙ c.if-is_skipped.false) (sym c.is_data.ensures ∙ c.if-is_data.false) in
-    subst (λ (i : Item). Takes context earlier i c.take_keyword.result c.take_keyword.new.context c.take_keyword.new.builder) (sym item)
+    subst (λ (i : Item). ReadsItem context earlier i c.take_keyword.result c.take_keyword.new.context c.take_keyword.new.builder) (sym item)
     (header-front context earlier (fields line) c.take_keyword.result c.take_keyword.new.context c.take_keyword.new.builder
-    (subst (λ (f : Fields). Takes context earlier (header_of f) c.take_keyword.result c.take_keyword.new.context c.take_keyword.new.builder) names c.take_keyword.ensures))
+    (subst (λ (f : Fields). ReadsItem context earlier (header_of f) c.take_keyword.result c.take_keyword.new.context c.take_keyword.new.builder) names c.take_keyword.ensures))

@@ -1,7 +1,8 @@
 use Rattle.std.proofs.Common.{map}
 use Rattle.mpslp_mps.specs.DataLine.{row_line}
 use Rattle.mpslp_mps.specs.declared.sections.Section.TheVariants.{Rows}
-use Rattle.mpslp_mps.proofs.TakingLemmas.{ends-by, data-judged}
+use Rattle.mpslp_reading.proofs.AnswerLemmas.{ends-by}
+use Rattle.mpslp_mps.proofs.TakingLemmas.{data-judged}
 use Rattle.mpslp_mps.proofs.RowTaking.{row-early}
 use Rattle.mpslp_mps.proofs.taking.take_row.Goals as goal
 

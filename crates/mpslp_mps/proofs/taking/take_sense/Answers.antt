@@ -1,8 +1,9 @@
 use Rattle.std.proofs.Common.{map, not}
 use Rattle.mpslp_mps.specs.DataLine.{sense_line}
-use Rattle.mpslp_mps.specs.declared.errors.LineError.TheVariants.{Fault}
+use Rattle.mpslp_reading.specs.declared.errors.LineError.TheVariants.{Fault}
 use Rattle.mpslp_mps.specs.declared.sections.Section.TheVariants.{ObjSense}
-use Rattle.mpslp_mps.proofs.TakingLemmas.{ends-by, data-judged}
+use Rattle.mpslp_reading.proofs.AnswerLemmas.{ends-by}
+use Rattle.mpslp_mps.proofs.TakingLemmas.{data-judged}
 use Rattle.mpslp_mps.proofs.RowTaking.{sense-early}
 use Rattle.mpslp_mps.proofs.taking.take_sense.Goals as goal
 

@@ -1,7 +1,7 @@
 use Rattle.std.proofs.Common.{◌≡◌, refl, rules}
 use Rattle.mpslp_model.specs.Declaration.{declare_integer, Draft, adding}
-use Rattle.mpslp_mps.specs.BuildError.{error_of_build}
-use Rattle.mpslp_mps.proofs.RefusedLemmas.{call-told}
+use Rattle.mpslp_reading.specs.ErrorOf.{error_of_build}
+use Rattle.mpslp_reading.proofs.RefusedLemmas.{call-error}
 use Rattle.mpslp_mps.proofs.BoundSideLemmas.{integer-refused}
 use Rattle.mpslp_mps.proofs.taking_bounds.declare_integer_sides.Goals as goal
 
@@ -10,6 +10,6 @@ returns-in_err-integer c =
     let all = c.args.builder.now in
     let d = declare_integer c.args.column.now in
     let fault = c.in_err-integer.field-0.0 in
-    let told = call-told all d fault (◌≡◌ {A = Draft} c.integer.new.self (adding all d)) (◌≡◌ {A = Draft} c.integer.new.self all) refl refl c.in_err-integer.ensures in
+    let told = call-error all d fault (◌≡◌ {A = Draft} c.integer.new.self (adding all d)) (◌≡◌ {A = Draft} c.integer.new.self all) refl c.in_err-integer.ensures in
     let both = integer-refused all c.args.column.now c.args.lower c.args.upper (error_of_build fault) c.requires.some told in
     search rules

@@ -5,7 +5,7 @@ use Rattle.mpslp_mps.specs.BoundLine.{BoundLine}
 use Rattle.mpslp_mps.specs.ContextStep.{after_bound}
 use Rattle.mpslp_mps.specs.LineMeaning.{bound_declared}
 use Rattle.mpslp_model.specs.declared.faults.FaultKind.{FaultKind}
-use Rattle.mpslp_mps.specs.LineAnswer.{IsToldAs}
+use Rattle.mpslp_reading.specs.LineAnswer.{IsErrorOf}
 use Rattle.mpslp_mps.specs.declared.sections.Section.TheVariants.{Bounds}
 use Rattle.mpslp_mps.proofs.StepLemmas.{step-bound}
 use Rattle.mpslp_mps.proofs.TakenLemmas.{form-told, declared-told, declared-is, bounds-early}
@@ -27,7 +27,7 @@ returns-in_err-declare_bound c =
     let declarations = bound_declared type c.line.inside.column.now c.side_of.result in
     let is = bound-is c.args.letters.now more type line c.in_ok-bound_type.value said.1 said.2 said.3 ∙ (λ i. bound_declared type (sym c.line.view_is i).column (sym c.side_of.ensures.value i)) in
     let told = declared-told c.args.context.now c.args.builder.now (c.args.letters.now ∷ more) (Some Bounds) declarations c.requires said.0 is in
-    let answer = subst (λ (o : Option FaultKind). IsToldAs o c.in_err-declare_bound.field-0.0) (sym told) c.in_err-declare_bound.ensures in
+    let answer = subst (λ (o : Option FaultKind). IsErrorOf o c.in_err-declare_bound.field-0.0) (sym told) c.in_err-declare_bound.ensures in
     search rules
 
 pub returns : goal.returns

@@ -1,11 +1,11 @@
 use Rattle.std.proofs.Common.{◌∙◌, ap, sym, map, refl, []}
 use Rattle.std.specs.List.{list_all}
-use Rattle.mpslp_mps.specs.FieldFault.{Tests}
-use Rattle.mpslp_mps.specs.FirstHeld.{first_held}
-use Rattle.mpslp_mps.specs.declared.errors.LineError.TheVariants.{Fault}
+use Rattle.mpslp_reading.specs.Tests.{Tests, first_held}
+use Rattle.mpslp_reading.specs.declared.errors.LineError.TheVariants.{Fault}
 use Rattle.mpslp_mps.specs.declared.sections.Section.TheVariants.{Columns}
 use Rattle.mpslp_mps.proofs.StepLemmas.{step-marker}
-use Rattle.mpslp_mps.proofs.TakingLemmas.{is_early, ends-by, data-judged, data-taken}
+use Rattle.mpslp_mps.proofs.TakingLemmas.{is_early, data-judged, data-taken}
+use Rattle.mpslp_reading.proofs.AnswerLemmas.{ends-by}
 use Rattle.mpslp_mps.proofs.ColumnTaking.{marker-tests, marker-early, marker-declares}
 use Rattle.mpslp_mps.proofs.taking_columns.take_marker.Goals as goal
 

@@ -5,22 +5,22 @@ use Rattle.mpslp_model.specs.Declaration.{Draft, adding_all, has_column}
 use Rattle.mpslp_model.specs.declared.faults.FaultKind.{FaultKind}
 use Rattle.mpslp_model.proofs.MadeDrafts.{adding_all-append}
 use Rattle.mpslp_mps.specs.LineMeaning.{data_declared}
-use Rattle.mpslp_mps.specs.DeclareAnswer.{declared_fault}
+use Rattle.mpslp_reading.specs.Declaring.{declared_fault}
 use Rattle.mpslp_mps.specs.ColumnDeclared.{front_declared, value_declared}
-use Rattle.mpslp_mps.specs.LineAnswer.{IsToldAs}
-use Rattle.mpslp_mps.specs.declared.errors.LineError.TheVariants.{Fault}
+use Rattle.mpslp_reading.specs.LineAnswer.{IsErrorOf}
+use Rattle.mpslp_reading.specs.declared.errors.LineError.TheVariants.{Fault}
 use Rattle.mpslp_mps.specs.declared.sections.Section.{Section}
 use Rattle.mpslp_mps.proofs.StepLemmas.{step-column}
-use Rattle.mpslp_mps.proofs.TakingLemmas.{ends-by}
+use Rattle.mpslp_reading.proofs.AnswerLemmas.{ends-by}
 use Rattle.mpslp_mps.proofs.ColumnTaking.{front-there}
-use Rattle.mpslp_mps.proofs.ColumnLine.{column-form, place-told, placed-told, column-declares, with_column}
+use Rattle.mpslp_mps.proofs.ColumnLine.{column-judged, place-told, placed-told, column-declares, with_column}
 use Rattle.mpslp_mps.proofs.taking_columns.take_values.Goals as goal
 
 pub returns-in_err-column : goal.returns-in_err-column
 returns-in_err-column c =
     let fields = map (λ field. field.now) c.args.fields.now in
-    ends-by c.from_residual.result (Fault c.in_err-column.field-0.0) _ _ c.from_residual.ensures.1
-    (column-form c.args.context.now c.args.builder.now fields c.in_err-column.field-0.0 c.requires.section c.requires.plain c.in_err-column.ensures)
+    ends-by c.from_residual.result c.in_err-column.field-0.0 _ _ c.from_residual.ensures.1
+    (column-judged c.args.context.now c.args.builder.now fields c.in_err-column.field-0.0 c.requires.section c.requires.plain c.in_err-column.ensures)
 
 pub returns-in_err-judge_place : goal.returns-in_err-judge_place
 returns-in_err-judge_place c =
@@ -49,7 +49,7 @@ returns-in_err-declare_values c =
     let told = ap (λ (d : Draft). declared_fault d (flat_map (value_declared column) values)) draft
     ∙ sym (placed-told context earlier fields column values c.requires.section c.requires.plain line.0 line.1 c.in_ok-judge_place.ensures) in
     ends-by c.from_residual-in_err-declare_values.result error _ _ c.from_residual-in_err-declare_values.ensures.1
-    (subst (λ (o : Option FaultKind). IsToldAs o error) told c.in_err-declare_values.ensures)
+    (subst (λ (o : Option FaultKind). IsErrorOf o error) told c.in_err-declare_values.ensures)
 
 pub returns : goal.returns
 returns c =

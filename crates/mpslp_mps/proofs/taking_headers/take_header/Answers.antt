@@ -4,11 +4,11 @@ use Rattle.mpslp_model.specs.Declaration.{adding_all}
 use Rattle.mpslp_model.specs.declared.faults.FaultKind.{FaultKind}
 use Rattle.mpslp_mps.specs.ContextStep.{after_header}
 use Rattle.mpslp_mps.specs.LineMeaning.{header_declared}
-use Rattle.mpslp_mps.specs.LineAnswer.{IsToldAs}
-use Rattle.mpslp_mps.specs.declared.errors.LineError.TheVariants.{Fault}
+use Rattle.mpslp_reading.specs.LineAnswer.{IsErrorOf}
+use Rattle.mpslp_reading.specs.declared.errors.LineError.TheVariants.{Fault}
 use Rattle.mpslp_mps.specs.declared.sections.Section.{Section}
 use Rattle.mpslp_mps.proofs.StepLemmas.{step-header, bare-header}
-use Rattle.mpslp_mps.proofs.TakingLemmas.{ends-by}
+use Rattle.mpslp_reading.proofs.AnswerLemmas.{ends-by}
 use Rattle.mpslp_mps.proofs.HeaderTaking.{header-form, header-declares}
 use Rattle.mpslp_mps.proofs.taking_headers.take_header.Goals as goal
 
@@ -23,7 +23,7 @@ returns-in_err-declare_header c =
     let more = map (λ field. field.now) c.args.more.now in
     let error = c.in_err-declare_header.field-0.0 in
     ends-by c.from_residual-in_err-declare_header.result error _ _ c.from_residual-in_err-declare_header.ensures.1
-    (subst (λ (o : Option FaultKind). IsToldAs o error)
+    (subst (λ (o : Option FaultKind). IsErrorOf o error)
     (sym (header-declares c.args.context.now c.args.builder.now c.args.keyword.now more c.in_ok-section.section c.in_ok-section.ensures.0 c.in_ok-section.ensures.1))
     c.in_err-declare_header.ensures)
 

@@ -3,10 +3,9 @@ use Rattle.std.specs.Prelude.{Option, Some}
 use Rattle.mpslp_model.specs.Declaration.{adding_all}
 use Rattle.mpslp_model.specs.declared.faults.FaultKind.{FaultKind}
 use Rattle.mpslp_mps.specs.DataLine.{vector_line}
-use Rattle.mpslp_mps.specs.FieldFault.{judged_by}
+use Rattle.mpslp_reading.specs.Tests.{judged_by, first_held}
 use Rattle.mpslp_mps.specs.DataFault.{vector_tests}
-use Rattle.mpslp_mps.specs.FirstHeld.{first_held}
-use Rattle.mpslp_mps.specs.LineAnswer.{IsToldAs}
+use Rattle.mpslp_reading.specs.LineAnswer.{IsErrorOf}
 use Rattle.mpslp_mps.specs.DeclareAnswer.{ranges_of}
 use Rattle.mpslp_mps.specs.declared.sections.Section.TheVariants.{Ranges}
 use Rattle.mpslp_mps.proofs.StepLemmas.{step-range}
@@ -26,7 +25,7 @@ returns-in_err-declare_ranges c =
     let held = ap (λ (first : Option (List ℕ)). first_held (judged_by (vector_tests first) (vector_line fields))) (sym c.ranges_set.ensures) ∙ c.in_ok-set.ensures.0 in
     let is = ranges-are (vector_line fields) c.in_ok-set.set.now c.in_ok-set.ranges c.in_ok-set.ensures.1 in
     let told = declared-told c.args.context.now c.args.builder.now fields (Some Ranges) (ranges_of c.in_ok-set.ranges) c.requires held is in
-    let answer = subst (λ (o : Option FaultKind). IsToldAs o c.in_err-declare_ranges.field-0.0) (sym told) c.in_err-declare_ranges.ensures in
+    let answer = subst (λ (o : Option FaultKind). IsErrorOf o c.in_err-declare_ranges.field-0.0) (sym told) c.in_err-declare_ranges.ensures in
     search rules
 
 pub returns : goal.returns

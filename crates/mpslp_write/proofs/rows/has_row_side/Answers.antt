@@ -1,5 +1,5 @@
 use Rattle.std.proofs.Common.{◌≡◌, sym, ap, ◌∙◌, refl, ℕ, List, [], ◌∷◌}
-use Rattle.std.specs.Prelude.{slice_get, Some}
+use Rattle.std.specs.Prelude.{slice_get, Some, not}
 use Rattle.std.specs.FinMap.{entries}
 use Rattle.mpslp_model.specs.Model.{Row}
 use Rattle.mpslp_model.specs.Views.{rows_of}
@@ -7,7 +7,6 @@ use Rattle.mpslp_canonical.specs.PrintedValues.{printed_side}
 use Rattle.mpslp_canonical.specs.CanonicalMps.{side_lines}
 use Rattle.mpslp_write.proofs.LinesAtLemmas.{nonempty_seen}
 use Rattle.mpslp_write.proofs.RowLines.{side-nonempty}
-use Rattle.std.specs.Prelude.{not}
 use Rattle.mpslp_write.proofs.rows.has_row_side.Goals as goal
 
 pub returns : goal.returns

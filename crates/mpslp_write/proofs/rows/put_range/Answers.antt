@@ -1,10 +1,9 @@
 use Rattle.std.proofs.Common.{◌≡◌, sym, ap, ◌∙◌, refl, ℕ, List, [], ◌∷◌}
-use Rattle.std.specs.Prelude.{slice_get, Some}
+use Rattle.std.specs.Prelude.{slice_get, Some, codes, None}
 use Rattle.std.specs.FinMap.{entries}
 use Rattle.mpslp_model.specs.Model.{Row}
 use Rattle.mpslp_model.specs.Views.{rows_of}
 use Rattle.std.specs.Option.{option_map_or}
-use Rattle.std.specs.Prelude.{codes, None}
 use Rattle.mpslp_canonical.specs.PrintedValues.{printed_range}
 use Rattle.mpslp_canonical.specs.CanonicalMps.{vector_line}
 use Rattle.mpslp_write.proofs.LinesAtLemmas.{lines_seen, nothing_seen}

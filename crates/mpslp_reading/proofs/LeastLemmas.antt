@@ -8,8 +8,7 @@ use Rattle.std.proofs.lemmas.Bool.Decides.{nat_tests}
 use Rattle.mpslp_model.specs.Refusal.{those_of}
 use Rattle.mpslp_model.specs.FaultOrder.{kind_rank, least_kind}
 use Rattle.mpslp_model.specs.declared.faults.FaultKind.{FaultKind}
-use Rattle.mpslp_mps.specs.FieldFault.{Tests}
-use Rattle.mpslp_mps.specs.FirstHeld.{first_held}
+use Rattle.mpslp_reading.specs.Tests.{Tests, first_held}
 
 -- not before the kind, in the order of kinds
 abbrev pub is_from : FaultKind → FaultKind → Bool
@@ -77,3 +76,9 @@ lesser-both kind (Some a) (Some b) = by (nat_lt (kind_rank a) (kind_rank kind)) 
 pub least-append : (xs ys : List FaultKind) → least_kind (xs ++ ys) ≡ earlier_of (least_kind xs) (least_kind ys)
 least-append [] ys = refl
 least-append (x ∷ xs) ys = ap (λ (o : Option FaultKind). Some (lesser x o)) (least-append xs ys) ∙ ap (λ (kind : FaultKind). Some kind) (lesser-both x (least_kind xs) (least_kind ys))
+
+-- ---- no kind at all
+
+pub least-none : (kinds : List FaultKind) → least_kind kinds ≡ None → kinds ≡ []
+least-none [] h = refl
+least-none (kind ∷ kinds) h = cc

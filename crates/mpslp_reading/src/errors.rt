@@ -1,11 +1,13 @@
-//! Why a line is not taken.
+//! Why a line is not read.
 
-use mpslp_model::{BuildFault, FaultKind, NameFault};
+ghost use Rattle.mpslp_reading.specs.LineAnswer.{IsFaultOn};
+
+use mpslp_model::{BuildFault, Fault, FaultKind, NameFault, ReadFault};
 use std::alloc::AllocError;
 
-/// Why a line is not taken.
+/// Why a line is not read.
 #[derive(Clone, Copy, Debug, PartialEq, Eq)]
-pub(crate) enum LineError {
+pub enum LineError {
     /// The line has this fault.
     Fault(FaultKind),
     /// There was no memory.
@@ -14,7 +16,7 @@ pub(crate) enum LineError {
 
 impl From<FaultKind> for LineError {
     ghost use Rattle.std.specs.Prelude.{◌≡◌};
-    ghost use Rattle.mpslp_mps.specs.declared.errors.LineError.{LineError};
+    ghost use Rattle.mpslp_reading.specs.declared.errors.LineError.{LineError};
 
     ghost from_gives = { λ kind error. error ≡ LineError.Fault kind };
 
@@ -25,7 +27,7 @@ impl From<FaultKind> for LineError {
 
 impl From<AllocError> for LineError {
     ghost use Rattle.std.specs.Prelude.{◌≡◌};
-    ghost use Rattle.mpslp_mps.specs.declared.errors.LineError.{LineError};
+    ghost use Rattle.mpslp_reading.specs.declared.errors.LineError.{LineError};
 
     ghost from_gives = { λ _ error. error ≡ LineError.OutOfMemory };
 
@@ -36,7 +38,7 @@ impl From<AllocError> for LineError {
 
 impl From<NameFault> for LineError {
     ghost use Rattle.std.specs.Prelude.{◌≡◌};
-    ghost use Rattle.mpslp_mps.specs.NameError.{error_of_name};
+    ghost use Rattle.mpslp_reading.specs.ErrorOf.{error_of_name};
 
     ghost from_gives = { λ fault error. error ≡ error_of_name fault };
 
@@ -52,19 +54,18 @@ impl From<NameFault> for LineError {
 
 impl From<BuildFault> for LineError {
     ghost use Rattle.std.specs.Prelude.{◌≡◌};
-    ghost use Rattle.mpslp_mps.specs.BuildError.{error_of_build};
+    ghost use Rattle.mpslp_reading.specs.ErrorOf.{error_of_build};
 
     ghost from_gives = { λ fault error. error ≡ error_of_build fault };
 
     fn from(fault: BuildFault) -> LineError {
         match fault {
-            // Of these two no line of a good form declares a second one.
-            BuildFault::DuplicateSense => LineError::Fault(FaultKind::SectionRepeated),
-            BuildFault::SecondObjective => LineError::Fault(FaultKind::DuplicateRow),
             BuildFault::UnknownRow => LineError::Fault(FaultKind::UnknownRow),
             BuildFault::UnknownColumn => LineError::Fault(FaultKind::UnknownColumn),
             BuildFault::DuplicateRow => LineError::Fault(FaultKind::DuplicateRow),
-            BuildFault::DuplicateEntry => LineError::Fault(FaultKind::DuplicateEntry),
+            // No line of a good form declares a second sense or a second objective.
+            BuildFault::DuplicateEntry | BuildFault::DuplicateSense | BuildFault::SecondObjective =>
+                { LineError::Fault(FaultKind::DuplicateEntry) }
             BuildFault::DuplicateRhs => LineError::Fault(FaultKind::DuplicateRhs),
             BuildFault::DuplicateRange => LineError::Fault(FaultKind::DuplicateRange),
             BuildFault::DuplicateBound => LineError::Fault(FaultKind::DuplicateBound),
@@ -72,5 +73,19 @@ impl From<BuildFault> for LineError {
             BuildFault::InfiniteValue => LineError::Fault(FaultKind::InfiniteValue),
             BuildFault::OutOfMemory => LineError::OutOfMemory,
         }
+    }
+}
+
+/// Why text is not read that has this error on a line. The fault of a line has no name.
+pub fn read_fault(line: u64, error: LineError) -> ReadFault
+    ensures { IsFaultOn line error result }
+{
+    match error {
+        LineError::Fault(kind) => ReadFault::File(Fault {
+            kind,
+            line,
+            name: None,
+        }),
+        LineError::OutOfMemory => ReadFault::OutOfMemory,
     }
 }

@@ -1,15 +1,8 @@
--- What is told of tests in the order of kinds, and what a line says where nothing is told of it.
-use Rattle.std.specs.Prelude.{ℕ, map, List, [], ◌∷◌, Option, Some, None, if◌then◌else◌}
-use Rattle.mpslp_model.specs.declared.faults.FaultKind.{FaultKind}
+-- What a line of COLUMNS, RHS or RANGES says where it has no fault: its name, and its rows with their values.
+use Rattle.std.specs.Prelude.{ℕ, map, List}
 use Rattle.mpslp_decimal.specs.Decimal.{Number}
+use Rattle.mpslp_reading.specs.Field.{value_of}
 use Rattle.mpslp_mps.specs.DataLine.{Pair, ColumnLine, VectorLine}
-use Rattle.mpslp_mps.specs.LineMeaning.{value_of}
-use Rattle.mpslp_mps.specs.FieldFault.{Tests}
-
--- the kind of the first test that holds
-abbrev pub first_held : Tests → Option FaultKind
-first_held [] = None
-first_held (test ∷ more) = if test.0 then Some test.1 else first_held more
 
 -- the row of a pair, and its value
 abbrev pub row_value : Pair → List ℕ × Number
