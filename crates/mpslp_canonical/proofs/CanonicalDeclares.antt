@@ -8,7 +8,8 @@ use Rattle.mpslp_model.specs.Consistency.{AreConsistent}
 use Rattle.mpslp_model.proofs.BoolLemmas.{both_so}
 use Rattle.mpslp_mps.specs.Line.{is_legal_line, item_of}
 use Rattle.mpslp_mps.specs.MpsText.{read_lines, has_end, declarations_of, DeclaresMps}
-use Rattle.mpslp_mps.proofs.PlacedLemmas.{declared_items, have_good_form, lines-declare, lines-good, Walk}
+use Rattle.mpslp_mps.proofs.PlacedLemmas.{declared_items, have_good_form, lines-declare, lines-good}
+use Rattle.mpslp_canonical.proofs.ItemsWalk.{Walk}
 use Rattle.mpslp_canonical.specs.Listing.{listing_of}
 use Rattle.mpslp_canonical.specs.CanonicalMps.{canonical_mps}
 use Rattle.mpslp_canonical.specs.Laws.{IsReadAsPrinted, DeclareTheirModels, TellModelsApart}

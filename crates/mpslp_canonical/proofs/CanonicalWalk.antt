@@ -11,10 +11,10 @@ use Rattle.mpslp_mps.specs.Context.{has_section, is_read, is_bare_objsense, want
 use Rattle.mpslp_mps.specs.declared.sections.Section.{Section}
 use Rattle.mpslp_mps.specs.declared.sections.Section.TheVariants.{Columns, Rhs, Ranges, Bounds, EndData}
 use Rattle.mpslp_mps.proofs.SectionLemmas.{has_section-push, data_lines-push}
-use Rattle.mpslp_mps.proofs.PlacedLemmas.{Walk, walk-nil, walk-cons, section-walk}
-use Rattle.mpslp_mps.proofs.RowsWalk.{Side, side_item, side_decl, range_decl, ReadsAs, InSides, side_step, InRanges, range_step}
-use Rattle.mpslp_mps.proofs.BoundsWalk.{Bound, bound_item, bound_decl, GoodBound, InBounds, bound_step}
-use Rattle.mpslp_mps.proofs.HeaderWalk.{header_item, MayStand, header-good, header-says, current-header, no-lines, settled-after}
+use Rattle.mpslp_canonical.proofs.ItemsWalk.{Walk, walk-nil, walk-cons, section-walk}
+use Rattle.mpslp_canonical.proofs.RowsWalk.{Side, side_item, side_decl, range_decl, ReadsAs, InSides, side_step, InRanges, range_step}
+use Rattle.mpslp_canonical.proofs.BoundsWalk.{Bound, bound_item, bound_decl, GoodBound, InBounds, bound_step}
+use Rattle.mpslp_canonical.proofs.HeaderWalk.{header_item, MayStand, header-good, header-says, current-header, no-lines, settled-after}
 use Rattle.mpslp_canonical.proofs.CanonicalItems.{under}
 
 -- ---- after COLUMNS: the sections that stand only where they have lines

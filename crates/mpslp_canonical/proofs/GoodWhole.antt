@@ -20,9 +20,9 @@ use Rattle.mpslp_model.proofs.PutsLemmas.{puts}
 use Rattle.mpslp_model.proofs.CoefficientLemmas.{flat_map-flat_map}
 use Rattle.mpslp_model.proofs.DraftLemmas.{row_part, rows-all}
 use Rattle.mpslp_model.proofs.SortedDrafts.{bytes_total, tied_names}
-use Rattle.mpslp_mps.proofs.RowsWalk.{RowItem, row_decl, Side, ReadsAs}
-use Rattle.mpslp_mps.proofs.ColumnsWalk.{Cell, cell_decl, cells_of}
-use Rattle.mpslp_mps.proofs.BoundsWalk.{GoodBound}
+use Rattle.mpslp_canonical.proofs.RowsWalk.{RowItem, row_decl, Side, ReadsAs}
+use Rattle.mpslp_canonical.proofs.ColumnsWalk.{Cell, cell_decl, cells_of}
+use Rattle.mpslp_canonical.proofs.BoundsWalk.{GoodBound}
 use Rattle.mpslp_canonical.specs.Listing.{Listing}
 use Rattle.mpslp_canonical.specs.PrintedValues.{have_same_value, valued, printed_type, printed_side, printed_range, PrintedBound, printed_lower, printed_upper, printed_bounds}
 use Rattle.mpslp_mps.specs.declared.bound_types.BoundType.TheVariants as bounds

@@ -17,9 +17,9 @@ use Rattle.mpslp_mps.specs.DataLine.{closing_word}
 use Rattle.mpslp_mps.specs.declared.sections.Section.TheVariants.{Name, Rows, Columns, Rhs, Ranges, Bounds, EndData}
 use Rattle.mpslp_mps.specs.declared.bound_types.BoundType.{BoundType}
 use Rattle.mpslp_mps.specs.declared.bound_types.BoundType.TheVariants as bounds
-use Rattle.mpslp_mps.proofs.ColumnsWalk.{Cell, cell_item, cells_of}
-use Rattle.mpslp_mps.proofs.BoundsWalk.{bound_item}
-use Rattle.mpslp_mps.proofs.HeaderWalk.{header_item}
+use Rattle.mpslp_canonical.proofs.ColumnsWalk.{Cell, cell_item, cells_of}
+use Rattle.mpslp_canonical.proofs.BoundsWalk.{bound_item}
+use Rattle.mpslp_canonical.proofs.HeaderWalk.{header_item}
 use Rattle.mpslp_canonical.specs.Printed.{item_in}
 use Rattle.mpslp_canonical.specs.Listing.{Listing}
 use Rattle.mpslp_canonical.specs.PrintedValues.{have_same_value, PrintedBound, printed_lower, printed_upper, printed_bounds}

@@ -14,12 +14,12 @@ use Rattle.mpslp_mps.specs.Section.{begins, section_begun}
 use Rattle.mpslp_mps.specs.Context.{has_section, is_read, is_bare_objsense, wants_sense}
 use Rattle.mpslp_mps.specs.declared.sections.Section.{Section}
 use Rattle.mpslp_mps.specs.declared.sections.Section.TheVariants.{Name, ObjSense, Rows, Columns, Rhs, Ranges, Bounds, EndData}
-use Rattle.mpslp_mps.proofs.PlacedLemmas.{Walk, walk-append}
+use Rattle.mpslp_canonical.proofs.ItemsWalk.{Walk, walk-append}
 use Rattle.mpslp_reading.proofs.ObjectiveLemmas.{named-after}
-use Rattle.mpslp_mps.proofs.RowsWalk.{RowItem, row_item, row_decl, Side, side_item, side_decl, range_decl, ReadsAs}
-use Rattle.mpslp_mps.proofs.ColumnsWalk.{Cell, cell_item, cell_decl, Group, cells_of}
-use Rattle.mpslp_mps.proofs.BoundsWalk.{Bound, bound_item, bound_decl, GoodBound}
-use Rattle.mpslp_mps.proofs.HeaderWalk.{header_item, MayStand, has_section-data, settled-after}
+use Rattle.mpslp_canonical.proofs.RowsWalk.{RowItem, row_item, row_decl, Side, side_item, side_decl, range_decl, ReadsAs}
+use Rattle.mpslp_canonical.proofs.ColumnsWalk.{Cell, cell_item, cell_decl, Group, cells_of}
+use Rattle.mpslp_canonical.proofs.BoundsWalk.{Bound, bound_item, bound_decl, GoodBound}
+use Rattle.mpslp_canonical.proofs.HeaderWalk.{header_item, MayStand, has_section-data, settled-after}
 use Rattle.mpslp_canonical.proofs.CanonicalItems.{under}
 use Rattle.mpslp_canonical.proofs.CanonicalWalk.{IsLate, data-settled, sides-walk, ranges-walk, bounds-walk, end-walk}
 use Rattle.mpslp_canonical.proofs.EarlyWalk.{sense_items, sense_decl, start-walk, rows-may, objective_item, rows-walk, marker_item, part_items, AreColumns, columns-walk}

@@ -6,11 +6,7 @@ pub mod OrderLemmas
 pub mod KnownLemmas
 pub mod LegalLemmas
 pub mod ModelOrFault
-pub mod RowsWalk
-pub mod ColumnsWalk
-pub mod BoundsWalk
 pub mod ContextLemmas
-pub mod HeaderWalk
 pub mod ObjectiveLemmas
 pub mod ModelFromNoFault
 pub mod ReadingLemmas
@@ -28,7 +24,6 @@ pub mod HeaderTaking
 pub mod RightSideLemmas
 pub mod TakenLemmas
 pub mod RangeLemmas
-pub mod KeptLemmas
 pub mod BoundSideLemmas
 pub mod FrontTaking
 pub mod LoopLemmas

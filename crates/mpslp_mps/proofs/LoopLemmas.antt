@@ -24,8 +24,8 @@ use Rattle.mpslp_reading.specs.LineAnswer.{fault_on_line}
 use Rattle.mpslp_mps.specs.Reading.{placed_in, draft_after, context_after, fault_from, draft_from}
 use Rattle.mpslp_mps.specs.ReadingAnswer.{lines_to_end}
 use Rattle.mpslp_mps.specs.declared.sections.Section.TheVariants.{EndData}
-use Rattle.mpslp_mps.specs.ReadingState.{IsReading}
-use Rattle.mpslp_mps.proofs.KeptLemmas.{reading-next}
+use Rattle.mpslp_mps.specs.DeclareAnswer.{HasMpsSides}
+use Rattle.mpslp_mps.proofs.MpsSidesLemmas.{sides-kept}
 use Rattle.mpslp_mps.proofs.EndLemmas.{up_to_end-last, up_to_end-more, at_end-after}
 
 -- ---- numbers of lines, which are told up to 2^64 - 1
@@ -110,8 +110,7 @@ end-shown line context after ended unended is shown =
     sym (at_end-after context (item_of line) unended) ∙ ap (λ (c : Context). is_section EndData c.section) (sym is) ∙ sym shown
 
 -- what every line keeps
-pub reading-after : (line : List ℕ) (context after : Context) (earlier later : Draft) → IsReading context earlier → line_fault (placed_in context earlier line) ≡ None
-    → after ≡ context_after context line → later ≡ draft_after context earlier line → IsReading after later
-reading-after line context after earlier later reading none is draft =
-    subst (λ (d : Draft). IsReading after d) (sym draft)
-    (subst (λ (c : Context). IsReading c (draft_after context earlier line)) (sym is) (reading-next context earlier (item_of line) reading (no-item context earlier line none)))
+pub sides-next : (line : List ℕ) (context : Context) (earlier later : Draft) → HasMpsSides earlier → line_fault (placed_in context earlier line) ≡ None
+    → later ≡ draft_after context earlier line → HasMpsSides later
+sides-next line context earlier later sides none draft =
+    subst HasMpsSides (sym draft) (sides-kept context earlier (item_of line) (no-item context earlier line none) sides)

@@ -18,6 +18,5 @@ pub mod Laws
 pub mod LineAnswer
 pub mod DeclareAnswer
 pub mod ColumnDeclared
-pub mod ReadingState
 pub mod BoundSides
 pub mod ReadingAnswer

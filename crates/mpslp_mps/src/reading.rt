@@ -5,7 +5,7 @@ ghost use Rattle.std.specs.Str.Lines.{lines};
 ghost use Rattle.mpslp_mps.specs.Section.{is_section};
 ghost use Rattle.mpslp_mps.specs.declared.sections.Section.{Section};
 ghost use Rattle.mpslp_mps.specs.ReadingAnswer.{ReadsLines, ReadsText, ReadsMps};
-ghost use Rattle.mpslp_mps.specs.ReadingState.{IsReading};
+ghost use Rattle.mpslp_mps.specs.DeclareAnswer.{HasMpsSides};
 
 use crate::context::LineContext;
 use crate::taking::take_line;
@@ -21,7 +21,7 @@ fn read_lines(
     alloc: Global,
     text: &[u8],
 ) -> Result<bool, ReadFault>
-    requires reading { IsReading context.old builder.old }
+    requires sides { HasMpsSides builder.old }
     requires unended { is_section Section.EndData context.old.section ≡ false }
     ensures { ReadsLines context.old builder.old (lines text.now) result builder.new }
 {

@@ -1,13 +1,13 @@
 //! Lines, taken one by one: each is judged, and what it declares is declared to the builder.
 
-ghost use Rattle.std.specs.Prelude.{◌≡◌, Some, map, IsTrue};
+ghost use Rattle.std.specs.Prelude.{◌≡◌, Some, map};
 ghost use Rattle.mpslp_mps.specs.declared.sections.Section.{Section};
 ghost use Rattle.mpslp_mps.specs.Line.{data_line, header_of, item_of};
 ghost use Rattle.mpslp_mps.specs.LineMeaning.{row_of_type};
 ghost use Rattle.mpslp_reading.specs.LineAnswer.{AreDeclared};
 ghost use Rattle.mpslp_mps.specs.LineAnswer.{ReadsItem};
 ghost use Rattle.mpslp_mps.specs.ReadingAnswer.{ReadsLine};
-ghost use Rattle.mpslp_mps.specs.ReadingState.{has_sense_in_order, IsReading};
+ghost use Rattle.mpslp_mps.specs.DeclareAnswer.{HasMpsSides};
 
 use crate::context::LineContext;
 use crate::data_lines::{judge_row, judge_sense};
@@ -29,7 +29,6 @@ pub(crate) fn take_sense(
     fields: &[&[u8]],
 ) -> Result<(), LineError>
     requires section { context.old.section ≡ Some Section.ObjSense }
-    requires order { IsTrue (has_sense_in_order context.old builder.old) }
     ensures { ReadsItem context.old builder.old (data_line (map (λ field. field.now) fields.now)) result context.new builder.new }
 {
     let sense = judge_sense(context, fields)?;
@@ -73,7 +72,7 @@ fn take_data(
     alloc: Global,
     fields: &[&[u8]],
 ) -> Result<(), LineError>
-    requires { IsReading context.old builder.old }
+    requires { HasMpsSides builder.old }
     ensures { ReadsItem context.old builder.old (data_line (map (λ field. field.now) fields.now)) result context.new builder.new }
 {
     match context.section() {
@@ -96,7 +95,7 @@ fn take_keyword(
     alloc: Global,
     fields: &[&[u8]],
 ) -> Result<(), LineError>
-    requires { IsReading context.old builder.old }
+    requires { HasMpsSides builder.old }
     ensures { ReadsItem context.old builder.old (header_of (map (λ field. field.now) fields.now)) result context.new builder.new }
 {
     match fields {
@@ -112,7 +111,7 @@ fn take_item(
     alloc: Global,
     line: &[u8],
 ) -> Result<(), LineError>
-    requires { IsReading context.old builder.old }
+    requires { HasMpsSides builder.old }
     ensures { ReadsItem context.old builder.old (item_of line.now) result context.new builder.new }
 {
     if is_skipped(line) {
@@ -133,7 +132,7 @@ pub(crate) fn take_line(
     alloc: Global,
     line: &[u8],
 ) -> Result<(), LineError>
-    requires { IsReading context.old builder.old }
+    requires { HasMpsSides builder.old }
     ensures { ReadsLine context.old builder.old line.now result context.new builder.new }
 {
     if !has_legal_length(line) {

@@ -1,6 +1,6 @@
 //! Lines of COLUMNS, taken one by one.
 
-ghost use Rattle.std.specs.Prelude.{◌≡◌, [], ◌∷◌, map, not, true, false, Some, None, IsTrue, MatchResult};
+ghost use Rattle.std.specs.Prelude.{◌≡◌, [], ◌∷◌, map, not, true, false, Some, None, MatchResult};
 ghost use Rattle.std.specs.List.{list_all, flat_map};
 ghost use Rattle.mpslp_model.specs.Name.{IsMpsName};
 ghost use Rattle.mpslp_model.specs.Declaration.{Draft, adding, adding_all, declare_column, declare_marked, has_row, has_column};
@@ -15,12 +15,12 @@ ghost use Rattle.mpslp_reading.specs.Tests.{first_held};
 ghost use Rattle.mpslp_reading.specs.LineAnswer.{AreDeclared};
 ghost use Rattle.mpslp_mps.specs.ColumnDeclared.{front_declared, value_declared};
 ghost use Rattle.mpslp_mps.specs.LineAnswer.{ReadsItem};
-ghost use Rattle.mpslp_mps.specs.ReadingState.{has_sorted_columns};
 
 use crate::context::LineContext;
 use crate::data_lines::{judge_column, judge_marker};
 use crate::shapes::is_marker_line;
 use crate::values::{RowValue, RowValues};
+use mpslp_model::laws::each_builder_is_made;
 use mpslp_model::{Builder, FaultKind, Name};
 use mpslp_reading::LineError;
 use std::alloc::Global;
@@ -76,10 +76,10 @@ fn judge_place(
 /// Declares the column, if it is not declared yet.
 fn declare_name(builder: &mut Builder, alloc: Global, column: &[u8]) -> Result<(), LineError>
     requires name { IsMpsName column.now }
-    requires sorted { IsTrue (has_sorted_columns builder.old) }
     ensures { MatchResult result (λ _. builder.new ≡ adding builder.old (declare_column column.now)) (λ error. error ≡ LineError.OutOfMemory) }
 {
     if builder.has_column(column) {
+        each_builder_is_made(builder);
         return Ok(());
     }
     let name = Name::new(alloc, column)?;
@@ -106,7 +106,6 @@ fn declare_column(
     is_marked: bool,
 ) -> Result<(), LineError>
     requires name { IsMpsName column.now }
-    requires sorted { IsTrue (has_sorted_columns builder.old) }
     ensures { MatchResult result (λ _. builder.new ≡ adding_all builder.old (front_declared is_marked column.now)) (λ error. error ≡ LineError.OutOfMemory) }
 {
     declare_name(builder, alloc, column)?;
@@ -151,7 +150,6 @@ fn take_values(
 ) -> Result<(), LineError>
     requires section { context.old.section ≡ Some Section.Columns }
     requires plain { is_marker_line (map (λ field. field.now) fields.now) ≡ false }
-    requires sorted { IsTrue (has_sorted_columns builder.old) }
     ensures { ReadsItem context.old builder.old (data_line (map (λ field. field.now) fields.now)) result context.new builder.new }
 {
     let (column, values) = judge_column(fields)?;
@@ -170,7 +168,6 @@ pub(crate) fn take_column(
     fields: &[&[u8]],
 ) -> Result<(), LineError>
     requires section { context.old.section ≡ Some Section.Columns }
-    requires sorted { IsTrue (has_sorted_columns builder.old) }
     ensures { ReadsItem context.old builder.old (data_line (map (λ field. field.now) fields.now)) result context.new builder.new }
 {
     if is_marker_line(fields) {

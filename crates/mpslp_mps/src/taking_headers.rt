@@ -1,15 +1,13 @@
 //! Headers, taken one by one.
 
-ghost use Rattle.std.specs.Prelude.{◌≡◌, [], ◌∷◌, map, Some, None, IsTrue};
+ghost use Rattle.std.specs.Prelude.{◌≡◌, [], ◌∷◌, map, Some};
 ghost use Rattle.std.specs.Option.{option_map_or};
 ghost use Rattle.mpslp_model.specs.Declaration.{declare_sense};
-ghost use Rattle.mpslp_mps.specs.declared.sections.Section.{Section};
 ghost use Rattle.mpslp_mps.specs.Line.{header};
 ghost use Rattle.mpslp_mps.specs.DataLine.{sense_line};
 ghost use Rattle.mpslp_mps.specs.LineMeaning.{declared_of, sense_declared, default_objective, header_declared};
 ghost use Rattle.mpslp_reading.specs.LineAnswer.{AreDeclared};
 ghost use Rattle.mpslp_mps.specs.LineAnswer.{ReadsItem};
-ghost use Rattle.mpslp_mps.specs.ReadingState.{has_sense_in_order};
 
 use crate::context::LineContext;
 use crate::headers::{is_bare_header, judge_header};
@@ -32,7 +30,6 @@ fn header_sense(more: &[&[u8]]) -> Option<Sense>
 
 /// Declares the sense that follows the keyword OBJSENSE, if one does.
 fn declare_sense(builder: &mut Builder, more: &[&[u8]]) -> Result<(), LineError>
-    requires sense { builder.old.sense ≡ None }
     ensures { AreDeclared builder.old (declared_of sense_declared (sense_line (map (λ field. field.now) more.now))) result builder.new }
 {
     if let Some(sense) = header_sense(more) {
@@ -59,7 +56,6 @@ fn declare_header(
     section: Section,
     more: &[&[u8]],
 ) -> Result<(), LineError>
-    requires sense { section ≡ Section.ObjSense → builder.old.sense ≡ None }
     ensures { AreDeclared builder.old (header_declared builder.old (map (λ field. field.now) more.now) (Some section)) result builder.new }
 {
     match section {
@@ -77,7 +73,6 @@ pub(crate) fn take_header(
     keyword: &[u8],
     more: &[&[u8]],
 ) -> Result<(), LineError>
-    requires order { IsTrue (has_sense_in_order context.old builder.old) }
     ensures { ReadsItem context.old builder.old (header keyword.now (map (λ field. field.now) more.now)) result context.new builder.new }
 {
     let section = judge_header(context, keyword, more)?;

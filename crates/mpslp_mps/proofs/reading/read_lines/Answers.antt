@@ -5,7 +5,7 @@ use Rattle.mpslp_mps.specs.MpsText.{is_end}
 use Rattle.mpslp_mps.specs.Reading.{fault_from, draft_from}
 use Rattle.mpslp_mps.specs.ReadingAnswer.{lines_to_end}
 use Rattle.mpslp_mps.proofs.LineLemmas.{bstr-lines}
-use Rattle.mpslp_mps.proofs.LoopLemmas.{told-last, draft-last, ended-last, told-next, draft-next, ended-next, end-shown, reading-after}
+use Rattle.mpslp_mps.proofs.LoopLemmas.{told-last, draft-last, ended-last, told-next, draft-next, ended-next, end-shown, sides-next}
 use Rattle.mpslp_mps.proofs.reading.read_lines.Goals as goal
 
 pub loop-line-init : goal.loop-line-init
@@ -17,7 +17,7 @@ loop-line-init c =
     record {
       next = tt;
       finite = tt;
-      state = c.requires.reading;
+      sides = c.requires.sides;
       unended = c.requires.unended;
       counted = omega arith;
       told = ap (λ (text : List (List ℕ)). fault_from 1 context earlier (lines_to_end text)) all;
@@ -41,7 +41,7 @@ loop-line-preserved c =
     record {
       next = tt;
       finite = tt;
-      state = reading-after line context c.take_line.new.context earlier c.take_line.new.builder before.state none after draft;
+      sides = sides-next line context earlier c.take_line.new.builder before.sides none draft;
       unended = sym c.is_at_end.ensures ∙ c.if-is_at_end.false;
       counted = omega (arith, c.saturating_add-number.ensures);
       told = (λ i. fault_from (c.saturating_add-number.ensures i) (after i) (draft i) (lines_to_end more)) ∙ sym (told-next line more n context earlier further none)

@@ -16,8 +16,8 @@ use Rattle.mpslp_mps.specs.FieldFault.{set_tests}
 use Rattle.mpslp_mps.proofs.PlacedLemmas.{form_faults}
 use Rattle.mpslp_mps.specs.declared.bound_types.BoundType.TheVariants as bounds
 use Rattle.mpslp_mps.specs.declared.sections.Section.TheVariants.{Bounds}
-use Rattle.mpslp_mps.proofs.PlacedLemmas.{Step}
-use Rattle.mpslp_mps.proofs.RowsWalk.{HaveSet, set-good, vector_good, stays, lines-push}
+use Rattle.mpslp_canonical.proofs.ItemsWalk.{Step}
+use Rattle.mpslp_canonical.proofs.RowsWalk.{HaveSet, set-good, vector_good, stays, lines-push}
 
 -- the bounds that are printed: with the text of a value and the number that it is read as, or without
 pub data BoundForm : Type 0 where

@@ -25,8 +25,8 @@ use Rattle.mpslp_reading.specs.Field.{name_tests, number_tests}
 use Rattle.mpslp_mps.proofs.PlacedLemmas.{form_faults}
 use Rattle.mpslp_mps.specs.declared.sections.Section.TheVariants.{Columns}
 use Rattle.mpslp_mps.proofs.SectionLemmas.{last_or-append}
-use Rattle.mpslp_mps.proofs.PlacedLemmas.{Step}
-use Rattle.mpslp_mps.proofs.RowsWalk.{name-good, number-good, stays, lines-push}
+use Rattle.mpslp_canonical.proofs.ItemsWalk.{Step}
+use Rattle.mpslp_canonical.proofs.RowsWalk.{name-good, number-good, stays, lines-push}
 
 -- a column, a row, a number's text and the number
 pub record Cell : Type 0 where

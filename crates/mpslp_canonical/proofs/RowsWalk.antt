@@ -21,7 +21,7 @@ use Rattle.mpslp_mps.proofs.PlacedLemmas.{form_faults}
 use Rattle.mpslp_mps.specs.declared.sections.Section.{Section}
 use Rattle.mpslp_mps.specs.declared.sections.Section.TheVariants.{Rows, Rhs, Ranges}
 use Rattle.mpslp_mps.proofs.SectionLemmas.{current_section-push, data_lines-push}
-use Rattle.mpslp_mps.proofs.PlacedLemmas.{Step}
+use Rattle.mpslp_canonical.proofs.ItemsWalk.{Step}
 
 -- ---- fields that have no fault
 
