@@ -14,7 +14,7 @@ use Rattle.mpslp_model.specs.declared.faults.BuildFault.{BuildFault}
 use Rattle.mpslp_model.specs.declared.faults.FaultKind.{FaultKind}
 use Rattle.mpslp_model.specs.declared.faults.FaultKind.TheVariants as kinds
 use Rattle.mpslp_mps.specs.Line.{Fields}
-use Rattle.mpslp_mps.specs.BoundLine.{BoundLine, bound_type, bound_line}
+use Rattle.mpslp_mps.specs.BoundLine.{BoundLine, bound_type, bound_shape}
 use Rattle.mpslp_mps.specs.LineMeaning.{declared_of, bound_declared, bound_value, bound_line_declared}
 use Rattle.mpslp_reading.specs.Field.{value_of}
 use Rattle.mpslp_reading.specs.Declaring.{declared_fault}
@@ -117,9 +117,9 @@ value-is : (o : Option (List ℕ)) (value : Option Number) → value ≡ option_
 value-is None value h = ap (λ (v : Option Number). option_map_or limit_of v zero_limit) (sym h)
 value-is (Some literal) value h = ap (λ (v : Option Number). option_map_or limit_of v zero_limit) (sym h)
 
-pub bound-is : (letters : List ℕ) (more : Fields) (type : BoundType) (line : BoundLine) (value : Option Number) → bound_type letters ≡ Some type → bound_line type more ≡ Some line
+pub bound-is : (letters : List ℕ) (more : Fields) (type : BoundType) (line : BoundLine) (value : Option Number) → bound_type letters ≡ Some type → bound_shape type more ≡ Some line
     → value ≡ option_map value_of line.literal → bound_line_declared (letters ∷ more) ≡ bound_declared type line.column (option_map_or limit_of value zero_limit)
 bound-is letters more type line value t l v =
-    ap (declared_of (λ found. declared_of (λ (parts : BoundLine). bound_declared found parts.column (bound_value parts)) (bound_line found more))) t
+    ap (declared_of (λ found. declared_of (λ (parts : BoundLine). bound_declared found parts.column (bound_value parts)) (bound_shape found more))) t
     ∙ ap (declared_of (λ (parts : BoundLine). bound_declared type parts.column (bound_value parts))) l
     ∙ ap (bound_declared type line.column) (value-is line.literal value v)

@@ -13,7 +13,7 @@ use Rattle.mpslp_model.specs.FaultOrder.{kind_rank, least_kind}
 use Rattle.mpslp_model.specs.declared.faults.FaultKind.{FaultKind}
 use Rattle.mpslp_model.specs.declared.faults.FaultKind.TheVariants as kinds
 use Rattle.mpslp_mps.specs.Line.{Fields, data_line}
-use Rattle.mpslp_mps.specs.DataLine.{Pair, ColumnLine, column_line, is_marker_line}
+use Rattle.mpslp_mps.specs.DataLine.{Pair, ColumnLine, column_shape, is_marker_line}
 use Rattle.mpslp_mps.specs.Context.{Context}
 use Rattle.mpslp_reading.specs.Tests.{Tests, judged_by, first_held}
 use Rattle.mpslp_reading.specs.Field.{name_tests, number_tests}
@@ -47,8 +47,8 @@ abbrev split_test : Context → Draft → List ℕ → Tests
 split_test context earlier column = (is_split context earlier column, kinds.ColumnSplit) ∷ []
 
 plain-tests : (context : Context) (earlier : Draft) (fields : Fields) → is_marker_line fields ≡ false
-    → data_tests context earlier fields (Some Columns) ≡ judged_by (column_tests context earlier) (column_line fields)
-plain-tests context earlier fields h = ap (λ (b : Bool). cond b (marker_tests context fields) (judged_by (column_tests context earlier) (column_line fields))) h
+    → data_tests context earlier fields (Some Columns) ≡ judged_by (column_tests context earlier) (column_shape fields)
+plain-tests context earlier fields h = ap (λ (b : Bool). cond b (marker_tests context fields) (judged_by (column_tests context earlier) (column_shape fields))) h
 
 -- a fault of the fields is told
 held_fields : (context : Context) (earlier : Draft) (parts : Option ColumnLine) (kind : FaultKind) → first_held (judged_by field_tests parts) ≡ Some kind
@@ -66,17 +66,17 @@ abbrev told_under : Context → Draft → Fields → Option Section → Option F
 told_under context earlier fields section = least_kind (those_of (data_tests context earlier fields section) ++ declaring_faults earlier (data_declared context earlier fields section))
 
 column-form : (context : Context) (earlier : Draft) (fields : Fields) (kind : FaultKind) → context.section ≡ Some Columns → is_marker_line fields ≡ false
-    → first_held (judged_by field_tests (column_line fields)) ≡ Some kind
+    → first_held (judged_by field_tests (column_shape fields)) ≡ Some kind
     → item_fault context earlier (data_line fields) ≡ Some kind
 column-form context earlier fields kind here plain held =
     let tests = data_tests context earlier fields (Some Columns) in
     ap (told_under context earlier fields) here
     ∙ form-first tests kind earlier (data_declared context earlier fields (Some Columns)) (data-rising context earlier fields (Some Columns))
-    (ap first_held (plain-tests context earlier fields plain) ∙ held_fields context earlier (column_line fields) kind held)
-    (held-among (λ other. is_from other kinds.UnknownRow) (judged_by field_tests (column_line fields)) kind (early_fields (column_line fields)) held)
+    (ap first_held (plain-tests context earlier fields plain) ∙ held_fields context earlier (column_shape fields) kind held)
+    (held-among (λ other. is_from other kinds.UnknownRow) (judged_by field_tests (column_shape fields)) kind (early_fields (column_shape fields)) held)
 
 pub column-judged : (context : Context) (earlier : Draft) (fields : Fields) (error : LineError) → context.section ≡ Some Columns → is_marker_line fields ≡ false
-    → IsErrorOf (first_held (judged_by field_tests (column_line fields))) error → IsErrorOf (item_fault context earlier (data_line fields)) error
+    → IsErrorOf (first_held (judged_by field_tests (column_shape fields))) error → IsErrorOf (item_fault context earlier (data_line fields)) error
 column-judged context earlier fields (errors.Fault kind) here plain held = column-form context earlier fields kind here plain held
 column-judged context earlier fields errors.OutOfMemory here plain held = tt
 
@@ -105,17 +105,17 @@ line_declared context (Some line) column values is =
     ∙ ap (λ (o : Option (List ℕ × List (List ℕ × Number))). elim o as (λ _. Declarations) [ None ↦ [] | Some p ↦ front_declared context.in_integer_part p.0 ++ flat_map (value_declared p.0) p.1 ]) is
 
 pub column-declares : (context : Context) (earlier : Draft) (fields : Fields) (column : List ℕ) (values : List (List ℕ × Number)) → is_marker_line fields ≡ false
-    → option_map column_values (column_line fields) ≡ Some (column, values)
+    → option_map column_values (column_shape fields) ≡ Some (column, values)
     → data_declared context earlier fields (Some Columns) ≡ front_declared context.in_integer_part column ++ flat_map (value_declared column) values
 column-declares context earlier fields column values plain is =
-    ap (λ (b : Bool). cond b [] (declared_of (column_declared context) (column_line fields))) plain ∙ line_declared context (column_line fields) column values is
+    ap (λ (b : Bool). cond b [] (declared_of (column_declared context) (column_shape fields))) plain ∙ line_declared context (column_shape fields) column values is
 
 -- the draft in which the column stands
 abbrev pub with_column : Context → Draft → List ℕ → Draft
 with_column context earlier column = adding_all earlier (front_declared context.in_integer_part column)
 
 pub column-told : (context : Context) (earlier : Draft) (fields : Fields) (column : List ℕ) (values : List (List ℕ × Number)) → context.section ≡ Some Columns
-    → is_marker_line fields ≡ false → first_held (judged_by field_tests (column_line fields)) ≡ None → option_map column_values (column_line fields) ≡ Some (column, values)
+    → is_marker_line fields ≡ false → first_held (judged_by field_tests (column_shape fields)) ≡ None → option_map column_values (column_shape fields) ≡ Some (column, values)
     → item_fault context earlier (data_line fields)
     ≡ earlier_of (first_held (split_test context earlier column)) (declared_fault (with_column context earlier column) (flat_map (value_declared column) values))
 column-told context earlier fields column values here plain held is =
@@ -127,7 +127,7 @@ column-told context earlier fields column values here plain held is =
     ∙ least-append (those_of tests) (declaring_faults earlier ds)
     ∙ ap (λ (o : Option FaultKind). earlier_of o (declared_fault earlier ds))
     (least-those_of tests (data-rising context earlier fields (Some Columns)) ∙ ap first_held (plain-tests context earlier fields plain)
-    ∙ held_split context earlier (column_line fields) column values held is)
+    ∙ held_split context earlier (column_shape fields) column values held is)
     ∙ ap (earlier_of (first_held (split_test context earlier column)))
     (ap (declared_fault earlier) (column-declares context earlier fields column values plain is)
     ∙ declared-after earlier front coefficients (front-none earlier context.in_integer_part column))
@@ -146,7 +146,7 @@ late_enough (Some kind) h = more (kind_rank kind) h
     more n k = grind (arith, nat_tests)
 
 pub place-told : (context : Context) (earlier : Draft) (fields : Fields) (column : List ℕ) (values : List (List ℕ × Number)) (kind : FaultKind) → context.section ≡ Some Columns
-    → is_marker_line fields ≡ false → first_held (judged_by field_tests (column_line fields)) ≡ None → option_map column_values (column_line fields) ≡ Some (column, values)
+    → is_marker_line fields ≡ false → first_held (judged_by field_tests (column_shape fields)) ≡ None → option_map column_values (column_shape fields) ≡ Some (column, values)
     → first_held (place_tests context earlier column values) ≡ Some kind
     → item_fault context earlier (data_line fields) ≡ Some kind
 place-told context earlier fields column values kind here plain held is placed =
@@ -183,7 +183,7 @@ placed context earlier column values h = by (are_rows earlier values) (is_split 
     by true false e = (refl, refl)
 
 pub placed-told : (context : Context) (earlier : Draft) (fields : Fields) (column : List ℕ) (values : List (List ℕ × Number)) → context.section ≡ Some Columns
-    → is_marker_line fields ≡ false → first_held (judged_by field_tests (column_line fields)) ≡ None → option_map column_values (column_line fields) ≡ Some (column, values)
+    → is_marker_line fields ≡ false → first_held (judged_by field_tests (column_shape fields)) ≡ None → option_map column_values (column_shape fields) ≡ Some (column, values)
     → first_held (place_tests context earlier column values) ≡ None
     → item_fault context earlier (data_line fields) ≡ declared_fault (with_column context earlier column) (flat_map (value_declared column) values)
 placed-told context earlier fields column values here plain held is in_order =

@@ -13,7 +13,7 @@ use Rattle.mpslp_model.proofs.LaterDrafts.{itself_named}
 use Rattle.mpslp_model.specs.declared.faults.FaultKind.{FaultKind}
 use Rattle.mpslp_model.specs.declared.faults.FaultKind.TheVariants as kinds
 use Rattle.mpslp_mps.specs.Line.{Fields}
-use Rattle.mpslp_mps.specs.DataLine.{column_line, is_marker_line, marker_line}
+use Rattle.mpslp_mps.specs.DataLine.{column_shape, is_marker_line, marker_shape}
 use Rattle.mpslp_mps.specs.Context.{Context}
 use Rattle.mpslp_reading.specs.Tests.{judged_by}
 use Rattle.mpslp_mps.specs.DataFault.{marker_tests, marker_word_tests, is_sos_marker, column_tests, data_tests}
@@ -34,17 +34,17 @@ use Rattle.mpslp_mps.proofs.TakingLemmas.{is_early}
 
 pub marker-tests : (context : Context) (earlier : Draft) (fields : Fields) → is_marker_line fields ≡ true
     → data_tests context earlier fields (Some Columns) ≡ marker_tests context fields
-marker-tests context earlier fields h = ap (λ (b : Bool). cond b (marker_tests context fields) (judged_by (column_tests context earlier) (column_line fields))) h
+marker-tests context earlier fields h = ap (λ (b : Bool). cond b (marker_tests context fields) (judged_by (column_tests context earlier) (column_shape fields))) h
 
 pub marker-early : (context : Context) (fields : Fields) → list_all is_early (marker_tests context fields) ≡ true
-marker-early context fields = of (marker_line fields)
+marker-early context fields = of (marker_shape fields)
   where
     of : (o : Option (List ℕ)) → list_all is_early ((is_sos_marker fields, kinds.Sos) ∷ judged_by (marker_word_tests context) o) ≡ true
     of None = refl
     of (Some word) = refl
 
 pub marker-declares : (context : Context) (earlier : Draft) (fields : Fields) → is_marker_line fields ≡ true → data_declared context earlier fields (Some Columns) ≡ []
-marker-declares context earlier fields h = ap (λ (b : Bool). cond b [] (declared_of (column_declared context) (column_line fields))) h
+marker-declares context earlier fields h = ap (λ (b : Bool). cond b [] (declared_of (column_declared context) (column_shape fields))) h
 
 -- ---- what a line of a column declares
 

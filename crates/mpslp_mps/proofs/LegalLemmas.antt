@@ -18,8 +18,8 @@ use Rattle.mpslp_model.proofs.BoolLemmas.{both_so}
 use Rattle.mpslp_reading.proofs.FieldLemmas.{name-legal, value-decimal, limit-given}
 use Rattle.mpslp_mps.specs.Line.{Fields, Item, skipped, header, data_line}
 use Rattle.mpslp_mps.specs.Section.{section_named}
-use Rattle.mpslp_mps.specs.DataLine.{RowLine, Pair, ColumnLine, sense_line, sense_of, row_line, row_type, column_line, is_marker_line, vector_line}
-use Rattle.mpslp_mps.specs.BoundLine.{BoundLine, bound_type, bound_line}
+use Rattle.mpslp_mps.specs.DataLine.{RowLine, Pair, ColumnLine, sense_shape, sense_of, row_shape, row_type, column_shape, is_marker_line, vector_shape}
+use Rattle.mpslp_mps.specs.BoundLine.{BoundLine, bound_type, bound_shape}
 use Rattle.mpslp_mps.specs.Context.{Context, context_of, current_section}
 use Rattle.mpslp_mps.specs.LineMeaning.{declared_of, sense_declared, row_of_type, row_declared, coefficient_declared, column_declared, columns_line_declared, right_sides_declared, ranges_declared, bound_declared, bound_value, bound_line_declared, data_declared, header_declared, declared}
 use Rattle.mpslp_reading.specs.Field.{value_of, name_tests, number_tests}
@@ -37,9 +37,9 @@ use Rattle.mpslp_mps.proofs.KnownLemmas.{good-first, good-rest}
 
 -- ---- lines
 
-sense-legal : (fields : Fields) → list_all is_legal (declared_of sense_declared (sense_line fields)) ≡ true
+sense-legal : (fields : Fields) → list_all is_legal (declared_of sense_declared (sense_shape fields)) ≡ true
 sense-legal fields =
-    each-declared is_legal sense_declared (sense_line fields) (λ word. each-declared is_legal (λ sense. declare_sense sense ∷ []) (sense_of word) (λ s. refl))
+    each-declared is_legal sense_declared (sense_shape fields) (λ word. each-declared is_legal (λ sense. declare_sense sense ∷ []) (sense_of word) (λ s. refl))
 
 row-type-legal : (earlier : Draft) (name : List ℕ) (type : RowType) → is_mps_name name ≡ true → list_all is_legal (row_of_type earlier name type) ≡ true
 row-type-legal earlier name Free h =
@@ -71,23 +71,23 @@ columns-legal : (context : Context) (earlier : Draft) (fields : Fields) → thos
     → list_all is_legal (columns_line_declared context fields) ≡ true
 columns-legal context earlier fields h = by (is_marker_line fields) h
   where
-    by : (b : Bool) → those_of (cond b (marker_tests context fields) (judged_by (column_tests context earlier) (column_line fields))) ≡ []
-        → list_all is_legal (cond b [] (declared_of (column_declared context) (column_line fields))) ≡ true
+    by : (b : Bool) → those_of (cond b (marker_tests context fields) (judged_by (column_tests context earlier) (column_shape fields))) ≡ []
+        → list_all is_legal (cond b [] (declared_of (column_declared context) (column_shape fields))) ≡ true
     by true k = refl
-    by false k = column-legal context earlier (column_line fields) k
+    by false k = column-legal context earlier (column_shape fields) k
 
-sides-legal : (earlier : Draft) (fields : Fields) → list_all is_legal (declared_of (right_sides_declared earlier) (vector_line fields)) ≡ true
+sides-legal : (earlier : Draft) (fields : Fields) → list_all is_legal (declared_of (right_sides_declared earlier) (vector_shape fields)) ≡ true
 sides-legal earlier fields =
-    each-declared is_legal (right_sides_declared earlier) (vector_line fields)
+    each-declared is_legal (right_sides_declared earlier) (vector_shape fields)
     (λ line. each-flat is_legal (λ (pair : Pair). right_side_declared earlier pair.row (value_of pair.literal)) line.pairs (λ pair. one pair (is_free_row earlier pair.row)))
   where
     one : (pair : Pair) (b : Bool) → list_all is_legal (cond b [] (declare_right_side pair.row (value_of pair.literal) ∷ [])) ≡ true
     one pair true = refl
     one pair false = rw (value-decimal pair.literal) refl
 
-ranges-legal : (fields : Fields) → list_all is_legal (declared_of ranges_declared (vector_line fields)) ≡ true
+ranges-legal : (fields : Fields) → list_all is_legal (declared_of ranges_declared (vector_shape fields)) ≡ true
 ranges-legal fields =
-    each-declared is_legal ranges_declared (vector_line fields)
+    each-declared is_legal ranges_declared (vector_shape fields)
     (λ line. each-mapped is_legal (λ (pair : Pair). declare_range pair.row (value_of pair.literal)) line.pairs (λ pair. value-decimal pair.literal))
 
 bound-legal : (type : BoundType) (c : List ℕ) (v : Limit) → is_given v ≡ true → list_all is_legal (bound_declared type c v) ≡ true
@@ -111,8 +111,8 @@ bound-value-given line = by line.literal
 bounds-legal : (fields : Fields) → list_all is_legal (bound_line_declared fields) ≡ true
 bounds-legal [] = refl
 bounds-legal (letters ∷ more) =
-    each-declared is_legal (λ type. declared_of (λ (line : BoundLine). bound_declared type line.column (bound_value line)) (bound_line type more)) (bound_type letters)
-    (λ type. each-declared is_legal (λ (line : BoundLine). bound_declared type line.column (bound_value line)) (bound_line type more)
+    each-declared is_legal (λ type. declared_of (λ (line : BoundLine). bound_declared type line.column (bound_value line)) (bound_shape type more)) (bound_type letters)
+    (λ type. each-declared is_legal (λ (line : BoundLine). bound_declared type line.column (bound_value line)) (bound_shape type more)
     (λ line. bound-legal type line.column (bound_value line) (bound-value-given line)))
 
 header-legal : (earlier : Draft) (more : Fields) (o : Option Section) → list_all is_legal (header_declared earlier more o) ≡ true
@@ -131,7 +131,7 @@ data-legal : (context : Context) (earlier : Draft) (fields : Fields) (o : Option
 data-legal context earlier fields None h = refl
 data-legal context earlier fields (Some Name) h = refl
 data-legal context earlier fields (Some ObjSense) h = sense-legal fields
-data-legal context earlier fields (Some Rows) h = row-legal earlier (row_line fields) h
+data-legal context earlier fields (Some Rows) h = row-legal earlier (row_shape fields) h
 data-legal context earlier fields (Some Columns) h = columns-legal context earlier fields h
 data-legal context earlier fields (Some Rhs) h = sides-legal earlier fields
 data-legal context earlier fields (Some Ranges) h = ranges-legal fields

@@ -18,8 +18,8 @@ use Rattle.mpslp_model.proofs.MadeDrafts.{adding_all-append}
 use Rattle.mpslp_model.proofs.SlotLemmas.{at-put, has-put, same_name}
 use Rattle.mpslp_mps.specs.Line.{Fields, Item, skipped, header, data_line}
 use Rattle.mpslp_mps.specs.Section.{section_named}
-use Rattle.mpslp_mps.specs.DataLine.{RowLine, Pair, ColumnLine, VectorLine, sense_line, row_line, row_type, column_line, is_marker_line, vector_line}
-use Rattle.mpslp_mps.specs.BoundLine.{BoundLine, bound_type, bound_line}
+use Rattle.mpslp_mps.specs.DataLine.{RowLine, Pair, ColumnLine, VectorLine, sense_shape, row_shape, row_type, column_shape, is_marker_line, vector_shape}
+use Rattle.mpslp_mps.specs.BoundLine.{BoundLine, bound_type, bound_shape}
 use Rattle.mpslp_mps.specs.Context.{Context}
 use Rattle.mpslp_mps.specs.LineMeaning.{declared_of, sense_declared, row_of_type, row_declared, coefficient_declared, column_declared, columns_line_declared, right_sides_declared, ranges_declared, bound_declared, bound_value, bound_line_declared, default_objective, data_declared, header_declared, declared}
 use Rattle.mpslp_reading.specs.Field.{value_of}
@@ -71,14 +71,14 @@ stays-kept : (ds : Declarations) (all : Draft) → list_all stays ds ≡ true �
 stays-kept [] all h sides = sides
 stays-kept (d ∷ ds) all h sides = stays-kept ds (adding all d) (second_so (stays d) (list_all stays ds) h) (stays-one all d (first_so (stays d) (list_all stays ds) h) sides)
 
-sense-stays : (fields : Fields) → list_all stays (declared_of sense_declared (sense_line fields)) ≡ true
+sense-stays : (fields : Fields) → list_all stays (declared_of sense_declared (sense_shape fields)) ≡ true
 sense-stays fields = sense-passes stays (λ s. refl) fields
 
 columns-stay : (context : Context) (fields : Fields) → list_all stays (columns_line_declared context fields) ≡ true
 columns-stay context fields =
-    elim (is_marker_line fields) as (λ b. list_all stays (cond b [] (declared_of (column_declared context) (column_line fields))) ≡ true) [
+    elim (is_marker_line fields) as (λ b. list_all stays (cond b [] (declared_of (column_declared context) (column_shape fields))) ≡ true) [
       | true ↦ refl
-      | false ↦ each-declared stays (column_declared context) (column_line fields) line
+      | false ↦ each-declared stays (column_declared context) (column_shape fields) line
     ]
   where
     marked : (column : List ℕ) (more : Declarations) (b : Bool) → list_all stays more ≡ true → list_all stays (when b (declare_marked column) ++ more) ≡ true
@@ -90,9 +90,9 @@ columns-stay context fields =
         marked parts.column (flat_map (coefficient_declared parts.column) parts.pairs) context.in_integer_part
         (each-flat stays (coefficient_declared parts.column) parts.pairs (λ pair. refl))
 
-ranges-stay : (fields : Fields) → list_all stays (declared_of ranges_declared (vector_line fields)) ≡ true
+ranges-stay : (fields : Fields) → list_all stays (declared_of ranges_declared (vector_shape fields)) ≡ true
 ranges-stay fields =
-    each-declared stays ranges_declared (vector_line fields)
+    each-declared stays ranges_declared (vector_shape fields)
     (λ line. each-mapped stays (λ (pair : Pair). declare_range pair.row (value_of pair.literal)) line.pairs (λ pair. refl))
 
 bound-stays : (type : BoundType) (column : List ℕ) (value : Limit) → list_all stays (bound_declared type column value) ≡ true
@@ -109,8 +109,8 @@ bound-stays bounds.IntegerUpper column value = refl
 bounds-stay : (fields : Fields) → list_all stays (bound_line_declared fields) ≡ true
 bounds-stay [] = refl
 bounds-stay (letters ∷ more) =
-    each-declared stays (λ type. declared_of (λ (line : BoundLine). bound_declared type line.column (bound_value line)) (bound_line type more)) (bound_type letters)
-    (λ type. each-declared stays (λ (line : BoundLine). bound_declared type line.column (bound_value line)) (bound_line type more) (λ line. bound-stays type line.column (bound_value line)))
+    each-declared stays (λ type. declared_of (λ (line : BoundLine). bound_declared type line.column (bound_value line)) (bound_shape type more)) (bound_type letters)
+    (λ type. each-declared stays (λ (line : BoundLine). bound_declared type line.column (bound_value line)) (bound_shape type more) (λ line. bound-stays type line.column (bound_value line)))
 
 -- ---- the objective and rows
 
@@ -170,9 +170,9 @@ objective-or_row all name told sides = by (is_none all.objective) refl told
     by true none k = objective-kept all name (none_so all.objective none) sides
     by false there k = row-kept all name (by_type Free) (new_row all name Free k) sides
 
-rows-kept : (all : Draft) (fields : Fields) → declared_fault all (declared_of (row_declared all) (row_line fields)) ≡ None → HasMpsSides all
-    → HasMpsSides (adding_all all (declared_of (row_declared all) (row_line fields)))
-rows-kept all fields told sides = lined (row_line fields) told
+rows-kept : (all : Draft) (fields : Fields) → declared_fault all (declared_of (row_declared all) (row_shape fields)) ≡ None → HasMpsSides all
+    → HasMpsSides (adding_all all (declared_of (row_declared all) (row_shape fields)))
+rows-kept all fields told sides = lined (row_shape fields) told
   where
     typed : (name : List ℕ) (o : Option RowType) → declared_fault all (declared_of (row_of_type all name) o) ≡ None → HasMpsSides (adding_all all (declared_of (row_of_type all name) o))
     typed name None k = sides
@@ -215,9 +215,9 @@ pairs-kept (pair ∷ pairs) earlier all free sides told =
     λ row. ap (λ (ds : Declarations). is_free_row (adding_all all ds) row) (sym same) ∙ same_free all pair.row value row ∙ free row in
     subst HasMpsSides (sym (adding_all-append here more all)) (pairs-kept pairs earlier (adding_all all here) after next none.1)
 
-right_sides-kept : (all : Draft) (fields : Fields) → declared_fault all (declared_of (right_sides_declared all) (vector_line fields)) ≡ None → HasMpsSides all
-    → HasMpsSides (adding_all all (declared_of (right_sides_declared all) (vector_line fields)))
-right_sides-kept all fields told sides = lined (vector_line fields) told
+right_sides-kept : (all : Draft) (fields : Fields) → declared_fault all (declared_of (right_sides_declared all) (vector_shape fields)) ≡ None → HasMpsSides all
+    → HasMpsSides (adding_all all (declared_of (right_sides_declared all) (vector_shape fields)))
+right_sides-kept all fields told sides = lined (vector_shape fields) told
   where
     lined : (o : Option VectorLine) → declared_fault all (declared_of (right_sides_declared all) o) ≡ None → HasMpsSides (adding_all all (declared_of (right_sides_declared all) o))
     lined None k = sides
@@ -244,7 +244,7 @@ data-kept context earlier fields (Some ObjSense) told sides = stays-kept (data_d
 data-kept context earlier fields (Some Rows) told sides = rows-kept earlier fields told sides
 data-kept context earlier fields (Some Columns) told sides = stays-kept (columns_line_declared context fields) earlier (columns-stay context fields) sides
 data-kept context earlier fields (Some Rhs) told sides = right_sides-kept earlier fields told sides
-data-kept context earlier fields (Some Ranges) told sides = stays-kept (declared_of ranges_declared (vector_line fields)) earlier (ranges-stay fields) sides
+data-kept context earlier fields (Some Ranges) told sides = stays-kept (declared_of ranges_declared (vector_shape fields)) earlier (ranges-stay fields) sides
 data-kept context earlier fields (Some Bounds) told sides = stays-kept (bound_line_declared fields) earlier (bounds-stay fields) sides
 data-kept context earlier fields (Some EndData) told sides = sides
 

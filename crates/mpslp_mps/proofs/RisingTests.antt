@@ -12,8 +12,8 @@ use Rattle.mpslp_model.specs.declared.faults.FaultKind.TheVariants as kinds
 use Rattle.mpslp_mps.specs.Line.{Fields, Item, skipped, header, data_line}
 use Rattle.mpslp_mps.specs.Section.{section_named}
 use Rattle.mpslp_mps.specs.LineFault.{item_tests}
-use Rattle.mpslp_mps.specs.DataLine.{sense_line, row_line, column_line, is_marker_line, marker_line, vector_line}
-use Rattle.mpslp_mps.specs.BoundLine.{BoundLine, bound_type, bound_line, is_semi_continuous_type}
+use Rattle.mpslp_mps.specs.DataLine.{sense_shape, row_shape, column_shape, is_marker_line, marker_shape, vector_shape}
+use Rattle.mpslp_mps.specs.BoundLine.{BoundLine, bound_type, bound_shape, is_semi_continuous_type}
 use Rattle.mpslp_mps.specs.Context.{Context}
 use Rattle.mpslp_reading.specs.Tests.{Tests, judged_by}
 use Rattle.mpslp_reading.specs.Field.{number_tests}
@@ -51,7 +51,7 @@ bound-rising context line = of line.literal
 typed-rising : (context : Context) (more : Fields) (o : Option BoundType)
     → AreRising (typed_bound_tests context more o)
 typed-rising context more None = refl
-typed-rising context more (Some type) = judged-rising (bound_tests context) (bound_line type more) (bound-rising context)
+typed-rising context more (Some type) = judged-rising (bound_tests context) (bound_shape type more) (bound-rising context)
 
 rising-if : (b : Bool) (x y : Tests) → AreRising x → AreRising y → AreRising (cond b x y)
 rising-if true x y h k = h
@@ -68,12 +68,12 @@ marker-rising b context (Some word) = refl
 data-behind : (context : Context) (earlier : Draft) (fields : Fields) (section : Option Section) → AreRising (data_tests context earlier fields section)
 data-behind context earlier fields None = refl
 data-behind context earlier fields (Some Name) = refl
-data-behind context earlier fields (Some ObjSense) = sense-rising (not context.wants_sense) (sense_line fields)
-data-behind context earlier fields (Some Rows) = judged-rising row_tests (row_line fields) (λ _. refl)
+data-behind context earlier fields (Some ObjSense) = sense-rising (not context.wants_sense) (sense_shape fields)
+data-behind context earlier fields (Some Rows) = judged-rising row_tests (row_shape fields) (λ _. refl)
 data-behind context earlier fields (Some Columns) =
-    rising-if (is_marker_line fields) (marker_tests context fields) (judged_by (column_tests context earlier) (column_line fields)) (marker-rising (is_sos_marker fields) context (marker_line fields)) (judged-rising (column_tests context earlier) (column_line fields) (λ _. refl))
-data-behind context earlier fields (Some Rhs) = judged-rising (vector_tests context.rhs_set) (vector_line fields) (λ _. refl)
-data-behind context earlier fields (Some Ranges) = judged-rising (vector_tests context.ranges_set) (vector_line fields) (λ _. refl)
+    rising-if (is_marker_line fields) (marker_tests context fields) (judged_by (column_tests context earlier) (column_shape fields)) (marker-rising (is_sos_marker fields) context (marker_shape fields)) (judged-rising (column_tests context earlier) (column_shape fields) (λ _. refl))
+data-behind context earlier fields (Some Rhs) = judged-rising (vector_tests context.rhs_set) (vector_shape fields) (λ _. refl)
+data-behind context earlier fields (Some Ranges) = judged-rising (vector_tests context.ranges_set) (vector_shape fields) (λ _. refl)
 data-behind context earlier [] (Some Bounds) = refl
 data-behind context earlier (letters ∷ more) (Some Bounds) = rising-if (is_semi_continuous_type letters) ((true, kinds.SemiContinuous) ∷ []) (typed_bound_tests context more (bound_type letters)) refl (typed-rising context more (bound_type letters))
 data-behind context earlier fields (Some EndData) = refl

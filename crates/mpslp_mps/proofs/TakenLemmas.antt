@@ -12,7 +12,7 @@ use Rattle.mpslp_mps.specs.DataLine.{Pair, VectorLine}
 use Rattle.mpslp_mps.specs.Context.{Context}
 use Rattle.mpslp_mps.specs.LineMeaning.{declared_of, right_sides_declared, ranges_declared, data_declared}
 use Rattle.mpslp_reading.specs.Field.{value_of, number_tests}
-use Rattle.mpslp_mps.specs.BoundLine.{BoundLine, bound_type, bound_line, is_semi_continuous_type}
+use Rattle.mpslp_mps.specs.BoundLine.{BoundLine, bound_type, bound_shape, is_semi_continuous_type}
 use Rattle.mpslp_reading.specs.Tests.{Tests, judged_by, first_held}
 use Rattle.mpslp_mps.specs.FieldFault.{set_tests}
 use Rattle.mpslp_mps.specs.DataFault.{vector_tests, bound_tests, typed_bound_tests, bound_line_tests, data_tests}
@@ -106,4 +106,4 @@ bounds-early context letters more =
 
     typed : (o : Option BoundType) → are_early (typed_bound_tests context more o)
     typed None = refl
-    typed (Some type) = lined (bound_line type more)
+    typed (Some type) = lined (bound_shape type more)

@@ -7,8 +7,8 @@ use Rattle.mpslp_model.specs.Meaning.{head_of}
 use Rattle.mpslp_model.specs.Refusal.{when}
 use Rattle.mpslp_mps.specs.Line.{Fields, Item, skipped, header, data_line}
 use Rattle.mpslp_mps.specs.Section.{section_begun, begins, is_section}
-use Rattle.mpslp_mps.specs.DataLine.{column_line, is_marker_line, marker_line, opening_word, vector_line}
-use Rattle.mpslp_mps.specs.BoundLine.{bound_type, bound_line}
+use Rattle.mpslp_mps.specs.DataLine.{column_shape, is_marker_line, marker_shape, opening_word, vector_shape}
+use Rattle.mpslp_mps.specs.BoundLine.{bound_type, bound_shape}
 use Rattle.mpslp_mps.specs.declared.sections.Section.{Section}
 use Rattle.mpslp_mps.specs.declared.sections.Section.TheVariants.{Name, ObjSense, Rows, Columns, Rhs, Ranges, Bounds, EndData}
 
@@ -89,10 +89,10 @@ wants_sense before = option_map_or is_bare_objsense (last_or None (filter is_rea
 
 -- the word of a line of COLUMNS, if it is a marker line; its column, if it is none
 abbrev pub marker_word : Fields → Option (List ℕ)
-marker_word fields = if is_marker_line fields then marker_line fields else None
+marker_word fields = if is_marker_line fields then marker_shape fields else None
 
 abbrev pub line_column : Fields → Option (List ℕ)
-line_column fields = if is_marker_line fields then None else option_map (λ line. line.column) (column_line fields)
+line_column fields = if is_marker_line fields then None else option_map (λ line. line.column) (column_shape fields)
 
 -- the nearest marker line before opens the integer part
 abbrev pub in_integer_part : List Item → Bool
@@ -104,11 +104,11 @@ last_column before = option_map_or line_column (last_or None (data_lines Columns
 
 -- the set name of a line
 abbrev pub vector_set : Fields → Option (List ℕ)
-vector_set fields = option_map (λ line. line.set) (vector_line fields)
+vector_set fields = option_map (λ line. line.set) (vector_shape fields)
 
 abbrev pub bound_set : Fields → Option (List ℕ)
 bound_set [] = None
-bound_set (letters ∷ more) = option_map_or (λ type. option_map (λ line. line.set) (bound_line type more)) (bound_type letters) None
+bound_set (letters ∷ more) = option_map_or (λ type. option_map (λ line. line.set) (bound_shape type more)) (bound_type letters) None
 
 -- the set name of a section's first line
 abbrev pub first_set : (Fields → Option (List ℕ)) → List Fields → Option (List ℕ)

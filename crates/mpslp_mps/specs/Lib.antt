@@ -18,5 +18,4 @@ pub mod Laws
 pub mod LineAnswer
 pub mod DeclareAnswer
 pub mod ColumnDeclared
-pub mod BoundSides
 pub mod ReadingAnswer

@@ -33,13 +33,13 @@ fn has_unknown_word(section: Section, more: &[&[u8]]) -> bool
 }
 
 /// The section of a header, or the fault of its line after those that say `context`.
-pub(crate) fn judge_header(
+pub(crate) fn check_header(
     context: &LineContext,
     keyword: &[u8],
     more: &[&[u8]],
 ) -> Result<Section, FaultKind>
-    ensures { let told = first_held (header_tests context.now keyword.now (map (λ field. field.now) more.now) (section_named keyword.now)) in
-        MatchResult result (λ section. (section_named keyword.now ≡ Some section) × (told ≡ None)) (λ kind. told ≡ Some kind) }
+    ensures { let first_fault = first_held (header_tests context.now keyword.now (map (λ field. field.now) more.now) (section_named keyword.now)) in
+        MatchResult result (λ section. (section_named keyword.now ≡ Some section) × (first_fault ≡ None)) (λ kind. first_fault ≡ Some kind) }
 {
     let Some(section) = section_named(keyword) else {
         return Err(unknown_section(keyword));

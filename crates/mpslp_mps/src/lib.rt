@@ -7,21 +7,21 @@
 #![tactic(auto)]
 
 mod bound_types;
+mod bounds;
+mod columns;
 mod context;
 mod data_lines;
 mod fields;
+mod header_lines;
 mod headers;
+mod items;
 pub mod laws;
 mod lines;
 mod reading;
 mod sections;
 mod shapes;
-mod taking;
-mod taking_bounds;
-mod taking_columns;
-mod taking_headers;
-mod taking_vectors;
 mod values;
+mod vectors;
 mod words;
 
 pub use bound_types::BoundType;

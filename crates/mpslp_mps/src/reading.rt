@@ -8,7 +8,7 @@ ghost use Rattle.mpslp_mps.specs.ReadingAnswer.{ReadsLines, ReadsText, ReadsMps}
 ghost use Rattle.mpslp_mps.specs.DeclareAnswer.{HasMpsSides};
 
 use crate::context::LineContext;
-use crate::taking::take_line;
+use crate::items::read_line;
 use bstr::ByteSlice;
 use mpslp_model::{Builder, Fault, FaultKind, Model, ReadFault};
 use mpslp_reading::read_fault;
@@ -27,7 +27,7 @@ fn read_lines(
 {
     let mut number = 1u64;
     for line in text.lines() {
-        match take_line(context, builder, alloc, line) {
+        match read_line(context, builder, alloc, line) {
             Ok(()) => {}
             Err(error) => return Err(read_fault(number, error)),
         }

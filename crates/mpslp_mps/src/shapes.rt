@@ -2,8 +2,8 @@
 
 ghost use Rattle.std.specs.Prelude.{◌≡◌, [], ◌∷◌, map};
 ghost use Rattle.std.specs.Option.{option_map};
-ghost use Rattle.mpslp_mps.specs.DataLine.{pair, sense_line, row_line, column_line, is_marker_line, third_field, marker_line, vector_line};
-ghost use Rattle.mpslp_mps.specs.BoundLine.{bound_line};
+ghost use Rattle.mpslp_mps.specs.DataLine.{pair, sense_shape, row_shape, column_shape, is_marker_line, third_field, marker_shape, vector_shape};
+ghost use Rattle.mpslp_mps.specs.BoundLine.{bound_shape};
 
 use crate::bound_types::BoundType;
 use crate::words::is_marker;
@@ -127,8 +127,8 @@ impl<'a> Model for BoundLine<'a> {
 }
 
 /// The word of a line of OBJSENSE.
-pub(crate) fn sense_line<'a>(fields: &[&'a [u8]]) -> Option<&'a [u8]>
-    ensures { option_map (λ word. word.now) result ≡ sense_line (map (λ field. field.now) fields.now) }
+pub(crate) fn sense_shape<'a>(fields: &[&'a [u8]]) -> Option<&'a [u8]>
+    ensures { option_map (λ word. word.now) result ≡ sense_shape (map (λ field. field.now) fields.now) }
 {
     match fields {
         [word] => Some(*word),
@@ -137,8 +137,8 @@ pub(crate) fn sense_line<'a>(fields: &[&'a [u8]]) -> Option<&'a [u8]>
 }
 
 /// The parts of a line of ROWS.
-pub(crate) fn row_line<'a>(fields: &[&'a [u8]]) -> Option<RowLine<'a>>
-    ensures { result ≡ row_line (map (λ field. field.now) fields.now) }
+pub(crate) fn row_shape<'a>(fields: &[&'a [u8]]) -> Option<RowLine<'a>>
+    ensures { result ≡ row_shape (map (λ field. field.now) fields.now) }
 {
     match fields {
         [letter, name] => Some(RowLine {
@@ -150,8 +150,8 @@ pub(crate) fn row_line<'a>(fields: &[&'a [u8]]) -> Option<RowLine<'a>>
 }
 
 /// The parts of a line of COLUMNS that is no marker line.
-pub(crate) fn column_line<'a>(fields: &[&'a [u8]]) -> Option<ColumnLine<'a>>
-    ensures { result ≡ column_line (map (λ field. field.now) fields.now) }
+pub(crate) fn column_shape<'a>(fields: &[&'a [u8]]) -> Option<ColumnLine<'a>>
+    ensures { result ≡ column_shape (map (λ field. field.now) fields.now) }
 {
     match fields {
         [column, row, literal] => Some(ColumnLine {
@@ -187,8 +187,8 @@ pub(crate) fn third_field<'a>(fields: &[&'a [u8]]) -> Option<&'a [u8]>
 }
 
 /// The word of a marker line.
-pub(crate) fn marker_line<'a>(fields: &[&'a [u8]]) -> Option<&'a [u8]>
-    ensures { option_map (λ word. word.now) result ≡ marker_line (map (λ field. field.now) fields.now) }
+pub(crate) fn marker_shape<'a>(fields: &[&'a [u8]]) -> Option<&'a [u8]>
+    ensures { option_map (λ word. word.now) result ≡ marker_shape (map (λ field. field.now) fields.now) }
 {
     match fields {
         [_, _, word] => Some(*word),
@@ -197,8 +197,8 @@ pub(crate) fn marker_line<'a>(fields: &[&'a [u8]]) -> Option<&'a [u8]>
 }
 
 /// The parts of a line of RHS or RANGES.
-pub(crate) fn vector_line<'a>(fields: &[&'a [u8]]) -> Option<VectorLine<'a>>
-    ensures { result ≡ vector_line (map (λ field. field.now) fields.now) }
+pub(crate) fn vector_shape<'a>(fields: &[&'a [u8]]) -> Option<VectorLine<'a>>
+    ensures { result ≡ vector_shape (map (λ field. field.now) fields.now) }
 {
     match fields {
         [row, literal] => Some(VectorLine {
@@ -222,8 +222,8 @@ pub(crate) fn vector_line<'a>(fields: &[&'a [u8]]) -> Option<VectorLine<'a>>
 }
 
 /// The parts of a line of BOUNDS after its type.
-pub(crate) fn bound_line<'a>(bound_type: BoundType, more: &[&'a [u8]]) -> Option<BoundLine<'a>>
-    ensures { result ≡ bound_line bound_type (map (λ field. field.now) more.now) }
+pub(crate) fn bound_shape<'a>(bound_type: BoundType, more: &[&'a [u8]]) -> Option<BoundLine<'a>>
+    ensures { result ≡ bound_shape bound_type (map (λ field. field.now) more.now) }
 {
     match (bound_type.takes_value(), more) {
         (true, [column, literal]) => Some(BoundLine {

@@ -37,11 +37,11 @@ loop-line-preserved c =
     let none = c.in-Ok.ensures.0 in
     let after = c.in-Ok.ensures.1 in
     let draft = c.in-Ok.ensures.2 in
-    let further : is_end line ≡ false = end-shown line context c.take_line.new.context c.is_at_end.result before.unended after c.is_at_end.ensures ∙ c.if-is_at_end.false in
+    let further : is_end line ≡ false = end-shown line context c.read_line.new.context c.is_at_end.result before.unended after c.is_at_end.ensures ∙ c.if-is_at_end.false in
     record {
       next = tt;
       finite = tt;
-      sides = sides-next line context earlier c.take_line.new.builder before.sides none draft;
+      sides = sides-next line context earlier c.read_line.new.builder before.sides none draft;
       unended = sym c.is_at_end.ensures ∙ c.if-is_at_end.false;
       counted = omega (arith, c.saturating_add-number.ensures);
       told = (λ i. fault_from (c.saturating_add-number.ensures i) (after i) (draft i) (lines_to_end more)) ∙ sym (told-next line more n context earlier further none)
@@ -61,7 +61,7 @@ returns-then-is_at_end c =
     let more = c.next.new.self in
     let cut = c.in-Some.ensures.steps in
     let last : is_end line ≡ true =
-    end-shown line context c.take_line.new.context c.is_at_end.result before.unended c.in-Ok.ensures.1 c.is_at_end.ensures ∙ c.if-is_at_end.true in (
+    end-shown line context c.read_line.new.context c.is_at_end.result before.unended c.in-Ok.ensures.1 c.is_at_end.ensures ∙ c.if-is_at_end.true in (
       sym before.told ∙ ap (λ (text : List (List ℕ)). fault_from n context earlier (lines_to_end text)) cut ∙ told-last line more n context earlier last c.in-Ok.ensures.0,
       c.in-Ok.ensures.2 ∙ sym (draft-last line more context earlier last) ∙ ap (λ (text : List (List ℕ)). draft_from context earlier (lines_to_end text)) (sym cut) ∙ before.draft,
       sym (ended-last line more last) ∙ ap (list_any is_end) (sym cut) ∙ before.ended,
