@@ -18,7 +18,7 @@ use Rattle.mpslp_model.proofs.LaterDrafts.{itself_named}
 use Rattle.mpslp_model.proofs.SlotLemmas.{has-put}
 use Rattle.mpslp_mps.specs.Line.{Fields, Item, skipped, header, data_line}
 use Rattle.mpslp_mps.specs.Section.{section_named, begins, is_section}
-use Rattle.mpslp_mps.specs.DataLine.{RowLine, Pair, ColumnLine, VectorLine, sense_shape, sense_of, row_shape, row_type, column_shape, is_marker_line, vector_shape}
+use Rattle.mpslp_mps.specs.DataLine.{RowLine, Pair, ValuesLine, sense_shape, sense_of, row_shape, row_type, column_shape, is_marker_line, vector_shape}
 use Rattle.mpslp_mps.specs.BoundLine.{BoundLine, bound_type, bound_shape}
 use Rattle.mpslp_mps.specs.Context.{Context, context_of, current_section, has_section}
 use Rattle.mpslp_mps.specs.LineMeaning.{declared_of, sense_declared, row_of_type, row_declared, coefficient_declared, column_declared, columns_line_declared, right_sides_declared, ranges_declared, bound_declared, bound_value, bound_line_declared, data_declared, header_declared, declared}
@@ -159,22 +159,22 @@ cells-known final before column (pair ∷ pairs) rows c h =
 column-there : (before : Draft) (column : List ℕ) → has_column (adding before (declare_column column)) column ≡ true
 column-there before column = has-put column column tt before.columns ∙ or_left (same_bytes column column) _ (itself_named column)
 
-column-line-known : (final before : Draft) (marked : Bool) (line : ColumnLine) → HasRowsOf final before
-    → AreKnown final (declare_column line.column ∷ (when marked (declare_marked line.column) ++ flat_map (coefficient_declared line.column) line.pairs))
-    → are_known_in_turn before (declare_column line.column ∷ (when marked (declare_marked line.column) ++ flat_map (coefficient_declared line.column) line.pairs)) ≡ true
+column-line-known : (final before : Draft) (marked : Bool) (line : ValuesLine) → HasRowsOf final before
+    → AreKnown final (declare_column line.name ∷ (when marked (declare_marked line.name) ++ flat_map (coefficient_declared line.name) line.pairs))
+    → are_known_in_turn before (declare_column line.name ∷ (when marked (declare_marked line.name) ++ flat_map (coefficient_declared line.name) line.pairs)) ≡ true
 column-line-known final before true line rows h =
-    let next = adding before (declare_column line.column) in
-    let c = column-there before line.column in
-    both_so (has_column next line.column) (are_known_in_turn (adding next (declare_marked line.column)) (flat_map (coefficient_declared line.column) line.pairs)) c
-    (cells-known final (adding next (declare_marked line.column)) line.column line.pairs rows c
-    (second_so (has_column final line.column) (list_all (is_known final) (flat_map (coefficient_declared line.column) line.pairs)) h))
-column-line-known final before false line rows h = cells-known final (adding before (declare_column line.column)) line.column line.pairs rows (column-there before line.column) h
+    let next = adding before (declare_column line.name) in
+    let c = column-there before line.name in
+    both_so (has_column next line.name) (are_known_in_turn (adding next (declare_marked line.name)) (flat_map (coefficient_declared line.name) line.pairs)) c
+    (cells-known final (adding next (declare_marked line.name)) line.name line.pairs rows c
+    (second_so (has_column final line.name) (list_all (is_known final) (flat_map (coefficient_declared line.name) line.pairs)) h))
+column-line-known final before false line rows h = cells-known final (adding before (declare_column line.name)) line.name line.pairs rows (column-there before line.name) h
 
 columns-known : (context : Context) (final before : Draft) (fields : Fields) → HasRowsOf final before
     → AreKnown final (columns_line_declared context fields) → are_known_in_turn before (columns_line_declared context fields) ≡ true
 columns-known context final before fields rows h = by (is_marker_line fields) h
   where
-    of : (o : Option ColumnLine) → AreKnown final (declared_of (column_declared context) o) → are_known_in_turn before (declared_of (column_declared context) o) ≡ true
+    of : (o : Option ValuesLine) → AreKnown final (declared_of (column_declared context) o) → are_known_in_turn before (declared_of (column_declared context) o) ≡ true
     of None k = refl
     of (Some line) k = column-line-known final before context.in_integer_part line rows k
 
@@ -196,11 +196,11 @@ sides-known earlier final before (pair ∷ pairs) rows h =
           (sides-known earlier final (adding before (declare_right_side pair.row v)) pairs rows (second_so (has_row final pair.row) (list_all (is_known final) more) k))
     ] h
 
-ranges-known : (final before : Draft) (pairs : List Pair) → HasRowsOf final before → AreKnown final (ranges_declared (record { set = []; pairs = pairs }))
-    → are_known_in_turn before (ranges_declared (record { set = []; pairs = pairs })) ≡ true
+ranges-known : (final before : Draft) (pairs : List Pair) → HasRowsOf final before → AreKnown final (ranges_declared (record { name = []; pairs = pairs }))
+    → are_known_in_turn before (ranges_declared (record { name = []; pairs = pairs })) ≡ true
 ranges-known final before [] rows h = refl
 ranges-known final before (pair ∷ pairs) rows h =
-    let more = ranges_declared (record { set = []; pairs = pairs }) in
+    let more = ranges_declared (record { name = []; pairs = pairs }) in
     let d : Declaration = declare_range pair.row (value_of pair.literal) in
     both_so (has_row before pair.row) (are_known_in_turn (adding before d) more)
     (rows pair.row (first_so (has_row final pair.row) (list_all (is_known final) more) h))
@@ -285,12 +285,12 @@ data-known context final earlier fields (Some Rows) rows columns h = rows-known 
 data-known context final earlier fields (Some Columns) rows columns h = columns-known context final earlier fields (rows refl) h
 data-known context final earlier fields (Some Rhs) rows columns h = of (vector_shape fields) h
   where
-    of : (o : Option VectorLine) → AreKnown final (declared_of (right_sides_declared earlier) o) → are_known_in_turn earlier (declared_of (right_sides_declared earlier) o) ≡ true
+    of : (o : Option ValuesLine) → AreKnown final (declared_of (right_sides_declared earlier) o) → are_known_in_turn earlier (declared_of (right_sides_declared earlier) o) ≡ true
     of None k = refl
     of (Some line) k = sides-known earlier final earlier line.pairs (rows refl) k
 data-known context final earlier fields (Some Ranges) rows columns h = of (vector_shape fields) h
   where
-    of : (o : Option VectorLine) → AreKnown final (declared_of ranges_declared o) → are_known_in_turn earlier (declared_of ranges_declared o) ≡ true
+    of : (o : Option ValuesLine) → AreKnown final (declared_of ranges_declared o) → are_known_in_turn earlier (declared_of ranges_declared o) ≡ true
     of None k = refl
     of (Some line) k = ranges-known final earlier line.pairs (rows refl) k
 data-known context final earlier fields (Some Bounds) rows columns h = bounds-known final earlier fields (columns refl) h

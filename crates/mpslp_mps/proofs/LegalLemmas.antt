@@ -18,7 +18,7 @@ use Rattle.mpslp_model.proofs.BoolLemmas.{both_so}
 use Rattle.mpslp_reading.proofs.FieldLemmas.{name-legal, value-decimal, limit-given}
 use Rattle.mpslp_mps.specs.Line.{Fields, Item, skipped, header, data_line}
 use Rattle.mpslp_mps.specs.Section.{section_named}
-use Rattle.mpslp_mps.specs.DataLine.{RowLine, Pair, ColumnLine, sense_shape, sense_of, row_shape, row_type, column_shape, is_marker_line, vector_shape}
+use Rattle.mpslp_mps.specs.DataLine.{RowLine, Pair, ValuesLine, sense_shape, sense_of, row_shape, row_type, column_shape, is_marker_line, vector_shape}
 use Rattle.mpslp_mps.specs.BoundLine.{BoundLine, bound_type, bound_shape}
 use Rattle.mpslp_mps.specs.Context.{Context, context_of, current_section}
 use Rattle.mpslp_mps.specs.LineMeaning.{declared_of, sense_declared, row_of_type, row_declared, coefficient_declared, column_declared, columns_line_declared, right_sides_declared, ranges_declared, bound_declared, bound_value, bound_line_declared, data_declared, header_declared, declared}
@@ -57,15 +57,15 @@ row-legal earlier (Some line) h =
 cells-legal : (column : List ℕ) (pairs : List Pair) → list_all is_legal (flat_map (coefficient_declared column) pairs) ≡ true
 cells-legal column pairs = each-flat is_legal (coefficient_declared column) pairs (λ pair. rw (value-decimal pair.literal) refl)
 
-column-legal : (context : Context) (earlier : Draft) (o : Option ColumnLine) → those_of (judged_by (column_tests context earlier) o) ≡ []
+column-legal : (context : Context) (earlier : Draft) (o : Option ValuesLine) → those_of (judged_by (column_tests context earlier) o) ≡ []
     → list_all is_legal (declared_of (column_declared context) o) ≡ true
 column-legal context earlier None h = refl
 column-legal context earlier (Some line) h =
-    both_so (is_mps_name line.column) _ (name-legal line.column (number_tests (literals_of line.pairs) ++ (is_split context earlier line.column, kinds.ColumnSplit) ∷ []) h) (marked context.in_integer_part)
+    both_so (is_mps_name line.name) _ (name-legal line.name (number_tests (literals_of line.pairs) ++ (is_split context earlier line.name, kinds.ColumnSplit) ∷ []) h) (marked context.in_integer_part)
   where
-    marked : (b : Bool) → list_all is_legal (cond b (declare_marked line.column ∷ []) [] ++ flat_map (coefficient_declared line.column) line.pairs) ≡ true
-    marked true = cells-legal line.column line.pairs
-    marked false = cells-legal line.column line.pairs
+    marked : (b : Bool) → list_all is_legal (cond b (declare_marked line.name ∷ []) [] ++ flat_map (coefficient_declared line.name) line.pairs) ≡ true
+    marked true = cells-legal line.name line.pairs
+    marked false = cells-legal line.name line.pairs
 
 columns-legal : (context : Context) (earlier : Draft) (fields : Fields) → those_of (columns_line_tests context earlier fields) ≡ []
     → list_all is_legal (columns_line_declared context fields) ≡ true

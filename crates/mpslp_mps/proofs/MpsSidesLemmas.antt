@@ -18,7 +18,7 @@ use Rattle.mpslp_model.proofs.MadeDrafts.{adding_all-append}
 use Rattle.mpslp_model.proofs.SlotLemmas.{at-put, has-put, same_name}
 use Rattle.mpslp_mps.specs.Line.{Fields, Item, skipped, header, data_line}
 use Rattle.mpslp_mps.specs.Section.{section_named}
-use Rattle.mpslp_mps.specs.DataLine.{RowLine, Pair, ColumnLine, VectorLine, sense_shape, row_shape, row_type, column_shape, is_marker_line, vector_shape}
+use Rattle.mpslp_mps.specs.DataLine.{RowLine, Pair, ValuesLine, sense_shape, row_shape, row_type, column_shape, is_marker_line, vector_shape}
 use Rattle.mpslp_mps.specs.BoundLine.{BoundLine, bound_type, bound_shape}
 use Rattle.mpslp_mps.specs.Context.{Context}
 use Rattle.mpslp_mps.specs.LineMeaning.{declared_of, sense_declared, row_of_type, row_declared, coefficient_declared, column_declared, columns_line_declared, right_sides_declared, ranges_declared, bound_declared, bound_value, bound_line_declared, default_objective, data_declared, header_declared, declared}
@@ -85,10 +85,10 @@ columns-stay context fields =
     marked column more true h = h
     marked column more false h = h
 
-    line : (parts : ColumnLine) → list_all stays (column_declared context parts) ≡ true
+    line : (parts : ValuesLine) → list_all stays (column_declared context parts) ≡ true
     line parts =
-        marked parts.column (flat_map (coefficient_declared parts.column) parts.pairs) context.in_integer_part
-        (each-flat stays (coefficient_declared parts.column) parts.pairs (λ pair. refl))
+        marked parts.name (flat_map (coefficient_declared parts.name) parts.pairs) context.in_integer_part
+        (each-flat stays (coefficient_declared parts.name) parts.pairs (λ pair. refl))
 
 ranges-stay : (fields : Fields) → list_all stays (declared_of ranges_declared (vector_shape fields)) ≡ true
 ranges-stay fields =
@@ -219,7 +219,7 @@ right_sides-kept : (all : Draft) (fields : Fields) → declared_fault all (decla
     → HasMpsSides (adding_all all (declared_of (right_sides_declared all) (vector_shape fields)))
 right_sides-kept all fields told sides = lined (vector_shape fields) told
   where
-    lined : (o : Option VectorLine) → declared_fault all (declared_of (right_sides_declared all) o) ≡ None → HasMpsSides (adding_all all (declared_of (right_sides_declared all) o))
+    lined : (o : Option ValuesLine) → declared_fault all (declared_of (right_sides_declared all) o) ≡ None → HasMpsSides (adding_all all (declared_of (right_sides_declared all) o))
     lined None k = sides
     lined (Some line) k = pairs-kept line.pairs all all (λ row. refl) sides k
 

@@ -15,7 +15,7 @@ use Rattle.mpslp_model.proofs.BoolLemmas.{both_so, or_left, or_right, nor}
 use Rattle.mpslp_reading.proofs.HeldLemmas.{first_test, later_tests}
 use Rattle.mpslp_mps.specs.Line.{Fields, Item, skipped, header, data_line}
 use Rattle.mpslp_mps.specs.Section.{section_named, section_begun, begins, is_section}
-use Rattle.mpslp_mps.specs.DataLine.{Pair, ColumnLine, sense_shape, sense_of, column_shape, is_marker_line, vector_shape}
+use Rattle.mpslp_mps.specs.DataLine.{Pair, ValuesLine, sense_shape, sense_of, column_shape, is_marker_line, vector_shape}
 use Rattle.mpslp_mps.specs.BoundLine.{BoundLine, bound_type, bound_shape}
 use Rattle.mpslp_mps.specs.Context.{Context, context_of, current_section, has_section, has_seen}
 use Rattle.mpslp_mps.specs.LineMeaning.{declared_of, sense_declared, coefficient_declared, column_declared, columns_line_declared, right_sides_declared, ranges_declared, bound_declared, bound_value, bound_line_declared}
@@ -313,12 +313,12 @@ columns-line-no-rows context fields = by (is_marker_line fields)
     cells : (column : List ℕ) (pairs : List Pair) → no_rows (flat_map (coefficient_declared column) pairs) ≡ true
     cells column pairs = each-flat (λ d. not (declares_row d)) (coefficient_declared column) pairs (λ pair. refl)
 
-    line-no-rows : (line : ColumnLine) → no_rows (column_declared context line) ≡ true
+    line-no-rows : (line : ValuesLine) → no_rows (column_declared context line) ≡ true
     line-no-rows line = marked context.in_integer_part
       where
-        marked : (b : Bool) → no_rows (cond b (declare_marked line.column ∷ []) [] ++ flat_map (coefficient_declared line.column) line.pairs) ≡ true
-        marked true = cells line.column line.pairs
-        marked false = cells line.column line.pairs
+        marked : (b : Bool) → no_rows (cond b (declare_marked line.name ∷ []) [] ++ flat_map (coefficient_declared line.name) line.pairs) ≡ true
+        marked true = cells line.name line.pairs
+        marked false = cells line.name line.pairs
 
     by : (b : Bool) → no_rows (cond b [] (declared_of (column_declared context) (column_shape fields))) ≡ true
     by true = refl

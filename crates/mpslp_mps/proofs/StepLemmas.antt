@@ -6,11 +6,11 @@ use Rattle.mpslp_decimal.specs.Decimal.{Number}
 use Rattle.mpslp_model.specs.Name.{same_bytes}
 use Rattle.mpslp_mps.specs.Line.{Fields, skipped, header, data_line}
 use Rattle.mpslp_mps.specs.Section.{is_section, section_named}
-use Rattle.mpslp_mps.specs.DataLine.{ColumnLine, VectorLine, column_shape, is_marker_line, marker_shape, opening_word, vector_shape}
+use Rattle.mpslp_mps.specs.DataLine.{ValuesLine, column_shape, is_marker_line, marker_shape, opening_word, vector_shape}
 use Rattle.mpslp_mps.specs.BoundLine.{BoundLine, bound_type, bound_shape}
 use Rattle.mpslp_mps.specs.Context.{Seen, Context, is_bare_objsense, line_column, vector_set, bound_set}
 use Rattle.mpslp_mps.specs.NextContext.{next_part, next_set, next_context}
-use Rattle.mpslp_mps.specs.LineValues.{column_values, set_values}
+use Rattle.mpslp_mps.specs.LineValues.{named_values}
 use Rattle.mpslp_mps.specs.ContextStep.{seen_with, is_bare_header, after_header, after_data, after_marker, after_column, after_right_side, after_range, after_bound}
 use Rattle.mpslp_mps.specs.declared.bound_types.BoundType.{BoundType}
 use Rattle.mpslp_mps.specs.declared.sections.Section.{Section}
@@ -115,7 +115,7 @@ pub step-row : (c : Context) (fields : Fields) → c.section ≡ Some Rows → n
 step-row c fields h = ap (under c fields) h ∙ ap (λ (seen : Seen). record c { seen = seen; wants_sense = false }) (seen-same c.seen)
 
 pub step-column : (c : Context) (fields : Fields) (column : List ℕ) (values : List (List ℕ × Number)) → c.section ≡ Some Columns → is_marker_line fields ≡ false
-    → option_map column_values (column_shape fields) ≡ Some (column, values) → next_context c (data_line fields) ≡ after_column c column
+    → option_map named_values (column_shape fields) ≡ Some (column, values) → next_context c (data_line fields) ≡ after_column c column
 step-column c fields column values h plain k =
     ap (under c fields) h
     ∙ (λ i. record c { seen = seen-same c.seen i; wants_sense = false; in_integer_part = part i; last_column = last i })
@@ -123,12 +123,12 @@ step-column c fields column values h plain k =
     part : next_part fields c.in_integer_part ≡ c.in_integer_part
     part = ap (λ (b : Bool). option_map_or (same_bytes opening_word) (cond b (marker_shape fields) None) c.in_integer_part) plain
 
-    of : (o : Option ColumnLine) → option_map column_values o ≡ Some (column, values) → option_map (λ line. line.column) o ≡ Some column
+    of : (o : Option ValuesLine) → option_map named_values o ≡ Some (column, values) → option_map (λ line. line.name) o ≡ Some column
     of None e = cc
     of (Some line) e = ap (option_map (λ (p : List ℕ × List (List ℕ × Number)). p.0)) e
 
     last : line_column fields ≡ Some column
-    last = ap (λ (b : Bool). cond b None (option_map (λ line. line.column) (column_shape fields))) plain ∙ of (column_shape fields) k
+    last = ap (λ (b : Bool). cond b None (option_map (λ line. line.name) (column_shape fields))) plain ∙ of (column_shape fields) k
 
 pub step-marker : (c : Context) (fields : Fields) (opens : Bool) → c.section ≡ Some Columns → is_marker_line fields ≡ true
     → option_map (same_bytes opening_word) (marker_shape fields) ≡ Some opens → next_context c (data_line fields) ≡ after_marker c opens
@@ -144,23 +144,23 @@ step-marker c fields opens h marked k =
     part = ap (λ (b : Bool). option_map_or (same_bytes opening_word) (cond b (marker_shape fields) None) c.in_integer_part) marked ∙ of (marker_shape fields) k
 
     last : line_column fields ≡ None
-    last = ap (λ (b : Bool). cond b None (option_map (λ line. line.column) (column_shape fields))) marked
+    last = ap (λ (b : Bool). cond b None (option_map (λ line. line.name) (column_shape fields))) marked
 
 -- the set name of a line of RHS or RANGES
-set-of : (fields : Fields) (set : List ℕ) (values : List (List ℕ × Number)) → option_map set_values (vector_shape fields) ≡ Some (set, values) → vector_set fields ≡ Some set
+set-of : (fields : Fields) (set : List ℕ) (values : List (List ℕ × Number)) → option_map named_values (vector_shape fields) ≡ Some (set, values) → vector_set fields ≡ Some set
 set-of fields set values k = of (vector_shape fields) k
   where
-    of : (o : Option VectorLine) → option_map set_values o ≡ Some (set, values) → option_map (λ line. line.set) o ≡ Some set
+    of : (o : Option ValuesLine) → option_map named_values o ≡ Some (set, values) → option_map (λ line. line.name) o ≡ Some set
     of None e = cc
     of (Some line) e = ap (option_map (λ (p : List ℕ × List (List ℕ × Number)). p.0)) e
 
 pub step-right_side : (c : Context) (fields : Fields) (set : List ℕ) (values : List (List ℕ × Number)) → c.section ≡ Some Rhs
-    → option_map set_values (vector_shape fields) ≡ Some (set, values) → next_context c (data_line fields) ≡ after_right_side c set
+    → option_map named_values (vector_shape fields) ≡ Some (set, values) → next_context c (data_line fields) ≡ after_right_side c set
 step-right_side c fields set values h k =
     ap (under c fields) h ∙ (λ i. record c { seen = seen-same c.seen i; wants_sense = false; rhs_set = option_or c.rhs_set (set-of fields set values k i) })
 
 pub step-range : (c : Context) (fields : Fields) (set : List ℕ) (values : List (List ℕ × Number)) → c.section ≡ Some Ranges
-    → option_map set_values (vector_shape fields) ≡ Some (set, values) → next_context c (data_line fields) ≡ after_range c set
+    → option_map named_values (vector_shape fields) ≡ Some (set, values) → next_context c (data_line fields) ≡ after_range c set
 step-range c fields set values h k =
     ap (under c fields) h ∙ (λ i. record c { seen = seen-same c.seen i; wants_sense = false; ranges_set = option_or c.ranges_set (set-of fields set values k i) })
 

@@ -8,7 +8,7 @@ use Rattle.mpslp_model.specs.Declaration.{Declarations, Draft, declare_range, ri
 use Rattle.mpslp_model.specs.declared.faults.FaultKind.{FaultKind}
 use Rattle.mpslp_model.specs.declared.faults.FaultKind.TheVariants as kinds
 use Rattle.mpslp_mps.specs.Line.{Fields, data_line}
-use Rattle.mpslp_mps.specs.DataLine.{Pair, VectorLine}
+use Rattle.mpslp_mps.specs.DataLine.{Pair, ValuesLine}
 use Rattle.mpslp_mps.specs.Context.{Context}
 use Rattle.mpslp_mps.specs.LineMeaning.{declared_of, right_sides_declared, ranges_declared, data_declared}
 use Rattle.mpslp_reading.specs.Field.{value_of, number_tests}
@@ -17,7 +17,7 @@ use Rattle.mpslp_reading.specs.Tests.{Tests, judged_by, first_held}
 use Rattle.mpslp_mps.specs.FieldFault.{set_tests}
 use Rattle.mpslp_mps.specs.DataFault.{vector_tests, bound_tests, typed_bound_tests, bound_line_tests, data_tests}
 use Rattle.mpslp_mps.specs.LineAnswer.{item_fault}
-use Rattle.mpslp_mps.specs.LineValues.{row_value, set_values}
+use Rattle.mpslp_mps.specs.LineValues.{row_value, named_values}
 use Rattle.mpslp_reading.specs.Declaring.{declared_fault}
 use Rattle.mpslp_mps.specs.DeclareAnswer.{right_sides_of, ranges_of}
 use Rattle.mpslp_mps.specs.declared.bound_types.BoundType.{BoundType}
@@ -57,7 +57,7 @@ declared-is context earlier fields section declarations h is = ap (data_declared
 
 -- ---- lines of RHS and RANGES
 
-pub vector-early : (first : Option (List ℕ)) (o : Option VectorLine) → are_early (judged_by (vector_tests first) o)
+pub vector-early : (first : Option (List ℕ)) (o : Option ValuesLine) → are_early (judged_by (vector_tests first) o)
 vector-early first None = refl
 vector-early first (Some line) = refl
 
@@ -65,7 +65,7 @@ sides-pairs : (earlier : Draft) (pairs : List Pair) → flat_map (λ (pair : Pai
 sides-pairs earlier [] = refl
 sides-pairs earlier (pair ∷ pairs) = ap (λ (more : Declarations). right_side_declared earlier pair.row (value_of pair.literal) ++ more) (sides-pairs earlier pairs)
 
-pub right_sides-are : (earlier : Draft) (o : Option VectorLine) (set : List ℕ) (values : List (List ℕ × Number)) → option_map set_values o ≡ Some (set, values)
+pub right_sides-are : (earlier : Draft) (o : Option ValuesLine) (set : List ℕ) (values : List (List ℕ × Number)) → option_map named_values o ≡ Some (set, values)
     → declared_of (right_sides_declared earlier) o ≡ right_sides_of earlier values
 right_sides-are earlier None set values h = cc
 right_sides-are earlier (Some line) set values h =
@@ -76,7 +76,7 @@ ranges-pairs : (pairs : List Pair) → map (λ (pair : Pair). declare_range pair
 ranges-pairs [] = refl
 ranges-pairs (pair ∷ pairs) = ap (λ (more : Declarations). declare_range pair.row (value_of pair.literal) ∷ more) (ranges-pairs pairs)
 
-pub ranges-are : (o : Option VectorLine) (set : List ℕ) (values : List (List ℕ × Number)) → option_map set_values o ≡ Some (set, values)
+pub ranges-are : (o : Option ValuesLine) (set : List ℕ) (values : List (List ℕ × Number)) → option_map named_values o ≡ Some (set, values)
     → declared_of ranges_declared o ≡ ranges_of values
 ranges-are None set values h = cc
 ranges-are (Some line) set values h =

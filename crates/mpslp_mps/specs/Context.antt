@@ -92,7 +92,7 @@ abbrev pub marker_word : Fields → Option (List ℕ)
 marker_word fields = if is_marker_line fields then marker_shape fields else None
 
 abbrev pub line_column : Fields → Option (List ℕ)
-line_column fields = if is_marker_line fields then None else option_map (λ line. line.column) (column_shape fields)
+line_column fields = if is_marker_line fields then None else option_map (λ line. line.name) (column_shape fields)
 
 -- the nearest marker line before opens the integer part
 abbrev pub in_integer_part : List Item → Bool
@@ -104,7 +104,7 @@ last_column before = option_map_or line_column (last_or None (data_lines Columns
 
 -- the set name of a line
 abbrev pub vector_set : Fields → Option (List ℕ)
-vector_set fields = option_map (λ line. line.set) (vector_shape fields)
+vector_set fields = option_map (λ line. line.name) (vector_shape fields)
 
 abbrev pub bound_set : Fields → Option (List ℕ)
 bound_set [] = None

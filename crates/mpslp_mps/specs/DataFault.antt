@@ -5,7 +5,7 @@ use Rattle.mpslp_model.specs.Name.{same_bytes, is_one_of}
 use Rattle.mpslp_model.specs.Declaration.{Draft, has_column}
 use Rattle.mpslp_model.specs.declared.faults.FaultKind.TheVariants as kinds
 use Rattle.mpslp_mps.specs.Line.{Fields}
-use Rattle.mpslp_mps.specs.DataLine.{RowLine, ColumnLine, VectorLine, sense_shape, row_shape, row_type, column_shape, is_marker_line, third_field, marker_shape, opening_word, closing_word, vector_shape}
+use Rattle.mpslp_mps.specs.DataLine.{RowLine, ValuesLine, sense_shape, row_shape, row_type, column_shape, is_marker_line, third_field, marker_shape, opening_word, closing_word, vector_shape}
 use Rattle.mpslp_mps.specs.BoundLine.{BoundLine, bound_type, is_semi_continuous_type, bound_shape}
 use Rattle.mpslp_mps.specs.Context.{Context}
 use Rattle.mpslp_reading.specs.Tests.{Tests, judged_by}
@@ -34,16 +34,16 @@ marker_tests context fields = (is_sos_marker fields, kinds.Sos) ∷ judged_by (m
 abbrev pub is_split : Context → Draft → List ℕ → Bool
 is_split context earlier column = has_column earlier column && not (option_map_or (same_bytes column) context.last_column false)
 
-abbrev pub column_tests : Context → Draft → ColumnLine → Tests
+abbrev pub column_tests : Context → Draft → ValuesLine → Tests
 column_tests context earlier line =
-    name_tests line.column ++ (number_tests (literals_of line.pairs) ++ (is_split context earlier line.column, kinds.ColumnSplit) ∷ [])
+    name_tests line.name ++ (number_tests (literals_of line.pairs) ++ (is_split context earlier line.name, kinds.ColumnSplit) ∷ [])
 
 abbrev pub columns_line_tests : Context → Draft → Fields → Tests
 columns_line_tests context earlier fields =
     if is_marker_line fields then marker_tests context fields else judged_by (column_tests context earlier) (column_shape fields)
 
-abbrev pub vector_tests : Option (List ℕ) → VectorLine → Tests
-vector_tests first line = number_tests (literals_of line.pairs) ++ set_tests first line.set
+abbrev pub vector_tests : Option (List ℕ) → ValuesLine → Tests
+vector_tests first line = number_tests (literals_of line.pairs) ++ set_tests first line.name
 
 abbrev pub bound_tests : Context → BoundLine → Tests
 bound_tests context line = option_map_or (λ literal. number_tests (literal ∷ [])) line.literal [] ++ set_tests context.bounds_set line.set

@@ -52,13 +52,14 @@ pub record Pair : Type 0 where
 abbrev pub pair : List ℕ → List ℕ → Pair
 pair row literal = record { row = row; literal = literal }
 
-pub record ColumnLine : Type 0 where
-  pub column : List ℕ
+-- the column, or the name of the set, and the pairs
+pub record ValuesLine : Type 0 where
+  pub name : List ℕ
   pub pairs : List Pair
 
-abbrev pub column_shape : Fields → Option ColumnLine
-column_shape (column ∷ row ∷ value ∷ []) = Some (record { column = column; pairs = pair row value ∷ [] })
-column_shape (column ∷ row ∷ value ∷ other ∷ second ∷ []) = Some (record { column = column; pairs = pair row value ∷ pair other second ∷ [] })
+abbrev pub column_shape : Fields → Option ValuesLine
+column_shape (column ∷ row ∷ value ∷ []) = Some (record { name = column; pairs = pair row value ∷ [] })
+column_shape (column ∷ row ∷ value ∷ other ∷ second ∷ []) = Some (record { name = column; pairs = pair row value ∷ pair other second ∷ [] })
 column_shape _ = None
 
 -- the second field is `'MARKER'`
@@ -84,13 +85,9 @@ closing_word = codes "'INTEND'"
 -- ---- RHS and RANGES: one or two pairs of row and value, after a set name or without one
 
 -- a set name that is absent counts as the empty name
-pub record VectorLine : Type 0 where
-  pub set : List ℕ
-  pub pairs : List Pair
-
-abbrev pub vector_shape : Fields → Option VectorLine
-vector_shape (row ∷ value ∷ []) = Some (record { set = []; pairs = pair row value ∷ [] })
-vector_shape (set ∷ row ∷ value ∷ []) = Some (record { set = set; pairs = pair row value ∷ [] })
-vector_shape (row ∷ value ∷ other ∷ second ∷ []) = Some (record { set = []; pairs = pair row value ∷ pair other second ∷ [] })
-vector_shape (set ∷ row ∷ value ∷ other ∷ second ∷ []) = Some (record { set = set; pairs = pair row value ∷ pair other second ∷ [] })
+abbrev pub vector_shape : Fields → Option ValuesLine
+vector_shape (row ∷ value ∷ []) = Some (record { name = []; pairs = pair row value ∷ [] })
+vector_shape (set ∷ row ∷ value ∷ []) = Some (record { name = set; pairs = pair row value ∷ [] })
+vector_shape (row ∷ value ∷ other ∷ second ∷ []) = Some (record { name = []; pairs = pair row value ∷ pair other second ∷ [] })
+vector_shape (set ∷ row ∷ value ∷ other ∷ second ∷ []) = Some (record { name = set; pairs = pair row value ∷ pair other second ∷ [] })
 vector_shape _ = None

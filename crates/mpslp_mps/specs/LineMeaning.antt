@@ -13,7 +13,7 @@ use Rattle.mpslp_model.specs.declared.kinds.Limit.TheVariants.{MinusInf, PlusInf
 use Rattle.mpslp_reading.specs.Field.{value_of}
 use Rattle.mpslp_mps.specs.Line.{Fields, Item, skipped, header, data_line}
 use Rattle.mpslp_mps.specs.Section.{section_named}
-use Rattle.mpslp_mps.specs.DataLine.{RowLine, Pair, ColumnLine, VectorLine, sense_shape, sense_of, row_shape, row_type, column_shape, is_marker_line, vector_shape}
+use Rattle.mpslp_mps.specs.DataLine.{RowLine, Pair, ValuesLine, sense_shape, sense_of, row_shape, row_type, column_shape, is_marker_line, vector_shape}
 use Rattle.mpslp_mps.specs.BoundLine.{BoundLine, bound_type, bound_shape}
 use Rattle.mpslp_mps.specs.Context.{Context}
 use Rattle.mpslp_mps.specs.declared.sections.Section.{Section}
@@ -50,10 +50,10 @@ abbrev pub coefficient_declared : List ℕ → Pair → Declarations
 coefficient_declared column pair = declare_coefficient (record { row = pair.row; column = column }) (value_of pair.literal) ∷ []
 
 -- a column whose lines stand in an integer part is marked
-abbrev pub column_declared : Context → ColumnLine → Declarations
+abbrev pub column_declared : Context → ValuesLine → Declarations
 column_declared context line =
-    declare_column line.column
-    ∷ (when context.in_integer_part (declare_marked line.column) ++ flat_map (coefficient_declared line.column) line.pairs)
+    declare_column line.name
+    ∷ (when context.in_integer_part (declare_marked line.name) ++ flat_map (coefficient_declared line.name) line.pairs)
 
 -- a marker line declares nothing
 abbrev pub columns_line_declared : Context → Fields → Declarations
@@ -62,10 +62,10 @@ columns_line_declared context fields = if is_marker_line fields then [] else dec
 -- ---- RHS and RANGES
 
 -- of the objective, the negative of its constant; of a further row of type N, nothing
-abbrev pub right_sides_declared : Draft → VectorLine → Declarations
+abbrev pub right_sides_declared : Draft → ValuesLine → Declarations
 right_sides_declared earlier line = flat_map (λ pair. right_side_declared earlier pair.row (value_of pair.literal)) line.pairs
 
-abbrev pub ranges_declared : VectorLine → Declarations
+abbrev pub ranges_declared : ValuesLine → Declarations
 ranges_declared line = map (λ pair. declare_range pair.row (value_of pair.literal)) line.pairs
 
 -- ---- BOUNDS

@@ -2,16 +2,12 @@
 use Rattle.std.specs.Prelude.{ℕ, map, List}
 use Rattle.mpslp_decimal.specs.Decimal.{Number}
 use Rattle.mpslp_reading.specs.Field.{value_of}
-use Rattle.mpslp_mps.specs.DataLine.{Pair, ColumnLine, VectorLine}
+use Rattle.mpslp_mps.specs.DataLine.{Pair, ValuesLine}
 
 -- the row of a pair, and its value
 abbrev pub row_value : Pair → List ℕ × Number
 row_value pair = (pair.row, value_of pair.literal)
 
--- the column of a line, its rows and their values
-abbrev pub column_values : ColumnLine → List ℕ × List (List ℕ × Number)
-column_values line = (line.column, map row_value line.pairs)
-
--- the set name of a line, its rows and their values
-abbrev pub set_values : VectorLine → List ℕ × List (List ℕ × Number)
-set_values line = (line.set, map row_value line.pairs)
+-- the name of a line, its rows and their values
+abbrev pub named_values : ValuesLine → List ℕ × List (List ℕ × Number)
+named_values line = (line.name, map row_value line.pairs)

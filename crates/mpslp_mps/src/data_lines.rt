@@ -13,14 +13,14 @@ ghost use Rattle.mpslp_mps.specs.FieldFault.{literals_of, set_tests};
 ghost use Rattle.mpslp_mps.specs.HeaderFault.{word_tests};
 ghost use Rattle.mpslp_mps.specs.DataFault.{row_tests, marker_tests, vector_tests, bound_tests, bound_line_tests};
 ghost use Rattle.mpslp_model.specs.declared.faults.FaultKind.{FaultKind};
-ghost use Rattle.mpslp_mps.specs.LineValues.{column_values, set_values};
+ghost use Rattle.mpslp_mps.specs.LineValues.{named_values};
 ghost use Rattle.mpslp_reading.specs.LineAnswer.{IsErrorOf};
 
 use crate::bound_types::BoundType;
 use crate::context::LineContext;
 use crate::shapes::{
-    BoundLine, ColumnLine, VectorLine, bound_shape, column_shape, marker_shape, row_shape,
-    sense_shape, third_field, vector_shape,
+    BoundLine, ValuesLine, bound_shape, column_shape, marker_shape, row_shape, sense_shape,
+    third_field, vector_shape,
 };
 use crate::values::{RowValues, is_second_set, values_of};
 use crate::words::{
@@ -93,12 +93,12 @@ pub(crate) fn check_vector<'a>(
 ) -> Result<(&'a [u8], RowValues<'a>), FaultKind>
     ensures { let parts = vector_shape (map (λ field. field.now) fields.now) in
         let first_fault = first_held (judged_by (vector_tests (option_map (λ name. name.now) first.entry)) parts) in
-        MatchResult result (λ line. (first_fault ≡ None) × (option_map set_values parts ≡ Some (line.0.now, line.1))) (λ kind. first_fault ≡ Some kind) }
+        MatchResult result (λ line. (first_fault ≡ None) × (option_map named_values parts ≡ Some (line.0.now, line.1))) (λ kind. first_fault ≡ Some kind) }
 {
     let Some(line) = vector_shape(fields) else {
         return Err(FaultKind::FieldCount);
     };
-    let VectorLine { set, pairs } = line;
+    let ValuesLine { name: set, pairs } = line;
     let values = values_of(pairs)?;
     if is_second_set(first, set) {
         return Err(FaultKind::SecondSet);
@@ -110,13 +110,16 @@ pub(crate) fn check_vector<'a>(
 /// together.
 pub(crate) fn check_column<'a>(fields: &[&'a [u8]]) -> Result<(&'a [u8], RowValues<'a>), LineError>
     ensures { let parts = column_shape (map (λ field. field.now) fields.now) in
-        let first_fault = first_held (judged_by (λ line. name_tests line.column ++ number_tests (literals_of line.pairs)) parts) in
-        MatchResult result (λ line. (first_fault ≡ None) × (option_map column_values parts ≡ Some (line.0.now, line.1))) (IsErrorOf first_fault) }
+        let first_fault = first_held (judged_by (λ line. name_tests line.name ++ number_tests (literals_of line.pairs)) parts) in
+        MatchResult result (λ line. (first_fault ≡ None) × (option_map named_values parts ≡ Some (line.0.now, line.1))) (IsErrorOf first_fault) }
 {
     let Some(line) = column_shape(fields) else {
         return Err(LineError::Fault(FaultKind::FieldCount));
     };
-    let ColumnLine { column, pairs } = line;
+    let ValuesLine {
+        name: column,
+        pairs,
+    } = line;
     Name::check(column)?;
     let values = values_of(pairs)?;
     Ok((column, values))
