@@ -1,4 +1,4 @@
-//! Lines of COLUMNS, taken one by one.
+//! Lines of COLUMNS.
 
 ghost use Rattle.std.specs.Prelude.{◌≡◌, [], ◌∷◌, map, not, true, false, Some, None, MatchResult};
 ghost use Rattle.std.specs.List.{list_all, flat_map};

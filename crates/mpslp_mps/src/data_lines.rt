@@ -1,4 +1,4 @@
-//! Data lines: what is told of their form, and what they say.
+//! Data lines: the faults of their form, and what they say.
 
 ghost use Rattle.std.specs.Prelude.{◌≡◌, [], ◌∷◌, ◌++◌, map, not, Some, None, MatchResult};
 ghost use Rattle.std.specs.Option.{option_map, option_map_or};

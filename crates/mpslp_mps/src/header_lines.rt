@@ -1,4 +1,4 @@
-//! Headers, taken one by one.
+//! Headers, read one by one.
 
 ghost use Rattle.std.specs.Prelude.{◌≡◌, [], ◌∷◌, map, Some};
 ghost use Rattle.std.specs.Option.{option_map_or};

@@ -1,4 +1,4 @@
-//! Lines, taken one by one: each is judged, and what it declares is declared to the builder.
+//! Lines, read one by one: each is checked, and what it declares is declared to the builder.
 
 ghost use Rattle.std.specs.Prelude.{◌≡◌, Some, map};
 ghost use Rattle.mpslp_mps.specs.declared.sections.Section.{Section};

@@ -63,7 +63,7 @@ fn value_of_one<'a>(pair: Pair<'a>) -> Result<RowValues<'a>, FaultKind>
     }
 }
 
-/// The values of two pairs, or the fault of both that is told.
+/// The values of two pairs, or the fault of both that comes first.
 fn values_of_both<'a>(pair: Pair<'a>, other: Pair<'a>) -> Result<RowValues<'a>, FaultKind>
     ensures { let first_fault = first_held (number_tests (pair.entry.literal ∷ other.entry.literal ∷ [])) in MatchResult result (λ values. (first_fault ≡ None) × (values ≡ row_value pair.entry ∷ row_value other.entry ∷ [])) (λ kind. first_fault ≡ Some kind) }
 {

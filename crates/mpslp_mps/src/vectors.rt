@@ -33,7 +33,7 @@ fn declare_right_side<'a>(builder: &mut Builder, side: RowValue<'a>) -> Result<(
     Ok(())
 }
 
-/// Declares the right sides of two rows. A row that is not declared is told before a right side that is declared already.
+/// Declares the right sides of two rows. A row that is not declared comes before a right side that is declared already.
 fn declare_both_right_sides<'a>(
     builder: &mut Builder,
     first: RowValue<'a>,
@@ -101,7 +101,7 @@ fn check_range(builder: &Builder, row: &RowValue) -> Result<(), LineError>
     Ok(())
 }
 
-/// Why a line is not read whose first range has a fault of this kind: the fault of the second one may be told before it.
+/// Why a line is not read whose first range has a fault of this kind: the fault of the second one may come before it.
 fn error_of_both(builder: &Builder, kind: FaultKind, second: &RowValue) -> LineError
     ensures { IsErrorOf (least_kind (kind ∷ declaring_faults builder.now (declare_range second.now.0 second.now.1 ∷ []))) result }
 {

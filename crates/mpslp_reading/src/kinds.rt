@@ -5,7 +5,7 @@ ghost use Rattle.mpslp_model.specs.FaultOrder.{kind_rank};
 
 use mpslp_model::FaultKind;
 
-/// The kind of two that is told, where both are faults of one line.
+/// The kind of two that comes first, where both are faults of one line.
 pub fn lesser_kind(first: FaultKind, second: FaultKind) -> FaultKind
     ensures { result ≡ (if nat_lt (kind_rank second) (kind_rank first) then second else first) }
 {

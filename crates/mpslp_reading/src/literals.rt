@@ -20,7 +20,7 @@ pub fn kind_of_number(fault: NumberFault) -> FaultKind
     }
 }
 
-/// The refusal of two that is told, where both are of literals of one line.
+/// The refusal of two whose kind comes first, where both are of literals of one line.
 pub fn lesser_fault(first: NumberFault, second: NumberFault) -> NumberFault
     ensures { result ≡ (if nat_lt (kind_rank (kind_of_number second)) (kind_rank (kind_of_number first)) then second else first) }
 {
