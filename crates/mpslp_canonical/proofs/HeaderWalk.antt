@@ -1,6 +1,6 @@
 -- Headers: what each declares, that it has a good form, and what the lines before say once it stands.
 use Rattle.std.proofs.Common.{◌≡◌, refl, sym, ap, ◌∙◌, List, [], ◌∷◌, ◌++◌, Bool, true, false, map, cond, append_assoc}
-use Rattle.std.specs.Prelude.{Option, Some, None, is_none, ◌||◌, filter, codes}
+use Rattle.std.specs.Prelude.{Option, Some, None, is_some, is_none, ◌||◌, filter, codes}
 use Rattle.std.specs.List.{list_any, last_or}
 use Rattle.std.specs.Option.{option_or, option_map_or}
 use Rattle.std.proofs.lemmas.List.{append-nil}
@@ -10,14 +10,21 @@ use Rattle.mpslp_model.specs.declared.kinds.Sense.TheVariants.{Maximize}
 use Rattle.mpslp_model.proofs.BoolLemmas.{nor, back}
 use Rattle.mpslp_mps.specs.Line.{Fields, Item, skipped, header, data_line}
 use Rattle.mpslp_mps.specs.Section.{keyword_of, section_begun, section_named, begins, is_section}
-use Rattle.mpslp_mps.specs.Context.{context_of, current_section, has_section, seen_in, has_seen, fields_under, data_lines_after, data_lines, is_read, is_bare_objsense, wants_sense}
+use Rattle.mpslp_mps.specs.Context.{context_of, current_section, has_section, seen_in, has_seen, fields_under, data_lines_after, data_lines, is_read, wanting, wanted}
 use Rattle.mpslp_mps.specs.LineMeaning.{declared}
 use Rattle.mpslp_mps.specs.HeaderFault.{may_begin, is_out_of_order}
 use Rattle.mpslp_mps.proofs.PlacedLemmas.{form_faults}
 use Rattle.mpslp_mps.specs.declared.sections.Section.{Section}
 use Rattle.mpslp_mps.specs.declared.sections.Section.TheVariants.{Name, ObjSense, Rows, Columns, Rhs, Ranges, Bounds, EndData}
 use Rattle.mpslp_mps.proofs.SectionLemmas.{current_section-push}
-use Rattle.mpslp_mps.proofs.ContextLemmas.{wants_sense-push}
+use Rattle.mpslp_mps.proofs.ContextLemmas.{wanted-push}
+
+-- a header that wants a word on a line of its own, and whether a word is to come
+abbrev pub is_bare : Item → Bool
+is_bare item = is_some (wanting item)
+
+abbrev pub wants_word : List Item → Bool
+wants_word before = is_some (wanted before)
 
 abbrev pub header_item : Section → Item
 header_item section = header (keyword_of section) []
@@ -36,7 +43,7 @@ section_named-keyword EndData = refl
 
 -- OBJSENSE has its word or has not begun; the section has not begun, and may begin
 pub record MayStand (section : Section) (before : List Item) : Type 0 where
-  pub settled : wants_sense before ≡ false
+  pub settled : wants_word before ≡ false
   pub fresh : has_seen (seen_in before) section ≡ false
   pub begins : may_begin (context_of before) section ≡ true
 
@@ -86,7 +93,7 @@ current-header section before = current_section-push before (header_item section
 pub word-says : (before : List Item) (earlier : Draft) → current_section before ≡ Some ObjSense → declared (context_of before) earlier (data_line (codes "MAX" ∷ [])) ≡ declare_sense Maximize ∷ []
 word-says before earlier s = rw s refl
 
-pub word-good : (before : List Item) (earlier : Draft) → current_section before ≡ Some ObjSense → wants_sense before ≡ true → form_faults (context_of before) earlier (data_line (codes "MAX" ∷ [])) ≡ []
+pub word-good : (before : List Item) (earlier : Draft) → current_section before ≡ Some ObjSense → wants_word before ≡ true → form_faults (context_of before) earlier (data_line (codes "MAX" ∷ [])) ≡ []
 word-good before earlier s w = rw (s, w) refl
 
 -- ---- what has not begun
@@ -132,35 +139,43 @@ lines_of_other section (item ∷ before) current h k =
 pub no-lines : (section : Section) (before : List Item) → has_section before section ≡ false → data_lines section before ≡ []
 no-lines section before h = lines_of_other section before None refl h
 
-bare_begins : (item : Item) → is_bare_objsense item ≡ true → begins ObjSense item ≡ true
+bare_begins : (item : Item) → is_bare item ≡ true → begins ObjSense item ≡ true
 bare_begins skipped h = cc
-bare_begins (header keyword []) h = h
+bare_begins (header keyword []) h = by (begins ObjSense (header keyword [])) h
+  where
+    by : (b : Bool) → is_some (cond b (Some ObjSense) None) ≡ true → b ≡ true
+    by true e = refl
+    by false e = cc
 bare_begins (header keyword (word ∷ more)) h = cc
 bare_begins (data_line fields) h = cc
 
-no_bare : (before : List Item) → has_section before ObjSense ≡ false → list_any is_bare_objsense before ≡ false
+no_bare : (before : List Item) → has_section before ObjSense ≡ false → list_any is_bare before ≡ false
 no_bare [] h = refl
 no_bare (item ∷ before) h =
     let parts = nor (begins ObjSense item) (has_section before ObjSense) h in
-    rw (back (is_bare_objsense item) (begins ObjSense item) (bare_begins item) parts.0) (no_bare before parts.1)
+    rw (back (is_bare item) (begins ObjSense item) (bare_begins item) parts.0) (no_bare before parts.1)
 
 -- without OBJSENSE no word is wanted
-pub settled-without : (before : List Item) → has_section before ObjSense ≡ false → wants_sense before ≡ false
-settled-without before h = by (filter is_read before) None (kept before (no_bare before h)) refl
+as_word : (o : Option Item) → is_some (option_map_or wanting o None) ≡ option_map_or is_bare o false
+as_word None = refl
+as_word (Some item) = refl
+
+pub settled-without : (before : List Item) → has_section before ObjSense ≡ false → wants_word before ≡ false
+settled-without before h = as_word (last_or None (filter is_read before)) ∙ by (filter is_read before) None (kept before (no_bare before h)) refl
   where
-    kept : (xs : List Item) → list_any is_bare_objsense xs ≡ false → list_any is_bare_objsense (filter is_read xs) ≡ false
+    kept : (xs : List Item) → list_any is_bare xs ≡ false → list_any is_bare (filter is_read xs) ≡ false
     kept [] k = refl
     kept (x ∷ xs) k =
-        let parts = nor (is_bare_objsense x) (list_any is_bare_objsense xs) k in
-        elim (is_read x) as (λ b. list_any is_bare_objsense (cond b (x ∷ filter is_read xs) (filter is_read xs)) ≡ false) [
+        let parts = nor (is_bare x) (list_any is_bare xs) k in
+        elim (is_read x) as (λ b. list_any is_bare (cond b (x ∷ filter is_read xs) (filter is_read xs)) ≡ false) [
           | true ↦ rw parts.0 (kept xs parts.1)
           | false ↦ kept xs parts.1
         ]
 
-    by : (xs : List Item) (o : Option Item) → list_any is_bare_objsense xs ≡ false → option_map_or is_bare_objsense o false ≡ false → option_map_or is_bare_objsense (last_or o xs) false ≡ false
+    by : (xs : List Item) (o : Option Item) → list_any is_bare xs ≡ false → option_map_or is_bare o false ≡ false → option_map_or is_bare (last_or o xs) false ≡ false
     by [] o k e = e
-    by (x ∷ xs) o k e = let parts = nor (is_bare_objsense x) (list_any is_bare_objsense xs) k in by xs (Some x) parts.1 parts.0
+    by (x ∷ xs) o k e = let parts = nor (is_bare x) (list_any is_bare xs) k in by xs (Some x) parts.1 parts.0
 
 -- after a data line, and after a header that is no bare OBJSENSE
-pub settled-after : (before : List Item) (item : Item) → is_read item ≡ true → is_bare_objsense item ≡ false → wants_sense (before ++ item ∷ []) ≡ false
-settled-after before item r b = wants_sense-push before item ∙ rw r b
+pub settled-after : (before : List Item) (item : Item) → is_read item ≡ true → is_bare item ≡ false → wants_word (before ++ item ∷ []) ≡ false
+settled-after before item r b = ap is_some (wanted-push before item ∙ rw r refl) ∙ b

@@ -1,6 +1,6 @@
 -- Where sections stand in lines of a good form, and so where rows and columns are declared.
 use Rattle.std.proofs.Common.{◌≡◌, refl, sym, ap, ◌∙◌, List, [], ◌∷◌, ◌++◌, ℕ, Bool, true, false, cond, map}
-use Rattle.std.specs.Prelude.{Option, Some, None, ◌||◌, not}
+use Rattle.std.specs.Prelude.{Option, Some, None, is_some, ◌||◌, not}
 use Rattle.std.specs.List.{list_all, flat_map}
 use Rattle.std.specs.Option.{option_or}
 use Rattle.std.specs.Cmp.{first_so, second_so}
@@ -51,7 +51,7 @@ pub header-begins : (context : Context) (keyword : List ℕ) (more : Fields) (se
     → may_begin context section ≡ true
 header-begins context keyword more section h =
     by (has_seen context.seen section) (may_begin context section) (header-fresh context keyword more section h)
-    (nor context.wants_sense (not (has_seen context.seen section || may_begin context section)) (header-ordered context keyword more section h)).1
+    (nor (is_some context.wanted) (not (has_seen context.seen section || may_begin context section)) (header-ordered context keyword more section h)).1
   where
     by : (seen may : Bool) → seen ≡ false → not (seen || may) ≡ false → may ≡ true
     by true may e f = cc

@@ -1,6 +1,6 @@
 -- The tests of a line stand in the order of kinds.
 use Rattle.std.proofs.Common.{◌≡◌, refl, ℕ, List, [], ◌∷◌, ◌++◌, Bool, true, false, cond}
-use Rattle.std.specs.Prelude.{not, Option, Some, None, codes}
+use Rattle.std.specs.Prelude.{not, is_some, Option, Some, None, codes}
 use Rattle.mpslp_model.specs.Name.{is_one_of}
 use Rattle.std.specs.List.{list_all}
 use Rattle.std.specs.Option.{option_map_or}
@@ -67,7 +67,7 @@ marker-rising b context (Some word) = refl
 data-behind : (context : Context) (earlier : Draft) (fields : Fields) (section : Option Section) → AreRising (data_tests context earlier fields section)
 data-behind context earlier fields None = refl
 data-behind context earlier fields (Some Name) = refl
-data-behind context earlier fields (Some ObjSense) = sense-rising (not context.wants_sense) (sense_shape fields)
+data-behind context earlier fields (Some ObjSense) = sense-rising (not (is_some context.wanted)) (sense_shape fields)
 data-behind context earlier fields (Some Rows) = judged-rising row_tests (row_shape fields) (λ _. refl)
 data-behind context earlier fields (Some Columns) =
     rising-if (is_marker_line fields) (marker_tests context fields) (judged_by (column_tests context earlier) (column_shape fields)) (marker-rising (is_sos_marker fields) context (marker_shape fields)) (judged-rising (column_tests context earlier) (column_shape fields) (λ _. refl))

@@ -1,5 +1,5 @@
 -- What the lines before one say of it: each reading by itself of the list of these lines.
-use Rattle.std.specs.Prelude.{ℕ, Bool, true, false, List, [], ◌∷◌, ◌++◌, filter, filter_map, Option, None, if◌then◌else◌}
+use Rattle.std.specs.Prelude.{ℕ, Bool, true, false, List, [], ◌∷◌, ◌++◌, filter, filter_map, Option, Some, None, if◌then◌else◌}
 use Rattle.std.specs.List.{list_any, last_or}
 use Rattle.std.specs.Option.{option_map, option_map_or, option_or}
 use Rattle.mpslp_model.specs.Name.{same_bytes}
@@ -78,14 +78,14 @@ abbrev pub is_read : Item → Bool
 is_read skipped = false
 is_read _ = true
 
--- an OBJSENSE without its word
-abbrev pub is_bare_objsense : Item → Bool
-is_bare_objsense (header keyword []) = begins ObjSense (header keyword [])
-is_bare_objsense _ = false
+-- the section whose header wants a word on a line of its own: an OBJSENSE without its word
+abbrev pub wanting : Item → Option Section
+wanting (header keyword []) = if begins ObjSense (header keyword []) then Some ObjSense else None
+wanting _ = None
 
--- the last line is one, but for skipped lines: its word is to come
-abbrev pub wants_sense : List Item → Bool
-wants_sense before = option_map_or is_bare_objsense (last_or None (filter is_read before)) false
+-- the last line is such a header, but for skipped lines: the word of its section is to come
+abbrev pub wanted : List Item → Option Section
+wanted before = option_map_or wanting (last_or None (filter is_read before)) None
 
 -- the word of a line of COLUMNS, if it is a marker line; its column, if it is none
 abbrev pub marker_word : Fields → Option (List ℕ)
@@ -119,7 +119,7 @@ first_set set_of lines = head_of (filter_map set_of lines)
 pub record Context : Type 0 where
   pub section : Option Section
   pub seen : Seen
-  pub wants_sense : Bool
+  pub wanted : Option Section
   pub in_integer_part : Bool
   pub last_column : Option (List ℕ)
   pub rhs_set : Option (List ℕ)
@@ -130,7 +130,7 @@ abbrev pub context_of : List Item → Context
 context_of before = record {
   section = current_section before;
   seen = seen_in before;
-  wants_sense = wants_sense before;
+  wanted = wanted before;
   in_integer_part = in_integer_part before;
   last_column = last_column before;
   rhs_set = first_set vector_set (data_lines Rhs before);

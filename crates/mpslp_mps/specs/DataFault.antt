@@ -1,5 +1,5 @@
 -- The faults of a data line's form, after the lines before it.
-use Rattle.std.specs.Prelude.{ℕ, Bool, true, false, ◌&&◌, not, List, [], ◌∷◌, ◌++◌, Option, Some, None, is_none, if◌then◌else◌, codes}
+use Rattle.std.specs.Prelude.{ℕ, Bool, true, false, ◌&&◌, not, List, [], ◌∷◌, ◌++◌, Option, Some, None, is_some, is_none, if◌then◌else◌, codes}
 use Rattle.std.specs.Option.{option_map_or}
 use Rattle.mpslp_model.specs.Name.{same_bytes, is_one_of}
 use Rattle.mpslp_model.specs.Declaration.{Draft, has_column}
@@ -60,7 +60,7 @@ bound_line_tests context (letters ∷ more) =
 
 -- a data line under NAME, before any header, or under an OBJSENSE that has its word
 abbrev pub data_tests : Context → Draft → Fields → Option Section → Tests
-data_tests context earlier fields (Some ObjSense) = (not context.wants_sense, kinds.SectionOrder) ∷ judged_by word_tests (sense_shape fields)
+data_tests context earlier fields (Some ObjSense) = (not (is_some context.wanted), kinds.SectionOrder) ∷ judged_by word_tests (sense_shape fields)
 data_tests context earlier fields (Some Rows) = judged_by row_tests (row_shape fields)
 data_tests context earlier fields (Some Columns) = columns_line_tests context earlier fields
 data_tests context earlier fields (Some Rhs) = judged_by (vector_tests context.rhs_set) (vector_shape fields)

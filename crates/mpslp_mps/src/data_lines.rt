@@ -1,6 +1,6 @@
 //! Data lines: the faults of their form, and what they say.
 
-ghost use Rattle.std.specs.Prelude.{◌≡◌, [], ◌∷◌, ◌++◌, map, not, Some, None, MatchResult};
+ghost use Rattle.std.specs.Prelude.{◌≡◌, [], ◌∷◌, ◌++◌, map, not, Some, None, is_some, MatchResult};
 ghost use Rattle.std.specs.Option.{option_map, option_map_or};
 ghost use Rattle.mpslp_model.specs.Name.{same_bytes};
 ghost use Rattle.mpslp_model.specs.Declaration.{Draft, declare_sense};
@@ -35,10 +35,10 @@ use std::alloc::Global;
 /// The sense of a data line under OBJSENSE.
 pub(crate) fn check_sense(context: &LineContext, fields: &[&[u8]]) -> Result<Sense, FaultKind>
     ensures { let parts = sense_shape (map (λ field. field.now) fields.now) in
-        let first_fault = first_held ((not context.now.wants_sense, FaultKind.SectionOrder) ∷ judged_by word_tests parts) in
+        let first_fault = first_held ((not (is_some context.now.wanted), FaultKind.SectionOrder) ∷ judged_by word_tests parts) in
         MatchResult result (λ sense. (first_fault ≡ None) × (declared_of sense_declared parts ≡ declare_sense sense ∷ [])) (λ kind. first_fault ≡ Some kind) }
 {
-    if !context.wants_sense() {
+    if !context.wants_word() {
         return Err(FaultKind::SectionOrder);
     }
     let Some(word) = sense_shape(fields) else {

@@ -10,7 +10,7 @@ ghost use Rattle.mpslp_reading.specs.LineAnswer.{AreDeclared};
 ghost use Rattle.mpslp_mps.specs.LineAnswer.{ReadsItem};
 
 use crate::context::LineContext;
-use crate::headers::{check_header, is_bare_header};
+use crate::headers::{check_header, word_wanted};
 use crate::sections::Section;
 use crate::shapes::sense_shape;
 use crate::words::sense_of;
@@ -77,6 +77,6 @@ pub(crate) fn read_header(
 {
     let section = check_header(context, keyword, more)?;
     declare_header(builder, alloc, section, more)?;
-    context.pass_header(section, is_bare_header(section, more));
+    context.pass_header(section, word_wanted(section, more));
     Ok(())
 }

@@ -1,5 +1,5 @@
 use Rattle.std.proofs.Common.{◌≡◌, refl, sym, subst, [], ◌∷◌, map, not}
-use Rattle.std.specs.Prelude.{Option, Some}
+use Rattle.std.specs.Prelude.{Option, Some, is_some}
 use Rattle.mpslp_model.specs.Declaration.{declare_sense, Draft, adding}
 use Rattle.mpslp_model.specs.declared.faults.FaultKind.{FaultKind}
 use Rattle.mpslp_reading.specs.ErrorOf.{error_of_build}
@@ -20,7 +20,7 @@ returns-in_err-sense c =
     let context = c.args.context.now in
     ends-by c.from_residual.result (Fault c.in_err-sense.field-0.0) _ _ c.from_residual.ensures.1
     (data-judged context c.args.builder.now fields ObjSense (Fault c.in_err-sense.field-0.0) c.requires.section
-    (sense-early (not context.wants_sense) (sense_shape fields)) c.in_err-sense.ensures)
+    (sense-early (not (is_some context.wanted)) (sense_shape fields)) c.in_err-sense.ensures)
 
 pub returns-in_err-sense-2 : goal.returns-in_err-sense-2
 returns-in_err-sense-2 c =
