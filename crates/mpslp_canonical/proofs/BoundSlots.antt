@@ -14,7 +14,7 @@ use Rattle.mpslp_model.proofs.BoolLemmas.{both_false}
 use Rattle.mpslp_model.proofs.EachLemmas.{Each, Each-weaker, Each-append, Each-all}
 use Rattle.mpslp_model.proofs.DistinctLemmas.{IsNew, Apart, distinct-flat_map}
 use Rattle.mpslp_mps.specs.declared.bound_types.BoundType.TheVariants as bounds
-use Rattle.mpslp_mps.proofs.BoundsWalk.{BoundForm, fixed, lower, upper, free, no_lower, no_upper, bound_decl, decl_at}
+use Rattle.mpslp_canonical.proofs.BoundsWalk.{BoundForm, fixed, lower, upper, free, no_lower, no_upper, bound_decl, decl_at}
 use Rattle.mpslp_canonical.specs.PrintedValues.{have_same_value, valued, PrintedBound, printed_lower, printed_upper, printed_bounds}
 use Rattle.mpslp_canonical.proofs.CanonicalItems.{to_bound, bounds_in}
 use Rattle.mpslp_canonical.proofs.WholeParts.{made_of}

@@ -8,7 +8,8 @@ use Rattle.mpslp_model.specs.Consistency.{AreConsistent}
 use Rattle.mpslp_model.proofs.BoolLemmas.{both_so}
 use Rattle.mpslp_mps.specs.Line.{is_legal_line, item_of}
 use Rattle.mpslp_mps.specs.MpsText.{read_lines, has_end, declarations_of, DeclaresMps}
-use Rattle.mpslp_mps.proofs.PlacedLemmas.{declared_items, have_good_form, Walk}
+use Rattle.mpslp_mps.proofs.PlacedLemmas.{declared_items, have_good_form, lines-declare, lines-good}
+use Rattle.mpslp_canonical.proofs.ItemsWalk.{Walk}
 use Rattle.mpslp_canonical.specs.Listing.{listing_of}
 use Rattle.mpslp_canonical.specs.CanonicalMps.{canonical_mps}
 use Rattle.mpslp_canonical.specs.Laws.{IsReadAsPrinted, DeclareTheirModels, TellModelsApart}
@@ -32,7 +33,7 @@ canonical-items m sound =
     ap (map item_of) read.lines ∙ read.items ∙ listed-items (listing_of m)
 
 pub canonical-declarations : (m : LinearModel) → IsSound m → declarations_of (canonical_mps m) ≡ listed_decl (listing_of m)
-canonical-declarations m sound = ap (declared_items [] empty_draft) (canonical-items m sound) ∙ (canonical-walk m sound).declares
+canonical-declarations m sound = lines-declare [] empty_draft (read_lines (canonical_mps m)) ∙ ap (declared_items [] empty_draft) (canonical-items m sound) ∙ (canonical-walk m sound).declares
 
 -- The canonical text of a sound model declares it, where its declarations are consistent.
 pub declares-if_consistent : (m : LinearModel) → IsSound m → AreConsistent (listed_decl (listing_of m)) → DeclaresMps (canonical_mps m) m
@@ -40,7 +41,7 @@ declares-if_consistent m sound consistent =
     let read : IsReadAsPrinted m = read-as-printed m sound in
     record {
       text = both_so (has_end (canonical_mps m)) _ read.end
-          (both_so (list_all is_legal_line (read_lines (canonical_mps m))) _ (ap (list_all is_legal_line) read.lines ∙ read.legal)
+          (lines-good [] empty_draft (read_lines (canonical_mps m)) (ap (list_all is_legal_line) read.lines ∙ read.legal)
           (ap (have_good_form [] empty_draft) (canonical-items m sound) ∙ (canonical-walk m sound).good));
       means = subst (λ (ds : Declarations). Means ds m) (sym (canonical-declarations m sound)) (record { consistent = consistent; meant = draft-means m sound });
     }

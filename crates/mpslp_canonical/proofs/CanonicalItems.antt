@@ -11,10 +11,10 @@ use Rattle.mpslp_mps.specs.Line.{Item}
 use Rattle.mpslp_mps.specs.declared.sections.Section.{Section}
 use Rattle.mpslp_mps.specs.declared.bound_types.BoundType.{BoundType}
 use Rattle.mpslp_mps.specs.declared.bound_types.BoundType.TheVariants as bounds
-use Rattle.mpslp_mps.proofs.RowsWalk.{RowItem, row_item, Side, side_item}
-use Rattle.mpslp_mps.proofs.ColumnsWalk.{Cell, cell_item, Group, cells_of}
-use Rattle.mpslp_mps.proofs.BoundsWalk.{BoundForm, fixed, lower, upper, free, no_lower, no_upper, Bound}
-use Rattle.mpslp_mps.proofs.HeaderWalk.{header_item}
+use Rattle.mpslp_canonical.proofs.RowsWalk.{RowItem, row_item, Side, side_item}
+use Rattle.mpslp_canonical.proofs.ColumnsWalk.{Cell, cell_item, Group, cells_of}
+use Rattle.mpslp_canonical.proofs.BoundsWalk.{BoundForm, fixed, lower, upper, free, no_lower, no_upper, Bound}
+use Rattle.mpslp_canonical.proofs.HeaderWalk.{header_item}
 use Rattle.mpslp_canonical.specs.Printed.{item_in}
 use Rattle.mpslp_canonical.specs.Listing.{Listing}
 use Rattle.mpslp_canonical.specs.PrintedValues.{printed_type, printed_side, printed_range, PrintedBound, printed_bounds}

@@ -7,21 +7,22 @@ use Rattle.mpslp_model.specs.Declaration.{Declarations, Draft, is_free_row}
 use Rattle.mpslp_model.proofs.EachLemmas.{Each}
 use Rattle.mpslp_mps.specs.Line.{Item}
 use Rattle.mpslp_mps.specs.Section.{begins}
-use Rattle.mpslp_mps.specs.Context.{has_section, is_read, is_bare_objsense, wants_sense, data_lines}
+use Rattle.mpslp_mps.specs.Context.{has_section, is_read, data_lines}
+use Rattle.mpslp_canonical.proofs.HeaderWalk.{is_bare, wants_word}
 use Rattle.mpslp_mps.specs.declared.sections.Section.{Section}
 use Rattle.mpslp_mps.specs.declared.sections.Section.TheVariants.{Columns, Rhs, Ranges, Bounds, EndData}
 use Rattle.mpslp_mps.proofs.SectionLemmas.{has_section-push, data_lines-push}
-use Rattle.mpslp_mps.proofs.PlacedLemmas.{Walk, walk-nil, walk-cons, section-walk}
-use Rattle.mpslp_mps.proofs.RowsWalk.{Side, side_item, side_decl, range_decl, ReadsAs, InSides, side_step, InRanges, range_step}
-use Rattle.mpslp_mps.proofs.BoundsWalk.{Bound, bound_item, bound_decl, GoodBound, InBounds, bound_step}
-use Rattle.mpslp_mps.proofs.HeaderWalk.{header_item, MayStand, header-good, header-says, current-header, no-lines, settled-after}
+use Rattle.mpslp_canonical.proofs.ItemsWalk.{Walk, walk-nil, walk-cons, section-walk}
+use Rattle.mpslp_canonical.proofs.RowsWalk.{Side, side_item, side_decl, range_decl, ReadsAs, InSides, side_step, InRanges, range_step}
+use Rattle.mpslp_canonical.proofs.BoundsWalk.{Bound, bound_item, bound_decl, GoodBound, InBounds, bound_step}
+use Rattle.mpslp_canonical.proofs.HeaderWalk.{header_item, MayStand, header-good, header-says, current-header, no-lines, settled-after}
 use Rattle.mpslp_canonical.proofs.CanonicalItems.{under}
 
 -- ---- after COLUMNS: the sections that stand only where they have lines
 
 -- nothing is wanted, and COLUMNS has begun
 pub record IsLate (before : List Item) (earlier : Draft) : Type 0 where
-  pub settled : wants_sense before ≡ false
+  pub settled : wants_word before ≡ false
   pub columns : has_section before Columns ≡ true
   pub objective : is_none earlier.objective ≡ false
 
@@ -40,16 +41,16 @@ still-begun : (section other : Section) (before : List Item) → has_section bef
 still-begun section other before h = has_section-push section before (header_item other) ∙ ap (λ (b : Bool). b || begins section (header_item other)) h
 
 -- data lines want nothing
-pub data-settled : {X : Type 0} (item : X → Item) → ((x : X) → is_read (item x) ≡ true) → ((x : X) → is_bare_objsense (item x) ≡ false) → (xs : List X) (before : List Item)
-    → wants_sense before ≡ false → wants_sense (before ++ map item xs) ≡ false
-data-settled item reads bare [] before h = ap wants_sense (append-nil before) ∙ h
+pub data-settled : {X : Type 0} (item : X → Item) → ((x : X) → is_read (item x) ≡ true) → ((x : X) → is_bare (item x) ≡ false) → (xs : List X) (before : List Item)
+    → wants_word before ≡ false → wants_word (before ++ map item xs) ≡ false
+data-settled item reads bare [] before h = ap wants_word (append-nil before) ∙ h
 data-settled item reads bare (x ∷ xs) before h =
-    ap wants_sense (sym (append_assoc before (item x ∷ []) (map item xs))) ∙ data-settled item reads bare xs (before ++ item x ∷ []) (settled-after before (item x) (reads x) (bare x))
+    ap wants_word (sym (append_assoc before (item x ∷ []) (map item xs))) ∙ data-settled item reads bare xs (before ++ item x ∷ []) (settled-after before (item x) (reads x) (bare x))
 
 -- RHS, RANGES or BOUNDS
 pub record IsLateSection (section : Section) : Type 0 where
   pub stands : (before : List Item) (earlier : Draft) → IsLate before earlier → has_section before section ≡ false → MayStand section before
-  pub bare : is_bare_objsense (header_item section) ≡ false
+  pub bare : is_bare (header_item section) ≡ false
 
 late-rhs : IsLateSection Rhs
 late-rhs = record { stands = λ before earlier h f. record { settled = h.settled; fresh = f; begins = h.columns }; bare = refl }

@@ -14,12 +14,12 @@ use Rattle.mpslp_mps.specs.Line.{Fields, Item, data_line}
 use Rattle.mpslp_mps.specs.DataLine.{letter_of, opening_word}
 use Rattle.mpslp_mps.specs.Context.{context_of, current_section, data_lines, marker_word, line_column, in_integer_part, last_column}
 use Rattle.mpslp_mps.specs.LineMeaning.{declared}
-use Rattle.mpslp_mps.specs.LineFault.{form_faults}
+use Rattle.mpslp_mps.proofs.PlacedLemmas.{form_faults}
 use Rattle.mpslp_mps.specs.declared.sections.Section.TheVariants.{Name, ObjSense, Rows, Columns}
-use Rattle.mpslp_mps.proofs.PlacedLemmas.{Walk, walk-nil, walk-cons, walk-append, section-walk}
-use Rattle.mpslp_mps.proofs.RowsWalk.{RowItem, row_item, row_decl, InRows, row_step, name-good, stays}
-use Rattle.mpslp_mps.proofs.ColumnsWalk.{Cell, cell_item, cell_decl, GoodCell, InCells, cell_step, Unsplit, marker_fields, marker_part, marker_last, marker_says, marker_good, Group, cells_of, IsGroup, AreApart, AreAbsent, groups_unsplit}
-use Rattle.mpslp_mps.proofs.HeaderWalk.{header_item, MayStand, header-good, header-says, early-header-says, current-header}
+use Rattle.mpslp_canonical.proofs.ItemsWalk.{Walk, walk-nil, walk-cons, walk-append, section-walk}
+use Rattle.mpslp_canonical.proofs.RowsWalk.{RowItem, row_item, row_decl, InRows, row_step, name-good, stays}
+use Rattle.mpslp_canonical.proofs.ColumnsWalk.{Cell, cell_item, cell_decl, GoodCell, InCells, cell_step, Unsplit, marker_fields, marker_part, marker_last, marker_says, marker_good, Group, cells_of, IsGroup, AreApart, AreAbsent, groups_unsplit}
+use Rattle.mpslp_canonical.proofs.HeaderWalk.{header_item, MayStand, header-good, header-says, early-header-says, current-header}
 use Rattle.mpslp_canonical.proofs.CanonicalWalk.{none-yet}
 
 -- ---- NAME and OBJSENSE

@@ -16,8 +16,8 @@ use Rattle.mpslp_model.proofs.BoolLemmas.{not_so}
 use Rattle.mpslp_model.proofs.EachLemmas.{Each, Each-weaker, Each-append, Each-flat_map, Each-filter, Each-all}
 use Rattle.mpslp_model.proofs.CoefficientLemmas.{flat_map-flat_map}
 use Rattle.mpslp_model.proofs.SlotLemmas.{same_name}
-use Rattle.mpslp_mps.proofs.ColumnsWalk.{Cell, cell_decl, cells_of}
-use Rattle.mpslp_mps.proofs.BoundsWalk.{bound_decl}
+use Rattle.mpslp_canonical.proofs.ColumnsWalk.{Cell, cell_decl, cells_of}
+use Rattle.mpslp_canonical.proofs.BoundsWalk.{bound_decl}
 use Rattle.mpslp_canonical.specs.Listing.{Listing}
 use Rattle.mpslp_canonical.specs.CanonicalMps.{is_integer_kind, is_integer_column, is_continuous_column}
 use Rattle.mpslp_canonical.proofs.CanonicalItems.{group_in, cells_in, bounds_in}

@@ -20,8 +20,8 @@ use Rattle.mpslp_model.proofs.CoefficientLemmas.{flat_map-flat_map}
 use Rattle.mpslp_model.proofs.DraftLemmas.{column_part, columns-all}
 use Rattle.mpslp_model.proofs.DraftEntries.{same_key}
 use Rattle.mpslp_model.proofs.SortedDrafts.{bytes_total, key_total, tied_names}
-use Rattle.mpslp_mps.proofs.RowsWalk.{row_decl}
-use Rattle.mpslp_mps.proofs.ColumnsWalk.{cell_decl, GoodCell, AreOf, Group, cells_of, IsGroup, AreApart, AreAbsent}
+use Rattle.mpslp_canonical.proofs.RowsWalk.{row_decl}
+use Rattle.mpslp_canonical.proofs.ColumnsWalk.{cell_decl, GoodCell, AreOf, Group, cells_of, IsGroup, AreApart, AreAbsent}
 use Rattle.mpslp_canonical.specs.Listing.{Listing}
 use Rattle.mpslp_canonical.specs.CanonicalMps.{cell_at, column_cells, printed_cells, is_integer_kind, is_integer_column, is_continuous_column}
 use Rattle.mpslp_canonical.proofs.CanonicalItems.{to_row, to_cell, cells_in, group_in}

@@ -20,9 +20,9 @@ use Rattle.mpslp_model.proofs.PutsLemmas.{puts}
 use Rattle.mpslp_model.proofs.CoefficientLemmas.{flat_map-flat_map}
 use Rattle.mpslp_model.proofs.DraftLemmas.{row_part, rows-all}
 use Rattle.mpslp_model.proofs.SortedDrafts.{bytes_total, tied_names}
-use Rattle.mpslp_mps.proofs.RowsWalk.{RowItem, row_decl, Side, ReadsAs}
-use Rattle.mpslp_mps.proofs.ColumnsWalk.{Cell, cell_decl, cells_of}
-use Rattle.mpslp_mps.proofs.BoundsWalk.{GoodBound}
+use Rattle.mpslp_canonical.proofs.RowsWalk.{RowItem, row_decl, Side, ReadsAs}
+use Rattle.mpslp_canonical.proofs.ColumnsWalk.{Cell, cell_decl, cells_of}
+use Rattle.mpslp_canonical.proofs.BoundsWalk.{GoodBound}
 use Rattle.mpslp_canonical.specs.Listing.{Listing}
 use Rattle.mpslp_canonical.specs.PrintedValues.{have_same_value, valued, printed_type, printed_side, printed_range, PrintedBound, printed_lower, printed_upper, printed_bounds}
 use Rattle.mpslp_mps.specs.declared.bound_types.BoundType.TheVariants as bounds
@@ -34,10 +34,9 @@ use Rattle.mpslp_canonical.proofs.EntryLemmas.{then_told, puts-own}
 use Rattle.mpslp_canonical.proofs.WholeParts.{kept-all}
 use Rattle.mpslp_canonical.proofs.ListedParts.{form_told, row_forms, rows-made}
 use Rattle.mpslp_canonical.proofs.DraftMaps.{IsSoundListing, one_of-names, none_is, own-found, names_sorted, at-mapped}
-use Rattle.mpslp_canonical.proofs.ListingFacts.{row_named, row_sides, row_distance, column_sides, bounded_so, bounded_finite}
+use Rattle.mpslp_canonical.proofs.ListingFacts.{row_named, row_sides, row_distance, column_sides, bounded_so, bounded_finite, lower_of, upper_of}
 use Rattle.mpslp_model.specs.declared.kinds.RowType.TheVariants.{AtLeast, Equal}
 use Rattle.mpslp_canonical.proofs.PrintableLemmas.{Holds, side-decimal, range-decimal, negated-decimal}
-use Rattle.mpslp_canonical.proofs.ListingFacts.{lower_of, upper_of}
 use Rattle.mpslp_canonical.proofs.GoodColumns.{are-columns}
 
 -- ---- right sides and ranges are read as the numbers that they were printed from

@@ -1,3 +1,8 @@
+pub mod ItemsWalk
+pub mod RowsWalk
+pub mod ColumnsWalk
+pub mod BoundsWalk
+pub mod HeaderWalk
 pub mod TextLemmas
 pub mod NumberWords
 pub mod PrintableLemmas

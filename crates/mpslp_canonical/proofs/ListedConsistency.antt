@@ -20,10 +20,10 @@ use Rattle.mpslp_model.specs.declared.kinds.RowType.TheVariants.{AtLeast, Equal}
 use Rattle.mpslp_model.proofs.BoolLemmas.{both_so, or_left, or_right, both_false}
 use Rattle.mpslp_model.proofs.EachLemmas.{Each, Each-weaker, Each-append, Each-map, Each-flat_map, Each-filter, Each-all, list_all-from_Each}
 use Rattle.mpslp_model.proofs.LaterDrafts.{itself_named}
-use Rattle.mpslp_mps.proofs.RowsWalk.{RowItem, row_decl, Side, side_decl, range_decl}
-use Rattle.mpslp_mps.proofs.ColumnsWalk.{Cell, cell_decl, Group, cells_of}
-use Rattle.mpslp_mps.proofs.BoundsWalk.{BoundForm, fixed, free, no_lower, no_upper, Bound, bound_decl, decl_at}
-use Rattle.mpslp_mps.proofs.BoundsWalk as forms
+use Rattle.mpslp_canonical.proofs.RowsWalk.{RowItem, row_decl, Side, side_decl, range_decl}
+use Rattle.mpslp_canonical.proofs.ColumnsWalk.{Cell, cell_decl, Group, cells_of}
+use Rattle.mpslp_canonical.proofs.BoundsWalk.{BoundForm, fixed, free, no_lower, no_upper, Bound, bound_decl, decl_at}
+use Rattle.mpslp_canonical.proofs.BoundsWalk as forms
 use Rattle.mpslp_canonical.specs.Listing.{Listing}
 use Rattle.mpslp_canonical.specs.PrintedValues.{have_same_value, printed_type, printed_side, printed_range, PrintedBound, printed_bounds}
 use Rattle.mpslp_canonical.specs.CanonicalMps.{cell_at, column_cells, printed_cells, is_integer_column, is_continuous_column}

@@ -14,12 +14,12 @@ use Rattle.mpslp_model.specs.declared.kinds.Limit.TheVariants.{MinusInf, Finite,
 use Rattle.mpslp_model.proofs.EachLemmas.{Each, Each-append}
 use Rattle.mpslp_mps.specs.Line.{Item}
 use Rattle.mpslp_mps.specs.DataLine.{closing_word}
-use Rattle.mpslp_mps.specs.declared.sections.Section.TheVariants.{Name, Rows, Columns, Rhs, Ranges, Bounds}
+use Rattle.mpslp_mps.specs.declared.sections.Section.TheVariants.{Name, Rows, Columns, Rhs, Ranges, Bounds, EndData}
 use Rattle.mpslp_mps.specs.declared.bound_types.BoundType.{BoundType}
 use Rattle.mpslp_mps.specs.declared.bound_types.BoundType.TheVariants as bounds
-use Rattle.mpslp_mps.proofs.ColumnsWalk.{Cell, cell_item, cells_of}
-use Rattle.mpslp_mps.proofs.BoundsWalk.{bound_item}
-use Rattle.mpslp_mps.proofs.HeaderWalk.{header_item}
+use Rattle.mpslp_canonical.proofs.ColumnsWalk.{Cell, cell_item, cells_of}
+use Rattle.mpslp_canonical.proofs.BoundsWalk.{bound_item}
+use Rattle.mpslp_canonical.proofs.HeaderWalk.{header_item}
 use Rattle.mpslp_canonical.specs.Printed.{item_in}
 use Rattle.mpslp_canonical.specs.Listing.{Listing}
 use Rattle.mpslp_canonical.specs.PrintedValues.{have_same_value, PrintedBound, printed_lower, printed_upper, printed_bounds}
@@ -27,7 +27,6 @@ use Rattle.mpslp_canonical.specs.CanonicalMps.{Lines, sense_lines, rows_section,
 use Rattle.mpslp_canonical.proofs.CanonicalItems.{items_in, flat-items, to_row, row-items, group_in, column-items, sides_in, sides-items, row_range, ranges-items, to_bound, is_fit, bounds_in, under, under-items}
 use Rattle.mpslp_canonical.proofs.EarlyWalk.{sense_items, objective_item, marker_item, part_items}
 use Rattle.mpslp_canonical.proofs.WholeWalk.{Whole, whole_items}
-use Rattle.mpslp_mps.specs.declared.sections.Section.TheVariants.{EndData}
 
 -- ---- bounds
 

@@ -27,10 +27,10 @@ use Rattle.mpslp_model.proofs.PutsLemmas.{equal_from}
 use Rattle.mpslp_model.proofs.RowLemmas.{row_back, side-told}
 use Rattle.mpslp_model.proofs.BoundsLemmas.{column_back}
 use Rattle.mpslp_model.proofs.SortedDrafts.{bytes_total, tied_names}
-use Rattle.mpslp_mps.proofs.RowsWalk.{RowItem, row_decl, Side, side_decl, range_decl}
-use Rattle.mpslp_mps.proofs.ColumnsWalk.{Cell, cell_decl, cells_of}
-use Rattle.mpslp_mps.proofs.BoundsWalk.{BoundForm, fixed, free, no_lower, no_upper, Bound, bound_decl, decl_at}
-use Rattle.mpslp_mps.proofs.BoundsWalk as forms
+use Rattle.mpslp_canonical.proofs.RowsWalk.{RowItem, row_decl, Side, side_decl, range_decl}
+use Rattle.mpslp_canonical.proofs.ColumnsWalk.{Cell, cell_decl, cells_of}
+use Rattle.mpslp_canonical.proofs.BoundsWalk.{BoundForm, fixed, free, no_lower, no_upper, Bound, bound_decl, decl_at}
+use Rattle.mpslp_canonical.proofs.BoundsWalk as forms
 use Rattle.mpslp_canonical.specs.Listing.{Listing, listing_of}
 use Rattle.mpslp_canonical.specs.PrintedValues.{have_same_value, printed_type, printed_side, printed_range}
 use Rattle.mpslp_canonical.proofs.PrintableLemmas.{side-decimal, negated-decimal}

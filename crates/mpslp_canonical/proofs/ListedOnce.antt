@@ -17,7 +17,7 @@ use Rattle.mpslp_model.proofs.EachLemmas.{Each, Each-weaker, Each-append, Each-m
 use Rattle.mpslp_model.proofs.DistinctLemmas.{IsNew, Apart, distinct-flat_map, distinct-sorted}
 use Rattle.mpslp_model.proofs.SlotLemmas.{same_name}
 use Rattle.mpslp_model.proofs.SortedDrafts.{bytes_total}
-use Rattle.mpslp_mps.proofs.ColumnsWalk.{Cell}
+use Rattle.mpslp_canonical.proofs.ColumnsWalk.{Cell}
 use Rattle.mpslp_canonical.specs.Listing.{Listing}
 use Rattle.mpslp_canonical.specs.CanonicalMps.{column_cells, printed_cells}
 use Rattle.mpslp_canonical.proofs.CanonicalItems.{to_cell, cells_in}

@@ -16,7 +16,7 @@ use Rattle.mpslp_model.proofs.EachLemmas.{Each, Each-weaker}
 use Rattle.mpslp_model.proofs.DistinctLemmas.{IsNew, distinct-append, distinct-sorted}
 use Rattle.mpslp_model.proofs.SlotLemmas.{same_name}
 use Rattle.mpslp_model.proofs.SortedDrafts.{bytes_total}
-use Rattle.mpslp_mps.proofs.ColumnsWalk.{Cell}
+use Rattle.mpslp_canonical.proofs.ColumnsWalk.{Cell}
 use Rattle.mpslp_canonical.specs.CanonicalMps.{cell_at}
 use Rattle.mpslp_canonical.proofs.CanonicalItems.{to_cell}
 use Rattle.mpslp_canonical.proofs.CoefficientMap.{place_at}

@@ -12,7 +12,7 @@ use Rattle.mpslp_model.proofs.BoolLemmas.{both_so, so_not}
 use Rattle.mpslp_model.proofs.DistinctLemmas.{distinct-sorted}
 use Rattle.mpslp_model.proofs.SlotLemmas.{same_name}
 use Rattle.mpslp_model.proofs.SortedDrafts.{bytes_total, tied_names}
-use Rattle.mpslp_mps.proofs.RowsWalk.{row_decl, Side, side_decl, range_decl}
+use Rattle.mpslp_canonical.proofs.RowsWalk.{row_decl, Side, side_decl, range_decl}
 use Rattle.mpslp_canonical.specs.Listing.{Listing}
 use Rattle.mpslp_canonical.proofs.CanonicalItems.{to_row, sides_in, row_range}
 use Rattle.mpslp_canonical.proofs.EntryLemmas.{then_told, told, all_told, sorted-told, find-told}

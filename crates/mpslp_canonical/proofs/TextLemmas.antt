@@ -7,10 +7,11 @@ use Rattle.std.proofs.lemmas.Bool.{lt-ltb}
 use Rattle.std.proofs.lemmas.Bool.Decides.{nat_tests}
 use Rattle.std.proofs.lemmas.List.{append-nil}
 use Rattle.mpslp_model.specs.Name.{is_visible}
-use Rattle.mpslp_model.proofs.BoolLemmas.{both_so, or_right}
+use Rattle.mpslp_model.proofs.BoolLemmas.{both_so}
 use Rattle.mpslp_model.proofs.EachLemmas.{Each, Each-weaker, Each-append, list_all-from_Each}
-use Rattle.mpslp_mps.specs.Line.{Fields, skipped, header, data_line, header_of, item_of, fields, is_blank, is_comment, is_skipped, is_data, is_legal_byte, has_legal_bytes, has_legal_length, is_legal_line}
-use Rattle.mpslp_mps.specs.declared.lines.TheConstants.{MAX_LINE_LEN}
+use Rattle.mpslp_mps.specs.Line.{Fields, skipped, header, data_line, header_of, item_of, fields, is_blank, is_comment, is_skipped, is_data, outside_comment, is_legal_line}
+use Rattle.mpslp_reading.specs.LegalLine.{is_legal_byte, has_legal_length}
+use Rattle.mpslp_reading.specs.declared.lines.TheConstants.{MAX_LINE_LEN}
 use Rattle.mpslp_canonical.specs.Printed.{PrintedLine, heading, short_line, long_line, spaced, printed, item_in, ended, text_of}
 
 -- ---- lines
@@ -165,10 +166,12 @@ module _ (P : ℕ → Type 0) (visible : (b : ℕ) → is_visible b ≡ true →
 pub plain-printed : (l : PrintedLine) → IsPrintable l → Each IsPlain (printed l)
 plain-printed l h = each-printed IsPlain visible-plain (refl, refl) l h
 
-bytes-printed : (l : PrintedLine) → IsPrintable l → has_legal_bytes (printed l) ≡ true
-bytes-printed l h =
-    or_right (is_comment (printed l)) (list_all is_legal_byte (printed l))
-    (list_all-from_Each is_legal_byte (printed l) (each-printed (λ b. is_legal_byte b ≡ true) visible-legal refl l h))
+bytes-printed : (l : PrintedLine) → IsPrintable l → list_all is_legal_byte (outside_comment (printed l)) ≡ true
+bytes-printed l h = by (is_comment (printed l))
+  where
+    by : (comment : Bool) → list_all is_legal_byte (cond comment [] (printed l)) ≡ true
+    by true = refl
+    by false = list_all-from_Each is_legal_byte (printed l) (each-printed (λ b. is_legal_byte b ≡ true) visible-legal refl l h)
 
 length-after : (ws : Fields) → Each Word ws → length (after_first_field ws) ≤ 257 * length ws
 length-after [] h = omega arith
@@ -191,7 +194,7 @@ length-printed (short_line ws) h = at_most _ (omega (arith, h.few, length-spaced
 length-printed (long_line ws) h = at_most _ (omega (arith, h.few, length-spaced ws h.each))
 
 pub legal-printed : (l : PrintedLine) → IsPrintable l → is_legal_line (printed l) ≡ true
-legal-printed l h = both_so (has_legal_length (printed l)) (has_legal_bytes (printed l)) (length-printed l h) (bytes-printed l h)
+legal-printed l h = both_so (has_legal_length (printed l)) (list_all is_legal_byte (outside_comment (printed l))) (length-printed l h) (bytes-printed l h)
 
 -- ---- the text
 

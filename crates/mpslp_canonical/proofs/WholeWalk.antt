@@ -11,15 +11,16 @@ use Rattle.mpslp_model.specs.declared.kinds.Sense.TheVariants.{Minimize, Maximiz
 use Rattle.mpslp_model.proofs.EachLemmas.{Each}
 use Rattle.mpslp_mps.specs.Line.{Item}
 use Rattle.mpslp_mps.specs.Section.{begins, section_begun}
-use Rattle.mpslp_mps.specs.Context.{has_section, is_read, is_bare_objsense, wants_sense}
+use Rattle.mpslp_mps.specs.Context.{has_section, is_read}
+use Rattle.mpslp_canonical.proofs.HeaderWalk.{is_bare, wants_word}
 use Rattle.mpslp_mps.specs.declared.sections.Section.{Section}
 use Rattle.mpslp_mps.specs.declared.sections.Section.TheVariants.{Name, ObjSense, Rows, Columns, Rhs, Ranges, Bounds, EndData}
-use Rattle.mpslp_mps.proofs.PlacedLemmas.{Walk, walk-append}
-use Rattle.mpslp_mps.proofs.ObjectiveLemmas.{named-after}
-use Rattle.mpslp_mps.proofs.RowsWalk.{RowItem, row_item, row_decl, Side, side_item, side_decl, range_decl, ReadsAs}
-use Rattle.mpslp_mps.proofs.ColumnsWalk.{Cell, cell_item, cell_decl, Group, cells_of}
-use Rattle.mpslp_mps.proofs.BoundsWalk.{Bound, bound_item, bound_decl, GoodBound}
-use Rattle.mpslp_mps.proofs.HeaderWalk.{header_item, MayStand, has_section-data, settled-after}
+use Rattle.mpslp_canonical.proofs.ItemsWalk.{Walk, walk-append}
+use Rattle.mpslp_reading.proofs.ObjectiveLemmas.{named-after}
+use Rattle.mpslp_canonical.proofs.RowsWalk.{RowItem, row_item, row_decl, Side, side_item, side_decl, range_decl, ReadsAs}
+use Rattle.mpslp_canonical.proofs.ColumnsWalk.{Cell, cell_item, cell_decl, Group, cells_of}
+use Rattle.mpslp_canonical.proofs.BoundsWalk.{Bound, bound_item, bound_decl, GoodBound}
+use Rattle.mpslp_canonical.proofs.HeaderWalk.{header_item, MayStand, has_section-data, settled-after}
 use Rattle.mpslp_canonical.proofs.CanonicalItems.{under}
 use Rattle.mpslp_canonical.proofs.CanonicalWalk.{IsLate, data-settled, sides-walk, ranges-walk, bounds-walk, end-walk}
 use Rattle.mpslp_canonical.proofs.EarlyWalk.{sense_items, sense_decl, start-walk, rows-may, objective_item, rows-walk, marker_item, part_items, AreColumns, columns-walk}
@@ -42,11 +43,11 @@ under-begins : {X : Type 0} (section other : Section) (item : X → Item) → ((
 under-begins section other item none b [] = refl
 under-begins section other item none b (x ∷ xs) = rw b (no-headers other item none (x ∷ xs))
 
-under-settled : {X : Type 0} (section : Section) (item : X → Item) → is_bare_objsense (header_item section) ≡ false → ((x : X) → is_read (item x) ≡ true) → ((x : X) → is_bare_objsense (item x) ≡ false)
-    → (xs : List X) (before : List Item) → wants_sense before ≡ false → wants_sense (before ++ under section (map item xs)) ≡ false
-under-settled section item b reads bare [] before h = ap wants_sense (append-nil before) ∙ h
+under-settled : {X : Type 0} (section : Section) (item : X → Item) → is_bare (header_item section) ≡ false → ((x : X) → is_read (item x) ≡ true) → ((x : X) → is_bare (item x) ≡ false)
+    → (xs : List X) (before : List Item) → wants_word before ≡ false → wants_word (before ++ under section (map item xs)) ≡ false
+under-settled section item b reads bare [] before h = ap wants_word (append-nil before) ∙ h
 under-settled section item b reads bare (x ∷ xs) before h =
-    ap wants_sense (sym (append_assoc before (header_item section ∷ []) (map item (x ∷ xs))))
+    ap wants_word (sym (append_assoc before (header_item section ∷ []) (map item (x ∷ xs))))
     ∙ data-settled item reads bare (x ∷ xs) (before ++ header_item section ∷ []) (settled-after before (header_item section) refl b)
 
 not_none : (o : Option (List ℕ)) → is_some o ≡ true → is_none o ≡ false
@@ -61,7 +62,7 @@ still-named : (ds : Declarations) (all : Draft) → is_none all.objective ≡ fa
 still-named ds all h = not_none (adding_all all ds).objective (named-after ds all (is_named all.objective h))
 
 -- a late section, and what holds after it
-late-after : {X : Type 0} (section : Section) (item : X → Item) (ds : Declarations) → is_bare_objsense (header_item section) ≡ false → ((x : X) → is_read (item x) ≡ true) → ((x : X) → is_bare_objsense (item x) ≡ false)
+late-after : {X : Type 0} (section : Section) (item : X → Item) (ds : Declarations) → is_bare (header_item section) ≡ false → ((x : X) → is_read (item x) ≡ true) → ((x : X) → is_bare (item x) ≡ false)
     → (xs : List X) (before : List Item) (earlier : Draft) → IsLate before earlier → IsLate (before ++ under section (map item xs)) (adding_all earlier ds)
 late-after section item ds b reads bare xs before earlier h =
     record {
@@ -170,11 +171,11 @@ no-objective : (sense : Sense) → is_none (adding_all empty_draft (sense_decl s
 no-objective Minimize = refl
 no-objective Maximize = refl
 
-rows-settled : (objective : List ℕ) (rows : List RowItem) (before : List Item) → wants_sense (before ++ rows_items objective rows) ≡ false
+rows-settled : (objective : List ℕ) (rows : List RowItem) (before : List Item) → wants_word (before ++ rows_items objective rows) ≡ false
 rows-settled objective rows before =
-    ap wants_sense (sym (append_assoc before (header_item Rows ∷ objective_item objective ∷ []) (map row_item rows)))
+    ap wants_word (sym (append_assoc before (header_item Rows ∷ objective_item objective ∷ []) (map row_item rows)))
     ∙ data-settled row_item (λ _. refl) (λ _. refl) rows (before ++ header_item Rows ∷ objective_item objective ∷ [])
-    (ap wants_sense (sym (append_assoc before (header_item Rows ∷ []) (objective_item objective ∷ []))) ∙ settled-after (before ++ header_item Rows ∷ []) (objective_item objective) refl refl)
+    (ap wants_word (sym (append_assoc before (header_item Rows ∷ []) (objective_item objective ∷ []))) ∙ settled-after (before ++ header_item Rows ∷ []) (objective_item objective) refl refl)
 
 part-none : (section : Section) (cells : List Cell) → has_section (part_items cells) section ≡ false
 part-none section [] = refl
@@ -184,16 +185,16 @@ columns-none : (section : Section) (plain integers : List Group) → begins sect
 columns-none section plain integers b =
     rw b (has-append section (map cell_item (cells_of plain)) (part_items (cells_of integers)) ∙ (λ i. no-headers section cell_item (λ _. refl) (cells_of plain) i || part-none section (cells_of integers) i))
 
-part-settled : (cells : List Cell) (before : List Item) → wants_sense before ≡ false → wants_sense (before ++ part_items cells) ≡ false
-part-settled [] before h = ap wants_sense (append-nil before) ∙ h
+part-settled : (cells : List Cell) (before : List Item) → wants_word before ≡ false → wants_word (before ++ part_items cells) ≡ false
+part-settled [] before h = ap wants_word (append-nil before) ∙ h
 part-settled (cell ∷ cells) before h =
     let inner = marker_item true ∷ map cell_item (cell ∷ cells) in
-    ap wants_sense (sym (append_assoc before inner (marker_item false ∷ []))) ∙ settled-after (before ++ inner) (marker_item false) refl refl
+    ap wants_word (sym (append_assoc before inner (marker_item false ∷ []))) ∙ settled-after (before ++ inner) (marker_item false) refl refl
 
-columns-settled : (plain integers : List Group) (before : List Item) → wants_sense (before ++ columns_items plain integers) ≡ false
+columns-settled : (plain integers : List Group) (before : List Item) → wants_word (before ++ columns_items plain integers) ≡ false
 columns-settled plain integers before =
     let headed = before ++ header_item Columns ∷ [] in
-    ap wants_sense (sym (append_assoc before (header_item Columns ∷ []) (map cell_item (cells_of plain) ++ part_items (cells_of integers))) ∙ sym (append_assoc headed (map cell_item (cells_of plain)) (part_items (cells_of integers))))
+    ap wants_word (sym (append_assoc before (header_item Columns ∷ []) (map cell_item (cells_of plain) ++ part_items (cells_of integers))) ∙ sym (append_assoc headed (map cell_item (cells_of plain)) (part_items (cells_of integers))))
     ∙ part-settled (cells_of integers) (headed ++ map cell_item (cells_of plain)) (data-settled cell_item (λ _. refl) (λ _. refl) (cells_of plain) headed (settled-after before (header_item Columns) refl refl))
 
 -- The items of canonical text declare what its sections declare, and have a good form.

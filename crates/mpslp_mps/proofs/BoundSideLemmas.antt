@@ -1,33 +1,31 @@
 -- What is told of a bound, whose sides are declared by one call.
 use Rattle.std.proofs.Common.{◌≡◌, refl, sym, ap, subst, ◌∙◌, ℕ, List, [], ◌∷◌, Bool, true, false, not, cond}
-use Rattle.std.specs.Prelude.{◌&&◌, ◌||◌, Option, Some, None, is_some, Err, filter_map}
+use Rattle.std.specs.Prelude.{◌&&◌, ◌||◌, Option, Some, None, is_some, Err}
 use Rattle.std.specs.Option.{option_map, option_map_or}
-use Rattle.std.proofs.lemmas.List.{append-nil}
 use Rattle.mpslp_decimal.specs.Decimal.{Number}
 use Rattle.mpslp_model.specs.Answer.{Answers}
 use Rattle.mpslp_model.specs.Model.{limit_of}
 use Rattle.mpslp_model.specs.Bounds.{zero_limit}
 use Rattle.mpslp_model.specs.Declaration.{declare_integer, declare_lower, declare_upper, Draft, adding, has_name, has_column, bounds_declared}
-use Rattle.mpslp_model.specs.Refusal.{refusals, refusal_tests, bounds_refusals, bounds_tests}
+use Rattle.mpslp_model.specs.Refusal.{bounds_refusals, bounds_tests}
 use Rattle.mpslp_model.specs.Sides.{is_plus_infinite, is_minus_infinite}
-use Rattle.mpslp_model.specs.FaultOrder.{least_kind}
 use Rattle.mpslp_model.specs.declared.kinds.Limit.{Limit}
 use Rattle.mpslp_model.specs.declared.faults.BuildFault.{BuildFault}
 use Rattle.mpslp_model.specs.declared.faults.FaultKind.{FaultKind}
 use Rattle.mpslp_model.specs.declared.faults.FaultKind.TheVariants as kinds
 use Rattle.mpslp_mps.specs.Line.{Fields}
-use Rattle.mpslp_mps.specs.BoundLine.{BoundLine, bound_type, bound_line}
-use Rattle.mpslp_mps.specs.LineMeaning.{declared_of, value_of, bound_declared, bound_value, bound_line_declared}
-use Rattle.mpslp_mps.specs.LineFault.{kind_of_refusal}
-use Rattle.mpslp_mps.specs.FirstHeld.{first_held}
-use Rattle.mpslp_mps.specs.BuildError.{error_of_build}
-use Rattle.mpslp_mps.specs.LineAnswer.{IsToldAs}
-use Rattle.mpslp_mps.specs.DeclareAnswer.{declared_fault}
-use Rattle.mpslp_mps.specs.declared.errors.LineError.{LineError}
-use Rattle.mpslp_mps.specs.declared.errors.LineError.TheVariants.{Fault, OutOfMemory}
+use Rattle.mpslp_mps.specs.BoundLine.{BoundLine, bound_type, bound_shape}
+use Rattle.mpslp_mps.specs.LineMeaning.{declared_of, bound_declared, bound_value, bound_line_declared}
+use Rattle.mpslp_reading.specs.Field.{value_of}
+use Rattle.mpslp_reading.specs.Declaring.{declared_fault}
+use Rattle.mpslp_reading.specs.Tests.{first_held}
+use Rattle.mpslp_reading.specs.ErrorOf.{error_of_build}
+use Rattle.mpslp_reading.specs.LineAnswer.{IsErrorOf}
+use Rattle.mpslp_reading.specs.declared.errors.LineError.{LineError}
+use Rattle.mpslp_reading.specs.declared.errors.LineError.TheVariants.{Fault, OutOfMemory}
 use Rattle.mpslp_mps.specs.declared.bound_types.BoundType.{BoundType}
-use Rattle.mpslp_mps.proofs.LeastLemmas.{earlier_of}
-use Rattle.mpslp_mps.proofs.RefusedLemmas.{kind_tests, least-refusal, told-append, call-refused}
+use Rattle.mpslp_reading.proofs.LeastLemmas.{earlier_of}
+use Rattle.mpslp_reading.proofs.RefusedLemmas.{kind_tests, declared-one, declared-append, call-refused}
 
 -- the kind that is told, by whether the column is there, a side is declared already, and one is of the wrong infinity
 abbrev side_kind : Bool → Bool → Bool → Option FaultKind
@@ -37,14 +35,12 @@ side_kind there sided infinite =
 lower_told : (all : Draft) (column : List ℕ) (side : Limit)
     → declared_fault all (declare_lower column side ∷ []) ≡ side_kind (has_column all column) (has_name all.lowers column) (is_plus_infinite side)
 lower_told all column side =
-    ap (λ (faults : List BuildFault). least_kind (filter_map kind_of_refusal faults)) (append-nil (refusals all (declare_lower column side)))
-    ∙ least-refusal (refusal_tests all (declare_lower column side)) refl refl
+    declared-one all (declare_lower column side) refl
 
 upper_told : (all : Draft) (column : List ℕ) (side : Limit)
     → declared_fault all (declare_upper column side ∷ []) ≡ side_kind (has_column all column) (has_name all.uppers column) (is_minus_infinite side)
 upper_told all column side =
-    ap (λ (faults : List BuildFault). least_kind (filter_map kind_of_refusal faults)) (append-nil (refusals all (declare_upper column side)))
-    ∙ least-refusal (refusal_tests all (declare_upper column side)) refl refl
+    declared-one all (declare_upper column side) refl
 
 or_none : (b : Bool) → b ≡ (b || false)
 or_none true = refl
@@ -70,29 +66,28 @@ sides_told all column (Some l) None h =
     lower_told all column l ∙ (λ i. side_kind (has_column all column) (or_none (has_name all.lowers column) i) (or_none (is_plus_infinite l) i))
 sides_told all column None (Some u) h = upper_told all column u
 sides_told all column (Some l) (Some u) h =
-    told-append (declare_lower column l ∷ []) (declare_upper column u ∷ []) all
+    declared-append (declare_lower column l ∷ []) (declare_upper column u ∷ []) all
     ∙ (λ i. earlier_of (lower_told all column l i) (upper_told (adding all (declare_lower column l)) column u i))
     ∙ both_sides (has_column all column) (has_name all.lowers column) (is_plus_infinite l) (has_name all.uppers column) (is_minus_infinite u)
 
 pub sides-refused : (all : Draft) (column : List ℕ) (lower upper : Option Limit) (fault : BuildFault) (P Q : Type 0) → (is_some lower || is_some upper) ≡ true
-    → Answers (bounds_refusals all column lower upper) (Err fault) P Q → IsToldAs (declared_fault all (bounds_declared column lower upper)) (error_of_build fault)
+    → Answers (bounds_refusals all column lower upper) (Err fault) P Q → IsErrorOf (declared_fault all (bounds_declared column lower upper)) (error_of_build fault)
 sides-refused all column lower upper fault P Q h answer =
-    subst (λ (o : Option FaultKind). IsToldAs o (error_of_build fault)) (sym (sides_told all column lower upper h))
-    (call-refused (bounds_tests all column lower upper) fault P Q refl answer)
+    subst (λ (o : Option FaultKind). IsErrorOf o (error_of_build fault)) (sym (sides_told all column lower upper h))
+    (call-refused (bounds_tests all column lower upper) fault P Q answer)
 
 -- ---- after that the column is integer
 
 integer_told : (all : Draft) (column : List ℕ) → declared_fault all (declare_integer column ∷ []) ≡ cond (not (has_column all column)) (Some kinds.UnknownColumn) None
 integer_told all column =
-    ap (λ (faults : List BuildFault). least_kind (filter_map kind_of_refusal faults)) (append-nil (refusals all (declare_integer column)))
-    ∙ least-refusal (refusal_tests all (declare_integer column)) refl refl
+    declared-one all (declare_integer column) refl
 
 -- the sides' own fault is that of all: where there is no column, that is told of them too
 integer_sides : (all : Draft) (column : List ℕ) (lower upper : Option Limit) → (is_some lower || is_some upper) ≡ true
     → declared_fault all (declare_integer column ∷ bounds_declared column lower upper) ≡ declared_fault (adding all (declare_integer column)) (bounds_declared column lower upper)
 integer_sides all column lower upper h =
     let mid = adding all (declare_integer column) in
-    told-append (declare_integer column ∷ []) (bounds_declared column lower upper) all
+    declared-append (declare_integer column ∷ []) (bounds_declared column lower upper) all
     ∙ (λ i. earlier_of (integer_told all column i) (sides_told mid column lower upper h i))
     ∙ by (has_column all column) ((is_some lower && has_name all.lowers column) || (is_some upper && has_name all.uppers column)) (option_map_or is_plus_infinite lower false || option_map_or is_minus_infinite upper false)
     ∙ sym (sides_told mid column lower upper h)
@@ -102,14 +97,14 @@ integer_sides all column lower upper h =
     by true b c = refl
 
 pub integer-refused : (all : Draft) (column : List ℕ) (lower upper : Option Limit) (error : LineError) → (is_some lower || is_some upper) ≡ true
-    → IsToldAs (declared_fault all (declare_integer column ∷ [])) error → IsToldAs (declared_fault all (declare_integer column ∷ bounds_declared column lower upper)) error
+    → IsErrorOf (declared_fault all (declare_integer column ∷ [])) error → IsErrorOf (declared_fault all (declare_integer column ∷ bounds_declared column lower upper)) error
 integer-refused all column lower upper error h told =
     let mid = adding all (declare_integer column) in
-    subst (λ (o : Option FaultKind). IsToldAs o error) (sym (integer_sides all column lower upper h ∙ sides_told mid column lower upper h))
+    subst (λ (o : Option FaultKind). IsErrorOf o error) (sym (integer_sides all column lower upper h ∙ sides_told mid column lower upper h))
     (by (has_column all column) ((is_some lower && has_name all.lowers column) || (is_some upper && has_name all.uppers column)) (option_map_or is_plus_infinite lower false || option_map_or is_minus_infinite upper false)
-    error (subst (λ (o : Option FaultKind). IsToldAs o error) (integer_told all column) told))
+    error (subst (λ (o : Option FaultKind). IsErrorOf o error) (integer_told all column) told))
   where
-    by : (a b c : Bool) (e : LineError) → IsToldAs (cond (not a) (Some kinds.UnknownColumn) None) e → IsToldAs (side_kind a b c) e
+    by : (a b c : Bool) (e : LineError) → IsErrorOf (cond (not a) (Some kinds.UnknownColumn) None) e → IsErrorOf (side_kind a b c) e
     by a b c OutOfMemory k = tt
     by false b c (Fault kind) k = k
     by true b c (Fault kind) k = cc
@@ -122,9 +117,9 @@ value-is : (o : Option (List ℕ)) (value : Option Number) → value ≡ option_
 value-is None value h = ap (λ (v : Option Number). option_map_or limit_of v zero_limit) (sym h)
 value-is (Some literal) value h = ap (λ (v : Option Number). option_map_or limit_of v zero_limit) (sym h)
 
-pub bound-is : (letters : List ℕ) (more : Fields) (type : BoundType) (line : BoundLine) (value : Option Number) → bound_type letters ≡ Some type → bound_line type more ≡ Some line
+pub bound-is : (letters : List ℕ) (more : Fields) (type : BoundType) (line : BoundLine) (value : Option Number) → bound_type letters ≡ Some type → bound_shape type more ≡ Some line
     → value ≡ option_map value_of line.literal → bound_line_declared (letters ∷ more) ≡ bound_declared type line.column (option_map_or limit_of value zero_limit)
 bound-is letters more type line value t l v =
-    ap (declared_of (λ found. declared_of (λ (parts : BoundLine). bound_declared found parts.column (bound_value parts)) (bound_line found more))) t
+    ap (declared_of (λ found. declared_of (λ (parts : BoundLine). bound_declared found parts.column (bound_value parts)) (bound_shape found more))) t
     ∙ ap (declared_of (λ (parts : BoundLine). bound_declared type parts.column (bound_value parts))) l
     ∙ ap (bound_declared type line.column) (value-is line.literal value v)

@@ -13,100 +13,110 @@ use Rattle.mpslp_model.specs.FaultOrder.{kind_rank, least_kind}
 use Rattle.mpslp_model.specs.declared.faults.FaultKind.{FaultKind}
 use Rattle.mpslp_model.specs.declared.faults.FaultKind.TheVariants as kinds
 use Rattle.mpslp_mps.specs.Line.{Fields, data_line}
-use Rattle.mpslp_mps.specs.DataLine.{Pair, ColumnLine, column_line, is_marker_line}
+use Rattle.mpslp_mps.specs.DataLine.{Pair, ValuesLine, column_shape, is_marker_line}
 use Rattle.mpslp_mps.specs.Context.{Context}
-use Rattle.mpslp_mps.specs.FieldFault.{Tests, judged_by, name_tests, number_tests, literals_of}
-use Rattle.mpslp_mps.specs.FirstHeld.{first_held, row_value, column_values}
+use Rattle.mpslp_reading.specs.Tests.{Tests, judged_by, first_held}
+use Rattle.mpslp_reading.specs.Field.{name_tests, number_tests}
+use Rattle.mpslp_mps.specs.FieldFault.{literals_of}
+use Rattle.mpslp_mps.specs.LineValues.{row_value, named_values}
 use Rattle.mpslp_mps.specs.DataFault.{is_split, marker_tests, column_tests, data_tests}
 use Rattle.mpslp_mps.specs.LineMeaning.{coefficient_declared, data_declared, declared_of, column_declared}
-use Rattle.mpslp_mps.specs.LineFault.{declaring_faults}
-use Rattle.mpslp_mps.specs.FirstFault.{item_fault}
-use Rattle.mpslp_mps.specs.DeclareAnswer.{declared_fault}
+use Rattle.mpslp_reading.specs.Declaring.{declaring_faults, declared_fault}
+use Rattle.mpslp_mps.specs.LineAnswer.{item_fault}
 use Rattle.mpslp_mps.specs.ColumnDeclared.{front_declared, value_declared}
 use Rattle.mpslp_mps.specs.declared.sections.Section.{Section}
 use Rattle.mpslp_mps.specs.declared.sections.Section.TheVariants.{Columns}
-use Rattle.mpslp_mps.proofs.HeldLemmas.{held-third}
-use Rattle.mpslp_mps.proofs.LeastLemmas.{is_from, earlier_of, stays-least, least-those_of, least-append}
-use Rattle.mpslp_mps.proofs.ToldLemmas.{told-form, held-among, data-rising}
-use Rattle.mpslp_mps.proofs.DeclaringLemmas.{told-after, are_from}
+use Rattle.mpslp_reading.proofs.HeldLemmas.{held-third, held-among}
+use Rattle.mpslp_reading.proofs.LeastLemmas.{is_from, earlier_of, stays-least, least-those_of, least-append}
+use Rattle.mpslp_reading.specs.LineAnswer.{IsErrorOf}
+use Rattle.mpslp_reading.specs.declared.errors.LineError.{LineError}
+use Rattle.mpslp_reading.specs.declared.errors.LineError.TheVariants as errors
+use Rattle.mpslp_reading.proofs.FirstFaultLemmas.{form-first}
+use Rattle.mpslp_mps.proofs.RisingTests.{data-rising}
+use Rattle.mpslp_reading.proofs.DeclaringLemmas.{declared-after, are_from}
 use Rattle.mpslp_mps.proofs.TakingLemmas.{is_early}
 use Rattle.mpslp_mps.proofs.ColumnTaking.{are_rows, front-none, front-there, front-rows, values-late, values-unknown}
 
 -- ---- the form
 
 -- the tests of names and numbers, before that for whether the column's lines stand together
-abbrev pub field_tests : ColumnLine → Tests
-field_tests line = name_tests line.column ++ number_tests (literals_of line.pairs)
+abbrev pub field_tests : ValuesLine → Tests
+field_tests line = name_tests line.name ++ number_tests (literals_of line.pairs)
 
 abbrev split_test : Context → Draft → List ℕ → Tests
 split_test context earlier column = (is_split context earlier column, kinds.ColumnSplit) ∷ []
 
 plain-tests : (context : Context) (earlier : Draft) (fields : Fields) → is_marker_line fields ≡ false
-    → data_tests context earlier fields (Some Columns) ≡ judged_by (column_tests context earlier) (column_line fields)
-plain-tests context earlier fields h = ap (λ (b : Bool). cond b (marker_tests context fields) (judged_by (column_tests context earlier) (column_line fields))) h
+    → data_tests context earlier fields (Some Columns) ≡ judged_by (column_tests context earlier) (column_shape fields)
+plain-tests context earlier fields h = ap (λ (b : Bool). cond b (marker_tests context fields) (judged_by (column_tests context earlier) (column_shape fields))) h
 
 -- a fault of the fields is told
-held_fields : (context : Context) (earlier : Draft) (parts : Option ColumnLine) (kind : FaultKind) → first_held (judged_by field_tests parts) ≡ Some kind
+held_fields : (context : Context) (earlier : Draft) (parts : Option ValuesLine) (kind : FaultKind) → first_held (judged_by field_tests parts) ≡ Some kind
     → first_held (judged_by (column_tests context earlier) parts) ≡ Some kind
 held_fields context earlier None kind h = h
 held_fields context earlier (Some line) kind h =
-    held-third (name_tests line.column) (number_tests (literals_of line.pairs)) (split_test context earlier line.column)
-    ∙ ap (λ (o : Option FaultKind). option_or o (first_held (split_test context earlier line.column))) h
+    held-third (name_tests line.name) (number_tests (literals_of line.pairs)) (split_test context earlier line.name)
+    ∙ ap (λ (o : Option FaultKind). option_or o (first_held (split_test context earlier line.name))) h
 
-early_fields : (parts : Option ColumnLine) → list_all is_early (judged_by field_tests parts) ≡ true
+early_fields : (parts : Option ValuesLine) → list_all is_early (judged_by field_tests parts) ≡ true
 early_fields None = refl
 early_fields (Some line) = refl
 
 abbrev told_under : Context → Draft → Fields → Option Section → Option FaultKind
 told_under context earlier fields section = least_kind (those_of (data_tests context earlier fields section) ++ declaring_faults earlier (data_declared context earlier fields section))
 
-pub column-form : (context : Context) (earlier : Draft) (fields : Fields) (kind : FaultKind) → context.section ≡ Some Columns → is_marker_line fields ≡ false
-    → first_held (judged_by field_tests (column_line fields)) ≡ Some kind
-    → item_fault (record { context = context; earlier = earlier; item = data_line fields }) ≡ Some kind
+column-form : (context : Context) (earlier : Draft) (fields : Fields) (kind : FaultKind) → context.section ≡ Some Columns → is_marker_line fields ≡ false
+    → first_held (judged_by field_tests (column_shape fields)) ≡ Some kind
+    → item_fault context earlier (data_line fields) ≡ Some kind
 column-form context earlier fields kind here plain held =
     let tests = data_tests context earlier fields (Some Columns) in
     ap (told_under context earlier fields) here
-    ∙ told-form tests kind earlier (data_declared context earlier fields (Some Columns)) (data-rising context earlier fields (Some Columns))
-    (ap first_held (plain-tests context earlier fields plain) ∙ held_fields context earlier (column_line fields) kind held)
-    (held-among (λ other. is_from other kinds.UnknownRow) (judged_by field_tests (column_line fields)) kind (early_fields (column_line fields)) held)
+    ∙ form-first tests kind earlier (data_declared context earlier fields (Some Columns)) (data-rising context earlier fields (Some Columns))
+    (ap first_held (plain-tests context earlier fields plain) ∙ held_fields context earlier (column_shape fields) kind held)
+    (held-among (λ other. is_from other kinds.UnknownRow) (judged_by field_tests (column_shape fields)) kind (early_fields (column_shape fields)) held)
+
+pub column-judged : (context : Context) (earlier : Draft) (fields : Fields) (error : LineError) → context.section ≡ Some Columns → is_marker_line fields ≡ false
+    → IsErrorOf (first_held (judged_by field_tests (column_shape fields))) error → IsErrorOf (item_fault context earlier (data_line fields)) error
+column-judged context earlier fields (errors.Fault kind) here plain held = column-form context earlier fields kind here plain held
+column-judged context earlier fields errors.OutOfMemory here plain held = tt
 
 -- ---- the form and what is declared
 
 -- where the fields are in order, the form tells of a split alone
-held_split : (context : Context) (earlier : Draft) (parts : Option ColumnLine) (column : List ℕ) (values : List (List ℕ × Number))
-    → first_held (judged_by field_tests parts) ≡ None → option_map column_values parts ≡ Some (column, values)
+held_split : (context : Context) (earlier : Draft) (parts : Option ValuesLine) (column : List ℕ) (values : List (List ℕ × Number))
+    → first_held (judged_by field_tests parts) ≡ None → option_map named_values parts ≡ Some (column, values)
     → first_held (judged_by (column_tests context earlier) parts) ≡ first_held (split_test context earlier column)
 held_split context earlier None column values h is = cc
 held_split context earlier (Some line) column values h is =
-    let same : line.column ≡ column = ap (λ (o : Option (List ℕ × List (List ℕ × Number))). elim o as (λ _. List ℕ) [ None ↦ [] | Some p ↦ p.0 ]) is in
-    held-third (name_tests line.column) (number_tests (literals_of line.pairs)) (split_test context earlier line.column)
-    ∙ ap (λ (o : Option FaultKind). option_or o (first_held (split_test context earlier line.column))) h
+    let same : line.name ≡ column = ap (λ (o : Option (List ℕ × List (List ℕ × Number))). elim o as (λ _. List ℕ) [ None ↦ [] | Some p ↦ p.0 ]) is in
+    held-third (name_tests line.name) (number_tests (literals_of line.pairs)) (split_test context earlier line.name)
+    ∙ ap (λ (o : Option FaultKind). option_or o (first_held (split_test context earlier line.name))) h
     ∙ ap (λ (name : List ℕ). first_held (split_test context earlier name)) same
 
 values_declared : (column : List ℕ) (pairs : List Pair) → flat_map (coefficient_declared column) pairs ≡ flat_map (value_declared column) (map row_value pairs)
 values_declared column [] = refl
 values_declared column (pair ∷ pairs) = ap (λ (ds : Declarations). value_declared column (row_value pair) ++ ds) (values_declared column pairs)
 
-line_declared : (context : Context) (parts : Option ColumnLine) (column : List ℕ) (values : List (List ℕ × Number)) → option_map column_values parts ≡ Some (column, values)
+line_declared : (context : Context) (parts : Option ValuesLine) (column : List ℕ) (values : List (List ℕ × Number)) → option_map named_values parts ≡ Some (column, values)
     → declared_of (column_declared context) parts ≡ front_declared context.in_integer_part column ++ flat_map (value_declared column) values
 line_declared context None column values is = cc
 line_declared context (Some line) column values is =
-    ap (λ (ds : Declarations). front_declared context.in_integer_part line.column ++ ds) (values_declared line.column line.pairs)
+    ap (λ (ds : Declarations). front_declared context.in_integer_part line.name ++ ds) (values_declared line.name line.pairs)
     ∙ ap (λ (o : Option (List ℕ × List (List ℕ × Number))). elim o as (λ _. Declarations) [ None ↦ [] | Some p ↦ front_declared context.in_integer_part p.0 ++ flat_map (value_declared p.0) p.1 ]) is
 
 pub column-declares : (context : Context) (earlier : Draft) (fields : Fields) (column : List ℕ) (values : List (List ℕ × Number)) → is_marker_line fields ≡ false
-    → option_map column_values (column_line fields) ≡ Some (column, values)
+    → option_map named_values (column_shape fields) ≡ Some (column, values)
     → data_declared context earlier fields (Some Columns) ≡ front_declared context.in_integer_part column ++ flat_map (value_declared column) values
 column-declares context earlier fields column values plain is =
-    ap (λ (b : Bool). cond b [] (declared_of (column_declared context) (column_line fields))) plain ∙ line_declared context (column_line fields) column values is
+    ap (λ (b : Bool). cond b [] (declared_of (column_declared context) (column_shape fields))) plain ∙ line_declared context (column_shape fields) column values is
 
 -- the draft in which the column stands
 abbrev pub with_column : Context → Draft → List ℕ → Draft
 with_column context earlier column = adding_all earlier (front_declared context.in_integer_part column)
 
 pub column-told : (context : Context) (earlier : Draft) (fields : Fields) (column : List ℕ) (values : List (List ℕ × Number)) → context.section ≡ Some Columns
-    → is_marker_line fields ≡ false → first_held (judged_by field_tests (column_line fields)) ≡ None → option_map column_values (column_line fields) ≡ Some (column, values)
-    → item_fault (record { context = context; earlier = earlier; item = data_line fields })
+    → is_marker_line fields ≡ false → first_held (judged_by field_tests (column_shape fields)) ≡ None → option_map named_values (column_shape fields) ≡ Some (column, values)
+    → item_fault context earlier (data_line fields)
     ≡ earlier_of (first_held (split_test context earlier column)) (declared_fault (with_column context earlier column) (flat_map (value_declared column) values))
 column-told context earlier fields column values here plain held is =
     let tests = data_tests context earlier fields (Some Columns) in
@@ -117,10 +127,10 @@ column-told context earlier fields column values here plain held is =
     ∙ least-append (those_of tests) (declaring_faults earlier ds)
     ∙ ap (λ (o : Option FaultKind). earlier_of o (declared_fault earlier ds))
     (least-those_of tests (data-rising context earlier fields (Some Columns)) ∙ ap first_held (plain-tests context earlier fields plain)
-    ∙ held_split context earlier (column_line fields) column values held is)
+    ∙ held_split context earlier (column_shape fields) column values held is)
     ∙ ap (earlier_of (first_held (split_test context earlier column)))
     (ap (declared_fault earlier) (column-declares context earlier fields column values plain is)
-    ∙ told-after earlier front coefficients (front-none earlier context.in_integer_part column))
+    ∙ declared-after earlier front coefficients (front-none earlier context.in_integer_part column))
 
 -- ---- the place
 
@@ -136,9 +146,9 @@ late_enough (Some kind) h = more (kind_rank kind) h
     more n k = grind (arith, nat_tests)
 
 pub place-told : (context : Context) (earlier : Draft) (fields : Fields) (column : List ℕ) (values : List (List ℕ × Number)) (kind : FaultKind) → context.section ≡ Some Columns
-    → is_marker_line fields ≡ false → first_held (judged_by field_tests (column_line fields)) ≡ None → option_map column_values (column_line fields) ≡ Some (column, values)
+    → is_marker_line fields ≡ false → first_held (judged_by field_tests (column_shape fields)) ≡ None → option_map named_values (column_shape fields) ≡ Some (column, values)
     → first_held (place_tests context earlier column values) ≡ Some kind
-    → item_fault (record { context = context; earlier = earlier; item = data_line fields }) ≡ Some kind
+    → item_fault context earlier (data_line fields) ≡ Some kind
 place-told context earlier fields column values kind here plain held is placed =
     column-told context earlier fields column values here plain held is ∙ by (are_rows earlier values) refl (is_split context earlier column) placed
   where
@@ -173,9 +183,9 @@ placed context earlier column values h = by (are_rows earlier values) (is_split 
     by true false e = (refl, refl)
 
 pub placed-told : (context : Context) (earlier : Draft) (fields : Fields) (column : List ℕ) (values : List (List ℕ × Number)) → context.section ≡ Some Columns
-    → is_marker_line fields ≡ false → first_held (judged_by field_tests (column_line fields)) ≡ None → option_map column_values (column_line fields) ≡ Some (column, values)
+    → is_marker_line fields ≡ false → first_held (judged_by field_tests (column_shape fields)) ≡ None → option_map named_values (column_shape fields) ≡ Some (column, values)
     → first_held (place_tests context earlier column values) ≡ None
-    → item_fault (record { context = context; earlier = earlier; item = data_line fields }) ≡ declared_fault (with_column context earlier column) (flat_map (value_declared column) values)
+    → item_fault context earlier (data_line fields) ≡ declared_fault (with_column context earlier column) (flat_map (value_declared column) values)
 placed-told context earlier fields column values here plain held is in_order =
     let coefficients = declared_fault (with_column context earlier column) (flat_map (value_declared column) values) in
     column-told context earlier fields column values here plain held is
@@ -183,12 +193,12 @@ placed-told context earlier fields column values here plain held is in_order =
 
 -- ---- the column's name
 
-pub column-named : (parts : Option ColumnLine) (column : List ℕ) (values : List (List ℕ × Number)) → first_held (judged_by field_tests parts) ≡ None
-    → option_map column_values parts ≡ Some (column, values) → is_mps_name column ≡ true
+pub column-named : (parts : Option ValuesLine) (column : List ℕ) (values : List (List ℕ × Number)) → first_held (judged_by field_tests parts) ≡ None
+    → option_map named_values parts ≡ Some (column, values) → is_mps_name column ≡ true
 column-named None column values h is = cc
 column-named (Some line) column values h is =
-    let same : line.column ≡ column = ap (λ (o : Option (List ℕ × List (List ℕ × Number))). elim o as (λ _. List ℕ) [ None ↦ [] | Some p ↦ p.0 ]) is in
-    ap is_mps_name (sym same) ∙ by (has_name_length line.column) (list_all is_visible line.column) (same_bytes line.column marker) h
+    let same : line.name ≡ column = ap (λ (o : Option (List ℕ × List (List ℕ × Number))). elim o as (λ _. List ℕ) [ None ↦ [] | Some p ↦ p.0 ]) is in
+    ap is_mps_name (sym same) ∙ by (has_name_length line.name) (list_all is_visible line.name) (same_bytes line.name marker) h
   where
     more : Tests
     more = number_tests (literals_of line.pairs)

@@ -1,6 +1,6 @@
 -- Lines of COLUMNS: what is told of their form and of what they declare together.
-use Rattle.std.proofs.Common.{◌≡◌, refl, sym, ap, subst, ◌∙◌, ℕ, List, [], ◌∷◌, ◌++◌, Bool, true, false, cond}
-use Rattle.std.specs.Prelude.{◌||◌, ◌&&◌, not, Option, Some, None, filter_map}
+use Rattle.std.proofs.Common.{◌≡◌, refl, sym, ap, subst, ◌∙◌, ℕ, List, [], ◌∷◌, ◌++◌, Bool, true, false, cond, map}
+use Rattle.std.specs.Prelude.{◌||◌, ◌&&◌, not, Option, Some, None}
 use Rattle.std.specs.List.{list_all, flat_map}
 use Rattle.std.specs.Cmp.{first_so, second_so}
 use Rattle.mpslp_decimal.specs.Decimal.{Number}
@@ -13,39 +13,38 @@ use Rattle.mpslp_model.proofs.LaterDrafts.{itself_named}
 use Rattle.mpslp_model.specs.declared.faults.FaultKind.{FaultKind}
 use Rattle.mpslp_model.specs.declared.faults.FaultKind.TheVariants as kinds
 use Rattle.mpslp_mps.specs.Line.{Fields}
-use Rattle.mpslp_mps.specs.DataLine.{column_line, is_marker_line, marker_line}
+use Rattle.mpslp_mps.specs.DataLine.{column_shape, is_marker_line, marker_shape}
 use Rattle.mpslp_mps.specs.Context.{Context}
-use Rattle.mpslp_mps.specs.FieldFault.{judged_by}
+use Rattle.mpslp_reading.specs.Tests.{judged_by}
 use Rattle.mpslp_mps.specs.DataFault.{marker_tests, marker_word_tests, is_sos_marker, column_tests, data_tests}
 use Rattle.mpslp_mps.specs.LineMeaning.{data_declared, declared_of, column_declared}
-use Rattle.mpslp_mps.specs.LineFault.{kind_of_refusal}
-use Rattle.mpslp_mps.specs.DeclareAnswer.{declared_fault}
+use Rattle.mpslp_reading.specs.Declaring.{kind_of_refusal, declared_fault}
 use Rattle.mpslp_mps.specs.ColumnDeclared.{front_declared, value_declared}
-use Rattle.mpslp_mps.specs.LineAnswer.{IsToldAs}
-use Rattle.mpslp_mps.specs.declared.errors.LineError.{LineError}
-use Rattle.mpslp_mps.specs.declared.errors.LineError.TheVariants.{Fault, OutOfMemory}
+use Rattle.mpslp_reading.specs.LineAnswer.{IsErrorOf}
+use Rattle.mpslp_reading.specs.declared.errors.LineError.{LineError}
+use Rattle.mpslp_reading.specs.declared.errors.LineError.TheVariants.{Fault, OutOfMemory}
 use Rattle.mpslp_mps.specs.declared.sections.Section.TheVariants.{Columns}
-use Rattle.mpslp_mps.proofs.LeastLemmas.{lesser, earlier_of, stays-least}
-use Rattle.mpslp_mps.proofs.ToldLemmas.{told-form}
-use Rattle.mpslp_mps.proofs.RefusedLemmas.{told-append}
-use Rattle.mpslp_mps.proofs.DeclaringLemmas.{told-one, told-after, are_from, from-earlier}
+use Rattle.mpslp_reading.proofs.LeastLemmas.{lesser, earlier_of, stays-least}
+use Rattle.mpslp_reading.proofs.FirstFaultLemmas.{form-first}
+use Rattle.mpslp_reading.proofs.RefusedLemmas.{declared-append, declared-one}
+use Rattle.mpslp_reading.proofs.DeclaringLemmas.{declared-after, are_from, from-earlier}
 use Rattle.mpslp_mps.proofs.TakingLemmas.{is_early}
 
 -- ---- marker lines
 
 pub marker-tests : (context : Context) (earlier : Draft) (fields : Fields) → is_marker_line fields ≡ true
     → data_tests context earlier fields (Some Columns) ≡ marker_tests context fields
-marker-tests context earlier fields h = ap (λ (b : Bool). cond b (marker_tests context fields) (judged_by (column_tests context earlier) (column_line fields))) h
+marker-tests context earlier fields h = ap (λ (b : Bool). cond b (marker_tests context fields) (judged_by (column_tests context earlier) (column_shape fields))) h
 
 pub marker-early : (context : Context) (fields : Fields) → list_all is_early (marker_tests context fields) ≡ true
-marker-early context fields = of (marker_line fields)
+marker-early context fields = of (marker_shape fields)
   where
     of : (o : Option (List ℕ)) → list_all is_early ((is_sos_marker fields, kinds.Sos) ∷ judged_by (marker_word_tests context) o) ≡ true
     of None = refl
     of (Some word) = refl
 
 pub marker-declares : (context : Context) (earlier : Draft) (fields : Fields) → is_marker_line fields ≡ true → data_declared context earlier fields (Some Columns) ≡ []
-marker-declares context earlier fields h = ap (λ (b : Bool). cond b [] (declared_of (column_declared context) (column_line fields))) h
+marker-declares context earlier fields h = ap (λ (b : Bool). cond b [] (declared_of (column_declared context) (column_shape fields))) h
 
 -- ---- what a line of a column declares
 
@@ -58,7 +57,7 @@ column-there earlier column =
 pub front-none : (earlier : Draft) (marked : Bool) (column : List ℕ) → declared_fault earlier (front_declared marked column) ≡ None
 front-none earlier false column = refl
 front-none earlier true column =
-    ap (λ (b : Bool). least_kind (filter_map kind_of_refusal (those_of ((not b, UnknownColumn) ∷ []) ++ []))) (column-there earlier column)
+    ap (λ (b : Bool). least_kind (map kind_of_refusal (those_of ((not b, UnknownColumn) ∷ []) ++ []))) (column-there earlier column)
 
 pub front-there : (earlier : Draft) (marked : Bool) (column : List ℕ) → has_column (adding_all earlier (front_declared marked column)) column ≡ true
 front-there earlier true column = column-there earlier column
@@ -77,7 +76,7 @@ pub value-told : (earlier : Draft) (column : List ℕ) (value : List ℕ × Numb
     → declared_fault earlier (value_declared column value)
     ≡ cond (not (has_row earlier value.0)) (Some kinds.UnknownRow) (cond (has_entry earlier (record { row = value.0; column = column })) (Some kinds.DuplicateEntry) None)
 value-told earlier column value there =
-    told-one earlier (declare_coefficient (record { row = value.0; column = column }) value.1) refl refl
+    declared-one earlier (declare_coefficient (record { row = value.0; column = column }) value.1) refl
     ∙ ap (λ (b : Bool). cond (not (has_row earlier value.0)) (Some kinds.UnknownRow) (cond (not b) (Some kinds.UnknownColumn) (cond (has_entry earlier (record { row = value.0; column = column })) (Some kinds.DuplicateEntry) None))) there
 
 entry-late : (b : Bool) → are_from kinds.DuplicateEntry (cond b (Some kinds.DuplicateEntry) None) ≡ true
@@ -100,14 +99,14 @@ values-late (value ∷ values) earlier column there rows =
     let next = adding_all earlier (value_declared column value) in
     let first = declared_fault earlier (value_declared column value) in
     let later = declared_fault next (flat_map (value_declared column) values) in
-    ap (are_from kinds.DuplicateEntry) (told-append (value_declared column value) (flat_map (value_declared column) values) earlier)
+    ap (are_from kinds.DuplicateEntry) (declared-append (value_declared column value) (flat_map (value_declared column) values) earlier)
     ∙ from-earlier kinds.DuplicateEntry first later (value-late earlier column value there (first_so (has_row earlier value.0) (are_rows earlier values) rows))
     (values-late values next column there (second_so (has_row earlier value.0) (are_rows earlier values) rows))
 
 -- the first value is refused
 pub values-refused : (earlier : Draft) (column : List ℕ) (value : List ℕ × Number) (values : List (List ℕ × Number)) (error : LineError)
-    → has_column earlier column ≡ true → are_rows earlier (value ∷ values) ≡ true → IsToldAs (declared_fault earlier (value_declared column value)) error
-    → IsToldAs (declared_fault earlier (flat_map (value_declared column) (value ∷ values))) error
+    → has_column earlier column ≡ true → are_rows earlier (value ∷ values) ≡ true → IsErrorOf (declared_fault earlier (value_declared column value)) error
+    → IsErrorOf (declared_fault earlier (flat_map (value_declared column) (value ∷ values))) error
 values-refused earlier column value values OutOfMemory there rows told = tt
 values-refused earlier column value values (Fault kind) there rows told =
     let next = adding_all earlier (value_declared column value) in
@@ -116,7 +115,7 @@ values-refused earlier column value values (Fault kind) there rows told =
     let double = has_entry earlier (record { row = value.0; column = column }) in
     let is : cond double (Some kinds.DuplicateEntry) None ≡ Some kind =
     ap (λ (b : Bool). cond (not b) (Some kinds.UnknownRow) (cond double (Some kinds.DuplicateEntry) None)) (sym row) ∙ sym (value-told earlier column value there) ∙ told in
-    told-append (value_declared column value) (flat_map (value_declared column) values) earlier
+    declared-append (value_declared column value) (flat_map (value_declared column) values) earlier
     ∙ ap (λ (o : Option FaultKind). earlier_of o later) told
     ∙ ap (λ (k : FaultKind). Some k)
     (ap (λ (k : FaultKind). lesser k later) (sym (entry_kind double kind is))
@@ -130,18 +129,18 @@ values-refused earlier column value values (Fault kind) there rows told =
 -- the second one is
 pub second-refused : (earlier next : Draft) (column : List ℕ) (value other : List ℕ × Number) (error : LineError)
     → declared_fault earlier (value_declared column value) ≡ None → next ≡ adding_all earlier (value_declared column value)
-    → IsToldAs (declared_fault next (value_declared column other)) error
-    → IsToldAs (declared_fault earlier (flat_map (value_declared column) (value ∷ other ∷ []))) error
+    → IsErrorOf (declared_fault next (value_declared column other)) error
+    → IsErrorOf (declared_fault earlier (flat_map (value_declared column) (value ∷ other ∷ []))) error
 second-refused earlier next column value other error none is told =
-    subst (λ (o : Option FaultKind). IsToldAs o error)
-    (ap (λ (d : Draft). declared_fault d (value_declared column other)) is ∙ sym (told-after earlier (value_declared column value) (value_declared column other) none)) told
+    subst (λ (o : Option FaultKind). IsErrorOf o error)
+    (ap (λ (d : Draft). declared_fault d (value_declared column other)) is ∙ sym (declared-after earlier (value_declared column value) (value_declared column other) none)) told
 
 -- a row that is not declared comes first
 pub values-unknown : (values : List (List ℕ × Number)) (earlier : Draft) (column : List ℕ) → has_column earlier column ≡ true → are_rows earlier values ≡ false
     → declared_fault earlier (flat_map (value_declared column) values) ≡ Some kinds.UnknownRow
 values-unknown [] earlier column there rows = cc
 values-unknown (value ∷ values) earlier column there rows =
-    told-append (value_declared column value) more earlier
+    declared-append (value_declared column value) more earlier
     ∙ ap (λ (o : Option FaultKind). earlier_of o later) (value-told earlier column value there)
     ∙ by (has_row earlier value.0) double rows (λ h. values-unknown values next column there h)
   where
@@ -159,6 +158,6 @@ values-unknown (value ∷ values) earlier column there rows =
 
     by : (row b : Bool) → (row && are_rows earlier values) ≡ false → (are_rows earlier values ≡ false → later ≡ Some kinds.UnknownRow)
         → earlier_of (cond (not row) (Some kinds.UnknownRow) (cond b (Some kinds.DuplicateEntry) None)) later ≡ Some kinds.UnknownRow
-    by false b h rest = told-form ((true, kinds.UnknownRow) ∷ []) kinds.UnknownRow next more refl refl refl
+    by false b h rest = form-first ((true, kinds.UnknownRow) ∷ []) kinds.UnknownRow next more refl refl refl
     by true true h rest = ap (λ (o : Option FaultKind). Some (lesser kinds.DuplicateEntry o)) (rest h)
     by true false h rest = rest h

@@ -10,7 +10,7 @@ use Rattle.mpslp_model.specs.Lists.{head_of}
 use Rattle.mpslp_mps.specs.Line.{Fields, Item, skipped, header, data_line}
 use Rattle.mpslp_mps.specs.Section.{is_section}
 use Rattle.mpslp_mps.specs.DataLine.{opening_word}
-use Rattle.mpslp_mps.specs.Context.{seen_in, is_read, is_bare_objsense, wants_sense, marker_word, line_column, vector_set, bound_set, first_set, current_section, fields_under, data_lines, context_of}
+use Rattle.mpslp_mps.specs.Context.{seen_in, is_read, wanting, wanted, marker_word, line_column, vector_set, bound_set, first_set, current_section, fields_under, data_lines, context_of}
 use Rattle.mpslp_mps.specs.NextContext.{next_seen, changed_under, next_part, next_set, next_context}
 use Rattle.mpslp_mps.specs.declared.sections.Section.{Section}
 use Rattle.mpslp_mps.specs.declared.sections.Section.TheVariants.{Name, ObjSense, Rows, Columns, Rhs, Ranges, Bounds}
@@ -27,13 +27,13 @@ seen-push before item = λ i. record {
   bounds = has_section-push Bounds before item i;
 }
 
-pub wants_sense-push : (before : List Item) (item : Item) → wants_sense (before ++ item ∷ []) ≡ cond (is_read item) (is_bare_objsense item) (wants_sense before)
-wants_sense-push before item =
-    ap (λ (o : Option Item). option_map_or is_bare_objsense o false)
+pub wanted-push : (before : List Item) (item : Item) → wanted (before ++ item ∷ []) ≡ cond (is_read item) (wanting item) (wanted before)
+wanted-push before item =
+    ap (λ (o : Option Item). option_map_or wanting o None)
     (ap (last_or None) (filter-append is_read before (item ∷ [])) ∙ last_or-append None (filter is_read before) (filter is_read (item ∷ [])))
     ∙ by (is_read item) (last_or None (filter is_read before))
   where
-    by : (b : Bool) (o : Option Item) → option_map_or is_bare_objsense (last_or o (cond b (item ∷ []) [])) false ≡ cond b (is_bare_objsense item) (option_map_or is_bare_objsense o false)
+    by : (b : Bool) (o : Option Item) → option_map_or wanting (last_or o (cond b (item ∷ []) [])) None ≡ cond b (wanting item) (option_map_or wanting o None)
     by true o = refl
     by false o = refl
 
@@ -81,7 +81,7 @@ pub context-push : (before : List Item) (item : Item) → context_of (before ++ 
 context-push before item = λ i. record {
   section = current_section-push before item i;
   seen = seen-push before item i;
-  wants_sense = wants_sense-push before item i;
+  wanted = wanted-push before item i;
   in_integer_part = under-push Columns (λ lines. option_map_or (same_bytes opening_word) (last_or None (filter_map marker_word lines)) false) next_part part_reading before item i;
   last_column = under-push Columns (λ lines. option_map_or line_column (last_or None lines) None) (λ fields _. line_column fields) column_reading before item i;
   rhs_set = under-push Rhs (first_set vector_set) (next_set vector_set) (set_reading vector_set) before item i;

@@ -10,21 +10,23 @@ use Rattle.mpslp_mps.specs.Section.{section_named}
 use Rattle.mpslp_mps.specs.Context.{Context}
 use Rattle.mpslp_mps.specs.NextContext.{next_context}
 use Rattle.mpslp_mps.specs.LineMeaning.{declared}
-use Rattle.mpslp_mps.specs.LineFault.{form_tests, declaring_faults}
-use Rattle.mpslp_mps.specs.LineAnswer.{LineResult, IsToldAs, Takes}
+use Rattle.mpslp_mps.specs.LineFault.{item_tests}
+use Rattle.mpslp_reading.specs.Declaring.{declaring_faults}
+use Rattle.mpslp_reading.specs.LineAnswer.{LineResult, IsErrorOf}
+use Rattle.mpslp_mps.specs.LineAnswer.{ReadsItem}
 use Rattle.mpslp_mps.proofs.FrontLemmas.{data_tests-front, data_declared-front, next_context-front, header_tests-front, header_declared-front}
 
 -- items that are judged alike, declare alike and leave the same context are taken alike
 taken_as : (context : Context) (earlier : Draft) (item other : Item) (answer : LineResult) (next : Context) (later : Draft)
-    → form_tests context earlier item ≡ form_tests context earlier other → declared context earlier item ≡ declared context earlier other
-    → next_context context item ≡ next_context context other → Takes context earlier item answer next later → Takes context earlier other answer next later
+    → item_tests context earlier item ≡ item_tests context earlier other → declared context earlier item ≡ declared context earlier other
+    → next_context context item ≡ next_context context other → ReadsItem context earlier item answer next later → ReadsItem context earlier other answer next later
 taken_as context earlier item other (Ok x) next later tests ds step (told, is, draft) =
     (sym (λ i. least_kind (those_of (tests i) ++ declaring_faults earlier (ds i))) ∙ told, is ∙ step, draft ∙ ap (adding_all earlier) ds)
 taken_as context earlier item other (Err error) next later tests ds step told =
-    subst (λ (o : Option FaultKind). IsToldAs o error) (λ i. least_kind (those_of (tests i) ++ declaring_faults earlier (ds i))) told
+    subst (λ (o : Option FaultKind). IsErrorOf o error) (λ i. least_kind (those_of (tests i) ++ declaring_faults earlier (ds i))) told
 
 pub data-front : (context : Context) (earlier : Draft) (fields : Fields) (answer : LineResult) (next : Context) (later : Draft)
-    → Takes context earlier (data_line (take 6 fields)) answer next later → Takes context earlier (data_line fields) answer next later
+    → ReadsItem context earlier (data_line (take 6 fields)) answer next later → ReadsItem context earlier (data_line fields) answer next later
 data-front context earlier fields answer next later taken =
     taken_as context earlier (data_line (take 6 fields)) (data_line fields) answer next later (data_tests-front context earlier context.section fields)
     (data_declared-front context earlier context.section fields) (next_context-front context fields) taken
@@ -34,7 +36,7 @@ next_header context keyword [] = refl
 next_header context keyword (word ∷ more) = refl
 
 pub header-front : (context : Context) (earlier : Draft) (fields : Fields) (answer : LineResult) (next : Context) (later : Draft)
-    → Takes context earlier (header_of (take 6 fields)) answer next later → Takes context earlier (header_of fields) answer next later
+    → ReadsItem context earlier (header_of (take 6 fields)) answer next later → ReadsItem context earlier (header_of fields) answer next later
 header-front context earlier [] answer next later taken = taken
 header-front context earlier (keyword ∷ more) answer next later taken =
     taken_as context earlier (header keyword (take 5 more)) (header keyword more) answer next later (header_tests-front context keyword (section_named keyword) more)

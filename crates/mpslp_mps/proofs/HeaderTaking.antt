@@ -9,15 +9,17 @@ use Rattle.mpslp_model.specs.declared.faults.FaultKind.TheVariants as kinds
 use Rattle.mpslp_mps.specs.Line.{Fields, header}
 use Rattle.mpslp_mps.specs.Section.{section_named}
 use Rattle.mpslp_mps.specs.Context.{Context}
-use Rattle.mpslp_mps.specs.FirstHeld.{first_held}
+use Rattle.mpslp_reading.specs.Tests.{first_held}
 use Rattle.mpslp_mps.specs.HeaderFault.{unknown_section, header_tests}
 use Rattle.mpslp_mps.specs.LineMeaning.{header_declared}
-use Rattle.mpslp_mps.specs.FirstFault.{item_fault}
-use Rattle.mpslp_mps.specs.DeclareAnswer.{declared_fault}
+use Rattle.mpslp_mps.specs.LineAnswer.{item_fault}
+use Rattle.mpslp_reading.specs.Declaring.{declared_fault}
 use Rattle.mpslp_mps.specs.declared.sections.Section.{Section}
 use Rattle.mpslp_mps.specs.declared.sections.Section.TheVariants.{Name, ObjSense, Rows, Columns, Rhs, Ranges, Bounds, EndData}
-use Rattle.mpslp_mps.proofs.LeastLemmas.{is_from}
-use Rattle.mpslp_mps.proofs.ToldLemmas.{told-form, told-declared, held-among, header-rising}
+use Rattle.mpslp_reading.proofs.LeastLemmas.{is_from}
+use Rattle.mpslp_reading.proofs.FirstFaultLemmas.{form-first, declared-first}
+use Rattle.mpslp_reading.proofs.HeldLemmas.{held-among}
+use Rattle.mpslp_mps.proofs.RisingTests.{header-rising}
 use Rattle.mpslp_mps.proofs.TakingLemmas.{is_early}
 
 unknown_early : (keyword : List ℕ) → list_all is_early ((true, unknown_section keyword) ∷ []) ≡ true
@@ -45,16 +47,16 @@ header-early context keyword more (Some EndData) = refl
 
 pub header-form : (context : Context) (earlier : Draft) (keyword : List ℕ) (more : Fields) (kind : FaultKind)
     → first_held (header_tests context keyword more (section_named keyword)) ≡ Some kind
-    → item_fault (record { context = context; earlier = earlier; item = header keyword more }) ≡ Some kind
+    → item_fault context earlier (header keyword more) ≡ Some kind
 header-form context earlier keyword more kind held =
     let tests = header_tests context keyword more (section_named keyword) in
-    told-form tests kind earlier (header_declared earlier more (section_named keyword)) (header-rising context keyword more (section_named keyword)) held
+    form-first tests kind earlier (header_declared earlier more (section_named keyword)) (header-rising context keyword more (section_named keyword)) held
     (held-among (λ other. is_from other kinds.UnknownRow) tests kind (header-early context keyword more (section_named keyword)) held)
 
 pub header-declares : (context : Context) (earlier : Draft) (keyword : List ℕ) (more : Fields) (section : Section) → section_named keyword ≡ Some section
     → first_held (header_tests context keyword more (section_named keyword)) ≡ None
-    → item_fault (record { context = context; earlier = earlier; item = header keyword more }) ≡ declared_fault earlier (header_declared earlier more (Some section))
+    → item_fault context earlier (header keyword more) ≡ declared_fault earlier (header_declared earlier more (Some section))
 header-declares context earlier keyword more section is held =
-    told-declared (header_tests context keyword more (section_named keyword)) earlier (header_declared earlier more (section_named keyword))
+    declared-first (header_tests context keyword more (section_named keyword)) earlier (header_declared earlier more (section_named keyword))
     (header-rising context keyword more (section_named keyword)) held
     ∙ ap (λ (o : Option Section). declared_fault earlier (header_declared earlier more o)) is

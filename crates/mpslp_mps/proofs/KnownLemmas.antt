@@ -18,12 +18,13 @@ use Rattle.mpslp_model.proofs.LaterDrafts.{itself_named}
 use Rattle.mpslp_model.proofs.SlotLemmas.{has-put}
 use Rattle.mpslp_mps.specs.Line.{Fields, Item, skipped, header, data_line}
 use Rattle.mpslp_mps.specs.Section.{section_named, begins, is_section}
-use Rattle.mpslp_mps.specs.DataLine.{RowLine, Pair, ColumnLine, VectorLine, sense_line, sense_of, row_line, row_type, column_line, is_marker_line, vector_line}
-use Rattle.mpslp_mps.specs.BoundLine.{BoundLine, bound_type, bound_line}
+use Rattle.mpslp_mps.specs.DataLine.{RowLine, Pair, ValuesLine, sense_shape, sense_of, row_shape, row_type, column_shape, is_marker_line, vector_shape}
+use Rattle.mpslp_mps.specs.BoundLine.{BoundLine, bound_type, bound_shape}
 use Rattle.mpslp_mps.specs.Context.{Context, context_of, current_section, has_section}
-use Rattle.mpslp_mps.specs.LineMeaning.{declared_of, value_of, sense_declared, row_of_type, row_declared, coefficient_declared, column_declared, columns_line_declared, right_sides_declared, ranges_declared, bound_declared, bound_value, bound_line_declared, data_declared, header_declared, declared}
+use Rattle.mpslp_mps.specs.LineMeaning.{declared_of, sense_declared, row_of_type, row_declared, coefficient_declared, column_declared, columns_line_declared, right_sides_declared, ranges_declared, bound_declared, bound_value, bound_line_declared, data_declared, header_declared, declared}
+use Rattle.mpslp_reading.specs.Field.{value_of}
 use Rattle.mpslp_mps.specs.HeaderFault.{header_tests}
-use Rattle.mpslp_mps.specs.LineFault.{form_faults}
+use Rattle.mpslp_mps.proofs.PlacedLemmas.{form_faults}
 use Rattle.mpslp_mps.specs.declared.sections.Section.{Section}
 use Rattle.mpslp_mps.specs.declared.sections.Section.TheVariants.{Name, ObjSense, Rows, Columns, Rhs, Ranges, Bounds, EndData}
 use Rattle.mpslp_mps.specs.declared.bound_types.BoundType.{BoundType}
@@ -86,7 +87,7 @@ no-columns-data context earlier fields None h = refl
 no-columns-data context earlier fields (Some Name) h = refl
 no-columns-data context earlier fields (Some ObjSense) h = sense-passes (λ d. not (declares_column d)) (λ _. refl) fields
 no-columns-data context earlier fields (Some Rows) h =
-    each-declared (λ d. not (declares_column d)) (row_declared earlier) (row_line fields)
+    each-declared (λ d. not (declares_column d)) (row_declared earlier) (row_shape fields)
     (λ line. each-declared (λ d. not (declares_column d)) (row_of_type earlier line.name) (row_type line.letter) (λ type. row-no-columns earlier line.name type))
 no-columns-data context earlier fields (Some Columns) h = cc
 no-columns-data context earlier fields (Some Rhs) h = sides-passes (λ d. not (declares_column d)) passes-no_columns earlier fields
@@ -158,28 +159,28 @@ cells-known final before column (pair ∷ pairs) rows c h =
 column-there : (before : Draft) (column : List ℕ) → has_column (adding before (declare_column column)) column ≡ true
 column-there before column = has-put column column tt before.columns ∙ or_left (same_bytes column column) _ (itself_named column)
 
-column-line-known : (final before : Draft) (marked : Bool) (line : ColumnLine) → HasRowsOf final before
-    → AreKnown final (declare_column line.column ∷ (when marked (declare_marked line.column) ++ flat_map (coefficient_declared line.column) line.pairs))
-    → are_known_in_turn before (declare_column line.column ∷ (when marked (declare_marked line.column) ++ flat_map (coefficient_declared line.column) line.pairs)) ≡ true
+column-line-known : (final before : Draft) (marked : Bool) (line : ValuesLine) → HasRowsOf final before
+    → AreKnown final (declare_column line.name ∷ (when marked (declare_marked line.name) ++ flat_map (coefficient_declared line.name) line.pairs))
+    → are_known_in_turn before (declare_column line.name ∷ (when marked (declare_marked line.name) ++ flat_map (coefficient_declared line.name) line.pairs)) ≡ true
 column-line-known final before true line rows h =
-    let next = adding before (declare_column line.column) in
-    let c = column-there before line.column in
-    both_so (has_column next line.column) (are_known_in_turn (adding next (declare_marked line.column)) (flat_map (coefficient_declared line.column) line.pairs)) c
-    (cells-known final (adding next (declare_marked line.column)) line.column line.pairs rows c
-    (second_so (has_column final line.column) (list_all (is_known final) (flat_map (coefficient_declared line.column) line.pairs)) h))
-column-line-known final before false line rows h = cells-known final (adding before (declare_column line.column)) line.column line.pairs rows (column-there before line.column) h
+    let next = adding before (declare_column line.name) in
+    let c = column-there before line.name in
+    both_so (has_column next line.name) (are_known_in_turn (adding next (declare_marked line.name)) (flat_map (coefficient_declared line.name) line.pairs)) c
+    (cells-known final (adding next (declare_marked line.name)) line.name line.pairs rows c
+    (second_so (has_column final line.name) (list_all (is_known final) (flat_map (coefficient_declared line.name) line.pairs)) h))
+column-line-known final before false line rows h = cells-known final (adding before (declare_column line.name)) line.name line.pairs rows (column-there before line.name) h
 
 columns-known : (context : Context) (final before : Draft) (fields : Fields) → HasRowsOf final before
     → AreKnown final (columns_line_declared context fields) → are_known_in_turn before (columns_line_declared context fields) ≡ true
 columns-known context final before fields rows h = by (is_marker_line fields) h
   where
-    of : (o : Option ColumnLine) → AreKnown final (declared_of (column_declared context) o) → are_known_in_turn before (declared_of (column_declared context) o) ≡ true
+    of : (o : Option ValuesLine) → AreKnown final (declared_of (column_declared context) o) → are_known_in_turn before (declared_of (column_declared context) o) ≡ true
     of None k = refl
     of (Some line) k = column-line-known final before context.in_integer_part line rows k
 
-    by : (b : Bool) → AreKnown final (cond b [] (declared_of (column_declared context) (column_line fields))) → are_known_in_turn before (cond b [] (declared_of (column_declared context) (column_line fields))) ≡ true
+    by : (b : Bool) → AreKnown final (cond b [] (declared_of (column_declared context) (column_shape fields))) → are_known_in_turn before (cond b [] (declared_of (column_declared context) (column_shape fields))) ≡ true
     by true k = refl
-    by false k = of (column_line fields) k
+    by false k = of (column_shape fields) k
 
 sides-known : (earlier final before : Draft) (pairs : List Pair) → HasRowsOf final before
     → AreKnown final (flat_map (λ (pair : Pair). rhs_declared earlier pair.row (value_of pair.literal)) pairs)
@@ -195,11 +196,11 @@ sides-known earlier final before (pair ∷ pairs) rows h =
           (sides-known earlier final (adding before (declare_rhs pair.row v)) pairs rows (second_so (has_row final pair.row) (list_all (is_known final) more) k))
     ] h
 
-ranges-known : (final before : Draft) (pairs : List Pair) → HasRowsOf final before → AreKnown final (ranges_declared (record { set = []; pairs = pairs }))
-    → are_known_in_turn before (ranges_declared (record { set = []; pairs = pairs })) ≡ true
+ranges-known : (final before : Draft) (pairs : List Pair) → HasRowsOf final before → AreKnown final (ranges_declared (record { name = []; pairs = pairs }))
+    → are_known_in_turn before (ranges_declared (record { name = []; pairs = pairs })) ≡ true
 ranges-known final before [] rows h = refl
 ranges-known final before (pair ∷ pairs) rows h =
-    let more = ranges_declared (record { set = []; pairs = pairs }) in
+    let more = ranges_declared (record { name = []; pairs = pairs }) in
     let d : Declaration = declare_range pair.row (value_of pair.literal) in
     both_so (has_row before pair.row) (are_known_in_turn (adding before d) more)
     (rows pair.row (first_so (has_row final pair.row) (list_all (is_known final) more) h))
@@ -226,10 +227,10 @@ bounds-known final before (letters ∷ more) columns h = typed (bound_type lette
     lined type None k = refl
     lined type (Some line) k = bound-known final before type line.column (bound_value line) columns k
 
-    typed : (o : Option BoundType) → AreKnown final (declared_of (λ type. declared_of (λ (line : BoundLine). bound_declared type line.column (bound_value line)) (bound_line type more)) o)
-        → are_known_in_turn before (declared_of (λ type. declared_of (λ (line : BoundLine). bound_declared type line.column (bound_value line)) (bound_line type more)) o) ≡ true
+    typed : (o : Option BoundType) → AreKnown final (declared_of (λ type. declared_of (λ (line : BoundLine). bound_declared type line.column (bound_value line)) (bound_shape type more)) o)
+        → are_known_in_turn before (declared_of (λ type. declared_of (λ (line : BoundLine). bound_declared type line.column (bound_value line)) (bound_shape type more)) o) ≡ true
     typed None k = refl
-    typed (Some type) k = lined type (bound_line type more) k
+    typed (Some type) k = lined type (bound_shape type more) k
 
 -- a section whose lines name rows
 abbrev is_rowed : Option Section → Bool
@@ -239,8 +240,8 @@ is_rowed (Some Ranges) = true
 is_rowed _ = false
 
 -- a sense, an objective and a row name nothing that is to be there
-sense-known : (before : Draft) (fields : Fields) → are_known_in_turn before (declared_of sense_declared (sense_line fields)) ≡ true
-sense-known before fields = worded (sense_line fields)
+sense-known : (before : Draft) (fields : Fields) → are_known_in_turn before (declared_of sense_declared (sense_shape fields)) ≡ true
+sense-known before fields = worded (sense_shape fields)
   where
     told : (o : Option Sense) → are_known_in_turn before (declared_of (λ sense. declare_sense sense ∷ []) o) ≡ true
     told None = refl
@@ -250,8 +251,8 @@ sense-known before fields = worded (sense_line fields)
     worded None = refl
     worded (Some word) = told (sense_of word)
 
-rows-known : (earlier before : Draft) (fields : Fields) → are_known_in_turn before (declared_of (row_declared earlier) (row_line fields)) ≡ true
-rows-known earlier before fields = lined (row_line fields)
+rows-known : (earlier before : Draft) (fields : Fields) → are_known_in_turn before (declared_of (row_declared earlier) (row_shape fields)) ≡ true
+rows-known earlier before fields = lined (row_shape fields)
   where
     typed : (name : List ℕ) (o : Option RowType) → are_known_in_turn before (declared_of (row_of_type earlier name) o) ≡ true
     typed name None = refl
@@ -282,14 +283,14 @@ data-known context final earlier fields (Some Name) rows columns h = refl
 data-known context final earlier fields (Some ObjSense) rows columns h = sense-known earlier fields
 data-known context final earlier fields (Some Rows) rows columns h = rows-known earlier earlier fields
 data-known context final earlier fields (Some Columns) rows columns h = columns-known context final earlier fields (rows refl) h
-data-known context final earlier fields (Some Rhs) rows columns h = of (vector_line fields) h
+data-known context final earlier fields (Some Rhs) rows columns h = of (vector_shape fields) h
   where
-    of : (o : Option VectorLine) → AreKnown final (declared_of (right_sides_declared earlier) o) → are_known_in_turn earlier (declared_of (right_sides_declared earlier) o) ≡ true
+    of : (o : Option ValuesLine) → AreKnown final (declared_of (right_sides_declared earlier) o) → are_known_in_turn earlier (declared_of (right_sides_declared earlier) o) ≡ true
     of None k = refl
     of (Some line) k = sides-known earlier final earlier line.pairs (rows refl) k
-data-known context final earlier fields (Some Ranges) rows columns h = of (vector_line fields) h
+data-known context final earlier fields (Some Ranges) rows columns h = of (vector_shape fields) h
   where
-    of : (o : Option VectorLine) → AreKnown final (declared_of ranges_declared o) → are_known_in_turn earlier (declared_of ranges_declared o) ≡ true
+    of : (o : Option ValuesLine) → AreKnown final (declared_of ranges_declared o) → are_known_in_turn earlier (declared_of ranges_declared o) ≡ true
     of None k = refl
     of (Some line) k = ranges-known final earlier line.pairs (rows refl) k
 data-known context final earlier fields (Some Bounds) rows columns h = bounds-known final earlier fields (columns refl) h

@@ -1,186 +1,153 @@
 -- What lines of a good form declare has legal names and decimals.
 use Rattle.std.proofs.Common.{◌≡◌, refl, ◌∙◌, List, [], ◌∷◌, ◌++◌, ℕ, Bool, true, false, cond}
-use Rattle.std.specs.Prelude.{Option, Some, None, is_none, not, Result, Ok, Err, codes}
+use Rattle.std.specs.Prelude.{Option, Some, None, is_none, codes}
 use Rattle.std.specs.List.{list_all, flat_map}
 use Rattle.std.specs.Option.{option_map_or}
-use Rattle.std.specs.Result.{result_unwrap_or}
 use Rattle.std.proofs.lemmas.List.Folds.{list_all-append}
-use Rattle.mpslp_decimal.specs.Decimal.{Number, IsDecimal, is_decimal, zero_number, is_infinite_size, is_negative}
-use Rattle.mpslp_decimal.specs.Literal.{number_of}
-use Rattle.mpslp_decimal.specs.declared.literal.NumberFault.{NumberFault}
-use Rattle.mpslp_model.specs.Name.{is_mps_name, has_name_length, is_visible, same_bytes, marker}
+use Rattle.mpslp_model.specs.Name.{is_mps_name}
 use Rattle.mpslp_model.specs.Model.{limit_of}
 use Rattle.mpslp_model.specs.Declaration.{by_type, declare_sense, declare_objective, declare_row, declare_rhs, declare_range, declare_marked, Draft, adding_all, is_free_row, rhs_declared}
 use Rattle.mpslp_model.specs.Bounds.{zero_limit}
 use Rattle.mpslp_model.specs.Made.{is_given, is_legal}
 use Rattle.mpslp_model.specs.Lists.{those_of}
 use Rattle.mpslp_model.specs.declared.kinds.Limit.{Limit}
-use Rattle.mpslp_model.specs.declared.kinds.Limit.TheVariants.{MinusInf, Finite, PlusInf}
 use Rattle.mpslp_model.specs.declared.kinds.RowType.{RowType}
 use Rattle.mpslp_model.specs.declared.kinds.RowType.TheVariants.{Free, AtMost, AtLeast, Equal}
 use Rattle.mpslp_model.specs.declared.faults.FaultKind.TheVariants as kinds
-use Rattle.mpslp_model.proofs.BoolLemmas.{both_so, so_not}
+use Rattle.mpslp_model.proofs.BoolLemmas.{both_so}
+use Rattle.mpslp_reading.proofs.FieldLemmas.{name-legal, value-decimal, limit-given}
 use Rattle.mpslp_mps.specs.Line.{Fields, Item, skipped, header, data_line}
 use Rattle.mpslp_mps.specs.Section.{section_named}
-use Rattle.mpslp_mps.specs.DataLine.{RowLine, Pair, ColumnLine, sense_line, sense_of, row_line, row_type, column_line, is_marker_line, vector_line}
-use Rattle.mpslp_mps.specs.BoundLine.{BoundLine, bound_type, bound_line}
+use Rattle.mpslp_mps.specs.DataLine.{RowLine, Pair, ValuesLine, sense_shape, sense_of, row_shape, row_type, column_shape, is_marker_line, vector_shape}
+use Rattle.mpslp_mps.specs.BoundLine.{BoundLine, bound_type, bound_shape}
 use Rattle.mpslp_mps.specs.Context.{Context, context_of, current_section}
-use Rattle.mpslp_mps.specs.LineMeaning.{declared_of, value_of, sense_declared, row_of_type, row_declared, coefficient_declared, column_declared, columns_line_declared, right_sides_declared, ranges_declared, bound_declared, bound_value, bound_line_declared, data_declared, header_declared, declared}
-use Rattle.mpslp_mps.specs.FieldFault.{Tests, judged_by, name_tests, number_tests, literals_of}
+use Rattle.mpslp_mps.specs.LineMeaning.{declared_of, sense_declared, row_of_type, row_declared, coefficient_declared, column_declared, columns_line_declared, right_sides_declared, ranges_declared, bound_declared, bound_value, bound_line_declared, data_declared, header_declared, declared}
+use Rattle.mpslp_reading.specs.Field.{value_of, name_tests, number_tests}
+use Rattle.mpslp_reading.specs.Tests.{judged_by}
+use Rattle.mpslp_mps.specs.FieldFault.{literals_of}
 use Rattle.mpslp_mps.specs.DataFault.{row_tests, marker_tests, is_split, column_tests, columns_line_tests, data_tests}
 use Rattle.mpslp_mps.specs.declared.sections.Section.{Section}
 use Rattle.mpslp_mps.specs.declared.sections.Section.TheVariants.{Name, ObjSense, Rows, Columns, Rhs, Ranges, Bounds, EndData}
 use Rattle.mpslp_mps.specs.declared.bound_types.BoundType.{BoundType}
 use Rattle.mpslp_mps.specs.declared.bound_types.BoundType.TheVariants as bounds
 use Rattle.mpslp_mps.proofs.PlacedLemmas.{declared_items, have_good_form}
-use Rattle.mpslp_mps.proofs.OrderLemmas.{later_tests, IsGood, each-declared, each-flat, each-mapped}
+use Rattle.mpslp_reading.proofs.HeldLemmas.{later_tests}
+use Rattle.mpslp_mps.proofs.OrderLemmas.{IsGood, each-declared, each-flat, each-mapped}
 use Rattle.mpslp_mps.proofs.KnownLemmas.{good-first, good-rest}
 
--- ---- names
+-- ---- lines
 
--- the tests of a name stand before others
-name-legal : (name : List ℕ) (more : Tests) → those_of (name_tests name ++ more) ≡ [] → is_mps_name name ≡ true
-name-legal name more h = by (has_name_length name) (list_all is_visible name) (same_bytes name marker) refl refl refl h
+sense-legal : (fields : Fields) → list_all is_legal (declared_of sense_declared (sense_shape fields)) ≡ true
+sense-legal fields =
+    each-declared is_legal sense_declared (sense_shape fields) (λ word. each-declared is_legal (λ sense. declare_sense sense ∷ []) (sense_of word) (λ s. refl))
+
+row-type-legal : (earlier : Draft) (name : List ℕ) (type : RowType) → is_mps_name name ≡ true → list_all is_legal (row_of_type earlier name type) ≡ true
+row-type-legal earlier name Free h =
+    elim (is_none earlier.objective) as (λ b. list_all is_legal (cond b (declare_objective name ∷ []) (declare_row name (by_type Free) ∷ [])) ≡ true) [ true ↦ rw h refl | false ↦ rw h refl ]
+row-type-legal earlier name AtMost h = rw h refl
+row-type-legal earlier name AtLeast h = rw h refl
+row-type-legal earlier name Equal h = rw h refl
+
+row-legal : (earlier : Draft) (o : Option RowLine) → those_of (judged_by row_tests o) ≡ [] → list_all is_legal (declared_of (row_declared earlier) o) ≡ true
+row-legal earlier None h = refl
+row-legal earlier (Some line) h =
+    let name = name-legal line.name [] (later_tests (is_none (row_type line.letter)) kinds.BadType (name_tests line.name) h) in
+    each-declared is_legal (row_of_type earlier line.name) (row_type line.letter) (λ type. row-type-legal earlier line.name type name)
+
+cells-legal : (column : List ℕ) (pairs : List Pair) → list_all is_legal (flat_map (coefficient_declared column) pairs) ≡ true
+cells-legal column pairs = each-flat is_legal (coefficient_declared column) pairs (λ pair. rw (value-decimal pair.literal) refl)
+
+column-legal : (context : Context) (earlier : Draft) (o : Option ValuesLine) → those_of (judged_by (column_tests context earlier) o) ≡ []
+    → list_all is_legal (declared_of (column_declared context) o) ≡ true
+column-legal context earlier None h = refl
+column-legal context earlier (Some line) h =
+    both_so (is_mps_name line.name) _ (name-legal line.name (number_tests (literals_of line.pairs) ++ (is_split context earlier line.name, kinds.ColumnSplit) ∷ []) h) (marked context.in_integer_part)
   where
-    by : (a b c : Bool) → has_name_length name ≡ a → list_all is_visible name ≡ b → same_bytes name marker ≡ c
-        → those_of ((not a, kinds.NameLength) ∷ (not b, kinds.NameByte) ∷ (c, kinds.NameMarker) ∷ more) ≡ [] → is_mps_name name ≡ true
-    by true true false p q r e = rw (p, q, r) refl
-    by true true true p q r e = cc
-    by true false c p q r e = cc
-    by false b c p q r e = cc
+    marked : (b : Bool) → list_all is_legal (cond b (declare_marked line.name ∷ []) [] ++ flat_map (coefficient_declared line.name) line.pairs) ≡ true
+    marked true = cells-legal line.name line.pairs
+    marked false = cells-legal line.name line.pairs
 
--- ---- numbers
+columns-legal : (context : Context) (earlier : Draft) (fields : Fields) → those_of (columns_line_tests context earlier fields) ≡ []
+    → list_all is_legal (columns_line_declared context fields) ≡ true
+columns-legal context earlier fields h = by (is_marker_line fields) h
+  where
+    by : (b : Bool) → those_of (cond b (marker_tests context fields) (judged_by (column_tests context earlier) (column_shape fields))) ≡ []
+        → list_all is_legal (cond b [] (declared_of (column_declared context) (column_shape fields))) ≡ true
+    by true k = refl
+    by false k = column-legal context earlier (column_shape fields) k
 
-module _ (decimals : (text : List ℕ) (d : Number) → number_of text ≡ Ok d → IsDecimal d) where
-  -- the value of a literal, or 0, is a decimal
-  value-decimal : (literal : List ℕ) → is_decimal (value_of literal) ≡ true
-  value-decimal literal = by (number_of literal) refl
-    where
-      by : (r : Result Number NumberFault) → number_of literal ≡ r → is_decimal (result_unwrap_or r zero_number) ≡ true
-      by (Ok d) e = decimals literal d e
-      by (Err fault) e = refl
+sides-legal : (earlier : Draft) (fields : Fields) → list_all is_legal (declared_of (right_sides_declared earlier) (vector_shape fields)) ≡ true
+sides-legal earlier fields =
+    each-declared is_legal (right_sides_declared earlier) (vector_shape fields)
+    (λ line. each-flat is_legal (λ (pair : Pair). rhs_declared earlier pair.row (value_of pair.literal)) line.pairs (λ pair. one pair (is_free_row earlier pair.row)))
+  where
+    one : (pair : Pair) (b : Bool) → list_all is_legal (cond b [] (declare_rhs pair.row (value_of pair.literal) ∷ [])) ≡ true
+    one pair true = refl
+    one pair false = rw (value-decimal pair.literal) refl
 
-  limit-given : (d : Number) → is_decimal d ≡ true → is_given (limit_of d) ≡ true
-  limit-given d h = by (is_infinite_size d) (is_negative d) refl
-    where
-      by : (large negative : Bool) → is_infinite_size d ≡ large → is_given (cond large (cond negative MinusInf PlusInf) (Finite d)) ≡ true
-      by true true e = refl
-      by true false e = refl
-      by false negative e = both_so (is_decimal d) (not (is_infinite_size d)) h (so_not (is_infinite_size d) e)
+ranges-legal : (fields : Fields) → list_all is_legal (declared_of ranges_declared (vector_shape fields)) ≡ true
+ranges-legal fields =
+    each-declared is_legal ranges_declared (vector_shape fields)
+    (λ line. each-mapped is_legal (λ (pair : Pair). declare_range pair.row (value_of pair.literal)) line.pairs (λ pair. value-decimal pair.literal))
 
-  -- ---- lines
+bound-legal : (type : BoundType) (c : List ℕ) (v : Limit) → is_given v ≡ true → list_all is_legal (bound_declared type c v) ≡ true
+bound-legal bounds.Lower c v h = rw h refl
+bound-legal bounds.Upper c v h = rw h refl
+bound-legal bounds.Fixed c v h = rw h refl
+bound-legal bounds.Free c v h = refl
+bound-legal bounds.NoLower c v h = refl
+bound-legal bounds.NoUpper c v h = refl
+bound-legal bounds.Binary c v h = refl
+bound-legal bounds.IntegerLower c v h = rw h refl
+bound-legal bounds.IntegerUpper c v h = rw h refl
 
-  sense-legal : (fields : Fields) → list_all is_legal (declared_of sense_declared (sense_line fields)) ≡ true
-  sense-legal fields =
-      each-declared is_legal sense_declared (sense_line fields) (λ word. each-declared is_legal (λ sense. declare_sense sense ∷ []) (sense_of word) (λ s. refl))
+bound-value-given : (line : BoundLine) → is_given (bound_value line) ≡ true
+bound-value-given line = by line.literal
+  where
+    by : (o : Option (List ℕ)) → is_given (option_map_or (λ literal. limit_of (value_of literal)) o zero_limit) ≡ true
+    by None = refl
+    by (Some literal) = limit-given (value_of literal) (value-decimal literal)
 
-  row-type-legal : (earlier : Draft) (name : List ℕ) (type : RowType) → is_mps_name name ≡ true → list_all is_legal (row_of_type earlier name type) ≡ true
-  row-type-legal earlier name Free h =
-      elim (is_none earlier.objective) as (λ b. list_all is_legal (cond b (declare_objective name ∷ []) (declare_row name (by_type Free) ∷ [])) ≡ true) [ true ↦ rw h refl | false ↦ rw h refl ]
-  row-type-legal earlier name AtMost h = rw h refl
-  row-type-legal earlier name AtLeast h = rw h refl
-  row-type-legal earlier name Equal h = rw h refl
+bounds-legal : (fields : Fields) → list_all is_legal (bound_line_declared fields) ≡ true
+bounds-legal [] = refl
+bounds-legal (letters ∷ more) =
+    each-declared is_legal (λ type. declared_of (λ (line : BoundLine). bound_declared type line.column (bound_value line)) (bound_shape type more)) (bound_type letters)
+    (λ type. each-declared is_legal (λ (line : BoundLine). bound_declared type line.column (bound_value line)) (bound_shape type more)
+    (λ line. bound-legal type line.column (bound_value line) (bound-value-given line)))
 
-  row-legal : (earlier : Draft) (o : Option RowLine) → those_of (judged_by row_tests o) ≡ [] → list_all is_legal (declared_of (row_declared earlier) o) ≡ true
-  row-legal earlier None h = refl
-  row-legal earlier (Some line) h =
-      let name = name-legal line.name [] (later_tests (is_none (row_type line.letter)) kinds.BadType (name_tests line.name) h) in
-      each-declared is_legal (row_of_type earlier line.name) (row_type line.letter) (λ type. row-type-legal earlier line.name type name)
+header-legal : (earlier : Draft) (more : Fields) (o : Option Section) → list_all is_legal (header_declared earlier more o) ≡ true
+header-legal earlier more None = refl
+header-legal earlier more (Some Name) = refl
+header-legal earlier more (Some ObjSense) = sense-legal more
+header-legal earlier more (Some Rows) = refl
+header-legal earlier more (Some Columns) = elim (is_none earlier.objective) as (λ b. list_all is_legal (cond b (declare_objective (codes "obj") ∷ []) []) ≡ true) [ true ↦ refl | false ↦ refl ]
+header-legal earlier more (Some Rhs) = refl
+header-legal earlier more (Some Ranges) = refl
+header-legal earlier more (Some Bounds) = refl
+header-legal earlier more (Some EndData) = refl
 
-  cells-legal : (column : List ℕ) (pairs : List Pair) → list_all is_legal (flat_map (coefficient_declared column) pairs) ≡ true
-  cells-legal column pairs = each-flat is_legal (coefficient_declared column) pairs (λ pair. rw (value-decimal pair.literal) refl)
+data-legal : (context : Context) (earlier : Draft) (fields : Fields) (o : Option Section) → those_of (data_tests context earlier fields o) ≡ []
+    → list_all is_legal (data_declared context earlier fields o) ≡ true
+data-legal context earlier fields None h = refl
+data-legal context earlier fields (Some Name) h = refl
+data-legal context earlier fields (Some ObjSense) h = sense-legal fields
+data-legal context earlier fields (Some Rows) h = row-legal earlier (row_shape fields) h
+data-legal context earlier fields (Some Columns) h = columns-legal context earlier fields h
+data-legal context earlier fields (Some Rhs) h = sides-legal earlier fields
+data-legal context earlier fields (Some Ranges) h = ranges-legal fields
+data-legal context earlier fields (Some Bounds) h = bounds-legal fields
+data-legal context earlier fields (Some EndData) h = refl
 
-  column-legal : (context : Context) (earlier : Draft) (o : Option ColumnLine) → those_of (judged_by (column_tests context earlier) o) ≡ []
-      → list_all is_legal (declared_of (column_declared context) o) ≡ true
-  column-legal context earlier None h = refl
-  column-legal context earlier (Some line) h =
-      both_so (is_mps_name line.column) _ (name-legal line.column (number_tests (literals_of line.pairs) ++ (is_split context earlier line.column, kinds.ColumnSplit) ∷ []) h) (marked context.in_integer_part)
-    where
-      marked : (b : Bool) → list_all is_legal (cond b (declare_marked line.column ∷ []) [] ++ flat_map (coefficient_declared line.column) line.pairs) ≡ true
-      marked true = cells-legal line.column line.pairs
-      marked false = cells-legal line.column line.pairs
+pub line-legal : (before : List Item) (earlier : Draft) (item : Item) → IsGood before earlier item → list_all is_legal (declared (context_of before) earlier item) ≡ true
+line-legal before earlier skipped h = refl
+line-legal before earlier (header keyword more) h = header-legal earlier more (section_named keyword)
+line-legal before earlier (data_line fields) h = data-legal (context_of before) earlier fields (current_section before) h
 
-  columns-legal : (context : Context) (earlier : Draft) (fields : Fields) → those_of (columns_line_tests context earlier fields) ≡ []
-      → list_all is_legal (columns_line_declared context fields) ≡ true
-  columns-legal context earlier fields h = by (is_marker_line fields) h
-    where
-      by : (b : Bool) → those_of (cond b (marker_tests context fields) (judged_by (column_tests context earlier) (column_line fields))) ≡ []
-          → list_all is_legal (cond b [] (declared_of (column_declared context) (column_line fields))) ≡ true
-      by true k = refl
-      by false k = column-legal context earlier (column_line fields) k
-
-  sides-legal : (earlier : Draft) (fields : Fields) → list_all is_legal (declared_of (right_sides_declared earlier) (vector_line fields)) ≡ true
-  sides-legal earlier fields =
-      each-declared is_legal (right_sides_declared earlier) (vector_line fields)
-      (λ line. each-flat is_legal (λ (pair : Pair). rhs_declared earlier pair.row (value_of pair.literal)) line.pairs (λ pair. one pair (is_free_row earlier pair.row)))
-    where
-      one : (pair : Pair) (b : Bool) → list_all is_legal (cond b [] (declare_rhs pair.row (value_of pair.literal) ∷ [])) ≡ true
-      one pair true = refl
-      one pair false = rw (value-decimal pair.literal) refl
-
-  ranges-legal : (fields : Fields) → list_all is_legal (declared_of ranges_declared (vector_line fields)) ≡ true
-  ranges-legal fields =
-      each-declared is_legal ranges_declared (vector_line fields)
-      (λ line. each-mapped is_legal (λ (pair : Pair). declare_range pair.row (value_of pair.literal)) line.pairs (λ pair. value-decimal pair.literal))
-
-  bound-legal : (type : BoundType) (c : List ℕ) (v : Limit) → is_given v ≡ true → list_all is_legal (bound_declared type c v) ≡ true
-  bound-legal bounds.Lower c v h = rw h refl
-  bound-legal bounds.Upper c v h = rw h refl
-  bound-legal bounds.Fixed c v h = rw h refl
-  bound-legal bounds.Free c v h = refl
-  bound-legal bounds.NoLower c v h = refl
-  bound-legal bounds.NoUpper c v h = refl
-  bound-legal bounds.Binary c v h = refl
-  bound-legal bounds.IntegerLower c v h = rw h refl
-  bound-legal bounds.IntegerUpper c v h = rw h refl
-
-  bound-value-given : (line : BoundLine) → is_given (bound_value line) ≡ true
-  bound-value-given line = by line.literal
-    where
-      by : (o : Option (List ℕ)) → is_given (option_map_or (λ literal. limit_of (value_of literal)) o zero_limit) ≡ true
-      by None = refl
-      by (Some literal) = limit-given (value_of literal) (value-decimal literal)
-
-  bounds-legal : (fields : Fields) → list_all is_legal (bound_line_declared fields) ≡ true
-  bounds-legal [] = refl
-  bounds-legal (letters ∷ more) =
-      each-declared is_legal (λ type. declared_of (λ (line : BoundLine). bound_declared type line.column (bound_value line)) (bound_line type more)) (bound_type letters)
-      (λ type. each-declared is_legal (λ (line : BoundLine). bound_declared type line.column (bound_value line)) (bound_line type more)
-      (λ line. bound-legal type line.column (bound_value line) (bound-value-given line)))
-
-  header-legal : (earlier : Draft) (more : Fields) (o : Option Section) → list_all is_legal (header_declared earlier more o) ≡ true
-  header-legal earlier more None = refl
-  header-legal earlier more (Some Name) = refl
-  header-legal earlier more (Some ObjSense) = sense-legal more
-  header-legal earlier more (Some Rows) = refl
-  header-legal earlier more (Some Columns) = elim (is_none earlier.objective) as (λ b. list_all is_legal (cond b (declare_objective (codes "obj") ∷ []) []) ≡ true) [ true ↦ refl | false ↦ refl ]
-  header-legal earlier more (Some Rhs) = refl
-  header-legal earlier more (Some Ranges) = refl
-  header-legal earlier more (Some Bounds) = refl
-  header-legal earlier more (Some EndData) = refl
-
-  data-legal : (context : Context) (earlier : Draft) (fields : Fields) (o : Option Section) → those_of (data_tests context earlier fields o) ≡ []
-      → list_all is_legal (data_declared context earlier fields o) ≡ true
-  data-legal context earlier fields None h = refl
-  data-legal context earlier fields (Some Name) h = refl
-  data-legal context earlier fields (Some ObjSense) h = sense-legal fields
-  data-legal context earlier fields (Some Rows) h = row-legal earlier (row_line fields) h
-  data-legal context earlier fields (Some Columns) h = columns-legal context earlier fields h
-  data-legal context earlier fields (Some Rhs) h = sides-legal earlier fields
-  data-legal context earlier fields (Some Ranges) h = ranges-legal fields
-  data-legal context earlier fields (Some Bounds) h = bounds-legal fields
-  data-legal context earlier fields (Some EndData) h = refl
-
-  pub line-legal : (before : List Item) (earlier : Draft) (item : Item) → IsGood before earlier item → list_all is_legal (declared (context_of before) earlier item) ≡ true
-  line-legal before earlier skipped h = refl
-  line-legal before earlier (header keyword more) h = header-legal earlier more (section_named keyword)
-  line-legal before earlier (data_line fields) h = data-legal (context_of before) earlier fields (current_section before) h
-
-  pub lines-legal : (items before : List Item) (earlier : Draft) → have_good_form before earlier items ≡ true → list_all is_legal (declared_items before earlier items) ≡ true
-  lines-legal [] before earlier h = refl
-  lines-legal (item ∷ items) before earlier h =
-      let here = declared (context_of before) earlier item in
-      let more = declared_items (before ++ item ∷ []) (adding_all earlier here) items in
-      list_all-append is_legal here more
-      ∙ both_so (list_all is_legal here) (list_all is_legal more) (line-legal before earlier item (good-first before earlier item items h))
-      (lines-legal items (before ++ item ∷ []) (adding_all earlier here) (good-rest before earlier item items h))
+pub lines-legal : (items before : List Item) (earlier : Draft) → have_good_form before earlier items ≡ true → list_all is_legal (declared_items before earlier items) ≡ true
+lines-legal [] before earlier h = refl
+lines-legal (item ∷ items) before earlier h =
+    let here = declared (context_of before) earlier item in
+    let more = declared_items (before ++ item ∷ []) (adding_all earlier here) items in
+    list_all-append is_legal here more
+    ∙ both_so (list_all is_legal here) (list_all is_legal more) (line-legal before earlier item (good-first before earlier item items h))
+    (lines-legal items (before ++ item ∷ []) (adding_all earlier here) (good-rest before earlier item items h))

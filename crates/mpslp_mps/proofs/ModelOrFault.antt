@@ -1,18 +1,59 @@
--- Bytes declare a model or have a first fault, and not both.
-use Rattle.std.proofs.Common.{◌≡◌, sym, ◌∙◌, List, ℕ}
-use Rattle.std.specs.Prelude.{Some, None, Ok}
-use Rattle.mpslp_decimal.specs.Decimal.{Number, IsDecimal}
-use Rattle.mpslp_decimal.specs.Literal.{number_of}
-use Rattle.mpslp_decimal.proofs.SpellsLemmas.{spells-from_number}
-use Rattle.mpslp_model.specs.declared.faults.Fault.{Fault}
+-- Bytes that declare a model have no first fault.
+use Rattle.std.proofs.Common.{◌≡◌, refl, sym, ap, subst, ◌∙◌, List, [], ◌∷◌, ◌++◌, ℕ, ◌+◌, true, map}
+use Rattle.std.specs.Prelude.{Option, None}
+use Rattle.std.specs.List.{list_all, flat_map}
+use Rattle.std.specs.Option.{option_map, option_or}
+use Rattle.std.specs.Cmp.{first_so, second_so}
+use Rattle.mpslp_model.specs.Model.{LinearModel}
+use Rattle.mpslp_model.specs.Declaration.{Declarations, Draft, empty_draft, adding_all, draft_of}
+use Rattle.mpslp_model.specs.Lists.{those_of}
+use Rattle.mpslp_model.specs.Refusal.{refusals_in_turn}
+use Rattle.mpslp_model.specs.Meaning.{file_fault, Means}
+use Rattle.mpslp_model.specs.declared.faults.FaultKind.{FaultKind}
+use Rattle.mpslp_model.proofs.RefusalLemmas.{left_none, right_none}
+use Rattle.mpslp_model.proofs.MadeDrafts.{refusals_in_turn-append}
+use Rattle.mpslp_model.proofs.Acceptance.{none-from_means}
+use Rattle.mpslp_reading.specs.LineAnswer.{fault_on_line}
+use Rattle.mpslp_reading.proofs.FirstFaultLemmas.{no_fault}
+use Rattle.mpslp_reading.proofs.AnswerLemmas.{model-or_fault as one_of_both}
+use Rattle.mpslp_mps.specs.Line.{Item, item_of}
+use Rattle.mpslp_mps.specs.Context.{context_of}
+use Rattle.mpslp_mps.specs.MpsText.{Placed, read_lines, has_end, declared_at, tests_at, has_good_form, placed_after, placed_lines, DeclaresMps}
+use Rattle.mpslp_mps.specs.FirstFault.{first_line_fault, whole_mps_fault, first_mps_fault}
 use Rattle.mpslp_mps.specs.Laws.{DeclareOrFail}
-use Rattle.mpslp_mps.proofs.NoFaultFromModel.{no_fault-from_declares}
+use Rattle.mpslp_mps.proofs.PlacedLemmas.{declared_items, have_good_form, no_faults, lines-declare, items-good}
+use Rattle.mpslp_mps.proofs.OrderLemmas.{ordered-nil}
+use Rattle.mpslp_mps.proofs.KnownLemmas.{known-lines}
+use Rattle.mpslp_mps.proofs.LegalLemmas.{lines-legal}
 
-pub read-decimal : (text : List ℕ) (d : Number) → number_of text ≡ Ok d → IsDecimal d
-read-decimal text d e = (spells-from_number text d e).decimal
+-- lines of a good form, none of whose declarations is refused
+lines-no_fault : (n : ℕ) (lines : List (List ℕ)) (before : List Item) (earlier : Draft) → list_all has_good_form (placed_after before earlier lines) ≡ true
+    → refusals_in_turn earlier (flat_map declared_at (placed_after before earlier lines)) ≡ [] → first_line_fault n (placed_after before earlier lines) ≡ None
+lines-no_fault n [] before earlier good none = refl
+lines-no_fault n (line ∷ lines) before earlier good none =
+    let placed : Placed = record { context = context_of before; earlier = earlier; line = line } in
+    let here = declared_at placed in
+    let next = adding_all earlier here in
+    let later = placed_after (before ++ item_of line ∷ []) next lines in
+    let more = flat_map declared_at later in
+    let parts = sym (refusals_in_turn-append here more earlier) ∙ none in
+    let form = no_faults (those_of (tests_at placed)) (first_so (has_good_form placed) (list_all has_good_form later) good) in
+    let fine = no_fault (tests_at placed) earlier here form (left_none (refusals_in_turn earlier here) (refusals_in_turn next more) parts) in
+    ap (λ (o : Option FaultKind). option_or (option_map (fault_on_line n) o) (first_line_fault (n + 1) later)) fine
+    ∙ lines-no_fault (n + 1) lines (before ++ item_of line ∷ []) next (second_so (has_good_form placed) (list_all has_good_form later) good)
+    (right_none (refusals_in_turn earlier here) (refusals_in_turn next more) parts)
 
-none_is_not : (fault : Fault) → None ≡ Some fault → ⊥
-none_is_not fault e = cc
+pub no_fault-from_declares : (bytes : List ℕ) (m : LinearModel) → DeclaresMps bytes m → first_mps_fault bytes ≡ None
+no_fault-from_declares bytes m declares =
+    let items = map item_of (read_lines bytes) in
+    let same = lines-declare [] empty_draft (read_lines bytes) in
+    let formed = second_so (has_end bytes) (list_all has_good_form (placed_lines bytes)) declares.text in
+    let good : have_good_form [] empty_draft items ≡ true = items-good [] empty_draft (read_lines bytes) formed in
+    let means : Means (declared_items [] empty_draft items) m = subst (λ (ds : Declarations). Means ds m) same declares.means in
+    let known = known-lines items [] empty_draft good ordered-nil means.consistent.known in
+    let none = none-from_means (declared_items [] empty_draft items) m (lines-legal items [] empty_draft good) known means in
+    (λ i. option_or (lines-no_fault 1 (read_lines bytes) [] empty_draft formed (ap (refusals_in_turn empty_draft) same ∙ none.0) i) (whole_mps_fault bytes))
+    ∙ rw (first_so (has_end bytes) (list_all has_good_form (placed_lines bytes)) declares.text) (ap (λ (ds : Declarations). file_fault (draft_of ds)) same ∙ none.1)
 
 pub model-or_fault : DeclareOrFail
-model-or_fault bytes m fault declares first = none_is_not fault (sym (no_fault-from_declares read-decimal bytes m declares) ∙ first)
+model-or_fault = one_of_both DeclaresMps first_mps_fault no_fault-from_declares

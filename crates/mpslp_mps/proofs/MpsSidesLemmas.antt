@@ -1,19 +1,16 @@
 -- Lines of MPS text without a fault declare right sides of rows that are there and not of type N.
 use Rattle.std.proofs.Common.{◌≡◌, refl, sym, ap, subst, ◌∙◌, ℕ, List, [], ◌∷◌, ◌++◌, Bool, true, false, cond}
-use Rattle.std.specs.Prelude.{◌||◌, Option, Some, None, is_none, filter_map, codes}
+use Rattle.std.specs.Prelude.{◌||◌, Option, Some, None, is_none, codes}
 use Rattle.std.specs.List.{list_all, flat_map}
 use Rattle.std.specs.Option.{option_map_or}
 use Rattle.std.specs.Cmp.{first_so, second_so}
-use Rattle.std.proofs.lemmas.List.{append-nil}
 use Rattle.mpslp_model.specs.Name.{same_bytes}
 use Rattle.mpslp_model.specs.Declaration.{RowForm, by_type, Declaration, declare_sense, declare_objective, declare_constant, declare_row, declare_rhs, declare_range, declare_column, declare_coefficient, declare_lower, declare_upper, declare_marked, declare_integer, declare_binary, Declarations, Draft, empty_draft, adding, adding_all, at_name, has_name, has_row, is_objective, is_free_form, is_free_row, rhs_declared}
 use Rattle.mpslp_model.specs.Lists.{when}
-use Rattle.mpslp_model.specs.Refusal.{refusals, refusal_tests}
 use Rattle.mpslp_model.specs.FaultOrder.{least_kind}
 use Rattle.mpslp_model.specs.declared.kinds.Limit.{Limit}
 use Rattle.mpslp_model.specs.declared.kinds.RowType.{RowType}
 use Rattle.mpslp_model.specs.declared.kinds.RowType.TheVariants.{Free, AtMost, AtLeast, Equal}
-use Rattle.mpslp_model.specs.declared.faults.BuildFault.{BuildFault}
 use Rattle.mpslp_model.specs.declared.faults.FaultKind.{FaultKind}
 use Rattle.mpslp_model.specs.declared.faults.FaultKind.TheVariants as kinds
 use Rattle.mpslp_model.proofs.BoolLemmas.{or_right}
@@ -21,20 +18,22 @@ use Rattle.mpslp_model.proofs.MadeDrafts.{adding_all-append}
 use Rattle.mpslp_model.proofs.SlotLemmas.{at-put, has-put, same_name}
 use Rattle.mpslp_mps.specs.Line.{Fields, Item, skipped, header, data_line}
 use Rattle.mpslp_mps.specs.Section.{section_named}
-use Rattle.mpslp_mps.specs.DataLine.{RowLine, Pair, ColumnLine, VectorLine, sense_line, row_line, row_type, column_line, is_marker_line, vector_line}
-use Rattle.mpslp_mps.specs.BoundLine.{BoundLine, bound_type, bound_line}
+use Rattle.mpslp_mps.specs.DataLine.{RowLine, Pair, ValuesLine, sense_shape, row_shape, row_type, column_shape, is_marker_line, vector_shape}
+use Rattle.mpslp_mps.specs.BoundLine.{BoundLine, bound_type, bound_shape}
 use Rattle.mpslp_mps.specs.Context.{Context}
-use Rattle.mpslp_mps.specs.LineMeaning.{declared_of, value_of, sense_declared, row_of_type, row_declared, coefficient_declared, column_declared, columns_line_declared, right_sides_declared, ranges_declared, bound_declared, bound_value, bound_line_declared, default_objective, data_declared, header_declared, declared}
-use Rattle.mpslp_mps.specs.LineFault.{kind_of_refusal, form_faults, declaring_faults}
-use Rattle.mpslp_mps.specs.FirstFault.{item_fault}
-use Rattle.mpslp_mps.specs.DeclareAnswer.{declared_fault, HasMpsSides}
+use Rattle.mpslp_mps.specs.LineMeaning.{declared_of, sense_declared, row_of_type, row_declared, coefficient_declared, column_declared, columns_line_declared, right_sides_declared, ranges_declared, bound_declared, bound_value, bound_line_declared, default_objective, data_declared, header_declared, declared}
+use Rattle.mpslp_reading.specs.Field.{value_of}
+use Rattle.mpslp_reading.specs.Declaring.{declaring_faults, declared_fault}
+use Rattle.mpslp_mps.proofs.PlacedLemmas.{form_faults}
+use Rattle.mpslp_mps.specs.LineAnswer.{item_fault}
+use Rattle.mpslp_mps.specs.DeclareAnswer.{HasMpsSides}
 use Rattle.mpslp_mps.specs.declared.bound_types.BoundType.{BoundType}
 use Rattle.mpslp_mps.specs.declared.bound_types.BoundType.TheVariants as bounds
 use Rattle.mpslp_mps.specs.declared.sections.Section.{Section}
 use Rattle.mpslp_mps.specs.declared.sections.Section.TheVariants.{Name, ObjSense, Rows, Columns, Rhs, Ranges, Bounds, EndData}
-use Rattle.mpslp_mps.proofs.LeastLemmas.{earlier_of, least-append}
+use Rattle.mpslp_reading.proofs.LeastLemmas.{earlier_of, least-append}
 use Rattle.mpslp_mps.proofs.OrderLemmas.{each-declared, each-flat, each-mapped, sense-passes}
-use Rattle.mpslp_mps.proofs.RefusedLemmas.{least-refusal, told-append}
+use Rattle.mpslp_reading.proofs.RefusedLemmas.{declared-one, declared-append}
 use Rattle.mpslp_mps.proofs.RightSideLemmas.{side_kind, limited, side_told, same_free, sides-after}
 
 pub empty_sides : HasMpsSides empty_draft
@@ -72,28 +71,28 @@ stays-kept : (ds : Declarations) (all : Draft) → list_all stays ds ≡ true �
 stays-kept [] all h sides = sides
 stays-kept (d ∷ ds) all h sides = stays-kept ds (adding all d) (second_so (stays d) (list_all stays ds) h) (stays-one all d (first_so (stays d) (list_all stays ds) h) sides)
 
-sense-stays : (fields : Fields) → list_all stays (declared_of sense_declared (sense_line fields)) ≡ true
+sense-stays : (fields : Fields) → list_all stays (declared_of sense_declared (sense_shape fields)) ≡ true
 sense-stays fields = sense-passes stays (λ s. refl) fields
 
 columns-stay : (context : Context) (fields : Fields) → list_all stays (columns_line_declared context fields) ≡ true
 columns-stay context fields =
-    elim (is_marker_line fields) as (λ b. list_all stays (cond b [] (declared_of (column_declared context) (column_line fields))) ≡ true) [
+    elim (is_marker_line fields) as (λ b. list_all stays (cond b [] (declared_of (column_declared context) (column_shape fields))) ≡ true) [
       | true ↦ refl
-      | false ↦ each-declared stays (column_declared context) (column_line fields) line
+      | false ↦ each-declared stays (column_declared context) (column_shape fields) line
     ]
   where
     marked : (column : List ℕ) (more : Declarations) (b : Bool) → list_all stays more ≡ true → list_all stays (when b (declare_marked column) ++ more) ≡ true
     marked column more true h = h
     marked column more false h = h
 
-    line : (parts : ColumnLine) → list_all stays (column_declared context parts) ≡ true
+    line : (parts : ValuesLine) → list_all stays (column_declared context parts) ≡ true
     line parts =
-        marked parts.column (flat_map (coefficient_declared parts.column) parts.pairs) context.in_integer_part
-        (each-flat stays (coefficient_declared parts.column) parts.pairs (λ pair. refl))
+        marked parts.name (flat_map (coefficient_declared parts.name) parts.pairs) context.in_integer_part
+        (each-flat stays (coefficient_declared parts.name) parts.pairs (λ pair. refl))
 
-ranges-stay : (fields : Fields) → list_all stays (declared_of ranges_declared (vector_line fields)) ≡ true
+ranges-stay : (fields : Fields) → list_all stays (declared_of ranges_declared (vector_shape fields)) ≡ true
 ranges-stay fields =
-    each-declared stays ranges_declared (vector_line fields)
+    each-declared stays ranges_declared (vector_shape fields)
     (λ line. each-mapped stays (λ (pair : Pair). declare_range pair.row (value_of pair.literal)) line.pairs (λ pair. refl))
 
 bound-stays : (type : BoundType) (column : List ℕ) (value : Limit) → list_all stays (bound_declared type column value) ≡ true
@@ -110,8 +109,8 @@ bound-stays bounds.IntegerUpper column value = refl
 bounds-stay : (fields : Fields) → list_all stays (bound_line_declared fields) ≡ true
 bounds-stay [] = refl
 bounds-stay (letters ∷ more) =
-    each-declared stays (λ type. declared_of (λ (line : BoundLine). bound_declared type line.column (bound_value line)) (bound_line type more)) (bound_type letters)
-    (λ type. each-declared stays (λ (line : BoundLine). bound_declared type line.column (bound_value line)) (bound_line type more) (λ line. bound-stays type line.column (bound_value line)))
+    each-declared stays (λ type. declared_of (λ (line : BoundLine). bound_declared type line.column (bound_value line)) (bound_shape type more)) (bound_type letters)
+    (λ type. each-declared stays (λ (line : BoundLine). bound_declared type line.column (bound_value line)) (bound_shape type more) (λ line. bound-stays type line.column (bound_value line)))
 
 -- ---- the objective and rows
 
@@ -157,8 +156,7 @@ new_row all name type told = by (has_row all name) (sym is ∙ told)
   where
     is : declared_fault all (declare_row name (by_type type) ∷ []) ≡ cond (has_row all name) (Some kinds.DuplicateRow) None
     is =
-        ap (λ (faults : List BuildFault). least_kind (filter_map kind_of_refusal faults)) (append-nil (refusals all (declare_row name (by_type type))))
-        ∙ least-refusal (refusal_tests all (declare_row name (by_type type))) refl refl
+        declared-one all (declare_row name (by_type type)) refl
 
     by : (b : Bool) → cond b (Some kinds.DuplicateRow) None ≡ None → b ≡ false
     by true k = cc
@@ -172,9 +170,9 @@ objective-or_row all name told sides = by (is_none all.objective) refl told
     by true none k = objective-kept all name (none_so all.objective none) sides
     by false there k = row-kept all name (by_type Free) (new_row all name Free k) sides
 
-rows-kept : (all : Draft) (fields : Fields) → declared_fault all (declared_of (row_declared all) (row_line fields)) ≡ None → HasMpsSides all
-    → HasMpsSides (adding_all all (declared_of (row_declared all) (row_line fields)))
-rows-kept all fields told sides = lined (row_line fields) told
+rows-kept : (all : Draft) (fields : Fields) → declared_fault all (declared_of (row_declared all) (row_shape fields)) ≡ None → HasMpsSides all
+    → HasMpsSides (adding_all all (declared_of (row_declared all) (row_shape fields)))
+rows-kept all fields told sides = lined (row_shape fields) told
   where
     typed : (name : List ℕ) (o : Option RowType) → declared_fault all (declared_of (row_of_type all name) o) ≡ None → HasMpsSides (adding_all all (declared_of (row_of_type all name) o))
     typed name None k = sides
@@ -210,18 +208,18 @@ pairs-kept (pair ∷ pairs) earlier all free sides told =
     let here = rhs_declared earlier pair.row value in
     let more = flat_map (λ (pair : Pair). rhs_declared earlier pair.row (value_of pair.literal)) pairs in
     let same : rhs_declared all pair.row value ≡ here = ap (λ (b : Bool). cond b [] (declare_rhs pair.row value ∷ [])) (free pair.row) in
-    let none = both_none (declared_fault all here) (declared_fault (adding_all all here) more) (sym (told-append here more all) ∙ told) in
+    let none = both_none (declared_fault all here) (declared_fault (adding_all all here) more) (sym (declared-append here more all) ∙ told) in
     let there = there_so (has_row all pair.row) _ (sym (side_told all pair.row value (limited all sides)) ∙ ap (declared_fault all) same ∙ none.0) in
     let next = subst (λ (ds : Declarations). HasMpsSides (adding_all all ds)) same (sides-after all pair.row value sides there) in
     let after : (row : List ℕ) → is_free_row (adding_all all here) row ≡ is_free_row earlier row =
     λ row. ap (λ (ds : Declarations). is_free_row (adding_all all ds) row) (sym same) ∙ same_free all pair.row value row ∙ free row in
     subst HasMpsSides (sym (adding_all-append here more all)) (pairs-kept pairs earlier (adding_all all here) after next none.1)
 
-rhs_values-kept : (all : Draft) (fields : Fields) → declared_fault all (declared_of (right_sides_declared all) (vector_line fields)) ≡ None → HasMpsSides all
-    → HasMpsSides (adding_all all (declared_of (right_sides_declared all) (vector_line fields)))
-rhs_values-kept all fields told sides = lined (vector_line fields) told
+rhs_values-kept : (all : Draft) (fields : Fields) → declared_fault all (declared_of (right_sides_declared all) (vector_shape fields)) ≡ None → HasMpsSides all
+    → HasMpsSides (adding_all all (declared_of (right_sides_declared all) (vector_shape fields)))
+rhs_values-kept all fields told sides = lined (vector_shape fields) told
   where
-    lined : (o : Option VectorLine) → declared_fault all (declared_of (right_sides_declared all) o) ≡ None → HasMpsSides (adding_all all (declared_of (right_sides_declared all) o))
+    lined : (o : Option ValuesLine) → declared_fault all (declared_of (right_sides_declared all) o) ≡ None → HasMpsSides (adding_all all (declared_of (right_sides_declared all) o))
     lined None k = sides
     lined (Some line) k = pairs-kept line.pairs all all (λ row. refl) sides k
 
@@ -246,12 +244,12 @@ data-kept context earlier fields (Some ObjSense) told sides = stays-kept (data_d
 data-kept context earlier fields (Some Rows) told sides = rows-kept earlier fields told sides
 data-kept context earlier fields (Some Columns) told sides = stays-kept (columns_line_declared context fields) earlier (columns-stay context fields) sides
 data-kept context earlier fields (Some Rhs) told sides = rhs_values-kept earlier fields told sides
-data-kept context earlier fields (Some Ranges) told sides = stays-kept (declared_of ranges_declared (vector_line fields)) earlier (ranges-stay fields) sides
+data-kept context earlier fields (Some Ranges) told sides = stays-kept (declared_of ranges_declared (vector_shape fields)) earlier (ranges-stay fields) sides
 data-kept context earlier fields (Some Bounds) told sides = stays-kept (bound_line_declared fields) earlier (bounds-stay fields) sides
 data-kept context earlier fields (Some EndData) told sides = sides
 
 -- after a line that has no fault
-pub sides-kept : (context : Context) (earlier : Draft) (item : Item) → item_fault (record { context = context; earlier = earlier; item = item }) ≡ None → HasMpsSides earlier
+pub sides-kept : (context : Context) (earlier : Draft) (item : Item) → item_fault context earlier item ≡ None → HasMpsSides earlier
     → HasMpsSides (adding_all earlier (declared context earlier item))
 sides-kept context earlier skipped told sides = sides
 sides-kept context earlier (header keyword more) told sides = header-kept earlier more (section_named keyword) sides

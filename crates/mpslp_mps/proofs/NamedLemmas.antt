@@ -5,7 +5,7 @@ use Rattle.std.specs.List.{list_any}
 use Rattle.std.specs.Option.{option_map, option_or}
 use Rattle.mpslp_model.specs.Declaration.{declare_objective, Draft, adding_all}
 use Rattle.mpslp_model.specs.Lists.{those_of}
-use Rattle.mpslp_model.specs.FaultOrder.{least_kind}
+use Rattle.mpslp_reading.proofs.LeastLemmas.{least-none}
 use Rattle.mpslp_model.specs.declared.faults.Fault.{Fault}
 use Rattle.mpslp_model.specs.declared.faults.FaultKind.{FaultKind}
 use Rattle.mpslp_mps.specs.Line.{Fields, Item, skipped, header, data_line, item_of}
@@ -14,16 +14,18 @@ use Rattle.mpslp_mps.specs.Context.{Context}
 use Rattle.mpslp_mps.specs.NextContext.{next_context}
 use Rattle.mpslp_mps.specs.HeaderFault.{header_tests}
 use Rattle.mpslp_mps.specs.LineMeaning.{header_declared, declared}
-use Rattle.mpslp_mps.specs.LineFault.{declaring_faults}
+use Rattle.mpslp_reading.specs.Declaring.{declaring_faults}
 use Rattle.mpslp_mps.specs.MpsText.{is_end}
-use Rattle.mpslp_mps.specs.FirstFault.{item_fault, line_fault, fault_on_line}
+use Rattle.mpslp_mps.specs.LineAnswer.{item_fault}
+use Rattle.mpslp_mps.specs.FirstFault.{line_fault}
+use Rattle.mpslp_reading.specs.LineAnswer.{fault_on_line}
 use Rattle.mpslp_mps.specs.Reading.{placed_in, context_after, draft_after, fault_from, draft_from}
 use Rattle.mpslp_mps.specs.ReadingAnswer.{lines_to_end}
 use Rattle.mpslp_mps.specs.declared.sections.Section.{Section}
 use Rattle.mpslp_mps.specs.declared.sections.Section.TheVariants.{Name, ObjSense, Rows, Columns, Rhs, Ranges, Bounds, EndData}
 use Rattle.mpslp_model.proofs.RefusalLemmas.{left_none}
 use Rattle.mpslp_mps.proofs.OrderLemmas.{header-begins}
-use Rattle.mpslp_mps.proofs.ObjectiveLemmas.{named-after}
+use Rattle.mpslp_reading.proofs.ObjectiveLemmas.{named-after}
 use Rattle.mpslp_mps.proofs.EndLemmas.{up_to_end-last, up_to_end-more}
 use Rattle.mpslp_mps.proofs.LoopLemmas.{no-item}
 
@@ -75,17 +77,13 @@ ended_tests context keyword more (Some Ranges) h e = cc
 ended_tests context keyword more (Some Bounds) h e = cc
 ended_tests context keyword more (Some EndData) h e = header-begins context keyword more EndData h
 
-least_none : (faults : List FaultKind) → least_kind faults ≡ None → faults ≡ []
-least_none [] h = refl
-least_none (kind ∷ more) h = cc
-
-ended_columns : (context : Context) (earlier : Draft) (item : Item) → item_fault (record { context = context; earlier = earlier; item = item }) ≡ None → begins EndData item ≡ true
+ended_columns : (context : Context) (earlier : Draft) (item : Item) → item_fault context earlier item ≡ None → begins EndData item ≡ true
     → context.seen.columns ≡ true
 ended_columns context earlier skipped none h = cc
 ended_columns context earlier (header keyword more) none h =
     let faults = declaring_faults earlier (header_declared earlier more (section_named keyword)) in
     let tests = header_tests context keyword more (section_named keyword) in
-    ended_tests context keyword more (section_named keyword) (left_none (those_of tests) faults (least_none (those_of tests ++ faults) none)) h
+    ended_tests context keyword more (section_named keyword) (left_none (those_of tests) faults (least-none (those_of tests ++ faults) none)) h
 ended_columns context earlier (data_line fields) none h = cc
 
 -- ---- lines
@@ -105,7 +103,7 @@ named-lines_to_end (line ∷ more) n context earlier named none ended =
     by (is_end line) refl ended (λ h. named-lines_to_end more (n + 1) (context_after context line) (draft_after context earlier line) (named_next context earlier (item_of line) named) h)
   where
     told : Option FaultKind
-    told = line_fault line (placed_in context earlier line)
+    told = line_fault (placed_in context earlier line)
 
     by : (b : Bool) → is_end line ≡ b → (b || list_any is_end more) ≡ true
         → (fault_from (n + 1) (context_after context line) (draft_after context earlier line) (lines_to_end more) ≡ None → list_any is_end more ≡ true
@@ -114,7 +112,7 @@ named-lines_to_end (line ∷ more) n context earlier named none ended =
     by true e h later =
         let last = up_to_end-last line more e in
         let alone : fault_from n context earlier (line ∷ []) ≡ None = ap (fault_from n context earlier) (sym last) ∙ none in
-        let item = no-item line (placed_in context earlier line) (first_none n told None alone) in
+        let item = no-item context earlier line (first_none n told None alone) in
         ap (λ (text : List (List ℕ)). is_some (draft_from context earlier text).objective) last
         ∙ named-after (declared context earlier (item_of line)) earlier (named (ended_columns context earlier (item_of line) item e))
     by false e h later =

@@ -2,11 +2,10 @@
 use Rattle.std.proofs.Common.{◌≡◌, refl, sym, ap, ◌∙◌, List, [], ◌∷◌, ◌++◌, ℕ, Bool, true, false, cond, map}
 use Rattle.std.specs.Prelude.{Option, Some, None, is_some, is_none, ◌||◌, codes}
 use Rattle.std.specs.List.{list_any}
-use Rattle.mpslp_model.specs.Declaration.{Declaration, declare_sense, declare_objective, declare_constant, declare_row, declare_rhs, declare_range, declare_column, declare_coefficient, declare_lower, declare_upper, declare_marked, declare_integer, declare_binary, Declarations, Draft, adding, adding_all}
-use Rattle.mpslp_model.specs.Consistency.{has_objective}
+use Rattle.mpslp_model.specs.Declaration.{declare_objective, Draft, adding_all}
 use Rattle.mpslp_model.specs.Lists.{those_of}
-use Rattle.mpslp_model.proofs.BoolLemmas.{or_right}
 use Rattle.mpslp_model.proofs.MadeDrafts.{adding_all-append}
+use Rattle.mpslp_reading.proofs.ObjectiveLemmas.{named-after}
 use Rattle.mpslp_mps.specs.Line.{Fields, Item, skipped, header, data_line, item_of}
 use Rattle.mpslp_mps.specs.Section.{section_named, begins, is_section}
 use Rattle.mpslp_mps.specs.Context.{Context, context_of, has_section}
@@ -19,45 +18,6 @@ use Rattle.mpslp_mps.proofs.SectionLemmas.{has_section-push}
 use Rattle.mpslp_mps.proofs.PlacedLemmas.{declared_items, have_good_form}
 use Rattle.mpslp_mps.proofs.OrderLemmas.{header-begins, IsGood}
 use Rattle.mpslp_mps.proofs.KnownLemmas.{good-first, good-rest}
-
-stays-named : (all : Draft) (d : Declaration) → is_some all.objective ≡ true → is_some (adding all d).objective ≡ true
-stays-named all (declare_objective n) h = refl
-stays-named all (declare_sense s) h = h
-stays-named all (declare_constant v) h = h
-stays-named all (declare_row n f) h = h
-stays-named all (declare_rhs r v) h = h
-stays-named all (declare_range r v) h = h
-stays-named all (declare_column c) h = h
-stays-named all (declare_coefficient p v) h = h
-stays-named all (declare_lower c l) h = h
-stays-named all (declare_upper c l) h = h
-stays-named all (declare_marked c) h = h
-stays-named all (declare_integer c) h = h
-stays-named all (declare_binary c) h = h
-
-pub named-after : (ds : Declarations) (all : Draft) → is_some all.objective ≡ true → is_some (adding_all all ds).objective ≡ true
-named-after [] all h = h
-named-after (d ∷ ds) all h = named-after ds (adding all d) (stays-named all d h)
-
--- an objective that is there was there, or is declared
-pub objective-declared : (ds : Declarations) (all : Draft) → is_some (adding_all all ds).objective ≡ true → (is_some all.objective || has_objective ds) ≡ true
-objective-declared [] all h = ap (λ (b : Bool). b || false) h
-objective-declared (d ∷ ds) all h = by d (objective-declared ds (adding all d) h)
-  where
-    by : (x : Declaration) → (is_some (adding all x).objective || has_objective ds) ≡ true → (is_some all.objective || has_objective (x ∷ ds)) ≡ true
-    by (declare_objective n) k = or_right (is_some all.objective) true refl
-    by (declare_sense s) k = k
-    by (declare_constant v) k = k
-    by (declare_row n f) k = k
-    by (declare_rhs r v) k = k
-    by (declare_range r v) k = k
-    by (declare_column c) k = k
-    by (declare_coefficient p v) k = k
-    by (declare_lower c l) k = k
-    by (declare_upper c l) k = k
-    by (declare_marked c) k = k
-    by (declare_integer c) k = k
-    by (declare_binary c) k = k
 
 -- once COLUMNS has begun the objective is there
 abbrev pub IsNamed : List Item → Draft → Type 0

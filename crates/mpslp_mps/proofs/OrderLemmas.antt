@@ -1,6 +1,6 @@
 -- Where sections stand in lines of a good form, and so where rows and columns are declared.
 use Rattle.std.proofs.Common.{◌≡◌, refl, sym, ap, ◌∙◌, List, [], ◌∷◌, ◌++◌, ℕ, Bool, true, false, cond, map}
-use Rattle.std.specs.Prelude.{Option, Some, None, ◌||◌, not}
+use Rattle.std.specs.Prelude.{Option, Some, None, is_some, ◌||◌, not}
 use Rattle.std.specs.List.{list_all, flat_map}
 use Rattle.std.specs.Option.{option_or}
 use Rattle.std.specs.Cmp.{first_so, second_so}
@@ -12,30 +12,22 @@ use Rattle.mpslp_model.specs.declared.kinds.Limit.{Limit}
 use Rattle.mpslp_model.specs.declared.faults.FaultKind.{FaultKind}
 use Rattle.mpslp_model.specs.declared.faults.FaultKind.TheVariants as kinds
 use Rattle.mpslp_model.proofs.BoolLemmas.{both_so, or_left, or_right, nor}
+use Rattle.mpslp_reading.proofs.HeldLemmas.{first_test, later_tests}
 use Rattle.mpslp_mps.specs.Line.{Fields, Item, skipped, header, data_line}
 use Rattle.mpslp_mps.specs.Section.{section_named, section_begun, begins, is_section}
-use Rattle.mpslp_mps.specs.DataLine.{Pair, ColumnLine, sense_line, sense_of, column_line, is_marker_line, vector_line}
-use Rattle.mpslp_mps.specs.BoundLine.{BoundLine, bound_type, bound_line}
+use Rattle.mpslp_mps.specs.DataLine.{Pair, ValuesLine, sense_shape, sense_of, column_shape, is_marker_line, vector_shape}
+use Rattle.mpslp_mps.specs.BoundLine.{BoundLine, bound_type, bound_shape}
 use Rattle.mpslp_mps.specs.Context.{Context, context_of, current_section, has_section, has_seen}
-use Rattle.mpslp_mps.specs.LineMeaning.{declared_of, value_of, sense_declared, coefficient_declared, column_declared, columns_line_declared, right_sides_declared, ranges_declared, bound_declared, bound_value, bound_line_declared}
-use Rattle.mpslp_mps.specs.FieldFault.{Tests}
+use Rattle.mpslp_mps.specs.LineMeaning.{declared_of, sense_declared, coefficient_declared, column_declared, columns_line_declared, right_sides_declared, ranges_declared, bound_declared, bound_value, bound_line_declared}
+use Rattle.mpslp_reading.specs.Field.{value_of}
+use Rattle.mpslp_reading.specs.Tests.{Tests}
 use Rattle.mpslp_mps.specs.HeaderFault.{may_begin, is_out_of_order, may_follow, header_word_tests, header_tests}
-use Rattle.mpslp_mps.specs.LineFault.{form_faults}
+use Rattle.mpslp_mps.proofs.PlacedLemmas.{form_faults}
 use Rattle.mpslp_mps.specs.declared.sections.Section.{Section}
 use Rattle.mpslp_mps.specs.declared.sections.Section.TheVariants.{Name, ObjSense, Rows, Columns, Rhs, Ranges, Bounds, EndData}
 use Rattle.mpslp_mps.specs.declared.bound_types.BoundType.{BoundType}
 use Rattle.mpslp_mps.specs.declared.bound_types.BoundType.TheVariants as bounds
 use Rattle.mpslp_mps.proofs.SectionLemmas.{current_section-push, has_section-push}
-
--- ---- tests that do not hold
-
-pub first_test : (b : Bool) (kind : FaultKind) (more : Tests) → those_of ((b, kind) ∷ more) ≡ [] → b ≡ false
-first_test true kind more h = cc
-first_test false kind more h = refl
-
-pub later_tests : (b : Bool) (kind : FaultKind) (more : Tests) → those_of ((b, kind) ∷ more) ≡ [] → those_of more ≡ []
-later_tests true kind more h = cc
-later_tests false kind more h = h
 
 -- ---- headers of a good form
 
@@ -59,7 +51,7 @@ pub header-begins : (context : Context) (keyword : List ℕ) (more : Fields) (se
     → may_begin context section ≡ true
 header-begins context keyword more section h =
     by (has_seen context.seen section) (may_begin context section) (header-fresh context keyword more section h)
-    (nor context.wants_sense (not (has_seen context.seen section || may_begin context section)) (header-ordered context keyword more section h)).1
+    (nor (is_some context.wanted) (not (has_seen context.seen section || may_begin context section)) (header-ordered context keyword more section h)).1
   where
     by : (seen may : Bool) → seen ≡ false → not (seen || may) ≡ false → may ≡ true
     by true may e f = cc
@@ -277,24 +269,24 @@ pub record Passes (p : Declaration → Bool) : Type 0 where
   pub integer : (c : List ℕ) → p (declare_integer c) ≡ true
 
 -- a sense that is declared
-pub sense-passes : (p : Declaration → Bool) → ((s : Sense) → p (declare_sense s) ≡ true) → (fields : Fields) → list_all p (declared_of sense_declared (sense_line fields)) ≡ true
+pub sense-passes : (p : Declaration → Bool) → ((s : Sense) → p (declare_sense s) ≡ true) → (fields : Fields) → list_all p (declared_of sense_declared (sense_shape fields)) ≡ true
 sense-passes p h fields =
-    each-declared p sense_declared (sense_line fields)
+    each-declared p sense_declared (sense_shape fields)
     (λ word. each-declared p (λ sense. declare_sense sense ∷ []) (sense_of word) (λ s. both_so (p (declare_sense s)) true (h s) refl))
 
 module _ (p : Declaration → Bool) (passes : Passes p) where
-  pub sides-passes : (earlier : Draft) (fields : Fields) → list_all p (declared_of (right_sides_declared earlier) (vector_line fields)) ≡ true
+  pub sides-passes : (earlier : Draft) (fields : Fields) → list_all p (declared_of (right_sides_declared earlier) (vector_shape fields)) ≡ true
   sides-passes earlier fields =
-      each-declared p (right_sides_declared earlier) (vector_line fields)
+      each-declared p (right_sides_declared earlier) (vector_shape fields)
       (λ line. each-flat p (λ (pair : Pair). rhs_declared earlier pair.row (value_of pair.literal)) line.pairs (λ pair. one pair (is_free_row earlier pair.row)))
     where
       one : (pair : Pair) (b : Bool) → list_all p (cond b [] (declare_rhs pair.row (value_of pair.literal) ∷ [])) ≡ true
       one pair true = refl
       one pair false = both_so (p (declare_rhs pair.row (value_of pair.literal))) true (passes.side pair.row (value_of pair.literal)) refl
 
-  pub ranges-passes : (fields : Fields) → list_all p (declared_of ranges_declared (vector_line fields)) ≡ true
+  pub ranges-passes : (fields : Fields) → list_all p (declared_of ranges_declared (vector_shape fields)) ≡ true
   ranges-passes fields =
-      each-declared p ranges_declared (vector_line fields)
+      each-declared p ranges_declared (vector_shape fields)
       (λ line. each-mapped p (λ (pair : Pair). declare_range pair.row (value_of pair.literal)) line.pairs (λ pair. passes.range pair.row (value_of pair.literal)))
 
   bound-passes : (type : BoundType) (c : List ℕ) (v : Limit) → list_all p (bound_declared type c v) ≡ true
@@ -311,8 +303,8 @@ module _ (p : Declaration → Bool) (passes : Passes p) where
   pub bounds-passes : (fields : Fields) → list_all p (bound_line_declared fields) ≡ true
   bounds-passes [] = refl
   bounds-passes (letters ∷ more) =
-      each-declared p (λ type. declared_of (λ (line : BoundLine). bound_declared type line.column (bound_value line)) (bound_line type more)) (bound_type letters)
-      (λ type. each-declared p (λ (line : BoundLine). bound_declared type line.column (bound_value line)) (bound_line type more) (λ line. bound-passes type line.column (bound_value line)))
+      each-declared p (λ type. declared_of (λ (line : BoundLine). bound_declared type line.column (bound_value line)) (bound_shape type more)) (bound_type letters)
+      (λ type. each-declared p (λ (line : BoundLine). bound_declared type line.column (bound_value line)) (bound_shape type more) (λ line. bound-passes type line.column (bound_value line)))
 
 -- the lines of COLUMNS declare no rows
 pub columns-line-no-rows : (context : Context) (fields : Fields) → no_rows (columns_line_declared context fields) ≡ true
@@ -321,16 +313,16 @@ columns-line-no-rows context fields = by (is_marker_line fields)
     cells : (column : List ℕ) (pairs : List Pair) → no_rows (flat_map (coefficient_declared column) pairs) ≡ true
     cells column pairs = each-flat (λ d. not (declares_row d)) (coefficient_declared column) pairs (λ pair. refl)
 
-    line-no-rows : (line : ColumnLine) → no_rows (column_declared context line) ≡ true
+    line-no-rows : (line : ValuesLine) → no_rows (column_declared context line) ≡ true
     line-no-rows line = marked context.in_integer_part
       where
-        marked : (b : Bool) → no_rows (cond b (declare_marked line.column ∷ []) [] ++ flat_map (coefficient_declared line.column) line.pairs) ≡ true
-        marked true = cells line.column line.pairs
-        marked false = cells line.column line.pairs
+        marked : (b : Bool) → no_rows (cond b (declare_marked line.name ∷ []) [] ++ flat_map (coefficient_declared line.name) line.pairs) ≡ true
+        marked true = cells line.name line.pairs
+        marked false = cells line.name line.pairs
 
-    by : (b : Bool) → no_rows (cond b [] (declared_of (column_declared context) (column_line fields))) ≡ true
+    by : (b : Bool) → no_rows (cond b [] (declared_of (column_declared context) (column_shape fields))) ≡ true
     by true = refl
-    by false = each-declared (λ d. not (declares_row d)) (column_declared context) (column_line fields) line-no-rows
+    by false = each-declared (λ d. not (declares_row d)) (column_declared context) (column_shape fields) line-no-rows
 
 pub passes-no_rows : Passes (λ d. not (declares_row d))
 passes-no_rows = record { side = λ _ _. refl; range = λ _ _. refl; lower = λ _ _. refl; upper = λ _ _. refl; integer = λ _. refl }

@@ -1,20 +1,15 @@
 -- What is told of the ranges of a line.
 use Rattle.std.proofs.Common.{◌≡◌, refl, sym, ap, ◌∙◌, ℕ, List, [], ◌∷◌, Bool, true, false, not, cond}
-use Rattle.std.specs.Prelude.{◌||◌, Option, Some, None, filter_map}
-use Rattle.std.proofs.lemmas.List.{append-nil}
+use Rattle.std.specs.Prelude.{◌||◌, Option, Some, None}
 use Rattle.mpslp_decimal.specs.Decimal.{Number, is_infinite_size}
 use Rattle.mpslp_model.specs.Name.{same_bytes}
 use Rattle.mpslp_model.specs.Declaration.{declare_range, Draft, adding, has_name, has_row, is_objective, is_free_row, is_row_by_limits}
-use Rattle.mpslp_model.specs.Refusal.{refusals, refusal_tests}
-use Rattle.mpslp_model.specs.FaultOrder.{least_kind}
-use Rattle.mpslp_model.specs.declared.faults.BuildFault.{BuildFault}
 use Rattle.mpslp_model.specs.declared.faults.FaultKind.{FaultKind}
 use Rattle.mpslp_model.specs.declared.faults.FaultKind.TheVariants as kinds
 use Rattle.mpslp_model.proofs.SlotLemmas.{has-put, same_name}
-use Rattle.mpslp_mps.specs.LineFault.{kind_of_refusal}
-use Rattle.mpslp_mps.specs.DeclareAnswer.{declared_fault}
-use Rattle.mpslp_mps.proofs.LeastLemmas.{earlier_of}
-use Rattle.mpslp_mps.proofs.RefusedLemmas.{least-refusal, told-append}
+use Rattle.mpslp_reading.specs.Declaring.{declared_fault}
+use Rattle.mpslp_reading.proofs.LeastLemmas.{earlier_of}
+use Rattle.mpslp_reading.proofs.RefusedLemmas.{declared-one, declared-append}
 
 -- the kind that is told, by whether the row is there, has a range, can have none, and by whether the value is infinite
 abbrev range_kind : Bool → Bool → Bool → Bool → Option FaultKind
@@ -30,8 +25,7 @@ has_no_sides all row = is_objective all row || is_free_row all row
 range_told : (all : Draft) (row : List ℕ) (value : Number)
     → declared_fault all (declare_range row value ∷ []) ≡ range_kind (has_row all row) (is_ranged all row) (has_no_sides all row) (is_infinite_size value)
 range_told all row value =
-    ap (λ (faults : List BuildFault). least_kind (filter_map kind_of_refusal faults)) (append-nil (refusals all (declare_range row value)))
-    ∙ least-refusal (refusal_tests all (declare_range row value)) refl refl
+    declared-one all (declare_range row value) refl
 
 -- of another row a range says nothing
 range-apart : (all : Draft) (row : List ℕ) (value : Number) (other : List ℕ) (second : Number) → same_bytes other row ≡ false
@@ -46,7 +40,7 @@ pub ranges-apart : (all : Draft) (row : List ℕ) (value : Number) (other : List
     → declared_fault all (declare_range row value ∷ declare_range other second ∷ [])
     ≡ earlier_of (declared_fault all (declare_range row value ∷ [])) (declared_fault all (declare_range other second ∷ []))
 ranges-apart all row value other second apart =
-    told-append (declare_range row value ∷ []) (declare_range other second ∷ []) all
+    declared-append (declare_range row value ∷ []) (declare_range other second ∷ []) all
     ∙ ap (earlier_of (declared_fault all (declare_range row value ∷ []))) (range-apart all row value other second apart)
 
 -- two ranges of one row
@@ -55,7 +49,7 @@ pub ranges-of_one : (all : Draft) (row : List ℕ) (value : Number) (other : Lis
 ranges-of_one all row value other second same =
     let ranged = has-put other row value all.ranges ∙ ap (λ (b : Bool). b || has_name all.ranges other) same in
     let next = adding all (declare_range row value) in
-    told-append (declare_range row value ∷ []) (declare_range other second ∷ []) all
+    declared-append (declare_range row value ∷ []) (declare_range other second ∷ []) all
     ∙ (λ i. earlier_of (range_told all row value i) (range_told next other second i))
     ∙ (λ i. earlier_of (range_kind (has_row all row) (is_ranged all row) (has_no_sides all row) (is_infinite_size value))
     (range_kind (has_row all (same_name other row same i)) (ranged i || is_row_by_limits all other) (has_no_sides all other) (is_infinite_size second)))

@@ -1,7 +1,7 @@
 -- A context and a draft say of the lines to come what all the lines before say.
-use Rattle.std.proofs.Common.{◌≡◌, refl, ap, ◌∙◌, ℕ, ◌+◌, List, [], ◌∷◌, ◌++◌, map}
+use Rattle.std.proofs.Common.{◌≡◌, refl, ap, ◌∙◌, ℕ, ◌+◌, List, [], ◌∷◌, ◌++◌}
 use Rattle.std.specs.Prelude.{Option}
-use Rattle.std.specs.List.{zip}
+use Rattle.std.specs.List.{flat_map}
 use Rattle.std.specs.Option.{option_map, option_or}
 use Rattle.mpslp_model.specs.Declaration.{Draft, empty_draft, adding_all, draft_of}
 use Rattle.mpslp_model.specs.declared.faults.Fault.{Fault}
@@ -9,28 +9,28 @@ use Rattle.mpslp_model.proofs.MadeDrafts.{adding_all-append}
 use Rattle.mpslp_mps.specs.Line.{Item, item_of}
 use Rattle.mpslp_mps.specs.Context.{Context, context_of}
 use Rattle.mpslp_mps.specs.LineMeaning.{declared}
-use Rattle.mpslp_mps.specs.MpsText.{read_lines, placed_after, declarations_of}
-use Rattle.mpslp_mps.specs.FirstFault.{line_fault, fault_on_line, first_line_fault, whole_mps_fault, first_mps_fault}
+use Rattle.mpslp_mps.specs.MpsText.{read_lines, declared_at, placed_after, declarations_of}
+use Rattle.mpslp_mps.specs.FirstFault.{line_fault, first_line_fault, whole_mps_fault, first_mps_fault}
+use Rattle.mpslp_reading.specs.LineAnswer.{fault_on_line}
 use Rattle.mpslp_mps.specs.Reading.{placed_in, fault_from, draft_from}
 use Rattle.mpslp_mps.proofs.ContextLemmas.{context-push}
-use Rattle.mpslp_mps.proofs.PlacedLemmas.{declared_items}
 
 pub fault_from-is : (lines : List (List ℕ)) (n : ℕ) (before : List Item) (earlier : Draft)
-    → first_line_fault n (zip lines (placed_after before earlier (map item_of lines))) ≡ fault_from n (context_of before) earlier lines
+    → first_line_fault n (placed_after before earlier lines) ≡ fault_from n (context_of before) earlier lines
 fault_from-is [] n before earlier = refl
 fault_from-is (line ∷ lines) n before earlier =
     let next = adding_all earlier (declared (context_of before) earlier (item_of line)) in
-    ap (option_or (option_map (fault_on_line n) (line_fault line (placed_in (context_of before) earlier line))))
+    ap (option_or (option_map (fault_on_line n) (line_fault (placed_in (context_of before) earlier line))))
     (fault_from-is lines (n + 1) (before ++ item_of line ∷ []) next
     ∙ ap (λ (context : Context). fault_from (n + 1) context next lines) (context-push before (item_of line)))
 
 pub draft_from-is : (lines : List (List ℕ)) (before : List Item) (earlier : Draft)
-    → adding_all earlier (declared_items before earlier (map item_of lines)) ≡ draft_from (context_of before) earlier lines
+    → adding_all earlier (flat_map declared_at (placed_after before earlier lines)) ≡ draft_from (context_of before) earlier lines
 draft_from-is [] before earlier = refl
 draft_from-is (line ∷ lines) before earlier =
     let here = declared (context_of before) earlier (item_of line) in
     let next = adding_all earlier here in
-    adding_all-append here (declared_items (before ++ item_of line ∷ []) next (map item_of lines)) earlier
+    adding_all-append here (flat_map declared_at (placed_after (before ++ item_of line ∷ []) next lines)) earlier
     ∙ draft_from-is lines (before ++ item_of line ∷ []) next
     ∙ ap (λ (context : Context). draft_from context next lines) (context-push before (item_of line))
 

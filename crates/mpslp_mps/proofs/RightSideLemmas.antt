@@ -1,25 +1,21 @@
 -- What is told of the right sides of a line.
 use Rattle.std.proofs.Common.{◌≡◌, refl, sym, ap, subst, ◌∙◌, ℕ, List, [], ◌∷◌, ◌++◌, Bool, true, false, not, cond}
-use Rattle.std.specs.Prelude.{◌&&◌, ◌||◌, Option, Some, None, is_some, filter_map}
+use Rattle.std.specs.Prelude.{◌&&◌, ◌||◌, Option, Some, None, is_some}
 use Rattle.std.specs.Option.{option_map_or}
-use Rattle.std.proofs.lemmas.List.{append-nil}
 use Rattle.mpslp_decimal.specs.Decimal.{Number}
 use Rattle.mpslp_model.specs.Name.{same_bytes}
 use Rattle.mpslp_model.specs.Declaration.{RowForm, by_type, by_limits, declare_rhs, Draft, adding, adding_all, at_name, has_name, has_row, is_objective, is_free_form, is_free_row, is_limits_form, is_row_by_limits, rhs_declared}
-use Rattle.mpslp_model.specs.Refusal.{refusals, refusal_tests}
-use Rattle.mpslp_model.specs.FaultOrder.{least_kind}
-use Rattle.mpslp_model.specs.declared.faults.BuildFault.{BuildFault}
 use Rattle.mpslp_model.specs.declared.faults.FaultKind.{FaultKind}
 use Rattle.mpslp_model.specs.declared.faults.FaultKind.TheVariants as kinds
 use Rattle.mpslp_model.proofs.BoolLemmas.{or_right}
 use Rattle.mpslp_model.proofs.SlotLemmas.{has-put, same_name}
-use Rattle.mpslp_mps.specs.LineFault.{kind_of_refusal}
-use Rattle.mpslp_mps.specs.LineAnswer.{IsToldAs}
-use Rattle.mpslp_mps.specs.DeclareAnswer.{declared_fault, HasMpsSides}
-use Rattle.mpslp_mps.specs.declared.errors.LineError.{LineError}
-use Rattle.mpslp_mps.specs.declared.errors.LineError.TheVariants.{Fault, OutOfMemory}
-use Rattle.mpslp_mps.proofs.LeastLemmas.{earlier_of}
-use Rattle.mpslp_mps.proofs.RefusedLemmas.{least-refusal, told-append}
+use Rattle.mpslp_reading.specs.Declaring.{declared_fault}
+use Rattle.mpslp_reading.specs.LineAnswer.{IsErrorOf}
+use Rattle.mpslp_mps.specs.DeclareAnswer.{HasMpsSides}
+use Rattle.mpslp_reading.specs.declared.errors.LineError.{LineError}
+use Rattle.mpslp_reading.specs.declared.errors.LineError.TheVariants.{Fault, OutOfMemory}
+use Rattle.mpslp_reading.proofs.LeastLemmas.{earlier_of}
+use Rattle.mpslp_reading.proofs.RefusedLemmas.{declared-one, declared-append}
 
 -- ---- one right side
 
@@ -69,8 +65,7 @@ side_told all row value free_unsided =
     → declared_fault all (cond b [] (declare_rhs row value ∷ [])) ≡ side_kind (has_row all row) (is_sided all row)) [
       | true ↦ λ free. let there = free_row all row free in let sided = free_unsided row free in λ i. side_kind (sym there i) (sym sided i)
       | false ↦ λ _.
-          ap (λ (faults : List BuildFault). least_kind (filter_map kind_of_refusal faults)) (append-nil (refusals all (declare_rhs row value)))
-          ∙ least-refusal (refusal_tests all (declare_rhs row value)) refl refl
+          declared-one all (declare_rhs row value) refl
     ] refl
 
 -- ---- after a right side
@@ -130,7 +125,7 @@ both_told : (all : Draft) (row : List ℕ) (value : Number) (other : List ℕ) (
     → both all row value other second ≡ earlier_of (side_kind (has_row all row) (is_sided all row)) (side_kind (has_row all other) (is_sided (after_side all row value) other))
 both_told all row value other second sides =
     let mid = after_side all row value in
-    told-append (rhs_declared all row value) (rhs_declared all other second) all
+    declared-append (rhs_declared all row value) (rhs_declared all other second) all
     ∙ (λ i. earlier_of (side_told all row value (limited all sides) i) (declared_fault mid (sym (same_side all row value other second) i)))
     ∙ (λ i. earlier_of (side_kind (has_row all row) (is_sided all row)) (side_told mid other second (limited-after all row value sides) i))
     ∙ (λ i. earlier_of (side_kind (has_row all row) (is_sided all row)) (side_kind (same_row all row value other i) (is_sided mid other)))
@@ -149,13 +144,13 @@ row-unknown all row value other second sides h =
     by false b false d k = refl
 
 pub first-refused : (all : Draft) (row : List ℕ) (value : Number) (other : List ℕ) (second : Number) (error : LineError) → HasMpsSides all → (has_row all row && has_row all other) ≡ true
-    → IsToldAs (declared_fault all (rhs_declared all row value)) error → IsToldAs (both all row value other second) error
+    → IsErrorOf (declared_fault all (rhs_declared all row value)) error → IsErrorOf (both all row value other second) error
 first-refused all row value other second error sides h told =
-    subst (λ (o : Option FaultKind). IsToldAs o error) (sym (both_told all row value other second sides))
+    subst (λ (o : Option FaultKind). IsErrorOf o error) (sym (both_told all row value other second sides))
     (by (has_row all row) (is_sided all row) (has_row all other) (is_sided (after_side all row value) other) error h
-    (subst (λ (o : Option FaultKind). IsToldAs o error) (side_told all row value (limited all sides)) told))
+    (subst (λ (o : Option FaultKind). IsErrorOf o error) (side_told all row value (limited all sides)) told))
   where
-    by : (a b c d : Bool) (e : LineError) → (a && c) ≡ true → IsToldAs (side_kind a b) e → IsToldAs (earlier_of (side_kind a b) (side_kind c d)) e
+    by : (a b c d : Bool) (e : LineError) → (a && c) ≡ true → IsErrorOf (side_kind a b) e → IsErrorOf (earlier_of (side_kind a b) (side_kind c d)) e
     by a b c d OutOfMemory k given = tt
     by true true true true (Fault kind) k given = given
     by true true true false (Fault kind) k given = given

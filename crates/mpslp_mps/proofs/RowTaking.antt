@@ -4,7 +4,7 @@ use Rattle.std.specs.Prelude.{Option, Some, None}
 use Rattle.std.specs.List.{list_all}
 use Rattle.mpslp_model.specs.declared.faults.FaultKind.TheVariants as kinds
 use Rattle.mpslp_mps.specs.DataLine.{RowLine}
-use Rattle.mpslp_mps.specs.FieldFault.{judged_by}
+use Rattle.mpslp_reading.specs.Tests.{judged_by}
 use Rattle.mpslp_mps.specs.HeaderFault.{word_tests}
 use Rattle.mpslp_mps.specs.DataFault.{row_tests}
 use Rattle.mpslp_mps.proofs.TakingLemmas.{is_early}

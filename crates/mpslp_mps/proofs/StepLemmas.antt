@@ -6,12 +6,12 @@ use Rattle.mpslp_decimal.specs.Decimal.{Number}
 use Rattle.mpslp_model.specs.Name.{same_bytes}
 use Rattle.mpslp_mps.specs.Line.{Fields, skipped, header, data_line}
 use Rattle.mpslp_mps.specs.Section.{is_section, section_named}
-use Rattle.mpslp_mps.specs.DataLine.{ColumnLine, VectorLine, column_line, is_marker_line, marker_line, opening_word, vector_line}
-use Rattle.mpslp_mps.specs.BoundLine.{BoundLine, bound_type, bound_line}
-use Rattle.mpslp_mps.specs.Context.{Seen, Context, is_bare_objsense, line_column, vector_set, bound_set}
+use Rattle.mpslp_mps.specs.DataLine.{ValuesLine, column_shape, is_marker_line, marker_shape, opening_word, vector_shape}
+use Rattle.mpslp_mps.specs.BoundLine.{BoundLine, bound_type, bound_shape}
+use Rattle.mpslp_mps.specs.Context.{Seen, Context, wanting, line_column, vector_set, bound_set}
 use Rattle.mpslp_mps.specs.NextContext.{next_part, next_set, next_context}
-use Rattle.mpslp_mps.specs.FirstHeld.{column_values, set_values}
-use Rattle.mpslp_mps.specs.ContextStep.{seen_with, is_bare_header, after_header, after_data, after_marker, after_column, after_right_side, after_range, after_bound}
+use Rattle.mpslp_mps.specs.LineValues.{named_values}
+use Rattle.mpslp_mps.specs.ContextStep.{seen_with, word_wanted, after_header, after_data, after_marker, after_column, after_right_side, after_range, after_bound}
 use Rattle.mpslp_mps.specs.declared.bound_types.BoundType.{BoundType}
 use Rattle.mpslp_mps.specs.declared.sections.Section.{Section}
 use Rattle.mpslp_mps.specs.declared.sections.Section.TheVariants.{Name, ObjSense, Rows, Columns, Rhs, Ranges, Bounds, EndData}
@@ -63,17 +63,17 @@ seen-header seen Bounds = λ i. record seen { name = or_false seen.name i; objse
 seen-header seen EndData = seen-same seen
 
 pub step-header : (c : Context) (keyword : List ℕ) (more : Fields) (section : Section) → section_named keyword ≡ Some section
-    → next_context c (header keyword more) ≡ after_header c section (is_bare_objsense (header keyword more))
+    → next_context c (header keyword more) ≡ after_header c section (wanting (header keyword more))
 step-header c keyword more section h =
-    let bare = is_bare_objsense (header keyword more) in
-    let step : Option Section → Context = λ o. record c { section = option_or o c.section; seen = next_seen_of c.seen o; wants_sense = bare } in
-    ap step h ∙ ap (λ (seen : Seen). record c { section = Some section; seen = seen; wants_sense = bare }) (seen-header c.seen section)
+    let word = wanting (header keyword more) in
+    let step : Option Section → Context = λ o. record c { section = option_or o c.section; seen = next_seen_of c.seen o; wanted = word } in
+    ap step h ∙ ap (λ (seen : Seen). record c { section = Some section; seen = seen; wanted = word }) (seen-header c.seen section)
 
--- whether the word of OBJSENSE is to come
-pub bare-header : (keyword : List ℕ) (more : Fields) (section : Section) → section_named keyword ≡ Some section → is_bare_objsense (header keyword more) ≡ is_bare_header section more
-bare-header keyword [] section h = ap (is_section ObjSense) h ∙ of section
+-- whose word is to come
+pub header-wanting : (keyword : List ℕ) (more : Fields) (section : Section) → section_named keyword ≡ Some section → wanting (header keyword more) ≡ word_wanted section more
+header-wanting keyword [] section h = ap (λ (o : Option Section). cond (is_section ObjSense o) (Some ObjSense) None) h ∙ of section
   where
-    of : (s : Section) → is_section ObjSense (Some s) ≡ is_bare_header s []
+    of : (s : Section) → cond (is_section ObjSense (Some s)) (Some ObjSense) None ≡ word_wanted s []
     of Name = refl
     of ObjSense = refl
     of Rows = refl
@@ -82,9 +82,9 @@ bare-header keyword [] section h = ap (is_section ObjSense) h ∙ of section
     of Ranges = refl
     of Bounds = refl
     of EndData = refl
-bare-header keyword (word ∷ more) section h = of section
+header-wanting keyword (word ∷ more) section h = of section
   where
-    of : (s : Section) → false ≡ is_bare_header s (word ∷ more)
+    of : (s : Section) → None ≡ word_wanted s (word ∷ more)
     of Name = refl
     of ObjSense = refl
     of Rows = refl
@@ -100,7 +100,7 @@ bare-header keyword (word ∷ more) section h = of section
 abbrev under : Context → Fields → Option Section → Context
 under c fields section = record c {
   seen = next_seen_of c.seen None;
-  wants_sense = false;
+  wanted = None;
   in_integer_part = cond (is_section Columns section) (next_part fields c.in_integer_part) c.in_integer_part;
   last_column = cond (is_section Columns section) (line_column fields) c.last_column;
   rhs_set = cond (is_section Rhs section) (next_set vector_set fields c.rhs_set) c.rhs_set;
@@ -109,67 +109,67 @@ under c fields section = record c {
 }
 
 pub step-sense : (c : Context) (fields : Fields) → c.section ≡ Some ObjSense → next_context c (data_line fields) ≡ after_data c
-step-sense c fields h = ap (under c fields) h ∙ ap (λ (seen : Seen). record c { seen = seen; wants_sense = false }) (seen-same c.seen)
+step-sense c fields h = ap (under c fields) h ∙ ap (λ (seen : Seen). record c { seen = seen; wanted = None }) (seen-same c.seen)
 
 pub step-row : (c : Context) (fields : Fields) → c.section ≡ Some Rows → next_context c (data_line fields) ≡ after_data c
-step-row c fields h = ap (under c fields) h ∙ ap (λ (seen : Seen). record c { seen = seen; wants_sense = false }) (seen-same c.seen)
+step-row c fields h = ap (under c fields) h ∙ ap (λ (seen : Seen). record c { seen = seen; wanted = None }) (seen-same c.seen)
 
 pub step-column : (c : Context) (fields : Fields) (column : List ℕ) (values : List (List ℕ × Number)) → c.section ≡ Some Columns → is_marker_line fields ≡ false
-    → option_map column_values (column_line fields) ≡ Some (column, values) → next_context c (data_line fields) ≡ after_column c column
+    → option_map named_values (column_shape fields) ≡ Some (column, values) → next_context c (data_line fields) ≡ after_column c column
 step-column c fields column values h plain k =
     ap (under c fields) h
-    ∙ (λ i. record c { seen = seen-same c.seen i; wants_sense = false; in_integer_part = part i; last_column = last i })
+    ∙ (λ i. record c { seen = seen-same c.seen i; wanted = None; in_integer_part = part i; last_column = last i })
   where
     part : next_part fields c.in_integer_part ≡ c.in_integer_part
-    part = ap (λ (b : Bool). option_map_or (same_bytes opening_word) (cond b (marker_line fields) None) c.in_integer_part) plain
+    part = ap (λ (b : Bool). option_map_or (same_bytes opening_word) (cond b (marker_shape fields) None) c.in_integer_part) plain
 
-    of : (o : Option ColumnLine) → option_map column_values o ≡ Some (column, values) → option_map (λ line. line.column) o ≡ Some column
+    of : (o : Option ValuesLine) → option_map named_values o ≡ Some (column, values) → option_map (λ line. line.name) o ≡ Some column
     of None e = cc
     of (Some line) e = ap (option_map (λ (p : List ℕ × List (List ℕ × Number)). p.0)) e
 
     last : line_column fields ≡ Some column
-    last = ap (λ (b : Bool). cond b None (option_map (λ line. line.column) (column_line fields))) plain ∙ of (column_line fields) k
+    last = ap (λ (b : Bool). cond b None (option_map (λ line. line.name) (column_shape fields))) plain ∙ of (column_shape fields) k
 
 pub step-marker : (c : Context) (fields : Fields) (opens : Bool) → c.section ≡ Some Columns → is_marker_line fields ≡ true
-    → option_map (same_bytes opening_word) (marker_line fields) ≡ Some opens → next_context c (data_line fields) ≡ after_marker c opens
+    → option_map (same_bytes opening_word) (marker_shape fields) ≡ Some opens → next_context c (data_line fields) ≡ after_marker c opens
 step-marker c fields opens h marked k =
     ap (under c fields) h
-    ∙ (λ i. record c { seen = seen-same c.seen i; wants_sense = false; in_integer_part = part i; last_column = last i })
+    ∙ (λ i. record c { seen = seen-same c.seen i; wanted = None; in_integer_part = part i; last_column = last i })
   where
     of : (o : Option (List ℕ)) → option_map (same_bytes opening_word) o ≡ Some opens → option_map_or (same_bytes opening_word) o c.in_integer_part ≡ opens
     of None e = cc
     of (Some word) e = cc
 
     part : next_part fields c.in_integer_part ≡ opens
-    part = ap (λ (b : Bool). option_map_or (same_bytes opening_word) (cond b (marker_line fields) None) c.in_integer_part) marked ∙ of (marker_line fields) k
+    part = ap (λ (b : Bool). option_map_or (same_bytes opening_word) (cond b (marker_shape fields) None) c.in_integer_part) marked ∙ of (marker_shape fields) k
 
     last : line_column fields ≡ None
-    last = ap (λ (b : Bool). cond b None (option_map (λ line. line.column) (column_line fields))) marked
+    last = ap (λ (b : Bool). cond b None (option_map (λ line. line.name) (column_shape fields))) marked
 
 -- the set name of a line of RHS or RANGES
-set-of : (fields : Fields) (set : List ℕ) (values : List (List ℕ × Number)) → option_map set_values (vector_line fields) ≡ Some (set, values) → vector_set fields ≡ Some set
-set-of fields set values k = of (vector_line fields) k
+set-of : (fields : Fields) (set : List ℕ) (values : List (List ℕ × Number)) → option_map named_values (vector_shape fields) ≡ Some (set, values) → vector_set fields ≡ Some set
+set-of fields set values k = of (vector_shape fields) k
   where
-    of : (o : Option VectorLine) → option_map set_values o ≡ Some (set, values) → option_map (λ line. line.set) o ≡ Some set
+    of : (o : Option ValuesLine) → option_map named_values o ≡ Some (set, values) → option_map (λ line. line.name) o ≡ Some set
     of None e = cc
     of (Some line) e = ap (option_map (λ (p : List ℕ × List (List ℕ × Number)). p.0)) e
 
 pub step-right_side : (c : Context) (fields : Fields) (set : List ℕ) (values : List (List ℕ × Number)) → c.section ≡ Some Rhs
-    → option_map set_values (vector_line fields) ≡ Some (set, values) → next_context c (data_line fields) ≡ after_right_side c set
+    → option_map named_values (vector_shape fields) ≡ Some (set, values) → next_context c (data_line fields) ≡ after_right_side c set
 step-right_side c fields set values h k =
-    ap (under c fields) h ∙ (λ i. record c { seen = seen-same c.seen i; wants_sense = false; rhs_set = option_or c.rhs_set (set-of fields set values k i) })
+    ap (under c fields) h ∙ (λ i. record c { seen = seen-same c.seen i; wanted = None; rhs_set = option_or c.rhs_set (set-of fields set values k i) })
 
 pub step-range : (c : Context) (fields : Fields) (set : List ℕ) (values : List (List ℕ × Number)) → c.section ≡ Some Ranges
-    → option_map set_values (vector_line fields) ≡ Some (set, values) → next_context c (data_line fields) ≡ after_range c set
+    → option_map named_values (vector_shape fields) ≡ Some (set, values) → next_context c (data_line fields) ≡ after_range c set
 step-range c fields set values h k =
-    ap (under c fields) h ∙ (λ i. record c { seen = seen-same c.seen i; wants_sense = false; ranges_set = option_or c.ranges_set (set-of fields set values k i) })
+    ap (under c fields) h ∙ (λ i. record c { seen = seen-same c.seen i; wanted = None; ranges_set = option_or c.ranges_set (set-of fields set values k i) })
 
 pub step-bound : (c : Context) (letters : List ℕ) (more : Fields) (type : BoundType) (line : BoundLine) → c.section ≡ Some Bounds → bound_type letters ≡ Some type
-    → bound_line type more ≡ Some line → next_context c (data_line (letters ∷ more)) ≡ after_bound c line.set
+    → bound_shape type more ≡ Some line → next_context c (data_line (letters ∷ more)) ≡ after_bound c line.set
 step-bound c letters more type line h t k =
-    ap (under c (letters ∷ more)) h ∙ (λ i. record c { seen = seen-same c.seen i; wants_sense = false; bounds_set = option_or c.bounds_set (set i) })
+    ap (under c (letters ∷ more)) h ∙ (λ i. record c { seen = seen-same c.seen i; wanted = None; bounds_set = option_or c.bounds_set (set i) })
   where
     set : bound_set (letters ∷ more) ≡ Some line.set
     set =
-        ap (λ (o : Option BoundType). option_map_or (λ found. option_map (λ l. l.set) (bound_line found more)) o None) t
+        ap (λ (o : Option BoundType). option_map_or (λ found. option_map (λ l. l.set) (bound_shape found more)) o None) t
         ∙ ap (option_map (λ (l : BoundLine). l.set)) k

@@ -8,32 +8,37 @@ use Rattle.mpslp_model.specs.Declaration.{Declarations, Draft, declare_range, rh
 use Rattle.mpslp_model.specs.declared.faults.FaultKind.{FaultKind}
 use Rattle.mpslp_model.specs.declared.faults.FaultKind.TheVariants as kinds
 use Rattle.mpslp_mps.specs.Line.{Fields, data_line}
-use Rattle.mpslp_mps.specs.DataLine.{Pair, VectorLine}
+use Rattle.mpslp_mps.specs.DataLine.{Pair, ValuesLine}
 use Rattle.mpslp_mps.specs.Context.{Context}
-use Rattle.mpslp_mps.specs.LineMeaning.{declared_of, value_of, right_sides_declared, ranges_declared, data_declared}
-use Rattle.mpslp_mps.specs.BoundLine.{BoundLine, bound_type, bound_line, is_semi_continuous_type}
-use Rattle.mpslp_mps.specs.FieldFault.{Tests, judged_by, number_tests, set_tests}
+use Rattle.mpslp_mps.specs.LineMeaning.{declared_of, right_sides_declared, ranges_declared, data_declared}
+use Rattle.mpslp_reading.specs.Field.{value_of, number_tests}
+use Rattle.mpslp_mps.specs.BoundLine.{BoundLine, bound_type, bound_shape, is_semi_continuous_type}
+use Rattle.mpslp_reading.specs.Tests.{Tests, judged_by, first_held}
+use Rattle.mpslp_mps.specs.FieldFault.{set_tests}
 use Rattle.mpslp_mps.specs.DataFault.{vector_tests, bound_tests, typed_bound_tests, bound_line_tests, data_tests}
-use Rattle.mpslp_mps.specs.FirstFault.{item_fault}
-use Rattle.mpslp_mps.specs.FirstHeld.{first_held, row_value, set_values}
-use Rattle.mpslp_mps.specs.DeclareAnswer.{declared_fault, right_sides_of, ranges_of}
+use Rattle.mpslp_mps.specs.LineAnswer.{item_fault}
+use Rattle.mpslp_mps.specs.LineValues.{row_value, named_values}
+use Rattle.mpslp_reading.specs.Declaring.{declared_fault}
+use Rattle.mpslp_mps.specs.DeclareAnswer.{right_sides_of, ranges_of}
 use Rattle.mpslp_mps.specs.declared.bound_types.BoundType.{BoundType}
 use Rattle.mpslp_mps.specs.declared.sections.Section.{Section}
-use Rattle.mpslp_mps.proofs.LeastLemmas.{is_from}
-use Rattle.mpslp_mps.proofs.ToldLemmas.{told-form, told-declared, held-among, data-rising}
+use Rattle.mpslp_reading.proofs.LeastLemmas.{is_from}
+use Rattle.mpslp_reading.proofs.FirstFaultLemmas.{form-first, declared-first}
+use Rattle.mpslp_reading.proofs.HeldLemmas.{held-among}
+use Rattle.mpslp_mps.proofs.RisingTests.{data-rising}
 
 -- all kinds of the tests come before those of what is declared
 abbrev pub are_early : Tests → Type 0
 are_early tests = list_all (λ test. is_from test.1 kinds.UnknownRow) tests ≡ true
 
 abbrev pub line_told : Context → Draft → Fields → Option FaultKind
-line_told context earlier fields = item_fault (record { context = context; earlier = earlier; item = data_line fields })
+line_told context earlier fields = item_fault context earlier (data_line fields)
 
 -- a fault of the line's form, in a section whose lines have no late one
 pub form-told : (context : Context) (earlier : Draft) (fields : Fields) (section : Option Section) (kind : FaultKind) → context.section ≡ section
     → are_early (data_tests context earlier fields section) → first_held (data_tests context earlier fields section) ≡ Some kind → line_told context earlier fields ≡ Some kind
 form-told context earlier fields section kind h early held =
-    told-form (data_tests context earlier fields context.section) kind earlier (data_declared context earlier fields context.section) (data-rising context earlier fields context.section)
+    form-first (data_tests context earlier fields context.section) kind earlier (data_declared context earlier fields context.section) (data-rising context earlier fields context.section)
     (ap (λ (s : Option Section). first_held (data_tests context earlier fields s)) h ∙ held)
     (held-among (λ k. is_from k kinds.UnknownRow) (data_tests context earlier fields section) kind early held)
 
@@ -42,7 +47,7 @@ pub declared-told : (context : Context) (earlier : Draft) (fields : Fields) (sec
     → first_held (data_tests context earlier fields section) ≡ None → data_declared context earlier fields section ≡ declarations
     → line_told context earlier fields ≡ declared_fault earlier declarations
 declared-told context earlier fields section declarations h held is =
-    told-declared (data_tests context earlier fields context.section) earlier (data_declared context earlier fields context.section) (data-rising context earlier fields context.section)
+    declared-first (data_tests context earlier fields context.section) earlier (data_declared context earlier fields context.section) (data-rising context earlier fields context.section)
     (ap (λ (s : Option Section). first_held (data_tests context earlier fields s)) h ∙ held)
     ∙ ap (declared_fault earlier) (ap (data_declared context earlier fields) h ∙ is)
 
@@ -52,7 +57,7 @@ declared-is context earlier fields section declarations h is = ap (data_declared
 
 -- ---- lines of RHS and RANGES
 
-pub vector-early : (first : Option (List ℕ)) (o : Option VectorLine) → are_early (judged_by (vector_tests first) o)
+pub vector-early : (first : Option (List ℕ)) (o : Option ValuesLine) → are_early (judged_by (vector_tests first) o)
 vector-early first None = refl
 vector-early first (Some line) = refl
 
@@ -60,7 +65,7 @@ sides-pairs : (earlier : Draft) (pairs : List Pair) → flat_map (λ (pair : Pai
 sides-pairs earlier [] = refl
 sides-pairs earlier (pair ∷ pairs) = ap (λ (more : Declarations). rhs_declared earlier pair.row (value_of pair.literal) ++ more) (sides-pairs earlier pairs)
 
-pub rhs_values-are : (earlier : Draft) (o : Option VectorLine) (set : List ℕ) (values : List (List ℕ × Number)) → option_map set_values o ≡ Some (set, values)
+pub rhs_values-are : (earlier : Draft) (o : Option ValuesLine) (set : List ℕ) (values : List (List ℕ × Number)) → option_map named_values o ≡ Some (set, values)
     → declared_of (right_sides_declared earlier) o ≡ right_sides_of earlier values
 rhs_values-are earlier None set values h = cc
 rhs_values-are earlier (Some line) set values h =
@@ -71,7 +76,7 @@ ranges-pairs : (pairs : List Pair) → map (λ (pair : Pair). declare_range pair
 ranges-pairs [] = refl
 ranges-pairs (pair ∷ pairs) = ap (λ (more : Declarations). declare_range pair.row (value_of pair.literal) ∷ more) (ranges-pairs pairs)
 
-pub ranges-are : (o : Option VectorLine) (set : List ℕ) (values : List (List ℕ × Number)) → option_map set_values o ≡ Some (set, values)
+pub ranges-are : (o : Option ValuesLine) (set : List ℕ) (values : List (List ℕ × Number)) → option_map named_values o ≡ Some (set, values)
     → declared_of ranges_declared o ≡ ranges_of values
 ranges-are None set values h = cc
 ranges-are (Some line) set values h =
@@ -101,4 +106,4 @@ bounds-early context letters more =
 
     typed : (o : Option BoundType) → are_early (typed_bound_tests context more o)
     typed None = refl
-    typed (Some type) = lined (bound_line type more)
+    typed (Some type) = lined (bound_shape type more)

@@ -1,6 +1,6 @@
 -- Data lines that are taken, and those that are not.
-use Rattle.std.proofs.Common.{◌≡◌, sym, ap, subst, ◌∙◌, Bool, true}
-use Rattle.std.specs.Prelude.{Option, Some, None, Ok, Err, IsErrAnd, MatchResult}
+use Rattle.std.proofs.Common.{◌≡◌, sym, ap, ◌∙◌, Bool, true}
+use Rattle.std.specs.Prelude.{Some, None, Ok}
 use Rattle.std.specs.List.{list_all}
 use Rattle.mpslp_model.specs.Declaration.{Declarations, Draft, adding_all}
 use Rattle.mpslp_model.specs.declared.faults.FaultKind.{FaultKind}
@@ -8,22 +8,17 @@ use Rattle.mpslp_model.specs.declared.faults.FaultKind.TheVariants as kinds
 use Rattle.mpslp_mps.specs.Line.{Fields, data_line}
 use Rattle.mpslp_mps.specs.Context.{Context}
 use Rattle.mpslp_mps.specs.NextContext.{next_context}
-use Rattle.mpslp_mps.specs.FirstHeld.{first_held}
+use Rattle.mpslp_reading.specs.Tests.{first_held}
 use Rattle.mpslp_mps.specs.DataFault.{data_tests}
 use Rattle.mpslp_mps.specs.LineMeaning.{data_declared}
-use Rattle.mpslp_mps.specs.DeclareAnswer.{declared_fault}
-use Rattle.mpslp_mps.specs.LineAnswer.{LineResult, IsToldAs, Takes}
-use Rattle.mpslp_mps.specs.declared.errors.LineError.{LineError}
-use Rattle.mpslp_mps.specs.declared.errors.LineError.TheVariants.{Fault, OutOfMemory}
+use Rattle.mpslp_reading.specs.Declaring.{declared_fault}
+use Rattle.mpslp_reading.specs.LineAnswer.{IsErrorOf}
+use Rattle.mpslp_mps.specs.LineAnswer.{ReadsItem}
+use Rattle.mpslp_reading.specs.declared.errors.LineError.{LineError}
+use Rattle.mpslp_reading.specs.declared.errors.LineError.TheVariants.{Fault, OutOfMemory}
 use Rattle.mpslp_mps.specs.declared.sections.Section.{Section}
-use Rattle.mpslp_mps.proofs.LeastLemmas.{is_from}
+use Rattle.mpslp_reading.proofs.LeastLemmas.{is_from}
 use Rattle.mpslp_mps.proofs.TakenLemmas.{line_told, form-told, declared-told, declared-is}
-
--- of a call that ends by this error
-pub ends-by : (answer : LineResult) (error : LineError) (IsTaken : Type 0) (told : Option FaultKind) → IsErrAnd answer (λ e. e ≡ error) → IsToldAs told error
-    → MatchResult answer (λ _. IsTaken) (IsToldAs told)
-ends-by (Ok x) error IsTaken told h k = absurd h
-ends-by (Err e) error IsTaken told h k = subst (IsToldAs told) (sym h) k
 
 -- a kind before all of what is declared
 abbrev pub is_early : Bool × FaultKind → Bool
@@ -31,8 +26,8 @@ is_early test = is_from test.1 kinds.UnknownRow
 
 -- where the form is judged, a fault of it is told
 pub data-judged : (context : Context) (earlier : Draft) (fields : Fields) (section : Section) (error : LineError) → context.section ≡ Some section
-    → list_all is_early (data_tests context earlier fields (Some section)) ≡ true → IsToldAs (first_held (data_tests context earlier fields (Some section))) error
-    → IsToldAs (line_told context earlier fields) error
+    → list_all is_early (data_tests context earlier fields (Some section)) ≡ true → IsErrorOf (first_held (data_tests context earlier fields (Some section))) error
+    → IsErrorOf (line_told context earlier fields) error
 data-judged context earlier fields section (Fault kind) here early held = form-told context earlier fields (Some section) kind here early held
 data-judged context earlier fields section OutOfMemory here early held = tt
 
@@ -40,7 +35,7 @@ data-judged context earlier fields section OutOfMemory here early held = tt
 pub data-taken : (context : Context) (earlier : Draft) (fields : Fields) (section : Section) (ds : Declarations) (next : Context) (later : Draft)
     → context.section ≡ Some section → first_held (data_tests context earlier fields (Some section)) ≡ None → data_declared context earlier fields (Some section) ≡ ds
     → declared_fault earlier ds ≡ None → next ≡ next_context context (data_line fields) → later ≡ adding_all earlier ds
-    → Takes context earlier (data_line fields) (Ok tt) next later
+    → ReadsItem context earlier (data_line fields) (Ok tt) next later
 data-taken context earlier fields section ds next later here held is told step draft = (
   declared-told context earlier fields (Some section) ds here held is ∙ told,
   step,

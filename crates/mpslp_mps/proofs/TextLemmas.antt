@@ -1,6 +1,6 @@
 -- What the lines of a text say of the whole.
-use Rattle.std.proofs.Common.{◌≡◌, sym, ap, subst, ◌∙◌, ℕ, List, [], Bool, true, cond}
-use Rattle.std.specs.Prelude.{Option, Some, None, is_some, Result, Ok, Err, IsErrAnd, MatchResult}
+use Rattle.std.proofs.Common.{◌≡◌, sym, ap, ◌∙◌, ℕ, List, [], Bool, true, cond}
+use Rattle.std.specs.Prelude.{Option, Some, None, is_some}
 use Rattle.std.specs.Option.{option_or}
 use Rattle.std.specs.Str.Lines.{lines}
 use Rattle.mpslp_model.specs.Declaration.{Draft, empty_draft, draft_of}
@@ -13,7 +13,8 @@ use Rattle.mpslp_mps.specs.Context.{context_of}
 use Rattle.mpslp_mps.specs.MpsText.{has_end, declarations_of}
 use Rattle.mpslp_mps.specs.FirstFault.{whole_mps_fault, first_mps_fault}
 use Rattle.mpslp_mps.specs.Reading.{fault_from, draft_from}
-use Rattle.mpslp_mps.specs.ReadingAnswer.{IsFaultOf, lines_to_end}
+use Rattle.mpslp_reading.specs.LineAnswer.{IsFaultOf}
+use Rattle.mpslp_mps.specs.ReadingAnswer.{lines_to_end}
 use Rattle.mpslp_mps.proofs.ReadingLemmas.{first_fault-is, draft-is}
 use Rattle.mpslp_mps.proofs.NamedLemmas.{named-lines_to_end}
 
@@ -42,9 +43,3 @@ draft-whole bytes = sym (draft-is bytes)
 
 pub named-whole : (bytes : List ℕ) → told_lines bytes ≡ None → has_end bytes ≡ true → is_some (draft_lines bytes).objective ≡ true
 named-whole bytes none ended = named-lines_to_end (lines bytes) 1 (context_of []) empty_draft (λ h. cc) none ended
-
--- of a call that ends by this error
-pub fails-by : {X : Type 0} (answer : Result X ReadFault) (error : ReadFault) (IsRead : X → Type 0) (told : Option Fault) → IsErrAnd answer (λ e. e ≡ error) → IsFaultOf told error
-    → MatchResult answer IsRead (IsFaultOf told)
-fails-by (Ok x) error IsRead told h k = absurd h
-fails-by (Err e) error IsRead told h k = subst (IsFaultOf told) (sym h) k

@@ -7,7 +7,8 @@ use Rattle.mpslp_model.specs.Meaning.{whole_fault}
 use Rattle.mpslp_model.specs.declared.faults.Fault.{Fault}
 use Rattle.mpslp_model.specs.declared.faults.FaultKind.{FaultKind}
 use Rattle.mpslp_model.specs.declared.faults.FaultKind.TheVariants.{BadMarker, BadNumber, BadType, BoundsCrossed, ColumnSplit, DuplicateBound, DuplicateEntry, DuplicateRhs, DuplicateRow, FieldCount, Indicator, InfiniteLimit, InfiniteValue, LimitTooLarge, MissingEnd, NegativeUpper, NoColumns, Quadratic, RangeOnFree, SecondSet, SectionOrder, SectionRepeated, SemiContinuous, Sos, UnknownColumn, UnknownRow, UnknownSection}
-use Rattle.mpslp_mps.specs.FirstFault.{fault_on_line, first_mps_fault}
+use Rattle.mpslp_reading.specs.LineAnswer.{fault_on_line}
+use Rattle.mpslp_mps.specs.FirstFault.{first_mps_fault}
 
 -- lines, each ended by a line feed
 abbrev text : List (List ℕ) → List ℕ

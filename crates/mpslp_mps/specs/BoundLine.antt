@@ -57,5 +57,5 @@ line_without_value (set ∷ column ∷ []) = Some (record { set = set; column = 
 line_without_value (set ∷ column ∷ _ ∷ []) = Some (record { set = set; column = column; literal = None })
 line_without_value _ = None
 
-abbrev pub bound_line : BoundType → Fields → Option BoundLine
-bound_line type more = if takes_value type then line_with_value more else line_without_value more
+abbrev pub bound_shape : BoundType → Fields → Option BoundLine
+bound_shape type more = if takes_value type then line_with_value more else line_without_value more

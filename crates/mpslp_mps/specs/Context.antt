@@ -1,13 +1,13 @@
 -- What the lines before one say of it: each reading by itself of the list of these lines.
-use Rattle.std.specs.Prelude.{ℕ, Bool, true, false, List, [], ◌∷◌, ◌++◌, filter, filter_map, Option, None, if◌then◌else◌}
+use Rattle.std.specs.Prelude.{ℕ, Bool, true, false, List, [], ◌∷◌, ◌++◌, filter, filter_map, Option, Some, None, if◌then◌else◌}
 use Rattle.std.specs.List.{list_any, last_or}
 use Rattle.std.specs.Option.{option_map, option_map_or, option_or}
 use Rattle.mpslp_model.specs.Name.{same_bytes}
 use Rattle.mpslp_model.specs.Lists.{head_of, when}
 use Rattle.mpslp_mps.specs.Line.{Fields, Item, skipped, header, data_line}
 use Rattle.mpslp_mps.specs.Section.{section_begun, begins, is_section}
-use Rattle.mpslp_mps.specs.DataLine.{column_line, is_marker_line, marker_line, opening_word, vector_line}
-use Rattle.mpslp_mps.specs.BoundLine.{bound_type, bound_line}
+use Rattle.mpslp_mps.specs.DataLine.{column_shape, is_marker_line, marker_shape, opening_word, vector_shape}
+use Rattle.mpslp_mps.specs.BoundLine.{bound_type, bound_shape}
 use Rattle.mpslp_mps.specs.declared.sections.Section.{Section}
 use Rattle.mpslp_mps.specs.declared.sections.Section.TheVariants.{Name, ObjSense, Rows, Columns, Rhs, Ranges, Bounds, EndData}
 
@@ -77,21 +77,21 @@ abbrev pub is_read : Item → Bool
 is_read skipped = false
 is_read _ = true
 
--- an OBJSENSE without its word
-abbrev pub is_bare_objsense : Item → Bool
-is_bare_objsense (header keyword []) = begins ObjSense (header keyword [])
-is_bare_objsense _ = false
+-- the section whose header wants a word on a line of its own: an OBJSENSE without its word
+abbrev pub wanting : Item → Option Section
+wanting (header keyword []) = if begins ObjSense (header keyword []) then Some ObjSense else None
+wanting _ = None
 
--- the last line is one, but for skipped lines: its word is to come
-abbrev pub wants_sense : List Item → Bool
-wants_sense before = option_map_or is_bare_objsense (last_or None (filter is_read before)) false
+-- the last line is such a header, but for skipped lines: the word of its section is to come
+abbrev pub wanted : List Item → Option Section
+wanted before = option_map_or wanting (last_or None (filter is_read before)) None
 
 -- the word of a line of COLUMNS, if it is a marker line; its column, if it is none
 abbrev pub marker_word : Fields → Option (List ℕ)
-marker_word fields = if is_marker_line fields then marker_line fields else None
+marker_word fields = if is_marker_line fields then marker_shape fields else None
 
 abbrev pub line_column : Fields → Option (List ℕ)
-line_column fields = if is_marker_line fields then None else option_map (λ line. line.column) (column_line fields)
+line_column fields = if is_marker_line fields then None else option_map (λ line. line.name) (column_shape fields)
 
 -- the nearest marker line before opens the integer part
 abbrev pub in_integer_part : List Item → Bool
@@ -103,11 +103,11 @@ last_column before = option_map_or line_column (last_or None (data_lines Columns
 
 -- the set name of a line
 abbrev pub vector_set : Fields → Option (List ℕ)
-vector_set fields = option_map (λ line. line.set) (vector_line fields)
+vector_set fields = option_map (λ line. line.name) (vector_shape fields)
 
 abbrev pub bound_set : Fields → Option (List ℕ)
 bound_set [] = None
-bound_set (letters ∷ more) = option_map_or (λ type. option_map (λ line. line.set) (bound_line type more)) (bound_type letters) None
+bound_set (letters ∷ more) = option_map_or (λ type. option_map (λ line. line.set) (bound_shape type more)) (bound_type letters) None
 
 -- the set name of a section's first line
 abbrev pub first_set : (Fields → Option (List ℕ)) → List Fields → Option (List ℕ)
@@ -118,7 +118,7 @@ first_set set_of lines = head_of (filter_map set_of lines)
 pub record Context : Type 0 where
   pub section : Option Section
   pub seen : Seen
-  pub wants_sense : Bool
+  pub wanted : Option Section
   pub in_integer_part : Bool
   pub last_column : Option (List ℕ)
   pub rhs_set : Option (List ℕ)
@@ -129,7 +129,7 @@ abbrev pub context_of : List Item → Context
 context_of before = record {
   section = current_section before;
   seen = seen_in before;
-  wants_sense = wants_sense before;
+  wanted = wanted before;
   in_integer_part = in_integer_part before;
   last_column = last_column before;
   rhs_set = first_set vector_set (data_lines Rhs before);

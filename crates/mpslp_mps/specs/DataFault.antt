@@ -1,14 +1,16 @@
 -- The faults of a data line's form, after the lines before it.
-use Rattle.std.specs.Prelude.{ℕ, Bool, true, false, ◌&&◌, not, List, [], ◌∷◌, ◌++◌, Option, Some, None, is_none, if◌then◌else◌, codes}
+use Rattle.std.specs.Prelude.{ℕ, Bool, true, false, ◌&&◌, not, List, [], ◌∷◌, ◌++◌, Option, Some, None, is_some, is_none, if◌then◌else◌, codes}
 use Rattle.std.specs.Option.{option_map_or}
 use Rattle.mpslp_model.specs.Name.{same_bytes, is_one_of}
 use Rattle.mpslp_model.specs.Declaration.{Draft, has_column}
 use Rattle.mpslp_model.specs.declared.faults.FaultKind.TheVariants as kinds
 use Rattle.mpslp_mps.specs.Line.{Fields}
-use Rattle.mpslp_mps.specs.DataLine.{RowLine, ColumnLine, VectorLine, sense_line, row_line, row_type, column_line, is_marker_line, third_field, marker_line, opening_word, closing_word, vector_line}
-use Rattle.mpslp_mps.specs.BoundLine.{BoundLine, bound_type, is_semi_continuous_type, bound_line}
+use Rattle.mpslp_mps.specs.DataLine.{RowLine, ValuesLine, sense_shape, row_shape, row_type, column_shape, is_marker_line, third_field, marker_shape, opening_word, closing_word, vector_shape}
+use Rattle.mpslp_mps.specs.BoundLine.{BoundLine, bound_type, is_semi_continuous_type, bound_shape}
 use Rattle.mpslp_mps.specs.Context.{Context}
-use Rattle.mpslp_mps.specs.FieldFault.{Tests, judged_by, name_tests, number_tests, literals_of, set_tests}
+use Rattle.mpslp_reading.specs.Tests.{Tests, judged_by}
+use Rattle.mpslp_reading.specs.Field.{name_tests, number_tests}
+use Rattle.mpslp_mps.specs.FieldFault.{literals_of, set_tests}
 use Rattle.mpslp_mps.specs.HeaderFault.{word_tests}
 use Rattle.mpslp_mps.specs.declared.sections.Section.{Section}
 use Rattle.mpslp_mps.specs.declared.sections.Section.TheVariants.{ObjSense, Rows, Columns, Rhs, Ranges, Bounds}
@@ -26,22 +28,22 @@ abbrev pub marker_word_tests : Context → List ℕ → Tests
 marker_word_tests context word = (not (same_bytes word (if context.in_integer_part then closing_word else opening_word)), kinds.BadMarker) ∷ []
 
 abbrev pub marker_tests : Context → Fields → Tests
-marker_tests context fields = (is_sos_marker fields, kinds.Sos) ∷ judged_by (marker_word_tests context) (marker_line fields)
+marker_tests context fields = (is_sos_marker fields, kinds.Sos) ∷ judged_by (marker_word_tests context) (marker_shape fields)
 
 -- the column had lines before, and the last line is none of its: the lines of a column stand together
 abbrev pub is_split : Context → Draft → List ℕ → Bool
 is_split context earlier column = has_column earlier column && not (option_map_or (same_bytes column) context.last_column false)
 
-abbrev pub column_tests : Context → Draft → ColumnLine → Tests
+abbrev pub column_tests : Context → Draft → ValuesLine → Tests
 column_tests context earlier line =
-    name_tests line.column ++ (number_tests (literals_of line.pairs) ++ (is_split context earlier line.column, kinds.ColumnSplit) ∷ [])
+    name_tests line.name ++ (number_tests (literals_of line.pairs) ++ (is_split context earlier line.name, kinds.ColumnSplit) ∷ [])
 
 abbrev pub columns_line_tests : Context → Draft → Fields → Tests
 columns_line_tests context earlier fields =
-    if is_marker_line fields then marker_tests context fields else judged_by (column_tests context earlier) (column_line fields)
+    if is_marker_line fields then marker_tests context fields else judged_by (column_tests context earlier) (column_shape fields)
 
-abbrev pub vector_tests : Option (List ℕ) → VectorLine → Tests
-vector_tests first line = number_tests (literals_of line.pairs) ++ set_tests first line.set
+abbrev pub vector_tests : Option (List ℕ) → ValuesLine → Tests
+vector_tests first line = number_tests (literals_of line.pairs) ++ set_tests first line.name
 
 abbrev pub bound_tests : Context → BoundLine → Tests
 bound_tests context line = option_map_or (λ literal. number_tests (literal ∷ [])) line.literal [] ++ set_tests context.bounds_set line.set
@@ -49,7 +51,7 @@ bound_tests context line = option_map_or (λ literal. number_tests (literal ∷ 
 -- a type that is not known says nothing of the number of fields
 abbrev pub typed_bound_tests : Context → Fields → Option BoundType → Tests
 typed_bound_tests context more None = (true, kinds.BadType) ∷ []
-typed_bound_tests context more (Some type) = judged_by (bound_tests context) (bound_line type more)
+typed_bound_tests context more (Some type) = judged_by (bound_tests context) (bound_shape type more)
 
 abbrev pub bound_line_tests : Context → Fields → Tests
 bound_line_tests context [] = []
@@ -58,10 +60,10 @@ bound_line_tests context (letters ∷ more) =
 
 -- a data line under NAME, before any header, or under an OBJSENSE that has its word
 abbrev pub data_tests : Context → Draft → Fields → Option Section → Tests
-data_tests context earlier fields (Some ObjSense) = (not context.wants_sense, kinds.SectionOrder) ∷ judged_by word_tests (sense_line fields)
-data_tests context earlier fields (Some Rows) = judged_by row_tests (row_line fields)
+data_tests context earlier fields (Some ObjSense) = (not (is_some context.wanted), kinds.SectionOrder) ∷ judged_by word_tests (sense_shape fields)
+data_tests context earlier fields (Some Rows) = judged_by row_tests (row_shape fields)
 data_tests context earlier fields (Some Columns) = columns_line_tests context earlier fields
-data_tests context earlier fields (Some Rhs) = judged_by (vector_tests context.rhs_set) (vector_line fields)
-data_tests context earlier fields (Some Ranges) = judged_by (vector_tests context.ranges_set) (vector_line fields)
+data_tests context earlier fields (Some Rhs) = judged_by (vector_tests context.rhs_set) (vector_shape fields)
+data_tests context earlier fields (Some Ranges) = judged_by (vector_tests context.ranges_set) (vector_shape fields)
 data_tests context earlier fields (Some Bounds) = bound_line_tests context fields
 data_tests context earlier fields _ = (true, kinds.SectionOrder) ∷ []

@@ -10,9 +10,9 @@ use Rattle.mpslp_mps.specs.Line.{Fields}
 
 -- ---- OBJSENSE: a word, after the keyword or on a line of its own
 
-abbrev pub sense_line : Fields → Option (List ℕ)
-sense_line (word ∷ []) = Some word
-sense_line _ = None
+abbrev pub sense_shape : Fields → Option (List ℕ)
+sense_shape (word ∷ []) = Some word
+sense_shape _ = None
 
 abbrev pub sense_of : List ℕ → Option Sense
 sense_of word =
@@ -25,9 +25,9 @@ pub record RowLine : Type 0 where
   pub letter : List ℕ
   pub name : List ℕ
 
-abbrev pub row_line : Fields → Option RowLine
-row_line (letter ∷ name ∷ []) = Some (record { letter = letter; name = name })
-row_line _ = None
+abbrev pub row_shape : Fields → Option RowLine
+row_shape (letter ∷ name ∷ []) = Some (record { letter = letter; name = name })
+row_shape _ = None
 
 -- the letter of a row type
 abbrev pub letter_of : RowType → List ℕ
@@ -52,14 +52,15 @@ pub record Pair : Type 0 where
 abbrev pub pair : List ℕ → List ℕ → Pair
 pair row literal = record { row = row; literal = literal }
 
-pub record ColumnLine : Type 0 where
-  pub column : List ℕ
+-- the column, or the name of the set, and the pairs
+pub record ValuesLine : Type 0 where
+  pub name : List ℕ
   pub pairs : List Pair
 
-abbrev pub column_line : Fields → Option ColumnLine
-column_line (column ∷ row ∷ value ∷ []) = Some (record { column = column; pairs = pair row value ∷ [] })
-column_line (column ∷ row ∷ value ∷ other ∷ second ∷ []) = Some (record { column = column; pairs = pair row value ∷ pair other second ∷ [] })
-column_line _ = None
+abbrev pub column_shape : Fields → Option ValuesLine
+column_shape (column ∷ row ∷ value ∷ []) = Some (record { name = column; pairs = pair row value ∷ [] })
+column_shape (column ∷ row ∷ value ∷ other ∷ second ∷ []) = Some (record { name = column; pairs = pair row value ∷ pair other second ∷ [] })
+column_shape _ = None
 
 -- the second field is `'MARKER'`
 abbrev pub is_marker_line : Fields → Bool
@@ -71,9 +72,9 @@ third_field (_ ∷ _ ∷ third ∷ _) = Some third
 third_field _ = None
 
 -- the word of a line of three fields: of a marker line, what it opens or closes
-abbrev pub marker_line : Fields → Option (List ℕ)
-marker_line (_ ∷ _ ∷ word ∷ []) = Some word
-marker_line _ = None
+abbrev pub marker_shape : Fields → Option (List ℕ)
+marker_shape (_ ∷ _ ∷ word ∷ []) = Some word
+marker_shape _ = None
 
 abbrev pub opening_word : List ℕ
 opening_word = codes "'INTORG'"
@@ -84,13 +85,9 @@ closing_word = codes "'INTEND'"
 -- ---- RHS and RANGES: one or two pairs of row and value, after a set name or without one
 
 -- a set name that is absent counts as the empty name
-pub record VectorLine : Type 0 where
-  pub set : List ℕ
-  pub pairs : List Pair
-
-abbrev pub vector_line : Fields → Option VectorLine
-vector_line (row ∷ value ∷ []) = Some (record { set = []; pairs = pair row value ∷ [] })
-vector_line (set ∷ row ∷ value ∷ []) = Some (record { set = set; pairs = pair row value ∷ [] })
-vector_line (row ∷ value ∷ other ∷ second ∷ []) = Some (record { set = []; pairs = pair row value ∷ pair other second ∷ [] })
-vector_line (set ∷ row ∷ value ∷ other ∷ second ∷ []) = Some (record { set = set; pairs = pair row value ∷ pair other second ∷ [] })
-vector_line _ = None
+abbrev pub vector_shape : Fields → Option ValuesLine
+vector_shape (row ∷ value ∷ []) = Some (record { name = []; pairs = pair row value ∷ [] })
+vector_shape (set ∷ row ∷ value ∷ []) = Some (record { name = set; pairs = pair row value ∷ [] })
+vector_shape (row ∷ value ∷ other ∷ second ∷ []) = Some (record { name = []; pairs = pair row value ∷ pair other second ∷ [] })
+vector_shape (set ∷ row ∷ value ∷ other ∷ second ∷ []) = Some (record { name = set; pairs = pair row value ∷ pair other second ∷ [] })
+vector_shape _ = None

@@ -1,5 +1,5 @@
 -- The faults of a header, after the lines before it.
-use Rattle.std.specs.Prelude.{ℕ, Bool, true, ◌||◌, not, List, [], ◌∷◌, Option, Some, None, is_none, if◌then◌else◌, codes}
+use Rattle.std.specs.Prelude.{ℕ, Bool, true, ◌||◌, not, List, [], ◌∷◌, Option, Some, None, is_some, is_none, if◌then◌else◌, codes}
 use Rattle.mpslp_model.specs.Name.{is_one_of}
 use Rattle.mpslp_model.specs.Lists.{is_nonempty}
 use Rattle.mpslp_model.specs.declared.faults.FaultKind.{FaultKind}
@@ -7,7 +7,7 @@ use Rattle.mpslp_model.specs.declared.faults.FaultKind.TheVariants as kinds
 use Rattle.mpslp_mps.specs.Line.{Fields}
 use Rattle.mpslp_mps.specs.DataLine.{sense_of}
 use Rattle.mpslp_mps.specs.Context.{Context, has_seen}
-use Rattle.mpslp_mps.specs.FieldFault.{Tests}
+use Rattle.mpslp_reading.specs.Tests.{Tests}
 use Rattle.mpslp_mps.specs.declared.sections.Section.{Section}
 use Rattle.mpslp_mps.specs.declared.sections.Section.TheVariants.{Name, ObjSense, Rows, Columns}
 
@@ -26,9 +26,9 @@ may_begin context Rows = true
 may_begin context Columns = context.seen.rows
 may_begin context _ = context.seen.columns
 
--- a header while OBJSENSE wants its word, and a section out of order
+-- a header while a word is wanted, and a section out of order
 abbrev pub is_out_of_order : Context → Section → Bool
-is_out_of_order context section = context.wants_sense || not (has_seen context.seen section || may_begin context section)
+is_out_of_order context section = is_some context.wanted || not (has_seen context.seen section || may_begin context section)
 
 -- what may follow the keyword: anything after NAME, one word after OBJSENSE
 abbrev pub may_follow : Section → Fields → Bool

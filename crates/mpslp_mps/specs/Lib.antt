@@ -7,7 +7,7 @@ pub mod NextContext
 pub mod ContextStep
 pub mod LineMeaning
 pub mod FieldFault
-pub mod FirstHeld
+pub mod LineValues
 pub mod HeaderFault
 pub mod DataFault
 pub mod LineFault
@@ -15,11 +15,7 @@ pub mod MpsText
 pub mod FirstFault
 pub mod Reading
 pub mod Laws
-pub mod NameError
-pub mod BuildError
 pub mod LineAnswer
 pub mod DeclareAnswer
 pub mod ColumnDeclared
-pub mod ReadingState
-pub mod BoundSides
 pub mod ReadingAnswer

@@ -1,7 +1,7 @@
 -- Lines of MPS text, and their fields.
-use Rattle.std.specs.Prelude.{ℕ, Bool, false, ◌&&◌, ◌||◌, ◌==◌, nat_lt, nat_le, List, [], ◌∷◌, filter, length, if◌then◌else◌}
+use Rattle.std.specs.Prelude.{ℕ, Bool, false, ◌&&◌, ◌||◌, ◌==◌, nat_lt, List, [], ◌∷◌, filter, length, if◌then◌else◌}
 use Rattle.std.specs.List.{list_all, slice_split}
-use Rattle.mpslp_mps.specs.declared.lines.TheConstants.{MAX_LINE_LEN}
+use Rattle.mpslp_reading.specs.LegalLine.{has_legal_length, is_legal_byte}
 
 -- the fields of a line, in order
 abbrev pub Fields : Type 0
@@ -31,20 +31,12 @@ is_skipped line = is_comment line || list_all is_blank line
 abbrev pub is_data : List ℕ → Bool
 is_data line = begins_with is_blank line
 
--- ---- what is asked of the bytes
-
-abbrev pub has_legal_length : List ℕ → Bool
-has_legal_length line = nat_le (length line) MAX_LINE_LEN
-
-abbrev pub is_legal_byte : ℕ → Bool
-is_legal_byte byte = byte == 9 || (nat_le 32 byte && nat_le byte 126)
-
--- a comment may hold any bytes
-abbrev pub has_legal_bytes : List ℕ → Bool
-has_legal_bytes line = is_comment line || list_all is_legal_byte line
+-- what of a line stands outside comments: a comment may hold any bytes
+abbrev pub outside_comment : List ℕ → List ℕ
+outside_comment line = if is_comment line then [] else line
 
 abbrev pub is_legal_line : List ℕ → Bool
-is_legal_line line = has_legal_length line && has_legal_bytes line
+is_legal_line line = has_legal_length line && list_all is_legal_byte (outside_comment line)
 
 -- ---- what is read of a line
 

@@ -1,25 +1,21 @@
--- What the code answers of a line.
-use Rattle.std.specs.Prelude.{◌≡◌, Option, Some, None, Result, MatchResult}
+-- What the code answers of what is read of a line.
+use Rattle.std.specs.Prelude.{◌≡◌, Option, None, MatchResult}
 use Rattle.mpslp_model.specs.Declaration.{Draft, adding_all}
 use Rattle.mpslp_model.specs.declared.faults.FaultKind.{FaultKind}
+use Rattle.mpslp_reading.specs.Declaring.{first_fault}
+use Rattle.mpslp_reading.specs.LineAnswer.{IsErrorOf, LineResult}
 use Rattle.mpslp_mps.specs.Line.{Item}
 use Rattle.mpslp_mps.specs.Context.{Context}
 use Rattle.mpslp_mps.specs.NextContext.{next_context}
 use Rattle.mpslp_mps.specs.LineMeaning.{declared}
-use Rattle.mpslp_mps.specs.FirstFault.{item_fault}
-use Rattle.mpslp_mps.specs.declared.errors.LineError.{LineError}
-use Rattle.mpslp_mps.specs.declared.errors.LineError.TheVariants.{Fault, OutOfMemory}
+use Rattle.mpslp_mps.specs.LineFault.{item_tests}
 
--- the error is what is told, unless there was no memory
-abbrev pub IsToldAs : Option FaultKind → LineError → Type 0
-IsToldAs told (Fault kind) = told ≡ Some kind
-IsToldAs told OutOfMemory = Unit {0}
+-- the fault of a line of legal bytes, of which the item is read
+abbrev pub item_fault : Context → Draft → Item → Option FaultKind
+item_fault context earlier item = first_fault (item_tests context earlier item) earlier (declared context earlier item)
 
-abbrev pub LineResult : Type 0
-LineResult = Result (Unit {0}) LineError
-
--- A line is taken where it has no fault, and then context and draft are those after it.
-abbrev pub Takes : Context → Draft → Item → LineResult → Context → Draft → Type 0
-Takes context earlier item answer next later =
-    let told = item_fault (record { context = context; earlier = earlier; item = item }) in
-    MatchResult answer (λ _. (told ≡ None) × (next ≡ next_context context item) × (later ≡ adding_all earlier (declared context earlier item))) (IsToldAs told)
+-- An item is read where it has no fault, and then context and draft are those after it.
+abbrev pub ReadsItem : Context → Draft → Item → LineResult → Context → Draft → Type 0
+ReadsItem context earlier item answer next later =
+    MatchResult answer (λ _. (item_fault context earlier item ≡ None) × (next ≡ next_context context item) × (later ≡ adding_all earlier (declared context earlier item)))
+    (IsErrorOf (item_fault context earlier item))

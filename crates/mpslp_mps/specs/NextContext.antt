@@ -5,7 +5,7 @@ use Rattle.mpslp_model.specs.Name.{same_bytes}
 use Rattle.mpslp_mps.specs.Line.{Fields, Item, data_line}
 use Rattle.mpslp_mps.specs.Section.{section_begun, begins, is_section}
 use Rattle.mpslp_mps.specs.DataLine.{opening_word}
-use Rattle.mpslp_mps.specs.Context.{Seen, is_read, is_bare_objsense, marker_word, line_column, vector_set, bound_set, Context}
+use Rattle.mpslp_mps.specs.Context.{Seen, is_read, wanting, marker_word, line_column, vector_set, bound_set, Context}
 use Rattle.mpslp_mps.specs.declared.sections.Section.{Section}
 use Rattle.mpslp_mps.specs.declared.sections.Section.TheVariants.{Name, ObjSense, Rows, Columns, Rhs, Ranges, Bounds}
 
@@ -37,7 +37,7 @@ abbrev pub next_context : Context → Item → Context
 next_context c item = record {
   section = option_or (section_begun item) c.section;
   seen = next_seen c.seen item;
-  wants_sense = if is_read item then is_bare_objsense item else c.wants_sense;
+  wanted = if is_read item then wanting item else c.wanted;
   in_integer_part = changed_under Columns c.section next_part item c.in_integer_part;
   last_column = changed_under Columns c.section (λ fields _. line_column fields) item c.last_column;
   rhs_set = changed_under Rhs c.section (next_set vector_set) item c.rhs_set;

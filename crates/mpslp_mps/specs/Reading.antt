@@ -7,10 +7,11 @@ use Rattle.mpslp_mps.specs.Line.{item_of}
 use Rattle.mpslp_mps.specs.Context.{Context}
 use Rattle.mpslp_mps.specs.NextContext.{next_context}
 use Rattle.mpslp_mps.specs.MpsText.{Placed, declared_at}
-use Rattle.mpslp_mps.specs.FirstFault.{line_fault, fault_on_line}
+use Rattle.mpslp_mps.specs.FirstFault.{line_fault}
+use Rattle.mpslp_reading.specs.LineAnswer.{fault_on_line}
 
 abbrev pub placed_in : Context → Draft → List ℕ → Placed
-placed_in context earlier line = record { context = context; earlier = earlier; item = item_of line }
+placed_in context earlier line = record { context = context; earlier = earlier; line = line }
 
 -- the draft after a line
 abbrev pub draft_after : Context → Draft → List ℕ → Draft
@@ -23,7 +24,7 @@ context_after context line = next_context context (item_of line)
 abbrev pub fault_from : ℕ → Context → Draft → List (List ℕ) → Option Fault
 fault_from n context earlier [] = None
 fault_from n context earlier (line ∷ more) =
-    option_or (option_map (fault_on_line n) (line_fault line (placed_in context earlier line)))
+    option_or (option_map (fault_on_line n) (line_fault (placed_in context earlier line)))
     (fault_from (n + 1) (context_after context line) (draft_after context earlier line) more)
 
 -- the draft after all of them

@@ -1,36 +1,22 @@
 -- What the code answers of a line of bytes, and of all lines.
-use Rattle.std.specs.Prelude.{◌≡◌, ℕ, suc, Bool, true, List, take, Option, Some, None, is_some, Result, Ok, Err, MatchResult}
+use Rattle.std.specs.Prelude.{◌≡◌, ℕ, suc, Bool, true, List, take, None, is_some, Result, MatchResult}
 use Rattle.std.specs.List.{list_any, position_or_len}
 use Rattle.mpslp_model.specs.Model.{LinearModel}
 use Rattle.mpslp_model.specs.Declaration.{Draft, draft_of}
 use Rattle.mpslp_model.specs.Meaning.{file_fault}
-use Rattle.mpslp_model.specs.declared.faults.Fault.{Fault}
 use Rattle.mpslp_model.specs.declared.faults.ReadFault.{ReadFault}
-use Rattle.mpslp_model.specs.declared.faults.ReadFault.TheVariants.{File, Failed, OutOfMemory}
+use Rattle.mpslp_model.specs.Formats.{IsAnswerTo}
 use Rattle.mpslp_mps.specs.Context.{Context}
 use Rattle.mpslp_mps.specs.MpsText.{is_end, declarations_of, DeclaresMps}
 use Rattle.mpslp_mps.specs.FirstFault.{line_fault, first_mps_fault, IsFirstMpsFault}
 use Rattle.mpslp_mps.specs.Reading.{placed_in, draft_after, context_after, fault_from, draft_from}
-use Rattle.mpslp_mps.specs.LineAnswer.{LineResult, IsToldAs}
-use Rattle.mpslp_mps.specs.declared.errors.LineError.{LineError}
-use Rattle.mpslp_mps.specs.declared.errors.LineError.TheVariants as lines
+use Rattle.mpslp_reading.specs.LineAnswer.{LineResult, IsErrorOf, IsFaultOf}
 
 -- A line is read where it has no fault, and then context and draft are those after it.
 abbrev pub ReadsLine : Context → Draft → List ℕ → LineResult → Context → Draft → Type 0
 ReadsLine context earlier line answer next later =
-    let told = line_fault line (placed_in context earlier line) in
-    MatchResult answer (λ _. (told ≡ None) × (next ≡ context_after context line) × (later ≡ draft_after context earlier line)) (IsToldAs told)
-
--- the fault is what is told, unless there was no memory
-abbrev pub IsFaultOf : Option Fault → ReadFault → Type 0
-IsFaultOf told (File fault) = told ≡ Some fault
-IsFaultOf told Failed = ⊥
-IsFaultOf told OutOfMemory = Unit {0}
-
--- the error of a line is told as a fault on it
-abbrev pub IsFaultOn : ℕ → LineError → ReadFault → Type 0
-IsFaultOn n (lines.Fault kind) answer = answer ≡ File (record { kind = kind; line = n; name = None })
-IsFaultOn n lines.OutOfMemory answer = answer ≡ OutOfMemory
+    let first_fault = line_fault (placed_in context earlier line) in
+    MatchResult answer (λ _. (first_fault ≡ None) × (next ≡ context_after context line) × (later ≡ draft_after context earlier line)) (IsErrorOf first_fault)
 
 -- the lines up to that of ENDATA, or all
 abbrev pub lines_to_end : List (List ℕ) → List (List ℕ)
@@ -40,8 +26,8 @@ lines_to_end text = take (suc (position_or_len is_end text)) text
 -- answered whether there is an ENDATA.
 abbrev pub ReadsLines : Context → Draft → List (List ℕ) → Result Bool ReadFault → Draft → Type 0
 ReadsLines context earlier text answer later =
-    let told = fault_from 1 context earlier (lines_to_end text) in
-    MatchResult answer (λ ended. (told ≡ None) × (later ≡ draft_from context earlier (lines_to_end text)) × (ended ≡ list_any is_end text)) (IsFaultOf told)
+    let first_fault = fault_from 1 context earlier (lines_to_end text) in
+    MatchResult answer (λ ended. (first_fault ≡ None) × (later ≡ draft_from context earlier (lines_to_end text)) × (ended ≡ list_any is_end text)) (IsFaultOf first_fault)
 
 -- The first fault is told, or else there is the draft of what the text declares, and then it alone decides whether there
 -- is a fault; its objective has a name.
@@ -53,7 +39,4 @@ ReadsText bytes answer =
 
 -- The model that the bytes declare, or their first fault; or there was no memory.
 abbrev pub ReadsMps : List ℕ → Result LinearModel ReadFault → Type 0
-ReadsMps bytes (Ok m) = DeclaresMps bytes m
-ReadsMps bytes (Err (File fault)) = IsFirstMpsFault bytes fault
-ReadsMps bytes (Err Failed) = ⊥
-ReadsMps bytes (Err OutOfMemory) = Unit {0}
+ReadsMps bytes answer = IsAnswerTo DeclaresMps IsFirstMpsFault bytes answer

@@ -1,12 +1,12 @@
 //! What the lines before one say of it.
 
-ghost use Rattle.std.specs.Prelude.{◌≡◌, [], false, OnOk};
+ghost use Rattle.std.specs.Prelude.{◌≡◌, [], false, is_some, OnOk};
 ghost use Rattle.std.specs.Option.{option_map, option_map_or};
 ghost use Rattle.mpslp_model.specs.Name.{same_bytes};
 ghost use Rattle.mpslp_mps.specs.Section.{is_section};
 ghost use Rattle.mpslp_mps.specs.declared.sections.Section.{Section};
 ghost use Rattle.mpslp_mps.specs.Context.{has_seen, context_of};
-ghost use Rattle.mpslp_mps.specs.ContextStep.{seen_with, after_header, after_data, after_marker, after_column, after_right_side, after_range, after_bound};
+ghost use Rattle.mpslp_mps.specs.ContextStep.{after_header, after_data, after_marker, after_column, after_right_side, after_range, after_bound};
 ghost use Rattle.mpslp_mps.specs.HeaderFault.{may_begin, is_out_of_order};
 
 use crate::sections::Section;
@@ -33,7 +33,7 @@ pub(crate) struct LineContext {
     alloc: Global,
     section: Option<Section>,
     seen: SeenSections,
-    wants_sense: bool,
+    wanted: Option<Section>,
     in_integer_part: bool,
     last_column: Option<Vec<u8>>,
     rhs_set: Option<Vec<u8>>,
@@ -43,7 +43,7 @@ pub(crate) struct LineContext {
 
 impl Model for LineContext {
     ghost use Rattle.std.specs.Option.{option_map};
-    ghost use Rattle.mpslp_mps.specs.Context.{Seen, Context};
+    ghost use Rattle.mpslp_mps.specs.Context.{Context};
 
     ghost Value = { Context };
 
@@ -58,7 +58,7 @@ impl Model for LineContext {
         ranges = c.seen.ranges;
         bounds = c.seen.bounds;
       };
-      wants_sense = c.wants_sense;
+      wanted = c.wanted;
       in_integer_part = c.in_integer_part;
       last_column = option_map (λ name. name.items) c.last_column;
       rhs_set = option_map (λ name. name.items) c.rhs_set;
@@ -104,7 +104,7 @@ impl LineContext {
                 ranges: false,
                 bounds: false,
             },
-            wants_sense: false,
+            wanted: None,
             in_integer_part: false,
             last_column: None,
             rhs_set: None,
@@ -130,11 +130,11 @@ impl LineContext {
         }
     }
 
-    /// Whether the word of an OBJSENSE is to come.
-    pub(crate) fn wants_sense(&self) -> bool
-        ensures { result ≡ self.now.wants_sense }
+    /// Whether the word of a header is to come.
+    pub(crate) fn wants_word(&self) -> bool
+        ensures { result ≡ is_some self.now.wanted }
     {
-        self.wants_sense
+        self.wanted.is_some()
     }
 
     /// Whether the integer part is open.
@@ -186,7 +186,7 @@ impl LineContext {
     pub(crate) fn is_out_of_order(&self, section: Section) -> bool
         ensures { result ≡ is_out_of_order self.now section }
     {
-        self.wants_sense || !(self.has_seen(section) || self.may_begin(section))
+        self.wants_word() || !(self.has_seen(section) || self.may_begin(section))
     }
 
     /// The set name of the first line of RHS.
@@ -210,9 +210,9 @@ impl LineContext {
         bytes_of(&self.bounds_set)
     }
 
-    /// Goes past the header of a section; `is_bare` says that it is an OBJSENSE without its word.
-    pub(crate) fn pass_header(&mut self, section: Section, is_bare: bool)
-        ensures { self.new ≡ after_header self.old section is_bare }
+    /// Goes past the header of a section; `wanted` is the section whose word is to come then.
+    pub(crate) fn pass_header(&mut self, section: Section, wanted: Option<Section>)
+        ensures { self.new ≡ after_header self.old section wanted }
     {
         match section {
             Section::Name => self.seen.name = true,
@@ -225,21 +225,21 @@ impl LineContext {
             Section::EndData => {}
         }
         self.section = Some(section);
-        self.wants_sense = is_bare;
+        self.wanted = wanted;
     }
 
     /// Goes past a data line of OBJSENSE or ROWS.
     pub(crate) fn pass_data(&mut self)
         ensures { self.new ≡ after_data self.old }
     {
-        self.wants_sense = false;
+        self.wanted = None;
     }
 
     /// Goes past a marker line that opens or closes the integer part.
     pub(crate) fn pass_marker(&mut self, opens: bool)
         ensures { self.new ≡ after_marker self.old opens }
     {
-        self.wants_sense = false;
+        self.wanted = None;
         self.in_integer_part = opens;
         self.last_column = None;
     }
@@ -248,7 +248,7 @@ impl LineContext {
     pub(crate) fn pass_column(&mut self, column: &[u8]) -> Result<(), AllocError>
         ensures { OnOk result (self.new ≡ after_column self.old column.now) }
     {
-        self.wants_sense = false;
+        self.wanted = None;
         if !is_name(&self.last_column, column) {
             self.last_column = Some(column.to_vec(self.alloc)?);
         }
@@ -259,7 +259,7 @@ impl LineContext {
     pub(crate) fn pass_right_side(&mut self, set: &[u8]) -> Result<(), AllocError>
         ensures { OnOk result (self.new ≡ after_right_side self.old set.now) }
     {
-        self.wants_sense = false;
+        self.wanted = None;
         if self.rhs_set.is_none() {
             self.rhs_set = Some(set.to_vec(self.alloc)?);
         }
@@ -270,7 +270,7 @@ impl LineContext {
     pub(crate) fn pass_range(&mut self, set: &[u8]) -> Result<(), AllocError>
         ensures { OnOk result (self.new ≡ after_range self.old set.now) }
     {
-        self.wants_sense = false;
+        self.wanted = None;
         if self.ranges_set.is_none() {
             self.ranges_set = Some(set.to_vec(self.alloc)?);
         }
@@ -281,7 +281,7 @@ impl LineContext {
     pub(crate) fn pass_bound(&mut self, set: &[u8]) -> Result<(), AllocError>
         ensures { OnOk result (self.new ≡ after_bound self.old set.now) }
     {
-        self.wants_sense = false;
+        self.wanted = None;
         if self.bounds_set.is_none() {
             self.bounds_set = Some(set.to_vec(self.alloc)?);
         }

@@ -1,45 +1,47 @@
-//! Data lines: what is told of their form, and what they say.
+//! Data lines: the faults of their form, and what they say.
 
-ghost use Rattle.std.specs.Prelude.{◌≡◌, [], ◌∷◌, ◌++◌, map, not, if◌then◌else◌, IfOk, IfErr, Some, None, MatchResult};
+ghost use Rattle.std.specs.Prelude.{◌≡◌, [], ◌∷◌, ◌++◌, map, not, Some, None, is_some, MatchResult};
 ghost use Rattle.std.specs.Option.{option_map, option_map_or};
 ghost use Rattle.mpslp_model.specs.Name.{same_bytes};
 ghost use Rattle.mpslp_model.specs.Declaration.{Draft, declare_sense};
-ghost use Rattle.mpslp_mps.specs.DataLine.{sense_line, row_line, column_line, marker_line, opening_word, vector_line};
-ghost use Rattle.mpslp_mps.specs.BoundLine.{bound_type, bound_line};
-ghost use Rattle.mpslp_mps.specs.LineMeaning.{declared_of, value_of, sense_declared, row_declared, row_of_type};
-ghost use Rattle.mpslp_mps.specs.FieldFault.{judged_by, name_tests, number_tests, literals_of, set_tests};
+ghost use Rattle.mpslp_mps.specs.DataLine.{sense_shape, row_shape, column_shape, marker_shape, opening_word, vector_shape};
+ghost use Rattle.mpslp_mps.specs.BoundLine.{bound_type, bound_shape};
+ghost use Rattle.mpslp_mps.specs.LineMeaning.{declared_of, sense_declared, row_declared, row_of_type};
+ghost use Rattle.mpslp_reading.specs.Field.{value_of, name_tests, number_tests};
+ghost use Rattle.mpslp_reading.specs.Tests.{judged_by, first_held};
+ghost use Rattle.mpslp_mps.specs.FieldFault.{literals_of, set_tests};
 ghost use Rattle.mpslp_mps.specs.HeaderFault.{word_tests};
 ghost use Rattle.mpslp_mps.specs.DataFault.{row_tests, marker_tests, vector_tests, bound_tests, bound_line_tests};
 ghost use Rattle.mpslp_model.specs.declared.faults.FaultKind.{FaultKind};
-ghost use Rattle.mpslp_mps.specs.FirstHeld.{first_held, column_values, set_values};
-ghost use Rattle.mpslp_mps.specs.LineAnswer.{IsToldAs};
+ghost use Rattle.mpslp_mps.specs.LineValues.{named_values};
+ghost use Rattle.mpslp_reading.specs.LineAnswer.{IsErrorOf};
 
 use crate::bound_types::BoundType;
 use crate::context::LineContext;
-use crate::errors::LineError;
-use crate::judging::{RowValues, is_second_set, name_fault, value_of, values_of};
 use crate::shapes::{
-    BoundLine, ColumnLine, VectorLine, bound_line, column_line, marker_line, row_line, sense_line,
-    third_field, vector_line,
+    BoundLine, ValuesLine, bound_shape, column_shape, marker_shape, row_shape, sense_shape,
+    third_field, vector_shape,
 };
+use crate::values::{RowValues, is_second_set, values_of};
 use crate::words::{
     bound_type, is_due_word, is_opening_word, is_semi_continuous_type, is_sos_word, row_type,
     sense_of,
 };
 use mpslp_decimal::Decimal;
 use mpslp_model::{FaultKind, Name, RowType, Sense};
+use mpslp_reading::{LineError, value_of};
 use std::alloc::Global;
 
 /// The sense of a data line under OBJSENSE.
-pub(crate) fn judge_sense(context: &LineContext, fields: &[&[u8]]) -> Result<Sense, FaultKind>
-    ensures { let parts = sense_line (map (λ field. field.now) fields.now) in
-        let told = first_held ((not context.now.wants_sense, FaultKind.SectionOrder) ∷ judged_by word_tests parts) in
-        MatchResult result (λ sense. (told ≡ None) × (declared_of sense_declared parts ≡ declare_sense sense ∷ [])) (λ kind. told ≡ Some kind) }
+pub(crate) fn check_sense(context: &LineContext, fields: &[&[u8]]) -> Result<Sense, FaultKind>
+    ensures { let parts = sense_shape (map (λ field. field.now) fields.now) in
+        let first_fault = first_held ((not (is_some context.now.wanted), FaultKind.SectionOrder) ∷ judged_by word_tests parts) in
+        MatchResult result (λ sense. (first_fault ≡ None) × (declared_of sense_declared parts ≡ declare_sense sense ∷ [])) (λ kind. first_fault ≡ Some kind) }
 {
-    if !context.wants_sense() {
+    if !context.wants_word() {
         return Err(FaultKind::SectionOrder);
     }
-    let Some(word) = sense_line(fields) else {
+    let Some(word) = sense_shape(fields) else {
         return Err(FaultKind::FieldCount);
     };
     match sense_of(word) {
@@ -49,12 +51,12 @@ pub(crate) fn judge_sense(context: &LineContext, fields: &[&[u8]]) -> Result<Sen
 }
 
 /// The type and name of a line of ROWS.
-pub(crate) fn judge_row(alloc: Global, fields: &[&[u8]]) -> Result<(RowType, Name), LineError>
-    ensures { let parts = row_line (map (λ field. field.now) fields.now) in
-        let told = first_held (judged_by row_tests parts) in
-        MatchResult result (λ row. (told ≡ None) × ((earlier : Draft) → declared_of (row_declared earlier) parts ≡ row_of_type earlier row.1 row.0)) (IsToldAs told) }
+pub(crate) fn check_row(alloc: Global, fields: &[&[u8]]) -> Result<(RowType, Name), LineError>
+    ensures { let parts = row_shape (map (λ field. field.now) fields.now) in
+        let first_fault = first_held (judged_by row_tests parts) in
+        MatchResult result (λ row. (first_fault ≡ None) × ((earlier : Draft) → declared_of (row_declared earlier) parts ≡ row_of_type earlier row.1 row.0)) (IsErrorOf first_fault) }
 {
-    let Some(line) = row_line(fields) else {
+    let Some(line) = row_shape(fields) else {
         return Err(LineError::Fault(FaultKind::FieldCount));
     };
     let Some(row_type) = row_type(line.letter) else {
@@ -65,17 +67,17 @@ pub(crate) fn judge_row(alloc: Global, fields: &[&[u8]]) -> Result<(RowType, Nam
 }
 
 /// Whether a marker line of COLUMNS opens the integer part.
-pub(crate) fn judge_marker(context: &LineContext, fields: &[&[u8]]) -> Result<bool, FaultKind>
+pub(crate) fn check_marker(context: &LineContext, fields: &[&[u8]]) -> Result<bool, FaultKind>
     ensures { let names = map (λ field. field.now) fields.now in
-        let told = first_held (marker_tests context.now names) in
-        MatchResult result (λ opens. (told ≡ None) × (option_map (same_bytes opening_word) (marker_line names) ≡ Some opens)) (λ kind. told ≡ Some kind) }
+        let first_fault = first_held (marker_tests context.now names) in
+        MatchResult result (λ opens. (first_fault ≡ None) × (option_map (same_bytes opening_word) (marker_shape names) ≡ Some opens)) (λ kind. first_fault ≡ Some kind) }
 {
     if let Some(word) = third_field(fields) {
         if is_sos_word(word) {
             return Err(FaultKind::Sos);
         }
     }
-    let Some(word) = marker_line(fields) else {
+    let Some(word) = marker_shape(fields) else {
         return Err(FaultKind::FieldCount);
     };
     if !is_due_word(word, context.in_integer_part()) {
@@ -85,18 +87,18 @@ pub(crate) fn judge_marker(context: &LineContext, fields: &[&[u8]]) -> Result<bo
 }
 
 /// The set name and the values of a line of RHS or RANGES; `first` is the set name of the section's first line.
-pub(crate) fn judge_vector<'a>(
+pub(crate) fn check_vector<'a>(
     first: Option<&[u8]>,
     fields: &[&'a [u8]],
 ) -> Result<(&'a [u8], RowValues<'a>), FaultKind>
-    ensures { let parts = vector_line (map (λ field. field.now) fields.now) in
-        let told = first_held (judged_by (vector_tests (option_map (λ name. name.now) first.entry)) parts) in
-        MatchResult result (λ line. (told ≡ None) × (option_map set_values parts ≡ Some (line.0.now, line.1))) (λ kind. told ≡ Some kind) }
+    ensures { let parts = vector_shape (map (λ field. field.now) fields.now) in
+        let first_fault = first_held (judged_by (vector_tests (option_map (λ name. name.now) first.entry)) parts) in
+        MatchResult result (λ line. (first_fault ≡ None) × (option_map named_values parts ≡ Some (line.0.now, line.1))) (λ kind. first_fault ≡ Some kind) }
 {
-    let Some(line) = vector_line(fields) else {
+    let Some(line) = vector_shape(fields) else {
         return Err(FaultKind::FieldCount);
     };
-    let VectorLine { set, pairs } = line;
+    let ValuesLine { name: set, pairs } = line;
     let values = values_of(pairs)?;
     if is_second_set(first, set) {
         return Err(FaultKind::SecondSet);
@@ -106,26 +108,27 @@ pub(crate) fn judge_vector<'a>(
 
 /// The column and the values of a line of COLUMNS that is no marker line, but for whether the column's lines stand
 /// together.
-pub(crate) fn judge_column<'a>(fields: &[&'a [u8]]) -> Result<(&'a [u8], RowValues<'a>), FaultKind>
-    ensures { let parts = column_line (map (λ field. field.now) fields.now) in
-        let told = first_held (judged_by (λ line. name_tests line.column ++ number_tests (literals_of line.pairs)) parts) in
-        MatchResult result (λ line. (told ≡ None) × (option_map column_values parts ≡ Some (line.0.now, line.1))) (λ kind. told ≡ Some kind) }
+pub(crate) fn check_column<'a>(fields: &[&'a [u8]]) -> Result<(&'a [u8], RowValues<'a>), LineError>
+    ensures { let parts = column_shape (map (λ field. field.now) fields.now) in
+        let first_fault = first_held (judged_by (λ line. name_tests line.name ++ number_tests (literals_of line.pairs)) parts) in
+        MatchResult result (λ line. (first_fault ≡ None) × (option_map named_values parts ≡ Some (line.0.now, line.1))) (IsErrorOf first_fault) }
 {
-    let Some(line) = column_line(fields) else {
-        return Err(FaultKind::FieldCount);
+    let Some(line) = column_shape(fields) else {
+        return Err(LineError::Fault(FaultKind::FieldCount));
     };
-    let ColumnLine { column, pairs } = line;
-    if let Some(kind) = name_fault(column) {
-        return Err(kind);
-    }
+    let ValuesLine {
+        name: column,
+        pairs,
+    } = line;
+    Name::check(column)?;
     let values = values_of(pairs)?;
     Ok((column, values))
 }
 
 /// The value of a bound that has one; `first` is the set name of the section's first line.
-fn judge_bound_value(first: Option<&[u8]>, set: &[u8], literal: &[u8]) -> Result<Decimal, FaultKind>
-    ensures { let told = first_held (number_tests (literal.now ∷ []) ++ set_tests (option_map (λ bytes. bytes.now) first.entry) set.now) in
-        MatchResult result (λ value. (told ≡ None) × (value ≡ value_of literal.now)) (λ kind. told ≡ Some kind) }
+fn check_bound_value(first: Option<&[u8]>, set: &[u8], literal: &[u8]) -> Result<Decimal, FaultKind>
+    ensures { let first_fault = first_held (number_tests (literal.now ∷ []) ++ set_tests (option_map (λ bytes. bytes.now) first.entry) set.now) in
+        MatchResult result (λ value. (first_fault ≡ None) × (value ≡ value_of literal.now)) (λ kind. first_fault ≡ Some kind) }
 {
     match value_of(literal) {
         Err(kind) => Err(kind),
@@ -135,17 +138,17 @@ fn judge_bound_value(first: Option<&[u8]>, set: &[u8], literal: &[u8]) -> Result
 }
 
 /// The value of a bound, where it has one.
-fn judge_bound_parts(
+fn check_bound_parts(
     first: Option<&[u8]>,
     set: &[u8],
     literal: Option<&[u8]>,
 ) -> Result<Option<Decimal>, FaultKind>
     ensures { let given = option_map (λ bytes. bytes.now) literal.entry in
-        let told = first_held (option_map_or (λ bytes. number_tests (bytes ∷ [])) given [] ++ set_tests (option_map (λ bytes. bytes.now) first.entry) set.now) in
-        MatchResult result (λ value. (told ≡ None) × (value ≡ option_map value_of given)) (λ kind. told ≡ Some kind) }
+        let first_fault = first_held (option_map_or (λ bytes. number_tests (bytes ∷ [])) given [] ++ set_tests (option_map (λ bytes. bytes.now) first.entry) set.now) in
+        MatchResult result (λ value. (first_fault ≡ None) × (value ≡ option_map value_of given)) (λ kind. first_fault ≡ Some kind) }
 {
     match literal {
-        Some(literal) => match judge_bound_value(first, set, literal) {
+        Some(literal) => match check_bound_value(first, set, literal) {
             Ok(value) => Ok(Some(value)),
             Err(kind) => Err(kind),
         },
@@ -159,31 +162,31 @@ fn judge_bound_parts(
 }
 
 /// The parts of a line of BOUNDS after its type, and its value where the type takes one.
-fn judge_bound_of_type<'a>(
+fn check_bound_of_type<'a>(
     context: &LineContext,
     bound_type: BoundType,
     more: &[&'a [u8]],
 ) -> Result<(BoundLine<'a>, Option<Decimal>), FaultKind>
-    ensures { let parts = bound_line bound_type (map (λ field. field.now) more.now) in
-        let told = first_held (judged_by (bound_tests context.now) parts) in
-        MatchResult result (λ bound. (told ≡ None) × (parts ≡ Some bound.0) × (bound.1 ≡ option_map value_of bound.0.literal)) (λ kind. told ≡ Some kind) }
+    ensures { let parts = bound_shape bound_type (map (λ field. field.now) more.now) in
+        let first_fault = first_held (judged_by (bound_tests context.now) parts) in
+        MatchResult result (λ bound. (first_fault ≡ None) × (parts ≡ Some bound.0) × (bound.1 ≡ option_map value_of bound.0.literal)) (λ kind. first_fault ≡ Some kind) }
 {
-    let Some(line) = bound_line(bound_type, more) else {
+    let Some(line) = bound_shape(bound_type, more) else {
         return Err(FaultKind::FieldCount);
     };
-    let value = judge_bound_parts(context.bounds_set(), line.set, line.literal)?;
+    let value = check_bound_parts(context.bounds_set(), line.set, line.literal)?;
     Ok((line, value))
 }
 
 /// The type of a line of BOUNDS, its parts and its value, where the type takes one.
-pub(crate) fn judge_bound<'a>(
+pub(crate) fn check_bound<'a>(
     context: &LineContext,
     letters: &[u8],
     more: &[&'a [u8]],
 ) -> Result<(BoundType, BoundLine<'a>, Option<Decimal>), FaultKind>
     ensures { let rest = map (λ field. field.now) more.now in
-        let told = first_held (bound_line_tests context.now (letters.now ∷ rest)) in
-        MatchResult result (λ bound. (told ≡ None) × (bound_type letters.now ≡ Some bound.0) × (bound_line bound.0 rest ≡ Some bound.1) × (bound.2 ≡ option_map value_of bound.1.literal)) (λ kind. told ≡ Some kind) }
+        let first_fault = first_held (bound_line_tests context.now (letters.now ∷ rest)) in
+        MatchResult result (λ bound. (first_fault ≡ None) × (bound_type letters.now ≡ Some bound.0) × (bound_shape bound.0 rest ≡ Some bound.1) × (bound.2 ≡ option_map value_of bound.1.literal)) (λ kind. first_fault ≡ Some kind) }
 {
     if is_semi_continuous_type(letters) {
         return Err(FaultKind::SemiContinuous);
@@ -191,6 +194,6 @@ pub(crate) fn judge_bound<'a>(
     let Some(bound_type) = bound_type(letters) else {
         return Err(FaultKind::BadType);
     };
-    let (line, value) = judge_bound_of_type(context, bound_type, more)?;
+    let (line, value) = check_bound_of_type(context, bound_type, more)?;
     Ok((bound_type, line, value))
 }

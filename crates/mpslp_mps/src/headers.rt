@@ -2,8 +2,8 @@
 
 ghost use Rattle.std.specs.Prelude.{◌≡◌, Some, None, map, MatchResult, if◌then◌else◌};
 ghost use Rattle.mpslp_mps.specs.Section.{section_named};
-ghost use Rattle.mpslp_mps.specs.ContextStep.{is_bare_header};
-ghost use Rattle.mpslp_mps.specs.FirstHeld.{first_held};
+ghost use Rattle.mpslp_mps.specs.ContextStep.{word_wanted};
+ghost use Rattle.mpslp_reading.specs.Tests.{first_held};
 ghost use Rattle.mpslp_mps.specs.HeaderFault.{may_follow, header_word_tests, header_tests};
 
 use crate::context::LineContext;
@@ -33,13 +33,13 @@ fn has_unknown_word(section: Section, more: &[&[u8]]) -> bool
 }
 
 /// The section of a header, or the fault of its line after those that say `context`.
-pub(crate) fn judge_header(
+pub(crate) fn check_header(
     context: &LineContext,
     keyword: &[u8],
     more: &[&[u8]],
 ) -> Result<Section, FaultKind>
-    ensures { let told = first_held (header_tests context.now keyword.now (map (λ field. field.now) more.now) (section_named keyword.now)) in
-        MatchResult result (λ section. (section_named keyword.now ≡ Some section) × (told ≡ None)) (λ kind. told ≡ Some kind) }
+    ensures { let first_fault = first_held (header_tests context.now keyword.now (map (λ field. field.now) more.now) (section_named keyword.now)) in
+        MatchResult result (λ section. (section_named keyword.now ≡ Some section) × (first_fault ≡ None)) (λ kind. first_fault ≡ Some kind) }
 {
     let Some(section) = section_named(keyword) else {
         return Err(unknown_section(keyword));
@@ -59,12 +59,12 @@ pub(crate) fn judge_header(
     Ok(section)
 }
 
-/// Whether the header of a section is an OBJSENSE without its word.
-pub(crate) fn is_bare_header(section: Section, more: &[&[u8]]) -> bool
-    ensures { result ≡ is_bare_header section (map (λ field. field.now) more.now) }
+/// The section of a header whose word is to come on a line of its own: an OBJSENSE without one.
+pub(crate) fn word_wanted(section: Section, more: &[&[u8]]) -> Option<Section>
+    ensures { result ≡ word_wanted section (map (λ field. field.now) more.now) }
 {
-    match section {
-        Section::ObjSense => more.is_empty(),
-        _ => false,
+    match (section, more) {
+        (Section::ObjSense, []) => Some(Section::ObjSense),
+        _ => None,
     }
 }

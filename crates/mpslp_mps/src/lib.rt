@@ -7,26 +7,25 @@
 #![tactic(auto)]
 
 mod bound_types;
+mod bounds;
+mod columns;
 mod context;
 mod data_lines;
-mod errors;
 mod fields;
+mod header_lines;
 mod headers;
-mod judging;
+mod items;
 pub mod laws;
 mod lines;
 mod reading;
 mod sections;
 mod shapes;
-mod taking;
-mod taking_bounds;
-mod taking_columns;
-mod taking_headers;
-mod taking_vectors;
+mod values;
+mod vectors;
 mod words;
 
 pub use bound_types::BoundType;
-pub use lines::MAX_LINE_LEN;
+pub use mpslp_reading::MAX_LINE_LEN;
 pub use reading::read_mps;
 pub use sections::Section;
 

@@ -4,29 +4,15 @@ ghost use Rattle.std.specs.Prelude.{◌≡◌, false};
 ghost use Rattle.std.specs.Str.Lines.{lines};
 ghost use Rattle.mpslp_mps.specs.Section.{is_section};
 ghost use Rattle.mpslp_mps.specs.declared.sections.Section.{Section};
-ghost use Rattle.mpslp_mps.specs.ReadingAnswer.{IsFaultOn, ReadsLines, ReadsText, ReadsMps};
-ghost use Rattle.mpslp_mps.specs.ReadingState.{IsReading};
+ghost use Rattle.mpslp_mps.specs.ReadingAnswer.{ReadsLines, ReadsText, ReadsMps};
+ghost use Rattle.mpslp_mps.specs.DeclareAnswer.{HasMpsSides};
 
 use crate::context::LineContext;
-use crate::errors::LineError;
-use crate::taking::take_line;
+use crate::items::read_line;
 use bstr::ByteSlice;
 use mpslp_model::{Builder, Fault, FaultKind, Model, ReadFault};
+use mpslp_reading::read_fault;
 use std::alloc::Global;
-
-/// Why text is not read that has this error on a line.
-fn read_fault(number: u64, error: LineError) -> ReadFault
-    ensures { IsFaultOn number error result }
-{
-    match error {
-        LineError::Fault(kind) => ReadFault::File(Fault {
-            kind,
-            line: number,
-            name: None,
-        }),
-        LineError::OutOfMemory => ReadFault::OutOfMemory,
-    }
-}
 
 /// Reads the lines of a text up to that of ENDATA, and answers whether there is one.
 fn read_lines(
@@ -35,13 +21,13 @@ fn read_lines(
     alloc: Global,
     text: &[u8],
 ) -> Result<bool, ReadFault>
-    requires reading { IsReading context.old builder.old }
+    requires sides { HasMpsSides builder.old }
     requires unended { is_section Section.EndData context.old.section ≡ false }
     ensures { ReadsLines context.old builder.old (lines text.now) result builder.new }
 {
     let mut number = 1u64;
     for line in text.lines() {
-        match take_line(context, builder, alloc, line) {
+        match read_line(context, builder, alloc, line) {
             Ok(()) => {}
             Err(error) => return Err(read_fault(number, error)),
         }

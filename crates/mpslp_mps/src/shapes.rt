@@ -2,8 +2,8 @@
 
 ghost use Rattle.std.specs.Prelude.{◌≡◌, [], ◌∷◌, map};
 ghost use Rattle.std.specs.Option.{option_map};
-ghost use Rattle.mpslp_mps.specs.DataLine.{pair, sense_line, row_line, column_line, is_marker_line, third_field, marker_line, vector_line};
-ghost use Rattle.mpslp_mps.specs.BoundLine.{bound_line};
+ghost use Rattle.mpslp_mps.specs.DataLine.{pair, sense_shape, row_shape, column_shape, is_marker_line, third_field, marker_shape, vector_shape};
+ghost use Rattle.mpslp_mps.specs.BoundLine.{bound_shape};
 
 use crate::bound_types::BoundType;
 use crate::words::is_marker;
@@ -79,34 +79,20 @@ fn two_pairs<'a>(row: &'a [u8], literal: &'a [u8], other: &'a [u8], second: &'a 
     }
 }
 
-/// A column, and one or two pairs of row and value.
+/// The column of a line of COLUMNS, or the set name of one of RHS or RANGES, empty where it is absent; and one or two
+/// pairs of row and value.
 #[derive(Drop)]
-pub(crate) struct ColumnLine<'a> {
-    pub(crate) column: &'a [u8],
+pub(crate) struct ValuesLine<'a> {
+    pub(crate) name: &'a [u8],
     pub(crate) pairs: Pairs<'a>,
 }
 
-impl<'a> Model for ColumnLine<'a> {
-    ghost use Rattle.mpslp_mps.specs.DataLine.{ColumnLine};
+impl<'a> Model for ValuesLine<'a> {
+    ghost use Rattle.mpslp_mps.specs.DataLine.{ValuesLine};
 
-    ghost Value = { ColumnLine };
+    ghost Value = { ValuesLine };
 
-    ghost view = { λ l. record { column = l.column.now; pairs = l.pairs } };
-}
-
-/// A set name, empty where it is absent, and one or two pairs of row and value.
-#[derive(Drop)]
-pub(crate) struct VectorLine<'a> {
-    pub(crate) set: &'a [u8],
-    pub(crate) pairs: Pairs<'a>,
-}
-
-impl<'a> Model for VectorLine<'a> {
-    ghost use Rattle.mpslp_mps.specs.DataLine.{VectorLine};
-
-    ghost Value = { VectorLine };
-
-    ghost view = { λ l. record { set = l.set.now; pairs = l.pairs } };
+    ghost view = { λ l. record { name = l.name.now; pairs = l.pairs } };
 }
 
 /// A set name, empty where it is absent, a column, and the literal of a value where the type takes one.
@@ -127,8 +113,8 @@ impl<'a> Model for BoundLine<'a> {
 }
 
 /// The word of a line of OBJSENSE.
-pub(crate) fn sense_line<'a>(fields: &[&'a [u8]]) -> Option<&'a [u8]>
-    ensures { option_map (λ word. word.now) result ≡ sense_line (map (λ field. field.now) fields.now) }
+pub(crate) fn sense_shape<'a>(fields: &[&'a [u8]]) -> Option<&'a [u8]>
+    ensures { option_map (λ word. word.now) result ≡ sense_shape (map (λ field. field.now) fields.now) }
 {
     match fields {
         [word] => Some(*word),
@@ -137,8 +123,8 @@ pub(crate) fn sense_line<'a>(fields: &[&'a [u8]]) -> Option<&'a [u8]>
 }
 
 /// The parts of a line of ROWS.
-pub(crate) fn row_line<'a>(fields: &[&'a [u8]]) -> Option<RowLine<'a>>
-    ensures { result ≡ row_line (map (λ field. field.now) fields.now) }
+pub(crate) fn row_shape<'a>(fields: &[&'a [u8]]) -> Option<RowLine<'a>>
+    ensures { result ≡ row_shape (map (λ field. field.now) fields.now) }
 {
     match fields {
         [letter, name] => Some(RowLine {
@@ -150,16 +136,16 @@ pub(crate) fn row_line<'a>(fields: &[&'a [u8]]) -> Option<RowLine<'a>>
 }
 
 /// The parts of a line of COLUMNS that is no marker line.
-pub(crate) fn column_line<'a>(fields: &[&'a [u8]]) -> Option<ColumnLine<'a>>
-    ensures { result ≡ column_line (map (λ field. field.now) fields.now) }
+pub(crate) fn column_shape<'a>(fields: &[&'a [u8]]) -> Option<ValuesLine<'a>>
+    ensures { result ≡ column_shape (map (λ field. field.now) fields.now) }
 {
     match fields {
-        [column, row, literal] => Some(ColumnLine {
-            column: *column,
+        [column, row, literal] => Some(ValuesLine {
+            name: *column,
             pairs: one_pair(row, literal),
         }),
-        [column, row, literal, other, second] => Some(ColumnLine {
-            column: *column,
+        [column, row, literal, other, second] => Some(ValuesLine {
+            name: *column,
             pairs: two_pairs(row, literal, other, second),
         }),
         _ => None,
@@ -187,8 +173,8 @@ pub(crate) fn third_field<'a>(fields: &[&'a [u8]]) -> Option<&'a [u8]>
 }
 
 /// The word of a marker line.
-pub(crate) fn marker_line<'a>(fields: &[&'a [u8]]) -> Option<&'a [u8]>
-    ensures { option_map (λ word. word.now) result ≡ marker_line (map (λ field. field.now) fields.now) }
+pub(crate) fn marker_shape<'a>(fields: &[&'a [u8]]) -> Option<&'a [u8]>
+    ensures { option_map (λ word. word.now) result ≡ marker_shape (map (λ field. field.now) fields.now) }
 {
     match fields {
         [_, _, word] => Some(*word),
@@ -197,24 +183,24 @@ pub(crate) fn marker_line<'a>(fields: &[&'a [u8]]) -> Option<&'a [u8]>
 }
 
 /// The parts of a line of RHS or RANGES.
-pub(crate) fn vector_line<'a>(fields: &[&'a [u8]]) -> Option<VectorLine<'a>>
-    ensures { result ≡ vector_line (map (λ field. field.now) fields.now) }
+pub(crate) fn vector_shape<'a>(fields: &[&'a [u8]]) -> Option<ValuesLine<'a>>
+    ensures { result ≡ vector_shape (map (λ field. field.now) fields.now) }
 {
     match fields {
-        [row, literal] => Some(VectorLine {
-            set: &[],
+        [row, literal] => Some(ValuesLine {
+            name: &[],
             pairs: one_pair(row, literal),
         }),
-        [set, row, literal] => Some(VectorLine {
-            set: *set,
+        [set, row, literal] => Some(ValuesLine {
+            name: *set,
             pairs: one_pair(row, literal),
         }),
-        [row, literal, other, second] => Some(VectorLine {
-            set: &[],
+        [row, literal, other, second] => Some(ValuesLine {
+            name: &[],
             pairs: two_pairs(row, literal, other, second),
         }),
-        [set, row, literal, other, second] => Some(VectorLine {
-            set: *set,
+        [set, row, literal, other, second] => Some(ValuesLine {
+            name: *set,
             pairs: two_pairs(row, literal, other, second),
         }),
         _ => None,
@@ -222,8 +208,8 @@ pub(crate) fn vector_line<'a>(fields: &[&'a [u8]]) -> Option<VectorLine<'a>>
 }
 
 /// The parts of a line of BOUNDS after its type.
-pub(crate) fn bound_line<'a>(bound_type: BoundType, more: &[&'a [u8]]) -> Option<BoundLine<'a>>
-    ensures { result ≡ bound_line bound_type (map (λ field. field.now) more.now) }
+pub(crate) fn bound_shape<'a>(bound_type: BoundType, more: &[&'a [u8]]) -> Option<BoundLine<'a>>
+    ensures { result ≡ bound_shape bound_type (map (λ field. field.now) more.now) }
 {
     match (bound_type.takes_value(), more) {
         (true, [column, literal]) => Some(BoundLine {

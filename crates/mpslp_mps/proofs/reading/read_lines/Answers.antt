@@ -1,11 +1,11 @@
-use Rattle.std.proofs.Common.{◌≡◌, sym, ap, ◌∙◌, ℕ, List, arith, false}
+use Rattle.std.proofs.Common.{◌≡◌, sym, ap, ◌∙◌, ℕ, List, arith, true, false}
 use Rattle.std.specs.List.{list_any}
 use Rattle.std.specs.Str.Lines.{lines}
 use Rattle.mpslp_mps.specs.MpsText.{is_end}
 use Rattle.mpslp_mps.specs.Reading.{fault_from, draft_from}
 use Rattle.mpslp_mps.specs.ReadingAnswer.{lines_to_end}
 use Rattle.mpslp_mps.proofs.LineLemmas.{bstr-lines}
-use Rattle.mpslp_mps.proofs.LoopLemmas.{told-next, draft-next, ended-next, end-shown, reading-after}
+use Rattle.mpslp_mps.proofs.LoopLemmas.{told-last, draft-last, ended-last, told-next, draft-next, ended-next, end-shown, sides-next}
 use Rattle.mpslp_mps.proofs.reading.read_lines.Goals as goal
 
 pub loop-line-init : goal.loop-line-init
@@ -17,7 +17,7 @@ loop-line-init c =
     record {
       next = tt;
       finite = tt;
-      state = c.requires.reading;
+      sides = c.requires.sides;
       unended = c.requires.unended;
       counted = omega arith;
       told = ap (λ (text : List (List ℕ)). fault_from 1 context earlier (lines_to_end text)) all;
@@ -37,11 +37,11 @@ loop-line-preserved c =
     let none = c.in-Ok.ensures.0 in
     let after = c.in-Ok.ensures.1 in
     let draft = c.in-Ok.ensures.2 in
-    let further : is_end line ≡ false = end-shown line context c.take_line.new.context c.is_at_end.result before.unended after c.is_at_end.ensures ∙ c.if-is_at_end.false in
+    let further : is_end line ≡ false = end-shown line context c.read_line.new.context c.is_at_end.result before.unended after c.is_at_end.ensures ∙ c.if-is_at_end.false in
     record {
       next = tt;
       finite = tt;
-      state = reading-after line context c.take_line.new.context earlier c.take_line.new.builder before.state none after draft;
+      sides = sides-next line context earlier c.read_line.new.builder before.sides none draft;
       unended = sym c.is_at_end.ensures ∙ c.if-is_at_end.false;
       counted = omega (arith, c.saturating_add-number.ensures);
       told = (λ i. fault_from (c.saturating_add-number.ensures i) (after i) (draft i) (lines_to_end more)) ∙ sym (told-next line more n context earlier further none)
@@ -50,3 +50,19 @@ loop-line-preserved c =
           ∙ ap (λ (text : List (List ℕ)). draft_from context earlier (lines_to_end text)) (sym cut) ∙ before.draft;
       ended = sym (ended-next line more further) ∙ ap (list_any is_end) (sym cut) ∙ before.ended;
     }
+
+pub returns-then-is_at_end : goal.returns-then-is_at_end
+returns-then-is_at_end c =
+    let before = c.loop-line.invariant in
+    let n = c.loop-line.number in
+    let context = c.loop-line.context in
+    let earlier = c.loop-line.builder in
+    let line = c.in-Some.line.now in
+    let more = c.next.new.self in
+    let cut = c.in-Some.ensures.steps in
+    let last : is_end line ≡ true =
+    end-shown line context c.read_line.new.context c.is_at_end.result before.unended c.in-Ok.ensures.1 c.is_at_end.ensures ∙ c.if-is_at_end.true in (
+      sym before.told ∙ ap (λ (text : List (List ℕ)). fault_from n context earlier (lines_to_end text)) cut ∙ told-last line more n context earlier last c.in-Ok.ensures.0,
+      c.in-Ok.ensures.2 ∙ sym (draft-last line more context earlier last) ∙ ap (λ (text : List (List ℕ)). draft_from context earlier (lines_to_end text)) (sym cut) ∙ before.draft,
+      sym (ended-last line more last) ∙ ap (list_any is_end) (sym cut) ∙ before.ended,
+    )

@@ -5,8 +5,10 @@ use Rattle.mpslp_model.specs.Declaration.{Draft}
 use Rattle.mpslp_model.specs.Meaning.{file_fault}
 use Rattle.mpslp_model.specs.declared.faults.Fault.{Fault}
 use Rattle.mpslp_mps.specs.Reading.{fault_from, draft_from}
-use Rattle.mpslp_mps.specs.ReadingAnswer.{IsFaultOf, lines_to_end}
-use Rattle.mpslp_mps.proofs.TextLemmas.{told_lines, draft_lines, told-line, told-whole, draft-whole, named-whole, fails-by}
+use Rattle.mpslp_reading.specs.LineAnswer.{IsFaultOf}
+use Rattle.mpslp_mps.specs.ReadingAnswer.{lines_to_end}
+use Rattle.mpslp_mps.proofs.TextLemmas.{told_lines, draft_lines, told-line, told-whole, draft-whole, named-whole}
+use Rattle.mpslp_reading.proofs.AnswerLemmas.{fails-by}
 use Rattle.mpslp_mps.proofs.reading.read_text.Goals as goal
 
 pub returns-in_err-is_ended : goal.returns-in_err-is_ended

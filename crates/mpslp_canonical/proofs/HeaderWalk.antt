@@ -1,0 +1,181 @@
+-- Headers: what each declares, that it has a good form, and what the lines before say once it stands.
+use Rattle.std.proofs.Common.{◌≡◌, refl, sym, ap, ◌∙◌, List, [], ◌∷◌, ◌++◌, Bool, true, false, map, cond, append_assoc}
+use Rattle.std.specs.Prelude.{Option, Some, None, is_some, is_none, ◌||◌, filter, codes}
+use Rattle.std.specs.List.{list_any, last_or}
+use Rattle.std.specs.Option.{option_or, option_map_or}
+use Rattle.std.proofs.lemmas.List.{append-nil}
+use Rattle.std.proofs.lemmas.List.Folds.{list_any-append}
+use Rattle.mpslp_model.specs.Declaration.{declare_sense, Draft}
+use Rattle.mpslp_model.specs.declared.kinds.Sense.TheVariants.{Maximize}
+use Rattle.mpslp_model.proofs.BoolLemmas.{nor, back}
+use Rattle.mpslp_mps.specs.Line.{Fields, Item, skipped, header, data_line}
+use Rattle.mpslp_mps.specs.Section.{keyword_of, section_begun, section_named, begins, is_section}
+use Rattle.mpslp_mps.specs.Context.{context_of, current_section, has_section, seen_in, has_seen, fields_under, data_lines_after, data_lines, is_read, wanting, wanted}
+use Rattle.mpslp_mps.specs.LineMeaning.{declared}
+use Rattle.mpslp_mps.specs.HeaderFault.{may_begin, is_out_of_order}
+use Rattle.mpslp_mps.proofs.PlacedLemmas.{form_faults}
+use Rattle.mpslp_mps.specs.declared.sections.Section.{Section}
+use Rattle.mpslp_mps.specs.declared.sections.Section.TheVariants.{Name, ObjSense, Rows, Columns, Rhs, Ranges, Bounds, EndData}
+use Rattle.mpslp_mps.proofs.SectionLemmas.{current_section-push}
+use Rattle.mpslp_mps.proofs.ContextLemmas.{wanted-push}
+
+-- a header that wants a word on a line of its own, and whether a word is to come
+abbrev pub is_bare : Item → Bool
+is_bare item = is_some (wanting item)
+
+abbrev pub wants_word : List Item → Bool
+wants_word before = is_some (wanted before)
+
+abbrev pub header_item : Section → Item
+header_item section = header (keyword_of section) []
+
+section_named-keyword : (section : Section) → section_named (keyword_of section) ≡ Some section
+section_named-keyword Name = refl
+section_named-keyword ObjSense = refl
+section_named-keyword Rows = refl
+section_named-keyword Columns = refl
+section_named-keyword Rhs = refl
+section_named-keyword Ranges = refl
+section_named-keyword Bounds = refl
+section_named-keyword EndData = refl
+
+-- ---- a header where it may stand
+
+-- OBJSENSE has its word or has not begun; the section has not begun, and may begin
+pub record MayStand (section : Section) (before : List Item) : Type 0 where
+  pub settled : wants_word before ≡ false
+  pub fresh : has_seen (seen_in before) section ≡ false
+  pub begins : may_begin (context_of before) section ≡ true
+
+in_order : (section : Section) (before : List Item) → MayStand section before → is_out_of_order (context_of before) section ≡ false
+in_order section before h = rw (h.settled, h.fresh, h.begins) refl
+
+pub header-good : (section : Section) (before : List Item) (earlier : Draft) → MayStand section before → form_faults (context_of before) earlier (header_item section) ≡ []
+header-good section before earlier h = by section (in_order section before h) h.fresh
+  where
+    by : (s : Section) → is_out_of_order (context_of before) s ≡ false → has_seen (seen_in before) s ≡ false → form_faults (context_of before) earlier (header_item s) ≡ []
+    by Name o f = rw (o, f) refl
+    by ObjSense o f = rw (o, f) refl
+    by Rows o f = rw (o, f) refl
+    by Columns o f = rw (o, f) refl
+    by Rhs o f = rw (o, f) refl
+    by Ranges o f = rw (o, f) refl
+    by Bounds o f = rw (o, f) refl
+    by EndData o f = rw o refl
+
+-- a header declares nothing, but for the objective at COLUMNS where there was none
+pub header-says : (section : Section) (before : List Item) (earlier : Draft) → is_none earlier.objective ≡ false → declared (context_of before) earlier (header_item section) ≡ []
+header-says Name before earlier o = refl
+header-says ObjSense before earlier o = refl
+header-says Rows before earlier o = refl
+header-says Columns before earlier o = rw o refl
+header-says Rhs before earlier o = refl
+header-says Ranges before earlier o = refl
+header-says Bounds before earlier o = refl
+header-says EndData before earlier o = refl
+
+-- before ROWS there need be no objective
+pub early-header-says : (section : Section) (before : List Item) (earlier : Draft) → is_section Columns (Some section) ≡ false → declared (context_of before) earlier (header_item section) ≡ []
+early-header-says Name before earlier o = refl
+early-header-says ObjSense before earlier o = refl
+early-header-says Rows before earlier o = refl
+early-header-says Columns before earlier o = cc
+early-header-says Rhs before earlier o = refl
+early-header-says Ranges before earlier o = refl
+early-header-says Bounds before earlier o = refl
+early-header-says EndData before earlier o = refl
+
+pub current-header : (section : Section) (before : List Item) → current_section (before ++ header_item section ∷ []) ≡ Some section
+current-header section before = current_section-push before (header_item section) ∙ ap (λ (o : Option Section). option_or o (current_section before)) (section_named-keyword section)
+
+-- ---- the word of OBJSENSE, on a line of its own
+
+pub word-says : (before : List Item) (earlier : Draft) → current_section before ≡ Some ObjSense → declared (context_of before) earlier (data_line (codes "MAX" ∷ [])) ≡ declare_sense Maximize ∷ []
+word-says before earlier s = rw s refl
+
+pub word-good : (before : List Item) (earlier : Draft) → current_section before ≡ Some ObjSense → wants_word before ≡ true → form_faults (context_of before) earlier (data_line (codes "MAX" ∷ [])) ≡ []
+word-good before earlier s w = rw (s, w) refl
+
+-- ---- what has not begun
+
+or_false : (b : Bool) → (b || false) ≡ b
+or_false true = refl
+or_false false = refl
+
+-- lines that are no headers begin nothing
+pub has_section-data : {X : Type 0} (section : Section) (item : X → Item) → ((x : X) → section_begun (item x) ≡ None) → (xs : List X) (before : List Item)
+    → has_section (before ++ map item xs) section ≡ has_section before section
+has_section-data section item none xs before =
+    list_any-append (begins section) before (map item xs) ∙ ap (λ (b : Bool). has_section before section || b) (all xs) ∙ or_false (has_section before section)
+  where
+    all : (ys : List _) → list_any (begins section) (map item ys) ≡ false
+    all [] = refl
+    all (y ∷ ys) = rw (none y) (all ys)
+
+pub current-data : {X : Type 0} (item : X → Item) → ((x : X) → section_begun (item x) ≡ None) → (xs : List X) (before : List Item)
+    → current_section (before ++ map item xs) ≡ current_section before
+current-data item none [] before = ap current_section (append-nil before)
+current-data item none (x ∷ xs) before =
+    ap current_section (sym (append_assoc before (item x ∷ []) (map item xs))) ∙ current-data item none xs (before ++ item x ∷ [])
+    ∙ current_section-push before (item x) ∙ ap (λ (o : Option Section). option_or o (current_section before)) (none x)
+
+other_section : (section : Section) (o current : Option Section) → is_section section current ≡ false → is_section section o ≡ false → is_section section (option_or o current) ≡ false
+other_section section None current h k = h
+other_section section (Some s) current h k = k
+
+under_other : (section : Section) (current : Option Section) (item : Item) → is_section section current ≡ false → fields_under section current item ≡ []
+under_other section current skipped h = refl
+under_other section current (header keyword more) h = refl
+under_other section current (data_line fields) h = rw h refl
+
+lines_of_other : (section : Section) (before : List Item) (current : Option Section) → is_section section current ≡ false → has_section before section ≡ false → data_lines_after section current before ≡ []
+lines_of_other section [] current h k = refl
+lines_of_other section (item ∷ before) current h k =
+    let parts = nor (begins section item) (has_section before section) k in
+    ap (λ (lines : List Fields). lines ++ data_lines_after section (option_or (section_begun item) current) before) (under_other section current item h)
+    ∙ lines_of_other section before (option_or (section_begun item) current) (other_section section (section_begun item) current h parts.0) parts.1
+
+-- a section that has not begun has no lines
+pub no-lines : (section : Section) (before : List Item) → has_section before section ≡ false → data_lines section before ≡ []
+no-lines section before h = lines_of_other section before None refl h
+
+bare_begins : (item : Item) → is_bare item ≡ true → begins ObjSense item ≡ true
+bare_begins skipped h = cc
+bare_begins (header keyword []) h = by (begins ObjSense (header keyword [])) h
+  where
+    by : (b : Bool) → is_some (cond b (Some ObjSense) None) ≡ true → b ≡ true
+    by true e = refl
+    by false e = cc
+bare_begins (header keyword (word ∷ more)) h = cc
+bare_begins (data_line fields) h = cc
+
+no_bare : (before : List Item) → has_section before ObjSense ≡ false → list_any is_bare before ≡ false
+no_bare [] h = refl
+no_bare (item ∷ before) h =
+    let parts = nor (begins ObjSense item) (has_section before ObjSense) h in
+    rw (back (is_bare item) (begins ObjSense item) (bare_begins item) parts.0) (no_bare before parts.1)
+
+-- without OBJSENSE no word is wanted
+as_word : (o : Option Item) → is_some (option_map_or wanting o None) ≡ option_map_or is_bare o false
+as_word None = refl
+as_word (Some item) = refl
+
+pub settled-without : (before : List Item) → has_section before ObjSense ≡ false → wants_word before ≡ false
+settled-without before h = as_word (last_or None (filter is_read before)) ∙ by (filter is_read before) None (kept before (no_bare before h)) refl
+  where
+    kept : (xs : List Item) → list_any is_bare xs ≡ false → list_any is_bare (filter is_read xs) ≡ false
+    kept [] k = refl
+    kept (x ∷ xs) k =
+        let parts = nor (is_bare x) (list_any is_bare xs) k in
+        elim (is_read x) as (λ b. list_any is_bare (cond b (x ∷ filter is_read xs) (filter is_read xs)) ≡ false) [
+          | true ↦ rw parts.0 (kept xs parts.1)
+          | false ↦ kept xs parts.1
+        ]
+
+    by : (xs : List Item) (o : Option Item) → list_any is_bare xs ≡ false → option_map_or is_bare o false ≡ false → option_map_or is_bare (last_or o xs) false ≡ false
+    by [] o k e = e
+    by (x ∷ xs) o k e = let parts = nor (is_bare x) (list_any is_bare xs) k in by xs (Some x) parts.1 parts.0
+
+-- after a data line, and after a header that is no bare OBJSENSE
+pub settled-after : (before : List Item) (item : Item) → is_read item ≡ true → is_bare item ≡ false → wants_word (before ++ item ∷ []) ≡ false
+settled-after before item r b = ap is_some (wanted-push before item ∙ rw r refl) ∙ b

@@ -1,0 +1,111 @@
+-- The tests of a line stand in the order of kinds.
+use Rattle.std.proofs.Common.{◌≡◌, refl, ℕ, List, [], ◌∷◌, ◌++◌, Bool, true, false, cond}
+use Rattle.std.specs.Prelude.{not, is_some, Option, Some, None, codes}
+use Rattle.mpslp_model.specs.Name.{is_one_of}
+use Rattle.std.specs.List.{list_all}
+use Rattle.std.specs.Option.{option_map_or}
+use Rattle.std.specs.Cmp.{second_so}
+use Rattle.mpslp_model.specs.Declaration.{Draft}
+use Rattle.mpslp_model.specs.declared.faults.FaultKind.{FaultKind}
+use Rattle.mpslp_model.specs.declared.faults.FaultKind.TheVariants as kinds
+use Rattle.mpslp_mps.specs.Line.{Fields, Item, skipped, header, data_line}
+use Rattle.mpslp_mps.specs.Section.{section_named}
+use Rattle.mpslp_mps.specs.LineFault.{item_tests}
+use Rattle.mpslp_mps.specs.DataLine.{sense_shape, row_shape, column_shape, is_marker_line, marker_shape, vector_shape}
+use Rattle.mpslp_mps.specs.BoundLine.{BoundLine, bound_type, bound_shape, is_semi_continuous_type}
+use Rattle.mpslp_mps.specs.Context.{Context}
+use Rattle.mpslp_reading.specs.Tests.{Tests, judged_by}
+use Rattle.mpslp_reading.specs.Field.{number_tests}
+use Rattle.mpslp_mps.specs.FieldFault.{set_tests}
+use Rattle.mpslp_mps.specs.HeaderFault.{header_tests, word_tests}
+use Rattle.mpslp_mps.specs.DataFault.{row_tests, is_sos_marker, marker_tests, marker_word_tests, typed_bound_tests, column_tests, vector_tests, bound_tests, data_tests}
+use Rattle.mpslp_mps.specs.declared.bound_types.BoundType.{BoundType}
+use Rattle.mpslp_mps.specs.declared.sections.Section.{Section}
+use Rattle.mpslp_mps.specs.declared.sections.Section.TheVariants.{Name, ObjSense, Rows, Columns, Rhs, Ranges, Bounds, EndData}
+use Rattle.mpslp_reading.proofs.LeastLemmas.{is_from, are_rising}
+
+-- tests that stand in the order of kinds, behind those of a line's length and bytes
+abbrev pub AreRising : Tests → Type 0
+AreRising tests = are_rising ((false, kinds.LineTooLong) ∷ (false, kinds.BadByte) ∷ tests) ≡ true
+
+-- and so by themselves
+pub rising-alone : (tests : Tests) → AreRising tests → are_rising tests ≡ true
+rising-alone tests h =
+    second_so (list_all (λ later. is_from kinds.BadByte later.1) tests) (are_rising tests)
+    (second_so (list_all (λ later. is_from kinds.LineTooLong later.1) ((false, kinds.BadByte) ∷ tests)) (are_rising ((false, kinds.BadByte) ∷ tests)) h)
+
+-- ---- by the shape of a line
+
+judged-rising : {X : Type 0} (tests : X → Tests) (o : Option X) → ((x : X) → AreRising (tests x)) → AreRising (judged_by tests o)
+judged-rising tests None h = refl
+judged-rising tests (Some x) h = h x
+
+bound-rising : (context : Context) (line : BoundLine) → AreRising (bound_tests context line)
+bound-rising context line = of line.literal
+  where
+    of : (o : Option (List ℕ)) → AreRising (option_map_or (λ literal. number_tests (literal ∷ [])) o [] ++ set_tests context.bounds_set line.set)
+    of None = refl
+    of (Some literal) = refl
+
+typed-rising : (context : Context) (more : Fields) (o : Option BoundType)
+    → AreRising (typed_bound_tests context more o)
+typed-rising context more None = refl
+typed-rising context more (Some type) = judged-rising (bound_tests context) (bound_shape type more) (bound-rising context)
+
+rising-if : (b : Bool) (x y : Tests) → AreRising x → AreRising y → AreRising (cond b x y)
+rising-if true x y h k = h
+rising-if false x y h k = k
+
+sense-rising : (b : Bool) (o : Option (List ℕ)) → AreRising ((b, kinds.SectionOrder) ∷ judged_by word_tests o)
+sense-rising b None = refl
+sense-rising b (Some word) = refl
+
+marker-rising : (b : Bool) (context : Context) (o : Option (List ℕ)) → AreRising ((b, kinds.Sos) ∷ judged_by (marker_word_tests context) o)
+marker-rising b context None = refl
+marker-rising b context (Some word) = refl
+
+data-behind : (context : Context) (earlier : Draft) (fields : Fields) (section : Option Section) → AreRising (data_tests context earlier fields section)
+data-behind context earlier fields None = refl
+data-behind context earlier fields (Some Name) = refl
+data-behind context earlier fields (Some ObjSense) = sense-rising (not (is_some context.wanted)) (sense_shape fields)
+data-behind context earlier fields (Some Rows) = judged-rising row_tests (row_shape fields) (λ _. refl)
+data-behind context earlier fields (Some Columns) =
+    rising-if (is_marker_line fields) (marker_tests context fields) (judged_by (column_tests context earlier) (column_shape fields)) (marker-rising (is_sos_marker fields) context (marker_shape fields)) (judged-rising (column_tests context earlier) (column_shape fields) (λ _. refl))
+data-behind context earlier fields (Some Rhs) = judged-rising (vector_tests context.rhs_set) (vector_shape fields) (λ _. refl)
+data-behind context earlier fields (Some Ranges) = judged-rising (vector_tests context.ranges_set) (vector_shape fields) (λ _. refl)
+data-behind context earlier [] (Some Bounds) = refl
+data-behind context earlier (letters ∷ more) (Some Bounds) = rising-if (is_semi_continuous_type letters) ((true, kinds.SemiContinuous) ∷ []) (typed_bound_tests context more (bound_type letters)) refl (typed-rising context more (bound_type letters))
+data-behind context earlier fields (Some EndData) = refl
+
+-- all kinds of sections that are not known
+unknown-behind : (quadratic sos indicator : Bool)
+    → AreRising ((true, cond quadratic kinds.Quadratic (cond sos kinds.Sos (cond indicator kinds.Indicator kinds.UnknownSection))) ∷ [])
+unknown-behind true sos indicator = refl
+unknown-behind false true indicator = refl
+unknown-behind false false true = refl
+unknown-behind false false false = refl
+
+header-behind : (context : Context) (keyword : List ℕ) (more : Fields) (section : Option Section) → AreRising (header_tests context keyword more section)
+header-behind context keyword more None =
+    unknown-behind (is_one_of (codes "QSECTION" ∷ codes "QMATRIX" ∷ codes "QUADOBJ" ∷ codes "QCMATRIX" ∷ codes "CSECTION" ∷ []) keyword)
+    (is_one_of (codes "SOS" ∷ codes "SOS1" ∷ codes "SOS2" ∷ []) keyword) (is_one_of (codes "INDICATORS" ∷ []) keyword)
+header-behind context keyword more (Some Name) = refl
+header-behind context keyword [] (Some ObjSense) = refl
+header-behind context keyword (word ∷ more) (Some ObjSense) = refl
+header-behind context keyword more (Some Rows) = refl
+header-behind context keyword more (Some Columns) = refl
+header-behind context keyword more (Some Rhs) = refl
+header-behind context keyword more (Some Ranges) = refl
+header-behind context keyword more (Some Bounds) = refl
+header-behind context keyword more (Some EndData) = refl
+
+pub item-rising : (context : Context) (earlier : Draft) (item : Item) → AreRising (item_tests context earlier item)
+item-rising context earlier skipped = refl
+item-rising context earlier (header keyword more) = header-behind context keyword more (section_named keyword)
+item-rising context earlier (data_line fields) = data-behind context earlier fields context.section
+
+pub data-rising : (context : Context) (earlier : Draft) (fields : Fields) (section : Option Section) → are_rising (data_tests context earlier fields section) ≡ true
+data-rising context earlier fields section = rising-alone (data_tests context earlier fields section) (data-behind context earlier fields section)
+
+pub header-rising : (context : Context) (keyword : List ℕ) (more : Fields) (section : Option Section) → are_rising (header_tests context keyword more section) ≡ true
+header-rising context keyword more section = rising-alone (header_tests context keyword more section) (header-behind context keyword more section)

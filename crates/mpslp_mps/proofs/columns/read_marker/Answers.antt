@@ -1,0 +1,27 @@
+use Rattle.std.proofs.Common.{◌∙◌, ap, sym, map, refl, []}
+use Rattle.std.specs.List.{list_all}
+use Rattle.mpslp_reading.specs.Tests.{Tests, first_held}
+use Rattle.mpslp_reading.specs.declared.errors.LineError.TheVariants.{Fault}
+use Rattle.mpslp_mps.specs.declared.sections.Section.TheVariants.{Columns}
+use Rattle.mpslp_mps.proofs.StepLemmas.{step-marker}
+use Rattle.mpslp_mps.proofs.TakingLemmas.{is_early, data-judged, data-taken}
+use Rattle.mpslp_reading.proofs.AnswerLemmas.{ends-by}
+use Rattle.mpslp_mps.proofs.ColumnTaking.{marker-tests, marker-early, marker-declares}
+use Rattle.mpslp_mps.proofs.columns.read_marker.Goals as goal
+
+pub returns-in_err-opens : goal.returns-in_err-opens
+returns-in_err-opens c earlier =
+    let fields = map (λ field. field.now) c.args.fields.now in
+    let context = c.args.context.now in
+    let tests = marker-tests context earlier fields c.requires.marker in
+    ends-by c.from_residual.result (Fault c.in_err-opens.field-0.0) _ _ c.from_residual.ensures.1
+    (data-judged context earlier fields Columns (Fault c.in_err-opens.field-0.0) c.requires.section
+    (ap (λ (t : Tests). list_all is_early t) tests ∙ marker-early context fields) (ap first_held tests ∙ c.in_err-opens.ensures))
+
+pub returns : goal.returns
+returns c earlier =
+    let fields = map (λ field. field.now) c.args.fields.now in
+    let context = c.args.context.now in
+    data-taken context earlier fields Columns [] c.pass_marker.new.self earlier c.requires.section
+    (ap first_held (marker-tests context earlier fields c.requires.marker) ∙ c.in_ok-opens.ensures.0) (marker-declares context earlier fields c.requires.marker) refl
+    (c.pass_marker.ensures ∙ sym (step-marker context fields c.in_ok-opens.opens c.requires.section c.requires.marker c.in_ok-opens.ensures.1)) refl

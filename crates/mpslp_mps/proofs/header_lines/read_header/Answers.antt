@@ -1,0 +1,42 @@
+use Rattle.std.proofs.Common.{sym, ap, subst, ◌∙◌, Bool, map}
+use Rattle.std.specs.Prelude.{Option}
+use Rattle.mpslp_model.specs.Declaration.{adding_all}
+use Rattle.mpslp_model.specs.declared.faults.FaultKind.{FaultKind}
+use Rattle.mpslp_mps.specs.ContextStep.{after_header}
+use Rattle.mpslp_mps.specs.LineMeaning.{header_declared}
+use Rattle.mpslp_reading.specs.LineAnswer.{IsErrorOf}
+use Rattle.mpslp_reading.specs.declared.errors.LineError.TheVariants.{Fault}
+use Rattle.mpslp_mps.specs.declared.sections.Section.{Section}
+use Rattle.mpslp_mps.proofs.StepLemmas.{step-header, header-wanting}
+use Rattle.mpslp_reading.proofs.AnswerLemmas.{ends-by}
+use Rattle.mpslp_mps.proofs.HeaderTaking.{header-form, header-declares}
+use Rattle.mpslp_mps.proofs.header_lines.read_header.Goals as goal
+
+pub returns-in_err-section : goal.returns-in_err-section
+returns-in_err-section c =
+    let more = map (λ field. field.now) c.args.more.now in
+    ends-by c.from_residual.result (Fault c.in_err-section.field-0.0) _ _ c.from_residual.ensures.1
+    (header-form c.args.context.now c.args.builder.now c.args.keyword.now more c.in_err-section.field-0.0 c.in_err-section.ensures)
+
+pub returns-in_err-declare_header : goal.returns-in_err-declare_header
+returns-in_err-declare_header c =
+    let more = map (λ field. field.now) c.args.more.now in
+    let error = c.in_err-declare_header.field-0.0 in
+    ends-by c.from_residual-in_err-declare_header.result error _ _ c.from_residual-in_err-declare_header.ensures.1
+    (subst (λ (o : Option FaultKind). IsErrorOf o error)
+    (sym (header-declares c.args.context.now c.args.builder.now c.args.keyword.now more c.in_ok-section.section c.in_ok-section.ensures.0 c.in_ok-section.ensures.1))
+    c.in_err-declare_header.ensures)
+
+pub returns : goal.returns
+returns c =
+    let more = map (λ field. field.now) c.args.more.now in
+    let context = c.args.context.now in
+    let earlier = c.args.builder.now in
+    let keyword = c.args.keyword.now in
+    let section = c.in_ok-section.section in
+    let named = c.in_ok-section.ensures.0 in (
+      header-declares context earlier keyword more section named c.in_ok-section.ensures.1 ∙ c.in_ok-declare_header.ensures.0,
+      c.pass_header.ensures ∙ ap (λ (word : Option Section). after_header context section word) (c.word_wanted.ensures ∙ sym (header-wanting keyword more section named))
+          ∙ sym (step-header context keyword more section named),
+      c.in_ok-declare_header.ensures.1 ∙ ap (λ (o : Option Section). adding_all earlier (header_declared earlier more o)) (sym named),
+    )

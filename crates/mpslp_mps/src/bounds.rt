@@ -1,0 +1,158 @@
+//! Lines of BOUNDS.
+
+ghost use Rattle.std.specs.Prelude.{◌≡◌, ◌∷◌, ◌||◌, true, map, IsTrue, Some, is_some};
+ghost use Rattle.std.specs.Option.{ForSome, option_map_or};
+ghost use Rattle.mpslp_model.specs.Model.{limit_of};
+ghost use Rattle.mpslp_model.specs.Bounds.{zero_limit, one_limit};
+ghost use Rattle.mpslp_model.specs.Made.{is_given};
+ghost use Rattle.mpslp_model.specs.Declaration.{declare_integer, bounds_declared};
+ghost use Rattle.mpslp_mps.specs.Line.{data_line};
+ghost use Rattle.mpslp_mps.specs.LineMeaning.{lower_given, upper_given, is_integer_type, bound_declared};
+ghost use Rattle.mpslp_mps.specs.LineAnswer.{ReadsItem};
+ghost use Rattle.mpslp_reading.specs.LineAnswer.{AreDeclared};
+ghost use Rattle.mpslp_mps.specs.declared.sections.Section.{Section};
+
+use crate::bound_types::BoundType;
+use crate::context::LineContext;
+use crate::data_lines::check_bound;
+use mpslp_decimal::Decimal;
+use mpslp_model::{Builder, Limit};
+use mpslp_reading::LineError;
+
+/// The side of 0.
+fn zero_limit() -> Limit
+    ensures { result ≡ zero_limit }
+{
+    Limit::Finite(Decimal::zero())
+}
+
+/// The side of 1.
+fn one_limit() -> Limit
+    ensures { result ≡ one_limit }
+{
+    match Decimal::parse(b"1") {
+        Ok(one) => Limit::Finite(one),
+        Err(_) => zero_limit(),
+    }
+}
+
+/// The side that a bound's value stands for; 0 where the bound has no value.
+fn side_of(value: Option<Decimal>) -> Limit
+    ensures value { result ≡ option_map_or limit_of value zero_limit }
+    ensures given { IsTrue (is_given result) }
+{
+    match value {
+        Some(value) => Limit::of(value),
+        None => zero_limit(),
+    }
+}
+
+/// The lower and the upper side that a bound of this type declares.
+fn sides_of(bound_type: BoundType, value: &Limit) -> (Option<Limit>, Option<Limit>)
+    requires { IsTrue (is_given value.now) }
+    ensures lower { result.0 ≡ lower_given bound_type value.now }
+    ensures upper { result.1 ≡ upper_given bound_type value.now }
+    ensures lower_given { ForSome result.0 (λ side. IsTrue (is_given side)) }
+    ensures upper_given { ForSome result.1 (λ side. IsTrue (is_given side)) }
+{
+    match bound_type {
+        BoundType::Lower | BoundType::IntegerLower => (Some(*value), None),
+        BoundType::Upper | BoundType::IntegerUpper => (None, Some(*value)),
+        BoundType::Fixed => (Some(*value), Some(*value)),
+        BoundType::Free => (Some(Limit::MinusInf), Some(Limit::PlusInf)),
+        BoundType::NoLower => (Some(Limit::MinusInf), None),
+        BoundType::NoUpper => (None, Some(Limit::PlusInf)),
+        BoundType::Binary => (Some(zero_limit()), Some(one_limit())),
+    }
+}
+
+/// Whether a bound of this type declares that its column is integer.
+fn is_integer_type(bound_type: BoundType) -> bool
+    ensures { result ≡ is_integer_type bound_type }
+{
+    match bound_type {
+        BoundType::Binary | BoundType::IntegerLower | BoundType::IntegerUpper => true,
+        _ => false,
+    }
+}
+
+/// Declares the sides of a column that are given, of which there is one at least.
+fn declare_sides(
+    builder: &mut Builder,
+    column: &[u8],
+    lower: Option<Limit>,
+    upper: Option<Limit>,
+) -> Result<(), LineError>
+    requires some { (is_some lower || is_some upper) ≡ true }
+    requires lower { ForSome lower (λ side. IsTrue (is_given side)) }
+    requires upper { ForSome upper (λ side. IsTrue (is_given side)) }
+    ensures { AreDeclared builder.old (bounds_declared column.now lower upper) result builder.new }
+{
+    builder.bounds(column, lower, upper)?;
+    Ok(())
+}
+
+/// Declares that a column is integer, and the sides of it that are given, of which there is one at least.
+fn declare_integer_sides(
+    builder: &mut Builder,
+    column: &[u8],
+    lower: Option<Limit>,
+    upper: Option<Limit>,
+) -> Result<(), LineError>
+    requires some { (is_some lower || is_some upper) ≡ true }
+    requires lower { ForSome lower (λ side. IsTrue (is_given side)) }
+    requires upper { ForSome upper (λ side. IsTrue (is_given side)) }
+    ensures { AreDeclared builder.old (declare_integer column.now ∷ bounds_declared column.now lower upper) result builder.new }
+{
+    builder.integer(column)?;
+    declare_sides(builder, column, lower, upper)
+}
+
+/// Declares what a bound says of its column.
+fn declare_bound(
+    builder: &mut Builder,
+    bound_type: BoundType,
+    column: &[u8],
+    value: Limit,
+) -> Result<(), LineError>
+    requires { IsTrue (is_given value) }
+    ensures { AreDeclared builder.old (bound_declared bound_type column.now value) result builder.new }
+{
+    let (lower, upper) = sides_of(bound_type, &value);
+    if is_integer_type(bound_type) {
+        return declare_integer_sides(builder, column, lower, upper);
+    }
+    declare_sides(builder, column, lower, upper)
+}
+
+/// Reads a line of BOUNDS that has these fields after its type.
+fn read_typed_bound(
+    context: &mut LineContext,
+    builder: &mut Builder,
+    letters: &[u8],
+    more: &[&[u8]],
+) -> Result<(), LineError>
+    requires { context.old.section ≡ Some Section.Bounds }
+    ensures { ReadsItem context.old builder.old (data_line (letters.now ∷ map (λ field. field.now) more.now)) result context.new builder.new }
+{
+    let (bound_type, line, value) = check_bound(context, letters, more)?;
+    declare_bound(builder, bound_type, line.column, side_of(value))?;
+    context.pass_bound(line.set)?;
+    Ok(())
+}
+
+/// Reads a line of BOUNDS.
+pub(crate) fn read_bound(
+    context: &mut LineContext,
+    builder: &mut Builder,
+    fields: &[&[u8]],
+) -> Result<(), LineError>
+    requires { context.old.section ≡ Some Section.Bounds }
+    ensures { ReadsItem context.old builder.old (data_line (map (λ field. field.now) fields.now)) result context.new builder.new }
+{
+    let [letters, more @ ..] = fields else {
+        context.pass_data();
+        return Ok(());
+    };
+    read_typed_bound(context, builder, letters, more)
+}

@@ -1,0 +1,178 @@
+//! Lines of COLUMNS.
+
+ghost use Rattle.std.specs.Prelude.{◌≡◌, [], ◌∷◌, map, not, true, false, Some, None, MatchResult};
+ghost use Rattle.std.specs.List.{list_all, flat_map};
+ghost use Rattle.mpslp_model.specs.Name.{IsMpsName};
+ghost use Rattle.mpslp_model.specs.Declaration.{Draft, adding, adding_all, declare_column, declare_marked, has_row, has_column};
+ghost use Rattle.mpslp_model.specs.Lists.{when};
+ghost use Rattle.mpslp_model.specs.declared.faults.FaultKind.{FaultKind};
+ghost use Rattle.mpslp_reading.specs.declared.errors.LineError.{LineError};
+ghost use Rattle.mpslp_mps.specs.declared.sections.Section.{Section};
+ghost use Rattle.mpslp_mps.specs.Line.{data_line};
+ghost use Rattle.mpslp_mps.specs.DataLine.{is_marker_line};
+ghost use Rattle.mpslp_mps.specs.DataFault.{is_split};
+ghost use Rattle.mpslp_reading.specs.Tests.{first_held};
+ghost use Rattle.mpslp_reading.specs.LineAnswer.{AreDeclared};
+ghost use Rattle.mpslp_mps.specs.ColumnDeclared.{front_declared, value_declared};
+ghost use Rattle.mpslp_mps.specs.LineAnswer.{ReadsItem};
+
+use crate::context::LineContext;
+use crate::data_lines::{check_column, check_marker};
+use crate::shapes::is_marker_line;
+use crate::values::{RowValue, RowValues};
+use mpslp_model::laws::each_builder_is_made;
+use mpslp_model::{Builder, FaultKind, Name};
+use mpslp_reading::LineError;
+use std::alloc::Global;
+
+/// Reads a marker line.
+fn read_marker(context: &mut LineContext, fields: &[&[u8]]) -> Result<(), LineError>
+    requires section { context.old.section ≡ Some Section.Columns }
+    requires marker { is_marker_line (map (λ field. field.now) fields.now) ≡ true }
+    ensures { (earlier : Draft) → ReadsItem context.old earlier (data_line (map (λ field. field.now) fields.now)) result context.new earlier }
+{
+    let opens = check_marker(context, fields)?;
+    context.pass_marker(opens);
+    Ok(())
+}
+
+/// Whether the rows of the values are declared.
+fn has_rows(builder: &Builder, values: &RowValues<'_>) -> bool
+    ensures { result ≡ list_all (λ value. has_row builder.now value.0) values.now }
+{
+    let first = builder.has_row(values.first.row);
+    match &values.second {
+        Some(value) => first && builder.has_row(value.row),
+        None => first,
+    }
+}
+
+/// Whether the column has lines before, and the last line is none of its.
+fn is_split(context: &LineContext, builder: &Builder, column: &[u8]) -> bool
+    ensures { result ≡ is_split context.now builder.now column.now }
+{
+    builder.has_column(column) && !context.is_last_column(column)
+}
+
+/// Whether the rows are declared, and the column's lines stand together.
+fn check_place(
+    context: &LineContext,
+    builder: &Builder,
+    column: &[u8],
+    values: &RowValues<'_>,
+) -> Result<(), FaultKind>
+    ensures { let first_fault = first_held ((not (list_all (λ value. has_row builder.now value.0) values.now), FaultKind.UnknownRow) ∷ (is_split context.now builder.now column.now, FaultKind.ColumnSplit) ∷ []) in
+        MatchResult result (λ _. first_fault ≡ None) (λ kind. first_fault ≡ Some kind) }
+{
+    if !has_rows(builder, values) {
+        return Err(FaultKind::UnknownRow);
+    }
+    if is_split(context, builder, column) {
+        return Err(FaultKind::ColumnSplit);
+    }
+    Ok(())
+}
+
+/// Declares the column, if it is not declared yet.
+fn declare_name(builder: &mut Builder, alloc: Global, column: &[u8]) -> Result<(), LineError>
+    requires name { IsMpsName column.now }
+    ensures { MatchResult result (λ _. builder.new ≡ adding builder.old (declare_column column.now)) (λ error. error ≡ LineError.OutOfMemory) }
+{
+    if builder.has_column(column) {
+        each_builder_is_made(builder);
+        return Ok(());
+    }
+    let name = Name::new(alloc, column)?;
+    builder.column(name)?;
+    Ok(())
+}
+
+/// Declares that the column stands in an integer part, if it does.
+fn declare_mark(builder: &mut Builder, column: &[u8], is_marked: bool) -> Result<(), LineError>
+    requires column { has_column builder.old column.now ≡ true }
+    ensures { MatchResult result (λ _. builder.new ≡ adding_all builder.old (when is_marked (declare_marked column.now))) (λ error. error ≡ LineError.OutOfMemory) }
+{
+    if is_marked {
+        builder.marked(column)?;
+    }
+    Ok(())
+}
+
+/// Declares the column of a line, and that it is marked where the line stands in an integer part.
+fn declare_column(
+    builder: &mut Builder,
+    alloc: Global,
+    column: &[u8],
+    is_marked: bool,
+) -> Result<(), LineError>
+    requires name { IsMpsName column.now }
+    ensures { MatchResult result (λ _. builder.new ≡ adding_all builder.old (front_declared is_marked column.now)) (λ error. error ≡ LineError.OutOfMemory) }
+{
+    declare_name(builder, alloc, column)?;
+    declare_mark(builder, column, is_marked)?;
+    Ok(())
+}
+
+/// Declares a coefficient of the column.
+fn declare_value(builder: &mut Builder, column: &[u8], value: RowValue<'_>) -> Result<(), LineError>
+    requires column { has_column builder.old column.now ≡ true }
+    requires row { has_row builder.old value.0 ≡ true }
+    ensures { AreDeclared builder.old (value_declared column.now value.entry) result builder.new }
+{
+    builder.coefficient(value.row, column, value.value)?;
+    Ok(())
+}
+
+/// Declares the coefficients of the column.
+fn declare_values(
+    builder: &mut Builder,
+    column: &[u8],
+    values: RowValues<'_>,
+) -> Result<(), LineError>
+    requires column { has_column builder.old column.now ≡ true }
+    requires rows { list_all (λ value. has_row builder.old value.0) values ≡ true }
+    ensures { AreDeclared builder.old (flat_map (value_declared column.now) values.entry) result builder.new }
+{
+    let RowValues { first, second } = values;
+    declare_value(builder, column, first)?;
+    if let Some(value) = second {
+        declare_value(builder, column, value)?;
+    }
+    Ok(())
+}
+
+/// Reads a line of a column.
+fn read_values(
+    context: &mut LineContext,
+    builder: &mut Builder,
+    alloc: Global,
+    fields: &[&[u8]],
+) -> Result<(), LineError>
+    requires section { context.old.section ≡ Some Section.Columns }
+    requires plain { is_marker_line (map (λ field. field.now) fields.now) ≡ false }
+    ensures { ReadsItem context.old builder.old (data_line (map (λ field. field.now) fields.now)) result context.new builder.new }
+{
+    let (column, values) = check_column(fields)?;
+    check_place(context, builder, column, &values)?;
+    declare_column(builder, alloc, column, context.in_integer_part())?;
+    declare_values(builder, column, values)?;
+    context.pass_column(column)?;
+    Ok(())
+}
+
+/// Reads a line of COLUMNS.
+pub(crate) fn read_column(
+    context: &mut LineContext,
+    builder: &mut Builder,
+    alloc: Global,
+    fields: &[&[u8]],
+) -> Result<(), LineError>
+    requires section { context.old.section ≡ Some Section.Columns }
+    ensures { ReadsItem context.old builder.old (data_line (map (λ field. field.now) fields.now)) result context.new builder.new }
+{
+    if is_marker_line(fields) {
+        read_marker(context, fields)
+    } else {
+        read_values(context, builder, alloc, fields)
+    }
+}

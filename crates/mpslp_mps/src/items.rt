@@ -1,0 +1,145 @@
+//! Lines, read one by one: each is checked, and what it declares is declared to the builder.
+
+ghost use Rattle.std.specs.Prelude.{◌≡◌, Some, map};
+ghost use Rattle.mpslp_mps.specs.declared.sections.Section.{Section};
+ghost use Rattle.mpslp_mps.specs.Line.{data_line, header_of, item_of};
+ghost use Rattle.mpslp_mps.specs.LineMeaning.{row_of_type};
+ghost use Rattle.mpslp_reading.specs.LineAnswer.{AreDeclared};
+ghost use Rattle.mpslp_mps.specs.LineAnswer.{ReadsItem};
+ghost use Rattle.mpslp_mps.specs.ReadingAnswer.{ReadsLine};
+ghost use Rattle.mpslp_mps.specs.DeclareAnswer.{HasMpsSides};
+
+use crate::bounds::read_bound;
+use crate::columns::read_column;
+use crate::context::LineContext;
+use crate::data_lines::{check_row, check_sense};
+use crate::fields::front_fields;
+use crate::header_lines::read_header;
+use crate::lines::{has_legal_bytes, is_data, is_skipped};
+use crate::sections::Section;
+use crate::vectors::{read_ranges, read_right_sides};
+use mpslp_model::{Builder, FaultKind, Name, RowType};
+use mpslp_reading::{LineError, has_legal_length};
+use std::alloc::Global;
+
+/// Reads a data line under OBJSENSE.
+pub(crate) fn read_sense(
+    context: &mut LineContext,
+    builder: &mut Builder,
+    fields: &[&[u8]],
+) -> Result<(), LineError>
+    requires section { context.old.section ≡ Some Section.ObjSense }
+    ensures { ReadsItem context.old builder.old (data_line (map (λ field. field.now) fields.now)) result context.new builder.new }
+{
+    let sense = check_sense(context, fields)?;
+    builder.sense(sense)?;
+    context.pass_data();
+    Ok(())
+}
+
+/// Declares the row of a line of ROWS: the first one of type N is the objective.
+fn declare_row(builder: &mut Builder, row_type: RowType, name: Name) -> Result<(), LineError>
+    ensures { AreDeclared builder.old (row_of_type builder.old name row_type) result builder.new }
+{
+    if row_type == RowType::Free && !builder.has_objective() {
+        builder.objective(name)?;
+    } else {
+        builder.row(name, row_type)?;
+    }
+    Ok(())
+}
+
+/// Reads a line of ROWS.
+pub(crate) fn read_row(
+    context: &mut LineContext,
+    builder: &mut Builder,
+    alloc: Global,
+    fields: &[&[u8]],
+) -> Result<(), LineError>
+    requires section { context.old.section ≡ Some Section.Rows }
+    ensures { ReadsItem context.old builder.old (data_line (map (λ field. field.now) fields.now)) result context.new builder.new }
+{
+    let (row_type, name) = check_row(alloc, fields)?;
+    declare_row(builder, row_type, name)?;
+    context.pass_data();
+    Ok(())
+}
+
+/// Reads a data line.
+fn read_data(
+    context: &mut LineContext,
+    builder: &mut Builder,
+    alloc: Global,
+    fields: &[&[u8]],
+) -> Result<(), LineError>
+    requires { HasMpsSides builder.old }
+    ensures { ReadsItem context.old builder.old (data_line (map (λ field. field.now) fields.now)) result context.new builder.new }
+{
+    match context.section() {
+        Some(Section::ObjSense) => read_sense(context, builder, fields),
+        Some(Section::Rows) => read_row(context, builder, alloc, fields),
+        Some(Section::Columns) => read_column(context, builder, alloc, fields),
+        Some(Section::Rhs) => read_right_sides(context, builder, fields),
+        Some(Section::Ranges) => read_ranges(context, builder, fields),
+        Some(Section::Bounds) => read_bound(context, builder, fields),
+        Some(Section::Name | Section::EndData) | None => {
+            Err(LineError::Fault(FaultKind::SectionOrder))
+        }
+    }
+}
+
+/// Reads a line that begins with no blank or tab and is not skipped.
+fn read_keyword(
+    context: &mut LineContext,
+    builder: &mut Builder,
+    alloc: Global,
+    fields: &[&[u8]],
+) -> Result<(), LineError>
+    requires { HasMpsSides builder.old }
+    ensures { ReadsItem context.old builder.old (header_of (map (λ field. field.now) fields.now)) result context.new builder.new }
+{
+    match fields {
+        [keyword, more @ ..] => read_header(context, builder, alloc, keyword, more),
+        [] => Ok(()),
+    }
+}
+
+/// Reads a line of legal length and bytes.
+fn read_item(
+    context: &mut LineContext,
+    builder: &mut Builder,
+    alloc: Global,
+    line: &[u8],
+) -> Result<(), LineError>
+    requires { HasMpsSides builder.old }
+    ensures { ReadsItem context.old builder.old (item_of line.now) result context.new builder.new }
+{
+    if is_skipped(line) {
+        return Ok(());
+    }
+    let fields = front_fields(line);
+    if is_data(line) {
+        read_data(context, builder, alloc, &fields)
+    } else {
+        read_keyword(context, builder, alloc, &fields)
+    }
+}
+
+/// Reads a line.
+pub(crate) fn read_line(
+    context: &mut LineContext,
+    builder: &mut Builder,
+    alloc: Global,
+    line: &[u8],
+) -> Result<(), LineError>
+    requires { HasMpsSides builder.old }
+    ensures { ReadsLine context.old builder.old line.now result context.new builder.new }
+{
+    if !has_legal_length(line) {
+        return Err(LineError::Fault(FaultKind::LineTooLong));
+    }
+    if !has_legal_bytes(line) {
+        return Err(LineError::Fault(FaultKind::BadByte));
+    }
+    read_item(context, builder, alloc, line)
+}

@@ -1,0 +1,106 @@
+//! The values of a line of COLUMNS, RHS or RANGES, and the set name of a line.
+
+ghost use Rattle.std.specs.Prelude.{◌≡◌, [], ◌∷◌, map, not, false, Some, None, MatchResult};
+ghost use Rattle.std.specs.Option.{option_map, option_map_or};
+ghost use Rattle.mpslp_model.specs.Name.{same_bytes};
+ghost use Rattle.mpslp_reading.specs.Field.{kind_of_number, number_tests, value_of};
+ghost use Rattle.mpslp_mps.specs.FieldFault.{literals_of};
+ghost use Rattle.mpslp_reading.specs.Tests.{first_held};
+ghost use Rattle.mpslp_mps.specs.LineValues.{row_value};
+
+use crate::shapes::{Pair, Pairs};
+use mpslp_decimal::Decimal;
+use mpslp_model::FaultKind;
+use mpslp_reading::{kind_of_number, lesser_fault, value_of};
+use std::marker::Model;
+
+/// A row and a value.
+#[derive(Drop)]
+pub(crate) struct RowValue<'a> {
+    pub(crate) row: &'a [u8],
+    pub(crate) value: Decimal,
+}
+
+impl<'a> Model for RowValue<'a> {
+    ghost use Rattle.std.specs.Prelude.{ℕ, List};
+    ghost use Rattle.mpslp_decimal.specs.Decimal.{Number};
+
+    ghost Value = { List ℕ × Number };
+
+    ghost view = { λ v. (v.row.now, v.value) };
+}
+
+/// One or two rows with values.
+#[derive(Drop)]
+pub(crate) struct RowValues<'a> {
+    pub(crate) first: RowValue<'a>,
+    pub(crate) second: Option<RowValue<'a>>,
+}
+
+impl<'a> Model for RowValues<'a> {
+    ghost use Rattle.std.specs.Prelude.{ℕ, List, [], ◌∷◌};
+    ghost use Rattle.std.specs.List.{cons_option};
+    ghost use Rattle.mpslp_decimal.specs.Decimal.{Number};
+
+    ghost Value = { List (List ℕ × Number) };
+
+    ghost view = { λ v. v.first ∷ cons_option v.second [] };
+}
+
+/// The value of one pair, or its fault.
+fn value_of_one<'a>(pair: Pair<'a>) -> Result<RowValues<'a>, FaultKind>
+    ensures { let first_fault = first_held (number_tests (pair.entry.literal ∷ [])) in MatchResult result (λ values. (first_fault ≡ None) × (values ≡ row_value pair.entry ∷ [])) (λ kind. first_fault ≡ Some kind) }
+{
+    match value_of(pair.literal) {
+        Ok(value) => Ok(RowValues {
+            first: RowValue {
+                row: pair.row,
+                value,
+            },
+            second: None,
+        }),
+        Err(kind) => Err(kind),
+    }
+}
+
+/// The values of two pairs, or the fault of both that comes first.
+fn values_of_both<'a>(pair: Pair<'a>, other: Pair<'a>) -> Result<RowValues<'a>, FaultKind>
+    ensures { let first_fault = first_held (number_tests (pair.entry.literal ∷ other.entry.literal ∷ [])) in MatchResult result (λ values. (first_fault ≡ None) × (values ≡ row_value pair.entry ∷ row_value other.entry ∷ [])) (λ kind. first_fault ≡ Some kind) }
+{
+    match (Decimal::parse(pair.literal), Decimal::parse(other.literal)) {
+        (Ok(value), Ok(second)) => Ok(RowValues {
+            first: RowValue {
+                row: pair.row,
+                value,
+            },
+            second: Some(RowValue {
+                row: other.row,
+                value: second,
+            }),
+        }),
+        (Err(fault), Ok(_)) => Err(kind_of_number(fault)),
+        (Ok(_), Err(fault)) => Err(kind_of_number(fault)),
+        (Err(fault), Err(second)) => Err(kind_of_number(lesser_fault(fault, second))),
+    }
+}
+
+/// The values of the pairs of a line, or the fault of all literals together.
+pub(crate) fn values_of<'a>(pairs: Pairs<'a>) -> Result<RowValues<'a>, FaultKind>
+    ensures { let first_fault = first_held (number_tests (literals_of pairs.entry)) in MatchResult result (λ values. (first_fault ≡ None) × (values ≡ map row_value pairs.entry)) (λ kind. first_fault ≡ Some kind) }
+{
+    let Pairs { first, second } = pairs;
+    match second {
+        Some(other) => values_of_both(first, other),
+        None => value_of_one(first),
+    }
+}
+
+/// Whether a set name is another one than that of the section's first line.
+pub(crate) fn is_second_set(first: Option<&[u8]>, set: &[u8]) -> bool
+    ensures { result ≡ option_map_or (λ name. not (same_bytes name set.now)) (option_map (λ name. name.now) first.entry) false }
+{
+    match first {
+        Some(name) => name != set,
+        None => false,
+    }
+}

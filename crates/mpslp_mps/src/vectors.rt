@@ -1,0 +1,172 @@
+//! Lines of RHS and RANGES.
+
+ghost use Rattle.std.specs.Prelude.{◌≡◌, [], ◌∷◌, ◌++◌, ◌+◌, ◌&&◌, false, map, Some, None, IfErr, MatchResult};
+ghost use Rattle.mpslp_model.specs.Declaration.{has_row, rhs_declared, declare_range};
+ghost use Rattle.mpslp_model.specs.Name.{same_bytes};
+ghost use Rattle.mpslp_model.specs.FaultOrder.{least_kind};
+ghost use Rattle.mpslp_reading.specs.Declaring.{declaring_faults, declared_fault};
+ghost use Rattle.mpslp_mps.specs.Line.{data_line};
+ghost use Rattle.mpslp_reading.specs.LineAnswer.{IsErrorOf, AreDeclared};
+ghost use Rattle.mpslp_mps.specs.LineAnswer.{ReadsItem};
+ghost use Rattle.mpslp_mps.specs.DeclareAnswer.{HasMpsSides, right_sides_of, ranges_of};
+ghost use Rattle.mpslp_mps.specs.declared.sections.Section.{Section};
+
+use crate::context::LineContext;
+use crate::data_lines::check_vector;
+use crate::values::{RowValue, RowValues};
+use mpslp_model::{Builder, FaultKind};
+use mpslp_reading::{LineError, lesser_kind};
+
+/// Whether both rows are declared; the objective counts.
+fn are_rows(builder: &Builder, first: &RowValue, second: &RowValue) -> bool
+    ensures { result ≡ (has_row builder.now first.now.0 && has_row builder.now second.now.0) }
+{
+    builder.has_row(first.row) && builder.has_row(second.row)
+}
+
+/// Declares the right side of a row.
+fn declare_rhs<'a>(builder: &mut Builder, side: RowValue<'a>) -> Result<(), LineError>
+    requires { HasMpsSides builder.old }
+    ensures { AreDeclared builder.old (rhs_declared builder.old side.entry.0 side.entry.1) result builder.new }
+{
+    builder.rhs(side.row, side.value)?;
+    Ok(())
+}
+
+/// Declares the right sides of two rows. A row that is not declared comes before a right side that is declared already.
+fn declare_both_right_sides<'a>(
+    builder: &mut Builder,
+    first: RowValue<'a>,
+    second: RowValue<'a>,
+) -> Result<(), LineError>
+    requires { HasMpsSides builder.old }
+    ensures { AreDeclared builder.old (rhs_declared builder.old first.entry.0 first.entry.1 ++ rhs_declared builder.old second.entry.0 second.entry.1) result builder.new }
+{
+    if !are_rows(builder, &first, &second) {
+        return Err(LineError::Fault(FaultKind::UnknownRow));
+    }
+    declare_rhs(builder, first)?;
+    declare_rhs(builder, second)
+}
+
+/// Declares the right sides of the rows of a line.
+fn declare_right_sides<'a>(builder: &mut Builder, sides: RowValues<'a>) -> Result<(), LineError>
+    requires { HasMpsSides builder.old }
+    ensures { AreDeclared builder.old (right_sides_of builder.old sides.entry) result builder.new }
+{
+    let RowValues { first, second } = sides;
+    match second {
+        Some(second) => declare_both_right_sides(builder, first, second),
+        None => declare_rhs(builder, first),
+    }
+}
+
+/// Reads a line of RHS.
+pub(crate) fn read_right_sides(
+    context: &mut LineContext,
+    builder: &mut Builder,
+    fields: &[&[u8]],
+) -> Result<(), LineError>
+    requires section { context.old.section ≡ Some Section.Rhs }
+    requires sides { HasMpsSides builder.old }
+    ensures { ReadsItem context.old builder.old (data_line (map (λ field. field.now) fields.now)) result context.new builder.new }
+{
+    let (set, sides) = check_vector(context.rhs_set(), fields)?;
+    declare_right_sides(builder, sides)?;
+    context.pass_right_side(set)?;
+    Ok(())
+}
+
+/// Whether the rows have the same name.
+fn is_same_row(first: &RowValue, second: &RowValue) -> bool
+    ensures { result ≡ same_bytes second.now.0 first.now.0 }
+{
+    second.row == first.row
+}
+
+/// Declares the range of a row. Where it is refused, the builder stays as it was.
+fn declare_range<'a>(builder: &mut Builder, row: RowValue<'a>) -> Result<(), LineError>
+    ensures answers { AreDeclared builder.old (declare_range row.entry.0 row.entry.1 ∷ []) result builder.new }
+    ensures unchanged { IfErr result (λ _. builder.new ≡ builder.old) }
+{
+    builder.range(row.row, row.value)?;
+    Ok(())
+}
+
+/// The fault that a range would have now, if it has one.
+fn check_range(builder: &Builder, row: &RowValue) -> Result<(), LineError>
+    ensures { MatchResult result (λ _. declared_fault builder.now (declare_range row.now.0 row.now.1 ∷ []) ≡ None) (IsErrorOf (declared_fault builder.now (declare_range row.now.0 row.now.1 ∷ []))) }
+{
+    builder.check_range(row.row, row.value)?;
+    Ok(())
+}
+
+/// Why a line is not read whose first range has a fault of this kind: the fault of the second one may come before it.
+fn error_of_both(builder: &Builder, kind: FaultKind, second: &RowValue) -> LineError
+    ensures { IsErrorOf (least_kind (kind ∷ declaring_faults builder.now (declare_range second.now.0 second.now.1 ∷ []))) result }
+{
+    match check_range(builder, second) {
+        Ok(()) => LineError::Fault(kind),
+        Err(LineError::Fault(other)) => LineError::Fault(lesser_kind(kind, other)),
+        Err(LineError::OutOfMemory) => LineError::OutOfMemory,
+    }
+}
+
+/// Declares the ranges of two rows that are not the same one.
+fn declare_ranges_apart<'a>(
+    builder: &mut Builder,
+    first: RowValue<'a>,
+    second: RowValue<'a>,
+) -> Result<(), LineError>
+    requires { same_bytes second.0 first.0 ≡ false }
+    ensures { AreDeclared builder.old (declare_range first.entry.0 first.entry.1 ∷ declare_range second.entry.0 second.entry.1 ∷ []) result builder.new }
+{
+    match declare_range(builder, first) {
+        Ok(()) => declare_range(builder, second),
+        Err(LineError::Fault(kind)) => Err(error_of_both(builder, kind, &second)),
+        Err(LineError::OutOfMemory) => Err(LineError::OutOfMemory),
+    }
+}
+
+/// Declares the ranges of two rows. Of one row the second range is a duplicate, whatever the first one's fault is.
+fn declare_both_ranges<'a>(
+    builder: &mut Builder,
+    first: RowValue<'a>,
+    second: RowValue<'a>,
+) -> Result<(), LineError>
+    ensures { AreDeclared builder.old (declare_range first.entry.0 first.entry.1 ∷ declare_range second.entry.0 second.entry.1 ∷ []) result builder.new }
+{
+    if !is_same_row(&first, &second) {
+        return declare_ranges_apart(builder, first, second);
+    }
+    if builder.has_row(first.row) {
+        return Err(LineError::Fault(FaultKind::DuplicateRange));
+    }
+    Err(LineError::Fault(FaultKind::UnknownRow))
+}
+
+/// Declares the ranges of the rows of a line.
+fn declare_ranges<'a>(builder: &mut Builder, ranges: RowValues<'a>) -> Result<(), LineError>
+    ensures { AreDeclared builder.old (ranges_of ranges.entry) result builder.new }
+{
+    let RowValues { first, second } = ranges;
+    match second {
+        Some(second) => declare_both_ranges(builder, first, second),
+        None => declare_range(builder, first),
+    }
+}
+
+/// Reads a line of RANGES.
+pub(crate) fn read_ranges(
+    context: &mut LineContext,
+    builder: &mut Builder,
+    fields: &[&[u8]],
+) -> Result<(), LineError>
+    requires { context.old.section ≡ Some Section.Ranges }
+    ensures { ReadsItem context.old builder.old (data_line (map (λ field. field.now) fields.now)) result context.new builder.new }
+{
+    let (set, ranges) = check_vector(context.ranges_set(), fields)?;
+    declare_ranges(builder, ranges)?;
+    context.pass_range(set)?;
+    Ok(())
+}

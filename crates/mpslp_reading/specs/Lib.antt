@@ -1,0 +1,6 @@
+pub mod Tests
+pub mod LegalLine
+pub mod Field
+pub mod Declaring
+pub mod ErrorOf
+pub mod LineAnswer

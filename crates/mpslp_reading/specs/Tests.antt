@@ -1,0 +1,18 @@
+-- Tests of a line in the order of the kinds of faults, and the first one that holds.
+use Rattle.std.specs.Prelude.{Bool, true, List, [], ◌∷◌, Option, Some, None, if◌then◌else◌}
+use Rattle.std.specs.Option.{option_map_or}
+use Rattle.mpslp_model.specs.declared.faults.FaultKind.{FaultKind}
+use Rattle.mpslp_model.specs.declared.faults.FaultKind.TheVariants.{FieldCount}
+
+-- kinds, each with the test of whether a line has it
+abbrev pub Tests : Type 0
+Tests = List (Bool × FaultKind)
+
+-- the kind of the first test that holds
+abbrev pub first_held : Tests → Option FaultKind
+first_held [] = None
+first_held (test ∷ more) = if test.0 then Some test.1 else first_held more
+
+-- a line of this shape is judged so; one of another shape has a wrong number of fields, and nothing more is asked of it
+abbrev pub judged_by : {X : Type 0} → (X → Tests) → Option X → Tests
+judged_by tests shape = option_map_or tests shape ((true, FieldCount) ∷ [])
