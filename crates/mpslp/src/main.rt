@@ -91,7 +91,12 @@ fn canon<R: Input + Files + AllocGlobal, W: Sink>(
     if path == "-" {
         run::<Mps, Mps, _, W>(alloc, MAX_BYTES, &mut FromRead::new(rt.reader()), output)
     } else {
-        run::<Mps, Mps, _, W>(alloc, MAX_BYTES, &mut FromRead::new(open(rt, path)?), output)
+        run::<Mps, Mps, _, W>(
+            alloc,
+            MAX_BYTES,
+            &mut FromRead::new(open(rt, path)?),
+            output,
+        )
     }
 }
 

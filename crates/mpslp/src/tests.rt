@@ -4,10 +4,9 @@ use crate::{End, Job, canon, finish, job_of, same};
 use mpslp_convert::RunFault;
 use mpslp_model::{Fault, FaultKind, NameAt, ToWrite};
 use std::alloc::{AllocError, Global};
-use std::fs;
-use std::io;
 use std::rt::Files;
 use std::test::Fail;
+use std::{fs, io};
 
 /// Words behind the program's name, and the job that they ask for.
 const JOBS: [(&str, Option<Job<'static>>); 14] = [
@@ -127,13 +126,19 @@ fn missing_end() -> Fault {
 fn ends_are_told(rt: HostRuntime) {
     for (end, status, line) in ends() {
         let mut told = Vec::new(rt.alloc());
-        assert_eq!(rt; finish(&mut ToWrite::new(&mut told), &end), status, "at {line}");
+        assert_eq!(rt;
+            finish(&mut ToWrite::new(&mut told), &end),
+            status,
+            "at {line}"
+        );
         assert_eq!(rt; told.as_slice(), line.as_bytes());
     }
 }
 
 const SMALL: &str = "ROWS\n N C\nCOLUMNS\n X C 1.0\nENDATA\n";
+
 const SMALL_CANONICAL: &str = "NAME\nROWS\n N  C\nCOLUMNS\n    X  C  1\nENDATA\n";
+
 const OTHER: &str = "ROWS\n N C\nCOLUMNS\n X C 2\nENDATA\n";
 
 /// The files of these tests, in the folder where they run.
@@ -211,7 +216,11 @@ fn two_files_are_compared(rt: HostRuntime) -> Result<(), Fail> {
             Ok(end) => end,
             Err(end) => end,
         };
-        assert_eq!(rt; finish(&mut ToWrite::new(&mut told), &end), status, "at {first} {second}");
+        assert_eq!(rt;
+            finish(&mut ToWrite::new(&mut told), &end),
+            status,
+            "at {first} {second}"
+        );
         assert_eq!(rt; output.as_slice(), line.as_bytes(), "at {first} {second}");
         assert_eq!(rt; told.as_slice(), fault.as_bytes(), "at {first} {second}");
     }

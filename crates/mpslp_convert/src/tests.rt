@@ -277,7 +277,7 @@ ENDATA
 ";
 
 /// Files and their canonical texts.
-const CONVERTED: [(&str, &str); 12] = [
+const CONVERTED: [(&str, &str); 13] = [
     (SMALL, SMALL_CANONICAL),
     (SMALL_WITH_TABS, SMALL_CANONICAL),
     (SMALL_CANONICAL, SMALL_CANONICAL),
@@ -291,6 +291,10 @@ const CONVERTED: [(&str, &str); 12] = [
     (
         "ROWS\n N C\nCOLUMNS\n X C 1\nRHS\n    RHS  C  5\nENDATA\n",
         "NAME\nROWS\n N  C\nCOLUMNS\n    X  C  1\nRHS\n    RHS  C  5\nENDATA\n",
+    ),
+    (
+        "ROWS\n N C\n G c1\nCOLUMNS\n x c1 0.1234567890123456789\nRHS\n c1 1e-10\nRANGES\n c1 9999999999999999999.9999999999\nENDATA\n",
+        "NAME\nROWS\n N  C\n G  c1\nCOLUMNS\n    x  c1  1234567890123456789e-19\nRHS\n    RHS  c1  0.0000000001\nRANGES\n    RNG  c1  9999999999999999999.9999999999\nENDATA\n",
     ),
     ("", "file: MissingEnd\n"),
 ];

@@ -356,7 +356,7 @@ ENDATA
 const RIGHT_SIDES: [(&str, &str); 4] = [
     (" LIM1 -1e20\n", "file: InfiniteLimit LIM1"),
     (" MYG 9e19\nRANGES\n MYG 9e19\n", "file: LimitTooLarge MYG"),
-    (" MYG 1e19\nRANGES\n MYG 1e-10\n", "file: RangeInexact MYG"),
+    (" MYG 1e19\nRANGES\n MYG 1e-20\n", "file: RangeInexact MYG"),
     (
         " LIM1 1e20\n",
         "minimize COST 0 0\nLIM1 N -inf inf 0 0\nMYG G 0 inf 0 0\nX 0 inf 1 LIM1:1\nY 0 inf 0 MYG:1\n",
@@ -424,7 +424,11 @@ const CHANGES: [(usize, &str, &str); 25] = [
     (4, " L  C", "line 4: DuplicateRow"),
     (4, " L  \u{7f}R", "line 4: BadByte"),
     (6, "    X  C  1e501", "line 6: ExponentRange"),
-    (6, "    X  C  1234567890123456789", "line 6: TooManyDigits"),
+    (
+        6,
+        "    X  C  1234567890123456789012345678901234567",
+        "line 6: TooManyDigits",
+    ),
 ];
 
 #[test]
