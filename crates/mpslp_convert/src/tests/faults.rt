@@ -1,6 +1,9 @@
 //! Each kind of fault of an MPS file, in each section where it can come.
 
 use super::{MUCH, told};
+use crate::{ConvertFault, RunFault, canonical, report};
+use mpslp_model::ToWrite;
+use mpslp_write::Mps;
 use std::alloc::{AllocError, Global};
 use std::process::Abort;
 use std::test::Fail;
@@ -332,11 +335,26 @@ fn changed(alloc: Global, number: usize, lines: &str) -> Result<Vec<u8>, AllocEr
     Ok(text)
 }
 
+/// The line of the fault for which a text is not converted; nothing where it is, or memory was refused.
+fn refused(alloc: Global, text: &[u8]) -> Vec<u8> {
+    let mut line = Vec::new(alloc);
+    if let Err(ConvertFault::First(fault)) = canonical::<Mps, Mps>(alloc, text) {
+        let mut sink = ToWrite::new(&mut line);
+        let _ = report(&RunFault::File(fault), &mut sink);
+    }
+    line
+}
+
 fn are_told(rt: &impl Abort, alloc: Global, changes: &[Change]) -> Result<(), Fail> {
     for (number, lines, expected) in changes {
         let text = changed(alloc, *number, lines)?;
         assert_eq!(rt;
             told(alloc, MUCH, &text)?.as_slice(),
+            expected.as_bytes(),
+            "at {lines}"
+        );
+        assert_eq!(rt;
+            refused(alloc, &text).as_slice(),
             expected.as_bytes(),
             "at {lines}"
         );
