@@ -3,11 +3,11 @@ use Rattle.std.proofs.Common.{◌≡◌, refl, List, [], ◌∷◌, ℕ}
 use Rattle.std.specs.Prelude.{Some, Ok}
 use Rattle.mpslp_decimal.specs.Decimal.{Number}
 use Rattle.mpslp_decimal.specs.Literal.{number_of}
-use Rattle.mpslp_model.specs.Model.{limit_of}
+use Rattle.mpslp_types.specs.Sides.{limit_of}
 use Rattle.mpslp_model.specs.Declaration.{declare_lower, declare_upper, Declarations, Draft}
 use Rattle.mpslp_model.specs.Lists.{those_of}
-use Rattle.mpslp_model.specs.declared.kinds.Limit.TheVariants.{MinusInf, Finite, PlusInf}
-use Rattle.mpslp_model.proofs.EachLemmas.{Each, Each-append}
+use Rattle.mpslp_types.specs.declared.kinds.Limit.TheVariants.{MinusInf, Finite, PlusInf}
+use Rattle.mpslp_types.proofs.EachLemmas.{Each, Each-append}
 use Rattle.mpslp_mps.specs.Line.{Fields, Item, data_line}
 use Rattle.mpslp_mps.specs.BoundLine.{letters_of}
 use Rattle.mpslp_mps.specs.Context.{context_of, current_section, data_lines, bound_set, first_set}

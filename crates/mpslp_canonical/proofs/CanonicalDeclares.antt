@@ -5,7 +5,7 @@ use Rattle.mpslp_model.specs.Model.{LinearModel, IsSound}
 use Rattle.mpslp_model.specs.Declaration.{Declarations, empty_draft}
 use Rattle.mpslp_model.specs.Meaning.{Means}
 use Rattle.mpslp_model.specs.Consistency.{AreConsistent}
-use Rattle.mpslp_model.proofs.BoolLemmas.{both_so}
+use Rattle.mpslp_types.proofs.BoolLemmas.{both_so}
 use Rattle.mpslp_mps.specs.Line.{is_legal_line, item_of}
 use Rattle.mpslp_mps.specs.MpsText.{read_lines, has_end, declarations_of, DeclaresMps}
 use Rattle.mpslp_mps.proofs.PlacedLemmas.{declared_items, have_good_form, lines-declare, lines-good}

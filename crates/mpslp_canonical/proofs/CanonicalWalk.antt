@@ -4,18 +4,17 @@ use Rattle.std.specs.Prelude.{is_none, ◌||◌}
 use Rattle.std.specs.List.{flat_map}
 use Rattle.std.proofs.lemmas.List.{append-nil}
 use Rattle.mpslp_model.specs.Declaration.{Declarations, Draft, is_free_row}
-use Rattle.mpslp_model.proofs.EachLemmas.{Each}
+use Rattle.mpslp_types.proofs.EachLemmas.{Each}
 use Rattle.mpslp_mps.specs.Line.{Item}
 use Rattle.mpslp_mps.specs.Section.{begins}
 use Rattle.mpslp_mps.specs.Context.{has_section, is_read, data_lines}
-use Rattle.mpslp_canonical.proofs.HeaderWalk.{is_bare, wants_word}
+use Rattle.mpslp_canonical.proofs.HeaderWalk.{is_bare, wants_word, header_item, MayStand, header-good, header-says, current-header, no-lines, settled-after}
 use Rattle.mpslp_mps.specs.declared.sections.Section.{Section}
 use Rattle.mpslp_mps.specs.declared.sections.Section.TheVariants.{Columns, Rhs, Ranges, Bounds, EndData}
 use Rattle.mpslp_mps.proofs.SectionLemmas.{has_section-push, data_lines-push}
 use Rattle.mpslp_canonical.proofs.ItemsWalk.{Walk, walk-nil, walk-cons, section-walk}
 use Rattle.mpslp_canonical.proofs.RowsWalk.{Side, side_item, side_decl, range_decl, ReadsAs, InSides, side_step, InRanges, range_step}
 use Rattle.mpslp_canonical.proofs.BoundsWalk.{Bound, bound_item, bound_decl, GoodBound, InBounds, bound_step}
-use Rattle.mpslp_canonical.proofs.HeaderWalk.{header_item, MayStand, header-good, header-says, current-header, no-lines, settled-after}
 use Rattle.mpslp_canonical.proofs.CanonicalItems.{under}
 
 -- ---- after COLUMNS: the sections that stand only where they have lines

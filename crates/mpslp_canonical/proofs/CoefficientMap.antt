@@ -6,10 +6,10 @@ use Rattle.std.specs.Option.{option_map}
 use Rattle.std.specs.Cmp.{first_so, second_so}
 use Rattle.std.specs.FinMap.{find}
 use Rattle.mpslp_decimal.specs.Decimal.{Number, is_decimal, is_zero}
-use Rattle.mpslp_model.specs.Name.{same_bytes, is_one_of}
+use Rattle.mpslp_types.specs.Name.{same_bytes, is_one_of}
 use Rattle.mpslp_model.specs.Model.{Column, CoefficientKey, key_cmp}
 use Rattle.mpslp_model.specs.Declaration.{empty_draft, names_in}
-use Rattle.mpslp_model.proofs.EachLemmas.{Each, Each-append, Each-flat_map, Each-all}
+use Rattle.mpslp_types.proofs.EachLemmas.{Each, Each-append, Each-flat_map, Each-all}
 use Rattle.mpslp_model.proofs.PutsLemmas.{puts, find-front, some_cons, some_append_left, some_append_right}
 use Rattle.mpslp_model.proofs.DraftLemmas.{coefficients-all}
 use Rattle.mpslp_model.proofs.DraftEntries.{same_key}

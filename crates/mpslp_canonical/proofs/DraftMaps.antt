@@ -7,11 +7,12 @@ use Rattle.std.specs.Cmp.Lexicographic.{texts_ties}
 use Rattle.std.specs.FinMap.{find, is_sorted}
 use Rattle.std.proofs.lemmas.List.{append-nil}
 use Rattle.mpslp_decimal.specs.Decimal.{Number, IsDecimal, is_decimal, is_zero, negated}
-use Rattle.mpslp_model.specs.Name.{is_mps_name, is_one_of}
-use Rattle.mpslp_model.specs.Model.{Column, CoefficientKey, bytes_cmp, key_cmp, is_sound_row, is_sound_column}
+use Rattle.mpslp_types.specs.Name.{is_mps_name, is_one_of, bytes_cmp}
+use Rattle.mpslp_model.specs.Model.{Column, CoefficientKey, key_cmp, is_sound_row, is_sound_column}
 use Rattle.mpslp_model.specs.Declaration.{RowForm, Draft, draft_of, empty_draft, at_name, has_name, names_in}
-use Rattle.mpslp_model.proofs.EachLemmas.{Each, Each-all}
-use Rattle.mpslp_model.proofs.PutsLemmas.{T_from, puts, puts-append, find-front, finds_own}
+use Rattle.mpslp_types.proofs.EachLemmas.{Each, Each-all}
+use Rattle.mpslp_types.proofs.BoolLemmas.{T_from}
+use Rattle.mpslp_model.proofs.PutsLemmas.{puts, puts-append, find-front, finds_own}
 use Rattle.mpslp_model.proofs.PartedLemmas.{parted-give}
 use Rattle.mpslp_model.proofs.DraftLemmas.{rows-all, rhs_values-all, ranges-all, columns-all, lowers-all, uppers-all, marked-all, integers-all, binaries-all}
 use Rattle.mpslp_model.proofs.MeaningFromNoFault.{sorted-mapped}

@@ -4,12 +4,13 @@ use Rattle.std.specs.Prelude.{◌&&◌, not, filter, unwrap_or}
 use Rattle.std.specs.Cmp.{first_so, second_so}
 use Rattle.std.specs.FinMap.{is_sorted, entries-from_sorted}
 use Rattle.mpslp_decimal.specs.Decimal.{is_zero}
-use Rattle.mpslp_model.specs.Model.{LinearModel, bytes_cmp, key_cmp}
+use Rattle.mpslp_model.specs.Model.{LinearModel, key_cmp}
+use Rattle.mpslp_types.specs.Name.{bytes_cmp}
 use Rattle.mpslp_model.specs.Declaration.{Draft}
 use Rattle.mpslp_model.specs.Bounds.{column_of}
 use Rattle.mpslp_model.specs.Meaning.{objective_name, constant_of, row_entry, model_of}
-use Rattle.mpslp_model.proofs.PutsLemmas.{T_from}
-use Rattle.mpslp_model.specs.declared.kinds.Sense.TheVariants.{Minimize}
+use Rattle.mpslp_types.proofs.BoolLemmas.{T_from}
+use Rattle.mpslp_types.specs.declared.kinds.Sense.TheVariants.{Minimize}
 use Rattle.mpslp_mps.specs.MpsText.{DeclaresMps}
 use Rattle.mpslp_mps.proofs.WorkedFiles.{draft_in, Passes, declares-from_passes}
 use Rattle.mpslp_canonical.specs.Printed.{text_of}

@@ -4,12 +4,12 @@ use Rattle.std.specs.Prelude.{Some, None, is_none, codes, filter_map}
 use Rattle.std.specs.List.{flat_map, last_or}
 use Rattle.std.specs.Option.{option_map_or}
 use Rattle.std.proofs.lemmas.List.{append-nil}
-use Rattle.mpslp_model.specs.Name.{is_mps_name, same_bytes}
+use Rattle.mpslp_types.specs.Name.{is_mps_name, same_bytes}
 use Rattle.mpslp_model.specs.Declaration.{declare_sense, declare_objective, Declarations, Draft, empty_draft, adding, adding_all}
-use Rattle.mpslp_model.specs.declared.kinds.Sense.{Sense}
-use Rattle.mpslp_model.specs.declared.kinds.Sense.TheVariants.{Minimize, Maximize}
-use Rattle.mpslp_model.specs.declared.kinds.RowType.TheVariants.{Free}
-use Rattle.mpslp_model.proofs.EachLemmas.{Each}
+use Rattle.mpslp_types.specs.declared.kinds.Sense.{Sense}
+use Rattle.mpslp_types.specs.declared.kinds.Sense.TheVariants.{Minimize, Maximize}
+use Rattle.mpslp_types.specs.declared.kinds.RowType.TheVariants.{Free}
+use Rattle.mpslp_types.proofs.EachLemmas.{Each}
 use Rattle.mpslp_mps.specs.Line.{Fields, Item, data_line}
 use Rattle.mpslp_mps.specs.DataLine.{letter_of, opening_word}
 use Rattle.mpslp_mps.specs.Context.{context_of, current_section, data_lines, marker_word, line_column, in_integer_part, last_column}

@@ -5,17 +5,18 @@ use Rattle.std.specs.List.{flat_map}
 use Rattle.std.specs.Option.{option_map_or}
 use Rattle.mpslp_decimal.specs.Decimal.{Number, IsDecimal, is_zero, zero_number, negated}
 use Rattle.mpslp_decimal.proofs.NumberTextLemmas.{number-text}
-use Rattle.mpslp_model.specs.Name.{is_mps_name}
-use Rattle.mpslp_model.specs.Model.{Row, Column, bytes_cmp, is_bounded_decimal, is_lower_side, is_upper_side, is_sound_row, is_sound_column}
+use Rattle.mpslp_types.specs.Name.{is_mps_name, bytes_cmp}
+use Rattle.mpslp_model.specs.Model.{Row, Column, is_sound_row, is_sound_column}
+use Rattle.mpslp_types.specs.Sides.{is_bounded_decimal, is_lower_side, is_upper_side}
 use Rattle.mpslp_model.specs.Declaration.{RowForm, by_type, Declaration, declare_objective, Draft, empty_draft, adding, adding_all, at_name, is_free_form, is_free_row}
-use Rattle.mpslp_model.specs.declared.kinds.Sense.{Sense}
-use Rattle.mpslp_model.specs.declared.kinds.Sense.TheVariants.{Minimize, Maximize}
-use Rattle.mpslp_model.specs.declared.kinds.Kind.{Kind}
-use Rattle.mpslp_model.specs.declared.kinds.Kind.TheVariants.{Continuous, Integer}
-use Rattle.mpslp_model.specs.declared.kinds.Limit.{Limit}
-use Rattle.mpslp_model.specs.declared.kinds.Limit.TheVariants.{MinusInf, Finite, PlusInf}
-use Rattle.mpslp_model.proofs.BoolLemmas.{back}
-use Rattle.mpslp_model.proofs.EachLemmas.{Each, Each-weaker, Each-append, Each-map, Each-flat_map, Each-all}
+use Rattle.mpslp_types.specs.declared.kinds.Sense.{Sense}
+use Rattle.mpslp_types.specs.declared.kinds.Sense.TheVariants.{Minimize, Maximize}
+use Rattle.mpslp_types.specs.declared.kinds.Kind.{Kind}
+use Rattle.mpslp_types.specs.declared.kinds.Kind.TheVariants.{Continuous, Integer}
+use Rattle.mpslp_types.specs.declared.kinds.Limit.{Limit}
+use Rattle.mpslp_types.specs.declared.kinds.Limit.TheVariants.{MinusInf, Finite, PlusInf}
+use Rattle.mpslp_types.proofs.BoolLemmas.{back}
+use Rattle.mpslp_types.proofs.EachLemmas.{Each, Each-weaker, Each-append, Each-map, Each-flat_map, Each-all}
 use Rattle.mpslp_model.proofs.PutsLemmas.{puts}
 use Rattle.mpslp_model.proofs.CoefficientLemmas.{flat_map-flat_map}
 use Rattle.mpslp_model.proofs.DraftLemmas.{row_part, rows-all}
@@ -35,7 +36,7 @@ use Rattle.mpslp_canonical.proofs.WholeParts.{kept-all}
 use Rattle.mpslp_canonical.proofs.ListedParts.{form_told, row_forms, rows-made}
 use Rattle.mpslp_canonical.proofs.DraftMaps.{IsSoundListing, one_of-names, none_is, own-found, names_sorted, at-mapped}
 use Rattle.mpslp_canonical.proofs.ListingFacts.{row_named, row_sides, row_distance, column_sides, bounded_so, bounded_finite, lower_of, upper_of}
-use Rattle.mpslp_model.specs.declared.kinds.RowType.TheVariants.{AtLeast, Equal}
+use Rattle.mpslp_types.specs.declared.kinds.RowType.TheVariants.{AtLeast, Equal}
 use Rattle.mpslp_canonical.proofs.PrintableLemmas.{Holds, side-decimal, range-decimal, negated-decimal}
 use Rattle.mpslp_canonical.proofs.GoodColumns.{are-columns}
 

@@ -6,8 +6,8 @@ use Rattle.std.specs.Option.{option_or, option_map_or}
 use Rattle.std.proofs.lemmas.List.{append-nil}
 use Rattle.std.proofs.lemmas.List.Folds.{list_any-append}
 use Rattle.mpslp_model.specs.Declaration.{declare_sense, Draft}
-use Rattle.mpslp_model.specs.declared.kinds.Sense.TheVariants.{Maximize}
-use Rattle.mpslp_model.proofs.BoolLemmas.{nor, back}
+use Rattle.mpslp_types.specs.declared.kinds.Sense.TheVariants.{Maximize}
+use Rattle.mpslp_types.proofs.BoolLemmas.{nor, back}
 use Rattle.mpslp_mps.specs.Line.{Fields, Item, skipped, header, data_line}
 use Rattle.mpslp_mps.specs.Section.{keyword_of, section_begun, section_named, begins, is_section}
 use Rattle.mpslp_mps.specs.Context.{context_of, current_section, has_section, seen_in, has_seen, fields_under, data_lines_after, data_lines, is_read, wanting, wanted}

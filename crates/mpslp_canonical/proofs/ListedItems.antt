@@ -5,13 +5,13 @@ use Rattle.std.specs.List.{flat_map}
 use Rattle.std.proofs.lemmas.List.{map-append}
 use Rattle.mpslp_decimal.specs.Decimal.{Number, is_zero, negated}
 use Rattle.mpslp_model.specs.Model.{Column}
-use Rattle.mpslp_model.specs.declared.kinds.Sense.{Sense}
-use Rattle.mpslp_model.specs.declared.kinds.Sense.TheVariants.{Minimize, Maximize}
-use Rattle.mpslp_model.specs.declared.kinds.Kind.{Kind}
-use Rattle.mpslp_model.specs.declared.kinds.Kind.TheVariants.{Continuous, Integer}
-use Rattle.mpslp_model.specs.declared.kinds.Limit.{Limit}
-use Rattle.mpslp_model.specs.declared.kinds.Limit.TheVariants.{MinusInf, Finite, PlusInf}
-use Rattle.mpslp_model.proofs.EachLemmas.{Each, Each-append}
+use Rattle.mpslp_types.specs.declared.kinds.Sense.{Sense}
+use Rattle.mpslp_types.specs.declared.kinds.Sense.TheVariants.{Minimize, Maximize}
+use Rattle.mpslp_types.specs.declared.kinds.Kind.{Kind}
+use Rattle.mpslp_types.specs.declared.kinds.Kind.TheVariants.{Continuous, Integer}
+use Rattle.mpslp_types.specs.declared.kinds.Limit.{Limit}
+use Rattle.mpslp_types.specs.declared.kinds.Limit.TheVariants.{MinusInf, Finite, PlusInf}
+use Rattle.mpslp_types.proofs.EachLemmas.{Each, Each-append}
 use Rattle.mpslp_mps.specs.Line.{Item}
 use Rattle.mpslp_mps.specs.DataLine.{closing_word}
 use Rattle.mpslp_mps.specs.declared.sections.Section.TheVariants.{Name, Rows, Columns, Rhs, Ranges, Bounds, EndData}

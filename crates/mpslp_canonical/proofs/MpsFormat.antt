@@ -2,8 +2,8 @@
 use Rattle.std.proofs.Common.{◌≡◌, refl, List, ℕ}
 use Rattle.std.specs.Prelude.{Option, None}
 use Rattle.mpslp_model.specs.Model.{LinearModel, IsSound}
-use Rattle.mpslp_model.specs.declared.faults.Fault.{Fault}
-use Rattle.mpslp_model.specs.declared.faults.NameAt.{NameAt}
+use Rattle.mpslp_types.specs.declared.faults.Fault.{Fault}
+use Rattle.mpslp_types.specs.declared.faults.NameAt.{NameAt}
 use Rattle.mpslp_mps.specs.MpsText.{DeclaresMps}
 use Rattle.mpslp_mps.specs.FirstFault.{IsFirstMpsFault}
 use Rattle.mpslp_mps.proofs.ModelOrFault.{model-or_fault}

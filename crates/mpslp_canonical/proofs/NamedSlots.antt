@@ -3,12 +3,12 @@ use Rattle.std.proofs.Common.{◌≡◌, refl, sym, ap, ◌∙◌, List, [], ◌
 use Rattle.std.specs.Prelude.{Option, Some, None, is_some}
 use Rattle.std.specs.List.{flat_map, list_any}
 use Rattle.mpslp_decimal.specs.Decimal.{Number, negated}
-use Rattle.mpslp_model.specs.Name.{same_bytes}
-use Rattle.mpslp_model.specs.Model.{Row, bytes_cmp}
+use Rattle.mpslp_types.specs.Name.{same_bytes, bytes_cmp}
+use Rattle.mpslp_model.specs.Model.{Row}
 use Rattle.mpslp_model.specs.Declaration.{names_in, at_name}
 use Rattle.mpslp_model.specs.Lists.{are_distinct}
 use Rattle.mpslp_model.specs.Consistency.{Slot, objective_slot, row_slot, rhs_slot, range_slot, same_slot, slots_of}
-use Rattle.mpslp_model.proofs.BoolLemmas.{both_so, so_not}
+use Rattle.mpslp_types.proofs.BoolLemmas.{both_so, so_not}
 use Rattle.mpslp_model.proofs.DistinctLemmas.{distinct-sorted}
 use Rattle.mpslp_model.proofs.SlotLemmas.{same_name}
 use Rattle.mpslp_model.proofs.SortedDrafts.{bytes_total, tied_names}

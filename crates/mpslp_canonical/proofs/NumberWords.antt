@@ -11,9 +11,9 @@ use Rattle.mpslp_decimal.specs.declared.literal.NumberFault.{NumberFault}
 use Rattle.mpslp_decimal.specs.declared.literal.NumberFault.TheVariants.{BadNumber, LongNumber, TooManyDigits, ExponentRange}
 use Rattle.mpslp_decimal.proofs.CutLemmas.{after-none}
 use Rattle.mpslp_decimal.proofs.NumberTextLemmas.{number-text, read-short}
-use Rattle.mpslp_model.specs.Name.{is_visible}
-use Rattle.mpslp_model.proofs.BoolLemmas.{nor}
-use Rattle.mpslp_model.proofs.EachLemmas.{Each, Each-weaker, Each-from_list_all}
+use Rattle.mpslp_types.specs.Name.{is_visible}
+use Rattle.mpslp_types.proofs.BoolLemmas.{nor}
+use Rattle.mpslp_types.proofs.EachLemmas.{Each, Each-weaker, Each-from_list_all}
 use Rattle.mpslp_canonical.proofs.TextLemmas.{Word}
 
 abbrev Visible : List ℕ → Type 0

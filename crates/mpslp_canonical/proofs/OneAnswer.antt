@@ -1,7 +1,7 @@
 -- Bytes declare one model, and have one first fault.
 use Rattle.std.proofs.Common.{◌≡◌, sym, ◌∙◌}
 use Rattle.std.specs.Prelude.{Some}
-use Rattle.mpslp_model.specs.declared.faults.Fault.{Fault}
+use Rattle.mpslp_types.specs.declared.faults.Fault.{Fault}
 use Rattle.mpslp_mps.specs.Laws.{DeclareOneModel, HaveOneFirstFault}
 
 pub one-model : DeclareOneModel

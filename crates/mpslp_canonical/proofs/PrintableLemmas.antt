@@ -10,17 +10,18 @@ use Rattle.std.specs.FinMap.{entries, find}
 use Rattle.std.proofs.lemmas.Bool.{ltb-true, leb-true}
 use Rattle.mpslp_decimal.specs.Decimal.{Number, IsDecimal, is_decimal, is_zero, is_infinite_size, zero_number, negated, difference_of}
 use Rattle.mpslp_decimal.specs.NumberText.{number_text}
-use Rattle.mpslp_model.specs.Name.{is_mps_name, has_name_length, is_visible, same_bytes, marker}
-use Rattle.mpslp_model.specs.Model.{LinearModel, Row, Column, CoefficientKey, key_cmp, is_bounded_decimal, is_lower_side, is_upper_side, is_at_most, are_sides, has_bounded_distance, is_sound_row, is_sound_column, is_sound_coefficient, IsSound}
-use Rattle.mpslp_model.specs.declared.kinds.Sense.{Sense}
-use Rattle.mpslp_model.specs.declared.kinds.Sense.TheVariants.{Minimize, Maximize}
-use Rattle.mpslp_model.specs.declared.kinds.Kind.{Kind}
-use Rattle.mpslp_model.specs.declared.kinds.Kind.TheVariants.{Continuous, Integer}
-use Rattle.mpslp_model.specs.declared.kinds.Limit.{Limit}
-use Rattle.mpslp_model.specs.declared.kinds.Limit.TheVariants.{MinusInf, Finite, PlusInf}
-use Rattle.mpslp_model.specs.declared.kinds.RowType.{RowType}
-use Rattle.mpslp_model.specs.declared.kinds.RowType.TheVariants.{Free, AtMost, AtLeast, Equal}
-use Rattle.mpslp_model.proofs.EachLemmas.{Each, Each-weaker, Each-append, Each-map, Each-flat_map, Each-filter, Each-from_list_all}
+use Rattle.mpslp_types.specs.Name.{is_mps_name, has_name_length, is_visible, same_bytes, marker}
+use Rattle.mpslp_model.specs.Model.{LinearModel, Row, Column, CoefficientKey, key_cmp, is_sound_row, is_sound_column, is_sound_coefficient, IsSound}
+use Rattle.mpslp_types.specs.Sides.{is_bounded_decimal, is_lower_side, is_upper_side, is_at_most, are_sides, has_bounded_distance}
+use Rattle.mpslp_types.specs.declared.kinds.Sense.{Sense}
+use Rattle.mpslp_types.specs.declared.kinds.Sense.TheVariants.{Minimize, Maximize}
+use Rattle.mpslp_types.specs.declared.kinds.Kind.{Kind}
+use Rattle.mpslp_types.specs.declared.kinds.Kind.TheVariants.{Continuous, Integer}
+use Rattle.mpslp_types.specs.declared.kinds.Limit.{Limit}
+use Rattle.mpslp_types.specs.declared.kinds.Limit.TheVariants.{MinusInf, Finite, PlusInf}
+use Rattle.mpslp_types.specs.declared.kinds.RowType.{RowType}
+use Rattle.mpslp_types.specs.declared.kinds.RowType.TheVariants.{Free, AtMost, AtLeast, Equal}
+use Rattle.mpslp_types.proofs.EachLemmas.{Each, Each-weaker, Each-append, Each-map, Each-flat_map, Each-filter, Each-from_list_all}
 use Rattle.mpslp_mps.specs.Line.{Fields}
 use Rattle.mpslp_mps.specs.DataLine.{letter_of, opening_word, closing_word}
 use Rattle.mpslp_mps.specs.BoundLine.{letters_of}

@@ -6,9 +6,9 @@ use Rattle.std.specs.Option.{option_map_or}
 use Rattle.std.specs.Str.Lines.{lines}
 use Rattle.mpslp_decimal.specs.Decimal.{Number, is_zero, negated}
 use Rattle.mpslp_model.specs.Model.{Row, Column}
-use Rattle.mpslp_model.specs.declared.kinds.Sense.{Sense}
-use Rattle.mpslp_model.specs.declared.kinds.Sense.TheVariants.{Minimize, Maximize}
-use Rattle.mpslp_model.proofs.EachLemmas.{Each, Each-append, Each-map, Each-flat_map, Each-all}
+use Rattle.mpslp_types.specs.declared.kinds.Sense.{Sense}
+use Rattle.mpslp_types.specs.declared.kinds.Sense.TheVariants.{Minimize, Maximize}
+use Rattle.mpslp_types.proofs.EachLemmas.{Each, Each-append, Each-map, Each-flat_map, Each-all}
 use Rattle.mpslp_mps.specs.Section.{begins}
 use Rattle.mpslp_mps.specs.DataLine.{closing_word}
 use Rattle.mpslp_mps.specs.MpsText.{is_end}

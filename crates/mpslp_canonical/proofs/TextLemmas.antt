@@ -6,9 +6,9 @@ use Rattle.std.specs.Str.Lines.{lines, lines_of_parts, strip_carriage_return}
 use Rattle.std.proofs.lemmas.Bool.{lt-ltb}
 use Rattle.std.proofs.lemmas.Bool.Decides.{nat_tests}
 use Rattle.std.proofs.lemmas.List.{append-nil}
-use Rattle.mpslp_model.specs.Name.{is_visible}
-use Rattle.mpslp_model.proofs.BoolLemmas.{both_so}
-use Rattle.mpslp_model.proofs.EachLemmas.{Each, Each-weaker, Each-append, list_all-from_Each}
+use Rattle.mpslp_types.specs.Name.{is_visible}
+use Rattle.mpslp_types.proofs.BoolLemmas.{both_so}
+use Rattle.mpslp_types.proofs.EachLemmas.{Each, Each-weaker, Each-append, list_all-from_Each}
 use Rattle.mpslp_mps.specs.Line.{Fields, skipped, header, data_line, header_of, item_of, fields, is_blank, is_comment, is_skipped, is_data, outside_comment, is_legal_line}
 use Rattle.mpslp_reading.specs.LegalLine.{is_legal_byte, has_legal_length}
 use Rattle.mpslp_reading.specs.declared.lines.TheConstants.{MAX_LINE_LEN}

@@ -4,15 +4,15 @@ use Rattle.std.specs.Prelude.{Option, Some, None, is_some, is_none, ◌||◌, co
 use Rattle.std.specs.List.{flat_map}
 use Rattle.std.proofs.lemmas.List.{append-nil}
 use Rattle.std.proofs.lemmas.List.Folds.{list_any-append}
-use Rattle.mpslp_model.specs.Name.{is_mps_name}
+use Rattle.mpslp_types.specs.Name.{is_mps_name}
 use Rattle.mpslp_model.specs.Declaration.{declare_objective, Declarations, Draft, empty_draft, adding_all, is_free_row}
-use Rattle.mpslp_model.specs.declared.kinds.Sense.{Sense}
-use Rattle.mpslp_model.specs.declared.kinds.Sense.TheVariants.{Minimize, Maximize}
-use Rattle.mpslp_model.proofs.EachLemmas.{Each}
+use Rattle.mpslp_types.specs.declared.kinds.Sense.{Sense}
+use Rattle.mpslp_types.specs.declared.kinds.Sense.TheVariants.{Minimize, Maximize}
+use Rattle.mpslp_types.proofs.EachLemmas.{Each}
 use Rattle.mpslp_mps.specs.Line.{Item}
 use Rattle.mpslp_mps.specs.Section.{begins, section_begun}
 use Rattle.mpslp_mps.specs.Context.{has_section, is_read}
-use Rattle.mpslp_canonical.proofs.HeaderWalk.{is_bare, wants_word}
+use Rattle.mpslp_canonical.proofs.HeaderWalk.{is_bare, wants_word, header_item, MayStand, has_section-data, settled-after}
 use Rattle.mpslp_mps.specs.declared.sections.Section.{Section}
 use Rattle.mpslp_mps.specs.declared.sections.Section.TheVariants.{Name, ObjSense, Rows, Columns, Rhs, Ranges, Bounds, EndData}
 use Rattle.mpslp_canonical.proofs.ItemsWalk.{Walk, walk-append}
@@ -20,7 +20,6 @@ use Rattle.mpslp_reading.proofs.ObjectiveLemmas.{named-after}
 use Rattle.mpslp_canonical.proofs.RowsWalk.{RowItem, row_item, row_decl, Side, side_item, side_decl, range_decl, ReadsAs}
 use Rattle.mpslp_canonical.proofs.ColumnsWalk.{Cell, cell_item, cell_decl, Group, cells_of}
 use Rattle.mpslp_canonical.proofs.BoundsWalk.{Bound, bound_item, bound_decl, GoodBound}
-use Rattle.mpslp_canonical.proofs.HeaderWalk.{header_item, MayStand, has_section-data, settled-after}
 use Rattle.mpslp_canonical.proofs.CanonicalItems.{under}
 use Rattle.mpslp_canonical.proofs.CanonicalWalk.{IsLate, data-settled, sides-walk, ranges-walk, bounds-walk, end-walk}
 use Rattle.mpslp_canonical.proofs.EarlyWalk.{sense_items, sense_decl, start-walk, rows-may, objective_item, rows-walk, marker_item, part_items, AreColumns, columns-walk}

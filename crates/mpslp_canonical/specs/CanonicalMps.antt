@@ -5,13 +5,13 @@ use Rattle.std.specs.Option.{option_map, option_map_or}
 use Rattle.std.specs.FinMap.{find}
 use Rattle.mpslp_decimal.specs.Decimal.{Number, is_zero, negated, zero_number}
 use Rattle.mpslp_decimal.specs.NumberText.{number_text}
-use Rattle.mpslp_model.specs.Name.{marker}
+use Rattle.mpslp_types.specs.Name.{marker}
 use Rattle.mpslp_model.specs.Model.{LinearModel, Row, Column, CoefficientKey, key_cmp}
-use Rattle.mpslp_model.specs.declared.kinds.Sense.{Sense}
-use Rattle.mpslp_model.specs.declared.kinds.Sense.TheVariants.{Minimize, Maximize}
-use Rattle.mpslp_model.specs.declared.kinds.Kind.{Kind}
-use Rattle.mpslp_model.specs.declared.kinds.Kind.TheVariants.{Continuous, Integer}
-use Rattle.mpslp_model.specs.declared.kinds.RowType.TheVariants.{Free}
+use Rattle.mpslp_types.specs.declared.kinds.Sense.{Sense}
+use Rattle.mpslp_types.specs.declared.kinds.Sense.TheVariants.{Minimize, Maximize}
+use Rattle.mpslp_types.specs.declared.kinds.Kind.{Kind}
+use Rattle.mpslp_types.specs.declared.kinds.Kind.TheVariants.{Continuous, Integer}
+use Rattle.mpslp_types.specs.declared.kinds.RowType.TheVariants.{Free}
 use Rattle.mpslp_mps.specs.Section.{keyword_of}
 use Rattle.mpslp_mps.specs.DataLine.{letter_of, opening_word, closing_word}
 use Rattle.mpslp_mps.specs.BoundLine.{letters_of}

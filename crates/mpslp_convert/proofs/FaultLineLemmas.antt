@@ -6,13 +6,13 @@ use Rattle.std.specs.List.{list_all}
 use Rattle.std.proofs.lemmas.Bool.Decides.{nat_tests}
 use Rattle.std.proofs.lemmas.List.{length-append}
 use Rattle.mpslp_io.specs.Devices.{TookMore}
-use Rattle.mpslp_model.specs.FaultName.{kind_name}
+use Rattle.mpslp_types.specs.FaultName.{kind_name}
 use Rattle.mpslp_model.specs.Formats.{TookFirst}
 use Rattle.mpslp_convert.specs.FaultLine.{fault_text, fault_line}
 use Rattle.mpslp_convert.specs.declared.faults.RunFault.{RunFault}
-use Rattle.mpslp_model.specs.Name.{IsMpsName, has_name_length, is_visible, same_bytes, marker}
-use Rattle.mpslp_model.specs.declared.faults.FaultKind.{FaultKind}
-use Rattle.mpslp_model.specs.declared.faults.FaultKind.TheVariants.{LineTooLong, BadByte, Quadratic, Sos, Indicator, SemiContinuous, UnknownSection, SectionOrder, SectionRepeated, FieldCount, BadToken, BadType, BadMarker, NameLength, NameByte, NameMarker, NameLikeExponent, BadNumber, LongNumber, TooManyDigits, ExponentRange, SecondSet, UnknownRow, UnknownColumn, ColumnSplit, DuplicateRow, DuplicateEntry, DuplicateRhs, DuplicateRange, DuplicateBound, RangeOnFree, ConstantInRow, MixedSenses, InfiniteValue, MissingEnd, NoColumns, InfiniteLimit, RangeInexact, LimitTooLarge, LimitsCrossed, NegativeUpper, BoundsCrossed, BinaryBounds}
+use Rattle.mpslp_types.specs.Name.{IsMpsName, has_name_length, is_visible, same_bytes, marker}
+use Rattle.mpslp_types.specs.declared.faults.FaultKind.{FaultKind}
+use Rattle.mpslp_types.specs.declared.faults.FaultKind.TheVariants.{LineTooLong, BadByte, Quadratic, Sos, Indicator, SemiContinuous, UnknownSection, SectionOrder, SectionRepeated, FieldCount, BadToken, BadType, BadMarker, NameLength, NameByte, NameMarker, NameLikeExponent, BadNumber, LongNumber, TooManyDigits, ExponentRange, SecondSet, UnknownRow, UnknownColumn, ColumnSplit, DuplicateRow, DuplicateEntry, DuplicateRhs, DuplicateRange, DuplicateBound, RangeOnFree, ConstantInRow, MixedSenses, InfiniteValue, MissingEnd, NoColumns, InfiniteLimit, RangeInexact, LimitTooLarge, LimitsCrossed, NegativeUpper, BoundsCrossed, BinaryBounds}
 
 pub kind_name-short : (kind : FaultKind) → length (kind_name kind) ≤ 16
 kind_name-short LineTooLong = lit≤ tt

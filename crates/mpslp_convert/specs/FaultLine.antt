@@ -1,9 +1,9 @@
 -- How the fault of a run is told: its line, and the exit status of a program that it ends.
 use Rattle.std.specs.Prelude.{ℕ, List, [], ◌++◌, Option, None, Some, ◌==◌, if◌then◌else◌, codes, decimal}
-use Rattle.mpslp_model.specs.FaultName.{kind_name}
-use Rattle.mpslp_model.specs.declared.faults.Fault.{Fault}
-use Rattle.mpslp_model.specs.declared.faults.NameAt.{NameAt}
-use Rattle.mpslp_model.specs.declared.faults.NameAt.TheVariants.{Objective, Row, Column}
+use Rattle.mpslp_types.specs.FaultName.{kind_name}
+use Rattle.mpslp_types.specs.declared.faults.Fault.{Fault}
+use Rattle.mpslp_types.specs.declared.faults.NameAt.{NameAt}
+use Rattle.mpslp_types.specs.declared.faults.NameAt.TheVariants.{Objective, Row, Column}
 use Rattle.mpslp_convert.specs.declared.faults.RunFault.{RunFault}
 use Rattle.mpslp_convert.specs.declared.faults.RunFault.TheVariants.{Read, TooLong, File, NotLp, Write, OutOfMemory}
 

@@ -3,8 +3,8 @@
 ghost use Rattle.std.specs.Prelude.{◌≡◌, ◌+◌, ◌-◌, ◌^◌, ◌≤◌, ℕ, List, true, false, None, Some, min, length, IfOk, OnOk, IsOkUnless};
 ghost use Rattle.std.specs.Io.KnownBytes.{IsAtEnd};
 ghost use Rattle.mpslp_model.specs.Model.{LinearModel};
-ghost use Rattle.mpslp_model.specs.declared.faults.Fault.{Fault};
-ghost use Rattle.mpslp_model.specs.declared.faults.NameAt.{NameAt};
+ghost use Rattle.mpslp_types.specs.declared.faults.Fault.{Fault};
+ghost use Rattle.mpslp_types.specs.declared.faults.NameAt.{NameAt};
 ghost use Rattle.mpslp_convert.specs.Conversions.{IsErrUnless};
 ghost use Rattle.mpslp_convert.specs.Runs.{SourceHeld, SourceHeldMore, IsLoad, IsPut, IsRun, TakesAtMost};
 

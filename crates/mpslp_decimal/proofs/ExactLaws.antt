@@ -1,8 +1,7 @@
 -- The order of decimals at the smaller of two exponents, and sums as whole numbers.
-use Rattle.std.proofs.Common.{◌≡◌, refl, sym, ap, ◌∙◌, ℕ, arith, ◌+◌, ◌-◌, ◌^◌, Bool, true, false, ℤ, pos, Option, Some, None}
+use Rattle.std.proofs.Common.{◌≡◌, refl, sym, ap, ◌∙◌, ℕ, arith, ◌-◌, ◌^◌, Bool, true, false, ℤ, pos, Some, None}
 use Rattle.std.specs.Prelude.{◌*ℤ◌, ◌+ℤ◌, ◌↔◌, if◌then◌else◌}
 use Rattle.std.specs.Ordering.{int_cmp}
-use Rattle.std.specs.declared.cmp.Ordering.{Ordering}
 use Rattle.std.specs.declared.cmp.Ordering.TheVariants.{Less}
 use Rattle.std.specs.Cmp.{int_cmp_is}
 use Rattle.std.proofs.lemmas.Cmp.{int_ranked}

@@ -2,7 +2,7 @@
 use Rattle.std.proofs.Common.{◌≡◌, refl, sym, ap, subst, ◌∙◌, ℕ, zero, suc, Bool, true, false, arith, ◌<◌, ◌≤◌, ◌+◌, ◌-◌, ◌*◌, ◌^◌, ◌%◌, ◌/◌, pow-suc, lit<}
 use Rattle.std.specs.Prelude.{ℤ, pos, negsuc, ◌+ℤ◌, ◌-ℤ◌, ◌*ℤ◌, ◌≤ℤ◌, neg_ℤ, unsigned_abs, int_le, int_lt, ◌&&◌, nat_lt, Some, None, Ok, Err, if◌then◌else◌}
 use Rattle.std.specs.Result.{result_ok}
-use Rattle.std.proofs.Math.Nat.{pow-le-pow_right, mul-le-mul}
+use Rattle.std.proofs.Math.Nat.{pow-le-pow_right}
 use Rattle.std.specs.Cmp.{first_so}
 use Rattle.std.proofs.Math.IntN.{*ℤ_comm, *ℤ-zero, suc_ℤ-*ℤ}
 use Rattle.std.proofs.lemmas.Int.{ints, unsigned_abs-mul}

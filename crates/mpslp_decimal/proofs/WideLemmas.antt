@@ -1,8 +1,8 @@
 -- What a result that 128 bits do not hold says of its size.
-use Rattle.std.proofs.Common.{◌≡◌, refl, sym, ap, subst, ◌∙◌, ℕ, Bool, true, false, arith, ◌<◌, ◌≤◌, ◌+◌, ◌*◌, ◌^◌, Option, Some, None}
+use Rattle.std.proofs.Common.{◌≡◌, refl, ap, ◌∙◌, ℕ, Bool, true, false, arith, ◌<◌, ◌≤◌, ◌*◌, ◌^◌, Option, Some, None}
 use Rattle.std.specs.Prelude.{ℤ, pos, ◌+ℤ◌, ◌*ℤ◌, unsigned_abs, nat_lt, FitsSigned, MatchOption}
 use Rattle.std.specs.Option.{SomeIff}
-use Rattle.std.proofs.lemmas.Int.{fits_signed_from_abs, unsigned_abs-mul, ints}
+use Rattle.std.proofs.lemmas.Int.{fits_signed_from_abs, unsigned_abs-mul}
 use Rattle.std.proofs.lemmas.Bool.{ltb-true, ltb-false}
 use mir.Syntax.{w128}
 use Rattle.mpslp_decimal.proofs.SumLemmas.{triangle}

@@ -2,7 +2,7 @@
 
 ghost use Rattle.std.specs.Prelude.{◌≡◌, ◌*◌, ◌^◌, ◌<◌, nat_le};
 ghost use Rattle.mpslp_decimal.specs.Literal.{number_of};
-ghost use Rattle.mpslp_decimal.specs.Decimal.{Number, zero_number, is_zero, negated, is_infinite_size, height, IsDecimal};
+ghost use Rattle.mpslp_decimal.specs.Decimal.{Number, zero_number, is_zero, is_negative, negated, size_of, is_infinite_size, height, IsDecimal};
 
 use crate::literal::{self, NumberFault};
 use std::marker::Model;
@@ -113,6 +113,24 @@ impl Decimal {
         Decimal {
             mantissa: -self.mantissa,
             exponent: self.exponent,
+        }
+    }
+
+    /// Whether the number is below 0.
+    pub fn is_negative(self) -> bool
+        ensures { result ≡ is_negative self }
+    {
+        self.mantissa < 0
+    }
+
+    /// The number without its sign.
+    pub fn abs(self) -> Decimal
+        ensures { result ≡ size_of self }
+    {
+        if self.is_negative() {
+            self.negate()
+        } else {
+            self
         }
     }
 

@@ -106,6 +106,10 @@ fn answers_what_is_asked_of_a_decimal(rt: HostRuntime) -> Result<(), Fail> {
     let value = Decimal::parse(b"-12.50")?;
     assert!(rt; value.mantissa() == -125 && value.exponent() == -1);
     assert!(rt; value.negate() == Decimal::parse(b"12.5")?);
+    assert!(rt;
+        value.is_negative() && !value.negate().is_negative() && !Decimal::zero().is_negative()
+    );
+    assert!(rt; value.abs() == value.negate() && value.negate().abs() == value.negate());
     assert!(rt; !value.is_zero() && Decimal::zero().is_zero());
     assert!(rt; Decimal::zero() == Decimal::parse(b"-0e5")?);
     for (literal, is_infinite) in [

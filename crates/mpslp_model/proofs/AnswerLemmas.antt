@@ -9,22 +9,21 @@ use Rattle.std.specs.Cmp.{first_so, second_so}
 use Rattle.std.specs.Cmp.Lexicographic.{texts_ties}
 use Rattle.std.specs.FinMap.{find, put, is_sorted}
 use Rattle.std.proofs.Math.Dec.{T}
-use Rattle.mpslp_model.specs.Name.{is_mps_name}
-use Rattle.mpslp_model.specs.Model.{bytes_cmp}
+use Rattle.mpslp_types.specs.Name.{is_mps_name, bytes_cmp}
 use Rattle.mpslp_model.specs.Declaration.{Declaration, Draft, adding, has_name, is_objective, has_row, has_column, adding_all, bounds_declared}
 use Rattle.mpslp_model.specs.Lists.{those_of}
 use Rattle.mpslp_model.specs.Refusal.{refusals, bounds_refusals}
-use Rattle.mpslp_model.specs.Made.{is_given, is_legal, IsMade}
-use Rattle.mpslp_model.specs.Sides.{is_plus_infinite, is_minus_infinite}
-use Rattle.mpslp_model.specs.declared.kinds.Limit.{Limit}
-use Rattle.mpslp_model.specs.declared.faults.BuildFault.{BuildFault}
-use Rattle.mpslp_model.specs.declared.faults.BuildFault.TheVariants.{UnknownRow, UnknownColumn, DuplicateBound, InfiniteValue, OutOfMemory}
+use Rattle.mpslp_types.specs.Sides.{is_given, is_plus_infinite, is_minus_infinite}
+use Rattle.mpslp_model.specs.Made.{is_legal, IsMade}
+use Rattle.mpslp_types.specs.declared.kinds.Limit.{Limit}
+use Rattle.mpslp_types.specs.declared.faults.BuildFault.{BuildFault}
+use Rattle.mpslp_types.specs.declared.faults.BuildFault.TheVariants.{UnknownRow, UnknownColumn, DuplicateBound, InfiniteValue, OutOfMemory}
 use Rattle.mpslp_model.specs.Answer.{Answer, Answers, first_refusal}
-use Rattle.mpslp_model.proofs.EachLemmas.{imp_all}
+use Rattle.mpslp_types.proofs.EachLemmas.{imp_all}
 use Rattle.mpslp_model.proofs.SlotLemmas.{same_name}
 use Rattle.mpslp_model.proofs.LaterDrafts.{objective_is}
 use Rattle.mpslp_model.proofs.RefusalLemmas.{first_none, rest_none}
-use Rattle.mpslp_model.proofs.BoolLemmas.{nor}
+use Rattle.mpslp_types.proofs.BoolLemmas.{nor}
 use Rattle.mpslp_model.proofs.PutOrderLemmas.{put-again}
 use Rattle.mpslp_model.proofs.SortedDrafts.{bytes_total, tied_names}
 use Rattle.mpslp_model.proofs.MadeDrafts.{made-adding, made-bounds, good-from_made}

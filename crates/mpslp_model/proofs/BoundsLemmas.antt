@@ -2,13 +2,14 @@
 use Rattle.std.proofs.Common.{◌≡◌, refl, sym, ap, ◌∙◌, List, ℕ, Bool, true, false, cond}
 use Rattle.std.specs.Prelude.{Option, Some, None, is_none, unwrap_or, ◌&&◌, ◌||◌, if◌then◌else◌}
 use Rattle.mpslp_decimal.specs.Decimal.{Number, is_zero, zero_number}
-use Rattle.mpslp_model.specs.Model.{Column, is_lower_side, is_upper_side}
+use Rattle.mpslp_model.specs.Model.{Column}
+use Rattle.mpslp_types.specs.Sides.{is_lower_side, is_upper_side}
 use Rattle.mpslp_model.specs.Bounds.{zero_limit, one_limit, lower_bound, upper_bound, column_of}
 use Rattle.mpslp_model.specs.Declaration.{Draft, at_name, has_name, is_integer}
-use Rattle.mpslp_model.specs.declared.kinds.Kind.{Kind}
-use Rattle.mpslp_model.specs.declared.kinds.Kind.TheVariants.{Continuous, Integer}
-use Rattle.mpslp_model.specs.declared.kinds.Limit.{Limit}
-use Rattle.mpslp_model.specs.declared.kinds.Limit.TheVariants.{MinusInf, Finite, PlusInf}
+use Rattle.mpslp_types.specs.declared.kinds.Kind.{Kind}
+use Rattle.mpslp_types.specs.declared.kinds.Kind.TheVariants.{Continuous, Integer}
+use Rattle.mpslp_types.specs.declared.kinds.Limit.{Limit}
+use Rattle.mpslp_types.specs.declared.kinds.Limit.TheVariants.{MinusInf, Finite, PlusInf}
 
 abbrev pub is_integer_kind : Kind → Bool
 is_integer_kind Integer = true

@@ -12,14 +12,14 @@ use Rattle.std.specs.declared.cmp.Ordering.TheVariants as orders
 use Rattle.std.specs.FinMap.{put, is_sorted, slice_cmp-IsAntisymmetric, nat_cmp-IsAntisymmetric}
 use Rattle.std.specs.FinMap.Entries.{by_order, is_sorted-put}
 use Rattle.mpslp_decimal.specs.Decimal.{Number, is_decimal}
-use Rattle.mpslp_model.specs.Name.{is_mps_name}
-use Rattle.mpslp_model.specs.Model.{CoefficientKey, bytes_cmp, key_cmp, key_total}
-use Rattle.mpslp_model.specs.Declaration.{RowForm, Declaration, declare_objective, declare_constant, declare_row, declare_rhs, declare_column, declare_coefficient, declare_lower, declare_upper, Declarations, Draft, empty_draft, adding, adding_all, has_row, has_column}
-use Rattle.mpslp_model.specs.Made.{is_given, are_given, is_legal}
-use Rattle.mpslp_model.specs.Sides.{is_plus_infinite, is_minus_infinite, have_infinite_side}
+use Rattle.mpslp_types.specs.Name.{is_mps_name, bytes_cmp}
+use Rattle.mpslp_model.specs.Model.{CoefficientKey, key_cmp, key_total}
+use Rattle.mpslp_model.specs.Declaration.{RowForm, Declaration, declare_objective, declare_constant, declare_row, declare_rhs, declare_column, declare_coefficient, declare_lower, declare_upper, Declarations, Draft, empty_draft, adding, adding_all, has_row, has_column, have_infinite_side}
+use Rattle.mpslp_types.specs.Sides.{is_given, is_plus_infinite, is_minus_infinite}
+use Rattle.mpslp_model.specs.Made.{are_given, is_legal}
 use Rattle.mpslp_model.specs.Consistency.{is_known, is_allowed}
-use Rattle.mpslp_model.specs.declared.kinds.Limit.{Limit}
-use Rattle.mpslp_model.proofs.BoolLemmas.{both_so}
+use Rattle.mpslp_types.specs.declared.kinds.Limit.{Limit}
+use Rattle.mpslp_types.proofs.BoolLemmas.{both_so}
 
 -- ---- one entry more
 

@@ -2,9 +2,10 @@
 use Rattle.std.proofs.Common.{◌≡◌, refl, sym, ap, ◌∙◌, List, [], ◌∷◌, ℕ}
 use Rattle.std.specs.List.{flat_map}
 use Rattle.mpslp_decimal.specs.Decimal.{Number}
-use Rattle.mpslp_model.specs.Model.{CoefficientKey, bytes_cmp, key_cmp}
+use Rattle.mpslp_model.specs.Model.{CoefficientKey, key_cmp}
+use Rattle.mpslp_types.specs.Name.{bytes_cmp}
 use Rattle.mpslp_model.specs.Declaration.{RowForm, Declaration, declare_row, declare_rhs, declare_range, declare_column, declare_coefficient, declare_lower, declare_upper, declare_marked, declare_integer, declare_binary, Declarations, Draft, adding, adding_all}
-use Rattle.mpslp_model.specs.declared.kinds.Limit.{Limit}
+use Rattle.mpslp_types.specs.declared.kinds.Limit.{Limit}
 use Rattle.mpslp_model.proofs.PutsLemmas.{puts, puts-append}
 
 -- ---- what a declaration puts into each map

@@ -3,17 +3,18 @@ use Rattle.std.proofs.Common.{◌≡◌, sym, ap, subst, ◌∙◌, map, Bool, t
 use Rattle.std.specs.Prelude.{None, filter, is_some, unwrap_or}
 use Rattle.std.specs.FinMap as maps
 use Rattle.mpslp_decimal.specs.Decimal.{Number, is_zero, zero_number}
-use Rattle.mpslp_model.specs.Model.{CoefficientKey, bytes_cmp, key_cmp, IsSound}
+use Rattle.mpslp_model.specs.Model.{CoefficientKey, key_cmp, IsSound}
+use Rattle.mpslp_types.specs.Name.{bytes_cmp}
 use Rattle.mpslp_model.specs.ModelParts.{linear_model, AreModelParts}
 use Rattle.mpslp_model.specs.Declaration.{Draft}
 use Rattle.mpslp_model.specs.Made.{IsMade}
 use Rattle.mpslp_model.specs.Bounds.{column_of}
 use Rattle.mpslp_model.specs.Limits.{plain_limits}
 use Rattle.mpslp_model.specs.Meaning.{objective_name, constant_of, row_limits, row_entry, model_of, file_fault, DraftMeans}
-use Rattle.mpslp_model.specs.declared.kinds.Sense.TheVariants.{Minimize}
-use Rattle.mpslp_model.specs.declared.kinds.RowType.TheVariants.{Free}
+use Rattle.mpslp_types.specs.declared.kinds.Sense.TheVariants.{Minimize}
+use Rattle.mpslp_types.specs.declared.kinds.RowType.TheVariants.{Free}
 use Rattle.mpslp_model.specs.declared.model.Model.TheInside.{Inside}
-use Rattle.mpslp_model.proofs.PutsLemmas.{true_from}
+use Rattle.mpslp_types.proofs.BoolLemmas.{true_from}
 use Rattle.mpslp_model.proofs.MadeDrafts.{meant-from_made}
 use Rattle.mpslp_model.proofs.SortedDrafts.{sorted-from_made}
 use Rattle.mpslp_model.proofs.MeaningFromNoFault.{sorted-mapped, sorted-filtered}

@@ -12,14 +12,14 @@ use Rattle.mpslp_model.specs.Limits.{limits_of, has_infinite_rhs, is_inexact, is
 use Rattle.mpslp_model.specs.Lists.{head_of}
 use Rattle.mpslp_model.specs.Meaning.{whole_fault, row_passes}
 use Rattle.mpslp_model.specs.FaultFound.{columns_alone, is_faulty_row, row_test, column_test, kind_of_row_fault, kind_of_column_fault, named, fault_found, IsThere}
-use Rattle.mpslp_model.specs.declared.faults.Fault.{Fault}
-use Rattle.mpslp_model.specs.declared.faults.FaultKind.{FaultKind}
+use Rattle.mpslp_types.specs.declared.faults.Fault.{Fault}
+use Rattle.mpslp_types.specs.declared.faults.FaultKind.{FaultKind}
 use Rattle.mpslp_model.specs.declared.limits.RowFault.{RowFault}
 use Rattle.mpslp_model.specs.declared.limits.RowFault.TheVariants as rows
 use Rattle.mpslp_model.specs.declared.bounds.ColumnFault.{ColumnFault}
 use Rattle.mpslp_model.specs.declared.bounds.ColumnFault.TheVariants as columns
 use Rattle.mpslp_model.specs.declared.file_faults.FoundFault.TheVariants as found
-use Rattle.mpslp_model.proofs.BoolLemmas.{nor}
+use Rattle.mpslp_types.proofs.BoolLemmas.{nor}
 
 -- the first of those that pass a test is the one that passes it first
 first_passing : {X Y : Type 0} (p : X → Bool) (f : X → Y) (xs : List X) → head_of (map f (filter p xs)) ≡ slice_get (map f xs) (position_or_len p xs)

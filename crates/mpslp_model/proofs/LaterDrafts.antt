@@ -5,11 +5,10 @@ use Rattle.std.specs.Option.{option_map_or}
 use Rattle.std.specs.Cmp.{first_so, second_so}
 use Rattle.std.specs.FinMap.{put}
 use Rattle.std.specs.Cmp.Lexicographic.{nat_list_eq_equiv}
-use Rattle.mpslp_model.specs.Name.{same_bytes}
-use Rattle.mpslp_model.specs.Model.{bytes_cmp}
+use Rattle.mpslp_types.specs.Name.{same_bytes, bytes_cmp}
 use Rattle.mpslp_model.specs.Declaration.{RowForm, Declaration, declare_sense, declare_objective, declare_constant, declare_row, declare_rhs, declare_range, declare_column, declare_coefficient, declare_lower, declare_upper, declare_marked, declare_integer, declare_binary, Declarations, Draft, adding, adding_all, at_name, has_name, has_row, has_column, is_objective}
 use Rattle.mpslp_model.specs.Consistency.{slots_of, is_known}
-use Rattle.mpslp_model.proofs.BoolLemmas.{both_so, or_left, or_right, not_so}
+use Rattle.mpslp_types.proofs.BoolLemmas.{both_so, or_left, or_right, not_so}
 use Rattle.mpslp_model.proofs.SlotLemmas.{at-put, has-put, are_fresh, are_fresh_in_turn, same_name}
 
 -- ---- what a later draft keeps

@@ -1,13 +1,9 @@
-pub mod PutKeyLemmas
-pub mod SearchLemmas
 pub mod ViewLemmas
 pub mod ColumnLemmas
 pub mod FoundLemmas
 pub mod SameModels
 pub mod FinishLemmas
 pub mod AnswerLemmas
-pub mod BoolLemmas
-pub mod EachLemmas
 pub mod PutsLemmas
 pub mod PartedLemmas
 pub mod DistinctLemmas
@@ -30,7 +26,5 @@ pub mod PutOrderLemmas
 pub mod PermutationLemmas
 pub mod SortedDrafts
 pub mod OrderOfDeclarations
-pub mod NameLemmas
-mod WorkedNames
 mod WorkedRows
 mod WorkedModels

@@ -9,16 +9,16 @@ use Rattle.std.proofs.lemmas.List.Folds.{list_all-append}
 use Rattle.mpslp_decimal.specs.Decimal.{Number, is_decimal}
 use Rattle.mpslp_model.specs.Model.{LinearModel}
 use Rattle.mpslp_model.specs.Declaration.{Declaration, declare_objective, declare_rhs, declare_lower, declare_upper, Declarations, Draft, empty_draft, adding, adding_all, draft_of, has_name, has_column, is_free_row, rhs_declared, bounds_declared}
-use Rattle.mpslp_model.specs.Sides.{is_plus_infinite, is_minus_infinite}
+use Rattle.mpslp_types.specs.Sides.{is_plus_infinite, is_minus_infinite, is_given}
 use Rattle.mpslp_model.specs.Consistency.{has_objective, AreConsistent}
 use Rattle.mpslp_model.specs.Lists.{those_of}
 use Rattle.mpslp_model.specs.Refusal.{refusals, refusals_in_turn, bounds_refusals}
-use Rattle.mpslp_model.specs.Made.{is_given, is_legal, IsMade}
+use Rattle.mpslp_model.specs.Made.{is_legal, IsMade}
 use Rattle.mpslp_model.specs.Meaning.{model_of, file_fault, DraftMeans}
-use Rattle.mpslp_model.specs.declared.kinds.Limit.{Limit}
-use Rattle.mpslp_model.specs.declared.faults.BuildFault.{BuildFault}
-use Rattle.mpslp_model.specs.declared.faults.BuildFault.TheVariants.{UnknownColumn, DuplicateBound, InfiniteValue}
-use Rattle.mpslp_model.proofs.BoolLemmas.{both_so, nor}
+use Rattle.mpslp_types.specs.declared.kinds.Limit.{Limit}
+use Rattle.mpslp_types.specs.declared.faults.BuildFault.{BuildFault}
+use Rattle.mpslp_types.specs.declared.faults.BuildFault.TheVariants.{UnknownColumn, DuplicateBound, InfiniteValue}
+use Rattle.mpslp_types.proofs.BoolLemmas.{both_so, nor}
 use Rattle.mpslp_model.proofs.RefusalLemmas.{first_none, rest_none, pass, join_none, empty_declared_names, none-fine, consistent-from_none}
 use Rattle.mpslp_model.proofs.DraftEntries.{IsGood, good-adding_all, empty_good}
 use Rattle.mpslp_model.proofs.WellFormed.{IsWellFormed, well_formed-from_consistent}

@@ -11,25 +11,25 @@ use Rattle.std.specs.FinMap as maps
 use Rattle.std.specs.FinMap.{find, is_sorted}
 use Rattle.std.specs.FinMap.Entries.{below_all}
 use Rattle.mpslp_decimal.specs.Decimal.{Number, zero_number, is_decimal, is_zero, negated}
-use Rattle.mpslp_model.specs.Name.{same_bytes, is_mps_name, is_one_of}
-use Rattle.mpslp_model.specs.Model.{LinearModel, Row, Column, CoefficientKey, bytes_cmp, key_cmp, are_sides, is_at_most, is_lower_side, is_upper_side, has_bounded_distance, is_bounded_decimal, is_sound_row, is_sound_column, is_sound_coefficient}
-use Rattle.mpslp_model.specs.Declaration.{RowForm, by_type, by_limits, Declarations, Draft, draft_of, at_name, has_name, has_row, has_column, names_in}
-use Rattle.mpslp_model.specs.Sides.{have_infinite_side, is_plus_infinite, is_minus_infinite}
+use Rattle.mpslp_types.specs.Name.{same_bytes, is_mps_name, is_one_of, bytes_cmp}
+use Rattle.mpslp_model.specs.Model.{LinearModel, Row, Column, CoefficientKey, key_cmp, is_sound_row, is_sound_column, is_sound_coefficient}
+use Rattle.mpslp_types.specs.Sides.{are_sides, is_at_most, is_lower_side, is_upper_side, has_bounded_distance, is_bounded_decimal, is_plus_infinite, is_minus_infinite, is_given}
+use Rattle.mpslp_model.specs.Declaration.{RowForm, by_type, by_limits, Declarations, Draft, draft_of, at_name, has_name, has_row, has_column, names_in, have_infinite_side}
 use Rattle.mpslp_model.specs.Limits.{limits_of, plain_limits, has_infinite_rhs, is_inexact, is_too_large, is_crossed}
 use Rattle.mpslp_model.specs.Bounds.{zero_limit, one_limit, lower_bound, upper_bound, has_no_side, column_of, has_crossed_bounds}
-use Rattle.mpslp_model.specs.Made.{is_given, are_given, is_legal}
+use Rattle.mpslp_model.specs.Made.{are_given, is_legal}
 use Rattle.mpslp_model.specs.Lists.{is_nonempty}
 use Rattle.mpslp_model.specs.Meaning.{rhs_or_zero, row_limits, row_entry, model_of, objective_name, file_fault, DraftMeans, Means}
 use Rattle.mpslp_model.specs.Consistency.{AreConsistent}
-use Rattle.mpslp_model.specs.declared.kinds.Limit.{Limit}
-use Rattle.mpslp_model.specs.declared.kinds.Limit.TheVariants.{MinusInf, Finite, PlusInf}
-use Rattle.mpslp_model.specs.declared.kinds.RowType.TheVariants.{Free}
-use Rattle.mpslp_model.proofs.BoolLemmas.{both_so, or_right, not_so}
+use Rattle.mpslp_types.specs.declared.kinds.Limit.{Limit}
+use Rattle.mpslp_types.specs.declared.kinds.Limit.TheVariants.{MinusInf, Finite, PlusInf}
+use Rattle.mpslp_types.specs.declared.kinds.RowType.TheVariants.{Free}
+use Rattle.mpslp_types.proofs.BoolLemmas.{both_so, or_right, not_so}
 use Rattle.mpslp_model.proofs.LaterDrafts.{itself_named}
 use Rattle.mpslp_model.proofs.RowSoundness.{IsSoundForm, sound-from_no_fault, is_legal_form}
 use Rattle.mpslp_model.proofs.DraftEntries.{IsGood}
 use Rattle.mpslp_model.proofs.WellFormed.{IsWellFormed, well_formed-from_consistent}
-use Rattle.mpslp_model.proofs.EachLemmas.{imp_all, and_all, map_all}
+use Rattle.mpslp_types.proofs.EachLemmas.{imp_all, and_all, map_all}
 use Rattle.mpslp_model.proofs.FileFaultLemmas.{HasNoFault, no_fault-from_none, found_all}
 
 -- ---- the objective

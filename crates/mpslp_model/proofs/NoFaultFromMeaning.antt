@@ -7,20 +7,21 @@ use Rattle.std.specs.Cmp.{first_so, second_so}
 use Rattle.std.proofs.Math.Dec.{T}
 use Rattle.std.specs.FinMap as maps
 use Rattle.mpslp_decimal.specs.Decimal.{Number, zero_number, is_decimal, is_negative, is_infinite_size, size_of, sum_of, difference_of}
-use Rattle.mpslp_model.specs.Name.{is_mps_name}
-use Rattle.mpslp_model.specs.Model.{LinearModel, Row, Column, bytes_cmp, IsSound, are_sides, is_at_most, is_lower_side, is_upper_side, has_bounded_distance, is_bounded_decimal, is_sound_row, is_sound_column, limit_of}
+use Rattle.mpslp_types.specs.Name.{is_mps_name, bytes_cmp}
+use Rattle.mpslp_model.specs.Model.{LinearModel, Row, Column, IsSound, is_sound_row, is_sound_column}
+use Rattle.mpslp_types.specs.Sides.{are_sides, is_at_most, is_lower_side, is_upper_side, has_bounded_distance, is_bounded_decimal, limit_of}
 use Rattle.mpslp_model.specs.Declaration.{RowForm, by_type, by_limits, Declarations, Draft, draft_of, at_name, names_in}
 use Rattle.mpslp_model.specs.Limits.{sides, plain_limits, limits_of, has_infinite_rhs, is_inexact, is_too_large, is_large_limit, is_crossed}
 use Rattle.mpslp_model.specs.Bounds.{lower_bound, upper_bound, column_of, has_crossed_bounds}
 use Rattle.mpslp_model.specs.Made.{is_legal}
 use Rattle.mpslp_model.specs.Lists.{is_nonempty}
 use Rattle.mpslp_model.specs.Meaning.{rhs_or_zero, row_limits, row_entry, model_of, file_fault, DraftMeans, Means}
-use Rattle.mpslp_model.specs.declared.kinds.Limit.{Limit}
-use Rattle.mpslp_model.specs.declared.kinds.Limit.TheVariants.{MinusInf, Finite, PlusInf}
-use Rattle.mpslp_model.specs.declared.kinds.RowType.TheVariants.{Free, AtMost, AtLeast, Equal}
-use Rattle.mpslp_model.proofs.BoolLemmas.{not_so, so_not, both_false}
+use Rattle.mpslp_types.specs.declared.kinds.Limit.{Limit}
+use Rattle.mpslp_types.specs.declared.kinds.Limit.TheVariants.{MinusInf, Finite, PlusInf}
+use Rattle.mpslp_types.specs.declared.kinds.RowType.TheVariants.{Free, AtMost, AtLeast, Equal}
+use Rattle.mpslp_types.proofs.BoolLemmas.{not_so, so_not, both_false}
 use Rattle.mpslp_model.proofs.WellFormed.{IsWellFormed, well_formed-from_consistent}
-use Rattle.mpslp_model.proofs.EachLemmas.{imp_all, and_all, map_all}
+use Rattle.mpslp_types.proofs.EachLemmas.{imp_all, and_all, map_all}
 use Rattle.mpslp_model.proofs.FileFaultLemmas.{none-from_no_fault}
 use Rattle.mpslp_model.proofs.MeaningFromNoFault.{sorted-mapped, names-mapped}
 

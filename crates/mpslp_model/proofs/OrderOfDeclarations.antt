@@ -6,13 +6,13 @@ use Rattle.std.specs.Cmp.{first_so, second_so}
 use Rattle.std.specs.Cmp.Lexicographic.{texts_ties, nat_list_cmp_total, nat_list_eq_equiv}
 use Rattle.std.specs.FinMap.{put}
 use Rattle.std.proofs.lemmas.List.Folds.{list_all-append}
-use Rattle.mpslp_model.specs.Name.{same_bytes}
-use Rattle.mpslp_model.specs.Model.{LinearModel, CoefficientKey, bytes_cmp, key_cmp, key_total}
+use Rattle.mpslp_types.specs.Name.{same_bytes, bytes_cmp}
+use Rattle.mpslp_model.specs.Model.{LinearModel, CoefficientKey, key_cmp, key_total}
 use Rattle.mpslp_model.specs.Declaration.{RowForm, Declaration, declare_sense, declare_objective, declare_constant, declare_row, declare_rhs, declare_range, declare_column, declare_coefficient, declare_lower, declare_upper, declare_marked, declare_integer, declare_binary, Declarations, Draft, empty_draft, adding, adding_all, draft_of, is_limits_form}
 use Rattle.mpslp_model.specs.Lists.{are_distinct}
 use Rattle.mpslp_model.specs.Consistency.{Slot, sense_slot, objective_slot, constant_slot, row_slot, rhs_slot, range_slot, coefficient_slot, lower_slot, upper_slot, same_slot, slots_of, all_slots, declares_objective, is_known, is_allowed, has_one_constant, AreConsistent}
 use Rattle.mpslp_model.specs.Meaning.{DraftMeans, Means}
-use Rattle.mpslp_model.proofs.BoolLemmas.{all_true, not_so, nor}
+use Rattle.mpslp_types.proofs.BoolLemmas.{all_true, not_so, nor}
 use Rattle.mpslp_model.proofs.SlotLemmas.{are_apart, apart-cons, are_distinct-append, key_ties, same_name}
 use Rattle.mpslp_model.proofs.PutOrderLemmas.{put-put}
 use Rattle.mpslp_model.proofs.PermutationLemmas.{along_permutation}

@@ -8,7 +8,8 @@ use Rattle.std.specs.declared.cmp.Ordering.TheVariants.{Less, Equal, Greater}
 use Rattle.std.specs.FinMap.{find, put, is_sorted}
 use Rattle.std.specs.FinMap.Entries.{find-put, same_entries, is_sorted-put, below_all}
 use Rattle.std.proofs.Math.Dec.{T}
-use Rattle.mpslp_model.proofs.EachLemmas.{Each}
+use Rattle.mpslp_types.proofs.BoolLemmas.{true_from, T_from}
+use Rattle.mpslp_types.proofs.EachLemmas.{Each}
 
 -- a tie, by its test
 pub equal_from : (r : Ordering) → is_eq r ≡ true → r ≡ Equal
@@ -18,15 +19,6 @@ equal_from Greater h = cc
 
 none_is : false ≡ true → ⊥
 none_is e = cc
-
--- a test as a type and as an equation
-pub true_from : (b : Bool) → T b → b ≡ true
-true_from true h = refl
-true_from false h = absurd h
-
-pub T_from : (b : Bool) → b ≡ true → T b
-T_from true h = tt
-T_from false h = absurd (none_is h)
 
 module _ {K : Type 0} (R : K → K → Ordering) (o : IsTotalOrder R) (same : (x y : K) → R x y ≡ Equal → x ≡ y) where
   tied : (k : K) → eq_by_cmp R k k ≡ true

@@ -7,16 +7,15 @@ use Rattle.std.specs.Cmp.{first_so, second_so}
 use Rattle.std.specs.FinMap.{put}
 use Rattle.std.specs.Cmp.Lexicographic.{nat_list_eq_equiv}
 use Rattle.mpslp_decimal.specs.Decimal.{Number, is_infinite_size}
-use Rattle.mpslp_model.specs.Name.{same_bytes}
-use Rattle.mpslp_model.specs.Model.{bytes_cmp}
-use Rattle.mpslp_model.specs.Declaration.{RowForm, by_type, by_limits, Declaration, declare_sense, declare_objective, declare_constant, declare_row, declare_rhs, declare_range, declare_column, declare_coefficient, declare_lower, declare_upper, declare_marked, declare_integer, declare_binary, Declarations, Draft, empty_draft, adding, adding_all, at_name, has_name, has_row, has_column, has_entry, is_objective, is_free_form, is_free_row, is_row_by_limits}
-use Rattle.mpslp_model.specs.Sides.{is_plus_infinite, is_minus_infinite, have_infinite_side}
+use Rattle.mpslp_types.specs.Name.{same_bytes, bytes_cmp}
+use Rattle.mpslp_model.specs.Declaration.{RowForm, by_type, by_limits, Declaration, declare_sense, declare_objective, declare_constant, declare_row, declare_rhs, declare_range, declare_column, declare_coefficient, declare_lower, declare_upper, declare_marked, declare_integer, declare_binary, Declarations, Draft, empty_draft, adding, adding_all, at_name, has_name, has_row, has_column, has_entry, is_objective, is_free_form, is_free_row, is_row_by_limits, have_infinite_side}
+use Rattle.mpslp_types.specs.Sides.{is_plus_infinite, is_minus_infinite}
 use Rattle.mpslp_model.specs.Lists.{are_distinct, those_of}
 use Rattle.mpslp_model.specs.Consistency.{Slot, sense_slot, rhs_slot, range_slot, slots_of, all_slots, same_slot, is_known, is_allowed, has_objective_rhs, has_one_constant, has_objective, AreConsistent}
 use Rattle.mpslp_model.specs.Refusal.{has_constant, refusals, refusals_in_turn}
-use Rattle.mpslp_model.specs.declared.faults.BuildFault.{BuildFault}
-use Rattle.mpslp_model.specs.declared.faults.BuildFault.TheVariants as builds
-use Rattle.mpslp_model.proofs.BoolLemmas.{both_so, or_left, or_right, not_so, so_not, back, nor, both_false}
+use Rattle.mpslp_types.specs.declared.faults.BuildFault.{BuildFault}
+use Rattle.mpslp_types.specs.declared.faults.BuildFault.TheVariants as builds
+use Rattle.mpslp_types.proofs.BoolLemmas.{both_so, or_left, or_right, not_so, so_not, back, nor, both_false}
 use Rattle.mpslp_model.proofs.LaterDrafts.{Extends, extends-adding, extends-in_turn, value_in, is_objective-after, has_row-after, known-after}
 use Rattle.mpslp_model.proofs.SlotLemmas.{limits_need_row, has-put, are_fresh, is_filled, are_fresh_in_turn, fresh_in_turn-is, same_name}
 

@@ -4,15 +4,14 @@ use Rattle.std.specs.Prelude.{◌&&◌, ◌||◌, ◌+ℤ◌, Option, Some, None
 use Rattle.std.specs.Option.{option_map_or}
 use Rattle.std.specs.Cmp.{first_so, second_so}
 use Rattle.mpslp_decimal.specs.Decimal.{Number, is_decimal, is_negative, is_infinite_size, size_of, normal, decimal_of, scaled, at_scale, negated, sum_of, difference_of}
-use Rattle.mpslp_model.specs.Model.{Row, limit_of, is_at_most, is_bounded_decimal, is_lower_side, is_upper_side, are_sides, has_bounded_distance}
-use Rattle.mpslp_model.specs.Declaration.{RowForm, by_type, by_limits}
+use Rattle.mpslp_model.specs.Model.{Row}
+use Rattle.mpslp_types.specs.Sides.{limit_of, is_at_most, is_bounded_decimal, is_lower_side, is_upper_side, are_sides, has_bounded_distance, is_given, is_plus_infinite, is_minus_infinite}
+use Rattle.mpslp_model.specs.Declaration.{RowForm, by_type, by_limits, have_infinite_side}
 use Rattle.mpslp_model.specs.Limits.{sides, limits_of, has_infinite_rhs, is_inexact, is_too_large, is_large_limit, is_crossed}
-use Rattle.mpslp_model.specs.Made.{is_given}
-use Rattle.mpslp_model.specs.Sides.{is_plus_infinite, is_minus_infinite, have_infinite_side}
-use Rattle.mpslp_model.specs.declared.kinds.Limit.{Limit}
-use Rattle.mpslp_model.specs.declared.kinds.Limit.TheVariants.{MinusInf, Finite, PlusInf}
-use Rattle.mpslp_model.specs.declared.kinds.RowType.TheVariants.{Free, AtMost, AtLeast, Equal}
-use Rattle.mpslp_model.proofs.BoolLemmas.{both_so, not_so, so_not, nor}
+use Rattle.mpslp_types.specs.declared.kinds.Limit.{Limit}
+use Rattle.mpslp_types.specs.declared.kinds.Limit.TheVariants.{MinusInf, Finite, PlusInf}
+use Rattle.mpslp_types.specs.declared.kinds.RowType.TheVariants.{Free, AtMost, AtLeast, Equal}
+use Rattle.mpslp_types.proofs.BoolLemmas.{both_so, not_so, so_not, nor}
 
 -- a form whose limits are given ones, neither of which excludes all
 abbrev pub is_legal_form : RowForm → Bool

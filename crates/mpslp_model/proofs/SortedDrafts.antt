@@ -7,11 +7,12 @@ use Rattle.std.specs.FinMap.{is_sorted, slice_cmp-IsAntisymmetric, nat_cmp-IsAnt
 use Rattle.std.specs.declared.cmp.Ordering.TheVariants.{Equal}
 use Rattle.std.proofs.Math.Dec.{T}
 use Rattle.mpslp_decimal.specs.Decimal.{Number}
-use Rattle.mpslp_model.specs.Model.{CoefficientKey, bytes_cmp, key_cmp}
+use Rattle.mpslp_model.specs.Model.{CoefficientKey, key_cmp}
+use Rattle.mpslp_types.specs.Name.{bytes_cmp}
 pub use Rattle.mpslp_model.specs.Model.{key_total}
 use Rattle.mpslp_model.specs.Declaration.{RowForm, Declarations, Draft, empty_draft, adding_all, draft_of}
 use Rattle.mpslp_model.specs.Made.{IsMade}
-use Rattle.mpslp_model.specs.declared.kinds.Limit.{Limit}
+use Rattle.mpslp_types.specs.declared.kinds.Limit.{Limit}
 use Rattle.mpslp_model.proofs.DraftEntries.{same_key}
 use Rattle.mpslp_model.proofs.DraftLemmas.{row_part, rows-all, rhs_part, rhs_values-all, range_part, ranges-all, column_part, columns-all, coefficient_part, coefficients-all, lower_part, lowers-all, upper_part, uppers-all, marked_part, marked-all, integer_part, integers-all, binary_part, binaries-all}
 use Rattle.mpslp_model.proofs.PutsLemmas.{is_sorted-puts}

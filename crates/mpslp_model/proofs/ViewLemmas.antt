@@ -1,25 +1,21 @@
 -- What is asked of a model, read off its parts.
-use Rattle.std.proofs.Common.{◌≡◌, refl, sym, ap, subst, ◌∙◌, ℕ, zero, suc, ◌<◌, ◌+◌, List, [], ◌∷◌, length, map, Bool, true, false, cond, not}
-use Rattle.std.specs.Prelude.{Option, Some, None, slice_get, position, nat_lt}
+use Rattle.std.proofs.Common.{◌≡◌, refl, sym, ap, subst, ◌∙◌, ℕ, zero, suc, ◌<◌, ◌+◌, List, [], ◌∷◌, length, map, Bool, true, false, cond, not, arith}
+use Rattle.std.specs.Prelude.{Option, Some, None, slice_get, position, nat_lt, ◌||◌, ◌&&◌, is_some, filter}
 use Rattle.std.specs.Option.{option_map}
-use Rattle.std.specs.List.{position_or_len}
+use Rattle.std.specs.List.{position_or_len, list_any, list_all}
 use Rattle.std.specs.FinMap as maps
-use Rattle.std.proofs.Common.{arith}
-use Rattle.std.specs.Prelude.{◌||◌, ◌&&◌, is_some, filter}
-use Rattle.std.specs.List.{list_any, list_all}
 use Rattle.std.specs.Cmp.{first_so, second_so}
 use Rattle.std.specs.Cmp.Lexicographic.{nat_list_eq_equiv}
 use Rattle.std.proofs.lemmas.Bool.{lt-ltb}
 use Rattle.std.proofs.lemmas.List.{length-map}
-use Rattle.mpslp_model.specs.Name.{same_bytes, is_one_of}
+use Rattle.mpslp_types.specs.Name.{same_bytes, is_one_of, bytes_cmp}
 use Rattle.mpslp_model.specs.Views.{row_names, row_index, is_element, column_elements}
-use Rattle.mpslp_model.proofs.BoolLemmas.{both_so, not_so}
+use Rattle.mpslp_types.proofs.BoolLemmas.{both_so, not_so, T_from}
 use Rattle.std.proofs.lemmas.Option.{slice_get-map}
 use Rattle.mpslp_decimal.specs.Decimal.{Number, is_decimal, is_zero}
-use Rattle.mpslp_model.specs.Model.{CoefficientKey, LinearModel, bytes_cmp, key_cmp, IsSound, is_sound_coefficient}
+use Rattle.mpslp_model.specs.Model.{CoefficientKey, LinearModel, key_cmp, IsSound, is_sound_coefficient}
 use Rattle.mpslp_model.specs.ModelParts.{linear_model, AreModelParts}
 use Rattle.mpslp_model.specs.declared.model.Model.TheInside.{Inside}
-use Rattle.mpslp_model.proofs.PutsLemmas.{T_from}
 
 pub rows_seen : {m : Inside} {v : LinearModel} → linear_model m ≡ v → AreModelParts m → maps.entries v.rows ≡ m.rows.items
 rows_seen {m} {v} seen parts = ap (λ (w : LinearModel). maps.entries w.rows) (sym seen) ∙ maps.entries-from_sorted bytes_cmp m.rows.items (T_from _ parts.rows)

@@ -3,12 +3,12 @@ use Rattle.std.proofs.Common.{◌≡◌, refl, sym, ap, ◌∙◌, ℕ, List, []
 use Rattle.std.specs.Prelude.{◌&&◌, ◌||◌, is_some}
 use Rattle.std.specs.List.{list_all}
 use Rattle.std.specs.Cmp.{first_so, second_so}
-use Rattle.mpslp_model.specs.Name.{same_bytes}
+use Rattle.mpslp_types.specs.Name.{same_bytes}
 use Rattle.mpslp_model.specs.Declaration.{Declaration, declare_objective, declare_row, Declarations, Draft, empty_draft, adding, adding_all, draft_of, has_name, has_row, is_objective}
 use Rattle.mpslp_model.specs.Lists.{are_distinct}
 use Rattle.mpslp_model.specs.Consistency.{slots_of, has_objective, AreConsistent, all_slots, same_slot}
 use Rattle.mpslp_model.specs.Made.{is_legal}
-use Rattle.mpslp_model.proofs.BoolLemmas.{both_so, or_left, or_right, not_so, back}
+use Rattle.mpslp_types.proofs.BoolLemmas.{both_so, or_left, or_right, not_so, back}
 use Rattle.mpslp_model.proofs.SlotLemmas.{has-put, same_name, are_fresh, are_fresh_in_turn, fresh_in_turn-is}
 use Rattle.mpslp_model.proofs.RefusalLemmas.{all_fresh}
 use Rattle.mpslp_model.proofs.DraftEntries.{IsGood, good-adding_all, empty_good}

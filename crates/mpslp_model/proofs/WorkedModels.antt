@@ -3,20 +3,22 @@ use Rattle.std.proofs.Common.{◌≡◌, refl, cond}
 use Rattle.std.specs.Prelude.{ℕ, pos, negsuc, Option, Some, None, List, [], ◌∷◌, codes}
 use Rattle.std.specs.FinMap as maps
 use Rattle.mpslp_decimal.specs.Decimal.{Number, trailing_zeros}
-use Rattle.mpslp_model.specs.Model.{CoefficientKey, bytes_cmp, key_cmp, limit_of}
+use Rattle.mpslp_model.specs.Model.{CoefficientKey, key_cmp}
+use Rattle.mpslp_types.specs.Name.{bytes_cmp}
+use Rattle.mpslp_types.specs.Sides.{limit_of}
 use Rattle.mpslp_model.specs.Declaration.{by_type, by_limits, Declaration, declare_sense, declare_objective, declare_constant, declare_row, declare_rhs, declare_range, declare_column, declare_coefficient, declare_lower, declare_upper, declare_marked, declare_integer, declare_binary, Declarations, Draft, empty_draft, adding, adding_all, draft_of, rhs_declared, bounds_declared}
 use Rattle.mpslp_model.specs.Bounds.{zero_limit, one_limit, column_of}
 use Rattle.mpslp_model.specs.Lists.{is_nonempty, head_of}
 use Rattle.mpslp_model.specs.Refusal.{refusals, refusals_in_turn, bounds_refusals}
 use Rattle.mpslp_model.specs.Meaning.{whole_fault, file_fault, model_of}
-use Rattle.mpslp_model.specs.declared.kinds.Sense.TheVariants.{Maximize}
-use Rattle.mpslp_model.specs.declared.kinds.Kind.TheVariants.{Continuous, Integer}
-use Rattle.mpslp_model.specs.declared.kinds.Limit.{Limit}
-use Rattle.mpslp_model.specs.declared.kinds.Limit.TheVariants.{MinusInf, Finite, PlusInf}
-use Rattle.mpslp_model.specs.declared.kinds.RowType.TheVariants.{Free, AtMost, AtLeast}
-use Rattle.mpslp_model.specs.declared.faults.BuildFault.{BuildFault}
-use Rattle.mpslp_model.specs.declared.faults.BuildFault.TheVariants as builds
-use Rattle.mpslp_model.specs.declared.faults.FaultKind.TheVariants as kinds
+use Rattle.mpslp_types.specs.declared.kinds.Sense.TheVariants.{Maximize}
+use Rattle.mpslp_types.specs.declared.kinds.Kind.TheVariants.{Continuous, Integer}
+use Rattle.mpslp_types.specs.declared.kinds.Limit.{Limit}
+use Rattle.mpslp_types.specs.declared.kinds.Limit.TheVariants.{MinusInf, Finite, PlusInf}
+use Rattle.mpslp_types.specs.declared.kinds.RowType.TheVariants.{Free, AtMost, AtLeast}
+use Rattle.mpslp_types.specs.declared.faults.BuildFault.{BuildFault}
+use Rattle.mpslp_types.specs.declared.faults.BuildFault.TheVariants as builds
+use Rattle.mpslp_types.specs.declared.faults.FaultKind.TheVariants as kinds
 use Rattle.mpslp_model.proofs.WorkedRows.{number, whole}
 
 -- what each call answers, one after another: nothing, or its first refusal, and then nothing is declared

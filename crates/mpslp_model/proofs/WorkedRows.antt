@@ -5,9 +5,9 @@ use Rattle.mpslp_decimal.specs.Decimal.{Number, trailing_zeros}
 use Rattle.mpslp_model.specs.Model.{Row}
 use Rattle.mpslp_model.specs.Declaration.{by_type, by_limits}
 use Rattle.mpslp_model.specs.Limits.{limits_of, has_infinite_rhs, is_inexact, is_too_large, is_crossed}
-use Rattle.mpslp_model.specs.declared.kinds.Limit.{Limit}
-use Rattle.mpslp_model.specs.declared.kinds.Limit.TheVariants.{MinusInf, Finite, PlusInf}
-use Rattle.mpslp_model.specs.declared.kinds.RowType.TheVariants.{Free, AtMost, AtLeast, Equal}
+use Rattle.mpslp_types.specs.declared.kinds.Limit.{Limit}
+use Rattle.mpslp_types.specs.declared.kinds.Limit.TheVariants.{MinusInf, Finite, PlusInf}
+use Rattle.mpslp_types.specs.declared.kinds.RowType.TheVariants.{Free, AtMost, AtLeast, Equal}
 
 abbrev pub number : ℤ → ℤ → Number
 number m e = record { mantissa = m; exponent = e }

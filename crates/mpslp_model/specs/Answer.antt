@@ -1,7 +1,7 @@
 -- What a call of a builder answers.
 use Rattle.std.specs.Prelude.{◌≡◌, ◌≢◌, List, [], ◌∷◌, Result, Ok, Err, IfErr, MatchResult}
-use Rattle.mpslp_model.specs.declared.faults.BuildFault.{BuildFault}
-use Rattle.mpslp_model.specs.declared.faults.BuildFault.TheVariants.{OutOfMemory}
+use Rattle.mpslp_types.specs.declared.faults.BuildFault.{BuildFault}
+use Rattle.mpslp_types.specs.declared.faults.BuildFault.TheVariants.{OutOfMemory}
 
 abbrev pub Answer : Type 0
 Answer = Result (Unit {0}) BuildFault

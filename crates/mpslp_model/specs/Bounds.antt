@@ -1,11 +1,12 @@
 -- The kind and bounds of a column, from what is declared of it.
 use Rattle.std.specs.Prelude.{ℕ, pos, Bool, ◌&&◌, ◌||◌, not, List, is_none, unwrap_or, if◌then◌else◌}
 use Rattle.mpslp_decimal.specs.Decimal.{zero_number}
-use Rattle.mpslp_model.specs.Model.{Column, is_at_most}
+use Rattle.mpslp_model.specs.Model.{Column}
+use Rattle.mpslp_types.specs.Sides.{is_at_most}
 use Rattle.mpslp_model.specs.Declaration.{Draft, at_name, has_name, is_integer}
-use Rattle.mpslp_model.specs.declared.kinds.Kind.TheVariants.{Continuous, Integer}
-use Rattle.mpslp_model.specs.declared.kinds.Limit.{Limit}
-use Rattle.mpslp_model.specs.declared.kinds.Limit.TheVariants.{Finite, PlusInf}
+use Rattle.mpslp_types.specs.declared.kinds.Kind.TheVariants.{Continuous, Integer}
+use Rattle.mpslp_types.specs.declared.kinds.Limit.{Limit}
+use Rattle.mpslp_types.specs.declared.kinds.Limit.TheVariants.{Finite, PlusInf}
 
 abbrev pub zero_limit : Limit
 zero_limit = Finite zero_number

@@ -3,12 +3,13 @@ use Rattle.std.specs.Prelude.{ℕ, Bool, true, false, ◌||◌, List, [], ◌∷
 use Rattle.std.specs.Option.{option_map_or}
 use Rattle.std.specs.FinMap.{find, put}
 use Rattle.mpslp_decimal.specs.Decimal.{Number}
-use Rattle.mpslp_model.specs.Name.{same_bytes}
-use Rattle.mpslp_model.specs.Model.{CoefficientKey, bytes_cmp, key_cmp}
-use Rattle.mpslp_model.specs.declared.kinds.Sense.{Sense}
-use Rattle.mpslp_model.specs.declared.kinds.Limit.{Limit}
-use Rattle.mpslp_model.specs.declared.kinds.RowType.{RowType}
-use Rattle.mpslp_model.specs.declared.kinds.RowType.TheVariants.{Free}
+use Rattle.mpslp_types.specs.Name.{same_bytes, bytes_cmp}
+use Rattle.mpslp_model.specs.Model.{CoefficientKey, key_cmp}
+use Rattle.mpslp_types.specs.Sides.{is_plus_infinite, is_minus_infinite}
+use Rattle.mpslp_types.specs.declared.kinds.Sense.{Sense}
+use Rattle.mpslp_types.specs.declared.kinds.Limit.{Limit}
+use Rattle.mpslp_types.specs.declared.kinds.RowType.{RowType}
+use Rattle.mpslp_types.specs.declared.kinds.RowType.TheVariants.{Free}
 
 -- how a row is declared: by its type, or by both limits
 pub data RowForm : Type 0 where
@@ -128,6 +129,11 @@ is_free_form _ = false
 abbrev pub is_limits_form : RowForm → Bool
 is_limits_form (by_type _) = false
 is_limits_form (by_limits _ _) = true
+
+-- a lower limit of plus infinity, or an upper one of minus infinity
+abbrev pub have_infinite_side : RowForm → Bool
+have_infinite_side (by_type _) = false
+have_infinite_side (by_limits lower upper) = is_plus_infinite lower || is_minus_infinite upper
 
 abbrev pub is_free_row : Draft → List ℕ → Bool
 is_free_row all name = option_map_or is_free_form (at_name all.rows name) false

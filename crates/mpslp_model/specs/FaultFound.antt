@@ -7,9 +7,9 @@ use Rattle.mpslp_model.specs.Limits.{limits_of, has_infinite_rhs, is_inexact, is
 use Rattle.mpslp_model.specs.Bounds.{has_negative_upper, has_crossed_bounds, has_binary_bounds}
 use Rattle.mpslp_model.specs.Lists.{head_of}
 use Rattle.mpslp_model.specs.Meaning.{names_with, whole_fault}
-use Rattle.mpslp_model.specs.declared.faults.Fault.{Fault}
-use Rattle.mpslp_model.specs.declared.faults.FaultKind.{FaultKind}
-use Rattle.mpslp_model.specs.declared.faults.FaultKind.TheVariants as kinds
+use Rattle.mpslp_types.specs.declared.faults.Fault.{Fault}
+use Rattle.mpslp_types.specs.declared.faults.FaultKind.{FaultKind}
+use Rattle.mpslp_types.specs.declared.faults.FaultKind.TheVariants as kinds
 use Rattle.mpslp_model.specs.declared.limits.RowFault.{RowFault}
 use Rattle.mpslp_model.specs.declared.limits.RowFault.TheVariants as rows
 use Rattle.mpslp_model.specs.declared.bounds.ColumnFault.{ColumnFault}

@@ -3,8 +3,8 @@ use Rattle.std.specs.Prelude.{◌≡◌, Some, None, Result, Ok, Err}
 use Rattle.mpslp_model.specs.Model.{LinearModel}
 use Rattle.mpslp_model.specs.Declaration.{Draft}
 use Rattle.mpslp_model.specs.Meaning.{file_fault, DraftMeans}
-use Rattle.mpslp_model.specs.declared.faults.ReadFault.{ReadFault}
-use Rattle.mpslp_model.specs.declared.faults.ReadFault.TheVariants.{File, Failed, OutOfMemory}
+use Rattle.mpslp_types.specs.declared.faults.ReadFault.{ReadFault}
+use Rattle.mpslp_types.specs.declared.faults.ReadFault.TheVariants.{File, Failed, OutOfMemory}
 
 -- The first fault of the whole, if there is one. Else the model that is meant, or there was no memory for it.
 abbrev pub Finishes : Draft → Result LinearModel ReadFault → Type 0

@@ -2,12 +2,12 @@
 use Rattle.std.specs.Prelude.{◌≡◌, ℕ, ◌-◌, ◌^◌, ◌≤◌, min, List, length, take, Bool, true, Option, None, Some, Result, Ok, Err}
 use Rattle.mpslp_model.specs.Model.{LinearModel}
 use Rattle.mpslp_io.specs.Devices.{Grows}
-use Rattle.mpslp_model.specs.declared.faults.Fault.{Fault}
-use Rattle.mpslp_model.specs.declared.faults.NameAt.{NameAt}
-use Rattle.mpslp_model.specs.declared.faults.ReadFault.{ReadFault}
-use Rattle.mpslp_model.specs.declared.faults.ReadFault.TheVariants.{File, Failed, OutOfMemory}
-use Rattle.mpslp_model.specs.declared.faults.WriteFault.{WriteFault}
-use Rattle.mpslp_model.specs.declared.faults.WriteFault.TheVariants.{Write, NotLp}
+use Rattle.mpslp_types.specs.declared.faults.Fault.{Fault}
+use Rattle.mpslp_types.specs.declared.faults.NameAt.{NameAt}
+use Rattle.mpslp_types.specs.declared.faults.ReadFault.{ReadFault}
+use Rattle.mpslp_types.specs.declared.faults.ReadFault.TheVariants.{File, Failed, OutOfMemory}
+use Rattle.mpslp_types.specs.declared.faults.WriteFault.{WriteFault}
+use Rattle.mpslp_types.specs.declared.faults.WriteFault.TheVariants.{Write, NotLp}
 
 -- The model that the bytes declare, or their first fault. Want of memory says nothing of the bytes.
 abbrev pub IsAnswerTo : (List ℕ → LinearModel → Type 0) → (List ℕ → Fault → Type 0) → List ℕ → Result LinearModel ReadFault → Type 0

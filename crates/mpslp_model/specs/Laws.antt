@@ -1,15 +1,10 @@
--- Laws of names, declarations and their meaning.
-use Rattle.std.specs.Prelude.{◌≡◌, ◌↔◌, ℕ, IsTrue, List, None, is_some}
+-- Laws of declarations and their meaning.
+use Rattle.std.specs.Prelude.{◌≡◌, ◌↔◌, IsTrue, None, is_some}
 use Rattle.std.specs.List.Sorted.{IsPermutation}
-use Rattle.mpslp_model.specs.Name.{IsMpsName, IsLpName}
 use Rattle.mpslp_model.specs.Model.{LinearModel}
 use Rattle.mpslp_model.specs.Declaration.{Declarations, Draft}
 use Rattle.mpslp_model.specs.Made.{IsMade}
 use Rattle.mpslp_model.specs.Meaning.{file_fault, DraftMeans, Means}
-
--- What is a name in LP is one in MPS.
-abbrev pub LpNamesAreMpsNames : Type 0
-LpNamesAreMpsNames = (name : List ℕ) → IsLpName name → IsMpsName name
 
 -- Two models that the same declarations mean are one.
 abbrev pub MeanOneModel : Type 0

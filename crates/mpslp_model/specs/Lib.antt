@@ -1,17 +1,13 @@
 pub mod Lists
-pub mod Name
 pub mod Model
 pub mod Declaration
-pub mod Sides
 pub mod Limits
 pub mod Bounds
 pub mod Consistency
 pub mod Refusal
 pub mod Made
 pub mod Meaning
-pub mod FaultOrder
 pub mod Laws
-pub mod FaultName
 pub mod Answer
 pub mod BuilderDraft
 pub mod Views

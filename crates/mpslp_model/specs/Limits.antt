@@ -2,12 +2,13 @@
 use Rattle.std.specs.Prelude.{Bool, true, false, ◌&&◌, ◌||◌, not, Option, Some, None, is_none, is_some, if◌then◌else◌}
 use Rattle.std.specs.Option.{option_map_or}
 use Rattle.mpslp_decimal.specs.Decimal.{Number, is_negative, is_infinite_size, size_of, sum_of, difference_of}
-use Rattle.mpslp_model.specs.Model.{Row, limit_of, is_at_most}
+use Rattle.mpslp_model.specs.Model.{Row}
+use Rattle.mpslp_types.specs.Sides.{limit_of, is_at_most}
 use Rattle.mpslp_model.specs.Declaration.{RowForm, by_type, by_limits}
-use Rattle.mpslp_model.specs.declared.kinds.Limit.{Limit}
-use Rattle.mpslp_model.specs.declared.kinds.Limit.TheVariants.{MinusInf, Finite, PlusInf}
-use Rattle.mpslp_model.specs.declared.kinds.RowType.{RowType}
-use Rattle.mpslp_model.specs.declared.kinds.RowType.TheVariants.{Free, AtMost, AtLeast, Equal}
+use Rattle.mpslp_types.specs.declared.kinds.Limit.{Limit}
+use Rattle.mpslp_types.specs.declared.kinds.Limit.TheVariants.{MinusInf, Finite, PlusInf}
+use Rattle.mpslp_types.specs.declared.kinds.RowType.{RowType}
+use Rattle.mpslp_types.specs.declared.kinds.RowType.TheVariants.{Free, AtMost, AtLeast, Equal}
 
 -- finite sides, where both are there
 abbrev pub sides : Option Number → Option Number → Option Row

@@ -2,17 +2,10 @@
 use Rattle.std.specs.Prelude.{◌≡◌, Bool, true, ◌&&◌, IsTrue, []}
 use Rattle.std.specs.List.{list_all}
 use Rattle.mpslp_decimal.specs.Decimal.{is_decimal}
-use Rattle.mpslp_model.specs.Name.{is_mps_name}
-use Rattle.mpslp_model.specs.Model.{is_bounded_decimal}
+use Rattle.mpslp_types.specs.Name.{is_mps_name}
+use Rattle.mpslp_types.specs.Sides.{is_given}
 use Rattle.mpslp_model.specs.Declaration.{RowForm, by_type, by_limits, Declaration, declare_sense, declare_objective, declare_constant, declare_row, declare_rhs, declare_range, declare_column, declare_coefficient, declare_lower, declare_upper, Declarations, Draft, empty_draft, draft_of}
 use Rattle.mpslp_model.specs.Refusal.{refusals_in_turn}
-use Rattle.mpslp_model.specs.declared.kinds.Limit.{Limit}
-use Rattle.mpslp_model.specs.declared.kinds.Limit.TheVariants.{Finite}
-
--- a side as it may be given: a finite one is below 10^20 in size
-abbrev pub is_given : Limit → Bool
-is_given (Finite d) = is_bounded_decimal d
-is_given _ = true
 
 abbrev pub are_given : RowForm → Bool
 are_given (by_type type) = true

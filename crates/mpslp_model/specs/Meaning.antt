@@ -10,11 +10,11 @@ use Rattle.mpslp_model.specs.Limits.{limits_of, plain_limits, has_infinite_rhs, 
 use Rattle.mpslp_model.specs.Bounds.{column_of, has_negative_upper, has_crossed_bounds, has_binary_bounds}
 use Rattle.mpslp_model.specs.Consistency.{AreConsistent}
 use Rattle.mpslp_model.specs.Lists.{is_nonempty, head_of}
-use Rattle.mpslp_model.specs.declared.kinds.Sense.TheVariants.{Minimize}
-use Rattle.mpslp_model.specs.declared.kinds.RowType.TheVariants.{Free}
-use Rattle.mpslp_model.specs.declared.faults.Fault.{Fault}
-use Rattle.mpslp_model.specs.declared.faults.FaultKind.{FaultKind}
-use Rattle.mpslp_model.specs.declared.faults.FaultKind.TheVariants.{NoColumns, InfiniteLimit, RangeInexact, LimitTooLarge, LimitsCrossed, NegativeUpper, BoundsCrossed, BinaryBounds}
+use Rattle.mpslp_types.specs.declared.kinds.Sense.TheVariants.{Minimize}
+use Rattle.mpslp_types.specs.declared.kinds.RowType.TheVariants.{Free}
+use Rattle.mpslp_types.specs.declared.faults.Fault.{Fault}
+use Rattle.mpslp_types.specs.declared.faults.FaultKind.{FaultKind}
+use Rattle.mpslp_types.specs.declared.faults.FaultKind.TheVariants.{NoColumns, InfiniteLimit, RangeInexact, LimitTooLarge, LimitsCrossed, NegativeUpper, BoundsCrossed, BinaryBounds}
 
 -- ---- the model of a draft
 

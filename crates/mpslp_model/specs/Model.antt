@@ -1,23 +1,18 @@
 -- Models as values.
-use Rattle.std.specs.Prelude.{◌≡◌, ◌<◌, ℕ, Bool, false, true, ◌&&◌, not, IsTrue, List, ◌∷◌, length, if◌then◌else◌}
-use Rattle.std.specs.Ordering.{nat_cmp, ordering_then, is_lt}
+use Rattle.std.specs.Prelude.{◌≡◌, ◌<◌, ℕ, Bool, false, ◌&&◌, not, IsTrue, List, ◌∷◌, length}
+use Rattle.std.specs.Ordering.{ordering_then}
 use Rattle.std.specs.declared.cmp.Ordering.{Ordering}
 use Rattle.std.specs.Cmp.{IsTotalOrder, then_total, on_total}
-use Rattle.std.specs.Cmp.Lexicographic.{slice_cmp, nat_list_cmp_total}
+use Rattle.std.specs.Cmp.Lexicographic.{nat_list_cmp_total}
 use Rattle.std.specs.FinMap as maps
 use Rattle.std.specs.FinMap.{FinMap}
-use Rattle.std.specs.Option.{option_map_or}
 use Rattle.std.specs.List.{list_all}
-use Rattle.mpslp_decimal.specs.Decimal.{Number, IsDecimal, is_decimal, is_zero, is_negative, is_infinite_size, decimal_cmp, difference_of}
-use Rattle.mpslp_model.specs.Name.{IsMpsName, is_mps_name, is_one_of}
-use Rattle.mpslp_model.specs.declared.kinds.Sense.{Sense}
-use Rattle.mpslp_model.specs.declared.kinds.Kind.{Kind}
-use Rattle.mpslp_model.specs.declared.kinds.Limit.{Limit}
-use Rattle.mpslp_model.specs.declared.kinds.Limit.TheVariants.{MinusInf, Finite, PlusInf}
-
--- byte order
-abbrev pub bytes_cmp : List ℕ → List ℕ → Ordering
-bytes_cmp = slice_cmp nat_cmp
+use Rattle.mpslp_decimal.specs.Decimal.{Number, IsDecimal, is_decimal, is_zero}
+use Rattle.mpslp_types.specs.Name.{IsMpsName, bytes_cmp, is_mps_name, is_one_of}
+use Rattle.mpslp_types.specs.Sides.{are_sides, has_bounded_distance}
+use Rattle.mpslp_types.specs.declared.kinds.Sense.{Sense}
+use Rattle.mpslp_types.specs.declared.kinds.Kind.{Kind}
+use Rattle.mpslp_types.specs.declared.kinds.Limit.{Limit}
 
 -- where a coefficient stands: a row, or the objective, and a column
 pub record CoefficientKey : Type 0 where
@@ -50,46 +45,6 @@ pub record LinearModel : Type 0 where
   pub rows : FinMap bytes_cmp Row
   pub columns : FinMap bytes_cmp Column
   pub coefficients : FinMap key_cmp Number
-
--- ---- sides
-
--- a given value of size 10^20 or more is the infinity of its sign
-abbrev pub limit_of : Number → Limit
-limit_of d = if is_infinite_size d then (if is_negative d then MinusInf else PlusInf) else Finite d
-
--- the first is at most the second: minus infinity comes first, plus infinity last
-abbrev pub is_at_most : Limit → Limit → Bool
-is_at_most MinusInf _ = true
-is_at_most (Finite a) MinusInf = false
-is_at_most (Finite a) (Finite b) = not (is_lt (decimal_cmp b a))
-is_at_most (Finite a) PlusInf = true
-is_at_most PlusInf MinusInf = false
-is_at_most PlusInf (Finite b) = false
-is_at_most PlusInf PlusInf = true
-
--- a decimal of size below 10^20
-abbrev pub is_bounded_decimal : Number → Bool
-is_bounded_decimal d = is_decimal d && not (is_infinite_size d)
-
--- not plus infinity, and a finite one is bounded
-abbrev pub is_lower_side : Limit → Bool
-is_lower_side MinusInf = true
-is_lower_side (Finite a) = is_bounded_decimal a
-is_lower_side PlusInf = false
-
--- not minus infinity, and a finite one is bounded
-abbrev pub is_upper_side : Limit → Bool
-is_upper_side MinusInf = false
-is_upper_side (Finite a) = is_bounded_decimal a
-is_upper_side PlusInf = true
-
-abbrev pub are_sides : Limit → Limit → Bool
-are_sides lower upper = is_lower_side lower && (is_upper_side upper && is_at_most lower upper)
-
--- upper minus lower is a decimal of size below 10^20, where both are finite
-abbrev pub has_bounded_distance : Limit → Limit → Bool
-has_bounded_distance (Finite a) (Finite b) = option_map_or is_bounded_decimal (difference_of b a) false
-has_bounded_distance _ _ = true
 
 -- ---- sound models
 

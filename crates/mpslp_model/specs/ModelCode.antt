@@ -4,13 +4,14 @@ use Rattle.std.specs.Coded.{Coded, code_by, coded×, coded_list, coded_ℕ}
 use Rattle.std.specs.FinMap as maps
 use Rattle.std.specs.FinMap.{FinMap}
 use Rattle.mpslp_decimal.specs.Decimal.{Number, number_code}
-use Rattle.mpslp_model.specs.Model.{CoefficientKey, Row, Column, LinearModel, bytes_cmp, key_cmp}
-use Rattle.mpslp_model.specs.declared.kinds.Sense.{Sense}
-use Rattle.mpslp_model.specs.declared.kinds.Kind.{Kind}
-use Rattle.mpslp_model.specs.declared.kinds.Limit.{Limit}
-use Rattle.mpslp_model.specs.contracts.kinds.Sense as senses
-use Rattle.mpslp_model.specs.contracts.kinds.Kind as kinds
-use Rattle.mpslp_model.specs.contracts.kinds.Limit as limits
+use Rattle.mpslp_model.specs.Model.{CoefficientKey, Row, Column, LinearModel, key_cmp}
+use Rattle.mpslp_types.specs.Name.{bytes_cmp}
+use Rattle.mpslp_types.specs.declared.kinds.Sense.{Sense}
+use Rattle.mpslp_types.specs.declared.kinds.Kind.{Kind}
+use Rattle.mpslp_types.specs.declared.kinds.Limit.{Limit}
+use Rattle.mpslp_types.specs.contracts.kinds.Sense as senses
+use Rattle.mpslp_types.specs.contracts.kinds.Kind as kinds
+use Rattle.mpslp_types.specs.contracts.kinds.Limit as limits
 
 abbrev pub name_code : Coded (List ℕ)
 name_code = coded_list coded_ℕ

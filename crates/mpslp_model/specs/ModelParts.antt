@@ -1,7 +1,8 @@
 -- A model from its parts, and what holds of these.
 use Rattle.std.specs.Prelude.{IsTrue}
 use Rattle.std.specs.FinMap as maps
-use Rattle.mpslp_model.specs.Model.{LinearModel, bytes_cmp, key_cmp, IsSound}
+use Rattle.mpslp_model.specs.Model.{LinearModel, key_cmp, IsSound}
+use Rattle.mpslp_types.specs.Name.{bytes_cmp}
 use Rattle.mpslp_model.specs.declared.model.Model.TheInside.{Inside}
 
 abbrev pub linear_model : Inside → LinearModel

@@ -2,14 +2,14 @@
 use Rattle.std.specs.Prelude.{ℕ, Bool, false, ◌&&◌, ◌||◌, not, List, [], ◌∷◌, ◌++◌, Option, is_some}
 use Rattle.std.specs.Option.{option_map_or}
 use Rattle.mpslp_decimal.specs.Decimal.{is_infinite_size}
-use Rattle.mpslp_model.specs.Declaration.{Declaration, declare_sense, declare_objective, declare_constant, declare_row, declare_rhs, declare_range, declare_column, declare_coefficient, declare_lower, declare_upper, declare_marked, declare_integer, declare_binary, Declarations, Draft, adding, has_name, is_objective, has_row, has_column, has_entry, is_free_row, is_row_by_limits}
+use Rattle.mpslp_model.specs.Declaration.{Declaration, declare_sense, declare_objective, declare_constant, declare_row, declare_rhs, declare_range, declare_column, declare_coefficient, declare_lower, declare_upper, declare_marked, declare_integer, declare_binary, Declarations, Draft, adding, has_name, is_objective, has_row, has_column, has_entry, is_free_row, is_row_by_limits, have_infinite_side}
 use Rattle.mpslp_model.specs.Model.{CoefficientKey}
 use Rattle.mpslp_model.specs.Lists.{those_of}
-use Rattle.mpslp_model.specs.Sides.{is_plus_infinite, is_minus_infinite, have_infinite_side}
+use Rattle.mpslp_types.specs.Sides.{is_plus_infinite, is_minus_infinite}
 use Rattle.mpslp_model.specs.Consistency.{has_objective_rhs}
-use Rattle.mpslp_model.specs.declared.kinds.Limit.{Limit}
-use Rattle.mpslp_model.specs.declared.faults.BuildFault.{BuildFault}
-use Rattle.mpslp_model.specs.declared.faults.BuildFault.TheVariants.{DuplicateSense, SecondObjective, UnknownRow, UnknownColumn, DuplicateRow, DuplicateEntry, DuplicateRhs, DuplicateRange, DuplicateBound, RangeOnFree, InfiniteValue}
+use Rattle.mpslp_types.specs.declared.kinds.Limit.{Limit}
+use Rattle.mpslp_types.specs.declared.faults.BuildFault.{BuildFault}
+use Rattle.mpslp_types.specs.declared.faults.BuildFault.TheVariants.{DuplicateSense, SecondObjective, UnknownRow, UnknownColumn, DuplicateRow, DuplicateEntry, DuplicateRhs, DuplicateRange, DuplicateBound, RangeOnFree, InfiniteValue}
 
 -- a constant, or a right side of the objective
 abbrev pub has_constant : Draft → Bool

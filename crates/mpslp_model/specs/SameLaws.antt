@@ -7,12 +7,12 @@ use Rattle.std.specs.Cmp.{signed_Decides, IsPartialEquivalence}
 use Rattle.std.proofs.lemmas.Bool.Decides.{Decides-and}
 use Rattle.std.specs.Cmp.Lexicographic.{pointwise, pointwise_decides, same_text, nat_list_eq_equiv}
 use Rattle.mpslp_decimal.specs.Decimal.{Number}
-use Rattle.mpslp_model.specs.Name.{same_bytes}
+use Rattle.mpslp_types.specs.Name.{same_bytes}
 use Rattle.mpslp_model.specs.Model.{Row, Column}
 use Rattle.mpslp_model.specs.Same.{same_number, same_limit, same_kind, same_row, same_column}
-use Rattle.mpslp_model.specs.declared.kinds.Kind.TheVariants.{Continuous, Integer}
-use Rattle.mpslp_model.specs.declared.kinds.Limit.{Limit}
-use Rattle.mpslp_model.specs.declared.kinds.Limit.TheVariants.{MinusInf, Finite, PlusInf}
+use Rattle.mpslp_types.specs.declared.kinds.Kind.TheVariants.{Continuous, Integer}
+use Rattle.mpslp_types.specs.declared.kinds.Limit.{Limit}
+use Rattle.mpslp_types.specs.declared.kinds.Limit.TheVariants.{MinusInf, Finite, PlusInf}
 
 -- the test tells whether two things are the same
 abbrev pub Tells : {X : Type 0} → (X → X → Bool) → Type 0

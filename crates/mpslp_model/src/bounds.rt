@@ -5,15 +5,13 @@ ghost use Rattle.std.specs.Option.{option_copied};
 ghost use Rattle.mpslp_decimal.specs.Decimal.{zero_number};
 ghost use Rattle.mpslp_model.specs.Declaration.{at_name, has_name, is_integer};
 ghost use Rattle.mpslp_model.specs.Bounds.{one_limit, has_no_side, default_upper, lower_bound, upper_bound, column_of, has_negative_upper, has_crossed_bounds, has_binary_bounds};
-ghost use Rattle.mpslp_model.specs.declared.kinds.Limit.TheVariants.{Finite};
+ghost use Rattle.mpslp_types.specs.declared.kinds.Limit.TheVariants.{Finite};
 ghost use Rattle.mpslp_model.specs.FaultFound.{column_test};
 
-use crate::kinds::{Kind, Limit};
-use crate::limits::is_at_most;
 use crate::model::ColumnBounds;
-use crate::names::Name;
-use crate::sorted_map::SortedMap;
 use mpslp_decimal::Decimal;
+use mpslp_maps::SortedMap;
+use mpslp_types::{Kind, Limit, Name};
 use std::marker::Model;
 
 /// What may be wrong with the bounds of a column, in the order in which it is told.
@@ -132,14 +130,16 @@ impl<'a> ColumnParts<'a> {
         ensures { result ≡ has_negative_upper self.now column.now }
     {
         bound_of(self.lowers, column).is_none()
-            && !is_at_most(Limit::Finite(Decimal::zero()), self.upper_bound(column))
+            && !Limit::Finite(Decimal::zero()).is_at_most(self.upper_bound(column))
     }
 
     /// Whether the lower bound of the column is above the upper one.
     fn has_crossed_bounds(&self, column: &[u8]) -> bool
         ensures { result ≡ has_crossed_bounds self.now column.now }
     {
-        !is_at_most(self.lower_bound(column), self.upper_bound(column))
+        !self
+            .lower_bound(column)
+            .is_at_most(self.upper_bound(column))
     }
 
     /// Whether the column is binary and its bounds do not lie within 0 and 1.
@@ -147,8 +147,8 @@ impl<'a> ColumnParts<'a> {
         ensures { result ≡ has_binary_bounds self.now column.now }
     {
         self.binaries.has(&column)
-            && !(is_at_most(Limit::Finite(Decimal::zero()), self.lower_bound(column))
-                && is_at_most(self.upper_bound(column), Limit::Finite(one())))
+            && !(Limit::Finite(Decimal::zero()).is_at_most(self.lower_bound(column))
+                && self.upper_bound(column).is_at_most(Limit::Finite(one())))
     }
 
     /// Whether this is wrong with a column.

@@ -2,18 +2,17 @@
 
 ghost use Rattle.std.specs.Prelude.{◌≡◌, IsTrue, IfOk};
 ghost use Rattle.std.specs.Option.{ForSome, option_map};
-ghost use Rattle.mpslp_model.specs.Name.{IsMpsName};
+ghost use Rattle.mpslp_types.specs.Name.{IsMpsName};
 ghost use Rattle.mpslp_model.specs.Declaration.{empty_draft, adding, adding_all, declare_sense, declare_objective, declare_row, by_type, declare_range, declare_column, declare_coefficient, declare_rhs, declare_marked, declare_integer, rhs_declared, bounds_declared, is_free_form, is_limits_form};
 ghost use Rattle.mpslp_model.specs.Refusal.{refusals, bounds_refusals};
-ghost use Rattle.mpslp_model.specs.Made.{is_given};
+ghost use Rattle.mpslp_types.specs.Sides.{is_given};
 ghost use Rattle.mpslp_model.specs.Answer.{Answers, IsNotOutOfMemory};
 
-use crate::faults::BuildFault;
-use crate::kinds::{Limit, RowType, Sense};
-use crate::names::Name;
-use crate::sorted_map::{OwnedKey, SortedMap, put_both};
+use crate::keys::OwnedKey;
 use mpslp_decimal::Decimal;
 use mpslp_decimal::laws::each_value_is_a_decimal;
+use mpslp_maps::{SortedMap, put_both};
+use mpslp_types::{BuildFault, Limit, Name, RowType, Sense};
 use std::alloc::{AllocError, Global};
 use std::marker::Model;
 
@@ -104,6 +103,17 @@ impl Model for Builder {
     ghost invariant = { λ b. IsMade (draft b) };
 }
 
+/// A copy of a name that is there.
+fn copied(alloc: Global, name: &[u8]) -> Result<Name, AllocError>
+    requires { IsMpsName name.now }
+    ensures { IfOk result (λ copy. copy ≡ name.now) }
+{
+    match Name::new(alloc, name) {
+        Ok(copy) => Ok(copy),
+        Err(_) => Err(AllocError),
+    }
+}
+
 /// A side that is given, with a copy of its column's name.
 fn side_entry(
     alloc: Global,
@@ -114,7 +124,7 @@ fn side_entry(
     ensures { IfOk result (λ entry. entry ≡ option_map (λ limit. (column.now, limit)) side) }
 {
     match side {
-        Some(limit) => Ok(Some((Name::copied(alloc, column)?, limit))),
+        Some(limit) => Ok(Some((copied(alloc, column)?, limit))),
         None => Ok(None),
     }
 }
@@ -197,7 +207,7 @@ impl Builder {
         if self.is_free_row(row) {
             return Ok(());
         }
-        let name = Name::copied(self.alloc, row)?;
+        let name = copied(self.alloc, row)?;
         each_value_is_a_decimal(value);
         self.rhs_values.put(name, value)?;
         Ok(())
@@ -214,7 +224,7 @@ impl Builder {
         ensures { Answers (refusals self.old (declare_range row.now value)) result (self.new ≡ adding self.old (declare_range row.now value)) (self.new ≡ self.old) }
     {
         self.check_range(row, value)?;
-        let name = Name::copied(self.alloc, row)?;
+        let name = copied(self.alloc, row)?;
         each_value_is_a_decimal(value);
         self.ranges.put(name, value)?;
         Ok(())
@@ -250,8 +260,8 @@ impl Builder {
         ensures { let declared = declare_coefficient (record { row = row.now; column = column.now }) value in Answers (refusals self.old declared) result (self.new ≡ adding self.old declared) (self.new ≡ self.old) }
     {
         self.check_coefficient(row, column)?;
-        let row_name = Name::copied(self.alloc, row)?;
-        let column_name = Name::copied(self.alloc, column)?;
+        let row_name = copied(self.alloc, row)?;
+        let column_name = copied(self.alloc, column)?;
         each_value_is_a_decimal(value);
         self.coefficients
             .put(OwnedKey::new(row_name, column_name), value)?;
@@ -296,7 +306,7 @@ impl Builder {
         if self.marked.has(&column) {
             return Ok(());
         }
-        let name = Name::copied(self.alloc, column)?;
+        let name = copied(self.alloc, column)?;
         self.marked.put(name, ())?;
         Ok(())
     }
@@ -313,7 +323,7 @@ impl Builder {
         if self.integers.has(&column) {
             return Ok(());
         }
-        let name = Name::copied(self.alloc, column)?;
+        let name = copied(self.alloc, column)?;
         self.integers.put(name, ())?;
         Ok(())
     }

@@ -6,11 +6,12 @@
 ghost use Rattle.std.specs.Prelude.{◌≡◌, ◌<◌, ◌+◌, ◌&&◌, not, IsTrue, Some, length, filter, slice_get};
 ghost use Rattle.std.specs.List.{remove};
 ghost use Rattle.std.specs.FinMap.{is_sorted};
-ghost use Rattle.mpslp_model.specs.Name.{same_bytes};
+ghost use Rattle.mpslp_types.specs.Name.{same_bytes};
 ghost use Rattle.mpslp_model.specs.Model.{key_cmp};
 
-use crate::sorted_map::{BorrowedKey, OwnedKey, entry_at, index_of_entry};
+use crate::keys::{BorrowedKey, OwnedKey};
 use mpslp_decimal::Decimal;
+use mpslp_maps::{entry_at, index_of_entry};
 
 /// The coefficients in this column, the objective's among them.
 fn part_of<'a>(column: &[u8], coefficients: &'a [(OwnedKey, Decimal)]) -> &'a [(OwnedKey, Decimal)]

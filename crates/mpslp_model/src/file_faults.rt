@@ -12,9 +12,9 @@ ghost use Rattle.mpslp_model.specs.FaultFound.{columns_alone, is_faulty_row, row
 use crate::bounds::{ColumnFault, ColumnParts};
 use crate::builder::{Builder, Form};
 use crate::limits::{RowFault, is_faulty_row, row_has};
-use crate::names::Name;
-use crate::sorted_map::SortedMap;
 use mpslp_decimal::Decimal;
+use mpslp_maps::SortedMap;
+use mpslp_types::Name;
 
 /// The right side of this name, and 0 where none is declared.
 pub(crate) fn rhs_of(rhs_values: &SortedMap<Name, Decimal>, row: &[u8]) -> Decimal

@@ -2,7 +2,7 @@
 
 ghost use Rattle.std.specs.Prelude.{◌≡◌, ◌<◌, IsTrue, IfOk, Some, None, is_some, map, filter, not, slice_get, unwrap_or, vec_len};
 ghost use Rattle.mpslp_decimal.specs.Decimal.{zero_number, is_zero, negated};
-ghost use Rattle.mpslp_model.specs.declared.kinds.RowType.TheVariants as types;
+ghost use Rattle.mpslp_types.specs.declared.kinds.RowType.TheVariants as types;
 ghost use Rattle.mpslp_model.specs.Declaration.{at_name, names_in};
 ghost use Rattle.mpslp_model.specs.Limits.{limits_of, plain_limits};
 ghost use Rattle.mpslp_model.specs.BuilderDraft.{row_form};
@@ -13,14 +13,13 @@ ghost use Rattle.mpslp_model.specs.Finish.{Finishes};
 
 use crate::bounds::{ColumnFault, ColumnParts};
 use crate::builder::{Builder, Form, FormKind};
-use crate::faults::{Fault, FaultKind, ReadFault};
 use crate::file_faults::{FoundFault, range_of, rhs_of};
-use crate::kinds::{Limit, RowType, Sense};
+use crate::keys::OwnedKey;
 use crate::limits::{RowFault, limits_of, plain_limits};
 use crate::model::{ColumnBounds, Model, RowLimits};
-use crate::names::Name;
-use crate::sorted_map::{OwnedKey, SortedMap};
 use mpslp_decimal::Decimal;
+use mpslp_maps::SortedMap;
+use mpslp_types::{Fault, FaultKind, Limit, Name, ReadFault, RowType, Sense};
 use std::alloc::{AllocError, Global};
 
 /// The kind of a fault of a row.

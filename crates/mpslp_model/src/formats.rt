@@ -3,12 +3,12 @@
 ghost use Rattle.std.specs.Prelude.{◌≡◌, ℕ, ◌+◌, ◌≤◌, ◌↔◌, List, true, false, Option, None, length, IsOk, IsTrue};
 ghost use Rattle.mpslp_model.specs.Model.{LinearModel, IsSound};
 ghost use Rattle.mpslp_model.specs.Formats.{IsAnswerTo, IsWritten};
-ghost use Rattle.mpslp_model.specs.declared.faults.Fault.{Fault};
-ghost use Rattle.mpslp_model.specs.declared.faults.NameAt.{NameAt};
+ghost use Rattle.mpslp_types.specs.declared.faults.Fault.{Fault};
+ghost use Rattle.mpslp_types.specs.declared.faults.NameAt.{NameAt};
 
-use crate::faults::{ReadFault, WriteFault};
 use crate::model::Model;
 use mpslp_io::Sink;
+use mpslp_types::{ReadFault, WriteFault};
 use std::alloc::Global;
 
 /// A format of model files: how its bytes are read, how a model is written, and the laws that hold the

@@ -1,21 +1,15 @@
 //! Laws of names, of declarations and of the models that they mean. Each is the contract of a function that does
 //! nothing: to call it is to cite the law.
 //!
-//! A law of every name, builder or model reads a field of it, and that brings what is known of all its parts.
+//! A law of every builder or model reads a field of it, and that brings what is known of all its parts.
 
 ghost use Rattle.mpslp_model.specs.Made.{IsMade};
 ghost use Rattle.mpslp_model.specs.Model.{IsSound};
-ghost use Rattle.mpslp_model.specs.Name.{IsMpsName};
-ghost use Rattle.mpslp_model.specs.Laws.{FaultsAreExact, LpNamesAreMpsNames, MeanOneModel, MeanTheSameInAnyOrder};
+ghost use Rattle.mpslp_model.specs.Laws.{FaultsAreExact, MeanOneModel, MeanTheSameInAnyOrder};
 
 use crate::builder::Builder;
 use crate::model::Model;
-use crate::names::Name;
-
-/// Every name that is legal in LP is legal in MPS too.
-pub fn lp_names_are_mps_names()
-    ensures { LpNamesAreMpsNames }
-{}
+pub use mpslp_types::laws::{each_name_is_legal, lp_names_are_mps_names};
 
 /// Declarations mean one model at most.
 pub fn declarations_mean_one_model()
@@ -47,11 +41,4 @@ pub fn each_model_is_sound(model: &Model)
     ensures { IsSound model.now }
 {
     let _sense = model.sense;
-}
-
-/// The bytes of every name are an MPS name: 1 to 255 bytes of visible ASCII that are not `'MARKER'`.
-pub fn each_name_is_legal(name: &Name)
-    ensures { IsMpsName name.now }
-{
-    let _len = name.bytes.len();
 }

@@ -12,25 +12,23 @@
 mod bounds;
 mod builder;
 mod elements;
-mod faults;
 mod file_faults;
 mod finish;
 mod formats;
-mod kinds;
+mod keys;
 pub mod laws;
 mod limits;
 mod model;
-mod names;
 mod refusals;
-mod sorted_map;
 
 pub use builder::Builder;
-pub use faults::{BuildFault, Fault, FaultKind, NameAt, ReadFault, WriteFault};
 pub use formats::Format;
-pub use kinds::{Kind, Limit, RowType, Sense};
 pub use model::Model;
 pub use mpslp_io::{FromRead, IoFailed, Sink, Source, ToWrite, put_all};
-pub use names::{MAX_NAME_LEN, Name, NameFault};
+pub use mpslp_types::{
+    BuildFault, Fault, FaultKind, Kind, Limit, MAX_NAME_LEN, Name, NameAt, NameFault, ReadFault,
+    RowType, Sense, WriteFault,
+};
 
 #[cfg(test)]
 mod tests;

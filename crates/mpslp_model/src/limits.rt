@@ -4,16 +4,15 @@ ghost use Rattle.std.specs.Prelude.{◌≡◌, Some, not, is_none, false};
 ghost use Rattle.std.specs.Ordering.{is_lt};
 ghost use Rattle.std.specs.Option.{option_map_or};
 ghost use Rattle.mpslp_decimal.specs.Decimal.{decimal_cmp, is_infinite_size, size_of, sum_of, difference_of};
-ghost use Rattle.mpslp_model.specs.Model.{is_at_most};
+ghost use Rattle.mpslp_types.specs.Sides.{is_at_most};
 ghost use Rattle.mpslp_model.specs.Limits.{sides, plain_limits, ranged_limits, limits_of, has_infinite_rhs, is_large_limit, distance_passes, is_inexact, is_too_large, is_crossed};
 ghost use Rattle.mpslp_model.specs.BuilderDraft.{row_form};
 ghost use Rattle.mpslp_model.specs.FaultFound.{is_faulty_row, row_test};
 
 use crate::builder::FormKind;
-use crate::kinds::{Limit, RowType, is_negative};
 use crate::model::RowLimits;
 use mpslp_decimal::Decimal;
-use mpslp_decimal::laws::each_value_is_a_decimal;
+use mpslp_types::{Limit, RowType};
 
 /// What may be wrong with the limits of a row, in the order in which it is told.
 #[derive(Clone, Copy)]
@@ -26,17 +25,6 @@ pub(crate) enum RowFault {
     LimitTooLarge,
     /// The lower limit is above the upper one.
     LimitsCrossed,
-}
-
-/// The number without its sign.
-fn size_of(value: Decimal) -> Decimal
-    ensures { result ≡ size_of value }
-{
-    if is_negative(value) {
-        value.negate()
-    } else {
-        value
-    }
 }
 
 /// Finite limits, where both are there.
@@ -69,14 +57,14 @@ pub(crate) fn plain_limits(row_type: RowType, rhs: Decimal) -> RowLimits
 fn below(rhs: Decimal, range: Decimal) -> Option<RowLimits>
     ensures { result ≡ sides (difference_of rhs (size_of range)) (Some rhs) }
 {
-    sides(rhs.checked_sub(size_of(range)), Some(rhs))
+    sides(rhs.checked_sub(range.abs()), Some(rhs))
 }
 
 /// The limits where the range counts upwards.
 fn above(rhs: Decimal, range: Decimal) -> Option<RowLimits>
     ensures { result ≡ sides (Some rhs) (sum_of rhs (size_of range)) }
 {
-    sides(Some(rhs), rhs.checked_add(size_of(range)))
+    sides(Some(rhs), rhs.checked_add(range.abs()))
 }
 
 /// The limits by type, right side and range, where the computed one is a decimal.
@@ -90,7 +78,7 @@ fn ranged_limits(row_type: RowType, rhs: Decimal, range: Decimal) -> Option<RowL
         }),
         RowType::AtMost => below(rhs, range),
         RowType::AtLeast => above(rhs, range),
-        RowType::Equal if is_negative(range) => below(rhs, range),
+        RowType::Equal if range.is_negative() => below(rhs, range),
         RowType::Equal => above(rhs, range),
     }
 }
@@ -116,10 +104,10 @@ fn has_infinite_rhs(form: &FormKind, rhs: Decimal, range: &Option<Decimal>) -> b
 {
     match form {
         FormKind::ByType(RowType::AtMost) => {
-            rhs.is_infinite_size() && (range.is_some() || is_negative(rhs))
+            rhs.is_infinite_size() && (range.is_some() || rhs.is_negative())
         }
         FormKind::ByType(RowType::AtLeast) => {
-            rhs.is_infinite_size() && (range.is_some() || !is_negative(rhs))
+            rhs.is_infinite_size() && (range.is_some() || !rhs.is_negative())
         }
         FormKind::ByType(RowType::Equal) => rhs.is_infinite_size(),
         FormKind::ByType(RowType::Free) | FormKind::ByLimits(_, _) => false,
@@ -195,39 +183,12 @@ fn is_too_large(limits: &Option<RowLimits>) -> bool
     }
 }
 
-/// Whether the first number is at most the second.
-fn is_ordered(a: Decimal, b: Decimal) -> bool
-    ensures { result ≡ not (is_lt (decimal_cmp b a)) }
-{
-    each_value_is_a_decimal(a);
-    each_value_is_a_decimal(b);
-    !b.cmp(&a).is_lt()
-}
-
-/// Whether the first side is at most the second.
-pub(crate) fn is_at_most(a: Limit, b: Limit) -> bool
-    ensures { result ≡ is_at_most a b }
-{
-    match a {
-        Limit::MinusInf => true,
-        Limit::Finite(a) => match b {
-            Limit::MinusInf => false,
-            Limit::Finite(b) => is_ordered(a, b),
-            Limit::PlusInf => true,
-        },
-        Limit::PlusInf => match b {
-            Limit::PlusInf => true,
-            _ => false,
-        },
-    }
-}
-
 /// Whether the lower limit is above the upper one.
 fn is_crossed(limits: &Option<RowLimits>) -> bool
     ensures { result ≡ is_crossed limits.now }
 {
     match limits {
-        Some(limits) => !is_at_most(limits.lower, limits.upper),
+        Some(limits) => !limits.lower.is_at_most(limits.upper),
         None => false,
     }
 }

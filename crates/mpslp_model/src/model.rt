@@ -6,17 +6,16 @@ ghost use Rattle.mpslp_decimal.specs.Decimal.{negated, zero_number, decimal_cmp,
 ghost use Rattle.std.specs.Bool.{Decides};
 ghost use Rattle.std.specs.Ordering.{is_eq};
 ghost use Rattle.std.specs.FinMap.{is_sorted};
-ghost use Rattle.mpslp_model.specs.Name.{same_bytes};
-ghost use Rattle.mpslp_model.specs.Model.{bytes_cmp};
+ghost use Rattle.mpslp_types.specs.Name.{same_bytes, bytes_cmp};
 ghost use Rattle.mpslp_model.specs.Same.{same_number, same_limit, same_kind, IsSameObjective};
 ghost use Rattle.mpslp_model.specs.Views.{row_names, column_names, rows_of, columns_of, num_rows, num_columns, num_elements, row_name, column_name, row_index, column_index, row_sense, right_hand_side, row_range, is_integer_column, coefficient_at, column_elements, numbered_elements};
 
 use crate::elements::{count_elements_of, element_at};
-use crate::kinds::{Kind, Limit, Sense};
-use crate::names::Name;
-use crate::sorted_map::{BorrowedKey, OwnedKey, entry_at, find_entry, index_of_entry};
+use crate::keys::{BorrowedKey, OwnedKey};
 use mpslp_decimal::Decimal;
 use mpslp_decimal::laws::each_value_is_a_decimal;
+use mpslp_maps::{entry_at, find_entry, index_of_entry};
+use mpslp_types::{Kind, Limit, Name, Sense};
 use std::cmp::Ordering;
 use std::marker;
 

@@ -4,18 +4,17 @@
 
 ghost use Rattle.std.specs.Prelude.{◌≡◌, ◌&&◌, ◌||◌, false, is_some};
 ghost use Rattle.std.specs.Option.{option_map_or};
-ghost use Rattle.mpslp_model.specs.Name.{same_bytes};
-ghost use Rattle.mpslp_model.specs.Sides.{is_plus_infinite, is_minus_infinite};
+ghost use Rattle.mpslp_types.specs.Name.{same_bytes};
+ghost use Rattle.mpslp_types.specs.Sides.{is_plus_infinite, is_minus_infinite};
 ghost use Rattle.mpslp_model.specs.Declaration.{declare_objective, declare_range, declare_marked, declare_integer, is_objective, has_row, has_column, has_name, has_entry, is_free_row, is_row_by_limits};
 ghost use Rattle.mpslp_model.specs.Lists.{those_of};
 ghost use Rattle.mpslp_model.specs.Refusal.{sense_tests, row_tests, rhs_tests, coefficient_tests, refusals, bounds_refusals};
 ghost use Rattle.mpslp_model.specs.Answer.{first_refusal};
 
 use crate::builder::Builder;
-use crate::faults::BuildFault;
-use crate::kinds::Limit;
-use crate::sorted_map::BorrowedKey;
+use crate::keys::BorrowedKey;
 use mpslp_decimal::Decimal;
+use mpslp_types::{BuildFault, Limit};
 
 /// Answers the first fault whose test holds, if there is one.
 fn refuse(tests: &[(bool, BuildFault)]) -> Result<(), BuildFault>

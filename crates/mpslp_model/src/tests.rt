@@ -1,7 +1,7 @@
 //! Each public call with ample memory, on worked examples.
 
 ghost use Rattle.std.specs.Prelude.{IsTrue};
-ghost use Rattle.mpslp_model.specs.Made.{is_given};
+ghost use Rattle.mpslp_types.specs.Sides.{is_given};
 
 use crate::{BuildFault, Builder, FaultKind, Limit, Model, Name, ReadFault, RowType, Sense};
 use mpslp_decimal::{Decimal, DecimalText};

@@ -4,15 +4,14 @@ use Rattle.std.specs.Prelude.{◌&&◌, ◌||◌, Option, Some, None, is_some, E
 use Rattle.std.specs.Option.{option_map, option_map_or}
 use Rattle.mpslp_decimal.specs.Decimal.{Number}
 use Rattle.mpslp_model.specs.Answer.{Answers}
-use Rattle.mpslp_model.specs.Model.{limit_of}
+use Rattle.mpslp_types.specs.Sides.{limit_of, is_plus_infinite, is_minus_infinite}
 use Rattle.mpslp_model.specs.Bounds.{zero_limit}
 use Rattle.mpslp_model.specs.Declaration.{declare_integer, declare_lower, declare_upper, Draft, adding, has_name, has_column, bounds_declared}
 use Rattle.mpslp_model.specs.Refusal.{bounds_refusals, bounds_tests}
-use Rattle.mpslp_model.specs.Sides.{is_plus_infinite, is_minus_infinite}
-use Rattle.mpslp_model.specs.declared.kinds.Limit.{Limit}
-use Rattle.mpslp_model.specs.declared.faults.BuildFault.{BuildFault}
-use Rattle.mpslp_model.specs.declared.faults.FaultKind.{FaultKind}
-use Rattle.mpslp_model.specs.declared.faults.FaultKind.TheVariants as kinds
+use Rattle.mpslp_types.specs.declared.kinds.Limit.{Limit}
+use Rattle.mpslp_types.specs.declared.faults.BuildFault.{BuildFault}
+use Rattle.mpslp_types.specs.declared.faults.FaultKind.{FaultKind}
+use Rattle.mpslp_types.specs.declared.faults.FaultKind.TheVariants as kinds
 use Rattle.mpslp_mps.specs.Line.{Fields}
 use Rattle.mpslp_mps.specs.BoundLine.{BoundLine, bound_type, bound_shape}
 use Rattle.mpslp_mps.specs.LineMeaning.{declared_of, bound_declared, bound_value, bound_line_declared}

@@ -6,12 +6,12 @@ use Rattle.std.specs.List.{list_all, flat_map}
 use Rattle.std.specs.Option.{option_map, option_or}
 use Rattle.std.proofs.lemmas.Bool.Decides.{nat_tests}
 use Rattle.mpslp_decimal.specs.Decimal.{Number}
-use Rattle.mpslp_model.specs.Name.{same_bytes, has_name_length, is_visible, marker, is_mps_name}
+use Rattle.mpslp_types.specs.Name.{same_bytes, has_name_length, is_visible, marker, is_mps_name}
 use Rattle.mpslp_model.specs.Declaration.{Declarations, Draft, adding_all, has_column}
 use Rattle.mpslp_model.specs.Lists.{those_of}
-use Rattle.mpslp_model.specs.FaultOrder.{kind_rank, least_kind}
-use Rattle.mpslp_model.specs.declared.faults.FaultKind.{FaultKind}
-use Rattle.mpslp_model.specs.declared.faults.FaultKind.TheVariants as kinds
+use Rattle.mpslp_types.specs.FaultOrder.{kind_rank, least_kind}
+use Rattle.mpslp_types.specs.declared.faults.FaultKind.{FaultKind}
+use Rattle.mpslp_types.specs.declared.faults.FaultKind.TheVariants as kinds
 use Rattle.mpslp_mps.specs.Line.{Fields, data_line}
 use Rattle.mpslp_mps.specs.DataLine.{Pair, ValuesLine, column_shape, is_marker_line}
 use Rattle.mpslp_mps.specs.Context.{Context}

@@ -3,8 +3,8 @@ use Rattle.std.proofs.Common.{◌≡◌, refl, sym, ap, subst, ◌∙◌, ℕ, L
 use Rattle.std.specs.Prelude.{Option, Ok, Err}
 use Rattle.mpslp_model.specs.Declaration.{Draft, adding_all}
 use Rattle.mpslp_model.specs.Lists.{those_of}
-use Rattle.mpslp_model.specs.FaultOrder.{least_kind}
-use Rattle.mpslp_model.specs.declared.faults.FaultKind.{FaultKind}
+use Rattle.mpslp_types.specs.FaultOrder.{least_kind}
+use Rattle.mpslp_types.specs.declared.faults.FaultKind.{FaultKind}
 use Rattle.mpslp_mps.specs.Line.{Fields, Item, skipped, header, data_line, header_of, fields, is_skipped, is_data, item_of}
 use Rattle.mpslp_mps.specs.Section.{section_named}
 use Rattle.mpslp_mps.specs.Context.{Context}

@@ -6,13 +6,13 @@ use Rattle.std.specs.Cmp.{first_so, second_so}
 use Rattle.std.proofs.lemmas.List.Folds.{list_all-append}
 use Rattle.mpslp_model.specs.Declaration.{by_type, Declaration, declare_sense, declare_objective, declare_row, declare_rhs, declare_range, declare_column, declare_coefficient, declare_marked, Declarations, Draft, adding, adding_all, has_row, has_column, is_free_row, rhs_declared}
 use Rattle.mpslp_model.specs.Consistency.{is_known}
-use Rattle.mpslp_model.specs.Name.{same_bytes}
+use Rattle.mpslp_types.specs.Name.{same_bytes}
 use Rattle.mpslp_model.specs.Lists.{those_of, is_nonempty, when}
-use Rattle.mpslp_model.specs.declared.kinds.Sense.{Sense}
-use Rattle.mpslp_model.specs.declared.kinds.Limit.{Limit}
-use Rattle.mpslp_model.specs.declared.kinds.RowType.{RowType}
-use Rattle.mpslp_model.specs.declared.kinds.RowType.TheVariants.{Free, AtMost, AtLeast, Equal}
-use Rattle.mpslp_model.proofs.BoolLemmas.{both_so, or_left}
+use Rattle.mpslp_types.specs.declared.kinds.Sense.{Sense}
+use Rattle.mpslp_types.specs.declared.kinds.Limit.{Limit}
+use Rattle.mpslp_types.specs.declared.kinds.RowType.{RowType}
+use Rattle.mpslp_types.specs.declared.kinds.RowType.TheVariants.{Free, AtMost, AtLeast, Equal}
+use Rattle.mpslp_types.proofs.BoolLemmas.{both_so, or_left}
 use Rattle.mpslp_model.proofs.RefusalLemmas.{are_known_in_turn}
 use Rattle.mpslp_model.proofs.LaterDrafts.{itself_named}
 use Rattle.mpslp_model.proofs.SlotLemmas.{has-put}
@@ -24,14 +24,13 @@ use Rattle.mpslp_mps.specs.Context.{Context, context_of, current_section, has_se
 use Rattle.mpslp_mps.specs.LineMeaning.{declared_of, sense_declared, row_of_type, row_declared, coefficient_declared, column_declared, columns_line_declared, right_sides_declared, ranges_declared, bound_declared, bound_value, bound_line_declared, data_declared, header_declared, declared}
 use Rattle.mpslp_reading.specs.Field.{value_of}
 use Rattle.mpslp_mps.specs.HeaderFault.{header_tests}
-use Rattle.mpslp_mps.proofs.PlacedLemmas.{form_faults}
+use Rattle.mpslp_mps.proofs.PlacedLemmas.{form_faults, declared_items, have_good_form, no_faults}
 use Rattle.mpslp_mps.specs.declared.sections.Section.{Section}
 use Rattle.mpslp_mps.specs.declared.sections.Section.TheVariants.{Name, ObjSense, Rows, Columns, Rhs, Ranges, Bounds, EndData}
 use Rattle.mpslp_mps.specs.declared.bound_types.BoundType.{BoundType}
 use Rattle.mpslp_mps.specs.declared.bound_types.BoundType.TheVariants as bounds
 use Rattle.mpslp_model.proofs.MadeDrafts.{adding_all-append}
 use Rattle.mpslp_mps.proofs.SectionLemmas.{has_section-push}
-use Rattle.mpslp_mps.proofs.PlacedLemmas.{declared_items, have_good_form, no_faults}
 use Rattle.mpslp_mps.proofs.OrderLemmas.{header-fresh, Past, past-rows, past-columns, never, IsGood, is_late, Ordered, ordered-push, declares_row, declares_column, no_rows, no_columns, rows-kept, columns-kept, each-declared, sense-passes, sides-passes, ranges-passes, bounds-passes, columns-line-no-rows, passes-no_rows, passes-no_columns}
 
 -- ---- once ROWS is past no rows are declared, once COLUMNS is past no columns

@@ -4,17 +4,17 @@ use Rattle.std.specs.Prelude.{Option, Some, None, is_none, codes}
 use Rattle.std.specs.List.{list_all, flat_map}
 use Rattle.std.specs.Option.{option_map_or}
 use Rattle.std.proofs.lemmas.List.Folds.{list_all-append}
-use Rattle.mpslp_model.specs.Name.{is_mps_name}
-use Rattle.mpslp_model.specs.Model.{limit_of}
+use Rattle.mpslp_types.specs.Name.{is_mps_name}
+use Rattle.mpslp_types.specs.Sides.{limit_of, is_given}
 use Rattle.mpslp_model.specs.Declaration.{by_type, declare_sense, declare_objective, declare_row, declare_rhs, declare_range, declare_marked, Draft, adding_all, is_free_row, rhs_declared}
 use Rattle.mpslp_model.specs.Bounds.{zero_limit}
-use Rattle.mpslp_model.specs.Made.{is_given, is_legal}
+use Rattle.mpslp_model.specs.Made.{is_legal}
 use Rattle.mpslp_model.specs.Lists.{those_of}
-use Rattle.mpslp_model.specs.declared.kinds.Limit.{Limit}
-use Rattle.mpslp_model.specs.declared.kinds.RowType.{RowType}
-use Rattle.mpslp_model.specs.declared.kinds.RowType.TheVariants.{Free, AtMost, AtLeast, Equal}
-use Rattle.mpslp_model.specs.declared.faults.FaultKind.TheVariants as kinds
-use Rattle.mpslp_model.proofs.BoolLemmas.{both_so}
+use Rattle.mpslp_types.specs.declared.kinds.Limit.{Limit}
+use Rattle.mpslp_types.specs.declared.kinds.RowType.{RowType}
+use Rattle.mpslp_types.specs.declared.kinds.RowType.TheVariants.{Free, AtMost, AtLeast, Equal}
+use Rattle.mpslp_types.specs.declared.faults.FaultKind.TheVariants as kinds
+use Rattle.mpslp_types.proofs.BoolLemmas.{both_so}
 use Rattle.mpslp_reading.proofs.FieldLemmas.{name-legal, value-decimal, limit-given}
 use Rattle.mpslp_mps.specs.Line.{Fields, Item, skipped, header, data_line}
 use Rattle.mpslp_mps.specs.Section.{section_named}

@@ -1,11 +1,11 @@
 -- What is left to be read decides: of lines from a context and a draft, the first one and then those after it.
 use Rattle.std.proofs.Common.{◌≡◌, refl, sym, ap, subst, ◌∙◌, ℕ, ◌+◌, ◌-◌, ◌^◌, min, List, [], ◌∷◌, Bool, true, false, arith}
 use Rattle.std.specs.Prelude.{◌||◌, Option, Some, None}
-use Rattle.std.specs.List.{list_any}
+use Rattle.std.specs.List.{list_any, list_all}
 use Rattle.std.specs.Option.{option_map, option_or}
 use Rattle.mpslp_model.specs.Declaration.{Draft}
-use Rattle.mpslp_model.specs.declared.faults.FaultKind.{FaultKind}
-use Rattle.mpslp_model.specs.declared.faults.FaultKind.TheVariants.{LineTooLong, BadByte}
+use Rattle.mpslp_types.specs.declared.faults.FaultKind.{FaultKind}
+use Rattle.mpslp_types.specs.declared.faults.FaultKind.TheVariants.{LineTooLong, BadByte}
 use Rattle.mpslp_reading.specs.LegalLine.{has_legal_length, is_legal_byte}
 use Rattle.mpslp_reading.proofs.LeastLemmas.{are_rising}
 use Rattle.mpslp_reading.proofs.FirstFaultLemmas.{faultless, no_fault, too-long, bad-byte, legal-first}
@@ -13,7 +13,6 @@ use Rattle.mpslp_mps.specs.LineFault.{item_tests, line_tests}
 use Rattle.mpslp_mps.specs.LineMeaning.{declared}
 use Rattle.mpslp_mps.proofs.PlacedLemmas.{item-form}
 use Rattle.mpslp_mps.proofs.RisingTests.{item-rising}
-use Rattle.std.specs.List.{list_all}
 use Rattle.mpslp_mps.specs.Line.{item_of, outside_comment}
 use Rattle.mpslp_mps.specs.Section.{is_section}
 use Rattle.mpslp_mps.specs.Context.{Context}

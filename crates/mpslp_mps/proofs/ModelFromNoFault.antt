@@ -9,10 +9,10 @@ use Rattle.mpslp_model.specs.Lists.{is_nonempty}
 use Rattle.mpslp_model.specs.Refusal.{refusals_in_turn}
 use Rattle.mpslp_model.specs.Made.{is_legal}
 use Rattle.mpslp_model.specs.Meaning.{model_of, whole_fault, file_fault}
-use Rattle.mpslp_model.specs.declared.faults.Fault.{Fault}
-use Rattle.mpslp_model.specs.declared.faults.FaultKind.{FaultKind}
-use Rattle.mpslp_model.specs.declared.faults.FaultKind.TheVariants.{MissingEnd}
-use Rattle.mpslp_model.proofs.BoolLemmas.{both_so, or_left, or_right}
+use Rattle.mpslp_types.specs.declared.faults.Fault.{Fault}
+use Rattle.mpslp_types.specs.declared.faults.FaultKind.{FaultKind}
+use Rattle.mpslp_types.specs.declared.faults.FaultKind.TheVariants.{MissingEnd}
+use Rattle.mpslp_types.proofs.BoolLemmas.{both_so, or_left, or_right}
 use Rattle.mpslp_model.proofs.RefusalLemmas.{join_none}
 use Rattle.mpslp_model.proofs.MadeDrafts.{refusals_in_turn-append}
 use Rattle.mpslp_model.proofs.Acceptance.{means-from_none}

@@ -9,7 +9,7 @@ use Rattle.mpslp_model.specs.Declaration.{Declarations, Draft, empty_draft, addi
 use Rattle.mpslp_model.specs.Lists.{those_of}
 use Rattle.mpslp_model.specs.Refusal.{refusals_in_turn}
 use Rattle.mpslp_model.specs.Meaning.{file_fault, Means}
-use Rattle.mpslp_model.specs.declared.faults.FaultKind.{FaultKind}
+use Rattle.mpslp_types.specs.declared.faults.FaultKind.{FaultKind}
 use Rattle.mpslp_model.proofs.RefusalLemmas.{left_none, right_none}
 use Rattle.mpslp_model.proofs.MadeDrafts.{refusals_in_turn-append}
 use Rattle.mpslp_model.proofs.Acceptance.{none-from_means}

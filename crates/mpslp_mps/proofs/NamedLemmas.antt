@@ -6,8 +6,8 @@ use Rattle.std.specs.Option.{option_map, option_or}
 use Rattle.mpslp_model.specs.Declaration.{declare_objective, Draft, adding_all}
 use Rattle.mpslp_model.specs.Lists.{those_of}
 use Rattle.mpslp_reading.proofs.LeastLemmas.{least-none}
-use Rattle.mpslp_model.specs.declared.faults.Fault.{Fault}
-use Rattle.mpslp_model.specs.declared.faults.FaultKind.{FaultKind}
+use Rattle.mpslp_types.specs.declared.faults.Fault.{Fault}
+use Rattle.mpslp_types.specs.declared.faults.FaultKind.{FaultKind}
 use Rattle.mpslp_mps.specs.Line.{Fields, Item, skipped, header, data_line, item_of}
 use Rattle.mpslp_mps.specs.Section.{is_section, section_named, begins}
 use Rattle.mpslp_mps.specs.Context.{Context}

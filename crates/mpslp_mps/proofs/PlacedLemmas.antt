@@ -5,9 +5,9 @@ use Rattle.std.specs.List.{flat_map, list_all}
 use Rattle.std.specs.Cmp.{first_so, second_so}
 use Rattle.mpslp_model.specs.Declaration.{Declarations, Draft, adding_all}
 use Rattle.mpslp_model.specs.Lists.{is_nonempty, those_of}
-use Rattle.mpslp_model.specs.declared.faults.FaultKind.{FaultKind}
-use Rattle.mpslp_model.specs.declared.faults.FaultKind.TheVariants.{LineTooLong, BadByte}
-use Rattle.mpslp_model.proofs.BoolLemmas.{both_so}
+use Rattle.mpslp_types.specs.declared.faults.FaultKind.{FaultKind}
+use Rattle.mpslp_types.specs.declared.faults.FaultKind.TheVariants.{LineTooLong, BadByte}
+use Rattle.mpslp_types.proofs.BoolLemmas.{both_so}
 use Rattle.mpslp_reading.specs.LegalLine.{has_legal_length, is_legal_byte}
 use Rattle.mpslp_reading.proofs.HeldLemmas.{later_tests}
 use Rattle.mpslp_reading.proofs.FirstFaultLemmas.{legal-only}

@@ -2,10 +2,10 @@
 use Rattle.std.proofs.Common.{◌≡◌, refl, sym, ap, ◌∙◌, ℕ, List, [], ◌∷◌, Bool, true, false, not, cond}
 use Rattle.std.specs.Prelude.{◌||◌, Option, Some, None}
 use Rattle.mpslp_decimal.specs.Decimal.{Number, is_infinite_size}
-use Rattle.mpslp_model.specs.Name.{same_bytes}
+use Rattle.mpslp_types.specs.Name.{same_bytes}
 use Rattle.mpslp_model.specs.Declaration.{declare_range, Draft, adding, has_name, has_row, is_objective, is_free_row, is_row_by_limits}
-use Rattle.mpslp_model.specs.declared.faults.FaultKind.{FaultKind}
-use Rattle.mpslp_model.specs.declared.faults.FaultKind.TheVariants as kinds
+use Rattle.mpslp_types.specs.declared.faults.FaultKind.{FaultKind}
+use Rattle.mpslp_types.specs.declared.faults.FaultKind.TheVariants as kinds
 use Rattle.mpslp_model.proofs.SlotLemmas.{has-put, same_name}
 use Rattle.mpslp_reading.specs.Declaring.{declared_fault}
 use Rattle.mpslp_reading.proofs.LeastLemmas.{earlier_of}

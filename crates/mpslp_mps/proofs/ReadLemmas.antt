@@ -5,7 +5,7 @@ use Rattle.mpslp_model.specs.Model.{LinearModel}
 use Rattle.mpslp_model.specs.Declaration.{Draft, draft_of}
 use Rattle.mpslp_model.specs.Meaning.{model_of, file_fault}
 use Rattle.mpslp_model.specs.Finish.{Finishes}
-use Rattle.mpslp_model.specs.declared.faults.ReadFault.{ReadFault}
+use Rattle.mpslp_types.specs.declared.faults.ReadFault.{ReadFault}
 use Rattle.mpslp_reading.proofs.AnswerLemmas.{finished-answers}
 use Rattle.mpslp_mps.specs.MpsText.{declarations_of, DeclaresMps}
 use Rattle.mpslp_mps.specs.FirstFault.{first_mps_fault}

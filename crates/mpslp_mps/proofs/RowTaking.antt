@@ -2,7 +2,7 @@
 use Rattle.std.proofs.Common.{◌≡◌, refl, List, ◌∷◌, Bool, true, ℕ}
 use Rattle.std.specs.Prelude.{Option, Some, None}
 use Rattle.std.specs.List.{list_all}
-use Rattle.mpslp_model.specs.declared.faults.FaultKind.TheVariants as kinds
+use Rattle.mpslp_types.specs.declared.faults.FaultKind.TheVariants as kinds
 use Rattle.mpslp_mps.specs.DataLine.{RowLine}
 use Rattle.mpslp_reading.specs.Tests.{judged_by}
 use Rattle.mpslp_mps.specs.HeaderFault.{word_tests}

@@ -3,7 +3,7 @@ use Rattle.std.proofs.Common.{◌≡◌, refl, ap, ◌∙◌, ℕ, List, [], ◌
 use Rattle.std.specs.Prelude.{◌||◌, Option, Some, None}
 use Rattle.std.specs.Option.{option_map, option_map_or, option_or}
 use Rattle.mpslp_decimal.specs.Decimal.{Number}
-use Rattle.mpslp_model.specs.Name.{same_bytes}
+use Rattle.mpslp_types.specs.Name.{same_bytes}
 use Rattle.mpslp_mps.specs.Line.{Fields, skipped, header, data_line}
 use Rattle.mpslp_mps.specs.Section.{is_section, section_named}
 use Rattle.mpslp_mps.specs.DataLine.{ValuesLine, column_shape, is_marker_line, marker_shape, opening_word, vector_shape}

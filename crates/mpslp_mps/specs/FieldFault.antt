@@ -1,8 +1,8 @@
 -- The faults of pairs and set names.
 use Rattle.std.specs.Prelude.{ℕ, false, not, List, [], ◌∷◌, map, Option}
 use Rattle.std.specs.Option.{option_map_or}
-use Rattle.mpslp_model.specs.Name.{same_bytes}
-use Rattle.mpslp_model.specs.declared.faults.FaultKind.TheVariants.{SecondSet}
+use Rattle.mpslp_types.specs.Name.{same_bytes}
+use Rattle.mpslp_types.specs.declared.faults.FaultKind.TheVariants.{SecondSet}
 use Rattle.mpslp_reading.specs.Tests.{Tests}
 use Rattle.mpslp_mps.specs.DataLine.{Pair}
 

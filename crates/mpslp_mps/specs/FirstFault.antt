@@ -3,9 +3,9 @@ use Rattle.std.specs.Prelude.{◌≡◌, ℕ, ◌+◌, List, [], ◌∷◌, Opti
 use Rattle.std.specs.Option.{option_map, option_or}
 use Rattle.mpslp_model.specs.Declaration.{draft_of}
 use Rattle.mpslp_model.specs.Meaning.{whole_fault, file_fault}
-use Rattle.mpslp_model.specs.declared.faults.Fault.{Fault}
-use Rattle.mpslp_model.specs.declared.faults.FaultKind.{FaultKind}
-use Rattle.mpslp_model.specs.declared.faults.FaultKind.TheVariants.{MissingEnd}
+use Rattle.mpslp_types.specs.declared.faults.Fault.{Fault}
+use Rattle.mpslp_types.specs.declared.faults.FaultKind.{FaultKind}
+use Rattle.mpslp_types.specs.declared.faults.FaultKind.TheVariants.{MissingEnd}
 use Rattle.mpslp_reading.specs.Declaring.{first_fault}
 use Rattle.mpslp_reading.specs.LineAnswer.{fault_on_line}
 use Rattle.mpslp_mps.specs.MpsText.{Placed, has_end, tests_at, declared_at, placed_lines, declarations_of}

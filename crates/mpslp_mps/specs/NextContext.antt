@@ -1,7 +1,7 @@
 -- The context after one line more, from the context before it: what a reader keeps in place of the lines.
 use Rattle.std.specs.Prelude.{ℕ, Bool, ◌||◌, List, Option, if◌then◌else◌}
 use Rattle.std.specs.Option.{option_map_or, option_or}
-use Rattle.mpslp_model.specs.Name.{same_bytes}
+use Rattle.mpslp_types.specs.Name.{same_bytes}
 use Rattle.mpslp_mps.specs.Line.{Fields, Item, data_line}
 use Rattle.mpslp_mps.specs.Section.{section_begun, begins, is_section}
 use Rattle.mpslp_mps.specs.DataLine.{opening_word}

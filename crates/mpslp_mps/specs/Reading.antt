@@ -2,7 +2,7 @@
 use Rattle.std.specs.Prelude.{ℕ, ◌+◌, List, [], ◌∷◌, Option, None}
 use Rattle.std.specs.Option.{option_map, option_or}
 use Rattle.mpslp_model.specs.Declaration.{Draft, adding_all}
-use Rattle.mpslp_model.specs.declared.faults.Fault.{Fault}
+use Rattle.mpslp_types.specs.declared.faults.Fault.{Fault}
 use Rattle.mpslp_mps.specs.Line.{item_of}
 use Rattle.mpslp_mps.specs.Context.{Context}
 use Rattle.mpslp_mps.specs.NextContext.{next_context}

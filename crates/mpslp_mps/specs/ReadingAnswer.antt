@@ -4,7 +4,7 @@ use Rattle.std.specs.List.{list_any, position_or_len}
 use Rattle.mpslp_model.specs.Model.{LinearModel}
 use Rattle.mpslp_model.specs.Declaration.{Draft, draft_of}
 use Rattle.mpslp_model.specs.Meaning.{file_fault}
-use Rattle.mpslp_model.specs.declared.faults.ReadFault.{ReadFault}
+use Rattle.mpslp_types.specs.declared.faults.ReadFault.{ReadFault}
 use Rattle.mpslp_model.specs.Formats.{IsAnswerTo}
 use Rattle.mpslp_mps.specs.Context.{Context}
 use Rattle.mpslp_mps.specs.MpsText.{is_end, declarations_of, DeclaresMps}

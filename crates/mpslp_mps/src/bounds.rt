@@ -2,9 +2,8 @@
 
 ghost use Rattle.std.specs.Prelude.{◌≡◌, ◌∷◌, ◌||◌, true, map, IsTrue, Some, is_some};
 ghost use Rattle.std.specs.Option.{ForSome, option_map_or};
-ghost use Rattle.mpslp_model.specs.Model.{limit_of};
+ghost use Rattle.mpslp_types.specs.Sides.{limit_of, is_given};
 ghost use Rattle.mpslp_model.specs.Bounds.{zero_limit, one_limit};
-ghost use Rattle.mpslp_model.specs.Made.{is_given};
 ghost use Rattle.mpslp_model.specs.Declaration.{declare_integer, bounds_declared};
 ghost use Rattle.mpslp_mps.specs.Line.{data_line};
 ghost use Rattle.mpslp_mps.specs.LineMeaning.{lower_given, upper_given, is_integer_type, bound_declared};

@@ -2,7 +2,7 @@
 
 ghost use Rattle.std.specs.Prelude.{◌≡◌, [], false, is_some, OnOk};
 ghost use Rattle.std.specs.Option.{option_map, option_map_or};
-ghost use Rattle.mpslp_model.specs.Name.{same_bytes};
+ghost use Rattle.mpslp_types.specs.Name.{same_bytes};
 ghost use Rattle.mpslp_mps.specs.Section.{is_section};
 ghost use Rattle.mpslp_mps.specs.declared.sections.Section.{Section};
 ghost use Rattle.mpslp_mps.specs.Context.{has_seen, context_of};

@@ -2,7 +2,7 @@
 
 ghost use Rattle.std.specs.Prelude.{◌≡◌, [], ◌∷◌, ◌++◌, map, not, Some, None, is_some, MatchResult};
 ghost use Rattle.std.specs.Option.{option_map, option_map_or};
-ghost use Rattle.mpslp_model.specs.Name.{same_bytes};
+ghost use Rattle.mpslp_types.specs.Name.{same_bytes};
 ghost use Rattle.mpslp_model.specs.Declaration.{Draft, declare_sense};
 ghost use Rattle.mpslp_mps.specs.DataLine.{sense_shape, row_shape, column_shape, marker_shape, opening_word, vector_shape};
 ghost use Rattle.mpslp_mps.specs.BoundLine.{bound_type, bound_shape};
@@ -12,7 +12,7 @@ ghost use Rattle.mpslp_reading.specs.Tests.{judged_by, first_held};
 ghost use Rattle.mpslp_mps.specs.FieldFault.{literals_of, set_tests};
 ghost use Rattle.mpslp_mps.specs.HeaderFault.{word_tests};
 ghost use Rattle.mpslp_mps.specs.DataFault.{row_tests, marker_tests, vector_tests, bound_tests, bound_line_tests};
-ghost use Rattle.mpslp_model.specs.declared.faults.FaultKind.{FaultKind};
+ghost use Rattle.mpslp_types.specs.declared.faults.FaultKind.{FaultKind};
 ghost use Rattle.mpslp_mps.specs.LineValues.{named_values};
 ghost use Rattle.mpslp_reading.specs.LineAnswer.{IsErrorOf};
 

@@ -2,7 +2,7 @@
 
 ghost use Rattle.std.specs.Prelude.{◌≡◌, [], ◌∷◌, map, not, false, Some, None, MatchResult};
 ghost use Rattle.std.specs.Option.{option_map, option_map_or};
-ghost use Rattle.mpslp_model.specs.Name.{same_bytes};
+ghost use Rattle.mpslp_types.specs.Name.{same_bytes};
 ghost use Rattle.mpslp_reading.specs.Field.{kind_of_number, number_tests, value_of};
 ghost use Rattle.mpslp_mps.specs.FieldFault.{literals_of};
 ghost use Rattle.mpslp_reading.specs.Tests.{first_held};

@@ -2,8 +2,8 @@
 
 ghost use Rattle.std.specs.Prelude.{◌≡◌, [], ◌∷◌, ◌++◌, ◌+◌, ◌&&◌, false, map, Some, None, IfErr, MatchResult};
 ghost use Rattle.mpslp_model.specs.Declaration.{has_row, rhs_declared, declare_range};
-ghost use Rattle.mpslp_model.specs.Name.{same_bytes};
-ghost use Rattle.mpslp_model.specs.FaultOrder.{least_kind};
+ghost use Rattle.mpslp_types.specs.Name.{same_bytes};
+ghost use Rattle.mpslp_types.specs.FaultOrder.{least_kind};
 ghost use Rattle.mpslp_reading.specs.Declaring.{declaring_faults, declared_fault};
 ghost use Rattle.mpslp_mps.specs.Line.{data_line};
 ghost use Rattle.mpslp_reading.specs.LineAnswer.{IsErrorOf, AreDeclared};

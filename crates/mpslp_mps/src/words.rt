@@ -2,7 +2,7 @@
 
 ghost use Rattle.std.specs.Prelude.{◌≡◌, if◌then◌else◌, codes, [], ◌∷◌};
 ghost use Rattle.std.specs.List.{list_any};
-ghost use Rattle.mpslp_model.specs.Name.{same_bytes, marker, is_one_of};
+ghost use Rattle.mpslp_types.specs.Name.{same_bytes, marker, is_one_of};
 ghost use Rattle.mpslp_mps.specs.Section.{keyword_of, section_named};
 ghost use Rattle.mpslp_mps.specs.DataLine.{sense_of, row_type, opening_word, closing_word};
 ghost use Rattle.mpslp_mps.specs.BoundLine.{bound_type, is_semi_continuous_type, takes_value};

@@ -7,10 +7,10 @@ use Rattle.mpslp_model.specs.Declaration.{Draft}
 use Rattle.mpslp_model.specs.Meaning.{model_of, file_fault}
 use Rattle.mpslp_model.specs.Finish.{Finishes}
 use Rattle.mpslp_model.specs.Formats.{IsAnswerTo}
-use Rattle.mpslp_model.specs.declared.faults.Fault.{Fault}
-use Rattle.mpslp_model.specs.declared.faults.FaultKind.{FaultKind}
-use Rattle.mpslp_model.specs.declared.faults.ReadFault.{ReadFault}
-use Rattle.mpslp_model.specs.declared.faults.ReadFault.TheVariants.{File, Failed, OutOfMemory}
+use Rattle.mpslp_types.specs.declared.faults.Fault.{Fault}
+use Rattle.mpslp_types.specs.declared.faults.FaultKind.{FaultKind}
+use Rattle.mpslp_types.specs.declared.faults.ReadFault.{ReadFault}
+use Rattle.mpslp_types.specs.declared.faults.ReadFault.TheVariants.{File, Failed, OutOfMemory}
 use Rattle.mpslp_reading.specs.LineAnswer.{LineResult, IsErrorOf, IsFaultOf}
 use Rattle.mpslp_reading.specs.declared.errors.LineError.{LineError}
 

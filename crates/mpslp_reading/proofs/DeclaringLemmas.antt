@@ -4,9 +4,9 @@ use Rattle.std.specs.Prelude.{nat_lt, Option, Some, None}
 use Rattle.std.specs.Option.{option_map_or}
 use Rattle.mpslp_model.specs.Declaration.{Declarations, Draft, adding_all}
 use Rattle.mpslp_model.specs.Refusal.{refusals_in_turn}
-use Rattle.mpslp_model.specs.FaultOrder.{kind_rank}
-use Rattle.mpslp_model.specs.declared.faults.BuildFault.{BuildFault}
-use Rattle.mpslp_model.specs.declared.faults.FaultKind.{FaultKind}
+use Rattle.mpslp_types.specs.FaultOrder.{kind_rank}
+use Rattle.mpslp_types.specs.declared.faults.BuildFault.{BuildFault}
+use Rattle.mpslp_types.specs.declared.faults.FaultKind.{FaultKind}
 use Rattle.mpslp_reading.specs.Declaring.{kind_of_refusal, declaring_faults, declared_fault}
 use Rattle.mpslp_reading.proofs.LeastLemmas.{is_from, earlier_of}
 use Rattle.mpslp_reading.proofs.RefusedLemmas.{declared-append}

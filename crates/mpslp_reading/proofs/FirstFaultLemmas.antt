@@ -6,16 +6,16 @@ use Rattle.std.specs.List.{list_all}
 use Rattle.std.specs.Option.{option_map_or}
 use Rattle.std.specs.Cmp.{first_so, second_so}
 use Rattle.std.proofs.lemmas.Bool.Decides.{nat_tests}
-use Rattle.mpslp_model.proofs.BoolLemmas.{both_so}
+use Rattle.mpslp_types.proofs.BoolLemmas.{both_so}
 use Rattle.mpslp_model.proofs.RefusalLemmas.{left_none, right_none}
 use Rattle.mpslp_model.specs.Declaration.{Declarations, Draft}
 use Rattle.mpslp_model.specs.Lists.{those_of}
 use Rattle.mpslp_model.specs.Refusal.{refusals_in_turn}
-use Rattle.mpslp_model.specs.FaultOrder.{kind_rank, least_kind}
-use Rattle.mpslp_model.specs.declared.faults.BuildFault.{BuildFault}
-use Rattle.mpslp_model.specs.declared.faults.BuildFault.TheVariants as builds
-use Rattle.mpslp_model.specs.declared.faults.FaultKind.{FaultKind}
-use Rattle.mpslp_model.specs.declared.faults.FaultKind.TheVariants as kinds
+use Rattle.mpslp_types.specs.FaultOrder.{kind_rank, least_kind}
+use Rattle.mpslp_types.specs.declared.faults.BuildFault.{BuildFault}
+use Rattle.mpslp_types.specs.declared.faults.BuildFault.TheVariants as builds
+use Rattle.mpslp_types.specs.declared.faults.FaultKind.{FaultKind}
+use Rattle.mpslp_types.specs.declared.faults.FaultKind.TheVariants as kinds
 use Rattle.mpslp_reading.specs.Tests.{Tests, first_held}
 use Rattle.mpslp_reading.specs.LegalLine.{has_legal_length, is_legal_byte, legal_tests}
 use Rattle.mpslp_reading.specs.Declaring.{kind_of_refusal, declaring_faults, declared_fault, first_fault}

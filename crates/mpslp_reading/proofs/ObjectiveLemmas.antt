@@ -3,7 +3,7 @@ use Rattle.std.proofs.Common.{◌≡◌, refl, ap, [], ◌∷◌, Bool, true, fa
 use Rattle.std.specs.Prelude.{◌||◌, is_some}
 use Rattle.mpslp_model.specs.Declaration.{Declaration, declare_sense, declare_objective, declare_constant, declare_row, declare_rhs, declare_range, declare_column, declare_coefficient, declare_lower, declare_upper, declare_marked, declare_integer, declare_binary, Declarations, Draft, adding, adding_all}
 use Rattle.mpslp_model.specs.Consistency.{has_objective}
-use Rattle.mpslp_model.proofs.BoolLemmas.{or_right}
+use Rattle.mpslp_types.proofs.BoolLemmas.{or_right}
 
 -- a name that is there stays
 stays-named : (all : Draft) (d : Declaration) → is_some all.objective ≡ true → is_some (adding all d).objective ≡ true

@@ -3,11 +3,11 @@ use Rattle.std.specs.Prelude.{List, ◌++◌, map, Option}
 use Rattle.mpslp_model.specs.Declaration.{Declarations, Draft}
 use Rattle.mpslp_model.specs.Lists.{those_of}
 use Rattle.mpslp_model.specs.Refusal.{refusals_in_turn}
-use Rattle.mpslp_model.specs.FaultOrder.{least_kind}
-use Rattle.mpslp_model.specs.declared.faults.BuildFault.{BuildFault}
-use Rattle.mpslp_model.specs.declared.faults.BuildFault.TheVariants as builds
-use Rattle.mpslp_model.specs.declared.faults.FaultKind.{FaultKind}
-use Rattle.mpslp_model.specs.declared.faults.FaultKind.TheVariants as kinds
+use Rattle.mpslp_types.specs.FaultOrder.{least_kind}
+use Rattle.mpslp_types.specs.declared.faults.BuildFault.{BuildFault}
+use Rattle.mpslp_types.specs.declared.faults.BuildFault.TheVariants as builds
+use Rattle.mpslp_types.specs.declared.faults.FaultKind.{FaultKind}
+use Rattle.mpslp_types.specs.declared.faults.FaultKind.TheVariants as kinds
 use Rattle.mpslp_reading.specs.Tests.{Tests}
 
 -- the kind of a refusal. No line of a good form declares a second sense or objective, and want of memory is no refusal:

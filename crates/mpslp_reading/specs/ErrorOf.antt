@@ -1,9 +1,9 @@
 -- Why a line is not read whose name, or whose declaration, is refused.
-use Rattle.mpslp_model.specs.declared.names.NameFault.{NameFault}
-use Rattle.mpslp_model.specs.declared.names.NameFault.TheVariants as names
-use Rattle.mpslp_model.specs.declared.faults.BuildFault.{BuildFault}
-use Rattle.mpslp_model.specs.declared.faults.BuildFault.TheVariants as builds
-use Rattle.mpslp_model.specs.declared.faults.FaultKind.TheVariants as kinds
+use Rattle.mpslp_types.specs.declared.names.NameFault.{NameFault}
+use Rattle.mpslp_types.specs.declared.names.NameFault.TheVariants as names
+use Rattle.mpslp_types.specs.declared.faults.BuildFault.{BuildFault}
+use Rattle.mpslp_types.specs.declared.faults.BuildFault.TheVariants as builds
+use Rattle.mpslp_types.specs.declared.faults.FaultKind.TheVariants as kinds
 use Rattle.mpslp_reading.specs.Declaring.{kind_of_refusal}
 use Rattle.mpslp_reading.specs.declared.errors.LineError.{LineError}
 use Rattle.mpslp_reading.specs.declared.errors.LineError.TheVariants.{Fault, OutOfMemory}

@@ -6,10 +6,10 @@ use Rattle.mpslp_decimal.specs.Decimal.{Number, zero_number}
 use Rattle.mpslp_decimal.specs.Literal.{number_of}
 use Rattle.mpslp_decimal.specs.declared.literal.NumberFault.{NumberFault}
 use Rattle.mpslp_decimal.specs.declared.literal.NumberFault.TheVariants as numbers
-use Rattle.mpslp_model.specs.Name.{same_bytes, has_name_length, is_visible, marker}
-use Rattle.mpslp_model.specs.FaultOrder.{kind_rank}
-use Rattle.mpslp_model.specs.declared.faults.FaultKind.{FaultKind}
-use Rattle.mpslp_model.specs.declared.faults.FaultKind.TheVariants as kinds
+use Rattle.mpslp_types.specs.Name.{same_bytes, has_name_length, is_visible, marker}
+use Rattle.mpslp_types.specs.FaultOrder.{kind_rank}
+use Rattle.mpslp_types.specs.declared.faults.FaultKind.{FaultKind}
+use Rattle.mpslp_types.specs.declared.faults.FaultKind.TheVariants as kinds
 use Rattle.mpslp_reading.specs.Tests.{Tests}
 
 -- ---- names

@@ -1,7 +1,7 @@
 -- What is asked of the bytes of every line.
 use Rattle.std.specs.Prelude.{ℕ, Bool, not, ◌&&◌, ◌||◌, ◌==◌, nat_le, List, [], ◌∷◌, length}
 use Rattle.std.specs.List.{list_all}
-use Rattle.mpslp_model.specs.declared.faults.FaultKind.TheVariants.{LineTooLong, BadByte}
+use Rattle.mpslp_types.specs.declared.faults.FaultKind.TheVariants.{LineTooLong, BadByte}
 use Rattle.mpslp_reading.specs.Tests.{Tests}
 use Rattle.mpslp_reading.specs.declared.lines.TheConstants.{MAX_LINE_LEN}
 

@@ -1,10 +1,10 @@
 -- What the code answers of a line and of its declarations, and how the fault of a line is told.
 use Rattle.std.specs.Prelude.{◌≡◌, ℕ, ◌-◌, ◌^◌, min, Option, Some, None, Result, MatchResult}
 use Rattle.mpslp_model.specs.Declaration.{Declarations, Draft, adding_all}
-use Rattle.mpslp_model.specs.declared.faults.Fault.{Fault}
-use Rattle.mpslp_model.specs.declared.faults.FaultKind.{FaultKind}
-use Rattle.mpslp_model.specs.declared.faults.ReadFault.{ReadFault}
-use Rattle.mpslp_model.specs.declared.faults.ReadFault.TheVariants as reads
+use Rattle.mpslp_types.specs.declared.faults.Fault.{Fault}
+use Rattle.mpslp_types.specs.declared.faults.FaultKind.{FaultKind}
+use Rattle.mpslp_types.specs.declared.faults.ReadFault.{ReadFault}
+use Rattle.mpslp_types.specs.declared.faults.ReadFault.TheVariants as reads
 use Rattle.mpslp_reading.specs.Declaring.{declared_fault}
 use Rattle.mpslp_reading.specs.declared.errors.LineError.{LineError}
 use Rattle.mpslp_reading.specs.declared.errors.LineError.TheVariants as lines

@@ -1,7 +1,7 @@
 //! The order of the kinds of faults.
 
 ghost use Rattle.std.specs.Prelude.{◌≡◌, nat_lt, if◌then◌else◌};
-ghost use Rattle.mpslp_model.specs.FaultOrder.{kind_rank};
+ghost use Rattle.mpslp_types.specs.FaultOrder.{kind_rank};
 
 use mpslp_model::FaultKind;
 

@@ -1,7 +1,7 @@
 //! Number literals: their faults and values.
 
 ghost use Rattle.std.specs.Prelude.{◌≡◌, [], ◌∷◌, nat_lt, if◌then◌else◌, Some, None, MatchResult};
-ghost use Rattle.mpslp_model.specs.FaultOrder.{kind_rank};
+ghost use Rattle.mpslp_types.specs.FaultOrder.{kind_rank};
 ghost use Rattle.mpslp_reading.specs.Tests.{first_held};
 ghost use Rattle.mpslp_reading.specs.Field.{kind_of_number, number_tests, value_of};
 

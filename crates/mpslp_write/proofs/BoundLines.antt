@@ -3,9 +3,9 @@ use Rattle.std.proofs.Common.{◌≡◌, refl, sym, ap, ◌∙◌, Bool, true, f
 use Rattle.std.specs.Prelude.{Option, Some, None, ◌||◌}
 use Rattle.mpslp_decimal.specs.Decimal.{Number}
 use Rattle.mpslp_model.specs.Lists.{is_nonempty}
-use Rattle.mpslp_model.specs.declared.kinds.Kind.{Kind}
-use Rattle.mpslp_model.specs.declared.kinds.Limit.{Limit}
-use Rattle.mpslp_model.specs.declared.kinds.Limit.TheVariants.{MinusInf, Finite, PlusInf}
+use Rattle.mpslp_types.specs.declared.kinds.Kind.{Kind}
+use Rattle.mpslp_types.specs.declared.kinds.Limit.{Limit}
+use Rattle.mpslp_types.specs.declared.kinds.Limit.TheVariants.{MinusInf, Finite, PlusInf}
 use Rattle.mpslp_mps.specs.declared.bound_types.BoundType.TheVariants as bounds
 use Rattle.mpslp_canonical.specs.PrintedValues.{PrintedBound, bare, valued, have_same_value, printed_lower, printed_upper, printed_bounds}
 use Rattle.mpslp_write.specs.LinesAt.{fixed_value, are_free}

@@ -2,8 +2,8 @@
 use Rattle.std.proofs.Common.{◌≡◌, refl, sym, ap, subst, ◌∙◌, ℕ, ◌+◌, ◌-◌, ◌^◌, ◌<◌, ◌≤◌, min, Bool, true, false, inl, inr, List, [], ◌∷◌, ◌++◌, length, take, drop, append_assoc, append-nil, arith}
 use Rattle.std.specs.Prelude.{Result, Ok, Err, None, IsOk}
 use Rattle.mpslp_model.specs.Model.{LinearModel}
-use Rattle.mpslp_model.specs.declared.faults.WriteFault.{WriteFault}
-use Rattle.mpslp_model.specs.declared.faults.WriteFault.TheVariants.{Write, NotLp}
+use Rattle.mpslp_types.specs.declared.faults.WriteFault.{WriteFault}
+use Rattle.mpslp_types.specs.declared.faults.WriteFault.TheVariants.{Write, NotLp}
 use Rattle.std.proofs.Math.Seq.{take-append-add}
 use Rattle.std.proofs.lemmas.Bool.{cases_lt}
 use Rattle.std.proofs.lemmas.List.{length-append, take-append-le}

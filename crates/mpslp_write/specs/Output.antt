@@ -4,8 +4,8 @@ use Rattle.std.specs.Coded.{Coded, code_by, coded×, coded_list, coded_ℕ, code
 use Rattle.mpslp_io.specs.Devices.{Grows}
 use Rattle.mpslp_canonical.specs.Printed.{PrintedLine, text_of}
 use Rattle.mpslp_model.specs.Formats.{TookFirst}
-use Rattle.mpslp_model.specs.declared.faults.WriteFault.{WriteFault}
-use Rattle.mpslp_model.specs.declared.faults.WriteFault.TheVariants.{Write}
+use Rattle.mpslp_types.specs.declared.faults.WriteFault.{WriteFault}
+use Rattle.mpslp_types.specs.declared.faults.WriteFault.TheVariants.{Write}
 
 -- The bytes that wait, how many bytes the sink took, a number that stays at 2^64 - 1, and whether the sink failed.
 pub record Gathered : Type 0 where

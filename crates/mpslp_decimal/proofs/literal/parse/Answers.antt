@@ -1,4 +1,4 @@
-use Rattle.std.proofs.Common.{◌≡◌, sym, ap, arith, rules, to_z, of_z, w32, ◌∙◌}
+use Rattle.std.proofs.Common.{◌≡◌, sym, ap, rules, to_z, of_z, w32, ◌∙◌}
 use Rattle.std.specs.Prelude.{ℤ, pos, ◌+ℤ◌, ◌-ℤ◌, Ok}
 use Rattle.mpslp_decimal.proofs.SignificandLemmas.{parts-none}
 use Rattle.mpslp_decimal.proofs.NumberOfLemmas.{scan-ends, scan-few, scan-zeros, number-many, number-few, number-zero}

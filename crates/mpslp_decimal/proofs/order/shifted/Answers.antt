@@ -1,5 +1,5 @@
 use Rattle.std.proofs.Common.{◌≡◌, ◌^◌, ◌≤◌, ℕ, ap, arith, rules, to_z, of_z, lit<, ◌∙◌}
-use Rattle.std.specs.Prelude.{ℤ, pos, ◌*ℤ◌, FitsSigned}
+use Rattle.std.specs.Prelude.{pos, ◌*ℤ◌, FitsSigned}
 use Rattle.std.proofs.Math.Nat.{pow-le-pow_right}
 use Rattle.std.proofs.lemmas.Int.{fits_signed_from_abs}
 use mir.Syntax.{w128}

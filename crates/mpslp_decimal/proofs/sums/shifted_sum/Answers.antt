@@ -1,4 +1,4 @@
-use Rattle.std.proofs.Common.{◌≡◌, ◌≤◌, ◌*◌, ◌^◌, ◌∙◌, ℕ, ap, subst, sym, rules, to_z, of_z, Option}
+use Rattle.std.proofs.Common.{◌≡◌, ◌≤◌, ◌*◌, ◌^◌, ◌∙◌, ap, subst, sym, rules, to_z, of_z, Option}
 use Rattle.std.specs.Prelude.{ℤ, pos, ◌+ℤ◌, ◌*ℤ◌, unsigned_abs, MatchOption}
 use mir.Syntax.{w128}
 use Rattle.mpslp_decimal.proofs.WideLemmas.{far-sum, sum-held}

@@ -5,7 +5,7 @@ use Rattle.mpslp_decimal.specs.Decimal as decimals
 use Rattle.mpslp_decimal.specs.Decimal.{Number, zero_number}
 use Rattle.mpslp_decimal.specs.Literal.{number_of}
 use Rattle.mpslp_decimal.specs.declared.literal.NumberFault.{NumberFault}
-use Rattle.mpslp_model.specs.declared.kinds.Limit.TheVariants.{Finite}
+use Rattle.mpslp_types.specs.declared.kinds.Limit.TheVariants.{Finite}
 use Rattle.mpslp_model.proofs.bounds.one.Goals as goal
 
 spelled : number_of (codes "1") ≡ Ok (record { mantissa = pos 1; exponent = pos 0 })

@@ -5,8 +5,8 @@ use Rattle.std.specs.FinMap.{is_sorted}
 use Rattle.std.proofs.lemmas.List.Sorted.{IsPartitionPoint-from_clause}
 use Rattle.std.proofs.lemmas.Slice.{between_to_end}
 use Rattle.mpslp_decimal.specs.Decimal.{Number}
-use Rattle.mpslp_model.specs.Name.{same_bytes}
-use Rattle.mpslp_model.specs.Model.{CoefficientKey, bytes_cmp, key_cmp}
+use Rattle.mpslp_types.specs.Name.{same_bytes, bytes_cmp}
+use Rattle.mpslp_model.specs.Model.{CoefficientKey, key_cmp}
 use Rattle.mpslp_model.proofs.ColumnLemmas.{lower_parted, own_parted, own_part, own_sorted}
 use Rattle.mpslp_model.proofs.elements.part_of.Goals as goal
 

@@ -3,7 +3,7 @@ use Rattle.std.specs.Prelude.{Result, Ok}
 use Rattle.mpslp_decimal.specs.Decimal.{Number, trailing_zeros}
 use Rattle.mpslp_decimal.specs.Literal.{number_of}
 use Rattle.mpslp_decimal.specs.declared.literal.NumberFault.{NumberFault}
-use Rattle.mpslp_model.specs.declared.kinds.Limit.TheVariants.{Finite}
+use Rattle.mpslp_types.specs.declared.kinds.Limit.TheVariants.{Finite}
 use Rattle.mpslp_mps.proofs.bounds.one_limit.Goals as goal
 
 abbrev one : Number

@@ -4,7 +4,7 @@ use Rattle.mpslp_model.specs.Declaration.{adding_all}
 use Rattle.mpslp_mps.specs.BoundLine.{BoundLine}
 use Rattle.mpslp_mps.specs.ContextStep.{after_bound}
 use Rattle.mpslp_mps.specs.LineMeaning.{bound_declared}
-use Rattle.mpslp_model.specs.declared.faults.FaultKind.{FaultKind}
+use Rattle.mpslp_types.specs.declared.faults.FaultKind.{FaultKind}
 use Rattle.mpslp_reading.specs.LineAnswer.{IsErrorOf}
 use Rattle.mpslp_mps.specs.declared.sections.Section.TheVariants.{Bounds}
 use Rattle.mpslp_mps.proofs.StepLemmas.{step-bound}

@@ -2,7 +2,7 @@ use Rattle.std.proofs.Common.{◌≡◌, sym, ap, subst, ◌∙◌, Bool, map}
 use Rattle.std.specs.Prelude.{Option}
 use Rattle.std.specs.List.{flat_map}
 use Rattle.mpslp_model.specs.Declaration.{Draft, adding_all, has_column}
-use Rattle.mpslp_model.specs.declared.faults.FaultKind.{FaultKind}
+use Rattle.mpslp_types.specs.declared.faults.FaultKind.{FaultKind}
 use Rattle.mpslp_model.proofs.MadeDrafts.{adding_all-append}
 use Rattle.mpslp_mps.specs.LineMeaning.{data_declared}
 use Rattle.mpslp_reading.specs.Declaring.{declared_fault}

@@ -1,8 +1,8 @@
 use Rattle.std.proofs.Common.{◌∙◌, sym, ap, Bool, cond, [], ◌∷◌}
 use Rattle.std.specs.Prelude.{Option, Some, None}
 use Rattle.std.specs.Option.{option_map}
-use Rattle.mpslp_model.specs.declared.faults.FaultKind.{FaultKind}
-use Rattle.mpslp_model.specs.declared.faults.FaultKind.TheVariants.{SecondSet}
+use Rattle.mpslp_types.specs.declared.faults.FaultKind.{FaultKind}
+use Rattle.mpslp_types.specs.declared.faults.FaultKind.TheVariants.{SecondSet}
 use Rattle.mpslp_reading.specs.Field.{number_tests}
 use Rattle.mpslp_mps.specs.FieldFault.{set_tests}
 use Rattle.mpslp_reading.proofs.HeldLemmas.{held_some, held_none}

@@ -1,7 +1,7 @@
 use Rattle.std.proofs.Common.{sym, ap, subst, ◌∙◌, Bool, map}
 use Rattle.std.specs.Prelude.{Option}
 use Rattle.mpslp_model.specs.Declaration.{adding_all}
-use Rattle.mpslp_model.specs.declared.faults.FaultKind.{FaultKind}
+use Rattle.mpslp_types.specs.declared.faults.FaultKind.{FaultKind}
 use Rattle.mpslp_mps.specs.ContextStep.{after_header}
 use Rattle.mpslp_mps.specs.LineMeaning.{header_declared}
 use Rattle.mpslp_reading.specs.LineAnswer.{IsErrorOf}

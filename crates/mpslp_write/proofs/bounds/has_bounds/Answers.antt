@@ -3,7 +3,7 @@ use Rattle.std.specs.Prelude.{◌||◌}
 use Rattle.std.specs.FinMap.{entries}
 use Rattle.mpslp_model.specs.Lists.{is_nonempty}
 use Rattle.mpslp_canonical.specs.PrintedValues.{printed_upper}
-use Rattle.mpslp_model.specs.declared.kinds.Kind.{Kind}
+use Rattle.mpslp_types.specs.declared.kinds.Kind.{Kind}
 use Rattle.mpslp_write.specs.LinesAt.{kind_of}
 use Rattle.mpslp_write.proofs.BoundLines.{bounds-nonempty}
 use Rattle.mpslp_write.proofs.ColumnLemmas.{bounds-here}

@@ -2,7 +2,7 @@ use Rattle.std.proofs.Common.{sym, ap, ◌∙◌, arith, refl}
 use Rattle.mpslp_canonical.specs.CanonicalMps.{column_lines}
 use Rattle.mpslp_canonical.specs.Listing.{listing_of}
 use Rattle.mpslp_model.specs.Lists.{is_nonempty}
-use Rattle.mpslp_model.specs.declared.kinds.Kind.TheVariants.{Integer}
+use Rattle.mpslp_types.specs.declared.kinds.Kind.TheVariants.{Integer}
 use Rattle.mpslp_write.specs.LinesAt.{of_kind}
 use Rattle.mpslp_write.proofs.LinesAtLemmas.{has-here, none-next, all-taken}
 use Rattle.mpslp_write.proofs.ColumnLemmas.{integer-lines}

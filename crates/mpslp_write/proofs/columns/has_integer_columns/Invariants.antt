@@ -4,7 +4,7 @@ use Rattle.std.specs.FinMap.{entries}
 use Rattle.mpslp_canonical.specs.CanonicalMps.{column_lines}
 use Rattle.mpslp_canonical.specs.Listing.{listing_of}
 use Rattle.mpslp_model.specs.Lists.{is_nonempty}
-use Rattle.mpslp_model.specs.declared.kinds.Kind.TheVariants.{Integer}
+use Rattle.mpslp_types.specs.declared.kinds.Kind.TheVariants.{Integer}
 use Rattle.mpslp_write.specs.LinesAt.{of_kind}
 use Rattle.mpslp_write.proofs.columns.has_integer_columns.Given as goal
 

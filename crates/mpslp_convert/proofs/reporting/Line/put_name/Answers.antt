@@ -1,6 +1,6 @@
 use Rattle.std.proofs.Common.{◌++◌, refl, subst, sym, arith}
 use Rattle.std.proofs.lemmas.List.{length-append}
-use Rattle.mpslp_model.specs.Name.{IsMpsName}
+use Rattle.mpslp_types.specs.Name.{IsMpsName}
 use Rattle.mpslp_convert.proofs.FaultLineLemmas.{named-bound}
 use Rattle.mpslp_convert.proofs.reporting.Line.put_name.Goals as goal
 

@@ -3,11 +3,11 @@ use Rattle.std.specs.Prelude.{◌||◌, ◌&&◌, is_some}
 use Rattle.mpslp_model.specs.Declaration.{Draft, has_name, adding_all, bounds_declared}
 use Rattle.mpslp_model.specs.Refusal.{bounds_refusals}
 use Rattle.std.specs.Option.{option_map_or}
-use Rattle.mpslp_model.specs.Sides.{is_plus_infinite, is_minus_infinite}
+use Rattle.mpslp_types.specs.Sides.{is_plus_infinite, is_minus_infinite}
 use Rattle.mpslp_model.specs.Made.{IsMade}
 use Rattle.mpslp_model.specs.BuilderDraft.{draft}
-use Rattle.mpslp_model.specs.declared.faults.BuildFault.{BuildFault}
-use Rattle.mpslp_model.specs.declared.faults.BuildFault.TheVariants.{DuplicateBound, InfiniteValue}
+use Rattle.mpslp_types.specs.declared.faults.BuildFault.{BuildFault}
+use Rattle.mpslp_types.specs.declared.faults.BuildFault.TheVariants.{DuplicateBound, InfiniteValue}
 use Rattle.mpslp_model.proofs.AnswerLemmas.{handed_on, want_of_memory, declared, none_refused, made_now, known_column, column_is_legal, no_side, entry_of, put_in, with_sides, sides-added, side_absent, made_sides}
 use Rattle.mpslp_model.proofs.builder.Builder.bounds.Goals as goal
 

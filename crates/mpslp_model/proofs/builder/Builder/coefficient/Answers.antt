@@ -6,8 +6,8 @@ use Rattle.mpslp_model.specs.Declaration.{declare_coefficient, has_row, has_colu
 use Rattle.mpslp_model.specs.Refusal.{refusals}
 use Rattle.mpslp_model.specs.Made.{IsMade}
 use Rattle.mpslp_model.specs.BuilderDraft.{draft}
-use Rattle.mpslp_model.specs.declared.faults.BuildFault.{BuildFault}
-use Rattle.mpslp_model.specs.declared.faults.BuildFault.TheVariants.{UnknownRow, UnknownColumn, DuplicateEntry}
+use Rattle.mpslp_types.specs.declared.faults.BuildFault.{BuildFault}
+use Rattle.mpslp_types.specs.declared.faults.BuildFault.TheVariants.{UnknownRow, UnknownColumn, DuplicateEntry}
 use Rattle.mpslp_model.proofs.AnswerLemmas.{none_refused, made_next, made_now, known_row, known_column, row_is_legal, column_is_legal}
 use Rattle.mpslp_model.proofs.RefusalLemmas.{rest_none}
 use Rattle.mpslp_model.proofs.builder.Builder.coefficient.Goals as goal

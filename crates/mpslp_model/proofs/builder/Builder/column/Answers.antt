@@ -1,5 +1,5 @@
 use Rattle.std.proofs.Common.{refl, sym, ap, subst, ◌∙◌, ℕ, List}
-use Rattle.mpslp_model.specs.Name.{is_mps_name}
+use Rattle.mpslp_types.specs.Name.{is_mps_name}
 use Rattle.mpslp_model.specs.Declaration.{declare_column, has_column}
 use Rattle.mpslp_model.specs.Made.{IsMade}
 use Rattle.mpslp_model.specs.BuilderDraft.{draft}

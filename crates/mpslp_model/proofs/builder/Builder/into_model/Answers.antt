@@ -8,8 +8,8 @@ use Rattle.mpslp_model.specs.BuilderDraft.{draft}
 use Rattle.mpslp_model.specs.Bounds.{column_of}
 use Rattle.mpslp_model.specs.Meaning.{objective_name}
 use Rattle.mpslp_model.specs.FaultFound.{columns_alone}
-use Rattle.mpslp_model.specs.declared.kinds.Sense.TheVariants.{Minimize}
-use Rattle.mpslp_model.specs.declared.kinds.RowType.TheVariants.{Free}
+use Rattle.mpslp_types.specs.declared.kinds.Sense.TheVariants.{Minimize}
+use Rattle.mpslp_types.specs.declared.kinds.RowType.TheVariants.{Free}
 use Rattle.mpslp_model.proofs.AnswerLemmas.{made_now}
 use Rattle.mpslp_model.proofs.FinishLemmas.{AreMeantParts, meant_parts, meant_draft}
 use Rattle.mpslp_model.proofs.builder.Builder.into_model.Goals as goal

@@ -1,5 +1,5 @@
 use Rattle.std.proofs.Common.{sym, ap, ◌∙◌, ℕ, List}
-use Rattle.mpslp_model.specs.Name.{is_mps_name}
+use Rattle.mpslp_types.specs.Name.{is_mps_name}
 use Rattle.mpslp_model.specs.Declaration.{declare_objective}
 use Rattle.mpslp_model.specs.Refusal.{refusals}
 use Rattle.mpslp_model.specs.Answer.{first_refusal}

@@ -2,13 +2,13 @@ use Rattle.std.proofs.Common.{refl, sym, ap, subst, ◌∙◌, ℕ, List, [], �
 use Rattle.std.specs.Prelude.{◌||◌}
 use Rattle.std.specs.FinMap.{put}
 use Rattle.mpslp_decimal.specs.Decimal.{Number, is_infinite_size}
-use Rattle.mpslp_model.specs.Model.{bytes_cmp}
+use Rattle.mpslp_types.specs.Name.{bytes_cmp}
 use Rattle.mpslp_model.specs.Declaration.{declare_range, has_name, is_objective, is_row_by_limits, is_free_row}
 use Rattle.mpslp_model.specs.Refusal.{refusals}
 use Rattle.mpslp_model.specs.Made.{IsMade}
 use Rattle.mpslp_model.specs.BuilderDraft.{draft}
-use Rattle.mpslp_model.specs.declared.faults.BuildFault.{BuildFault}
-use Rattle.mpslp_model.specs.declared.faults.BuildFault.TheVariants.{DuplicateRange, RangeOnFree, InfiniteValue}
+use Rattle.mpslp_types.specs.declared.faults.BuildFault.{BuildFault}
+use Rattle.mpslp_types.specs.declared.faults.BuildFault.TheVariants.{DuplicateRange, RangeOnFree, InfiniteValue}
 use Rattle.mpslp_model.proofs.AnswerLemmas.{handed_on, none_refused, made_next, made_now, known_row, row_is_legal}
 use Rattle.mpslp_model.proofs.builder.Builder.range.Goals as goal
 

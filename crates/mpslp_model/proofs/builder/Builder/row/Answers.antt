@@ -1,12 +1,12 @@
 use Rattle.std.proofs.Common.{refl, sym, ap, subst, ◌∙◌, ℕ, List, true}
-use Rattle.mpslp_model.specs.Name.{is_mps_name}
+use Rattle.mpslp_types.specs.Name.{is_mps_name}
 use Rattle.mpslp_model.specs.Declaration.{RowForm, by_type, declare_row}
 use Rattle.mpslp_model.specs.Refusal.{refusals}
 use Rattle.mpslp_model.specs.Answer.{first_refusal}
 use Rattle.mpslp_model.specs.Made.{IsMade}
 use Rattle.mpslp_model.specs.BuilderDraft.{draft}
 use Rattle.mpslp_model.proofs.AnswerLemmas.{none_refused, made_next}
-use Rattle.mpslp_model.proofs.BoolLemmas.{both_so}
+use Rattle.mpslp_types.proofs.BoolLemmas.{both_so}
 use Rattle.mpslp_model.proofs.builder.Builder.row.Goals as goal
 
 pub invariant_of-self-2 : goal.invariant_of-self-2

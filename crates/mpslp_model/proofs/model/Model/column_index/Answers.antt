@@ -1,7 +1,7 @@
 use Rattle.std.proofs.Common.{sym, ap, ◌∙◌, ℕ, List}
 use Rattle.mpslp_model.specs.Model.{Column}
 use Rattle.std.specs.Prelude.{position}
-use Rattle.mpslp_model.specs.Name.{same_bytes}
+use Rattle.mpslp_types.specs.Name.{same_bytes}
 use Rattle.mpslp_model.proofs.ViewLemmas.{columns_seen, position-map}
 use Rattle.mpslp_model.proofs.model.Model.column_index.Goals as goal
 

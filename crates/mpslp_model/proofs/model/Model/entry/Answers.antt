@@ -3,7 +3,7 @@ use Rattle.std.specs.Prelude.{Option, Some, is_some, filter, slice_get, ◌&&◌
 use Rattle.std.specs.Option.{option_map}
 use Rattle.std.proofs.lemmas.Option.{get_or_from_slice_get, slice_get-map}
 use Rattle.mpslp_decimal.specs.Decimal.{Number}
-use Rattle.mpslp_model.specs.Name.{same_bytes}
+use Rattle.mpslp_types.specs.Name.{same_bytes}
 use Rattle.mpslp_model.specs.Model.{LinearModel, CoefficientKey, IsSound}
 use Rattle.mpslp_model.specs.Views.{column_name, column_names, column_elements, row_index}
 use Rattle.mpslp_model.proofs.ViewLemmas.{coefficients_seen, row_is_there}

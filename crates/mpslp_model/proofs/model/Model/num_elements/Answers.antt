@@ -1,6 +1,6 @@
 use Rattle.std.proofs.Common.{◌≡◌, sym, ap, ◌∙◌, length, not}
 use Rattle.std.specs.Prelude.{filter}
-use Rattle.mpslp_model.specs.Name.{same_bytes}
+use Rattle.mpslp_types.specs.Name.{same_bytes}
 use Rattle.mpslp_model.specs.Model.{LinearModel}
 use Rattle.mpslp_model.proofs.ViewLemmas.{coefficients_seen}
 use Rattle.mpslp_model.proofs.model.Model.num_elements.Goals as goal

@@ -1,0 +1,13 @@
+use Rattle.std.proofs.Common.{rules, of_calls}
+use Rattle.std.specs.Ordering.{is_gt}
+use Rattle.std.proofs.lemmas.List.Sorted.{IsPartitionPoint-from_clause}
+use Rattle.mpslp_maps.proofs.SearchLemmas.{parted, place_from_point}
+use Rattle.mpslp_maps.proofs.sorted_map.index_of_key.Goals as goal
+
+pub returns : goal.returns
+returns g c =
+    let cmp = g.K.Key.cmp in
+    let key = g.Q.Query.key c.args.query.now in
+    place_from_point cmp key c.args.entries.now c.partition_point.result c.partition_point.ensures.bound
+    (IsPartitionPoint-from_clause (λ entry. is_gt (cmp key entry.0)) c.args.entries.now c.partition_point.result c.partition_point.ensures.partitioned
+    (parted cmp g.met.K.Key.total key c.args.entries.now c.requires) (λ a r f k. search (rules, of_calls)))

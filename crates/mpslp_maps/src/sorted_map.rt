@@ -1,0 +1,295 @@
+//! Maps, each kept as a vector of its entries in the order of their keys.
+
+ghost use Rattle.std.specs.Prelude.{◌≡◌, ◌<◌, ◌↔◌, [], None, IsOk, IsTrue, OnOk, OnErr, Some, length, is_some, position, slice_get, vec_len, vec_capacity};
+ghost use Rattle.std.specs.Option.{ForSome, option_copied, option_map_or};
+ghost use Rattle.std.specs.Ordering.{is_eq, is_le};
+ghost use Rattle.std.specs.Cmp.{IsTotalOrder};
+ghost use Rattle.std.specs.declared.cmp.Ordering.{Ordering};
+ghost use Rattle.std.specs.List.{position_or_len};
+ghost use Rattle.std.specs.Cmp.Lexicographic.{nat_list_cmp_total};
+ghost use Rattle.std.specs.FinMap.{find, put, is_sorted};
+ghost use Rattle.mpslp_types.specs.Name.{bytes_cmp};
+
+use mpslp_types::Name;
+use std::alloc::{AllocError, Global};
+use std::cmp::Ordering;
+use std::marker::Model;
+
+/// A key of a map. Keys have a total order.
+pub trait Key {
+    ghost cmp: { Self → Self → Ordering };
+
+    /// How this key stands to another one.
+    fn compare_keys(&self, other: &Self) -> Ordering
+        ensures { result ≡ cmp self.now other.now };
+
+    ghost total: { IsTotalOrder cmp };
+}
+
+/// What is looked for among keys: a key, or what a key is compared with and need not own.
+pub trait Query<K: Key> {
+    ghost key: { Self → K };
+
+    /// How the key that is looked for stands to another one.
+    fn compare(&self, other: &K) -> Ordering
+        ensures { result ≡ K.cmp (key self.now) other.now };
+}
+
+impl<K: Key> Query<K> for K {
+    ghost key = { λ key. key };
+
+    fn compare(&self, other: &K) -> Ordering {
+        self.compare_keys(other)
+    }
+}
+
+impl Key for Name {
+    ghost cmp = { bytes_cmp };
+
+    ghost total = { nat_list_cmp_total };
+
+    fn compare_keys(&self, other: &Name) -> Ordering {
+        self.as_bytes().cmp(other.as_bytes())
+    }
+}
+
+impl<'a> Query<Name> for &'a [u8] {
+    ghost key = { λ bytes. bytes.now };
+
+    fn compare(&self, other: &Name) -> Ordering {
+        (*self).cmp(other.as_bytes())
+    }
+}
+
+/// The entry at index `i`, which is below how many entries there are.
+pub fn entry_at<K, V>(entries: &[(K, V)], i: usize) -> &(K, V)
+    requires { i < length entries.now }
+    ensures { slice_get entries.now i ≡ Some result.now }
+{
+    &entries[i]
+}
+
+/// The index of the first entry that is not below the key, or else how many entries there are.
+fn index_of_key<K: Key, V, Q: Query<K>>(entries: &[(K, V)], query: &Q) -> usize
+    requires { IsTrue (is_sorted K.cmp entries.now) }
+    ensures { result ≡ position_or_len (λ entry. is_le (K.cmp (Q.key query.now) entry.0)) entries.now }
+{
+    entries.partition_point(|entry| query.compare(&entry.0).is_gt())
+}
+
+/// The index of the entry at a key in entries that stand in the order of their keys, if there is one. A search by halves.
+pub fn index_of_entry<K: Key, V, Q: Query<K>>(entries: &[(K, V)], query: &Q) -> Option<usize>
+    requires { IsTrue (is_sorted K.cmp entries.now) }
+    ensures { result ≡ position (λ entry. is_eq (K.cmp (Q.key query.now) entry.0)) entries.now }
+{
+    let at = index_of_key(entries, query);
+    if at < entries.len() {
+        let entry = &entries[at];
+        if query.compare(&entry.0).is_eq() {
+            return Some(at);
+        }
+    }
+    None
+}
+
+/// The value at a key in entries that stand in the order of their keys, if it has one. A search by halves.
+pub fn find_entry<'a, K: Key, V, Q: Query<K>>(entries: &'a [(K, V)], query: &Q) -> Option<&'a V>
+    requires { IsTrue (is_sorted K.cmp entries.now) }
+    ensures { option_copied result ≡ find K.cmp (Q.key query.now) entries.now }
+{
+    let at = index_of_key(entries, query);
+    if at < entries.len() {
+        let entry = &entries[at];
+        if query.compare(&entry.0).is_eq() {
+            return Some(&entry.1);
+        }
+    }
+    None
+}
+
+/// Puts an entry where its key belongs. No entry at its key is there. It takes memory only where the vector is full.
+fn put_entry<K: Key + Drop, V: Drop>(
+    entries: &mut Vec<(K, V)>,
+    key: K,
+    value: V,
+) -> Result<(), AllocError>
+    requires sorted { IsTrue (is_sorted K.cmp entries.old.items) }
+    requires absent { find K.cmp key entries.old.items ≡ None }
+    ensures ok { OnOk result (entries.new.items ≡ put K.cmp key value entries.old.items) }
+    ensures err { OnErr result (entries.new.items ≡ entries.old.items) }
+    ensures sorted { IsTrue (is_sorted K.cmp entries.new.items) }
+    ensures room { vec_len entries.old < vec_capacity entries.old → IsOk result }
+{
+    let at = index_of_key(entries, &key);
+    entries.insert(at, (key, value))?;
+    Ok(())
+}
+
+/// A map, kept as a vector of its entries in the order of their keys. Contracts see the list of its entries.
+#[derive(Debug, Drop)]
+pub struct SortedMap<K: Key, V> {
+    entries: Vec<(K, V)>,
+}
+
+impl<K: Key, V> Model for SortedMap<K, V> {
+    ghost use Rattle.std.specs.Prelude.{List, IsTrue};
+    ghost use Rattle.std.specs.FinMap.{is_sorted};
+
+    ghost Value = { List (K × V) };
+
+    ghost view = { λ m. m.entries.items };
+
+    ghost invariant = { λ m. IsTrue (is_sorted K.cmp m.entries.items) };
+}
+
+impl<K: Key, V> SortedMap<K, V> {
+    /// A map with no entry. It takes no memory.
+    pub fn new(alloc: Global) -> SortedMap<K, V>
+        ensures { result ≡ [] }
+    {
+        SortedMap {
+            entries: Vec::new(alloc),
+        }
+    }
+
+    /// The entries in the order of their keys.
+    pub fn as_slice(&self) -> &[(K, V)]
+        ensures { result.now ≡ self.now }
+    {
+        &self.entries
+    }
+
+    /// The entries in the order of their keys, taken out of the map.
+    pub fn into_entries(self) -> Vec<(K, V)>
+        ensures { result.items ≡ self }
+    {
+        self.entries
+    }
+
+    /// Whether there is no entry.
+    pub fn is_empty(&self) -> bool
+        ensures { IsTrue result ↔ self.now ≡ [] }
+    {
+        self.entries.is_empty()
+    }
+
+    /// The value at a key, if it has one.
+    pub fn find<Q: Query<K>>(&self, query: &Q) -> Option<&V>
+        ensures { option_copied result ≡ find K.cmp (Q.key query.now) self.now }
+    {
+        find_entry(&self.entries, query)
+    }
+
+    /// Whether there is an entry at a key.
+    pub fn has<Q: Query<K>>(&self, query: &Q) -> bool
+        ensures { result ≡ is_some (find K.cmp (Q.key query.now) self.now) }
+    {
+        self.find(query).is_some()
+    }
+}
+
+impl<K: Key + Drop, V: Drop> SortedMap<K, V> {
+    /// Puts an entry where its key belongs. There is none at its key; those behind it are moved.
+    ///
+    /// # Errors
+    ///
+    /// [`AllocError`] where there is no memory for the entry. The map is as it was then.
+    pub fn put(&mut self, key: K, value: V) -> Result<(), AllocError>
+        requires { find K.cmp key self.old ≡ None }
+        ensures ok { OnOk result (self.new ≡ put K.cmp key value self.old) }
+        ensures err { OnErr result (self.new ≡ self.old) }
+    {
+        put_entry(&mut self.entries, key, value)
+    }
+}
+
+/// Puts an entry that is given. There is none at its key, and there is room for it.
+fn put_given<K: Key + Drop, V: Drop>(entries: &mut Vec<(K, V)>, entry: Option<(K, V)>)
+    requires sorted { IsTrue (is_sorted K.cmp entries.old.items) }
+    requires absent { ForSome entry (λ e. find K.cmp e.0 entries.old.items ≡ None) }
+    requires room { vec_len entries.old < vec_capacity entries.old }
+    ensures sorted { IsTrue (is_sorted K.cmp entries.new.items) }
+    ensures given { entries.new.items ≡ option_map_or (λ e. put K.cmp e.0 e.1 entries.old.items) entry entries.old.items }
+{
+    if let Some((key, value)) = entry {
+        let _room = put_entry(entries, key, value);
+    }
+}
+
+/// Puts into each of two maps the entry that is given for it. There is none at its key.
+///
+/// # Errors
+///
+/// [`AllocError`] where there is no memory for both entries. Both maps are as they were then.
+pub fn put_both<K: Key + Drop, V: Drop>(
+    first: &mut SortedMap<K, V>,
+    first_entry: Option<(K, V)>,
+    second: &mut SortedMap<K, V>,
+    second_entry: Option<(K, V)>,
+) -> Result<(), AllocError>
+    requires first_absent { ForSome first_entry (λ e. find K.cmp e.0 first.old ≡ None) }
+    requires second_absent { ForSome second_entry (λ e. find K.cmp e.0 second.old ≡ None) }
+    ensures first { OnOk result (first.new ≡ option_map_or (λ e. put K.cmp e.0 e.1 first.old) first_entry first.old) }
+    ensures second { OnOk result (second.new ≡ option_map_or (λ e. put K.cmp e.0 e.1 second.old) second_entry second.old) }
+    ensures err { OnErr result ((first.new ≡ first.old) × (second.new ≡ second.old)) }
+{
+    first.entries.reserve(1)?;
+    second.entries.reserve(1)?;
+    put_given(&mut first.entries, first_entry);
+    put_given(&mut second.entries, second_entry);
+    Ok(())
+}
+
+#[cfg(test)]
+mod tests {
+    use super::*;
+    use std::test::Fail;
+
+    /// A map of three names that were not put in their order.
+    fn three_names(alloc: Global) -> Result<SortedMap<Name, u8>, Fail> {
+        let mut map = SortedMap::new(alloc);
+        map.put(Name::new(alloc, b"R2".as_slice())?, 2)?;
+        map.put(Name::new(alloc, b"R10".as_slice())?, 10)?;
+        map.put(Name::new(alloc, b"R3".as_slice())?, 3)?;
+        Ok(map)
+    }
+
+    #[test]
+    fn finds_what_was_put(rt: HostRuntime) -> Result<(), Fail> {
+        let map = three_names(rt.alloc())?;
+        assert_eq!(rt; map.find(&b"R10".as_slice()).copied(), Some(10));
+        assert_eq!(rt; map.find(&b"R2".as_slice()).copied(), Some(2));
+        assert_eq!(rt; map.find(&b"R1".as_slice()).copied(), None);
+        assert!(rt; map.has(&b"R3".as_slice()));
+        assert!(rt; !map.has(&b"R4".as_slice()));
+        assert!(rt; !map.is_empty());
+        Ok(())
+    }
+
+    #[test]
+    fn entries_stand_in_byte_order(rt: HostRuntime) -> Result<(), Fail> {
+        let map = three_names(rt.alloc())?;
+        assert_eq!(rt; map.as_slice().len(), 3);
+        assert_eq!(rt; index_of_entry(map.as_slice(), &b"R10".as_slice()), Some(0));
+        assert_eq!(rt; index_of_entry(map.as_slice(), &b"R3".as_slice()), Some(2));
+        assert_eq!(rt; index_of_entry(map.as_slice(), &b"R".as_slice()), None);
+        assert_eq!(rt;
+            find_entry(map.as_slice(), &b"R2".as_slice()).copied(),
+            Some(2)
+        );
+        assert_eq!(rt; map.into_entries().len(), 3);
+        Ok(())
+    }
+
+    #[test]
+    fn puts_into_two_maps(rt: HostRuntime) -> Result<(), Fail> {
+        let alloc = rt.alloc();
+        let mut first: SortedMap<Name, u8> = SortedMap::new(alloc);
+        let mut second: SortedMap<Name, u8> = SortedMap::new(alloc);
+        let entry = (Name::new(alloc, b"x".as_slice())?, 1);
+        put_both(&mut first, None, &mut second, Some(entry))?;
+        assert!(rt; first.is_empty());
+        assert_eq!(rt; second.find(&b"x".as_slice()).copied(), Some(1));
+        Ok(())
+    }
+}

@@ -1,5 +1,0 @@
-use Rattle.mpslp_model.proofs.NameLemmas.{mps_name-from_lp}
-use Rattle.mpslp_model.proofs.laws.lp_names_are_mps_names.Goals as goal
-
-pub returns : goal.returns
-returns c = mps_name-from_lp

@@ -1,0 +1,4 @@
+pub mod BoolLemmas
+pub mod EachLemmas
+pub mod NameLemmas
+mod WorkedNames

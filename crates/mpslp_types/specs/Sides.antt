@@ -1,0 +1,58 @@
+-- Sides of rows and columns: what values give them, their order, and how far they lie apart.
+use Rattle.std.specs.Prelude.{Bool, true, false, ◌&&◌, not, if◌then◌else◌}
+use Rattle.std.specs.Ordering.{is_lt}
+use Rattle.std.specs.Option.{option_map_or}
+use Rattle.mpslp_decimal.specs.Decimal.{Number, is_decimal, is_negative, is_infinite_size, decimal_cmp, difference_of}
+use Rattle.mpslp_types.specs.declared.kinds.Limit.{Limit}
+use Rattle.mpslp_types.specs.declared.kinds.Limit.TheVariants.{MinusInf, Finite, PlusInf}
+
+abbrev pub is_plus_infinite : Limit → Bool
+is_plus_infinite PlusInf = true
+is_plus_infinite _ = false
+
+abbrev pub is_minus_infinite : Limit → Bool
+is_minus_infinite MinusInf = true
+is_minus_infinite _ = false
+
+-- a given value of size 10^20 or more is the infinity of its sign
+abbrev pub limit_of : Number → Limit
+limit_of d = if is_infinite_size d then (if is_negative d then MinusInf else PlusInf) else Finite d
+
+-- the first is at most the second: minus infinity comes first, plus infinity last
+abbrev pub is_at_most : Limit → Limit → Bool
+is_at_most MinusInf _ = true
+is_at_most (Finite a) MinusInf = false
+is_at_most (Finite a) (Finite b) = not (is_lt (decimal_cmp b a))
+is_at_most (Finite a) PlusInf = true
+is_at_most PlusInf MinusInf = false
+is_at_most PlusInf (Finite b) = false
+is_at_most PlusInf PlusInf = true
+
+-- a decimal of size below 10^20
+abbrev pub is_bounded_decimal : Number → Bool
+is_bounded_decimal d = is_decimal d && not (is_infinite_size d)
+
+-- a side as it may be given: a finite one is below 10^20 in size
+abbrev pub is_given : Limit → Bool
+is_given (Finite d) = is_bounded_decimal d
+is_given _ = true
+
+-- not plus infinity, and a finite one is bounded
+abbrev pub is_lower_side : Limit → Bool
+is_lower_side MinusInf = true
+is_lower_side (Finite a) = is_bounded_decimal a
+is_lower_side PlusInf = false
+
+-- not minus infinity, and a finite one is bounded
+abbrev pub is_upper_side : Limit → Bool
+is_upper_side MinusInf = false
+is_upper_side (Finite a) = is_bounded_decimal a
+is_upper_side PlusInf = true
+
+abbrev pub are_sides : Limit → Limit → Bool
+are_sides lower upper = is_lower_side lower && (is_upper_side upper && is_at_most lower upper)
+
+-- upper minus lower is a decimal of size below 10^20, where both are finite
+abbrev pub has_bounded_distance : Limit → Limit → Bool
+has_bounded_distance (Finite a) (Finite b) = option_map_or is_bounded_decimal (difference_of b a) false
+has_bounded_distance _ _ = true

@@ -1,0 +1,20 @@
+//! Laws of names. Each is the contract of a function that does nothing: to call it is to cite the law.
+//!
+//! A law of every name reads a field of it, and that brings what is known of its bytes.
+
+ghost use Rattle.mpslp_types.specs.Name.{IsMpsName};
+ghost use Rattle.mpslp_types.specs.Laws.{LpNamesAreMpsNames};
+
+use crate::names::Name;
+
+/// Every name that is legal in LP is legal in MPS too.
+pub fn lp_names_are_mps_names()
+    ensures { LpNamesAreMpsNames }
+{}
+
+/// The bytes of every name are an MPS name: 1 to 255 bytes of visible ASCII that are not `'MARKER'`.
+pub fn each_name_is_legal(name: &Name)
+    ensures { IsMpsName name.now }
+{
+    let _len = name.bytes.len();
+}
