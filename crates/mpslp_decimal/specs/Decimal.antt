@@ -87,10 +87,14 @@ decimal_of d = if is_decimal (normal d) then Some (normal d) else None
 
 -- ---- calculations with decimals, exact at the least exponent of any
 
--- how far an exponent of a decimal lies above -500, the least one
+-- how far the least exponent of a decimal lies below 0
+abbrev pub depth : ℕ
+depth = 500
+
+-- how far an exponent of a decimal lies above the least one
 abbrev pub height : ℤ → ℕ
-height (pos n) = n + 500
-height (negsuc n) = 499 - n
+height (pos n) = n + depth
+height (negsuc n) = (depth - 1) - n
 
 -- the mantissa of a decimal at the least exponent
 abbrev pub scaled : Number → ℤ
@@ -120,6 +124,10 @@ sum_of a b = decimal_of (at_scale (scaled a +ℤ scaled b))
 abbrev pub difference_of : Number → Number → Option Number
 difference_of a b = sum_of a (negated b)
 
+-- 10^20 at the least exponent: 20 places above the point, and those below it
+abbrev pub scaled_infinity : ℤ
+scaled_infinity = pos (10 ^ (20 + depth))
+
 -- at least 10^20 in size
 abbrev pub is_infinite_size : Number → Bool
-is_infinite_size d = int_le (pos (10 ^ 520)) (scaled (size_of d))
+is_infinite_size d = int_le scaled_infinity (scaled (size_of d))

@@ -1,8 +1,8 @@
 //! The type of decimals, and what can be asked of one.
 
-ghost use Rattle.std.specs.Prelude.{◌≡◌, ◌*◌, ◌^◌, ◌<◌, nat_le};
+ghost use Rattle.std.specs.Prelude.{◌≡◌, ◌+◌, ◌*◌, ◌^◌, ◌<◌, nat_le};
 ghost use Rattle.mpslp_decimal.specs.Literal.{number_of};
-ghost use Rattle.mpslp_decimal.specs.Decimal.{Number, zero_number, is_zero, is_negative, negated, size_of, is_infinite_size, height, IsDecimal};
+ghost use Rattle.mpslp_decimal.specs.Decimal.{Number, zero_number, is_zero, is_negative, negated, size_of, is_infinite_size, depth, height, IsDecimal};
 
 use crate::literal::{self, NumberFault};
 use std::marker::Model;
@@ -145,7 +145,7 @@ impl Decimal {
 /// Whether so many units of a power of ten are 10^20 or more.
 fn reaches_infinity(units: u128, exponent: i32) -> bool
     requires few { units < 10 ^ MAX_DIGITS }
-    ensures { result ≡ nat_le (10 ^ 520) (units * 10 ^ height exponent) }
+    ensures { result ≡ nat_le (10 ^ (20 + depth)) (units * 10 ^ height exponent) }
 {
     if exponent >= INFINITE_EXPONENT {
         return units != 0;

@@ -1,7 +1,7 @@
 //! Exact sums and differences.
 
 ghost use Rattle.std.specs.Prelude.{◌≡◌, ℤ, pos, ◌*◌, ◌+ℤ◌, ◌*ℤ◌, ◌≤ℤ◌, ◌<◌, ◌≤◌, ◌^◌, unsigned_abs, MatchOption};
-ghost use Rattle.mpslp_decimal.specs.Decimal.{Number, IsDecimal, decimal_of, sum_of, difference_of};
+ghost use Rattle.mpslp_decimal.specs.Decimal.{Number, IsDecimal, depth, decimal_of, sum_of, difference_of};
 ghost use Rattle.mpslp_decimal.specs.Literal.{signed};
 ghost use Rattle.mpslp_decimal.specs.Scan.{IsStripped};
 
@@ -67,7 +67,7 @@ fn shifted_sum(mantissa: i128, places: u32, other: i128) -> Option<i128>
 fn decimal_of(is_negative: bool, size: u128, exponent: i32) -> Option<Decimal>
     requires some { 0 < size }
     requires small { size < 10 ^ 39 }
-    requires exponent { unsigned_abs exponent ≤ 500 }
+    requires exponent { unsigned_abs exponent ≤ depth }
     ensures { result ≡ decimal_of (record { mantissa = signed is_negative size; exponent = exponent }) }
 {
     let (digits, zeros) = stripped(size);

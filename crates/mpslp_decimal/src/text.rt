@@ -1,6 +1,7 @@
 //! The canonical text of a decimal.
 
 ghost use Rattle.std.specs.Prelude.{◌≡◌, ◌+◌, ◌≤◌, ◌++◌, ◌<◌, ℕ, List, [], length, replicate, unsigned_abs, decimal};
+ghost use Rattle.mpslp_decimal.specs.Decimal.{depth};
 ghost use Rattle.mpslp_decimal.specs.NumberText.{number_text, sign_text, scaled_text, with_point};
 
 use crate::number::Decimal;
@@ -89,7 +90,7 @@ impl DecimalText {
     fn append_scaled(&mut self, digits: &[u8], exponent: i32)
         requires room { length self.old ≤ 1 }
         requires digits { length digits.now ≤ 40 }
-        requires exponent { unsigned_abs exponent ≤ 500 }
+        requires exponent { unsigned_abs exponent ≤ depth }
         ensures { self.new ≡ self.old ++ scaled_text digits.now exponent }
     {
         match exponent {
