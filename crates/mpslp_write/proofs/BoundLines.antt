@@ -1,13 +1,12 @@
 -- The lines of the bounds of a column, case by case.
-use Rattle.std.proofs.Common.{◌≡◌, refl, sym, ap, ◌∙◌, Bool, true, false, cond, List, [], ◌∷◌, ◌++◌, map}
-use Rattle.std.specs.Prelude.{Option, Some, None, ◌||◌}
+use Rattle.std.proofs.Common.{◌≡◌, refl, ap, true, false, cond, List, [], ◌∷◌, ◌++◌, map}
+use Rattle.std.specs.Prelude.{Option, Some, None}
 use Rattle.mpslp_decimal.specs.Decimal.{Number}
-use Rattle.mpslp_model.specs.Lists.{is_nonempty}
 use Rattle.mpslp_types.specs.declared.kinds.Kind.{Kind}
 use Rattle.mpslp_types.specs.declared.kinds.Limit.{Limit}
 use Rattle.mpslp_types.specs.declared.kinds.Limit.TheVariants.{MinusInf, Finite, PlusInf}
 use Rattle.mpslp_mps.specs.declared.bound_types.BoundType.TheVariants as bounds
-use Rattle.mpslp_canonical.specs.PrintedValues.{PrintedBound, bare, valued, have_same_value, printed_lower, printed_upper, printed_bounds}
+use Rattle.mpslp_canonical.specs.PrintedValues.{bare, valued, have_same_value, printed_lower, printed_upper, printed_bounds}
 use Rattle.mpslp_write.specs.LinesAt.{fixed_value, are_free}
 
 pub map-append : {X Y : Type 0} (f : X → Y) (xs ys : List X) → map f (xs ++ ys) ≡ map f xs ++ map f ys
@@ -63,32 +62,3 @@ other-bounds kind (Finite a) PlusInf h k = refl
 other-bounds kind PlusInf MinusInf h k = refl
 other-bounds kind PlusInf (Finite b) h k = refl
 other-bounds kind PlusInf PlusInf h k = refl
-
--- ---- whether there are any
-
-nonempty-append : {X : Type 0} (xs ys : List X) → (is_nonempty xs || is_nonempty ys) ≡ is_nonempty (xs ++ ys)
-nonempty-append [] ys = refl
-nonempty-append (x ∷ xs) ys = refl
-
-or-true : (a : Bool) → (a || true) ≡ true
-or-true true = refl
-or-true false = refl
-
-finite-nonempty : (same : Bool) (both : List PrintedBound) (one : PrintedBound) → is_nonempty both ≡ true → true ≡ is_nonempty (cond same (one ∷ []) both)
-finite-nonempty true both one h = refl
-finite-nonempty false both one h = sym h
-
-pub bounds-nonempty : (kind : Kind) (lower upper : Limit) → (is_nonempty (printed_lower lower) || is_nonempty (printed_upper kind upper)) ≡ is_nonempty (printed_bounds kind lower upper)
-bounds-nonempty kind MinusInf MinusInf = refl
-bounds-nonempty kind MinusInf (Finite b) = refl
-bounds-nonempty kind MinusInf PlusInf = refl
-bounds-nonempty kind (Finite a) MinusInf = nonempty-append (printed_lower (Finite a)) (printed_upper kind MinusInf)
-bounds-nonempty kind (Finite a) (Finite b) =
-    let lower = printed_lower (Finite a) in
-    let upper = printed_upper kind (Finite b) in
-    or-true (is_nonempty lower)
-    ∙ finite-nonempty (have_same_value a b) (lower ++ upper) (valued bounds.Fixed b) (sym (nonempty-append lower upper) ∙ or-true (is_nonempty lower))
-bounds-nonempty kind (Finite a) PlusInf = nonempty-append (printed_lower (Finite a)) (printed_upper kind PlusInf)
-bounds-nonempty kind PlusInf MinusInf = refl
-bounds-nonempty kind PlusInf (Finite b) = refl
-bounds-nonempty kind PlusInf PlusInf = refl

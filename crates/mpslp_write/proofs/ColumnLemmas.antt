@@ -26,7 +26,7 @@ use Rattle.mpslp_canonical.specs.CanonicalMps.{Lines, bound_line, column_bound_l
 use Rattle.mpslp_model.specs.Lists.{is_nonempty}
 use Rattle.mpslp_write.specs.LinesAt.{lines_at, is_wanted, of_kind, element_lines, objective_line_at, objective_lines, kind_of}
 use Rattle.mpslp_canonical.specs.PrintedValues.{PrintedBound, printed_bounds}
-use Rattle.mpslp_write.proofs.LinesAtLemmas.{both_seen, lines_seen, nonempty_seen, nonempty-map}
+use Rattle.mpslp_write.proofs.LinesAtLemmas.{both_seen, lines_seen}
 use Rattle.mpslp_canonical.proofs.EntryLemmas.{found-each}
 use Rattle.mpslp_canonical.proofs.CoefficientMap.{place_at}
 use Rattle.mpslp_canonical.proofs.DraftMaps.{is_sound_entry}
@@ -211,14 +211,3 @@ bounds-lines es j name integer lower upper named p q r =
     lines_seen es j (λ (column : Column). printed_bounds (kind_of (views.is_integer_column column)) column.lower column.upper)
     (λ (n : List ℕ) (bs : List PrintedBound). map (bound_line n) bs) name _ named (bounds-seen es j integer lower upper p q r)
     ∙ by-kind es j
-
-pub bounds-here : (es : Columns) (j : ℕ) (integer : Bool) (lower upper : Limit)
-    → option_map views.is_integer_column (slice_get (map (λ e. e.1) es) j) ≡ Some integer
-    → option_map (λ column. column.lower) (slice_get (map (λ e. e.1) es) j) ≡ Some lower
-    → option_map (λ column. column.upper) (slice_get (map (λ e. e.1) es) j) ≡ Some upper
-    → is_nonempty (printed_bounds (kind_of integer) lower upper) ≡ is_nonempty (lines_at column_bound_lines es j)
-bounds-here es j integer lower upper p q r =
-    sym (nonempty_seen es j (λ (column : Column). printed_bounds (kind_of (views.is_integer_column column)) column.lower column.upper)
-    (λ (n : List ℕ) (bs : List PrintedBound). map (bound_line n) bs) (printed_bounds (kind_of integer) lower upper) _ (bounds-seen es j integer lower upper p q r)
-    (λ name. nonempty-map (bound_line name) (printed_bounds (kind_of integer) lower upper)))
-    ∙ ap is_nonempty (by-kind es j)

@@ -5,8 +5,7 @@ use Rattle.std.specs.List.{flat_map}
 use Rattle.std.specs.Option.{option_map, option_map_or}
 use Rattle.std.proofs.lemmas.List.{length-map}
 use Rattle.std.proofs.lemmas.Option.{slice_get-map}
-use Rattle.mpslp_mps.specs.declared.sections.Section.{Section}
-use Rattle.mpslp_canonical.specs.CanonicalMps.{Lines, header_line, under_header}
+use Rattle.mpslp_canonical.specs.CanonicalMps.{Lines}
 use Rattle.mpslp_model.specs.Lists.{is_nonempty}
 use Rattle.mpslp_write.specs.LinesAt.{lines_at}
 
@@ -62,14 +61,6 @@ pub none-so-far : {X : Type 0} (f : X → Lines) (xs : List X) (i : ℕ) → is_
 none-so-far f xs i before here =
     ap is_nonempty (flat_map-more f xs i) ∙ has-append (flat_map f (take i xs)) (lines_at f xs i)
     ∙ ap (λ (b : Bool). b || is_nonempty (lines_at f xs i)) before ∙ here
-
-pub under-some : (section : Section) (lines : Lines) → is_nonempty lines ≡ true → header_line section ∷ lines ≡ under_header section lines
-under-some section [] h = cc
-under-some section (line ∷ lines) h = refl
-
-pub under-none : (section : Section) (lines : Lines) → is_nonempty lines ≡ false → [] ≡ under_header section lines
-under-none section [] h = refl
-under-none section (line ∷ lines) h = cc
 
 pub no-lines : (lines : Lines) → is_nonempty lines ≡ false → lines ≡ []
 no-lines [] h = refl
@@ -133,7 +124,3 @@ pub nothing_seen : {X Y : Type 0} (es : List (List ℕ × X)) (i : ℕ) (f : X �
     → option_map f (slice_get (map (λ e. e.1) es) i) ≡ Some seen → ((name : List ℕ) → h name seen ≡ []) → [] ≡ lines_at (λ e. h e.0 (f e.1)) es i
 nothing_seen es i f h seen is none =
     sym (no-lines (lines_at (λ e. h e.0 (f e.1)) es i) (nonempty_seen es i f h seen false is (λ name. ap is_nonempty (none name))))
-
-pub nonempty-map : {X Y : Type 0} (f : X → Y) (xs : List X) → is_nonempty (map f xs) ≡ is_nonempty xs
-nonempty-map f [] = refl
-nonempty-map f (x ∷ xs) = refl

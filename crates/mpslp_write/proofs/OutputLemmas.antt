@@ -1,5 +1,5 @@
 -- How what was put grows piece by piece, and by what is handed to the sink.
-use Rattle.std.proofs.Common.{◌≡◌, refl, sym, ap, subst, ◌∙◌, ℕ, ◌+◌, ◌-◌, ◌^◌, ◌<◌, ◌≤◌, min, Bool, true, false, inl, inr, List, [], ◌∷◌, ◌++◌, length, take, drop, append_assoc, append-nil, arith}
+use Rattle.std.proofs.Common.{◌≡◌, refl, sym, ap, subst, ◌∙◌, ℕ, ◌+◌, ◌-◌, ◌^◌, ◌<◌, ◌≤◌, min, Bool, true, false, inl, inr, List, [], ◌∷◌, ◌++◌, length, take, append_assoc, append-nil, arith}
 use Rattle.std.specs.Prelude.{Result, Ok, Err, None, IsOk}
 use Rattle.mpslp_model.specs.Model.{LinearModel}
 use Rattle.mpslp_types.specs.declared.faults.WriteFault.{WriteFault}
@@ -11,9 +11,11 @@ use Rattle.mpslp_io.specs.Devices.{Grows, TookMore}
 use Rattle.mpslp_model.specs.Formats.{TookFirst, IsTaken, IsWritten}
 use Rattle.mpslp_io.proofs.GrowsLemmas.{Grows-nil, Grows-append}
 use Rattle.std.specs.List.{flat_map}
-use Rattle.mpslp_canonical.specs.CanonicalMps.{Lines}
+use Rattle.mpslp_mps.specs.Section.{keyword_of}
+use Rattle.mpslp_mps.specs.declared.sections.Section.{Section}
+use Rattle.mpslp_canonical.specs.CanonicalMps.{Lines, under_header}
 use Rattle.mpslp_write.proofs.LinesAtLemmas.{flat_map-rest}
-use Rattle.mpslp_write.specs.Output.{Gathered, nothing_gathered, with_waiting, HasPut, Emits, Prints, answer_of}
+use Rattle.mpslp_write.specs.Output.{Gathered, gathered, nothing_gathered, with_header, HasPut, Emits, PutsHeader, Prints, PrintsSection, text_under, header_behind}
 use Rattle.mpslp_canonical.specs.Printed.{PrintedLine, printed, text_of}
 
 text_of-append : (front back : List PrintedLine) → text_of (front ++ back) ≡ text_of front ++ text_of back
@@ -24,6 +26,32 @@ text_of-append (line ∷ front) back =
 
 not_both : {b : Bool} → b ≡ true → b ≡ false → ⊥
 not_both p q = absurd cc
+
+-- ---- lines below a header
+
+no-header : (lines : List PrintedLine) → text_under [] lines ≡ text_of lines
+no-header [] = refl
+no-header (line ∷ lines) = refl
+
+none-behind : (lines : List PrintedLine) → header_behind [] lines ≡ []
+none-behind [] = refl
+none-behind (line ∷ lines) = refl
+
+pub under-text : (section : Section) (header : List ℕ) (lines : Lines) → header ≡ keyword_of section ++ 10 ∷ [] → text_under header lines ≡ text_of (under_header section lines)
+under-text section header [] is = refl
+under-text section header (line ∷ lines) is = ap (λ (l : List ℕ). l ++ text_of (line ∷ lines)) is
+
+-- part by part
+text_under-append : (header : List ℕ) (front back : List PrintedLine)
+    → text_under header front ++ text_under (header_behind header front) back ≡ text_under header (front ++ back)
+text_under-append header [] back = refl
+text_under-append header (line ∷ front) back =
+    ap (λ (l : List ℕ). (header ++ text_of (line ∷ front)) ++ l) (no-header back) ∙ append_assoc header (text_of (line ∷ front)) (text_of back)
+    ∙ ap (λ (l : List ℕ). header ++ l) (sym (text_of-append (line ∷ front) back))
+
+header_behind-append : (header : List ℕ) (front back : List PrintedLine) → header_behind (header_behind header front) back ≡ header_behind header (front ++ back)
+header_behind-append header [] back = refl
+header_behind-append header (line ∷ front) back = none-behind back
 
 module _ {S : Type 0} (holds : S → List ℕ → Type 0) (failed : S → Bool) (count : S → ℕ) where
   -- what a sink took first is a first part of any longer text
@@ -38,46 +66,45 @@ module _ {S : Type 0} (holds : S → List ℕ → Type 0) (failed : S → Bool) 
       }
 
   -- nothing was put yet
-  pub HasPut-nothing : (s : S) → HasPut holds failed count s s nothing_gathered []
+  pub HasPut-nothing : (s : S) → HasPut holds failed count s s nothing_gathered [] []
   HasPut-nothing s = record {
-    under_way = λ _. record { sent = []; parts = refl; sent_is = Grows-nil holds s; taken_is = omega arith; calls = omega arith; stays = λ h. h; works = λ some. absurd (omega arith) };
+    under_way = λ _. record {
+      header_is = refl;
+      sent = [];
+      parts = refl;
+      sent_is = Grows-nil holds s;
+      taken_is = omega arith;
+      calls = omega arith;
+      stays = λ h. h;
+      works = λ some. absurd (omega arith);
+    };
     cut_off = λ is. absurd (not_both is refl);
   }
 
-  -- a piece waits behind what waits
-  pub HasPut-waiting : (first now : S) (buffer : Gathered) (text piece : List ℕ) → HasPut holds failed count first now buffer text
-      → HasPut holds failed count first now (with_waiting (buffer.waiting ++ piece) buffer) (text ++ piece)
-  HasPut-waiting first now buffer text piece h = record {
+  -- another header waits
+  pub HasPut-header : (first now : S) (buffer : Gathered) (text before header : List ℕ) → HasPut holds failed count first now buffer text before
+      → HasPut holds failed count first now (with_header header buffer) text header
+  HasPut-header first now buffer text before header h = record {
     under_way = λ works.
         let was = h.under_way works in
-        record {
-          sent = was.sent;
-          parts = ap (λ (l : List ℕ). l ++ piece) was.parts ∙ append_assoc was.sent buffer.waiting piece;
-          sent_is = was.sent_is;
-          taken_is = was.taken_is;
-          calls = was.calls;
-          stays = was.stays;
-          works = was.works;
-        };
-    cut_off = λ fails.
-        let was = h.cut_off fails in
-        let len = length-append text piece in
-        record { fails = was.fails; took = TookFirst-more first now text piece buffer.taken was.took; calls = omega (arith, len, was.calls) };
+        record { header_is = refl; sent = was.sent; parts = was.parts; sent_is = was.sent_is; taken_is = was.taken_is; calls = was.calls; stays = was.stays; works = was.works };
+    cut_off = λ fails. let was = h.cut_off fails in record { fails = was.fails; took = was.took; calls = was.calls };
   }
 
   -- the sink took all that waited
-  pub HasPut-sent : (first old new : S) (text piece : List ℕ) (taken later : ℕ)
-      → HasPut holds failed count first old (record { waiting = piece; taken = taken; has_failed = false }) text → Grows holds old new piece
+  pub HasPut-sent : (first old new : S) (text header piece : List ℕ) (taken later : ℕ)
+      → (waits : List ℕ) → HasPut holds failed count first old (gathered waits piece taken false) text header → Grows holds old new piece
       → later ≡ min (taken + length piece) (2 ^ 64 - 1) → count new ≤ count old + length piece → (failed old ≡ true → failed new ≡ true)
       → (0 < length piece → failed new ≡ false) → (length piece ≡ 0 → new ≡ old)
-      → HasPut holds failed count first new (record { waiting = []; taken = later; has_failed = false }) text
-  HasPut-sent first old new text piece taken later h grows is calls stays works same = record {
+      → HasPut holds failed count first new (gathered waits [] later false) text header
+  HasPut-sent first old new text header piece taken later waits h grows is calls stays works same = record {
     under_way = λ _.
         let was = h.under_way refl in
         let whole : length text ≡ length was.sent + length piece = ap length was.parts ∙ length-append was.sent piece in
         let before = was.taken_is in
         let called = was.calls in
         record {
+          header_is = was.header_is;
           sent = text;
           parts = sym (append-nil text);
           sent_is = subst (Grows holds first new) (sym was.parts) (Grows-append holds first old new was.sent piece was.sent_is grows);
@@ -95,11 +122,11 @@ module _ {S : Type 0} (holds : S → List ℕ → Type 0) (failed : S → Bool) 
   }
 
   -- the sink failed over what waited
-  pub HasPut-failed : (first old new : S) (text piece : List ℕ) (taken later : ℕ)
-      → HasPut holds failed count first old (record { waiting = piece; taken = taken; has_failed = false }) text → TookMore holds old new piece taken later
+  pub HasPut-failed : (first old new : S) (text header piece : List ℕ) (taken later : ℕ)
+      → (waits : List ℕ) → HasPut holds failed count first old (gathered waits piece taken false) text header → TookMore holds old new piece taken later
       → count new ≤ count old + length piece → failed new ≡ true
-      → HasPut holds failed count first new (record { waiting = []; taken = later; has_failed = true }) text
-  HasPut-failed first old new text piece taken later h took calls fails = record {
+      → HasPut holds failed count first new (gathered waits [] later true) text header
+  HasPut-failed first old new text header piece taken later waits h took calls fails = record {
     under_way = λ works. absurd (not_both refl works);
     cut_off = λ _.
         let was = h.under_way refl in
@@ -122,103 +149,99 @@ module _ {S : Type 0} (holds : S → List ℕ → Type 0) (failed : S → Bool) 
         };
   }
 
-  -- a sink that failed is handed nothing more
-  pub HasPut-kept : (first now : S) (text piece other : List ℕ) (taken : ℕ) → HasPut holds failed count first now (record { waiting = piece; taken = taken; has_failed = true }) text
-      → HasPut holds failed count first now (record { waiting = other; taken = taken; has_failed = true }) text
-  HasPut-kept first now text piece other taken h = record {
-    under_way = λ works. absurd (not_both refl works);
-    cut_off = λ _. let was = h.cut_off refl in record { fails = was.fails; took = was.took; calls = was.calls };
+  -- a sink that has failed is handed nothing more, whatever is put and whatever header waits
+  pub HasPut-cut : (first now : S) (buffer : Gathered) (text more before header : List ℕ) → buffer.has_failed ≡ true → HasPut holds failed count first now buffer text before
+      → HasPut holds failed count first now buffer (text ++ more) header
+  HasPut-cut first now buffer text more before header fails h = record {
+    under_way = λ works. absurd (not_both fails works);
+    cut_off = λ is.
+        let was = h.cut_off is in
+        let len = length-append text more in
+        record { fails = was.fails; took = TookFirst-more first now text more buffer.taken was.took; calls = omega (arith, len, was.calls) };
   }
 
 -- ---- pieces one after another
 
 module _ {S : Type 0} {holds : S → List ℕ → Type 0} {failed : S → Bool} {count : S → ℕ} where
-  pub emits_nothing : (s : S) (buffer : Gathered) → Emits holds failed count s s buffer buffer []
-  emits_nothing s buffer = record { puts = λ first text h. subst (HasPut holds failed count first s buffer) (sym (append-nil text)) h }
+  -- what was put, and the header that waits, by other words
+  put_same : {first now : S} {buffer : Gathered} {text other header more : List ℕ} → text ≡ other → header ≡ more → HasPut holds failed count first now buffer text header
+      → HasPut holds failed count first now buffer other more
+  put_same {first} {now} {buffer} {text} {other} {header} {more} same waits h =
+      subst (λ t. HasPut holds failed count first now buffer t more) same (subst (HasPut holds failed count first now buffer text) waits h)
 
   pub emits_then : {a b c : S} {x y z : Gathered} {front back : List ℕ} → Emits holds failed count a b x y front → Emits holds failed count b c y z back
       → Emits holds failed count a c x z (front ++ back)
-  emits_then {a} {b} {c} {x} {y} {z} {front} {back} one two = record {
-    puts = λ first text h. subst (HasPut holds failed count first c z) (append_assoc text front back) (two.puts first (text ++ front) (one.puts first text h));
+  emits_then {front = front} {back = back} one two = record {
+    puts = λ first text header h. put_same (append_assoc text front back) refl (two.puts first (text ++ front) header (one.puts first text header h));
   }
 
-  pub emits_same : {a b : S} {x y : Gathered} {piece other : List ℕ} → piece ≡ other → Emits holds failed count a b x y piece → Emits holds failed count a b x y other
+  emits_same : {a b : S} {x y : Gathered} {piece other : List ℕ} → piece ≡ other → Emits holds failed count a b x y piece → Emits holds failed count a b x y other
   emits_same {a} {b} {x} {y} same h = subst (Emits holds failed count a b x y) same h
 
   pub prints_nothing : (s : S) (buffer : Gathered) → Prints holds failed count s s buffer buffer []
-  prints_nothing s buffer = record { emits = emits_nothing s buffer }
+  prints_nothing s buffer = record { puts = λ first text header h. put_same (sym (append-nil text)) refl h }
 
   pub prints_then : {a b c : S} {x y z : Gathered} {front back : List PrintedLine} → Prints holds failed count a b x y front → Prints holds failed count b c y z back
       → Prints holds failed count a c x z (front ++ back)
-  prints_then {front = front} {back = back} one two = record { emits = emits_same (sym (text_of-append front back)) (emits_then one.emits two.emits) }
+  prints_then {front = front} {back = back} one two = record {
+    puts = λ first text header h.
+        put_same (append_assoc text (text_under header front) (text_under (header_behind header front) back) ∙ ap (λ (l : List ℕ). text ++ l) (text_under-append header front back))
+        (header_behind-append header front back) (two.puts first _ _ (one.puts first text header h));
+  }
 
   pub prints_same : {a b : S} {x y : Gathered} {lines other : List PrintedLine} → lines ≡ other → Prints holds failed count a b x y lines → Prints holds failed count a b x y other
   prints_same {a} {b} {x} {y} same h = subst (Prints holds failed count a b x y) same h
 
-  -- pieces that are the text of lines
-  pub prints_text : {a b : S} {x y : Gathered} {piece : List ℕ} {lines : List PrintedLine} → piece ≡ text_of lines → Emits holds failed count a b x y piece
-      → Prints holds failed count a b x y lines
-  prints_text same h = record { emits = emits_same same h }
-
-  -- a sink that has failed is handed nothing more, whatever is put
-  emits_failed : (s : S) (buffer : Gathered) (piece : List ℕ) → buffer.has_failed ≡ true → Emits holds failed count s s buffer buffer piece
-  emits_failed s buffer piece fails = record {
-    puts = λ first text h. record {
-      under_way = λ works. absurd (not_both fails works);
-      cut_off = λ is.
-          let was = h.cut_off is in
-          let len = length-append text piece in
-          record { fails = was.fails; took = TookFirst-more holds failed count first s text piece buffer.taken was.took; calls = omega (arith, len, was.calls) };
-    };
+  -- pieces that are the text of a line, below the header
+  pub prints_line : {a b c : S} {x y z : Gathered} {piece : List ℕ} {line : PrintedLine} → piece ≡ text_of (line ∷ []) → PutsHeader holds failed count a b x y
+      → Emits holds failed count b c y z piece → Prints holds failed count a c x z (line ∷ [])
+  prints_line {line = line} same opens emits = record {
+    puts = λ first text header h.
+        put_same (append_assoc text header (text_of (line ∷ []))) refl ((emits_same same emits).puts first (text ++ header) [] (opens.puts first text header h));
   }
 
   -- so the entries after it need not be looked at
   pub prints_cut : {X : Type 0} {a b : S} {x y : Gathered} (f : X → Lines) (xs : List X) (i : ℕ) → y.has_failed ≡ true
       → Prints holds failed count a b x y (flat_map f (take i xs)) → Prints holds failed count a b x y (flat_map f xs)
   prints_cut {b = b} {y = y} f xs i fails h =
-      prints_same (flat_map-rest f xs i) (prints_then h (record { emits = emits_failed b y (text_of (flat_map f (drop i xs))) fails }))
+      prints_same (flat_map-rest f xs i) (prints_then h (record { puts = λ first text header g. HasPut-cut holds failed count first b y text _ header _ fails g }))
 
--- ---- the end, where nothing waits
+  -- ---- sections one after another
 
-module _ {S : Type 0} (holds : S → List ℕ → Type 0) (failed : S → Bool) (count : S → ℕ) where
-  pub IsTaken-end : (first now : S) (buffer : Gathered) (text : List ℕ) → HasPut holds failed count first now buffer text → buffer.waiting ≡ []
-      → IsTaken holds failed first now text (answer_of buffer)
-  IsTaken-end first now buffer text h none =
-      elim (buffer.has_failed) as (λ b. buffer.has_failed ≡ b → IsTaken holds failed first now text (answer_of (record { waiting = buffer.waiting; taken = buffer.taken; has_failed = b }))) [
-        | true ↦ λ fails. let was = h.cut_off fails in (was.fails, was.took)
-        | false ↦ λ works.
-            let was = h.under_way works in
-            subst (Grows holds first now) (sym (was.parts ∙ ap (λ (l : List ℕ). was.sent ++ l) none ∙ append-nil was.sent)) was.sent_is
-      ] refl
+  -- lines before which no header waits
+  pub section_of : {a b : S} {x y : Gathered} {lines : List PrintedLine} → Prints holds failed count a b x y lines → PrintsSection holds failed count a b x y lines
+  section_of {lines = lines} h = record { puts = λ first text g. put_same (ap (λ (l : List ℕ). text ++ l) (no-header lines)) (none-behind lines) (h.puts first text [] g) }
 
-  pub calls-end : (first now : S) (buffer : Gathered) (text : List ℕ) → HasPut holds failed count first now buffer text → count now ≤ count first + length text
-  calls-end first now buffer text h =
-      elim (buffer.has_failed) as (λ b. buffer.has_failed ≡ b → count now ≤ count first + length text) [
-        | true ↦ λ fails. (h.cut_off fails).calls
-        | false ↦ λ works.
-            let was = h.under_way works in
-            let called = was.calls in
-            let whole : length text ≡ length was.sent + length buffer.waiting = ap length was.parts ∙ length-append was.sent buffer.waiting in
-            omega arith
-      ] refl
+  pub section_nothing : (s : S) (buffer : Gathered) → PrintsSection holds failed count s s buffer buffer []
+  section_nothing s buffer = section_of (prints_nothing s buffer)
 
-  pub works-end : (first now : S) (buffer : Gathered) (text : List ℕ) → HasPut holds failed count first now buffer text → buffer.waiting ≡ [] → 0 < length text
-      → IsOk (answer_of buffer) → failed now ≡ false
-  works-end first now buffer text h none some =
-      elim (buffer.has_failed) as (λ b. buffer.has_failed ≡ b → IsOk (answer_of (record { waiting = buffer.waiting; taken = buffer.taken; has_failed = b })) → failed now ≡ false) [
-        | true ↦ λ fails ok. absurd cc
-        | false ↦ λ works ok.
-            let was = h.under_way works in
-            let whole : length text ≡ length was.sent = ap length (was.parts ∙ ap (λ (l : List ℕ). was.sent ++ l) none ∙ append-nil was.sent) in
-            was.works (omega arith)
-      ] refl
+  pub section_then : {a b c : S} {x y z : Gathered} {front back : List PrintedLine} → PrintsSection holds failed count a b x y front
+      → PrintsSection holds failed count b c y z back → PrintsSection holds failed count a c x z (front ++ back)
+  section_then {front = front} {back = back} one two = record {
+    puts = λ first text h.
+        put_same (append_assoc text (text_of front) (text_of back) ∙ ap (λ (l : List ℕ). text ++ l) (sym (text_of-append front back))) refl
+        (two.puts first _ (one.puts first text h));
+  }
 
-  pub stays-end : (first now : S) (buffer : Gathered) (text : List ℕ) → HasPut holds failed count first now buffer text → failed first ≡ true → failed now ≡ true
-  stays-end first now buffer text h failed_first =
-      elim (buffer.has_failed) as (λ b. buffer.has_failed ≡ b → failed now ≡ true) [
-        | true ↦ λ fails. (h.cut_off fails).fails
-        | false ↦ λ works. (h.under_way works).stays failed_first
-      ] refl
+  pub section_same : {a b : S} {x y : Gathered} {lines other : List PrintedLine} → lines ≡ other → PrintsSection holds failed count a b x y lines
+      → PrintsSection holds failed count a b x y other
+  section_same {a} {b} {x} {y} same h = subst (PrintsSection holds failed count a b x y) same h
+
+  -- pieces that are the text of lines
+  pub section_text : {a b : S} {x y : Gathered} {piece : List ℕ} {lines : List PrintedLine} → piece ≡ text_of lines → Emits holds failed count a b x y piece
+      → PrintsSection holds failed count a b x y lines
+  section_text same h = record { puts = λ first text g. (emits_same same h).puts first text [] g }
+
+  -- lines below a header that waits from now on, until none waits
+  pub section_under : {a b : S} {x opened y closed : Gathered} {lines other : List PrintedLine} (header : List ℕ) → text_under header lines ≡ text_of other
+      → opened ≡ with_header header x → Prints holds failed count a b opened y lines → closed ≡ with_header [] y
+      → PrintsSection holds failed count a b x closed other
+  section_under {a} {b} {x} {opened} {y} {closed} {other = other} header same opens h closes = record {
+    puts = λ first text g.
+        let waits = subst (λ buffer. HasPut holds failed count first a buffer text header) (sym opens) (HasPut-header holds failed count first a x text [] header g) in
+        subst (λ buffer. HasPut holds failed count first b buffer (text ++ text_of other) []) (sym closes)
+        (put_same (ap (λ (l : List ℕ). text ++ l) same) refl (HasPut-header holds failed count first b y _ _ [] (h.puts first text header waits)));
+  }
 
 -- ---- what a caller is told
 

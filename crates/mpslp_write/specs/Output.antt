@@ -1,5 +1,5 @@
 -- What a writer has put so far: a sink took the first bytes of the text, and the others wait in a buffer.
-use Rattle.std.specs.Prelude.{◌≡◌, ℕ, ◌+◌, ◌-◌, ◌^◌, ◌<◌, ◌≤◌, min, Bool, true, false, List, [], ◌++◌, length, refl, Result, Ok, Err, if◌then◌else◌}
+use Rattle.std.specs.Prelude.{◌≡◌, ℕ, ◌+◌, ◌-◌, ◌^◌, ◌<◌, ◌≤◌, min, Bool, true, false, List, [], ◌∷◌, ◌++◌, length, refl, Result, Ok, Err, if◌then◌else◌}
 use Rattle.std.specs.Coded.{Coded, code_by, coded×, coded_list, coded_ℕ, coded_bool}
 use Rattle.mpslp_io.specs.Devices.{Grows}
 use Rattle.mpslp_canonical.specs.Printed.{PrintedLine, text_of}
@@ -7,29 +7,35 @@ use Rattle.mpslp_model.specs.Formats.{TookFirst}
 use Rattle.mpslp_types.specs.declared.faults.WriteFault.{WriteFault}
 use Rattle.mpslp_types.specs.declared.faults.WriteFault.TheVariants.{Write}
 
--- The bytes that wait, how many bytes the sink took, a number that stays at 2^64 - 1, and whether the sink failed.
+-- The bytes that wait, how many bytes the sink took, a number that stays at 2^64 - 1, whether the sink failed, and the header that waits for the first line of its section,
+-- [] where none does.
 pub record Gathered : Type 0 where
   pub waiting : List ℕ
   pub taken : ℕ
   pub has_failed : Bool
+  pub header : List ℕ
 
 abbrev pub gathered_code : Coded Gathered
 gathered_code =
-    code_by (List ℕ × (ℕ × Bool)) (coded× (coded_list coded_ℕ) (coded× coded_ℕ coded_bool)) (λ b. (b.waiting, (b.taken, b.has_failed)))
-    (λ p. record { waiting = p.0; taken = p.1.0; has_failed = p.1.1 }) (λ _. refl)
+    code_by (List ℕ × (ℕ × (Bool × List ℕ))) (coded× (coded_list coded_ℕ) (coded× coded_ℕ (coded× coded_bool (coded_list coded_ℕ))))
+    (λ b. (b.waiting, (b.taken, (b.has_failed, b.header)))) (λ p. record { waiting = p.0; taken = p.1.0; has_failed = p.1.1.0; header = p.1.1.1 }) (λ _. refl)
 
-abbrev pub gathered : List ℕ → ℕ → Bool → Gathered
-gathered waiting taken has_failed = record { waiting = waiting; taken = taken; has_failed = has_failed }
+abbrev pub gathered : List ℕ → List ℕ → ℕ → Bool → Gathered
+gathered header waiting taken has_failed = record { waiting = waiting; taken = taken; has_failed = has_failed; header = header }
 
 abbrev pub nothing_gathered : Gathered
-nothing_gathered = gathered [] 0 false
+nothing_gathered = gathered [] [] 0 false
 
 abbrev pub with_waiting : List ℕ → Gathered → Gathered
-with_waiting bytes buffer = record { waiting = bytes; taken = buffer.taken; has_failed = buffer.has_failed }
+with_waiting bytes buffer = gathered buffer.header bytes buffer.taken buffer.has_failed
 
--- Since the sink was `first` it took the text but for what waits.
-pub record IsUnderWay {S : Type 0} (holds : S → List ℕ → Type 0) (failed : S → Bool) (count : S → ℕ) (first now : S) (buffer : Gathered) (text : List ℕ)
+abbrev pub with_header : List ℕ → Gathered → Gathered
+with_header header buffer = gathered header buffer.waiting buffer.taken buffer.has_failed
+
+-- Since the sink was `first` it took the text but for what waits, and this header waits for a line.
+pub record IsUnderWay {S : Type 0} (holds : S → List ℕ → Type 0) (failed : S → Bool) (count : S → ℕ) (first now : S) (buffer : Gathered) (text header : List ℕ)
     : Type 0 where
+  pub header_is : buffer.header ≡ header
   pub sent : List ℕ
   pub parts : text ≡ sent ++ buffer.waiting
   pub sent_is : Grows holds first now sent
@@ -45,26 +51,46 @@ pub record IsCutOff {S : Type 0} (holds : S → List ℕ → Type 0) (failed : S
   pub took : TookFirst holds first now text buffer.taken
   pub calls : count now ≤ count first + length text
 
--- The text was put since the sink was `first`.
-pub record HasPut {S : Type 0} (holds : S → List ℕ → Type 0) (failed : S → Bool) (count : S → ℕ) (first now : S) (buffer : Gathered) (text : List ℕ)
+-- The text was put since the sink was `first`, and this header waits for a line. Of a sink that failed no header is told.
+pub record HasPut {S : Type 0} (holds : S → List ℕ → Type 0) (failed : S → Bool) (count : S → ℕ) (first now : S) (buffer : Gathered) (text header : List ℕ)
     : Type 0 where
-  pub under_way : buffer.has_failed ≡ false → IsUnderWay holds failed count first now buffer text
+  pub under_way : buffer.has_failed ≡ false → IsUnderWay holds failed count first now buffer text header
   pub cut_off : buffer.has_failed ≡ true → IsCutOff holds failed count first now buffer text
 
 -- Whatever was put, it was put still: bytes that waited were handed to the sink.
 abbrev pub KeepsPut : {S : Type 0} → (S → List ℕ → Type 0) → (S → Bool) → (S → ℕ) → S → S → Gathered → Gathered → Type 0
 KeepsPut {S} holds failed count old new before after =
-    (first : S) (text : List ℕ) → HasPut holds failed count first old before text → HasPut holds failed count first new after text
+    (first : S) (text header : List ℕ) → HasPut holds failed count first old before text header → HasPut holds failed count first new after text header
 
 -- Whatever was put, it was put with the piece behind it.
 pub record Emits {S : Type 0} (holds : S → List ℕ → Type 0) (failed : S → Bool) (count : S → ℕ) (old new : S) (before after : Gathered) (piece : List ℕ)
     : Type 0 where
-  pub puts : (first : S) (text : List ℕ) → HasPut holds failed count first old before text → HasPut holds failed count first new after (text ++ piece)
+  pub puts : (first : S) (text header : List ℕ) → HasPut holds failed count first old before text header → HasPut holds failed count first new after (text ++ piece) header
 
--- The same of printed lines.
+-- Whatever was put, it was put with the header that waited behind it, and none waits any more.
+pub record PutsHeader {S : Type 0} (holds : S → List ℕ → Type 0) (failed : S → Bool) (count : S → ℕ) (old new : S) (before after : Gathered) : Type 0 where
+  pub puts : (first : S) (text header : List ℕ) → HasPut holds failed count first old before text header → HasPut holds failed count first new after (text ++ header) []
+
+-- the text of lines and of the header that waits: it goes before the first of them
+abbrev pub text_under : List ℕ → List PrintedLine → List ℕ
+text_under header [] = []
+text_under header (line ∷ lines) = header ++ text_of (line ∷ lines)
+
+-- the header that waits behind them: it still does where there are none
+abbrev pub header_behind : List ℕ → List PrintedLine → List ℕ
+header_behind header [] = header
+header_behind header (line ∷ lines) = []
+
+-- Whatever was put, and whatever header waited, it was put with the lines behind it, below the header.
 pub record Prints {S : Type 0} (holds : S → List ℕ → Type 0) (failed : S → Bool) (count : S → ℕ) (old new : S) (before after : Gathered)
     (lines : List PrintedLine) : Type 0 where
-  pub emits : Emits holds failed count old new before after (text_of lines)
+  pub puts : (first : S) (text header : List ℕ) → HasPut holds failed count first old before text header
+      → HasPut holds failed count first new after (text ++ text_under header lines) (header_behind header lines)
+
+-- Whatever was put while no header waited, it was put with the lines behind it, their headers among them, and none waits.
+pub record PrintsSection {S : Type 0} (holds : S → List ℕ → Type 0) (failed : S → Bool) (count : S → ℕ) (old new : S) (before after : Gathered)
+    (lines : List PrintedLine) : Type 0 where
+  pub puts : (first : S) (text : List ℕ) → HasPut holds failed count first old before text [] → HasPut holds failed count first new after (text ++ text_of lines) []
 
 -- what is told of a sink that took all that it was handed, or failed
 abbrev pub answer_of : Gathered → Result (Unit {0}) WriteFault

@@ -7,9 +7,8 @@ ghost use Rattle.mpslp_model.specs.Views.{num_columns};
 ghost use Rattle.mpslp_canonical.specs.PrintedValues.{have_same_value, printed_lower, printed_upper, printed_bounds};
 ghost use Rattle.mpslp_canonical.specs.CanonicalMps.{bound_line, column_bound_lines, bounds_section};
 ghost use Rattle.mpslp_canonical.specs.Listing.{listing_of};
-ghost use Rattle.mpslp_model.specs.Lists.{is_nonempty};
 ghost use Rattle.mpslp_write.specs.LinesAt.{lines_at, kind_of, fixed_value, are_free};
-ghost use Rattle.mpslp_write.specs.Output.{Prints};
+ghost use Rattle.mpslp_write.specs.Output.{Prints, PrintsSection};
 
 use crate::lines::{put_bare_bound, put_valued_bound};
 use crate::output::Buffer;
@@ -131,31 +130,6 @@ fn put_bounds_of<W: Sink>(
     }
 }
 
-/// Whether a lower bound has a line.
-fn has_lower(lower: &Limit) -> bool
-    ensures { result ≡ is_nonempty (printed_lower lower.now) }
-{
-    match lower {
-        Limit::MinusInf => true,
-        Limit::Finite(value) => !value.is_zero(),
-        Limit::PlusInf => false,
-    }
-}
-
-/// Whether an upper bound has a line.
-fn has_upper(kind: Kind, upper: &Limit) -> bool
-    ensures { result ≡ is_nonempty (printed_upper kind upper.now) }
-{
-    match upper {
-        Limit::MinusInf => false,
-        Limit::Finite(_) => true,
-        Limit::PlusInf => match kind {
-            Kind::Continuous => false,
-            Kind::Integer => true,
-        },
-    }
-}
-
 /// Puts the lines of the bounds of the column of number `j`.
 fn put_bounds<W: Sink>(model: &Model, j: usize, sink: &mut W, buffer: &mut Buffer)
     requires { j < num_columns model.now }
@@ -186,34 +160,11 @@ fn put_all_bounds<W: Sink>(model: &Model, sink: &mut W, buffer: &mut Buffer)
     }
 }
 
-/// Whether the column of number `j` has a line in BOUNDS.
-fn has_bounds(model: &Model, j: usize) -> bool
-    requires { j < num_columns model.now }
-    ensures { result ≡ is_nonempty (lines_at column_bound_lines (entries model.now.columns) j) }
-{
-    let lower = has_lower(&model.col_lower(j));
-    let upper = has_upper(kind_of(model.is_integer(j)), &model.col_upper(j));
-    lower || upper
-}
-
-/// Whether a column has a line in BOUNDS.
-fn has_any_bounds(model: &Model) -> bool
-    ensures { result ≡ is_nonempty (flat_map column_bound_lines (entries model.now.columns)) }
-{
-    for j in 0..model.num_cols() {
-        if has_bounds(model, j) {
-            return true;
-        }
-    }
-    false
-}
-
 /// Puts the section BOUNDS, or nothing where all bounds are those that a column has without a line.
 pub(crate) fn put_bounds_section<W: Sink>(model: &Model, sink: &mut W, buffer: &mut Buffer)
-    ensures { Prints W.holds W.failed W.count sink.old sink.new buffer.old buffer.new (bounds_section (listing_of model.now)) }
+    ensures { PrintsSection W.holds W.failed W.count sink.old sink.new buffer.old buffer.new (bounds_section (listing_of model.now)) }
 {
-    if has_any_bounds(model) {
-        buffer.put(sink, b"BOUNDS\n");
-        put_all_bounds(model, sink, buffer);
-    }
+    buffer.open_section(b"BOUNDS\n");
+    put_all_bounds(model, sink, buffer);
+    buffer.close_section();
 }

@@ -8,7 +8,7 @@ ghost use Rattle.mpslp_canonical.specs.CanonicalMps.{column_lines, columns_secti
 ghost use Rattle.mpslp_canonical.specs.Listing.{listing_of};
 ghost use Rattle.mpslp_model.specs.Lists.{is_nonempty};
 ghost use Rattle.mpslp_write.specs.LinesAt.{lines_at, is_wanted, of_kind, element_lines, objective_lines};
-ghost use Rattle.mpslp_write.specs.Output.{Prints};
+ghost use Rattle.mpslp_write.specs.Output.{Prints, PrintsSection};
 
 use crate::lines::put_value_line;
 use crate::output::Buffer;
@@ -123,7 +123,7 @@ fn has_integer_columns(model: &Model) -> bool
 
 /// Puts the lines of the integer columns between marker lines, or nothing where no column is integer.
 fn put_integer_part<W: Sink>(model: &Model, sink: &mut W, buffer: &mut Buffer)
-    ensures { Prints W.holds W.failed W.count sink.old sink.new buffer.old buffer.new (integer_part (flat_map (of_kind Kind.Integer (column_lines (listing_of model.now))) (entries model.now.columns))) }
+    ensures { PrintsSection W.holds W.failed W.count sink.old sink.new buffer.old buffer.new (integer_part (flat_map (of_kind Kind.Integer (column_lines (listing_of model.now))) (entries model.now.columns))) }
 {
     if has_integer_columns(model) {
         buffer.put(sink, b"    MARKER  'MARKER'  'INTORG'\n");
@@ -135,7 +135,7 @@ fn put_integer_part<W: Sink>(model: &Model, sink: &mut W, buffer: &mut Buffer)
 /// Puts the section COLUMNS: the columns that are not integer, and then the integer ones between marker
 /// lines.
 pub(crate) fn put_columns_section<W: Sink>(model: &Model, sink: &mut W, buffer: &mut Buffer)
-    ensures { Prints W.holds W.failed W.count sink.old sink.new buffer.old buffer.new (columns_section (listing_of model.now)) }
+    ensures { PrintsSection W.holds W.failed W.count sink.old sink.new buffer.old buffer.new (columns_section (listing_of model.now)) }
 {
     buffer.put(sink, b"COLUMNS\n");
     put_columns(model, Kind::Continuous, sink, buffer);

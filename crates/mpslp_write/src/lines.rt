@@ -35,6 +35,7 @@ pub(crate) fn put_short_line<W: Sink>(
 )
     ensures { Prints W.holds W.failed W.count sink.old sink.new buffer.old buffer.new (short_line (first.now ∷ second.now ∷ []) ∷ []) }
 {
+    buffer.put_header(sink);
     buffer.put(sink, b" ");
     buffer.put(sink, first);
     put_field(sink, buffer, second);
@@ -51,6 +52,7 @@ pub(crate) fn put_value_line<W: Sink>(
 )
     ensures { Prints W.holds W.failed W.count sink.old sink.new buffer.old buffer.new (long_line (first.now ∷ second.now ∷ number_text value ∷ []) ∷ []) }
 {
+    buffer.put_header(sink);
     buffer.put(sink, b"    ");
     buffer.put(sink, first);
     put_field(sink, buffer, second);
@@ -66,6 +68,7 @@ pub(crate) fn put_bare_bound<W: Sink>(
 )
     ensures { Prints W.holds W.failed W.count sink.old sink.new buffer.old buffer.new (short_line (letters.now ∷ codes "BND" ∷ column.now ∷ []) ∷ []) }
 {
+    buffer.put_header(sink);
     buffer.put(sink, b" ");
     buffer.put(sink, letters);
     buffer.put(sink, b"  BND  ");
@@ -83,6 +86,7 @@ pub(crate) fn put_valued_bound<W: Sink>(
 )
     ensures { Prints W.holds W.failed W.count sink.old sink.new buffer.old buffer.new (short_line (letters.now ∷ codes "BND" ∷ column.now ∷ number_text value ∷ []) ∷ []) }
 {
+    buffer.put_header(sink);
     buffer.put(sink, b" ");
     buffer.put(sink, letters);
     buffer.put(sink, b"  BND  ");

@@ -1,7 +1,7 @@
 //! The text on its way to a sink: gathered in a buffer, and handed over when that is full.
 
 ghost use Rattle.std.specs.Prelude.{◌≡◌, ◌+◌, ◌<◌, ◌≤◌, List, [], ◌++◌, ℕ, true, false, length, IsOk};
-ghost use Rattle.mpslp_write.specs.Output.{Gathered, gathered, nothing_gathered, with_waiting, HasPut, KeepsPut, Emits, answer_of};
+ghost use Rattle.mpslp_write.specs.Output.{Gathered, gathered, nothing_gathered, with_waiting, with_header, HasPut, KeepsPut, Emits, PutsHeader, answer_of};
 ghost use Rattle.mpslp_model.specs.Formats.{IsTaken};
 
 use arrayvec::ArrayVec;
@@ -22,7 +22,7 @@ struct Sent {
 impl Sent {
     /// Hands a piece to the sink.
     fn send<W: Sink>(&mut self, sink: &mut W, piece: &[u8])
-        ensures { KeepsPut W.holds W.failed W.count sink.old sink.new (gathered piece.now self.old.taken self.old.has_failed) (gathered [] self.new.taken self.new.has_failed) }
+        ensures { (header : List ℕ) → KeepsPut W.holds W.failed W.count sink.old sink.new (gathered header piece.now self.old.taken self.old.has_failed) (gathered header [] self.new.taken self.new.has_failed) }
     {
         if self.has_failed {
             return;
@@ -37,10 +37,14 @@ impl Sent {
 /// Bytes that wait for a sink, so that it is called once for many pieces. After the sink has failed
 /// nothing more is handed to it, so that pieces can be put one after another without a test after each;
 /// [`finish`](Buffer::finish) tells the failure. No memory is taken.
+///
+/// The header of a section that may have no line waits here too, and is put with the first line.
 #[derive(Drop)]
 pub(crate) struct Buffer {
     bytes: ArrayVec<u8, CAPACITY>,
     sent: Sent,
+    /// The header that waits for the first line of its section. Empty: none does.
+    header: &'static [u8],
 }
 
 impl Model for Buffer {
@@ -50,7 +54,7 @@ impl Model for Buffer {
 
     ghost coded = { gathered_code };
 
-    ghost view = { λ b. record { waiting = b.bytes.items; taken = b.sent.taken; has_failed = b.sent.has_failed } };
+    ghost view = { λ b. record { waiting = b.bytes.items; taken = b.sent.taken; has_failed = b.sent.has_failed; header = b.header.now } };
 }
 
 impl Buffer {
@@ -64,6 +68,7 @@ impl Buffer {
                 taken: 0,
                 has_failed: false,
             },
+            header: b"".as_slice(),
         }
     }
 
@@ -83,6 +88,32 @@ impl Buffer {
         }
     }
 
+    /// Begins a section: its header waits for the first line.
+    pub(crate) fn open_section(&mut self, header: &'static [u8])
+        ensures { self.new ≡ with_header header.now self.old }
+    {
+        self.header = header;
+    }
+
+    /// Puts the header that waits, if one does: what a line begins with.
+    pub(crate) fn put_header<W: Sink>(&mut self, sink: &mut W)
+        ensures { PutsHeader W.holds W.failed W.count sink.old sink.new self.old self.new }
+    {
+        if self.header.is_empty() || self.has_failed() {
+            return;
+        }
+        let header = self.header;
+        self.header = b"".as_slice();
+        self.put(sink, header);
+    }
+
+    /// Ends a section: where it has no line, its header is not put.
+    pub(crate) fn close_section(&mut self)
+        ensures { self.new ≡ with_header [] self.old }
+    {
+        self.header = b"".as_slice();
+    }
+
     /// Whether the sink has failed, so that nothing more need be put.
     pub(crate) fn has_failed(&self) -> bool
         ensures { result ≡ self.now.has_failed }
@@ -94,10 +125,10 @@ impl Buffer {
     /// is answered by [`Write`](WriteFault::Write), with the number of first bytes of the text that it
     /// has taken.
     pub(crate) fn finish<W: Sink>(&mut self, sink: &mut W) -> Result<(), WriteFault>
-        ensures answer { (first : W) (text : List ℕ) → HasPut W.holds W.failed W.count first sink.old self.old text → IsTaken W.holds W.failed first sink.new text result }
-        ensures calls { (first : W) (text : List ℕ) → HasPut W.holds W.failed W.count first sink.old self.old text → W.count sink.new ≤ W.count first + length text }
-        ensures stays { (first : W) (text : List ℕ) → HasPut W.holds W.failed W.count first sink.old self.old text → W.failed first ≡ true → W.failed sink.new ≡ true }
-        ensures works { (first : W) (text : List ℕ) → HasPut W.holds W.failed W.count first sink.old self.old text → 0 < length text → IsOk result → W.failed sink.new ≡ false }
+        ensures answer { (first : W) (text header : List ℕ) → HasPut W.holds W.failed W.count first sink.old self.old text header → IsTaken W.holds W.failed first sink.new text result }
+        ensures calls { (first : W) (text header : List ℕ) → HasPut W.holds W.failed W.count first sink.old self.old text header → W.count sink.new ≤ W.count first + length text }
+        ensures stays { (first : W) (text header : List ℕ) → HasPut W.holds W.failed W.count first sink.old self.old text header → W.failed first ≡ true → W.failed sink.new ≡ true }
+        ensures works { (first : W) (text header : List ℕ) → HasPut W.holds W.failed W.count first sink.old self.old text header → 0 < length text → IsOk result → W.failed sink.new ≡ false }
     {
         self.hand_over(sink);
         self.answer()

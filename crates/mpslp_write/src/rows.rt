@@ -1,15 +1,13 @@
 //! The sections of rows: ROWS, RHS and RANGES.
 
-ghost use Rattle.std.specs.Prelude.{◌≡◌, ◌<◌, [], ◌∷◌, ◌++◌};
+ghost use Rattle.std.specs.Prelude.{◌<◌, [], ◌∷◌};
 ghost use Rattle.std.specs.List.{flat_map};
 ghost use Rattle.std.specs.FinMap.{entries};
-ghost use Rattle.mpslp_decimal.specs.Decimal.{negated};
 ghost use Rattle.mpslp_model.specs.Views.{num_rows};
 ghost use Rattle.mpslp_canonical.specs.CanonicalMps.{row_line, side_lines, row_side_lines, range_lines, rows_section, right_sides_section, ranges_section};
 ghost use Rattle.mpslp_canonical.specs.Listing.{listing_of};
-ghost use Rattle.mpslp_model.specs.Lists.{is_nonempty};
 ghost use Rattle.mpslp_write.specs.LinesAt.{lines_at};
-ghost use Rattle.mpslp_write.specs.Output.{Prints};
+ghost use Rattle.mpslp_write.specs.Output.{Prints, PrintsSection};
 
 use crate::lines::{put_short_line, put_value_line};
 use crate::output::Buffer;
@@ -40,7 +38,7 @@ fn put_rows<W: Sink>(model: &Model, sink: &mut W, buffer: &mut Buffer)
 
 /// Puts the section ROWS: the objective, and then the rows.
 pub(crate) fn put_rows_section<W: Sink>(model: &Model, sink: &mut W, buffer: &mut Buffer)
-    ensures { Prints W.holds W.failed W.count sink.old sink.new buffer.old buffer.new (rows_section (listing_of model.now)) }
+    ensures { PrintsSection W.holds W.failed W.count sink.old sink.new buffer.old buffer.new (rows_section (listing_of model.now)) }
 {
     buffer.put(sink, b"ROWS\n");
     put_short_line(sink, buffer, b"N", model.objective_name().as_bytes());
@@ -77,46 +75,16 @@ fn put_row_sides<W: Sink>(model: &Model, sink: &mut W, buffer: &mut Buffer)
     }
 }
 
-/// Whether the right side of the row of number `i` has a line.
-fn has_row_side(model: &Model, i: usize) -> bool
-    requires { i < num_rows model.now }
-    ensures { result ≡ is_nonempty (lines_at row_side_lines (entries model.now.rows) i) }
-{
-    let side = side_at(model, i);
-    !side.is_zero()
-}
-
-/// Whether a right side of a row has a line.
-fn has_row_sides(model: &Model) -> bool
-    ensures { result ≡ is_nonempty (flat_map row_side_lines (entries model.now.rows)) }
-{
-    for i in 0..model.num_rows() {
-        if has_row_side(model, i) {
-            return true;
-        }
-    }
-    false
-}
-
-/// Whether RHS has a line.
-fn has_right_sides(model: &Model) -> bool
-    ensures { result ≡ is_nonempty (side_lines model.now.objective (negated model.now.constant) ++ flat_map row_side_lines (entries model.now.rows)) }
-{
-    let offset = model.objective_offset();
-    !offset.is_zero() || has_row_sides(model)
-}
-
 /// Puts the section RHS: the negated constant of the objective, and then the right sides of the rows,
 /// without those that are 0. Where all are, nothing is put.
 pub(crate) fn put_right_sides_section<W: Sink>(model: &Model, sink: &mut W, buffer: &mut Buffer)
-    ensures { Prints W.holds W.failed W.count sink.old sink.new buffer.old buffer.new (right_sides_section (listing_of model.now)) }
+    ensures { PrintsSection W.holds W.failed W.count sink.old sink.new buffer.old buffer.new (right_sides_section (listing_of model.now)) }
 {
-    if has_right_sides(model) {
-        buffer.put(sink, b"RHS\n");
-        let objective = model.objective_name().as_bytes();
-        put_side(sink, buffer, objective, model.objective_offset());
-        put_row_sides(model, sink, buffer);
-    }
+    buffer.open_section(b"RHS\n");
+    let objective = model.objective_name().as_bytes();
+    put_side(sink, buffer, objective, model.objective_offset());
+    put_row_sides(model, sink, buffer);
+    buffer.close_section();
 }
 
 /// Puts the range of the row of number `i`, if it has one.
@@ -142,35 +110,11 @@ fn put_ranges<W: Sink>(model: &Model, sink: &mut W, buffer: &mut Buffer)
     }
 }
 
-/// Whether the row of number `i` has a range.
-fn has_range(model: &Model, i: usize) -> bool
-    requires { i < num_rows model.now }
-    ensures { result ≡ is_nonempty (lines_at range_lines (entries model.now.rows) i) }
-{
-    match range_at(model, i) {
-        Some(_) => true,
-        None => false,
-    }
-}
-
-/// Whether a row has a range.
-fn has_ranges(model: &Model) -> bool
-    ensures { result ≡ is_nonempty (flat_map range_lines (entries model.now.rows)) }
-{
-    for i in 0..model.num_rows() {
-        if has_range(model, i) {
-            return true;
-        }
-    }
-    false
-}
-
 /// Puts the section RANGES, or nothing where no row has a range.
 pub(crate) fn put_ranges_section<W: Sink>(model: &Model, sink: &mut W, buffer: &mut Buffer)
-    ensures { Prints W.holds W.failed W.count sink.old sink.new buffer.old buffer.new (ranges_section (listing_of model.now)) }
+    ensures { PrintsSection W.holds W.failed W.count sink.old sink.new buffer.old buffer.new (ranges_section (listing_of model.now)) }
 {
-    if has_ranges(model) {
-        buffer.put(sink, b"RANGES\n");
-        put_ranges(model, sink, buffer);
-    }
+    buffer.open_section(b"RANGES\n");
+    put_ranges(model, sink, buffer);
+    buffer.close_section();
 }

@@ -10,12 +10,12 @@ returns g c =
     let sink = g.W.Sink in
     let first = c.args.sink.now in
     let text = canonical_mps c.args.model.now in
-    let nothing = subst (λ (b : Gathered). HasPut sink.holds sink.failed sink.count first first b []) (sym c.new-buffer.ensures) (HasPut-nothing sink.holds sink.failed sink.count first) in
-    let put = c.put_lines.ensures.emits.puts first [] nothing in
+    let nothing = subst (λ (b : Gathered). HasPut sink.holds sink.failed sink.count first first b [] []) (sym c.new-buffer.ensures) (HasPut-nothing sink.holds sink.failed sink.count first) in
+    let put = c.put_lines.ensures.puts first [] nothing in
     record {
-      answer = taken-written sink.holds sink.failed canonical_mps c.args.model.now first c.finish.new.sink c.finish.result (c.finish.ensures.answer first text put);
-      succeeds = taken-succeeds sink.holds sink.failed first c.finish.new.sink text c.finish.result (c.finish.ensures.answer first text put);
-      works = c.finish.ensures.works first text put (canonical_mps-some c.args.model.now);
-      calls = c.finish.ensures.calls first text put;
-      stays = c.finish.ensures.stays first text put;
+      answer = taken-written sink.holds sink.failed canonical_mps c.args.model.now first c.finish.new.sink c.finish.result (c.finish.ensures.answer first text [] put);
+      succeeds = taken-succeeds sink.holds sink.failed first c.finish.new.sink text c.finish.result (c.finish.ensures.answer first text [] put);
+      works = c.finish.ensures.works first text [] put (canonical_mps-some c.args.model.now);
+      calls = c.finish.ensures.calls first text [] put;
+      stays = c.finish.ensures.stays first text [] put;
     }
