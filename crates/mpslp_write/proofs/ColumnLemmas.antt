@@ -19,11 +19,8 @@ use Rattle.mpslp_types.proofs.BoolLemmas.{not_so}
 use Rattle.mpslp_model.proofs.DraftEntries.{same_key}
 use Rattle.mpslp_model.proofs.SlotLemmas.{same_name}
 use Rattle.mpslp_model.proofs.SortedDrafts.{key_total}
-use Rattle.mpslp_mps.specs.DataLine.{opening_word, closing_word}
-use Rattle.mpslp_canonical.specs.Listing.{Listing, listing_of}
-use Rattle.mpslp_canonical.specs.Printed.{PrintedLine}
-use Rattle.mpslp_canonical.specs.CanonicalMps.{Lines, bound_line, column_bound_lines, cell_line, column_cells, printed_cells, column_lines, is_integer_kind, is_integer_column, integer_part, marker_line}
-use Rattle.mpslp_model.specs.Lists.{is_nonempty}
+use Rattle.mpslp_canonical.specs.Listing.{listing_of}
+use Rattle.mpslp_canonical.specs.CanonicalMps.{Lines, bound_line, column_bound_lines, cell_line, column_cells, printed_cells, is_integer_kind, is_integer_column}
 use Rattle.mpslp_write.specs.LinesAt.{lines_at, is_wanted, of_kind, element_lines, objective_line_at, objective_lines, kind_of}
 use Rattle.mpslp_canonical.specs.PrintedValues.{PrintedBound, printed_bounds}
 use Rattle.mpslp_write.proofs.LinesAtLemmas.{both_seen, lines_seen}
@@ -73,31 +70,6 @@ pub kind-lines : (kind : Kind) (f : List ℕ × Column → Lines) (es : Columns)
 kind-lines wanted f es j b is =
     let (e, at, kind) = at-kind es j b is in
     (λ i. cond (is_wanted wanted (sym kind i)) (option_map_or f (at i) []) []) ∙ sym (ap (λ (o : Option (List ℕ × Column)). option_map_or (of_kind wanted f) o []) at)
-
--- each column has lines
-has-cells : (objective : List ℕ) (cells : List (List ℕ × Number)) (g : List ℕ × Number → PrintedLine) → is_nonempty (map g (printed_cells objective cells)) ≡ true
-has-cells objective [] g = refl
-has-cells objective (cell ∷ cells) g = refl
-
--- an integer column has lines in the integer part
-pub integer-lines : (m : Listing) (es : Columns) (j : ℕ) (b : Bool) → option_map views.is_integer_column (slice_get (map (λ e. e.1) es) j) ≡ Some b
-    → is_nonempty (lines_at (of_kind Integer (column_lines m)) es j) ≡ b
-integer-lines m es j b is =
-    let (e, at, kind) = at-kind es j b is in
-    ap (λ (o : Option (List ℕ × Column)). is_nonempty (option_map_or (of_kind Integer (column_lines m)) o [])) at
-    ∙ ap (λ (k : Bool). is_nonempty (cond k (column_lines m e) [])) kind ∙ by b e
-  where
-    by : (k : Bool) (e : List ℕ × Column) → is_nonempty (cond k (column_lines m e) []) ≡ k
-    by true e = has-cells m.objective (column_cells m e.0) (cell_line e.0)
-    by false e = refl
-
-pub integer-some : (lines : Lines) → is_nonempty lines ≡ true → marker_line opening_word ∷ (lines ++ marker_line closing_word ∷ []) ≡ integer_part lines
-integer-some [] h = cc
-integer-some (line ∷ lines) h = refl
-
-pub integer-none : (lines : Lines) → is_nonempty lines ≡ false → [] ≡ integer_part lines
-integer-none [] h = refl
-integer-none (line ∷ lines) h = cc
 
 -- ---- the lines of one column
 

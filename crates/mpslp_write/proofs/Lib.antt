@@ -5,3 +5,4 @@ pub mod ColumnLemmas
 pub mod LineTexts
 pub mod BoundLines
 pub mod RowLines
+pub mod IntegerPart

@@ -1,12 +1,11 @@
 -- Lines of one entry after another, and of an entry as it is seen through a model's views.
 use Rattle.std.proofs.Common.{◌≡◌, refl, sym, ap, ◌∙◌, ℕ, zero, suc, ◌≤◌, ◌+◌, add-one, Bool, true, false, cond, List, [], ◌∷◌, ◌++◌, length, map, take, drop, append_assoc, append-nil, arith}
-use Rattle.std.specs.Prelude.{Option, Some, None, slice_get, filter, ◌||◌}
+use Rattle.std.specs.Prelude.{Option, Some, None, slice_get, filter}
 use Rattle.std.specs.List.{flat_map}
 use Rattle.std.specs.Option.{option_map, option_map_or}
 use Rattle.std.proofs.lemmas.List.{length-map}
 use Rattle.std.proofs.lemmas.Option.{slice_get-map}
 use Rattle.mpslp_canonical.specs.CanonicalMps.{Lines}
-use Rattle.mpslp_model.specs.Lists.{is_nonempty}
 use Rattle.mpslp_write.specs.LinesAt.{lines_at}
 
 -- ---- one entry more
@@ -41,31 +40,6 @@ flat_map-filter {X} f p (x ∷ xs) =
       | false ↦ flat_map-filter f p xs
     ]
 
--- ---- whether there are lines
-
-pub has-append : (front back : Lines) → is_nonempty (front ++ back) ≡ (is_nonempty front || is_nonempty back)
-has-append [] back = refl
-has-append (line ∷ front) back = refl
-
-pub has-here : {X : Type 0} (f : X → Lines) (xs : List X) (i : ℕ) → is_nonempty (lines_at f xs i) ≡ true → is_nonempty (flat_map f xs) ≡ true
-has-here f [] i h = cc
-has-here f (x ∷ xs) zero h = has-append (f x) (flat_map f xs) ∙ ap (λ (b : Bool). b || is_nonempty (flat_map f xs)) h
-has-here f (x ∷ xs) (suc i) h = has-append (f x) (flat_map f xs) ∙ either (is_nonempty (f x)) (is_nonempty (flat_map f xs)) (has-here f xs i h)
-  where
-    either : (a b : Bool) → b ≡ true → (a || b) ≡ true
-    either true b h = refl
-    either false b h = h
-
-pub none-so-far : {X : Type 0} (f : X → Lines) (xs : List X) (i : ℕ) → is_nonempty (flat_map f (take i xs)) ≡ false → is_nonempty (lines_at f xs i) ≡ false
-    → is_nonempty (flat_map f (take (suc i) xs)) ≡ false
-none-so-far f xs i before here =
-    ap is_nonempty (flat_map-more f xs i) ∙ has-append (flat_map f (take i xs)) (lines_at f xs i)
-    ∙ ap (λ (b : Bool). b || is_nonempty (lines_at f xs i)) before ∙ here
-
-pub no-lines : (lines : Lines) → is_nonempty lines ≡ false → lines ≡ []
-no-lines [] h = refl
-no-lines (line ∷ lines) h = cc
-
 -- ---- an entry by its views
 
 -- what two views tell of an entry, taken together
@@ -99,28 +73,15 @@ lines_seen {X} {Y} es i f h name seen named is =
 pub flat_map-next : {X : Type 0} (f : X → Lines) (xs : List X) (i : ℕ) → flat_map f (take i xs) ++ lines_at f xs i ≡ flat_map f (take (i + 1) xs)
 flat_map-next f xs i = sym (ap (λ (n : ℕ). flat_map f (take n xs)) (add-one i) ∙ flat_map-more f xs i)
 
-pub none-next : {X : Type 0} (f : X → Lines) (xs : List X) (i : ℕ) → is_nonempty (flat_map f (take i xs)) ≡ false → is_nonempty (lines_at f xs i) ≡ false
-    → is_nonempty (flat_map f (take (i + 1) xs)) ≡ false
-none-next f xs i before here = ap (λ (n : ℕ). is_nonempty (flat_map f (take n xs))) (add-one i) ∙ none-so-far f xs i before here
-
 -- the number of entries, by their names
 pub all-taken : {X : Type 0} (f : List ℕ × X → Lines) (es : List (List ℕ × X)) (n : ℕ) → length (map (λ e. e.0) es) ≤ n → flat_map f (take n es) ≡ flat_map f es
 all-taken {X} f es n h = let named = length-map es (λ (e : List ℕ × X). e.0) in flat_map-all f es n (omega (arith, named, h))
 
--- whether an entry has lines, where its name decides nothing
-pub nonempty_seen : {X Y : Type 0} (es : List (List ℕ × X)) (i : ℕ) (f : X → Y) (h : List ℕ → Y → Lines) (seen : Y) (b : Bool)
-    → option_map f (slice_get (map (λ e. e.1) es) i) ≡ Some seen → ((name : List ℕ) → is_nonempty (h name seen) ≡ b) → is_nonempty (lines_at (λ e. h e.0 (f e.1)) es i) ≡ b
-nonempty_seen {X} {Y} es i f h seen b is told = by (slice_get es i) (ap (option_map f) (sym (slice_get-map (λ (e : List ℕ × X). e.1) es i)) ∙ is)
-  where
-    none_seen : (y : Y) → ◌≡◌ {A = Option Y} None (Some y) → ⊥
-    none_seen y e = cc
-
-    by : (o : Option (List ℕ × X)) → option_map f (option_map (λ (e : List ℕ × X). e.1) o) ≡ Some seen → is_nonempty (option_map_or (λ (e : List ℕ × X). h e.0 (f e.1)) o []) ≡ b
-    by None s = absurd (none_seen seen s)
-    by (Some e) s = let same : f e.1 ≡ seen = cc in ap (λ (y : Y). is_nonempty (h e.0 y)) same ∙ told e.0
-
 -- an entry of whose name nothing is printed
 pub nothing_seen : {X Y : Type 0} (es : List (List ℕ × X)) (i : ℕ) (f : X → Y) (h : List ℕ → Y → Lines) (seen : Y)
     → option_map f (slice_get (map (λ e. e.1) es) i) ≡ Some seen → ((name : List ℕ) → h name seen ≡ []) → [] ≡ lines_at (λ e. h e.0 (f e.1)) es i
-nothing_seen es i f h seen is none =
-    sym (no-lines (lines_at (λ e. h e.0 (f e.1)) es i) (nonempty_seen es i f h seen false is (λ name. ap is_nonempty (none name))))
+nothing_seen {X} {Y} es i f h seen is none = by (slice_get es i) (ap (option_map f) (sym (slice_get-map (λ (e : List ℕ × X). e.1) es i)) ∙ is)
+  where
+    by : (o : Option (List ℕ × X)) → option_map f (option_map (λ (e : List ℕ × X). e.1) o) ≡ Some seen → [] ≡ option_map_or (λ (e : List ℕ × X). h e.0 (f e.1)) o []
+    by None s = refl
+    by (Some e) s = let same : f e.1 ≡ seen = cc in sym (ap (λ (y : Y). h e.0 y) same ∙ none e.0)

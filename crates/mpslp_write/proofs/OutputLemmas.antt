@@ -18,7 +18,7 @@ use Rattle.mpslp_write.proofs.LinesAtLemmas.{flat_map-rest}
 use Rattle.mpslp_write.specs.Output.{Gathered, gathered, nothing_gathered, with_header, HasPut, Emits, PutsHeader, Prints, PrintsSection, text_under, header_behind}
 use Rattle.mpslp_canonical.specs.Printed.{PrintedLine, printed, text_of}
 
-text_of-append : (front back : List PrintedLine) → text_of (front ++ back) ≡ text_of front ++ text_of back
+pub text_of-append : (front back : List PrintedLine) → text_of (front ++ back) ≡ text_of front ++ text_of back
 text_of-append [] back = refl
 text_of-append (line ∷ front) back =
     let one = printed line ++ 10 ∷ [] in
@@ -164,7 +164,7 @@ module _ {S : Type 0} (holds : S → List ℕ → Type 0) (failed : S → Bool) 
 
 module _ {S : Type 0} {holds : S → List ℕ → Type 0} {failed : S → Bool} {count : S → ℕ} where
   -- what was put, and the header that waits, by other words
-  put_same : {first now : S} {buffer : Gathered} {text other header more : List ℕ} → text ≡ other → header ≡ more → HasPut holds failed count first now buffer text header
+  pub put_same : {first now : S} {buffer : Gathered} {text other header more : List ℕ} → text ≡ other → header ≡ more → HasPut holds failed count first now buffer text header
       → HasPut holds failed count first now buffer other more
   put_same {first} {now} {buffer} {text} {other} {header} {more} same waits h =
       subst (λ t. HasPut holds failed count first now buffer t more) same (subst (HasPut holds failed count first now buffer text) waits h)
@@ -232,15 +232,25 @@ module _ {S : Type 0} {holds : S → List ℕ → Type 0} {failed : S → Bool} 
       → PrintsSection holds failed count a b x y lines
   section_text same h = record { puts = λ first text g. (emits_same same h).puts first text [] g }
 
+  -- a header waits from now on, and lines are put below it
+  pub opened_put : {first a b : S} {x opened y : Gathered} {text header : List ℕ} {lines : List PrintedLine} → opened ≡ with_header header x
+      → Prints holds failed count a b opened y lines → HasPut holds failed count first a x text []
+      → HasPut holds failed count first b y (text ++ text_under header lines) (header_behind header lines)
+  opened_put {first} {a} {x = x} {text = text} {header} opens h g =
+      h.puts first text header (subst (λ buffer. HasPut holds failed count first a buffer text header) (sym opens) (HasPut-header holds failed count first a x text [] header g))
+
+  -- no header waits any more
+  pub closed_put : {first b : S} {y closed : Gathered} {text other header : List ℕ} → closed ≡ with_header [] y → text ≡ other
+      → HasPut holds failed count first b y text header → HasPut holds failed count first b closed other []
+  closed_put {first} {b} {y} {text = text} {other} {header} closes same h =
+      subst (λ buffer. HasPut holds failed count first b buffer other []) (sym closes) (put_same same refl (HasPut-header holds failed count first b y text header [] h))
+
   -- lines below a header that waits from now on, until none waits
   pub section_under : {a b : S} {x opened y closed : Gathered} {lines other : List PrintedLine} (header : List ℕ) → text_under header lines ≡ text_of other
       → opened ≡ with_header header x → Prints holds failed count a b opened y lines → closed ≡ with_header [] y
       → PrintsSection holds failed count a b x closed other
-  section_under {a} {b} {x} {opened} {y} {closed} {other = other} header same opens h closes = record {
-    puts = λ first text g.
-        let waits = subst (λ buffer. HasPut holds failed count first a buffer text header) (sym opens) (HasPut-header holds failed count first a x text [] header g) in
-        subst (λ buffer. HasPut holds failed count first b buffer (text ++ text_of other) []) (sym closes)
-        (put_same (ap (λ (l : List ℕ). text ++ l) same) refl (HasPut-header holds failed count first b y _ _ [] (h.puts first text header waits)));
+  section_under header same opens h closes = record {
+    puts = λ first text g. closed_put closes (ap (λ (l : List ℕ). text ++ l) same) (opened_put opens h g);
   }
 
 -- ---- what a caller is told

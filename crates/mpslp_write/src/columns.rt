@@ -6,7 +6,6 @@ ghost use Rattle.std.specs.FinMap.{entries};
 ghost use Rattle.mpslp_model.specs.Views.{num_columns, column_name, column_elements};
 ghost use Rattle.mpslp_canonical.specs.CanonicalMps.{column_lines, columns_section, integer_part};
 ghost use Rattle.mpslp_canonical.specs.Listing.{listing_of};
-ghost use Rattle.mpslp_model.specs.Lists.{is_nonempty};
 ghost use Rattle.mpslp_write.specs.LinesAt.{lines_at, is_wanted, of_kind, element_lines, objective_lines};
 ghost use Rattle.mpslp_write.specs.Output.{Prints, PrintsSection};
 
@@ -109,25 +108,13 @@ fn put_columns<W: Sink>(model: &Model, kind: Kind, sink: &mut W, buffer: &mut Bu
     }
 }
 
-/// Whether a column is integer.
-fn has_integer_columns(model: &Model) -> bool
-    ensures { result ≡ is_nonempty (flat_map (of_kind Kind.Integer (column_lines (listing_of model.now))) (entries model.now.columns)) }
-{
-    for j in 0..model.num_cols() {
-        if model.is_integer(j) {
-            return true;
-        }
-    }
-    false
-}
-
 /// Puts the lines of the integer columns between marker lines, or nothing where no column is integer.
 fn put_integer_part<W: Sink>(model: &Model, sink: &mut W, buffer: &mut Buffer)
     ensures { PrintsSection W.holds W.failed W.count sink.old sink.new buffer.old buffer.new (integer_part (flat_map (of_kind Kind.Integer (column_lines (listing_of model.now))) (entries model.now.columns))) }
 {
-    if has_integer_columns(model) {
-        buffer.put(sink, b"    MARKER  'MARKER'  'INTORG'\n");
-        put_columns(model, Kind::Integer, sink, buffer);
+    buffer.open_section(b"    MARKER  'MARKER'  'INTORG'\n");
+    put_columns(model, Kind::Integer, sink, buffer);
+    if buffer.close_section() {
         buffer.put(sink, b"    MARKER  'MARKER'  'INTEND'\n");
     }
 }

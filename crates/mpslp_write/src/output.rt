@@ -1,6 +1,6 @@
 //! The text on its way to a sink: gathered in a buffer, and handed over when that is full.
 
-ghost use Rattle.std.specs.Prelude.{◌≡◌, ◌+◌, ◌<◌, ◌≤◌, List, [], ◌++◌, ℕ, true, false, length, IsOk};
+ghost use Rattle.std.specs.Prelude.{◌≡◌, ◌+◌, ◌<◌, ◌≤◌, List, [], ◌++◌, ℕ, true, false, not, ◌&&◌, ◌==◌, length, IsOk};
 ghost use Rattle.mpslp_write.specs.Output.{Gathered, gathered, nothing_gathered, with_waiting, with_header, HasPut, KeepsPut, Emits, PutsHeader, answer_of};
 ghost use Rattle.mpslp_model.specs.Formats.{IsTaken};
 
@@ -107,11 +107,15 @@ impl Buffer {
         self.put(sink, header);
     }
 
-    /// Ends a section: where it has no line, its header is not put.
-    pub(crate) fn close_section(&mut self)
-        ensures { self.new ≡ with_header [] self.old }
+    /// Ends a section: where it has no line, its header is not put. Tells whether it has any, and that it
+    /// has none where the sink has failed.
+    pub(crate) fn close_section(&mut self) -> bool
+        ensures closed { self.new ≡ with_header [] self.old }
+        ensures has_lines { result ≡ (not self.old.has_failed && (length self.old.header == 0)) }
     {
+        let has_lines = !self.has_failed() && self.header.is_empty();
         self.header = b"".as_slice();
+        has_lines
     }
 
     /// Whether the sink has failed, so that nothing more need be put.

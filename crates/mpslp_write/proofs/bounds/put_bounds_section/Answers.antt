@@ -5,4 +5,4 @@ use Rattle.mpslp_write.proofs.OutputLemmas.{under-text, section_under}
 use Rattle.mpslp_write.proofs.bounds.put_bounds_section.Goals as goal
 
 pub returns : goal.returns
-returns g c = section_under (codes "BOUNDS\n") (under-text Bounds _ _ refl) c.open_section.ensures c.put_all_bounds.ensures c.close_section.ensures
+returns g c = section_under (codes "BOUNDS\n") (under-text Bounds _ _ refl) c.open_section.ensures c.put_all_bounds.ensures c.close_section.ensures.closed

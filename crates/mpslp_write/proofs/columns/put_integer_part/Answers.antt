@@ -1,15 +1,11 @@
-use Rattle.std.proofs.Common.{sym, ◌∙◌, refl, [], ◌∷◌}
-use Rattle.mpslp_mps.specs.DataLine.{opening_word, closing_word}
-use Rattle.mpslp_canonical.specs.CanonicalMps.{marker_line}
-use Rattle.mpslp_write.proofs.ColumnLemmas.{integer-some, integer-none}
-use Rattle.mpslp_write.proofs.OutputLemmas.{section_of, section_nothing, section_then, section_same, section_text}
+use Rattle.std.proofs.Common.{sym, ◌∙◌}
+use Rattle.mpslp_write.proofs.IntegerPart.{integer_some, integer_none}
 use Rattle.mpslp_write.proofs.columns.put_integer_part.Goals as goal
 
-pub returns-then-has_integer_columns : goal.returns-then-has_integer_columns
-returns-then-has_integer_columns g c =
-    section_same (integer-some _ (sym c.has_integer_columns.ensures ∙ c.if-has_integer_columns.true))
-    (section_then (section_text {lines = marker_line opening_word ∷ []} refl c.put.ensures)
-    (section_then (section_of c.put_columns.ensures) (section_text {lines = marker_line closing_word ∷ []} refl c.put-then-has_integer_columns.ensures)))
+pub returns-then-close_section : goal.returns-then-close_section
+returns-then-close_section g c =
+    integer_some c.open_section.ensures c.put_columns.ensures c.close_section.ensures.closed (sym c.close_section.ensures.has_lines ∙ c.if-close_section.true) c.put.ensures
 
-pub returns-else-has_integer_columns : goal.returns-else-has_integer_columns
-returns-else-has_integer_columns g c = section_same (integer-none _ (sym c.has_integer_columns.ensures ∙ c.if-has_integer_columns.false)) (section_nothing c.args.sink.now c.args.buffer.now)
+pub returns-else-close_section : goal.returns-else-close_section
+returns-else-close_section g c =
+    integer_none c.open_section.ensures c.put_columns.ensures c.close_section.ensures.closed (sym c.close_section.ensures.has_lines ∙ c.if-close_section.false)
