@@ -6,3 +6,4 @@ pub mod LineTexts
 pub mod BoundLines
 pub mod RowLines
 pub mod IntegerPart
+pub mod DifferenceLemmas

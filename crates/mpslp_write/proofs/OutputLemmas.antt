@@ -82,7 +82,7 @@ module _ {S : Type 0} (holds : S → List ℕ → Type 0) (failed : S → Bool) 
   }
 
   -- another header waits
-  pub HasPut-header : (first now : S) (buffer : Gathered) (text before header : List ℕ) → HasPut holds failed count first now buffer text before
+  HasPut-header : (first now : S) (buffer : Gathered) (text before header : List ℕ) → HasPut holds failed count first now buffer text before
       → HasPut holds failed count first now (with_header header buffer) text header
   HasPut-header first now buffer text before header h = record {
     under_way = λ works.
@@ -211,9 +211,6 @@ module _ {S : Type 0} {holds : S → List ℕ → Type 0} {failed : S → Bool} 
   -- lines before which no header waits
   pub section_of : {a b : S} {x y : Gathered} {lines : List PrintedLine} → Prints holds failed count a b x y lines → PrintsSection holds failed count a b x y lines
   section_of {lines = lines} h = record { puts = λ first text g. put_same (ap (λ (l : List ℕ). text ++ l) (no-header lines)) (none-behind lines) (h.puts first text [] g) }
-
-  pub section_nothing : (s : S) (buffer : Gathered) → PrintsSection holds failed count s s buffer buffer []
-  section_nothing s buffer = section_of (prints_nothing s buffer)
 
   pub section_then : {a b c : S} {x y z : Gathered} {front back : List PrintedLine} → PrintsSection holds failed count a b x y front
       → PrintsSection holds failed count b c y z back → PrintsSection holds failed count a c x z (front ++ back)

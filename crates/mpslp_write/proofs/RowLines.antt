@@ -1,9 +1,107 @@
--- The lines of the right side and of the range of a row.
-use Rattle.std.proofs.Common.{ℕ, List, [], ◌∷◌}
-use Rattle.std.specs.Prelude.{Option, codes}
-use Rattle.std.specs.Option.{option_map_or}
-use Rattle.mpslp_decimal.specs.Decimal.{Number}
-use Rattle.mpslp_canonical.specs.CanonicalMps.{Lines, vector_line}
+-- The lines of the right side and of the range of a row, by the views of a model.
+use Rattle.std.proofs.Common.{◌≡◌, refl, sym, ap, ◌∙◌, ℕ, Bool, true, false, cond, List, [], ◌∷◌, map}
+use Rattle.std.specs.Prelude.{Option, Some, None, unwrap_or, slice_get, codes, if◌then◌else◌}
+use Rattle.std.specs.Option.{option_map, option_map_or}
+use Rattle.mpslp_decimal.specs.Decimal.{Number, is_zero, zero_number, difference_of}
+use Rattle.mpslp_write.proofs.DifferenceLemmas.{difference-zero}
+use Rattle.mpslp_model.specs.Model.{Row}
+use Rattle.mpslp_model.specs.Views.{row_range, right_hand_side}
+use Rattle.mpslp_types.specs.declared.kinds.Limit.{Limit}
+use Rattle.mpslp_types.specs.declared.kinds.Limit.TheVariants.{MinusInf, Finite, PlusInf}
+use Rattle.mpslp_canonical.specs.PrintedValues.{have_same_value, printed_side}
+use Rattle.mpslp_canonical.specs.CanonicalMps.{Lines, vector_line, range_lines}
+use Rattle.mpslp_write.specs.LinesAt.{lines_at}
+use Rattle.mpslp_write.proofs.LinesAtLemmas.{both_seen, lines_seen, nothing_seen}
 
-abbrev pub range_at_name : List ℕ → Option Number → Lines
-range_at_name row range = option_map_or (λ value. vector_line (codes "RNG") row value ∷ []) range []
+-- ---- the right side
+
+-- by the lower limit and the view
+abbrev side_by : Limit → Number → Number
+side_by (Finite lower) side = lower
+side_by _ side = side
+
+side-told : (row : Row) → side_by row.lower (right_hand_side row) ≡ printed_side row.lower row.upper
+side-told row = by row.lower row.upper
+  where
+    by : (lower upper : Limit) → side_by lower (right_hand_side (record { lower = lower; upper = upper })) ≡ printed_side lower upper
+    by MinusInf MinusInf = refl
+    by MinusInf (Finite b) = refl
+    by MinusInf PlusInf = refl
+    by (Finite a) upper = refl
+    by PlusInf MinusInf = refl
+    by PlusInf (Finite b) = refl
+    by PlusInf PlusInf = refl
+
+side-put : (rows : List Row) (i : ℕ) (lower : Limit) (side : Number) → option_map (λ row. row.lower) (slice_get rows i) ≡ Some lower
+    → option_map right_hand_side (slice_get rows i) ≡ Some side → option_map (λ row. printed_side row.lower row.upper) (slice_get rows i) ≡ Some (side_by lower side)
+side-put rows i lower side p q =
+    sym (λ j. option_map (λ row. side-told row j) (slice_get rows i)) ∙ both_seen (λ (row : Row). row.lower) right_hand_side side_by (slice_get rows i) lower side p q
+
+side-else : (lower : Limit) (side : Number) → ((value : Number) → lower ≡ Finite value → ⊥) → side_by lower side ≡ side
+side-else MinusInf side never = refl
+side-else (Finite value) side never = absurd (never value refl)
+side-else PlusInf side never = refl
+
+pub side-left : (rows : List Row) (i : ℕ) (lower : Limit) (side : Number) → ((value : Number) → lower ≡ Finite value → ⊥)
+    → option_map (λ row. row.lower) (slice_get rows i) ≡ Some lower → option_map right_hand_side (slice_get rows i) ≡ Some side
+    → option_map (λ row. printed_side row.lower row.upper) (slice_get rows i) ≡ Some side
+side-left rows i lower side never p q = side-put rows i lower side p q ∙ ap Some (side-else lower side never)
+
+-- where the lower limit is finite, the view need not be asked
+pub side-finite : (rows : List Row) (i : ℕ) (lower : Number) → option_map (λ row. row.lower) (slice_get rows i) ≡ Some (Finite lower)
+    → option_map (λ row. printed_side row.lower row.upper) (slice_get rows i) ≡ Some lower
+side-finite rows i lower p = by (slice_get rows i) p
+  where
+    by : (o : Option Row) → option_map (λ row. row.lower) o ≡ Some (Finite lower) → option_map (λ row. printed_side row.lower row.upper) o ≡ Some lower
+    by None h = absurd (none_seen (Finite lower) h)
+      where
+        none_seen : (y : Limit) → ◌≡◌ {A = Option Limit} None (Some y) → ⊥
+        none_seen y e = cc
+    by (Some row) h = let same : row.lower ≡ Finite lower = cc in ap (λ (l : Limit). Some (printed_side l row.upper)) same
+
+-- ---- the range
+
+-- by the view, which is 0 where there is no range
+abbrev range_told : List ℕ → Number → Lines
+range_told row range = if is_zero range then [] else vector_line (codes "RNG") row range ∷ []
+
+range-seen : (name : List ℕ) (a b : Number) (o : Option Number) → difference_of b a ≡ o
+    → range_told name (unwrap_or o zero_number) ≡ option_map_or (λ value. vector_line (codes "RNG") name value ∷ []) (if have_same_value a b then None else o) []
+range-seen name a b None e = by (have_same_value a b)
+  where
+    by : (same : Bool) → [] ≡ option_map_or (λ value. vector_line (codes "RNG") name value ∷ []) (cond same None None) []
+    by true = refl
+    by false = refl
+range-seen name a b (Some d) e =
+    ap (λ (none : Bool). cond none [] (vector_line (codes "RNG") name d ∷ [])) (difference-zero a b d e) ∙ by (have_same_value a b)
+  where
+    by : (same : Bool) → cond same [] (vector_line (codes "RNG") name d ∷ []) ≡ option_map_or (λ value. vector_line (codes "RNG") name value ∷ []) (cond same None (Some d)) []
+    by true = refl
+    by false = refl
+
+range-told : (row : List ℕ × Row) → range_told row.0 (row_range row.1) ≡ range_lines row
+range-told row = by row.0 row.1.lower row.1.upper
+  where
+    by : (name : List ℕ) (lower upper : Limit)
+        → range_told name (row_range (record { lower = lower; upper = upper })) ≡ range_lines (name, record { lower = lower; upper = upper })
+    by name MinusInf upper = refl
+    by name (Finite a) MinusInf = refl
+    by name (Finite a) (Finite b) = range-seen name a b (difference_of b a) refl
+    by name (Finite a) PlusInf = refl
+    by name PlusInf upper = refl
+
+abbrev Rows : Type 0
+Rows = List (List ℕ × Row)
+
+each-told : (es : Rows) (i : ℕ) → lines_at (λ e. range_told e.0 (row_range e.1)) es i ≡ lines_at range_lines es i
+each-told es i = λ j. lines_at (λ e. range-told e j) es i
+
+pub range-put : (es : Rows) (i : ℕ) (name : List ℕ) (range : Number) → slice_get (map (λ e. e.0) es) i ≡ Some name
+    → option_map row_range (slice_get (map (λ e. e.1) es) i) ≡ Some range → is_zero range ≡ false → vector_line (codes "RNG") name range ∷ [] ≡ lines_at range_lines es i
+range-put es i name range named is some =
+    sym (ap (λ (none : Bool). cond none [] (vector_line (codes "RNG") name range ∷ [])) some) ∙ lines_seen es i row_range range_told name range named is ∙ each-told es i
+
+pub range-left : (es : Rows) (i : ℕ) (range : Number) → option_map row_range (slice_get (map (λ e. e.1) es) i) ≡ Some range → is_zero range ≡ true
+    → [] ≡ lines_at range_lines es i
+range-left es i range is none =
+    nothing_seen es i row_range range_told range is (λ name. ap (λ (b : Bool). cond b [] (vector_line (codes "RNG") name range ∷ [])) none) ∙ each-told es i

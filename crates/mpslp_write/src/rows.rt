@@ -11,7 +11,7 @@ ghost use Rattle.mpslp_write.specs.Output.{Prints, PrintsSection};
 
 use crate::lines::{put_short_line, put_value_line};
 use crate::output::Buffer;
-use crate::values::{range_at, row_letter, side_at};
+use crate::values::{row_letter, side_at};
 use mpslp_decimal::Decimal;
 use mpslp_model::{Model, Sink};
 
@@ -87,14 +87,14 @@ pub(crate) fn put_right_sides_section<W: Sink>(model: &Model, sink: &mut W, buff
     buffer.close_section();
 }
 
-/// Puts the range of the row of number `i`, if it has one.
+/// Puts the range of the row of number `i`, unless it is 0.
 fn put_range<W: Sink>(model: &Model, i: usize, sink: &mut W, buffer: &mut Buffer)
     requires { i < num_rows model.now }
     ensures { Prints W.holds W.failed W.count sink.old sink.new buffer.old buffer.new (lines_at range_lines (entries model.now.rows) i) }
 {
-    match range_at(model, i) {
-        Some(range) => put_value_line(sink, buffer, b"RNG", model.row_name(i).as_bytes(), range),
-        None => {}
+    let range = model.row_range(i);
+    if !range.is_zero() {
+        put_value_line(sink, buffer, b"RNG", model.row_name(i).as_bytes(), range);
     }
 }
 

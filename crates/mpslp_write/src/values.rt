@@ -1,16 +1,14 @@
 //! What is printed of the limits of a row and of the bounds of a column.
 
-ghost use Rattle.std.specs.Prelude.{◌≡◌, ◌<◌, [], ◌∷◌, None, Some, slice_get, if◌then◌else◌};
+ghost use Rattle.std.specs.Prelude.{◌≡◌, ◌<◌, [], ◌∷◌, Some, slice_get, if◌then◌else◌};
 ghost use Rattle.std.specs.Option.{option_map};
-ghost use Rattle.mpslp_decimal.specs.Decimal.{difference_of};
 ghost use Rattle.mpslp_model.specs.Views.{num_rows, rows_of};
 ghost use Rattle.mpslp_mps.specs.DataLine.{letter_of};
-ghost use Rattle.mpslp_canonical.specs.PrintedValues.{have_same_value, printed_type, printed_side, printed_range};
+ghost use Rattle.mpslp_canonical.specs.PrintedValues.{have_same_value, printed_type, printed_side};
 
 use mpslp_decimal::Decimal;
 use mpslp_decimal::laws::each_value_is_a_decimal;
 use mpslp_model::{Limit, Model};
-use std::cmp::Ordering;
 
 /// Whether the numbers have the same value.
 pub(crate) fn have_same_value(a: Decimal, b: Decimal) -> bool
@@ -18,11 +16,7 @@ pub(crate) fn have_same_value(a: Decimal, b: Decimal) -> bool
 {
     each_value_is_a_decimal(a);
     each_value_is_a_decimal(b);
-    match a.cmp(&b) {
-        Ordering::Less => false,
-        Ordering::Equal => true,
-        Ordering::Greater => false,
-    }
+    a.cmp(&b).is_eq()
 }
 
 /// The letter of a row whose limits are both finite.
@@ -52,55 +46,13 @@ pub(crate) fn row_letter(lower: &Limit, upper: &Limit) -> &'static [u8]
     }
 }
 
-/// The right side of a row, and 0 where it has no limits.
-fn side_of(lower: &Limit, upper: &Limit) -> Decimal
-    ensures { result ≡ printed_side lower.now upper.now }
-{
-    match lower {
-        Limit::Finite(lower) => *lower,
-        _ => match upper {
-            Limit::Finite(upper) => *upper,
-            _ => Decimal::zero(),
-        },
-    }
-}
-
-/// The right side that is printed of the row of number `i`.
+/// The right side that is printed of the row of number `i`: the lower limit where that is finite.
 pub(crate) fn side_at(model: &Model, i: usize) -> Decimal
     requires { i < num_rows model.now }
     ensures { option_map (λ row. printed_side row.lower row.upper) (slice_get (rows_of model.now) i) ≡ Some result }
 {
-    side_of(&model.row_lower(i), &model.row_upper(i))
-}
-
-/// How far apart two limits lie that differ.
-fn distance(lower: &Decimal, upper: &Decimal) -> Option<Decimal>
-    ensures { result ≡ (if have_same_value lower.now upper.now then None else difference_of upper.now lower.now) }
-{
-    if have_same_value(*lower, *upper) {
-        None
-    } else {
-        upper.checked_sub(*lower)
+    match model.row_lower(i) {
+        Limit::Finite(lower) => lower,
+        _ => model.right_hand_side(i),
     }
-}
-
-/// The range of a row that has two limits that differ.
-fn range_of(lower: &Limit, upper: &Limit) -> Option<Decimal>
-    ensures { result ≡ printed_range lower.now upper.now }
-{
-    match lower {
-        Limit::Finite(lower) => match upper {
-            Limit::Finite(upper) => distance(lower, upper),
-            _ => None,
-        },
-        _ => None,
-    }
-}
-
-/// The range that is printed of the row of number `i`.
-pub(crate) fn range_at(model: &Model, i: usize) -> Option<Decimal>
-    requires { i < num_rows model.now }
-    ensures { option_map (λ row. printed_range row.lower row.upper) (slice_get (rows_of model.now) i) ≡ Some result }
-{
-    range_of(&model.row_lower(i), &model.row_upper(i))
 }

@@ -1,23 +1,17 @@
-use Rattle.std.proofs.Common.{ap, ◌∙◌, refl, ℕ, List}
-use Rattle.std.specs.Prelude.{Some}
+use Rattle.std.proofs.Common.{sym, ap, ◌∙◌, ℕ, List, [], ◌∷◌}
+use Rattle.std.specs.Prelude.{codes}
 use Rattle.std.specs.FinMap.{entries}
-use Rattle.mpslp_model.specs.Model.{Row}
-use Rattle.std.specs.Prelude.{None}
-use Rattle.mpslp_canonical.specs.PrintedValues.{printed_range}
-use Rattle.mpslp_write.proofs.LinesAtLemmas.{lines_seen, nothing_seen}
-use Rattle.mpslp_write.proofs.RowLines.{range_at_name}
+use Rattle.mpslp_canonical.specs.CanonicalMps.{vector_line}
+use Rattle.mpslp_write.proofs.RowLines.{range-put, range-left}
 use Rattle.mpslp_write.proofs.OutputLemmas.{prints_same, prints_nothing}
 use Rattle.mpslp_write.proofs.rows.put_range.Goals as goal
 
-pub returns-in-Some : goal.returns-in-Some
-returns-in-Some g c =
-    prints_same (ap (λ (name : List ℕ). range_at_name name (Some c.in-Some.range)) c.as_bytes.ensures
-    ∙ lines_seen (entries c.args.model.now.rows) c.args.i (λ (row : Row). printed_range row.lower row.upper) range_at_name _ _ c.row_name.ensures
-    (c.range_at.ensures ∙ ap Some c.in-Some.is))
+pub returns-then-not-is_zero : goal.returns-then-not-is_zero
+returns-then-not-is_zero g c =
+    prints_same (ap (λ (name : List ℕ). vector_line (codes "RNG") name c.row_range-range.result ∷ []) c.as_bytes.ensures
+    ∙ range-put (entries c.args.model.now.rows) c.args.i _ _ c.row_name.ensures c.row_range-range.ensures (sym c.if-not-is_zero.ensures))
     c.put_value_line.ensures
 
-pub returns-in-None : goal.returns-in-None
-returns-in-None g c =
-    prints_same (nothing_seen (entries c.args.model.now.rows) c.args.i (λ (row : Row). printed_range row.lower row.upper) range_at_name None
-    (c.range_at.ensures ∙ ap Some c.in-None.is) (λ name. refl))
-    (prints_nothing c.args.sink.now c.args.buffer.now)
+pub returns-else-not-is_zero : goal.returns-else-not-is_zero
+returns-else-not-is_zero g c =
+    prints_same (range-left (entries c.args.model.now.rows) c.args.i _ c.row_range-range.ensures (sym c.if-not-is_zero.ensures)) (prints_nothing c.args.sink.now c.args.buffer.now)

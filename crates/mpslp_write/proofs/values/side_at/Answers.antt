@@ -1,12 +1,11 @@
-use Rattle.std.proofs.Common.{sym, ap, ◌∙◌}
-use Rattle.std.specs.Prelude.{slice_get, Some}
-use Rattle.mpslp_model.specs.Model.{Row}
+use Rattle.std.proofs.Common.{ap, ◌∙◌}
+use Rattle.std.specs.Prelude.{Some}
 use Rattle.mpslp_model.specs.Views.{rows_of}
-use Rattle.mpslp_canonical.specs.PrintedValues.{printed_side}
-use Rattle.mpslp_write.proofs.LinesAtLemmas.{both_seen}
+use Rattle.mpslp_write.proofs.RowLines.{side-finite, side-left}
 use Rattle.mpslp_write.proofs.values.side_at.Goals as goal
 
-pub returns : goal.returns
-returns c =
-    both_seen (λ (row : Row). row.lower) (λ (row : Row). row.upper) printed_side (slice_get (rows_of c.args.model.now) c.args.i) _ _ c.row_lower.ensures c.row_upper.ensures
-    ∙ ap Some (sym c.side_of.ensures)
+pub returns-in-Finite : goal.returns-in-Finite
+returns-in-Finite c = side-finite (rows_of c.args.model.now) c.args.i _ (c.row_lower.ensures ∙ ap Some c.in-Finite.is)
+
+pub returns-in_default : goal.returns-in_default
+returns-in_default c = side-left (rows_of c.args.model.now) c.args.i _ _ c.in_default.not-Finite c.row_lower.ensures c.right_hand_side.ensures
