@@ -1,17 +1,65 @@
 -- The lines of the right side and of the range of a row, by the views of a model.
-use Rattle.std.proofs.Common.{◌≡◌, refl, sym, ap, ◌∙◌, ℕ, Bool, true, false, cond, List, [], ◌∷◌, map}
-use Rattle.std.specs.Prelude.{Option, Some, None, unwrap_or, slice_get, codes, if◌then◌else◌}
+use Rattle.std.proofs.Common.{◌≡◌, refl, sym, ap, ◌∙◌, ℕ, zero, suc, Bool, true, false, cond, List, [], ◌∷◌, map}
+use Rattle.std.specs.Prelude.{Option, Some, None, unwrap_or, slice_get, ◌&&◌, codes, if◌then◌else◌}
+use Rattle.std.specs.List.{list_all}
 use Rattle.std.specs.Option.{option_map, option_map_or}
 use Rattle.mpslp_decimal.specs.Decimal.{Number, is_zero, zero_number, difference_of}
 use Rattle.mpslp_write.proofs.DifferenceLemmas.{difference-zero}
-use Rattle.mpslp_model.specs.Model.{Row}
-use Rattle.mpslp_model.specs.Views.{row_range, right_hand_side}
+use Rattle.std.specs.Cmp.{first_so, second_so}
+use Rattle.std.specs.FinMap.{entries}
+use Rattle.mpslp_types.specs.Name.{is_mps_name}
+use Rattle.mpslp_model.specs.Model.{LinearModel, Row, IsSound, is_sound_row}
+use Rattle.mpslp_types.specs.Sides.{are_sides, is_bounded_decimal, has_bounded_distance}
+use Rattle.mpslp_model.specs.Views.{row_sense, row_range, right_hand_side}
 use Rattle.mpslp_types.specs.declared.kinds.Limit.{Limit}
 use Rattle.mpslp_types.specs.declared.kinds.Limit.TheVariants.{MinusInf, Finite, PlusInf}
-use Rattle.mpslp_canonical.specs.PrintedValues.{have_same_value, printed_side}
-use Rattle.mpslp_canonical.specs.CanonicalMps.{Lines, vector_line, range_lines}
-use Rattle.mpslp_write.specs.LinesAt.{lines_at}
+use Rattle.mpslp_types.specs.declared.kinds.RowType.TheVariants.{AtLeast, Equal}
+use Rattle.mpslp_mps.specs.DataLine.{letter_of}
+use Rattle.mpslp_canonical.specs.Printed.{short_line}
+use Rattle.mpslp_canonical.specs.PrintedValues.{have_same_value, printed_type, printed_side}
+use Rattle.mpslp_canonical.specs.CanonicalMps.{Lines, row_line, vector_line, range_lines}
+use Rattle.mpslp_write.specs.LinesAt.{lines_at, printed_letter}
 use Rattle.mpslp_write.proofs.LinesAtLemmas.{both_seen, lines_seen, nothing_seen}
+
+abbrev Rows : Type 0
+Rows = List (List ℕ × Row)
+
+-- ---- the line in ROWS
+
+letter-told : (lower upper : Limit) → are_sides lower upper ≡ true
+    → printed_letter (row_sense (record { lower = lower; upper = upper })) ∷ [] ≡ letter_of (printed_type lower upper)
+letter-told MinusInf MinusInf h = absurd cc
+letter-told MinusInf (Finite b) h = refl
+letter-told MinusInf PlusInf h = refl
+letter-told (Finite a) MinusInf h = absurd (never (is_bounded_decimal a) h)
+  where
+    never : (b : Bool) → (b && false) ≡ true → ⊥
+    never true e = cc
+    never false e = cc
+letter-told (Finite a) (Finite b) h = by (have_same_value a b)
+  where
+    by : (same : Bool) → printed_letter (cond same 69 82) ∷ [] ≡ letter_of (cond same Equal AtLeast)
+    by true = refl
+    by false = refl
+letter-told (Finite a) PlusInf h = refl
+letter-told PlusInf upper h = absurd cc
+
+-- by the view
+abbrev row_told : List ℕ → ℕ → Lines
+row_told row sense = short_line ((printed_letter sense ∷ []) ∷ row ∷ []) ∷ []
+
+rows-told : (es : Rows) (i : ℕ) → list_all is_sound_row es ≡ true → lines_at (λ e. row_told e.0 (row_sense e.1)) es i ≡ lines_at (λ row. row_line row ∷ []) es i
+rows-told [] i sound = refl
+rows-told (e ∷ es) zero sound =
+    let here = first_so (is_sound_row e) (list_all is_sound_row es) sound in
+    let sides = second_so (is_mps_name e.0) (are_sides e.1.lower e.1.upper && has_bounded_distance e.1.lower e.1.upper) here in
+    let told = letter-told e.1.lower e.1.upper (first_so (are_sides e.1.lower e.1.upper) (has_bounded_distance e.1.lower e.1.upper) sides) in
+    λ j. short_line (told j ∷ e.0 ∷ []) ∷ []
+rows-told (e ∷ es) (suc i) sound = rows-told es i (second_so (is_sound_row e) (list_all is_sound_row es) sound)
+
+pub row-put : (m : LinearModel) → IsSound m → (i : ℕ) (name : List ℕ) (sense : ℕ) → slice_get (map (λ e. e.0) (entries m.rows)) i ≡ Some name
+    → option_map row_sense (slice_get (map (λ e. e.1) (entries m.rows)) i) ≡ Some sense → row_told name sense ≡ lines_at (λ row. row_line row ∷ []) (entries m.rows) i
+row-put m sound i name sense named is = lines_seen (entries m.rows) i row_sense row_told name sense named is ∙ rows-told (entries m.rows) i sound.rows
 
 -- ---- the right side
 
@@ -89,9 +137,6 @@ range-told row = by row.0 row.1.lower row.1.upper
     by name (Finite a) (Finite b) = range-seen name a b (difference_of b a) refl
     by name (Finite a) PlusInf = refl
     by name PlusInf upper = refl
-
-abbrev Rows : Type 0
-Rows = List (List ℕ × Row)
 
 each-told : (es : Rows) (i : ℕ) → lines_at (λ e. range_told e.0 (row_range e.1)) es i ≡ lines_at range_lines es i
 each-told es i = λ j. lines_at (λ e. range-told e j) es i

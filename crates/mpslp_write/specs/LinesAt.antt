@@ -1,5 +1,5 @@
 -- Lines that are printed of one entry after another.
-use Rattle.std.specs.Prelude.{ℕ, Bool, true, false, not, List, [], ◌∷◌, slice_get, Option, Some, None, if◌then◌else◌}
+use Rattle.std.specs.Prelude.{ℕ, Bool, true, false, not, List, [], ◌∷◌, slice_get, Option, Some, None, ◌==◌, if◌then◌else◌}
 use Rattle.std.specs.Option.{option_map_or}
 use Rattle.mpslp_decimal.specs.Decimal.{Number, is_zero}
 use Rattle.mpslp_model.specs.Model.{LinearModel, CoefficientKey, Column}
@@ -14,6 +14,10 @@ use Rattle.mpslp_canonical.specs.CanonicalMps.{Lines, is_integer_column, cell_li
 -- the lines of the entry of this number, if there is one
 abbrev pub lines_at : {X : Type 0} → (X → Lines) → List X → ℕ → Lines
 lines_at lines_of entries i = option_map_or lines_of (slice_get entries i) []
+
+-- the letter of a row by its sense: R, where two limits differ, is printed as G
+abbrev pub printed_letter : ℕ → ℕ
+printed_letter sense = if sense == 82 then 71 else sense
 
 -- whether a column that is integer, or not, is of the kind that is wanted
 abbrev pub is_wanted : Kind → Bool → Bool

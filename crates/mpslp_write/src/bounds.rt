@@ -12,8 +12,8 @@ ghost use Rattle.mpslp_write.specs.Output.{Prints, PrintsSection};
 
 use crate::lines::{put_bare_bound, put_valued_bound};
 use crate::output::Buffer;
-use crate::values::have_same_value;
 use mpslp_decimal::Decimal;
+use mpslp_decimal::laws::each_value_is_a_decimal;
 use mpslp_model::{Kind, Limit, Model, Sink};
 
 /// The kind of a column that is integer, or not.
@@ -70,6 +70,15 @@ fn put_both<W: Sink>(
 {
     put_lower(sink, buffer, column, lower);
     put_upper(sink, buffer, column, kind, upper);
+}
+
+/// Whether the numbers have the same value.
+fn have_same_value(a: Decimal, b: Decimal) -> bool
+    ensures { result ≡ have_same_value a b }
+{
+    each_value_is_a_decimal(a);
+    each_value_is_a_decimal(b);
+    a.cmp(&b).is_eq()
 }
 
 /// The value of a column whose bounds are finite and have the same value.

@@ -11,7 +11,6 @@ mod lines;
 mod mps;
 mod output;
 mod rows;
-mod values;
 
 pub use formats::Mps;
 pub use mps::write_mps;

@@ -1,27 +1,42 @@
 //! The sections of rows: ROWS, RHS and RANGES.
 
-ghost use Rattle.std.specs.Prelude.{◌<◌, [], ◌∷◌};
+ghost use Rattle.std.specs.Prelude.{◌≡◌, ◌<◌, [], ◌∷◌, Some, slice_get};
 ghost use Rattle.std.specs.List.{flat_map};
+ghost use Rattle.std.specs.Option.{option_map};
 ghost use Rattle.std.specs.FinMap.{entries};
-ghost use Rattle.mpslp_model.specs.Views.{num_rows};
+ghost use Rattle.mpslp_model.specs.Views.{num_rows, rows_of};
+ghost use Rattle.mpslp_canonical.specs.PrintedValues.{printed_side};
 ghost use Rattle.mpslp_canonical.specs.CanonicalMps.{row_line, side_lines, row_side_lines, range_lines, rows_section, right_sides_section, ranges_section};
 ghost use Rattle.mpslp_canonical.specs.Listing.{listing_of};
-ghost use Rattle.mpslp_write.specs.LinesAt.{lines_at};
+ghost use Rattle.mpslp_write.specs.LinesAt.{lines_at, printed_letter};
 ghost use Rattle.mpslp_write.specs.Output.{Prints, PrintsSection};
 
 use crate::lines::{put_short_line, put_value_line};
 use crate::output::Buffer;
-use crate::values::{row_letter, side_at};
 use mpslp_decimal::Decimal;
-use mpslp_model::{Model, Sink};
+use mpslp_model::laws::each_model_is_sound;
+use mpslp_model::{Limit, Model, Sink};
+
+/// The letter of a row in ROWS: where two limits differ it is G, and RANGES has the row.
+fn printed_letter(sense: u8) -> u8
+    ensures { result ≡ printed_letter sense }
+{
+    if sense == b'R' { b'G' } else { sense }
+}
 
 /// Puts the line of the row of number `i` in ROWS.
 fn put_row<W: Sink>(model: &Model, i: usize, sink: &mut W, buffer: &mut Buffer)
     requires { i < num_rows model.now }
     ensures { Prints W.holds W.failed W.count sink.old sink.new buffer.old buffer.new (lines_at (λ row. row_line row ∷ []) (entries model.now.rows) i) }
 {
-    let letter = row_letter(&model.row_lower(i), &model.row_upper(i));
-    put_short_line(sink, buffer, letter, model.row_name(i).as_bytes());
+    each_model_is_sound(model);
+    let letter = printed_letter(model.row_sense(i));
+    put_short_line(
+        sink,
+        buffer,
+        [letter].as_slice(),
+        model.row_name(i).as_bytes(),
+    );
 }
 
 /// Puts the lines of all rows in ROWS.
@@ -43,6 +58,17 @@ pub(crate) fn put_rows_section<W: Sink>(model: &Model, sink: &mut W, buffer: &mu
     buffer.put(sink, b"ROWS\n");
     put_short_line(sink, buffer, b"N", model.objective_name().as_bytes());
     put_rows(model, sink, buffer);
+}
+
+/// The right side that is printed of the row of number `i`: the lower limit where that is finite.
+fn side_at(model: &Model, i: usize) -> Decimal
+    requires { i < num_rows model.now }
+    ensures { option_map (λ row. printed_side row.lower row.upper) (slice_get (rows_of model.now) i) ≡ Some result }
+{
+    match model.row_lower(i) {
+        Limit::Finite(lower) => lower,
+        _ => model.right_hand_side(i),
+    }
 }
 
 /// Puts the line of a right side, unless it is 0.

@@ -2,7 +2,7 @@ use Rattle.std.proofs.Common.{ap, ◌∙◌}
 use Rattle.std.specs.Prelude.{Some}
 use Rattle.mpslp_model.specs.Views.{rows_of}
 use Rattle.mpslp_write.proofs.RowLines.{side-finite, side-left}
-use Rattle.mpslp_write.proofs.values.side_at.Goals as goal
+use Rattle.mpslp_write.proofs.rows.side_at.Goals as goal
 
 pub returns-in-Finite : goal.returns-in-Finite
 returns-in-Finite c = side-finite (rows_of c.args.model.now) c.args.i _ (c.row_lower.ensures ∙ ap Some c.in-Finite.is)
