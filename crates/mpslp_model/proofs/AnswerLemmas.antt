@@ -23,7 +23,7 @@ use Rattle.mpslp_types.proofs.EachLemmas.{imp_all}
 use Rattle.mpslp_model.proofs.SlotLemmas.{same_name}
 use Rattle.mpslp_model.proofs.LaterDrafts.{objective_is}
 use Rattle.mpslp_model.proofs.RefusalLemmas.{first_none, rest_none}
-use Rattle.mpslp_types.proofs.BoolLemmas.{nor}
+use Rattle.mpslp_types.proofs.BoolLemmas.{either, nor}
 use Rattle.mpslp_model.proofs.PutOrderLemmas.{put-again}
 use Rattle.mpslp_model.proofs.SortedDrafts.{bytes_total, tied_names}
 use Rattle.mpslp_model.proofs.MadeDrafts.{made-adding, made-bounds, good-from_made}
@@ -72,10 +72,6 @@ named_so {X} p name (e ∷ es) all h =
       | true ↦ λ same _. ap p (same_name name e.0 (texts_ties name e.0 ∙ same)) ∙ first_so (p e.0) (list_all (λ (e : List ℕ × X). p e.0) es) all
       | false ↦ λ _ there. named_so p name es (second_so (p e.0) (list_all (λ (e : List ℕ × X). p e.0) es) all) there
     ] refl h
-
-either : (a b c : Bool) → (a ≡ true → c ≡ true) → (b ≡ true → c ≡ true) → (a || b) ≡ true → c ≡ true
-either true b c f g h = f refl
-either false b c f g h = g h
 
 -- a declared row has a legal name
 pub row_is_legal : (all : Draft) (name : List ℕ) → IsMade all → has_row all name ≡ true → is_mps_name name ≡ true

@@ -4,7 +4,7 @@ use Rattle.std.specs.List.{flat_map}
 use Rattle.mpslp_decimal.specs.Decimal.{Number}
 use Rattle.mpslp_model.specs.Model.{CoefficientKey, key_cmp}
 use Rattle.mpslp_types.specs.Name.{bytes_cmp}
-use Rattle.mpslp_model.specs.Declaration.{RowForm, Declaration, declare_row, declare_rhs, declare_range, declare_column, declare_coefficient, declare_lower, declare_upper, declare_marked, declare_integer, declare_binary, Declarations, Draft, adding, adding_all}
+use Rattle.mpslp_model.specs.Declaration.{RowForm, Declaration, declare_row, declare_rhs, declare_range, declare_column, declare_coefficient, declare_lower, declare_upper, declare_marked, declare_integer, declare_binary, declare_semi, Declarations, Draft, adding, adding_all}
 use Rattle.mpslp_types.specs.declared.kinds.Limit.{Limit}
 use Rattle.mpslp_model.proofs.PutsLemmas.{puts, puts-append}
 
@@ -49,6 +49,10 @@ integer_part _ = []
 abbrev pub binary_part : Declaration → List (List ℕ × Unit {0})
 binary_part (declare_binary column) = (column, tt) ∷ []
 binary_part _ = []
+
+abbrev pub semi_part : Declaration → List (List ℕ × Unit {0})
+semi_part (declare_semi column) = (column, tt) ∷ []
+semi_part _ = []
 
 -- ---- each map, after one declaration and after several
 
@@ -141,3 +145,12 @@ pub binaries-all : (ds : Declarations) (all : Draft) → (adding_all all ds).bin
 binaries-all [] all = refl
 binaries-all (d ∷ ds) all =
     binaries-all ds (adding all d) ∙ ap (puts bytes_cmp (flat_map binary_part ds)) (binaries-one all d) ∙ sym (puts-append bytes_cmp (binary_part d) (flat_map binary_part ds) all.binaries)
+
+semis-one : (all : Draft) (d : Declaration) → (adding all d).semis ≡ puts bytes_cmp (semi_part d) all.semis
+semis-one all (declare_semi column) = refl
+semis-one all _ = refl
+
+pub semis-all : (ds : Declarations) (all : Draft) → (adding_all all ds).semis ≡ puts bytes_cmp (flat_map semi_part ds) all.semis
+semis-all [] all = refl
+semis-all (d ∷ ds) all =
+    semis-all ds (adding all d) ∙ ap (puts bytes_cmp (flat_map semi_part ds)) (semis-one all d) ∙ sym (puts-append bytes_cmp (semi_part d) (flat_map semi_part ds) all.semis)

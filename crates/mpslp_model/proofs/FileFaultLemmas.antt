@@ -9,12 +9,12 @@ use Rattle.mpslp_decimal.specs.Decimal.{Number}
 use Rattle.mpslp_types.specs.Name.{bytes_cmp}
 use Rattle.mpslp_model.specs.Declaration.{RowForm, Draft, at_name, names_in}
 use Rattle.mpslp_model.specs.Limits.{limits_of, has_infinite_rhs, is_inexact, is_too_large, is_crossed}
-use Rattle.mpslp_model.specs.Bounds.{has_negative_upper, has_crossed_bounds, has_binary_bounds}
+use Rattle.mpslp_model.specs.Bounds.{has_negative_upper, has_crossed_bounds, has_binary_bounds, has_semi_bounds}
 use Rattle.mpslp_model.specs.Lists.{is_nonempty, head_of}
 use Rattle.mpslp_model.specs.Meaning.{whole_fault, row_passes, rows_where, names_with, named_faults, file_fault}
 use Rattle.mpslp_types.specs.declared.faults.Fault.{Fault}
 use Rattle.mpslp_types.specs.declared.faults.FaultKind.{FaultKind}
-use Rattle.mpslp_types.specs.declared.faults.FaultKind.TheVariants.{NoColumns, InfiniteLimit, RangeInexact, LimitTooLarge, LimitsCrossed, NegativeUpper, BoundsCrossed, BinaryBounds}
+use Rattle.mpslp_types.specs.declared.faults.FaultKind.TheVariants.{NoColumns, InfiniteLimit, RangeInexact, LimitTooLarge, LimitsCrossed, NegativeUpper, BoundsCrossed, BinaryBounds, SemiBounds}
 
 -- ---- the tests of the kinds
 
@@ -35,6 +35,7 @@ pub record HasNoFault (all : Draft) : Type 0 where
   pub no_negative_upper : passes_columns all has_negative_upper ≡ true
   pub bounds : passes_columns all has_crossed_bounds ≡ true
   pub binary : passes_columns all has_binary_bounds ≡ true
+  pub semi : passes_columns all has_semi_bounds ≡ true
 
 none_filtered : {X : Type 0} (p : X → Bool) (xs : List X) → filter p xs ≡ [] → list_all (λ x. not (p x)) xs ≡ true
 none_filtered p [] h = refl
@@ -109,7 +110,8 @@ pub no_fault-from_none : (all : Draft) → file_fault all ≡ None → HasNoFaul
 no_fault-from_none all h =
     let there = is_nonempty all.columns in
     let none = whole_fault NoColumns None in
-    let k7 = BinaryBounds ∷ [] in
+    let k8 = SemiBounds ∷ [] in
+    let k7 = BinaryBounds ∷ k8 in
     let k6 = BoundsCrossed ∷ k7 in
     let k5 = NegativeUpper ∷ k6 in
     let k4 = LimitsCrossed ∷ k5 in
@@ -122,6 +124,7 @@ no_fault-from_none all h =
     let h5 = later all LimitsCrossed k5 h4 in
     let h6 = later all NegativeUpper k6 h5 in
     let h7 = later all BoundsCrossed k7 h6 in
+    let h8 = later all BinaryBounds k8 h7 in
     record {
       column = test_of there none (head_of (named_faults all)) h;
       rhs_values = rows_pass all has_infinite_rhs (here all InfiniteLimit k2 h1);
@@ -130,13 +133,15 @@ no_fault-from_none all h =
       straight = rows_pass all (λ form b r. is_crossed (limits_of form b r)) (here all LimitsCrossed k5 h4);
       no_negative_upper = none_filtered (has_negative_upper all) (names_in all.columns) (here all NegativeUpper k6 h5);
       bounds = none_filtered (has_crossed_bounds all) (names_in all.columns) (here all BoundsCrossed k7 h6);
-      binary = none_filtered (has_binary_bounds all) (names_in all.columns) (here all BinaryBounds [] h7);
+      binary = none_filtered (has_binary_bounds all) (names_in all.columns) (here all BinaryBounds k8 h7);
+      semi = none_filtered (has_semi_bounds all) (names_in all.columns) (here all SemiBounds [] h8);
     }
 
 -- There is none, so none is told.
 pub none-from_no_fault : (all : Draft) → HasNoFault all → file_fault all ≡ None
 none-from_no_fault all f =
-    let k7 = BinaryBounds ∷ [] in
+    let k8 = SemiBounds ∷ [] in
+    let k7 = BinaryBounds ∷ k8 in
     let k6 = BoundsCrossed ∷ k7 in
     let k5 = NegativeUpper ∷ k6 in
     let k4 = LimitsCrossed ∷ k5 in
@@ -149,7 +154,8 @@ none-from_no_fault all f =
     (add all LimitsCrossed k5 (pass_rows all (λ form b r. is_crossed (limits_of form b r)) f.straight)
     (add all NegativeUpper k6 (filtered_none (has_negative_upper all) (names_in all.columns) f.no_negative_upper)
     (add all BoundsCrossed k7 (filtered_none (has_crossed_bounds all) (names_in all.columns) f.bounds)
-    (add all BinaryBounds [] (filtered_none (has_binary_bounds all) (names_in all.columns) f.binary) refl))))))
+    (add all BinaryBounds k8 (filtered_none (has_binary_bounds all) (names_in all.columns) f.binary)
+    (add all SemiBounds [] (filtered_none (has_semi_bounds all) (names_in all.columns) f.semi) refl)))))))
 
 -- what holds of all values of entries holds of the one that is found
 pub found_all : {X : Type 0} (p : X → Bool) (name : List ℕ) (es : List (List ℕ × X)) → list_all (λ e. p e.1) es ≡ true → option_map_or p (at_name es name) true ≡ true

@@ -135,12 +135,14 @@ of_column : (all : Draft) (fault : ColumnFault) → named all (kind_of_column_fa
 of_column all columns.NegativeUpper = ap (λ (names : List (List ℕ)). option_map (λ name. whole_fault (kind_of_column_fault columns.NegativeUpper) (Some name)) (head_of names)) (filter-map (column_test columns.NegativeUpper all) (λ column. column.0) all.columns)
 of_column all columns.BoundsCrossed = ap (λ (names : List (List ℕ)). option_map (λ name. whole_fault (kind_of_column_fault columns.BoundsCrossed) (Some name)) (head_of names)) (filter-map (column_test columns.BoundsCrossed all) (λ column. column.0) all.columns)
 of_column all columns.BinaryBounds = ap (λ (names : List (List ℕ)). option_map (λ name. whole_fault (kind_of_column_fault columns.BinaryBounds) (Some name)) (head_of names)) (filter-map (column_test columns.BinaryBounds all) (λ column. column.0) all.columns)
+of_column all columns.SemiBounds = ap (λ (names : List (List ℕ)). option_map (λ name. whole_fault (kind_of_column_fault columns.SemiBounds) (Some name)) (head_of names)) (filter-map (column_test columns.SemiBounds all) (λ column. column.0) all.columns)
 
 -- what is declared of columns alone says all that is asked
 pub columns_suffice : (all : Draft) (fault : ColumnFault) → column_test fault (columns_alone all) ≡ column_test fault all
 columns_suffice all columns.NegativeUpper = refl
 columns_suffice all columns.BoundsCrossed = refl
 columns_suffice all columns.BinaryBounds = refl
+columns_suffice all columns.SemiBounds = refl
 
 pub column_found : (all : Draft) (fault : ColumnFault) (j : ℕ) → position (λ column. column_test fault all column.0) all.columns ≡ Some j
     → (named all (kind_of_column_fault fault) ≡ Some (fault_found all (found.Column fault j))) × IsThere all (found.Column fault j)

@@ -6,9 +6,9 @@ use Rattle.std.specs.Cmp.{first_so, second_so}
 use Rattle.std.specs.FinMap.{put}
 use Rattle.std.specs.Cmp.Lexicographic.{nat_list_eq_equiv}
 use Rattle.mpslp_types.specs.Name.{same_bytes, bytes_cmp}
-use Rattle.mpslp_model.specs.Declaration.{RowForm, Declaration, declare_sense, declare_objective, declare_constant, declare_row, declare_rhs, declare_range, declare_column, declare_coefficient, declare_lower, declare_upper, declare_marked, declare_integer, declare_binary, Declarations, Draft, adding, adding_all, at_name, has_name, has_row, has_column, is_objective}
+use Rattle.mpslp_model.specs.Declaration.{RowForm, Declaration, declare_sense, declare_objective, declare_constant, declare_row, declare_rhs, declare_range, declare_column, declare_coefficient, declare_lower, declare_upper, declare_marked, declare_integer, declare_binary, declare_semi, Declarations, Draft, adding, adding_all, at_name, has_name, has_row, has_column, is_objective, is_integer, is_semi}
 use Rattle.mpslp_model.specs.Consistency.{slots_of, is_known}
-use Rattle.mpslp_types.proofs.BoolLemmas.{both_so, or_left, or_right, not_so}
+use Rattle.mpslp_types.proofs.BoolLemmas.{both_so, or_left, or_right, either_more, not_so}
 use Rattle.mpslp_model.proofs.SlotLemmas.{at-put, has-put, are_fresh, are_fresh_in_turn, same_name}
 
 -- ---- what a later draft keeps
@@ -20,9 +20,11 @@ pub record Extends (before after : Draft) : Type 0 where
   pub right_side : (name : List ℕ) → has_name before.rhs_values name ≡ true → has_name after.rhs_values name ≡ true
   pub row : (name : List ℕ) (form : RowForm) → at_name before.rows name ≡ Some form → at_name after.rows name ≡ Some form
   pub column : (name : List ℕ) → has_column before name ≡ true → has_column after name ≡ true
+  pub integer : (name : List ℕ) → is_integer before name ≡ true → is_integer after name ≡ true
+  pub semi : (name : List ℕ) → is_semi before name ≡ true → is_semi after name ≡ true
 
 pub itself : (all : Draft) → Extends all all
-itself all = record { objective = λ _ h. h; constant = λ h. h; right_side = λ _ h. h; row = λ _ _ h. h; column = λ _ h. h }
+itself all = record { objective = λ _ h. h; constant = λ h. h; right_side = λ _ h. h; row = λ _ _ h. h; column = λ _ h. h; integer = λ _ h. h; semi = λ _ h. h }
 
 pub then_on : (a b c : Draft) → Extends a b → Extends b c → Extends a c
 then_on a b c f g = record {
@@ -31,13 +33,15 @@ then_on a b c f g = record {
   right_side = λ n h. g.right_side n (f.right_side n h);
   row = λ n form h. g.row n form (f.row n form h);
   column = λ n h. g.column n (f.column n h);
+  integer = λ n h. g.integer n (f.integer n h);
+  semi = λ n h. g.semi n (f.semi n h);
 }
 
 none_before : (o : Option (List ℕ)) (name : List ℕ) (rest : Bool) → (not (is_some o) && rest) ≡ true → o ≡ Some name → ⊥
 none_before None name rest h e = cc
 none_before (Some x) name rest h e = cc
 
-more_entries : {X : Type 0} (q k : List ℕ) (v : X) (es : List (List ℕ × X)) → has_name es q ≡ true → has_name (put bytes_cmp k v es) q ≡ true
+pub more_entries : {X : Type 0} (q k : List ℕ) (v : X) (es : List (List ℕ × X)) → has_name es q ≡ true → has_name (put bytes_cmp k v es) q ≡ true
 more_entries q k v es h = has-put q k v es ∙ or_right (same_bytes q k) (has_name es q) h
 
 -- a row more, of a new name
@@ -56,19 +60,51 @@ is_new_row all name q form rest h same found =
     cc
 
 pub extends-adding : (all : Draft) (d : Declaration) → are_fresh all (slots_of d) ≡ true → Extends all (adding all d)
-extends-adding all (declare_sense s) h = record { objective = λ _ h. h; constant = λ h. h; right_side = λ _ h. h; row = λ _ _ h. h; column = λ _ h. h }
-extends-adding all (declare_objective name) h = record { objective = λ n e. absurd (none_before all.objective n (not (has_row all name) && true) h e); constant = λ h. h; right_side = λ _ h. h; row = λ _ _ h. h; column = λ _ h. h }
-extends-adding all (declare_constant v) h = record { objective = λ _ h. h; constant = λ h. refl; right_side = λ _ h. h; row = λ _ _ h. h; column = λ _ h. h }
+extends-adding all (declare_sense s) h = record { objective = λ _ h. h; constant = λ h. h; right_side = λ _ h. h; row = λ _ _ h. h; column = λ _ h. h; integer = λ _ h. h; semi = λ _ h. h }
+extends-adding all (declare_objective name) h = record { objective = λ n e. absurd (none_before all.objective n (not (has_row all name) && true) h e); constant = λ h. h; right_side = λ _ h. h; row = λ _ _ h. h; column = λ _ h. h; integer = λ _ h. h; semi = λ _ h. h }
+extends-adding all (declare_constant v) h = record { objective = λ _ h. h; constant = λ h. refl; right_side = λ _ h. h; row = λ _ _ h. h; column = λ _ h. h; integer = λ _ h. h; semi = λ _ h. h }
 extends-adding all (declare_row name form) h = record {
   objective = λ _ h. h;
   constant = λ h. h;
   right_side = λ _ h. h;
   row = λ q was e. at-put q name form all.rows ∙ kept_row (same_bytes q name) form (at_name all.rows q) was (λ same found. is_new_row all name q was _ h same found) e;
   column = λ _ h. h;
+  integer = λ _ h. h;
+  semi = λ _ h. h;
 }
-extends-adding all (declare_rhs row v) h = record { objective = λ _ h. h; constant = λ h. h; right_side = λ q e. more_entries q row v all.rhs_values e; row = λ _ _ h. h; column = λ _ h. h }
-extends-adding all (declare_column name) h = record { objective = λ _ h. h; constant = λ h. h; right_side = λ _ h. h; row = λ _ _ h. h; column = λ q e. more_entries q name tt all.columns e }
-extends-adding all _ h = record { objective = λ _ h. h; constant = λ h. h; right_side = λ _ h. h; row = λ _ _ h. h; column = λ _ h. h }
+extends-adding all (declare_rhs row v) h = record { objective = λ _ h. h; constant = λ h. h; right_side = λ q e. more_entries q row v all.rhs_values e; row = λ _ _ h. h; column = λ _ h. h; integer = λ _ h. h; semi = λ _ h. h }
+extends-adding all (declare_column name) h = record { objective = λ _ h. h; constant = λ h. h; right_side = λ _ h. h; row = λ _ _ h. h; column = λ q e. more_entries q name tt all.columns e; integer = λ _ h. h; semi = λ _ h. h }
+extends-adding all (declare_marked c) h = record {
+  objective = λ _ h. h;
+  constant = λ h. h;
+  right_side = λ _ h. h;
+  row = λ _ _ h. h;
+  column = λ _ h. h;
+  integer = λ q is. either_more (has_name all.marked q) (has_name all.integers q || has_name all.binaries q) _ _ (more_entries q c tt all.marked) (λ h. h) is;
+  semi = λ _ h. h;
+}
+extends-adding all (declare_integer c) h = record {
+  objective = λ _ h. h;
+  constant = λ h. h;
+  right_side = λ _ h. h;
+  row = λ _ _ h. h;
+  column = λ _ h. h;
+  integer = λ q is. either_more (has_name all.marked q) (has_name all.integers q || has_name all.binaries q) _ _ (λ h. h)
+      (either_more (has_name all.integers q) (has_name all.binaries q) _ _ (more_entries q c tt all.integers) (λ h. h)) is;
+  semi = λ _ h. h;
+}
+extends-adding all (declare_binary c) h = record {
+  objective = λ _ h. h;
+  constant = λ h. h;
+  right_side = λ _ h. h;
+  row = λ _ _ h. h;
+  column = λ _ h. h;
+  integer = λ q is. either_more (has_name all.marked q) (has_name all.integers q || has_name all.binaries q) _ _ (λ h. h)
+      (either_more (has_name all.integers q) (has_name all.binaries q) _ _ (λ h. h) (more_entries q c tt all.binaries)) is;
+  semi = λ _ h. h;
+}
+extends-adding all (declare_semi c) h = record { objective = λ _ h. h; constant = λ h. h; right_side = λ _ h. h; row = λ _ _ h. h; column = λ _ h. h; integer = λ _ h. h; semi = λ q e. more_entries q c tt all.semis e }
+extends-adding all _ h = record { objective = λ _ h. h; constant = λ h. h; right_side = λ _ h. h; row = λ _ _ h. h; column = λ _ h. h; integer = λ _ h. h; semi = λ _ h. h }
 
 pub extends-in_turn : (declarations : Declarations) (before : Draft) → are_fresh_in_turn before declarations ≡ true → Extends before (adding_all before declarations)
 extends-in_turn [] before h = itself before
@@ -113,4 +149,5 @@ known-after before after (declare_upper c l) e h = e.column c h
 known-after before after (declare_marked c) e h = e.column c h
 known-after before after (declare_integer c) e h = e.column c h
 known-after before after (declare_binary c) e h = e.column c h
+known-after before after (declare_semi c) e h = e.column c h
 known-after before after _ e h = refl

@@ -19,7 +19,7 @@ use Rattle.mpslp_types.specs.declared.kinds.Limit.{Limit}
 use Rattle.mpslp_types.specs.declared.faults.BuildFault.{BuildFault}
 use Rattle.mpslp_types.specs.declared.faults.BuildFault.TheVariants.{UnknownColumn, DuplicateBound, InfiniteValue}
 use Rattle.mpslp_types.proofs.BoolLemmas.{both_so, nor}
-use Rattle.mpslp_model.proofs.RefusalLemmas.{first_none, rest_none, pass, join_none, empty_declared_names, none-fine, consistent-from_none}
+use Rattle.mpslp_model.proofs.RefusalLemmas.{HasDeclaredNames, first_none, rest_none, pass, join_none, empty_declared_names, empty_kinds_apart, none-fine, consistent-from_none}
 use Rattle.mpslp_model.proofs.DraftEntries.{IsGood, good-adding_all, empty_good}
 use Rattle.mpslp_model.proofs.WellFormed.{IsWellFormed, well_formed-from_consistent}
 use Rattle.mpslp_model.proofs.MeaningFromNoFault.{meant-from_no_fault}
@@ -131,6 +131,12 @@ objective-declared [] before none there = absurd cc
 objective-declared (declare_objective name ∷ more) before none there = refl
 objective-declared (d ∷ more) before none there = objective-declared more (adding before d) none there
 
+-- what it names is declared
+pub declared_names-from_made : (all : Draft) → IsMade all → HasDeclaredNames all
+declared_names-from_made all made =
+    let fine = none-fine made.declarations empty_draft empty_declared_names empty_kinds_apart refl made.unrefused in
+    subst HasDeclaredNames (sym made.draft) fine.declared_names
+
 -- with an objective, its declarations are consistent
 pub consistent-from_made : (all : Draft) (made : IsMade all) → is_some all.objective ≡ true → AreConsistent made.declarations
 consistent-from_made all made there =
@@ -141,7 +147,7 @@ consistent-from_made all made there =
 pub good-from_made : (all : Draft) → IsMade all → IsGood all all
 good-from_made all made =
     let drafted = draft_of made.declarations in
-    let fine = none-fine made.declarations empty_draft empty_declared_names refl made.unrefused in
+    let fine = none-fine made.declarations empty_draft empty_declared_names empty_kinds_apart refl made.unrefused in
     subst (λ (draft : Draft). IsGood draft draft) (sym made.draft)
     (good-adding_all drafted made.declarations empty_draft (empty_good drafted) made.legal fine.known fine.allowed)
 

@@ -12,11 +12,11 @@ use Rattle.std.specs.FinMap.{find, is_sorted}
 use Rattle.std.specs.FinMap.Entries.{below_all}
 use Rattle.mpslp_decimal.specs.Decimal.{Number, zero_number, is_decimal, is_zero, negated}
 use Rattle.mpslp_types.specs.Name.{same_bytes, is_mps_name, is_one_of, bytes_cmp}
-use Rattle.mpslp_model.specs.Model.{LinearModel, Row, Column, CoefficientKey, key_cmp, is_sound_row, is_sound_column, is_sound_coefficient}
+use Rattle.mpslp_model.specs.Model.{LinearModel, Row, Column, CoefficientKey, key_cmp, is_sound_row, is_sound_column, is_sound_coefficient, suits}
 use Rattle.mpslp_types.specs.Sides.{are_sides, is_at_most, is_lower_side, is_upper_side, has_bounded_distance, is_bounded_decimal, is_plus_infinite, is_minus_infinite, is_given}
 use Rattle.mpslp_model.specs.Declaration.{RowForm, by_type, by_limits, Declarations, Draft, draft_of, at_name, has_name, has_row, has_column, names_in, have_infinite_side}
 use Rattle.mpslp_model.specs.Limits.{limits_of, plain_limits, has_infinite_rhs, is_inexact, is_too_large, is_crossed}
-use Rattle.mpslp_model.specs.Bounds.{zero_limit, one_limit, lower_bound, upper_bound, has_no_side, column_of, has_crossed_bounds}
+use Rattle.mpslp_model.specs.Bounds.{zero_limit, one_limit, lower_bound, upper_bound, has_no_side, kind_of, column_of, has_crossed_bounds, has_semi_bounds}
 use Rattle.mpslp_model.specs.Made.{are_given, is_legal}
 use Rattle.mpslp_model.specs.Lists.{is_nonempty}
 use Rattle.mpslp_model.specs.Meaning.{rhs_or_zero, row_limits, row_entry, model_of, objective_name, file_fault, DraftMeans, Means}
@@ -193,15 +193,28 @@ straight : (b : Bool) → not (not b) ≡ true → b ≡ true
 straight true h = refl
 straight false h = h
 
-sound_column : (all : Draft) (name : List ℕ) → IsGood all all → is_mps_name name ≡ true → not (has_crossed_bounds all name) ≡ true → is_sound_column (name, column_of all name) ≡ true
-sound_column all name g h k =
+sound_column : (all : Draft) (name : List ℕ) → IsGood all all → is_mps_name name ≡ true → not (has_crossed_bounds all name) ≡ true → not (has_semi_bounds all name) ≡ true
+    → is_sound_column (name, column_of all name) ≡ true
+sound_column all name g h k s =
     let l = lower_bound all name in
     let u = upper_bound all name in
-    both_so (is_mps_name name) (is_lower_side l && (is_upper_side u && is_at_most l u)) h
+    let suited = suits (kind_of all name) l u in
+    both_so (is_mps_name name) ((is_lower_side l && (is_upper_side u && is_at_most l u)) && suited) h
+    (both_so (is_lower_side l && (is_upper_side u && is_at_most l u)) suited
     (both_so (is_lower_side l) (is_upper_side u && is_at_most l u) (lower_or (at_name all.lowers name) (found_all (λ l. is_given l && not (is_plus_infinite l)) name all.lowers g.lowers))
     (both_so (is_upper_side u) (is_at_most l u)
     (upper_or (at_name all.uppers name) (has_name all.binaries name || (has_name all.marked name && has_no_side all name)) (found_all (λ l. is_given l && not (is_minus_infinite l)) name all.uppers g.uppers))
-    (straight (is_at_most l u) k)))
+    (straight (is_at_most l u) k))) (straight suited s))
+
+abbrev column_tests : Draft → List ℕ → Bool
+column_tests all name = is_mps_name name && (not (has_crossed_bounds all name) && not (has_semi_bounds all name))
+
+tested_column : (all : Draft) (name : List ℕ) → IsGood all all → column_tests all name ≡ true → is_sound_column (name, column_of all name) ≡ true
+tested_column all name g h =
+    let crossed = not (has_crossed_bounds all name) in
+    let semi = not (has_semi_bounds all name) in
+    let rest = second_so (is_mps_name name) (crossed && semi) h in
+    sound_column all name g (first_so (is_mps_name name) (crossed && semi) h) (first_so crossed semi rest) (second_so crossed semi rest)
 
 some_columns : {X Y : Type 0} (f : X → Y) (xs : List X) → is_nonempty xs ≡ true → 0 < length (map f xs)
 some_columns f [] h = absurd cc
@@ -237,9 +250,11 @@ meant-from_no_fault all w none =
         rows = ap (list_all is_sound_row) rows_are ∙ sym (map_all (row_entry all) is_sound_row all.rows)
             ∙ imp_all (row_tests all) (λ row. is_sound_row (row_entry all row)) all.rows (λ row h. sound_entry row.0 (row_limits all row) (name_of all row h) (sound_row all row g.rhs_values h)) rows;
         columns = ap (list_all is_sound_column) columns_are ∙ sym (map_all (λ (column : List ℕ × Unit {0}). (column.0, column_of all column.0)) is_sound_column all.columns)
-            ∙ imp_all (λ column. is_mps_name column.0 && not (has_crossed_bounds all column.0)) (λ column. is_sound_column (column.0, column_of all column.0)) all.columns
-            (λ column h. sound_column all column.0 g (first_so (is_mps_name column.0) (not (has_crossed_bounds all column.0)) h) (second_so (is_mps_name column.0) (not (has_crossed_bounds all column.0)) h))
-            (and_all (λ column. is_mps_name column.0) (λ column. not (has_crossed_bounds all column.0)) all.columns g.columns (map_all (λ (e : List ℕ × Unit {0}). e.0) (λ name. not (has_crossed_bounds all name)) all.columns ∙ f.bounds));
+            ∙ imp_all (λ column. column_tests all column.0) (λ column. is_sound_column (column.0, column_of all column.0)) all.columns (λ column h. tested_column all column.0 g h)
+            (and_all (λ column. is_mps_name column.0) (λ column. not (has_crossed_bounds all column.0) && not (has_semi_bounds all column.0)) all.columns g.columns
+            (and_all (λ column. not (has_crossed_bounds all column.0)) (λ column. not (has_semi_bounds all column.0)) all.columns
+            (map_all (λ (e : List ℕ × Unit {0}). e.0) (λ name. not (has_crossed_bounds all name)) all.columns ∙ f.bounds)
+            (map_all (λ (e : List ℕ × Unit {0}). e.0) (λ name. not (has_semi_bounds all name)) all.columns ∙ f.semi)));
         coefficients = ap (list_all (is_sound_coefficient m)) kept_are
             ∙ imp_all (λ e. (is_decimal e.1 && (has_row all e.0.row && has_column all e.0.column)) && not (is_zero e.1)) (is_sound_coefficient m) (filter is_kept all.coefficients)
             (λ e h. sound_coefficient all m e row_names column_names refl h) (filter_all is_kept (λ e. is_decimal e.1 && (has_row all e.0.row && has_column all e.0.column)) all.coefficients g.coefficients);

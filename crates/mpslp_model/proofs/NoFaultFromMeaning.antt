@@ -8,11 +8,11 @@ use Rattle.std.proofs.Math.Dec.{T}
 use Rattle.std.specs.FinMap as maps
 use Rattle.mpslp_decimal.specs.Decimal.{Number, zero_number, is_decimal, is_negative, is_infinite_size, size_of, sum_of, difference_of}
 use Rattle.mpslp_types.specs.Name.{is_mps_name, bytes_cmp}
-use Rattle.mpslp_model.specs.Model.{LinearModel, Row, Column, IsSound, is_sound_row, is_sound_column}
+use Rattle.mpslp_model.specs.Model.{LinearModel, Row, Column, IsSound, is_sound_row, is_sound_column, suits}
 use Rattle.mpslp_types.specs.Sides.{are_sides, is_at_most, is_lower_side, is_upper_side, has_bounded_distance, is_bounded_decimal, limit_of}
 use Rattle.mpslp_model.specs.Declaration.{RowForm, by_type, by_limits, Declarations, Draft, draft_of, at_name, names_in}
 use Rattle.mpslp_model.specs.Limits.{sides, plain_limits, limits_of, has_infinite_rhs, is_inexact, is_too_large, is_large_limit, is_crossed}
-use Rattle.mpslp_model.specs.Bounds.{lower_bound, upper_bound, column_of, has_crossed_bounds}
+use Rattle.mpslp_model.specs.Bounds.{lower_bound, upper_bound, kind_of, column_of, has_crossed_bounds, has_semi_bounds}
 use Rattle.mpslp_model.specs.Made.{is_legal}
 use Rattle.mpslp_model.specs.Lists.{is_nonempty}
 use Rattle.mpslp_model.specs.Meaning.{rhs_or_zero, row_limits, row_entry, model_of, file_fault, DraftMeans, Means}
@@ -143,7 +143,14 @@ column_straight : (all : Draft) (name : List ℕ) → is_sound_column (name, col
 column_straight all name h =
     let l = lower_bound all name in
     let u = upper_bound all name in
-    not_not (is_at_most l u) (straight_of l u (second_so (is_mps_name name) (are_sides l u) h))
+    let suited = suits (kind_of all name) l u in
+    not_not (is_at_most l u) (straight_of l u (first_so (are_sides l u) suited (second_so (is_mps_name name) (are_sides l u && suited) h)))
+
+column_suited : (all : Draft) (name : List ℕ) → is_sound_column (name, column_of all name) ≡ true → not (has_semi_bounds all name) ≡ true
+column_suited all name h =
+    let sides = are_sides (lower_bound all name) (upper_bound all name) in
+    let suited = suits (kind_of all name) (lower_bound all name) (upper_bound all name) in
+    not_not suited (second_so sides suited (second_so (is_mps_name name) (sides && suited) h))
 
 has_columns : {X Y : Type 0} (f : X → Y) (xs : List X) → 0 < length (map f xs) → is_nonempty xs ≡ true
 has_columns f [] h = absurd (omega arith)
@@ -164,6 +171,8 @@ no_fault-from_meant all m w meant =
     let rows : list_all (λ row. is_sound_row (row_entry all row) && is_some (row_limits all row)) all.rows ≡ true =
     and_all (λ row. is_sound_row (row_entry all row)) (λ row. is_some (row_limits all row)) all.rows
     (map_all (row_entry all) is_sound_row all.rows ∙ ap (list_all is_sound_row) (sym rows_are) ∙ sound.rows) meant.exact_limits in
+    let columns : list_all (λ column. is_sound_column (column.0, column_of all column.0)) all.columns ≡ true =
+    map_all (λ (column : List ℕ × Unit {0}). (column.0, column_of all column.0)) is_sound_column all.columns ∙ ap (list_all is_sound_column) (sym columns_are) ∙ sound.columns in
     let tested : List ℕ × RowForm → Bool = λ row. is_sound_row (row_entry all row) && is_some (row_limits all row) in
     none-from_no_fault all (record {
       column = has_columns (λ (e : List ℕ × Unit {0}). e.0) all.columns (subst (λ (names : List (List ℕ)). 0 < length names) column_names sound.has_column);
@@ -173,9 +182,10 @@ no_fault-from_meant all m w meant =
       straight = imp_all tested (λ row. not (is_crossed (limits_of row.1 (rhs_or_zero all row.0) (at_name all.ranges row.0)))) all.rows (λ row h. let p = row_tested all row h in p.straight) rows;
       no_negative_upper = meant.no_negative_upper;
       bounds = sym (map_all (λ (e : List ℕ × Unit {0}). e.0) (λ name. not (has_crossed_bounds all name)) all.columns)
-          ∙ imp_all (λ column. is_sound_column (column.0, column_of all column.0)) (λ column. not (has_crossed_bounds all column.0)) all.columns (λ column h. column_straight all column.0 h)
-          (map_all (λ (column : List ℕ × Unit {0}). (column.0, column_of all column.0)) is_sound_column all.columns ∙ ap (list_all is_sound_column) (sym columns_are) ∙ sound.columns);
+          ∙ imp_all (λ column. is_sound_column (column.0, column_of all column.0)) (λ column. not (has_crossed_bounds all column.0)) all.columns (λ column h. column_straight all column.0 h) columns;
       binary = meant.binary_within;
+      semi = sym (map_all (λ (e : List ℕ × Unit {0}). e.0) (λ name. not (has_semi_bounds all name)) all.columns)
+          ∙ imp_all (λ column. is_sound_column (column.0, column_of all column.0)) (λ column. not (has_semi_bounds all column.0)) all.columns (λ column h. column_suited all column.0 h) columns;
     })
 
 -- Legal declarations that mean a model have no fault of the whole.

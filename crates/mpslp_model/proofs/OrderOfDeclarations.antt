@@ -8,7 +8,7 @@ use Rattle.std.specs.FinMap.{put}
 use Rattle.std.proofs.lemmas.List.Folds.{list_all-append}
 use Rattle.mpslp_types.specs.Name.{same_bytes, bytes_cmp}
 use Rattle.mpslp_model.specs.Model.{LinearModel, CoefficientKey, key_cmp, key_total}
-use Rattle.mpslp_model.specs.Declaration.{RowForm, Declaration, declare_sense, declare_objective, declare_constant, declare_row, declare_rhs, declare_range, declare_column, declare_coefficient, declare_lower, declare_upper, declare_marked, declare_integer, declare_binary, Declarations, Draft, empty_draft, adding, adding_all, draft_of, is_limits_form}
+use Rattle.mpslp_model.specs.Declaration.{RowForm, Declaration, declare_sense, declare_objective, declare_constant, declare_row, declare_rhs, declare_range, declare_column, declare_coefficient, declare_lower, declare_upper, declare_marked, declare_integer, declare_binary, declare_semi, Declarations, Draft, empty_draft, adding, adding_all, draft_of, is_limits_form}
 use Rattle.mpslp_model.specs.Lists.{are_distinct}
 use Rattle.mpslp_model.specs.Consistency.{Slot, sense_slot, objective_slot, constant_slot, row_slot, rhs_slot, range_slot, coefficient_slot, lower_slot, upper_slot, same_slot, slots_of, all_slots, declares_objective, is_known, is_allowed, has_one_constant, AreConsistent}
 use Rattle.mpslp_model.specs.Meaning.{DraftMeans, Means}
@@ -67,6 +67,7 @@ adding-adding all (declare_upper j w) (declare_upper k v) h =
 adding-adding all (declare_marked j) (declare_marked k) h = ap (λ (marked : List (List ℕ × Unit {0})). record all { marked = marked }) (units_turn j k all.marked)
 adding-adding all (declare_integer j) (declare_integer k) h = ap (λ (integers : List (List ℕ × Unit {0})). record all { integers = integers }) (units_turn j k all.integers)
 adding-adding all (declare_binary j) (declare_binary k) h = ap (λ (binaries : List (List ℕ × Unit {0})). record all { binaries = binaries }) (units_turn j k all.binaries)
+adding-adding all (declare_semi j) (declare_semi k) h = ap (λ (semis : List (List ℕ × Unit {0})). record all { semis = semis }) (units_turn j k all.semis)
 adding-adding all _ _ h = refl
 
 -- ---- slots, whichever come first

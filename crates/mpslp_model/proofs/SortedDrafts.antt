@@ -14,7 +14,7 @@ use Rattle.mpslp_model.specs.Declaration.{RowForm, Declarations, Draft, empty_dr
 use Rattle.mpslp_model.specs.Made.{IsMade}
 use Rattle.mpslp_types.specs.declared.kinds.Limit.{Limit}
 use Rattle.mpslp_model.proofs.DraftEntries.{same_key}
-use Rattle.mpslp_model.proofs.DraftLemmas.{row_part, rows-all, rhs_part, rhs_values-all, range_part, ranges-all, column_part, columns-all, coefficient_part, coefficients-all, lower_part, lowers-all, upper_part, uppers-all, marked_part, marked-all, integer_part, integers-all, binary_part, binaries-all}
+use Rattle.mpslp_model.proofs.DraftLemmas.{row_part, rows-all, rhs_part, rhs_values-all, range_part, ranges-all, column_part, columns-all, coefficient_part, coefficients-all, lower_part, lowers-all, upper_part, uppers-all, marked_part, marked-all, integer_part, integers-all, binary_part, binaries-all, semi_part, semis-all}
 use Rattle.mpslp_model.proofs.PutsLemmas.{is_sorted-puts}
 
 -- ---- the orders of keys
@@ -39,9 +39,10 @@ pub record IsSortedDraft (all : Draft) : Type 0 where
   pub marked : T (is_sorted bytes_cmp all.marked)
   pub integers : T (is_sorted bytes_cmp all.integers)
   pub binaries : T (is_sorted bytes_cmp all.binaries)
+  pub semis : T (is_sorted bytes_cmp all.semis)
 
 pub empty_sorted : IsSortedDraft empty_draft
-empty_sorted = record { rows = tt; rhs_values = tt; ranges = tt; columns = tt; coefficients = tt; lowers = tt; uppers = tt; marked = tt; integers = tt; binaries = tt }
+empty_sorted = record { rows = tt; rhs_values = tt; ranges = tt; columns = tt; coefficients = tt; lowers = tt; uppers = tt; marked = tt; integers = tt; binaries = tt; semis = tt }
 
 pub sorted-adding_all : (ds : Declarations) (all : Draft) → IsSortedDraft all → IsSortedDraft (adding_all all ds)
 sorted-adding_all ds all s = record {
@@ -55,6 +56,7 @@ sorted-adding_all ds all s = record {
   marked = subst (λ (es : List (List ℕ × Unit {0})). T (is_sorted bytes_cmp es)) (sym (marked-all ds all)) (is_sorted-puts bytes_cmp bytes_total tied_names (flat_map marked_part ds) all.marked s.marked);
   integers = subst (λ (es : List (List ℕ × Unit {0})). T (is_sorted bytes_cmp es)) (sym (integers-all ds all)) (is_sorted-puts bytes_cmp bytes_total tied_names (flat_map integer_part ds) all.integers s.integers);
   binaries = subst (λ (es : List (List ℕ × Unit {0})). T (is_sorted bytes_cmp es)) (sym (binaries-all ds all)) (is_sorted-puts bytes_cmp bytes_total tied_names (flat_map binary_part ds) all.binaries s.binaries);
+  semis = subst (λ (es : List (List ℕ × Unit {0})). T (is_sorted bytes_cmp es)) (sym (semis-all ds all)) (is_sorted-puts bytes_cmp bytes_total tied_names (flat_map semi_part ds) all.semis s.semis);
 }
 
 pub sorted-draft_of : (ds : Declarations) → IsSortedDraft (draft_of ds)

@@ -6,13 +6,13 @@ use Rattle.mpslp_decimal.specs.Decimal.{Number, trailing_zeros}
 use Rattle.mpslp_model.specs.Model.{CoefficientKey, key_cmp}
 use Rattle.mpslp_types.specs.Name.{bytes_cmp}
 use Rattle.mpslp_types.specs.Sides.{limit_of}
-use Rattle.mpslp_model.specs.Declaration.{by_type, by_limits, Declaration, declare_sense, declare_objective, declare_constant, declare_row, declare_rhs, declare_range, declare_column, declare_coefficient, declare_lower, declare_upper, declare_marked, declare_integer, declare_binary, Declarations, Draft, empty_draft, adding, adding_all, draft_of, rhs_declared, bounds_declared}
+use Rattle.mpslp_model.specs.Declaration.{by_type, by_limits, Declaration, declare_sense, declare_objective, declare_constant, declare_row, declare_rhs, declare_range, declare_column, declare_coefficient, declare_lower, declare_upper, declare_marked, declare_integer, declare_binary, declare_semi, Declarations, Draft, empty_draft, adding, adding_all, draft_of, rhs_declared, bounds_declared}
 use Rattle.mpslp_model.specs.Bounds.{zero_limit, one_limit, column_of}
 use Rattle.mpslp_model.specs.Lists.{is_nonempty, head_of}
 use Rattle.mpslp_model.specs.Refusal.{refusals, refusals_in_turn, bounds_refusals}
 use Rattle.mpslp_model.specs.Meaning.{whole_fault, file_fault, model_of}
 use Rattle.mpslp_types.specs.declared.kinds.Sense.TheVariants.{Maximize}
-use Rattle.mpslp_types.specs.declared.kinds.Kind.TheVariants.{Continuous, Integer}
+use Rattle.mpslp_types.specs.declared.kinds.Kind.TheVariants.{Continuous, Integer, Semi}
 use Rattle.mpslp_types.specs.declared.kinds.Limit.{Limit}
 use Rattle.mpslp_types.specs.declared.kinds.Limit.TheVariants.{MinusInf, Finite, PlusInf}
 use Rattle.mpslp_types.specs.declared.kinds.RowType.TheVariants.{Free, AtMost, AtLeast}
@@ -196,6 +196,63 @@ binary_below_zero = refl
 
 binary_from_two : file_fault (bounded_by (declare_lower x (Finite (whole (pos 2))) ∷ declare_binary x ∷ [])) ≡ Some (whole_fault kinds.BoundsCrossed (Some x))
 binary_from_two = refl
+
+-- ---- semi-continuous columns
+
+semi_calls : answers (bounded_by []) (declare_semi y ∷ declare_semi x ∷ declare_semi x ∷ declare_integer x ∷ declare_marked x ∷ declare_binary x ∷ [])
+    ≡ Some builds.UnknownColumn ∷ None ∷ None ∷ Some builds.SemiContinuous ∷ Some builds.SemiContinuous ∷ Some builds.SemiContinuous ∷ []
+semi_calls = refl
+
+semi_after_integer : answers (bounded_by (declare_integer x ∷ [])) (declare_semi x ∷ []) ≡ Some builds.SemiContinuous ∷ []
+semi_after_integer = refl
+
+semi_after_marked : answers (bounded_by (declare_marked x ∷ [])) (declare_semi x ∷ []) ≡ Some builds.SemiContinuous ∷ []
+semi_after_marked = refl
+
+semi_after_binary : answers (bounded_by (declare_binary x ∷ [])) (declare_semi x ∷ []) ≡ Some builds.SemiContinuous ∷ []
+semi_after_binary = refl
+
+abbrev four : Limit
+four = Finite (whole (pos 4))
+
+-- the bounds are declared before or after, and the lower one is 0 where none is declared
+semi_column : column_of (bounded_by (declare_semi x ∷ declare_upper x four ∷ [])) x ≡ record { kind = Semi; lower = zero_limit; upper = four }
+semi_column = refl
+
+semi_with_both_sides : column_of (bounded_by (declare_upper x four ∷ declare_lower x one_limit ∷ declare_semi x ∷ [])) x ≡ record { kind = Semi; lower = one_limit; upper = four }
+semi_with_both_sides = refl
+
+semi_from_zero : file_fault (bounded_by (declare_semi x ∷ declare_upper x four ∷ [])) ≡ None
+semi_from_zero = refl
+
+semi_at_one_value : file_fault (bounded_by (declare_semi x ∷ declare_upper x four ∷ declare_lower x four ∷ [])) ≡ None
+semi_at_one_value = refl
+
+semi_without_upper : file_fault (bounded_by (declare_semi x ∷ [])) ≡ Some (whole_fault kinds.SemiBounds (Some x))
+semi_without_upper = refl
+
+semi_to_infinity : file_fault (bounded_by (declare_semi x ∷ declare_upper x (limit_of (number (pos 1) (pos 20))) ∷ [])) ≡ Some (whole_fault kinds.SemiBounds (Some x))
+semi_to_infinity = refl
+
+semi_to_zero : file_fault (bounded_by (declare_semi x ∷ declare_upper x zero_limit ∷ [])) ≡ Some (whole_fault kinds.SemiBounds (Some x))
+semi_to_zero = refl
+
+semi_below_zero : file_fault (bounded_by (declare_semi x ∷ declare_upper x minus_one ∷ [])) ≡ Some (whole_fault kinds.NegativeUpper (Some x))
+semi_below_zero = refl
+
+semi_from_below_zero : file_fault (bounded_by (declare_semi x ∷ declare_upper x four ∷ declare_lower x minus_one ∷ [])) ≡ Some (whole_fault kinds.SemiBounds (Some x))
+semi_from_below_zero = refl
+
+semi_from_minus_infinity : file_fault (bounded_by (declare_semi x ∷ declare_upper x four ∷ declare_lower x MinusInf ∷ [])) ≡ Some (whole_fault kinds.SemiBounds (Some x))
+semi_from_minus_infinity = refl
+
+semi_crossed : file_fault (bounded_by (declare_semi x ∷ declare_upper x one_limit ∷ declare_lower x four ∷ [])) ≡ Some (whole_fault kinds.BoundsCrossed (Some x))
+semi_crossed = refl
+
+-- a kind that comes before is told of whichever column has it
+semi_and_binary : file_fault (bounded_by (declare_semi x ∷ declare_column y ∷ declare_upper y (Finite (whole (pos 5))) ∷ declare_binary y ∷ []))
+    ≡ Some (whole_fault kinds.BinaryBounds (Some y))
+semi_and_binary = refl
 
 -- ---- faults of the whole file
 

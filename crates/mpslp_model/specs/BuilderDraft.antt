@@ -23,4 +23,5 @@ draft b = record {
   marked = b.marked;
   integers = b.integers;
   binaries = b.binaries;
+  semis = b.semis;
 }

@@ -5,7 +5,7 @@ use Rattle.std.specs.Option.{option_map_or}
 use Rattle.mpslp_decimal.specs.Decimal.{is_infinite_size}
 use Rattle.mpslp_types.specs.Name.{same_bytes}
 use Rattle.mpslp_model.specs.Model.{CoefficientKey}
-use Rattle.mpslp_model.specs.Declaration.{Declaration, declare_sense, declare_objective, declare_constant, declare_row, declare_rhs, declare_range, declare_coefficient, declare_lower, declare_upper, declare_marked, declare_integer, declare_binary, Declarations, Draft, draft_of, has_name, is_objective, has_row, has_column, is_free_row, is_limits_form, have_infinite_side}
+use Rattle.mpslp_model.specs.Declaration.{Declaration, declare_sense, declare_objective, declare_constant, declare_row, declare_rhs, declare_range, declare_coefficient, declare_lower, declare_upper, declare_marked, declare_integer, declare_binary, declare_semi, Declarations, Draft, draft_of, has_name, is_objective, has_row, has_column, is_integer, is_semi, is_free_row, is_limits_form, have_infinite_side}
 use Rattle.mpslp_model.specs.Lists.{are_distinct}
 use Rattle.mpslp_types.specs.Sides.{is_plus_infinite, is_minus_infinite}
 
@@ -61,14 +61,20 @@ is_known all (declare_upper column _) = has_column all column
 is_known all (declare_marked column) = has_column all column
 is_known all (declare_integer column) = has_column all column
 is_known all (declare_binary column) = has_column all column
+is_known all (declare_semi column) = has_column all column
 is_known all _ = true
 
--- no range on the objective or on a row of type N, none of infinite size, and no side that no value meets
+-- no range on the objective or on a row of type N, none of infinite size, no side that no value meets, and no column that
+-- is both integer and semi-continuous
 abbrev pub is_allowed : Draft → Declaration → Bool
 is_allowed all (declare_row name form) = not (have_infinite_side form)
 is_allowed all (declare_range row value) = not (is_objective all row || is_free_row all row) && not (is_infinite_size value)
 is_allowed all (declare_lower column limit) = not (is_plus_infinite limit)
 is_allowed all (declare_upper column limit) = not (is_minus_infinite limit)
+is_allowed all (declare_marked column) = not (is_semi all column)
+is_allowed all (declare_integer column) = not (is_semi all column)
+is_allowed all (declare_binary column) = not (is_semi all column)
+is_allowed all (declare_semi column) = not (is_integer all column)
 is_allowed all _ = true
 
 -- the objective has a right side, which is a constant too

@@ -17,7 +17,7 @@ pub data RowForm : Type 0 where
   by_limits : Limit → Limit → RowForm
 
 -- A right side of the objective is the negative of its constant. `marked` is said of a column in an integer part of
--- an MPS file.
+-- an MPS file, `semi` of a semi-continuous one: it is 0 or lies within its bounds.
 pub data Declaration : Type 0 where
   declare_sense : Sense → Declaration
   declare_objective : List ℕ → Declaration
@@ -32,6 +32,7 @@ pub data Declaration : Type 0 where
   declare_marked : List ℕ → Declaration
   declare_integer : List ℕ → Declaration
   declare_binary : List ℕ → Declaration
+  declare_semi : List ℕ → Declaration
 
 -- One that is made twice stands twice.
 abbrev pub Declarations : Type 0
@@ -52,6 +53,7 @@ pub record Draft : Type 0 where
   pub marked : List (List ℕ × Unit {0})
   pub integers : List (List ℕ × Unit {0})
   pub binaries : List (List ℕ × Unit {0})
+  pub semis : List (List ℕ × Unit {0})
 
 abbrev pub empty_draft : Draft
 empty_draft = record {
@@ -68,6 +70,7 @@ empty_draft = record {
   marked = [];
   integers = [];
   binaries = [];
+  semis = [];
 }
 
 -- the draft with one more declaration; of two at one key the later one stays, but no two are consistent
@@ -85,6 +88,7 @@ adding all (declare_upper column limit) = record all { uppers = put bytes_cmp co
 adding all (declare_marked column) = record all { marked = put bytes_cmp column tt all.marked }
 adding all (declare_integer column) = record all { integers = put bytes_cmp column tt all.integers }
 adding all (declare_binary column) = record all { binaries = put bytes_cmp column tt all.binaries }
+adding all (declare_semi column) = record all { semis = put bytes_cmp column tt all.semis }
 
 abbrev pub adding_all : Draft → Declarations → Draft
 adding_all all [] = all
@@ -120,6 +124,9 @@ has_entry all key = is_some (find key_cmp key all.coefficients)
 
 abbrev pub is_integer : Draft → List ℕ → Bool
 is_integer all name = has_name all.marked name || (has_name all.integers name || has_name all.binaries name)
+
+abbrev pub is_semi : Draft → List ℕ → Bool
+is_semi all name = has_name all.semis name
 
 -- by type N; by limits
 abbrev pub is_free_form : RowForm → Bool

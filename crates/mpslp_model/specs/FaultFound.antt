@@ -4,7 +4,7 @@ use Rattle.std.specs.Option.{option_map}
 use Rattle.mpslp_decimal.specs.Decimal.{Number}
 use Rattle.mpslp_model.specs.Declaration.{RowForm, Draft, empty_draft, names_in}
 use Rattle.mpslp_model.specs.Limits.{limits_of, has_infinite_rhs, is_inexact, is_too_large, is_crossed}
-use Rattle.mpslp_model.specs.Bounds.{has_negative_upper, has_crossed_bounds, has_binary_bounds}
+use Rattle.mpslp_model.specs.Bounds.{has_negative_upper, has_crossed_bounds, has_binary_bounds, has_semi_bounds}
 use Rattle.mpslp_model.specs.Lists.{head_of}
 use Rattle.mpslp_model.specs.Meaning.{names_with, whole_fault}
 use Rattle.mpslp_types.specs.declared.faults.Fault.{Fault}
@@ -31,12 +31,13 @@ is_faulty_row form b r =
 
 -- what is declared of columns, without all else
 abbrev pub columns_alone : Draft → Draft
-columns_alone all = record empty_draft { lowers = all.lowers; uppers = all.uppers; marked = all.marked; integers = all.integers; binaries = all.binaries }
+columns_alone all = record empty_draft { lowers = all.lowers; uppers = all.uppers; marked = all.marked; integers = all.integers; binaries = all.binaries; semis = all.semis }
 
 abbrev pub column_test : ColumnFault → Draft → List ℕ → Bool
 column_test columns.NegativeUpper all column = has_negative_upper all column
 column_test columns.BoundsCrossed all column = has_crossed_bounds all column
 column_test columns.BinaryBounds all column = has_binary_bounds all column
+column_test columns.SemiBounds all column = has_semi_bounds all column
 
 abbrev pub kind_of_row_fault : RowFault → FaultKind
 kind_of_row_fault rows.InfiniteLimit = kinds.InfiniteLimit
@@ -48,6 +49,7 @@ abbrev pub kind_of_column_fault : ColumnFault → FaultKind
 kind_of_column_fault columns.NegativeUpper = kinds.NegativeUpper
 kind_of_column_fault columns.BoundsCrossed = kinds.BoundsCrossed
 kind_of_column_fault columns.BinaryBounds = kinds.BinaryBounds
+kind_of_column_fault columns.SemiBounds = kinds.SemiBounds
 
 -- a kind of fault, told of its least name
 abbrev pub named : Draft → FaultKind → Option Fault

@@ -7,14 +7,14 @@ use Rattle.mpslp_decimal.specs.Decimal.{Number, zero_number, is_zero, negated}
 use Rattle.mpslp_model.specs.Model.{LinearModel, Row, IsSound}
 use Rattle.mpslp_model.specs.Declaration.{RowForm, Declarations, Draft, draft_of, at_name, names_in}
 use Rattle.mpslp_model.specs.Limits.{limits_of, plain_limits, has_infinite_rhs, is_inexact, is_too_large, is_crossed}
-use Rattle.mpslp_model.specs.Bounds.{column_of, has_negative_upper, has_crossed_bounds, has_binary_bounds}
+use Rattle.mpslp_model.specs.Bounds.{column_of, has_negative_upper, has_crossed_bounds, has_binary_bounds, has_semi_bounds}
 use Rattle.mpslp_model.specs.Consistency.{AreConsistent}
 use Rattle.mpslp_model.specs.Lists.{is_nonempty, head_of}
 use Rattle.mpslp_types.specs.declared.kinds.Sense.TheVariants.{Minimize}
 use Rattle.mpslp_types.specs.declared.kinds.RowType.TheVariants.{Free}
 use Rattle.mpslp_types.specs.declared.faults.Fault.{Fault}
 use Rattle.mpslp_types.specs.declared.faults.FaultKind.{FaultKind}
-use Rattle.mpslp_types.specs.declared.faults.FaultKind.TheVariants.{NoColumns, InfiniteLimit, RangeInexact, LimitTooLarge, LimitsCrossed, NegativeUpper, BoundsCrossed, BinaryBounds}
+use Rattle.mpslp_types.specs.declared.faults.FaultKind.TheVariants.{NoColumns, InfiniteLimit, RangeInexact, LimitTooLarge, LimitsCrossed, NegativeUpper, BoundsCrossed, BinaryBounds, SemiBounds}
 
 -- ---- the model of a draft
 
@@ -68,11 +68,12 @@ names_with all LimitsCrossed = rows_where all (λ form b r. is_crossed (limits_o
 names_with all NegativeUpper = columns_where all has_negative_upper
 names_with all BoundsCrossed = columns_where all has_crossed_bounds
 names_with all BinaryBounds = columns_where all has_binary_bounds
+names_with all SemiBounds = columns_where all has_semi_bounds
 names_with all _ = []
 
 -- the kinds that are told of a row or a column, in the order of kinds
 abbrev pub named_kinds : List FaultKind
-named_kinds = InfiniteLimit ∷ RangeInexact ∷ LimitTooLarge ∷ LimitsCrossed ∷ NegativeUpper ∷ BoundsCrossed ∷ BinaryBounds ∷ []
+named_kinds = InfiniteLimit ∷ RangeInexact ∷ LimitTooLarge ∷ LimitsCrossed ∷ NegativeUpper ∷ BoundsCrossed ∷ BinaryBounds ∷ SemiBounds ∷ []
 
 -- a fault of the whole file stands on no line, which is said by line 0
 abbrev pub whole_fault : FaultKind → Option (List ℕ) → Fault

@@ -9,9 +9,10 @@ use Rattle.std.specs.FinMap.{FinMap}
 use Rattle.std.specs.List.{list_all}
 use Rattle.mpslp_decimal.specs.Decimal.{Number, IsDecimal, is_decimal, is_zero}
 use Rattle.mpslp_types.specs.Name.{IsMpsName, bytes_cmp, is_mps_name, is_one_of}
-use Rattle.mpslp_types.specs.Sides.{are_sides, has_bounded_distance}
+use Rattle.mpslp_types.specs.Sides.{are_sides, are_semi_bounds, has_bounded_distance}
 use Rattle.mpslp_types.specs.declared.kinds.Sense.{Sense}
 use Rattle.mpslp_types.specs.declared.kinds.Kind.{Kind}
+use Rattle.mpslp_types.specs.declared.kinds.Kind.TheVariants.{Continuous, Integer, Semi}
 use Rattle.mpslp_types.specs.declared.kinds.Limit.{Limit}
 
 -- where a coefficient stands: a row, or the objective, and a column
@@ -48,11 +49,17 @@ pub record LinearModel : Type 0 where
 
 -- ---- sound models
 
+-- a semi-continuous column, which is 0 or lies within its bounds, wants such bounds
+abbrev pub suits : Kind → Limit → Limit → Bool
+suits Continuous lower upper = true
+suits Integer lower upper = true
+suits Semi lower upper = are_semi_bounds lower upper
+
 abbrev pub is_sound_row : List ℕ × Row → Bool
 is_sound_row row = is_mps_name row.0 && (are_sides row.1.lower row.1.upper && has_bounded_distance row.1.lower row.1.upper)
 
 abbrev pub is_sound_column : List ℕ × Column → Bool
-is_sound_column column = is_mps_name column.0 && are_sides column.1.lower column.1.upper
+is_sound_column column = is_mps_name column.0 && (are_sides column.1.lower column.1.upper && suits column.1.kind column.1.lower column.1.upper)
 
 -- a decimal that is not 0, of a row or the objective and of a column that are there
 abbrev pub is_sound_coefficient : LinearModel → CoefficientKey × Number → Bool

@@ -2,14 +2,14 @@
 use Rattle.std.specs.Prelude.{ℕ, Bool, false, ◌&&◌, ◌||◌, not, List, [], ◌∷◌, ◌++◌, Option, is_some}
 use Rattle.std.specs.Option.{option_map_or}
 use Rattle.mpslp_decimal.specs.Decimal.{is_infinite_size}
-use Rattle.mpslp_model.specs.Declaration.{Declaration, declare_sense, declare_objective, declare_constant, declare_row, declare_rhs, declare_range, declare_column, declare_coefficient, declare_lower, declare_upper, declare_marked, declare_integer, declare_binary, Declarations, Draft, adding, has_name, is_objective, has_row, has_column, has_entry, is_free_row, is_row_by_limits, have_infinite_side}
+use Rattle.mpslp_model.specs.Declaration.{Declaration, declare_sense, declare_objective, declare_constant, declare_row, declare_rhs, declare_range, declare_column, declare_coefficient, declare_lower, declare_upper, declare_marked, declare_integer, declare_binary, declare_semi, Declarations, Draft, adding, has_name, is_objective, has_row, has_column, has_entry, is_integer, is_semi, is_free_row, is_row_by_limits, have_infinite_side}
 use Rattle.mpslp_model.specs.Model.{CoefficientKey}
 use Rattle.mpslp_model.specs.Lists.{those_of}
 use Rattle.mpslp_types.specs.Sides.{is_plus_infinite, is_minus_infinite}
 use Rattle.mpslp_model.specs.Consistency.{has_objective_rhs}
 use Rattle.mpslp_types.specs.declared.kinds.Limit.{Limit}
 use Rattle.mpslp_types.specs.declared.faults.BuildFault.{BuildFault}
-use Rattle.mpslp_types.specs.declared.faults.BuildFault.TheVariants.{DuplicateSense, SecondObjective, UnknownRow, UnknownColumn, DuplicateRow, DuplicateEntry, DuplicateRhs, DuplicateRange, DuplicateBound, RangeOnFree, InfiniteValue}
+use Rattle.mpslp_types.specs.declared.faults.BuildFault.TheVariants.{DuplicateSense, SecondObjective, UnknownRow, UnknownColumn, DuplicateRow, DuplicateEntry, DuplicateRhs, DuplicateRange, DuplicateBound, RangeOnFree, SemiContinuous, InfiniteValue}
 
 -- a constant, or a right side of the objective
 abbrev pub has_constant : Draft → Bool
@@ -36,6 +36,13 @@ abbrev pub coefficient_tests : Draft → CoefficientKey → List (Bool × BuildF
 coefficient_tests all key =
     (not (has_row all key.row), UnknownRow) ∷ (not (has_column all key.column), UnknownColumn) ∷ (has_entry all key, DuplicateEntry) ∷ []
 
+-- of a column that is declared to be marked, integer or binary
+abbrev pub integer_tests : Draft → List ℕ → List (Bool × BuildFault)
+integer_tests all column = (not (has_column all column), UnknownColumn) ∷ (is_semi all column, SemiContinuous) ∷ []
+
+abbrev pub semi_tests : Draft → List ℕ → List (Bool × BuildFault)
+semi_tests all column = (not (has_column all column), UnknownColumn) ∷ (is_integer all column, SemiContinuous) ∷ []
+
 -- the tests of a declaration
 abbrev pub refusal_tests : Draft → Declaration → List (Bool × BuildFault)
 refusal_tests all (declare_sense sense) = sense_tests all
@@ -52,9 +59,10 @@ refusal_tests all (declare_lower column limit) =
     (not (has_column all column), UnknownColumn) ∷ (has_name all.lowers column, DuplicateBound) ∷ (is_plus_infinite limit, InfiniteValue) ∷ []
 refusal_tests all (declare_upper column limit) =
     (not (has_column all column), UnknownColumn) ∷ (has_name all.uppers column, DuplicateBound) ∷ (is_minus_infinite limit, InfiniteValue) ∷ []
-refusal_tests all (declare_marked column) = (not (has_column all column), UnknownColumn) ∷ []
-refusal_tests all (declare_integer column) = (not (has_column all column), UnknownColumn) ∷ []
-refusal_tests all (declare_binary column) = (not (has_column all column), UnknownColumn) ∷ []
+refusal_tests all (declare_marked column) = integer_tests all column
+refusal_tests all (declare_integer column) = integer_tests all column
+refusal_tests all (declare_binary column) = integer_tests all column
+refusal_tests all (declare_semi column) = semi_tests all column
 
 -- the refusals of a declaration, the first one first
 abbrev pub refusals : Draft → Declaration → List BuildFault

@@ -4,7 +4,7 @@ use Rattle.std.specs.Ordering.{int_eq}
 use Rattle.mpslp_decimal.specs.Decimal.{Number}
 use Rattle.mpslp_model.specs.Model.{Row, Column, LinearModel}
 use Rattle.mpslp_types.specs.declared.kinds.Kind.{Kind}
-use Rattle.mpslp_types.specs.declared.kinds.Kind.TheVariants.{Continuous, Integer}
+use Rattle.mpslp_types.specs.declared.kinds.Kind.TheVariants.{Continuous, Integer, Semi}
 use Rattle.mpslp_types.specs.declared.kinds.Limit.{Limit}
 use Rattle.mpslp_types.specs.declared.kinds.Limit.TheVariants.{MinusInf, Finite, PlusInf}
 
@@ -25,8 +25,13 @@ same_limit PlusInf PlusInf = true
 abbrev pub same_kind : Kind → Kind → Bool
 same_kind Continuous Continuous = true
 same_kind Continuous Integer = false
+same_kind Continuous Semi = false
 same_kind Integer Continuous = false
 same_kind Integer Integer = true
+same_kind Integer Semi = false
+same_kind Semi Continuous = false
+same_kind Semi Integer = false
+same_kind Semi Semi = true
 
 abbrev pub same_row : Row → Row → Bool
 same_row a b = same_limit a.lower b.lower && same_limit a.upper b.upper

@@ -10,7 +10,7 @@ use Rattle.mpslp_decimal.specs.Decimal.{Number}
 use Rattle.mpslp_types.specs.Name.{same_bytes}
 use Rattle.mpslp_model.specs.Model.{Row, Column}
 use Rattle.mpslp_model.specs.Same.{same_number, same_limit, same_kind, same_row, same_column}
-use Rattle.mpslp_types.specs.declared.kinds.Kind.TheVariants.{Continuous, Integer}
+use Rattle.mpslp_types.specs.declared.kinds.Kind.TheVariants.{Continuous, Integer, Semi}
 use Rattle.mpslp_types.specs.declared.kinds.Limit.{Limit}
 use Rattle.mpslp_types.specs.declared.kinds.Limit.TheVariants.{MinusInf, Finite, PlusInf}
 
@@ -57,8 +57,13 @@ tells-limit PlusInf PlusInf = ((λ h. refl), (λ e. refl))
 tells-kind : Tells same_kind
 tells-kind Continuous Continuous = ((λ h. refl), (λ e. refl))
 tells-kind Continuous Integer = ((λ h. absurd cc), (λ e. absurd cc))
+tells-kind Continuous Semi = ((λ h. absurd cc), (λ e. absurd cc))
 tells-kind Integer Continuous = ((λ h. absurd cc), (λ e. absurd cc))
 tells-kind Integer Integer = ((λ h. refl), (λ e. refl))
+tells-kind Integer Semi = ((λ h. absurd cc), (λ e. absurd cc))
+tells-kind Semi Continuous = ((λ h. absurd cc), (λ e. absurd cc))
+tells-kind Semi Integer = ((λ h. absurd cc), (λ e. absurd cc))
+tells-kind Semi Semi = ((λ h. refl), (λ e. refl))
 
 pub tells-row : Tells same_row
 tells-row a b =

@@ -6,7 +6,7 @@ use Rattle.mpslp_decimal.specs.Decimal.{Number, zero_number, decimal_cmp, differ
 use Rattle.mpslp_types.specs.Name.{same_bytes}
 use Rattle.mpslp_model.specs.Model.{CoefficientKey, key_cmp, Row, Column, LinearModel}
 use Rattle.mpslp_types.specs.declared.kinds.Kind.{Kind}
-use Rattle.mpslp_types.specs.declared.kinds.Kind.TheVariants.{Continuous, Integer}
+use Rattle.mpslp_types.specs.declared.kinds.Kind.TheVariants.{Continuous, Integer, Semi}
 use Rattle.mpslp_types.specs.declared.kinds.Limit.{Limit}
 use Rattle.mpslp_types.specs.declared.kinds.Limit.TheVariants.{MinusInf, Finite, PlusInf}
 
@@ -49,6 +49,7 @@ is_integer_column column = is_integer_kind column.kind
     is_integer_kind : Kind → Bool
     is_integer_kind Continuous = false
     is_integer_kind Integer = true
+    is_integer_kind Semi = false
 
 -- ---- a row by its sense, right side and range
 

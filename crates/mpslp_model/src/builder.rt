@@ -3,7 +3,7 @@
 ghost use Rattle.std.specs.Prelude.{◌≡◌, IsTrue, IfOk};
 ghost use Rattle.std.specs.Option.{ForSome, option_map};
 ghost use Rattle.mpslp_types.specs.Name.{IsMpsName};
-ghost use Rattle.mpslp_model.specs.Declaration.{empty_draft, adding, adding_all, declare_sense, declare_objective, declare_row, by_type, declare_range, declare_column, declare_coefficient, declare_rhs, declare_marked, declare_integer, rhs_declared, bounds_declared, is_free_form, is_limits_form};
+ghost use Rattle.mpslp_model.specs.Declaration.{empty_draft, adding, adding_all, declare_sense, declare_objective, declare_row, by_type, declare_range, declare_column, declare_coefficient, declare_rhs, declare_marked, declare_integer, declare_semi, rhs_declared, bounds_declared, is_free_form, is_limits_form};
 ghost use Rattle.mpslp_model.specs.Refusal.{refusals, bounds_refusals};
 ghost use Rattle.mpslp_types.specs.Sides.{is_given};
 ghost use Rattle.mpslp_model.specs.Answer.{Answers, IsNotOutOfMemory};
@@ -88,6 +88,7 @@ pub struct Builder {
     pub(crate) marked: SortedMap<Name, ()>,
     pub(crate) integers: SortedMap<Name, ()>,
     pub(crate) binaries: SortedMap<Name, ()>,
+    pub(crate) semis: SortedMap<Name, ()>,
 }
 
 impl Model for Builder {
@@ -149,6 +150,7 @@ impl Builder {
             marked: SortedMap::new(alloc),
             integers: SortedMap::new(alloc),
             binaries: SortedMap::new(alloc),
+            semis: SortedMap::new(alloc),
         }
     }
 
@@ -298,7 +300,7 @@ impl Builder {
     ///
     /// # Errors
     ///
-    /// `UnknownColumn` where no column has the name, `OutOfMemory`.
+    /// `UnknownColumn` where no column has the name, `SemiContinuous` where the column is semi-continuous, `OutOfMemory`.
     pub fn marked(&mut self, column: &[u8]) -> Result<(), BuildFault>
         ensures { Answers (refusals self.old (declare_marked column.now)) result (self.new ≡ adding self.old (declare_marked column.now)) (self.new ≡ self.old) }
     {
@@ -315,7 +317,7 @@ impl Builder {
     ///
     /// # Errors
     ///
-    /// `UnknownColumn` where no column has the name, `OutOfMemory`.
+    /// `UnknownColumn` where no column has the name, `SemiContinuous` where the column is semi-continuous, `OutOfMemory`.
     pub fn integer(&mut self, column: &[u8]) -> Result<(), BuildFault>
         ensures { Answers (refusals self.old (declare_integer column.now)) result (self.new ≡ adding self.old (declare_integer column.now)) (self.new ≡ self.old) }
     {
@@ -325,6 +327,25 @@ impl Builder {
         }
         let name = copied(self.alloc, column)?;
         self.integers.put(name, ())?;
+        Ok(())
+    }
+
+    /// Declares that a column is semi-continuous: it is 0 or lies within its bounds. Its upper bound has to be declared, finite
+    /// and above 0, in whatever order; its lower one is at least 0. It may be declared again.
+    ///
+    /// # Errors
+    ///
+    /// `UnknownColumn` where no column has the name, `SemiContinuous` where the column is [marked](Self::marked) or
+    /// [integer](Self::integer), `OutOfMemory`.
+    pub fn semi(&mut self, column: &[u8]) -> Result<(), BuildFault>
+        ensures { Answers (refusals self.old (declare_semi column.now)) result (self.new ≡ adding self.old (declare_semi column.now)) (self.new ≡ self.old) }
+    {
+        self.check_semi(column)?;
+        if self.semis.has(&column) {
+            return Ok(());
+        }
+        let name = copied(self.alloc, column)?;
+        self.semis.put(name, ())?;
         Ok(())
     }
 }

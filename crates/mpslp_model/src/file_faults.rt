@@ -105,6 +105,7 @@ impl Builder {
             marked: &self.marked,
             integers: &self.integers,
             binaries: &self.binaries,
+            semis: &self.semis,
         }
     }
 
@@ -161,6 +162,7 @@ impl Builder {
             ColumnFault::NegativeUpper,
             ColumnFault::BoundsCrossed,
             ColumnFault::BinaryBounds,
+            ColumnFault::SemiBounds,
         ])
     }
 }

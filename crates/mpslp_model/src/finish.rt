@@ -42,6 +42,7 @@ fn kind_of_column_fault(fault: ColumnFault) -> FaultKind
         ColumnFault::NegativeUpper => FaultKind::NegativeUpper,
         ColumnFault::BoundsCrossed => FaultKind::BoundsCrossed,
         ColumnFault::BinaryBounds => FaultKind::BinaryBounds,
+        ColumnFault::SemiBounds => FaultKind::SemiBounds,
     }
 }
 
@@ -173,6 +174,7 @@ impl Builder {
             marked,
             integers,
             binaries,
+            semis,
         } = self;
         let objective = objective.unwrap();
         let parts = ColumnParts {
@@ -181,6 +183,7 @@ impl Builder {
             marked: &marked,
             integers: &integers,
             binaries: &binaries,
+            semis: &semis,
         };
         let constant = constant_of(constant, &rhs_values, objective.as_bytes());
         Ok(Model {
@@ -208,7 +211,8 @@ impl Builder {
     /// - `LimitsCrossed`: the lower limit is above the upper one;
     /// - `NegativeUpper`: an upper bound of a column is below 0 and no lower one is declared;
     /// - `BoundsCrossed`: the lower bound is above the upper one;
-    /// - `BinaryBounds`: a binary column's bounds do not lie within 0 and 1.
+    /// - `BinaryBounds`: a binary column's bounds do not lie within 0 and 1;
+    /// - `SemiBounds`: a semi-continuous column's lower bound is below 0, or its upper one infinite or not above 0.
     ///
     /// Only where there is none of these, `OutOfMemory`.
     pub fn finish(self) -> Result<Model, ReadFault>

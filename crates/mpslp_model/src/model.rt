@@ -112,9 +112,19 @@ fn is_same_limit(a: Limit, b: Limit) -> bool
 fn is_same_kind(a: Kind, b: Kind) -> bool
     ensures { result ≡ same_kind a b }
 {
-    match (a, b) {
-        (Kind::Continuous, Kind::Continuous) | (Kind::Integer, Kind::Integer) => true,
-        (Kind::Continuous, Kind::Integer) | (Kind::Integer, Kind::Continuous) => false,
+    match a {
+        Kind::Continuous => match b {
+            Kind::Continuous => true,
+            Kind::Integer | Kind::Semi => false,
+        },
+        Kind::Integer => match b {
+            Kind::Integer => true,
+            Kind::Continuous | Kind::Semi => false,
+        },
+        Kind::Semi => match b {
+            Kind::Semi => true,
+            Kind::Continuous | Kind::Integer => false,
+        },
     }
 }
 
@@ -414,6 +424,14 @@ impl Model {
         self.column_bounds(j).upper
     }
 
+    /// Which values the column of number `j` may take within its bounds.
+    pub fn column_kind(&self, j: usize) -> Kind
+        requires { j < num_columns self.now }
+        ensures { option_map (λ column. column.kind) (slice_get (columns_of self.now) j) ≡ Some result }
+    {
+        self.column_bounds(j).kind
+    }
+
     /// Whether the column of number `j` takes whole numbers alone.
     pub fn is_integer(&self, j: usize) -> bool
         requires { j < num_columns self.now }
@@ -421,7 +439,7 @@ impl Model {
     {
         match self.column_bounds(j).kind {
             Kind::Integer => true,
-            Kind::Continuous => false,
+            Kind::Continuous | Kind::Semi => false,
         }
     }
 

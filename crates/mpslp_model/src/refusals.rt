@@ -6,7 +6,7 @@ ghost use Rattle.std.specs.Prelude.{◌≡◌, ◌&&◌, ◌||◌, false, is_som
 ghost use Rattle.std.specs.Option.{option_map_or};
 ghost use Rattle.mpslp_types.specs.Name.{same_bytes};
 ghost use Rattle.mpslp_types.specs.Sides.{is_plus_infinite, is_minus_infinite};
-ghost use Rattle.mpslp_model.specs.Declaration.{declare_objective, declare_range, declare_marked, declare_integer, is_objective, has_row, has_column, has_name, has_entry, is_free_row, is_row_by_limits};
+ghost use Rattle.mpslp_model.specs.Declaration.{declare_objective, declare_range, declare_marked, declare_integer, declare_semi, is_objective, has_row, has_column, has_name, has_entry, is_integer, is_semi, is_free_row, is_row_by_limits};
 ghost use Rattle.mpslp_model.specs.Lists.{those_of};
 ghost use Rattle.mpslp_model.specs.Refusal.{sense_tests, row_tests, rhs_tests, coefficient_tests, refusals, bounds_refusals};
 ghost use Rattle.mpslp_model.specs.Answer.{first_refusal};
@@ -121,6 +121,20 @@ impl Builder {
             || (upper.is_some() && self.uppers.has(&column))
     }
 
+    /// Whether this column is declared to be marked, integer or binary.
+    fn is_integer(&self, column: &[u8]) -> bool
+        ensures { result ≡ is_integer self.now column.now }
+    {
+        self.marked.has(&column) || (self.integers.has(&column) || self.binaries.has(&column))
+    }
+
+    /// Whether this column is declared to be semi-continuous.
+    fn is_semi(&self, column: &[u8]) -> bool
+        ensures { result ≡ is_semi self.now column.now }
+    {
+        self.semis.has(&column)
+    }
+
     /// The refusal that [`sense`](Self::sense) would have now.
     ///
     /// # Errors
@@ -232,21 +246,41 @@ impl Builder {
     ///
     /// # Errors
     ///
-    /// `UnknownColumn`, as of the call.
+    /// `UnknownColumn`, `SemiContinuous`, as of the call.
     pub fn check_marked(&self, column: &[u8]) -> Result<(), BuildFault>
         ensures { result ≡ first_refusal (refusals self.now (declare_marked column.now)) }
     {
-        refuse(&[(!self.has_column(column), BuildFault::UnknownColumn)])
+        refuse(&[
+            (!self.has_column(column), BuildFault::UnknownColumn),
+            (self.is_semi(column), BuildFault::SemiContinuous),
+        ])
     }
 
     /// The refusal that [`integer`](Self::integer) would have now.
     ///
     /// # Errors
     ///
-    /// `UnknownColumn`, as of the call.
+    /// `UnknownColumn`, `SemiContinuous`, as of the call.
     pub fn check_integer(&self, column: &[u8]) -> Result<(), BuildFault>
         ensures { result ≡ first_refusal (refusals self.now (declare_integer column.now)) }
     {
-        refuse(&[(!self.has_column(column), BuildFault::UnknownColumn)])
+        refuse(&[
+            (!self.has_column(column), BuildFault::UnknownColumn),
+            (self.is_semi(column), BuildFault::SemiContinuous),
+        ])
+    }
+
+    /// The refusal that [`semi`](Self::semi) would have now.
+    ///
+    /// # Errors
+    ///
+    /// `UnknownColumn`, `SemiContinuous`, as of the call.
+    pub fn check_semi(&self, column: &[u8]) -> Result<(), BuildFault>
+        ensures { result ≡ first_refusal (refusals self.now (declare_semi column.now)) }
+    {
+        refuse(&[
+            (!self.has_column(column), BuildFault::UnknownColumn),
+            (self.is_integer(column), BuildFault::SemiContinuous),
+        ])
     }
 }

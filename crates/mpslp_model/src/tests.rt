@@ -3,7 +3,7 @@
 ghost use Rattle.std.specs.Prelude.{IsTrue};
 ghost use Rattle.mpslp_types.specs.Sides.{is_given};
 
-use crate::{BuildFault, Builder, FaultKind, Limit, Model, Name, ReadFault, RowType, Sense};
+use crate::{BuildFault, Builder, FaultKind, Kind, Limit, Model, Name, ReadFault, RowType, Sense};
 use mpslp_decimal::{Decimal, DecimalText};
 use std::alloc::{AllocError, Global};
 use std::cmp::Ordering;
@@ -48,6 +48,7 @@ enum Call<'a> {
     Bounds(&'a str, &'a str, &'a str),
     Marked(&'a str),
     Integer(&'a str),
+    Semi(&'a str),
 }
 
 /// Makes a call that names a row.
@@ -84,6 +85,7 @@ fn call_of(builder: &mut Builder, alloc: Global, call: Call<'_>) -> Result<(), B
         Call::Column(name) => builder.column(named(alloc, name)?),
         Call::Marked(column) => builder.marked(column.as_bytes()),
         Call::Integer(column) => builder.integer(column.as_bytes()),
+        Call::Semi(column) => builder.semi(column.as_bytes()),
         Call::NoBounds(_) | Call::Lower(..) | Call::Upper(..) | Call::Bounds(..) => {
             call_of_bounds(builder, call)
         }
@@ -117,6 +119,7 @@ fn check_of(builder: &Builder, call: Call<'_>) -> Result<(), BuildFault> {
         ),
         Call::Marked(column) => builder.check_marked(column.as_bytes()),
         Call::Integer(column) => builder.check_integer(column.as_bytes()),
+        Call::Semi(column) => builder.check_semi(column.as_bytes()),
     }
 }
 
@@ -196,10 +199,10 @@ impl Shown {
         }
         self.put(b"column ".as_slice())?;
         self.put(model.column_name(j).as_bytes())?;
-        let kind: &[u8] = if model.is_integer(j) {
-            b" integer"
-        } else {
-            b" continuous"
+        let kind: &[u8] = match model.column_kind(j) {
+            Kind::Continuous => b" continuous",
+            Kind::Integer => b" integer",
+            Kind::Semi => b" semi",
         };
         self.put(kind)?;
         self.put_limit(model.col_lower(j))?;
@@ -324,9 +327,28 @@ const ANSWERS: [(Call<'static>, Result<(), BuildFault>); 34] = [
     (Call::Range("n", "1"), Err(BuildFault::RangeOnFree)),
 ];
 
+/// Calls of kinds of columns, one after another, and what each answers.
+const KINDS: [(Call<'static>, Result<(), BuildFault>); 11] = [
+    (Call::Column("x"), Ok(())),
+    (Call::Semi("y"), Err(BuildFault::UnknownColumn)),
+    (Call::Semi("x"), Ok(())),
+    (Call::Semi("x"), Ok(())),
+    (Call::Integer("x"), Err(BuildFault::SemiContinuous)),
+    (Call::Marked("x"), Err(BuildFault::SemiContinuous)),
+    (Call::Column("y"), Ok(())),
+    (Call::Integer("y"), Ok(())),
+    (Call::Semi("y"), Err(BuildFault::SemiContinuous)),
+    (Call::Column("z"), Ok(())),
+    (Call::Marked("z"), Ok(())),
+];
+
 /// The first of these calls that is not answered so, or whose question is not, counted from 0.
-fn first_other_answer(builder: &mut Builder, alloc: Global) -> Option<usize> {
-    for (i, (call, answer)) in ANSWERS.iter().enumerate() {
+fn first_other_answer(
+    builder: &mut Builder,
+    alloc: Global,
+    calls: &[(Call<'static>, Result<(), BuildFault>)],
+) -> Option<usize> {
+    for (i, (call, answer)) in calls.iter().enumerate() {
         if check_of(builder, *call) != *answer || call_of(builder, alloc, *call) != *answer {
             return Some(i);
         }
@@ -345,9 +367,16 @@ fn knows_its_names(builder: &Builder) -> bool {
 fn answers_in_order(rt: HostRuntime) {
     let mut builder = Builder::new(rt.alloc());
     let had_objective = builder.has_objective();
-    let other_answer = first_other_answer(&mut builder, rt.alloc());
+    let other_answer = first_other_answer(&mut builder, rt.alloc(), &ANSWERS);
     let knows = knows_its_names(&builder);
     assert!(rt; !had_objective && knows);
+    assert_eq!(rt; other_answer, None);
+}
+
+#[test]
+fn refuses_a_second_kind(rt: HostRuntime) {
+    let mut builder = Builder::new(rt.alloc());
+    let other_answer = first_other_answer(&mut builder, rt.alloc(), &KINDS);
     assert_eq!(rt; other_answer, None);
 }
 
@@ -370,6 +399,7 @@ fn orders_names_and_sides(rt: HostRuntime) -> Result<(), Fail> {
 fn tells_kinds_by_name(rt: HostRuntime) {
     assert_eq!(rt; FaultKind::LineTooLong.text(), "LineTooLong");
     assert_eq!(rt; FaultKind::BinaryBounds.text(), "BinaryBounds");
+    assert_eq!(rt; FaultKind::SemiBounds.text(), "SemiBounds");
 }
 
 /// Cost, a limit and a demand.
@@ -540,7 +570,7 @@ fn limits_rows_by_type_right_side_and_range(rt: HostRuntime) -> Result<(), Fail>
 }
 
 /// Two calls of the bounds or the kind of a column, and what its views tell.
-const COLUMNS: [(Call<'static>, Call<'static>, &str); 9] = [
+const COLUMNS: [(Call<'static>, Call<'static>, &str); 14] = [
     (
         Call::NoBounds("X"),
         Call::NoBounds("X"),
@@ -585,6 +615,23 @@ const COLUMNS: [(Call<'static>, Call<'static>, &str); 9] = [
         Call::Integer("X"),
         Call::NoBounds("X"),
         "column X integer 0 inf objective 0",
+    ),
+    (
+        Call::Semi("X"),
+        Call::Upper("X", "4"),
+        "column X semi 0 4 objective 0",
+    ),
+    (
+        Call::Bounds("X", "4", "4"),
+        Call::Semi("X"),
+        "column X semi 4 4 objective 0",
+    ),
+    (Call::Semi("X"), Call::NoBounds("X"), "SemiBounds X"),
+    (Call::Semi("X"), Call::Upper("X", "0"), "SemiBounds X"),
+    (
+        Call::Semi("X"),
+        Call::Bounds("X", "-1", "4"),
+        "SemiBounds X",
     ),
 ];
 

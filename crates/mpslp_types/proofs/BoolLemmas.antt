@@ -34,6 +34,14 @@ pub so_not : (a : Bool) → a ≡ false → not a ≡ true
 so_not true p = sym p
 so_not false p = refl
 
+pub either : (a b c : Bool) → (a ≡ true → c ≡ true) → (b ≡ true → c ≡ true) → (a || b) ≡ true → c ≡ true
+either true b c f g h = f refl
+either false b c f g h = g h
+
+pub either_more : (a b c d : Bool) → (a ≡ true → c ≡ true) → (b ≡ true → d ≡ true) → (a || b) ≡ true → (c || d) ≡ true
+either_more true b c d f g h = or_left c d (f refl)
+either_more false b c d f g h = or_right c d (g h)
+
 -- (b implies a), told by b's falsehood
 pub back : (a b : Bool) → (a ≡ true → b ≡ true) → b ≡ false → a ≡ false
 back true b f p = sym (f refl) ∙ p

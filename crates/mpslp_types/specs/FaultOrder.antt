@@ -1,7 +1,7 @@
 -- The order of the kinds of faults, by which one of several is told.
 use Rattle.std.specs.Prelude.{ℕ, nat_lt, if◌then◌else◌, List, [], ◌∷◌, Option, Some, None}
 use Rattle.mpslp_types.specs.declared.faults.FaultKind.{FaultKind}
-use Rattle.mpslp_types.specs.declared.faults.FaultKind.TheVariants.{LineTooLong, BadByte, Quadratic, Sos, Indicator, SemiContinuous, UnknownSection, SectionOrder, SectionRepeated, FieldCount, BadToken, BadType, BadMarker, NameLength, NameByte, NameMarker, NameLikeExponent, BadNumber, LongNumber, TooManyDigits, ExponentRange, SecondSet, UnknownRow, UnknownColumn, ColumnSplit, DuplicateRow, DuplicateEntry, DuplicateRhs, DuplicateRange, DuplicateBound, RangeOnFree, ConstantInRow, MixedSenses, InfiniteValue, MissingEnd, NoColumns, InfiniteLimit, RangeInexact, LimitTooLarge, LimitsCrossed, NegativeUpper, BoundsCrossed, BinaryBounds}
+use Rattle.mpslp_types.specs.declared.faults.FaultKind.TheVariants.{LineTooLong, BadByte, Quadratic, Sos, Indicator, SemiContinuous, UnknownSection, SectionOrder, SectionRepeated, FieldCount, BadToken, BadType, BadMarker, NameLength, NameByte, NameMarker, NameLikeExponent, BadNumber, LongNumber, TooManyDigits, ExponentRange, SecondSet, UnknownRow, UnknownColumn, ColumnSplit, DuplicateRow, DuplicateEntry, DuplicateRhs, DuplicateRange, DuplicateBound, RangeOnFree, ConstantInRow, MixedSenses, InfiniteValue, MissingEnd, NoColumns, InfiniteLimit, RangeInexact, LimitTooLarge, LimitsCrossed, NegativeUpper, BoundsCrossed, BinaryBounds, SemiBounds}
 
 -- the rank of a kind: its number in the order
 abbrev pub kind_rank : FaultKind → ℕ
@@ -48,6 +48,7 @@ kind_rank LimitsCrossed = 40
 kind_rank NegativeUpper = 41
 kind_rank BoundsCrossed = 42
 kind_rank BinaryBounds = 43
+kind_rank SemiBounds = 44
 
 -- the kind that comes first in that order
 abbrev pub least_kind : List FaultKind → Option FaultKind

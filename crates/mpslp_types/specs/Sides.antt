@@ -2,7 +2,7 @@
 use Rattle.std.specs.Prelude.{Bool, true, false, ◌&&◌, not, if◌then◌else◌}
 use Rattle.std.specs.Ordering.{is_lt}
 use Rattle.std.specs.Option.{option_map_or}
-use Rattle.mpslp_decimal.specs.Decimal.{Number, is_decimal, is_negative, is_infinite_size, decimal_cmp, difference_of}
+use Rattle.mpslp_decimal.specs.Decimal.{Number, zero_number, is_decimal, is_negative, is_infinite_size, decimal_cmp, difference_of}
 use Rattle.mpslp_types.specs.declared.kinds.Limit.{Limit}
 use Rattle.mpslp_types.specs.declared.kinds.Limit.TheVariants.{MinusInf, Finite, PlusInf}
 
@@ -51,6 +51,17 @@ is_upper_side PlusInf = true
 
 abbrev pub are_sides : Limit → Limit → Bool
 are_sides lower upper = is_lower_side lower && (is_upper_side upper && is_at_most lower upper)
+
+abbrev pub zero_limit : Limit
+zero_limit = Finite zero_number
+
+abbrev pub is_finite_above_zero : Limit → Bool
+is_finite_above_zero (Finite d) = not (is_at_most (Finite d) zero_limit)
+is_finite_above_zero _ = false
+
+-- the lower side is at least 0, and the upper one finite and above 0
+abbrev pub are_semi_bounds : Limit → Limit → Bool
+are_semi_bounds lower upper = is_at_most zero_limit lower && is_finite_above_zero upper
 
 -- upper minus lower is a decimal of size below 10^20, where both are finite
 abbrev pub has_bounded_distance : Limit → Limit → Bool

@@ -41,6 +41,9 @@ pub enum BuildFault {
     /// A range on the objective or on a row of type [`Free`](crate::RowType::Free).
     #[error("the objective or a free row has no range")]
     RangeOnFree,
+    /// A semi-continuous column that is integer too.
+    #[error("the column is both integer and semi-continuous")]
+    SemiContinuous,
     /// A side that no value meets, or a range value of infinite size.
     #[error("the value is infinite")]
     InfiniteValue,
@@ -73,7 +76,7 @@ pub enum FaultKind {
     Sos,
     /// An indicator row.
     Indicator,
-    /// A semi-continuous column.
+    /// A semi-continuous column that is integer too.
     SemiContinuous,
     /// An MPS header that is not known.
     UnknownSection,
@@ -149,6 +152,8 @@ pub enum FaultKind {
     BoundsCrossed,
     /// A binary column's bounds do not lie within 0 and 1; of a column.
     BinaryBounds,
+    /// A semi-continuous column's lower bound is below 0, or its upper one infinite or not above 0; of a column.
+    SemiBounds,
 }
 
 impl FaultKind {
@@ -207,6 +212,7 @@ impl FaultKind {
             FaultKind::NegativeUpper => "NegativeUpper",
             FaultKind::BoundsCrossed => "BoundsCrossed",
             FaultKind::BinaryBounds => "BinaryBounds",
+            FaultKind::SemiBounds => "SemiBounds",
         }
     }
 }

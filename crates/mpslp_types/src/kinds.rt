@@ -24,6 +24,8 @@ pub enum Kind {
     Continuous,
     /// Whole numbers alone.
     Integer,
+    /// 0, or any value within the bounds: semi-continuous. The upper bound is finite and above 0, the lower one at least 0.
+    Semi,
 }
 
 /// One side of a row or column: a limit of a row, or a bound of a column.

@@ -1,10 +1,11 @@
-use Rattle.std.proofs.Common.{refl, sym, ap, subst, ◌∙◌, ℕ, List, []}
+use Rattle.std.proofs.Common.{refl, sym, ap, subst, ◌∙◌, ℕ, List, [], ◌∷◌}
 use Rattle.std.specs.FinMap.{put}
 use Rattle.mpslp_types.specs.Name.{bytes_cmp}
-use Rattle.mpslp_model.specs.Declaration.{Draft, declare_integer, has_name}
+use Rattle.mpslp_model.specs.Declaration.{Draft, declare_integer, has_name, is_semi}
 use Rattle.mpslp_model.specs.Refusal.{refusals}
 use Rattle.mpslp_model.specs.Made.{IsMade}
 use Rattle.mpslp_model.specs.BuilderDraft.{draft}
+use Rattle.mpslp_types.specs.declared.faults.BuildFault.TheVariants.{SemiContinuous}
 use Rattle.mpslp_model.proofs.AnswerLemmas.{none_refused, made_next, made_now, declared, known_column, column_is_legal, put_again}
 use Rattle.mpslp_model.proofs.SortedDrafts.{sorted-from_made}
 use Rattle.mpslp_model.proofs.builder.Builder.integer.Goals as goal
@@ -22,7 +23,7 @@ copied-requires c =
     let d = declare_integer c.args.column.now in
     let all = c.args.self.now in
     let none = none_refused (refusals all d) c.in_ok-check_integer.ensures in
-    column_is_legal all c.args.column.now (made_now c.self.view_is c.self.invariant) (known_column all c.args.column.now [] none)
+    column_is_legal all c.args.column.now (made_now c.self.view_is c.self.invariant) (known_column all c.args.column.now ((is_semi all c.args.column.now, SemiContinuous) ∷ []) none)
 
 pub invariant_of-self-2 : goal.invariant_of-self-2
 invariant_of-self-2 c =

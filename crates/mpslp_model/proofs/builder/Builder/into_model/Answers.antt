@@ -37,4 +37,4 @@ pub invariant_of-result : goal.invariant_of-result
 invariant_of-result c = meant_parts c.args.self _ (made_now c.self.view_is c.self.invariant) c.requires.objective c.requires.fault (parts c)
 
 pub returns : goal.returns
-returns c = meant_draft c.args.self _ (made_now c.self.view_is c.self.invariant) c.requires.objective c.requires.fault (parts c.before.before.before.before.before.before.before)
+returns c = meant_draft c.args.self _ (made_now c.self.view_is c.self.invariant) c.requires.objective c.requires.fault (parts c.before.before.before.before.before.before.before.before)
