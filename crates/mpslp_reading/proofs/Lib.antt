@@ -2,6 +2,7 @@ pub mod LeastLemmas
 pub mod HeldLemmas
 pub mod RefusedLemmas
 pub mod DeclaringLemmas
+pub mod ClashLemmas
 pub mod FirstFaultLemmas
 pub mod FieldLemmas
 pub mod ObjectiveLemmas

@@ -1,7 +1,7 @@
 -- The name of the objective in the draft of some declarations.
 use Rattle.std.proofs.Common.{◌≡◌, refl, ap, [], ◌∷◌, Bool, true, false}
 use Rattle.std.specs.Prelude.{◌||◌, is_some}
-use Rattle.mpslp_model.specs.Declaration.{Declaration, declare_sense, declare_objective, declare_constant, declare_row, declare_rhs, declare_range, declare_column, declare_coefficient, declare_lower, declare_upper, declare_marked, declare_integer, declare_binary, Declarations, Draft, adding, adding_all}
+use Rattle.mpslp_model.specs.Declaration.{Declaration, declare_sense, declare_objective, declare_constant, declare_row, declare_rhs, declare_range, declare_column, declare_coefficient, declare_lower, declare_upper, declare_marked, declare_integer, declare_binary, declare_semi, Declarations, Draft, adding, adding_all}
 use Rattle.mpslp_model.specs.Consistency.{has_objective}
 use Rattle.mpslp_types.proofs.BoolLemmas.{or_right}
 
@@ -20,6 +20,7 @@ stays-named all (declare_upper c l) h = h
 stays-named all (declare_marked c) h = h
 stays-named all (declare_integer c) h = h
 stays-named all (declare_binary c) h = h
+stays-named all (declare_semi c) h = h
 
 pub named-after : (ds : Declarations) (all : Draft) → is_some all.objective ≡ true → is_some (adding_all all ds).objective ≡ true
 named-after [] all h = h
@@ -44,3 +45,4 @@ objective-declared (d ∷ ds) all h = by d (objective-declared ds (adding all d)
     by (declare_marked c) k = k
     by (declare_integer c) k = k
     by (declare_binary c) k = k
+    by (declare_semi c) k = k

@@ -64,6 +64,7 @@ error-of_refusal builds.DuplicateRhs = refl
 error-of_refusal builds.DuplicateRange = refl
 error-of_refusal builds.DuplicateBound = refl
 error-of_refusal builds.RangeOnFree = refl
+error-of_refusal builds.SemiContinuous = refl
 error-of_refusal builds.InfiniteValue = refl
 error-of_refusal builds.OutOfMemory = tt
 

@@ -23,6 +23,7 @@ kind_of_refusal builds.DuplicateRhs = kinds.DuplicateRhs
 kind_of_refusal builds.DuplicateRange = kinds.DuplicateRange
 kind_of_refusal builds.DuplicateBound = kinds.DuplicateBound
 kind_of_refusal builds.RangeOnFree = kinds.RangeOnFree
+kind_of_refusal builds.SemiContinuous = kinds.SemiContinuous
 kind_of_refusal builds.InfiniteValue = kinds.InfiniteValue
 kind_of_refusal builds.OutOfMemory = kinds.DuplicateEntry
 

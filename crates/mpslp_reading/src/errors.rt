@@ -70,6 +70,7 @@ impl From<BuildFault> for LineError {
             BuildFault::DuplicateRange => LineError::Fault(FaultKind::DuplicateRange),
             BuildFault::DuplicateBound => LineError::Fault(FaultKind::DuplicateBound),
             BuildFault::RangeOnFree => LineError::Fault(FaultKind::RangeOnFree),
+            BuildFault::SemiContinuous => LineError::Fault(FaultKind::SemiContinuous),
             BuildFault::InfiniteValue => LineError::Fault(FaultKind::InfiniteValue),
             BuildFault::OutOfMemory => LineError::OutOfMemory,
         }
