@@ -150,8 +150,8 @@ without_found : {K X : Type 0} (R : K → K → Ordering) (o : IsTotalOrder R) (
     → position (λ e. is_eq (R k e.0)) es ≡ Some i
     → (i < length es) × (filter (λ e. not (is_eq (R k e.0))) es ≡ remove es i)
 without_found {K} {X} R o k es i sorted at =
-    let place = position_is (λ (e : K × X). is_eq (R k e.0)) es i at in
-    (place.0, without_key R o k es sorted ∙ ap (remove es) place.1)
+    let first = position_is (λ (e : K × X). is_eq (R k e.0)) es i at in
+    (first.0, without_key R o k es sorted ∙ ap (remove es) first.1)
 
 -- where none has it, all stay
 without_none : {K X : Type 0} (R : K → K → Ordering) (o : IsTotalOrder R) (k : K) (es : List (K × X)) → is_sorted R es ≡ true
@@ -234,16 +234,16 @@ module _ {X : Type 0} where
       let same : CoefficientKey × X → Bool = λ e. same_bytes column e.0.column in
       true_from (is_sorted key_cmp (filter same es)) (sorted-filtered same es (T_from (is_sorted key_cmp es) sorted))
 
-  -- those of rows are all but the one at the objective's place
+  -- those of rows are all but the one at the objective's key
   beside_objective : (objective column : List ℕ) (es : List (CoefficientKey × X))
       → filter (λ e. not (same_bytes objective e.0.row) && same_bytes column e.0.column) es
       ≡ filter (λ e. not (is_eq (key_cmp (record { row = objective; column = column }) e.0))) (filter (λ e. same_bytes column e.0.column) es)
   beside_objective objective column [] = refl
   beside_objective objective column (e ∷ es) =
-      let place : CoefficientKey = record { row = objective; column = column } in
-      keep_step (λ (y : CoefficientKey × X). not (is_eq (key_cmp place y.0))) e
+      let key : CoefficientKey = record { row = objective; column = column } in
+      keep_step (λ (y : CoefficientKey × X). not (is_eq (key_cmp key y.0))) e
       (filter (λ (y : CoefficientKey × X). not (same_bytes objective y.0.row) && same_bytes column y.0.column) es) (filter (λ (y : CoefficientKey × X). same_bytes column y.0.column) es)
-      (same_bytes objective e.0.row) (same_bytes column e.0.column) (ap not (sym (key_ties place e.0))) (beside_objective objective column es)
+      (same_bytes objective e.0.row) (same_bytes column e.0.column) (ap not (sym (key_ties key e.0))) (beside_objective objective column es)
 
   abbrev pub elements : List ℕ → List ℕ → List (CoefficientKey × X) → List (CoefficientKey × X)
   elements objective column es = filter (λ e. not (same_bytes objective e.0.row) && same_bytes column e.0.column) es
@@ -254,17 +254,17 @@ module _ {X : Type 0} where
       → position (λ e. is_eq (key_cmp (record { row = objective; column = column }) e.0)) part ≡ Some i
       → (i < length part) × (elements objective column es ≡ remove part i)
   elements_beside objective column es part i own sorted at =
-      let place : CoefficientKey = record { row = objective; column = column } in
-      let found = without_found key_cmp key_total place part i sorted at in
-      (found.0, beside_objective objective column es ∙ ap (filter (λ (e : CoefficientKey × X). not (is_eq (key_cmp place e.0)))) (sym own) ∙ found.1)
+      let key : CoefficientKey = record { row = objective; column = column } in
+      let found = without_found key_cmp key_total key part i sorted at in
+      (found.0, beside_objective objective column es ∙ ap (filter (λ (e : CoefficientKey × X). not (is_eq (key_cmp key e.0)))) (sym own) ∙ found.1)
 
   pub elements_whole : (objective column : List ℕ) (es part : List (CoefficientKey × X))
       → part ≡ filter (λ e. same_bytes column e.0.column) es → is_sorted key_cmp part ≡ true
       → position (λ e. is_eq (key_cmp (record { row = objective; column = column }) e.0)) part ≡ None → elements objective column es ≡ part
   elements_whole objective column es part own sorted at =
-      let place : CoefficientKey = record { row = objective; column = column } in
-      beside_objective objective column es ∙ ap (filter (λ (e : CoefficientKey × X). not (is_eq (key_cmp place e.0)))) (sym own)
-      ∙ without_none key_cmp key_total place part sorted at
+      let key : CoefficientKey = record { row = objective; column = column } in
+      beside_objective objective column es ∙ ap (filter (λ (e : CoefficientKey × X). not (is_eq (key_cmp key e.0)))) (sym own)
+      ∙ without_none key_cmp key_total key part sorted at
 
 -- ---- one left out
 

@@ -143,19 +143,19 @@ good-adding all b (declare_column name) g legal known allowed = record {
   columns_sorted = is_sorted-put bytes_cmp nat_list_cmp_total name tt b.columns g.columns_sorted;
   coefficients_sorted = g.coefficients_sorted;
 }
-good-adding all b (declare_coefficient place value) g legal known allowed = record {
+good-adding all b (declare_coefficient key value) g legal known allowed = record {
   objective = g.objective;
   constant = g.constant;
   rows = g.rows;
   rhs_values = g.rhs_values;
   columns = g.columns;
-  coefficients = put_keys (λ (e : CoefficientKey × Number). is_decimal e.1 && (has_row all e.0.row && has_column all e.0.column)) place value b.coefficients
-      (both_so (is_decimal value) (has_row all place.row && has_column all place.column) legal known) g.coefficients;
+  coefficients = put_keys (λ (e : CoefficientKey × Number). is_decimal e.1 && (has_row all e.0.row && has_column all e.0.column)) key value b.coefficients
+      (both_so (is_decimal value) (has_row all key.row && has_column all key.column) legal known) g.coefficients;
   lowers = g.lowers;
   uppers = g.uppers;
   rows_sorted = g.rows_sorted;
   columns_sorted = g.columns_sorted;
-  coefficients_sorted = is_sorted-put key_cmp key_total place value b.coefficients g.coefficients_sorted;
+  coefficients_sorted = is_sorted-put key_cmp key_total key value b.coefficients g.coefficients_sorted;
 }
 good-adding all b (declare_lower column limit) g legal known allowed = record {
   objective = g.objective;

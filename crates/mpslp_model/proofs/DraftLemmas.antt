@@ -27,7 +27,7 @@ column_part (declare_column name) = (name, tt) ∷ []
 column_part _ = []
 
 abbrev pub coefficient_part : Declaration → List (CoefficientKey × Number)
-coefficient_part (declare_coefficient place value) = (place, value) ∷ []
+coefficient_part (declare_coefficient key value) = (key, value) ∷ []
 coefficient_part _ = []
 
 abbrev pub lower_part : Declaration → List (List ℕ × Limit)
@@ -93,7 +93,7 @@ columns-all (d ∷ ds) all =
     columns-all ds (adding all d) ∙ ap (puts bytes_cmp (flat_map column_part ds)) (columns-one all d) ∙ sym (puts-append bytes_cmp (column_part d) (flat_map column_part ds) all.columns)
 
 coefficients-one : (all : Draft) (d : Declaration) → (adding all d).coefficients ≡ puts key_cmp (coefficient_part d) all.coefficients
-coefficients-one all (declare_coefficient place value) = refl
+coefficients-one all (declare_coefficient key value) = refl
 coefficients-one all _ = refl
 
 pub coefficients-all : (ds : Declarations) (all : Draft) → (adding_all all ds).coefficients ≡ puts key_cmp (flat_map coefficient_part ds) all.coefficients

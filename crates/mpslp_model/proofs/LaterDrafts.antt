@@ -140,10 +140,10 @@ has_row-after before after q e h =
 pub known-after : (before after : Draft) (d : Declaration) → Extends before after → is_known before d ≡ true → is_known after d ≡ true
 known-after before after (declare_rhs row v) e h = has_row-after before after row e h
 known-after before after (declare_range row v) e h = has_row-after before after row e h
-known-after before after (declare_coefficient place v) e h =
-    both_so (has_row after place.row) (has_column after place.column)
-    (has_row-after before after place.row e (first_so (has_row before place.row) (has_column before place.column) h))
-    (e.column place.column (second_so (has_row before place.row) (has_column before place.column) h))
+known-after before after (declare_coefficient key v) e h =
+    both_so (has_row after key.row) (has_column after key.column)
+    (has_row-after before after key.row e (first_so (has_row before key.row) (has_column before key.column) h))
+    (e.column key.column (second_so (has_row before key.row) (has_column before key.column) h))
 known-after before after (declare_lower c l) e h = e.column c h
 known-after before after (declare_upper c l) e h = e.column c h
 known-after before after (declare_marked c) e h = e.column c h

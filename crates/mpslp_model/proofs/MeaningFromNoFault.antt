@@ -269,18 +269,18 @@ meant-from_no_fault all w none =
     sound_coefficient : (all : Draft) (m : LinearModel) (e : CoefficientKey × Number) → maps.keys m.rows ≡ names_in all.rows → maps.keys m.columns ≡ names_in all.columns → m.objective ≡ objective_name all
         → ((is_decimal e.1 && (has_row all e.0.row && has_column all e.0.column)) && not (is_zero e.1)) ≡ true → is_sound_coefficient m e ≡ true
     sound_coefficient all m e rows columns objective h =
-        let place = e.0 in
-        let known = has_row all place.row && has_column all place.column in
+        let key = e.0 in
+        let known = has_row all key.row && has_column all key.column in
         let a = first_so (is_decimal e.1 && known) (not (is_zero e.1)) h in
         let k = second_so (is_decimal e.1) known a in
-        let column : is_one_of (maps.keys m.columns) place.column ≡ true = ap (λ (names : List (List ℕ)). is_one_of names place.column) columns ∙ one_of-names place.column all.columns ∙ second_so (has_row all place.row) (has_column all place.column) k in
-        let row : is_one_of (m.objective ∷ maps.keys m.rows) place.row ≡ true =
-        (λ i. is_one_of (objective i ∷ rows i) place.row) ∙ named_row all.objective place.row (is_one_of (names_in all.rows) place.row) (has_name all.rows place.row) (one_of-names place.row all.rows) (first_so (has_row all place.row) (has_column all place.column) k) in
-        both_so (is_decimal e.1) (not (is_zero e.1) && (is_one_of (maps.keys m.columns) place.column && is_one_of (m.objective ∷ maps.keys m.rows) place.row))
+        let column : is_one_of (maps.keys m.columns) key.column ≡ true = ap (λ (names : List (List ℕ)). is_one_of names key.column) columns ∙ one_of-names key.column all.columns ∙ second_so (has_row all key.row) (has_column all key.column) k in
+        let row : is_one_of (m.objective ∷ maps.keys m.rows) key.row ≡ true =
+        (λ i. is_one_of (objective i ∷ rows i) key.row) ∙ named_row all.objective key.row (is_one_of (names_in all.rows) key.row) (has_name all.rows key.row) (one_of-names key.row all.rows) (first_so (has_row all key.row) (has_column all key.column) k) in
+        both_so (is_decimal e.1) (not (is_zero e.1) && (is_one_of (maps.keys m.columns) key.column && is_one_of (m.objective ∷ maps.keys m.rows) key.row))
         (first_so (is_decimal e.1) known a)
-        (both_so (not (is_zero e.1)) (is_one_of (maps.keys m.columns) place.column && is_one_of (m.objective ∷ maps.keys m.rows) place.row)
+        (both_so (not (is_zero e.1)) (is_one_of (maps.keys m.columns) key.column && is_one_of (m.objective ∷ maps.keys m.rows) key.row)
         (second_so (is_decimal e.1 && known) (not (is_zero e.1)) h)
-        (both_so (is_one_of (maps.keys m.columns) place.column) (is_one_of (m.objective ∷ maps.keys m.rows) place.row) column row))
+        (both_so (is_one_of (maps.keys m.columns) key.column) (is_one_of (m.objective ∷ maps.keys m.rows) key.row) column row))
 
 -- Consistent declarations with legal names and values, without a fault of the whole, mean the model of their draft.
 pub means-from_no_fault : (declarations : Declarations) → AreConsistent declarations → list_all is_legal declarations ≡ true → file_fault (draft_of declarations) ≡ None → Means declarations (model_of (draft_of declarations))

@@ -242,13 +242,13 @@ fine-from_none all (declare_range row v) w h =
       allowed = both_so (not free) (not infinite) (so_not free (first_none free builds.RangeOnFree tail3 h2)) (so_not infinite (first_none infinite builds.InfiniteValue [] h3));
     }
 fine-from_none all (declare_column name) w h = record { fresh = refl; known = refl; allowed = refl }
-fine-from_none all (declare_coefficient place v) w h =
-    let tail2 : Tests = ((has_entry all place), builds.DuplicateEntry) ∷ [] in
-    let tail1 : Tests = ((not (has_column all place.column)), builds.UnknownColumn) ∷ tail2 in
-    let h1 = rest_none (not (has_row all place.row)) builds.UnknownRow tail1 h in
+fine-from_none all (declare_coefficient key v) w h =
+    let tail2 : Tests = ((has_entry all key), builds.DuplicateEntry) ∷ [] in
+    let tail1 : Tests = ((not (has_column all key.column)), builds.UnknownColumn) ∷ tail2 in
+    let h1 = rest_none (not (has_row all key.row)) builds.UnknownRow tail1 h in
     record {
-      fresh = one_slot (has_entry all place) (first_none (has_entry all place) builds.DuplicateEntry [] (rest_none (not (has_column all place.column)) builds.UnknownColumn tail2 h1));
-      known = both_so (has_row all place.row) (has_column all place.column) (is_false (has_row all place.row) (first_none (not (has_row all place.row)) builds.UnknownRow tail1 h)) (is_false (has_column all place.column) (first_none (not (has_column all place.column)) builds.UnknownColumn tail2 h1));
+      fresh = one_slot (has_entry all key) (first_none (has_entry all key) builds.DuplicateEntry [] (rest_none (not (has_column all key.column)) builds.UnknownColumn tail2 h1));
+      known = both_so (has_row all key.row) (has_column all key.column) (is_false (has_row all key.row) (first_none (not (has_row all key.row)) builds.UnknownRow tail1 h)) (is_false (has_column all key.column) (first_none (not (has_column all key.column)) builds.UnknownColumn tail2 h1));
       allowed = refl;
     }
 fine-from_none all (declare_lower column limit) w h =
@@ -411,12 +411,12 @@ none-from_fine all (declare_range row v) f one =
     (pass free builds.RangeOnFree tail3 (not_so free (first_so (not free) (not infinite) f.allowed))
     (pass infinite builds.InfiniteValue [] (not_so infinite (second_so (not free) (not infinite) f.allowed)) refl)))
 none-from_fine all (declare_column name) f one = refl
-none-from_fine all (declare_coefficient place v) f one =
-    let tail2 : Tests = (has_entry all place, builds.DuplicateEntry) ∷ [] in
-    let tail1 : Tests = (not (has_column all place.column), builds.UnknownColumn) ∷ tail2 in
-    pass (not (has_row all place.row)) builds.UnknownRow tail1 (ap not (first_so (has_row all place.row) (has_column all place.column) f.known))
-    (pass (not (has_column all place.column)) builds.UnknownColumn tail2 (ap not (second_so (has_row all place.row) (has_column all place.column) f.known))
-    (pass (has_entry all place) builds.DuplicateEntry [] (one_slot_of (has_entry all place) f.fresh) refl))
+none-from_fine all (declare_coefficient key v) f one =
+    let tail2 : Tests = (has_entry all key, builds.DuplicateEntry) ∷ [] in
+    let tail1 : Tests = (not (has_column all key.column), builds.UnknownColumn) ∷ tail2 in
+    pass (not (has_row all key.row)) builds.UnknownRow tail1 (ap not (first_so (has_row all key.row) (has_column all key.column) f.known))
+    (pass (not (has_column all key.column)) builds.UnknownColumn tail2 (ap not (second_so (has_row all key.row) (has_column all key.column) f.known))
+    (pass (has_entry all key) builds.DuplicateEntry [] (one_slot_of (has_entry all key) f.fresh) refl))
 none-from_fine all (declare_lower c limit) f one =
     let tail2 : Tests = (is_plus_infinite limit, builds.InfiniteValue) ∷ [] in
     pass (not (has_column all c)) builds.UnknownColumn ((has_name all.lowers c, builds.DuplicateBound) ∷ tail2) (ap not f.known)

@@ -49,7 +49,7 @@ is_filled all constant_slot = is_some all.constant
 is_filled all (row_slot name) = has_row all name
 is_filled all (rhs_slot name) = has_name all.rhs_values name || is_row_by_limits all name
 is_filled all (range_slot name) = has_name all.ranges name || is_row_by_limits all name
-is_filled all (coefficient_slot place) = has_entry all place
+is_filled all (coefficient_slot key) = has_entry all key
 is_filled all (lower_slot name) = has_name all.lowers name
 is_filled all (upper_slot name) = has_name all.uppers name
 
@@ -139,7 +139,7 @@ filled-adding all (declare_rhs row v) (rhs_slot n) h =
     ap (λ (b : Bool). b || is_row_by_limits all n) (has-put n row v all.rhs_values) ∙ after_or (same_bytes n row) true (has_name all.rhs_values n) (is_row_by_limits all n)
 filled-adding all (declare_range row v) (range_slot n) h =
     ap (λ (b : Bool). b || is_row_by_limits all n) (has-put n row v all.ranges) ∙ after_or (same_bytes n row) true (has_name all.ranges n) (is_row_by_limits all n)
-filled-adding all (declare_coefficient place v) (coefficient_slot p) h = has-put_key p place v all.coefficients ∙ or_end (same_bytes p.row place.row && same_bytes p.column place.column) (has_entry all p)
+filled-adding all (declare_coefficient key v) (coefficient_slot p) h = has-put_key p key v all.coefficients ∙ or_end (same_bytes p.row key.row && same_bytes p.column key.column) (has_entry all p)
 filled-adding all (declare_lower name v) (lower_slot n) h = has-put n name v all.lowers ∙ or_end (same_bytes n name) (has_name all.lowers n)
 filled-adding all (declare_upper name v) (upper_slot n) h = has-put n name v all.uppers ∙ or_end (same_bytes n name) (has_name all.uppers n)
 filled-adding all (declare_sense x) sense_slot h = refl

@@ -35,8 +35,8 @@ pub invariant_of-self-2 : goal.invariant_of-self-2
 invariant_of-self-2 c =
     let d = declare_coefficient (record { row = c.args.row.now; column = c.args.column.now }) c.args.value in
     let none = none_refused (refusals c.args.self.now d) c.in_ok-check_coefficient.ensures in
-    let place : ◌≡◌ {A = CoefficientKey} c.new.result (record { row = c.args.row.now; column = c.args.column.now }) =
+    let key : ◌≡◌ {A = CoefficientKey} c.new.result (record { row = c.args.row.now; column = c.args.column.now }) =
     c.new.ensures ∙ (λ i. record { row = c.in_ok-row_name.ensures i; column = c.in_ok-column_name.ensures i }) in
     subst (λ (coefficients : List (CoefficientKey × Number)). IsMade (record (draft c.self.inside) { coefficients = coefficients }))
-    (sym (c.in_ok-put.ensures.ok ∙ ap (λ (p : CoefficientKey). put key_cmp p c.args.value c.self.inside.coefficients) place))
+    (sym (c.in_ok-put.ensures.ok ∙ ap (λ (p : CoefficientKey). put key_cmp p c.args.value c.self.inside.coefficients) key))
     (made_next d c.self.view_is c.self.invariant c.each_value_is_a_decimal.ensures none)
