@@ -29,12 +29,12 @@ is_kept value = not (is_zero value)
 abbrev pub place_at : List ℕ → List ℕ → CoefficientKey
 place_at row column = record { row = row; column = column }
 
--- what is printed at a place is what is there; 0 is printed where nothing is
+-- what is printed at a key is what is there; 0 is printed where nothing is
 abbrev pub IsTrueCell : List (CoefficientKey × Number) → List ℕ → List ℕ × Number → Type 0
 IsTrueCell coefficients column cell = find key_cmp (place_at cell.0 column) coefficients ≡ cond (is_kept cell.1) (Some cell.1) None
 
 abbrev AllKept : List (CoefficientKey × Number) → Type 0
-AllKept coefficients = (place : CoefficientKey) (value : Number) → find key_cmp place coefficients ≡ Some value → is_kept value ≡ true
+AllKept coefficients = (key : CoefficientKey) (value : Number) → find key_cmp key coefficients ≡ Some value → is_kept value ≡ true
 
 cells-true : (coefficients : List (CoefficientKey × Number)) (column : List ℕ) → AllKept coefficients → (rows : List (List ℕ)) → Each (IsTrueCell coefficients column) (filter_map (cell_at coefficients column) rows)
 cells-true coefficients column kept [] = tt
@@ -73,7 +73,7 @@ columns-true m kept columns =
 -- ---- each coefficient is printed
 
 abbrev SomeAt : CoefficientKey → List (CoefficientKey × Number) → Type 0
-SomeAt place es = is_some (find key_cmp place es) ≡ true
+SomeAt key es = is_some (find key_cmp key es) ≡ true
 
 row-hit : (coefficients : List (CoefficientKey × Number)) (row column : List ℕ) (value : Number) → find key_cmp (place_at row column) coefficients ≡ Some value → (rows : List (List ℕ)) → is_one_of rows row ≡ true
     → SomeAt (place_at row column) (flat_map own_coefficient (map (to_cell column) (filter_map (cell_at coefficients column) rows)))
@@ -95,56 +95,56 @@ row-hit coefficients row column value is (x ∷ rows) h =
     by false e k (Some d) at more =
         some_cons key_cmp key_total same_key (place_at row column) (place_at x column) d (flat_map own_coefficient (map (to_cell column) (filter_map (cell_at coefficients column) rows))) (more k)
 
-printed-hit : (place : CoefficientKey) (column objective : List ℕ) (cells : List (List ℕ × Number)) → SomeAt place (flat_map own_coefficient (map (to_cell column) cells))
-    → SomeAt place (flat_map own_coefficient (map (to_cell column) (printed_cells objective cells)))
-printed-hit place column objective [] h = cc
-printed-hit place column objective (cell ∷ cells) h = h
+printed-hit : (key : CoefficientKey) (column objective : List ℕ) (cells : List (List ℕ × Number)) → SomeAt key (flat_map own_coefficient (map (to_cell column) cells))
+    → SomeAt key (flat_map own_coefficient (map (to_cell column) (printed_cells objective cells)))
+printed-hit key column objective [] h = cc
+printed-hit key column objective (cell ∷ cells) h = h
 
 any-name : (name : List ℕ) (columns : List (List ℕ × Column)) → is_one_of (names_in columns) name ≡ list_any (λ column. same_bytes name column.0) columns
 any-name name [] = refl
 any-name name (column ∷ columns) = ap (λ (b : Bool). same_bytes name column.0 || b) (any-name name columns)
 
-join-some : (place : CoefficientKey) (left right : List (CoefficientKey × Number)) → (is_some (find key_cmp place left) || is_some (find key_cmp place right)) ≡ true → SomeAt place (left ++ right)
-join-some place left right h = by (is_some (find key_cmp place left)) refl h
+join-some : (key : CoefficientKey) (left right : List (CoefficientKey × Number)) → (is_some (find key_cmp key left) || is_some (find key_cmp key right)) ≡ true → SomeAt key (left ++ right)
+join-some key left right h = by (is_some (find key_cmp key left)) refl h
   where
-    by : (b : Bool) → is_some (find key_cmp place left) ≡ b → (b || is_some (find key_cmp place right)) ≡ true → SomeAt place (left ++ right)
-    by true e k = some_append_left key_cmp key_total same_key place left right e
-    by false e k = some_append_right key_cmp key_total same_key place left right k
+    by : (b : Bool) → is_some (find key_cmp key left) ≡ b → (b || is_some (find key_cmp key right)) ≡ true → SomeAt key (left ++ right)
+    by true e k = some_append_left key_cmp key_total same_key key left right e
+    by false e k = some_append_right key_cmp key_total same_key key left right k
 
 module _ (m : Listing) (h : IsSoundListing m) where
   abbrev IsSoundAt : CoefficientKey → Number → Type 0
-  IsSoundAt place value = is_sound_entry m (place, value) ≡ true
+  IsSoundAt key value = is_sound_entry m (key, value) ≡ true
 
-  sound-at : (place : CoefficientKey) (value : Number) → find key_cmp place m.coefficients ≡ Some value → IsSoundAt place value
-  sound-at place value is = found-each key_cmp key_total same_key IsSoundAt m.coefficients h.coefficients place value is
+  sound-at : (key : CoefficientKey) (value : Number) → find key_cmp key m.coefficients ≡ Some value → IsSoundAt key value
+  sound-at key value is = found-each key_cmp key_total same_key IsSoundAt m.coefficients h.coefficients key value is
 
   all-kept : AllKept m.coefficients
-  all-kept place value is =
-      first_so (is_kept value) _ (second_so (is_decimal value) _ (sound-at place value is))
+  all-kept key value is =
+      first_so (is_kept value) _ (second_so (is_decimal value) _ (sound-at key value is))
 
-  hit : (place : CoefficientKey) (value : Number) → find key_cmp place m.coefficients ≡ Some value → (column : List ℕ × Column) → same_bytes place.column column.0 ≡ true
-      → SomeAt place (flat_map own_coefficient (cells_in m column))
-  hit place value is column e =
-      let named : place.column ≡ column.0 = same_name place.column column.0 e in
-      let here : find key_cmp (place_at place.row column.0) m.coefficients ≡ Some value = ap (λ (n : List ℕ). find key_cmp (place_at place.row n) m.coefficients) (sym named) ∙ is in
-      let names = is_one_of (names_in m.columns) place.column in
-      let rows = is_one_of (m.objective ∷ names_in m.rows) place.row in
-      let there : rows ≡ true = second_so names rows (second_so (is_kept value) (names && rows) (second_so (is_decimal value) (is_kept value && (names && rows)) (sound-at place value is))) in
-      ap (λ (n : List ℕ). is_some (find key_cmp (place_at place.row n) (flat_map own_coefficient (cells_in m column)))) named
-      ∙ printed-hit (place_at place.row column.0) column.0 m.objective (column_cells m column.0)
-      (row-hit m.coefficients place.row column.0 value here (m.objective ∷ map (λ row. row.0) m.rows) there)
+  hit : (key : CoefficientKey) (value : Number) → find key_cmp key m.coefficients ≡ Some value → (column : List ℕ × Column) → same_bytes key.column column.0 ≡ true
+      → SomeAt key (flat_map own_coefficient (cells_in m column))
+  hit key value is column e =
+      let named : key.column ≡ column.0 = same_name key.column column.0 e in
+      let here : find key_cmp (place_at key.row column.0) m.coefficients ≡ Some value = ap (λ (n : List ℕ). find key_cmp (place_at key.row n) m.coefficients) (sym named) ∙ is in
+      let names = is_one_of (names_in m.columns) key.column in
+      let rows = is_one_of (m.objective ∷ names_in m.rows) key.row in
+      let there : rows ≡ true = second_so names rows (second_so (is_kept value) (names && rows) (second_so (is_decimal value) (is_kept value && (names && rows)) (sound-at key value is))) in
+      ap (λ (n : List ℕ). is_some (find key_cmp (place_at key.row n) (flat_map own_coefficient (cells_in m column)))) named
+      ∙ printed-hit (place_at key.row column.0) column.0 m.objective (column_cells m column.0)
+      (row-hit m.coefficients key.row column.0 value here (m.objective ∷ map (λ row. row.0) m.rows) there)
 
-  each-printed : (place : CoefficientKey) → SomeAt place m.coefficients
-      → SomeAt place (from_cells own_coefficient m (filter is_continuous_column m.columns) ++ from_cells own_coefficient m (filter (λ column. not (is_continuous_column column)) m.columns))
-  each-printed place some =
-      let found = value_in (find key_cmp place m.coefficients) some in
-      let names = is_one_of (names_in m.columns) place.column in
-      let rows = is_one_of (m.objective ∷ names_in m.rows) place.row in
-      let sound = sound-at place found.0 found.1 in
+  each-printed : (key : CoefficientKey) → SomeAt key m.coefficients
+      → SomeAt key (from_cells own_coefficient m (filter is_continuous_column m.columns) ++ from_cells own_coefficient m (filter (λ column. not (is_continuous_column column)) m.columns))
+  each-printed key some =
+      let found = value_in (find key_cmp key m.coefficients) some in
+      let names = is_one_of (names_in m.columns) key.column in
+      let rows = is_one_of (m.objective ∷ names_in m.rows) key.row in
+      let sound = sound-at key found.0 found.1 in
       let there : names ≡ true = first_so names rows (second_so (is_kept found.0) (names && rows) (second_so (is_decimal found.0) (is_kept found.0 && (names && rows)) sound)) in
-      join-some place (from_cells own_coefficient m (filter is_continuous_column m.columns)) (from_cells own_coefficient m (filter (λ column. not (is_continuous_column column)) m.columns))
-      (found-either key_cmp key_total same_key (λ column. flat_map own_coefficient (cells_in m column)) is_continuous_column (λ column. same_bytes place.column column.0) place m.columns
-      (sym (any-name place.column m.columns) ∙ there) (hit place found.0 found.1))
+      join-some key (from_cells own_coefficient m (filter is_continuous_column m.columns)) (from_cells own_coefficient m (filter (λ column. not (is_continuous_column column)) m.columns))
+      (found-either key_cmp key_total same_key (λ column. flat_map own_coefficient (cells_in m column)) is_continuous_column (λ column. same_bytes key.column column.0) key m.columns
+      (sym (any-name key.column m.columns) ∙ there) (hit key found.0 found.1))
 
   -- The coefficients that are declared, but for the zeros, are the listing's.
   pub coefficients-kept : filter (λ entry. not (is_zero entry.1)) (drafted m).coefficients ≡ m.coefficients

@@ -60,7 +60,7 @@ stays-one all (declare_row name form) h sides = cc
 stays-one all (declare_rhs row value) h sides = cc
 stays-one all (declare_range row value) h sides = record { known = sides.known; limited = sides.limited; constant = sides.constant }
 stays-one all (declare_column name) h sides = record { known = sides.known; limited = sides.limited; constant = sides.constant }
-stays-one all (declare_coefficient place value) h sides = record { known = sides.known; limited = sides.limited; constant = sides.constant }
+stays-one all (declare_coefficient key value) h sides = record { known = sides.known; limited = sides.limited; constant = sides.constant }
 stays-one all (declare_lower column side) h sides = record { known = sides.known; limited = sides.limited; constant = sides.constant }
 stays-one all (declare_upper column side) h sides = record { known = sides.known; limited = sides.limited; constant = sides.constant }
 stays-one all (declare_marked column) h sides = record { known = sides.known; limited = sides.limited; constant = sides.constant }

@@ -39,8 +39,8 @@ in-one-column row other column =
     let same : bytes_cmp column column ≡ Equal = tied_itself bytes_total column in
     simp (same, then-equal)
 
-as-rows : (column row : List ℕ) (place : CoefficientKey) → place.column ≡ column → key_cmp (place_at row column) place ≡ bytes_cmp row place.row
-as-rows column row place same = subst (λ (c : List ℕ). key_cmp (place_at row c) place ≡ bytes_cmp row place.row) same (in-one-column row place.row place.column)
+as-rows : (column row : List ℕ) (key : CoefficientKey) → key.column ≡ column → key_cmp (place_at row column) key ≡ bytes_cmp row key.row
+as-rows column row key same = subst (λ (c : List ℕ). key_cmp (place_at row c) key ≡ bytes_cmp row key.row) same (in-one-column row key.row key.column)
 
 as-places : (column : List ℕ) (a b : CoefficientKey) → a.column ≡ column → b.column ≡ column → key_cmp a b ≡ bytes_cmp a.row b.row
 as-places column a b here there = subst (λ (c : List ℕ). key_cmp (place_at a.row c) b ≡ bytes_cmp a.row b.row) (sym here) (as-rows column a.row b there)
@@ -53,13 +53,13 @@ by_row entry = (entry.0.row, entry.1)
 abbrev InColumn : List ℕ → CoefficientKey × Number → Type 0
 InColumn column entry = entry.0.column ≡ column
 
-rows-below : (column : List ℕ) (place : CoefficientKey) (es : List (CoefficientKey × Number)) → place.column ≡ column → Each (InColumn column) es → below_all key_cmp place es ≡ true
-    → below_all bytes_cmp place.row (map by_row es) ≡ true
-rows-below column place [] here h below = refl
-rows-below column place (e ∷ es) here h below =
-    both_so (is_lt (bytes_cmp place.row e.0.row)) (below_all bytes_cmp place.row (map by_row es))
-    (sym (ap is_lt (as-places column place e.0 here h.0)) ∙ first_so (is_lt (key_cmp place e.0)) (below_all key_cmp place es) below)
-    (rows-below column place es here h.1 (second_so (is_lt (key_cmp place e.0)) (below_all key_cmp place es) below))
+rows-below : (column : List ℕ) (key : CoefficientKey) (es : List (CoefficientKey × Number)) → key.column ≡ column → Each (InColumn column) es → below_all key_cmp key es ≡ true
+    → below_all bytes_cmp key.row (map by_row es) ≡ true
+rows-below column key [] here h below = refl
+rows-below column key (e ∷ es) here h below =
+    both_so (is_lt (bytes_cmp key.row e.0.row)) (below_all bytes_cmp key.row (map by_row es))
+    (sym (ap is_lt (as-places column key e.0 here h.0)) ∙ first_so (is_lt (key_cmp key e.0)) (below_all key_cmp key es) below)
+    (rows-below column key es here h.1 (second_so (is_lt (key_cmp key e.0)) (below_all key_cmp key es) below))
 
 rows-sorted : (column : List ℕ) (es : List (CoefficientKey × Number)) → Each (InColumn column) es → is_sorted key_cmp es ≡ true → is_sorted bytes_cmp (map by_row es) ≡ true
 rows-sorted column [] h sorted = refl
@@ -128,7 +128,7 @@ module _ (coefficients : List (CoefficientKey × Number)) (column : List ℕ) wh
 -- ---- both are the same
 
 abbrev is_of : List ℕ → List ℕ → CoefficientKey → Bool
-is_of objective column place = not (same_bytes objective place.row) && same_bytes column place.column
+is_of objective column key = not (same_bytes objective key.row) && same_bytes column key.column
 
 module _ (m : Listing) (h : IsSoundListing m) (column : List ℕ) where
   abbrev elements : List (CoefficientKey × Number)
@@ -156,7 +156,7 @@ module _ (m : Listing) (h : IsSoundListing m) (column : List ℕ) where
       there =
           let columns = is_one_of (names_in m.columns) column in
           let rows = is_one_of (m.objective ∷ names_in m.rows) row in
-          let sound = found-each key_cmp key_total same_key (λ place value. is_sound_entry m (place, value) ≡ true) m.coefficients h.coefficients (place_at row column) v is in
+          let sound = found-each key_cmp key_total same_key (λ key value. is_sound_entry m (key, value) ≡ true) m.coefficients h.coefficients (place_at row column) v is in
           second_so columns rows (second_so (not (is_zero v)) (columns && rows) (second_so (is_decimal v) (not (is_zero v) && (columns && rows)) sound))
 
       by : (b : Bool) → same_bytes row m.objective ≡ b → (b || is_one_of (names_in m.rows) row) ≡ true

@@ -99,7 +99,7 @@ module _ (m : LinearModel) (sound : IsSound m) (column : List ℕ) where
   not-zero : (v : Number) → here ≡ Some v → is_zero v ≡ false
   not-zero v is =
       let h = sound-listing m sound in
-      let at = found-each key_cmp key_total same_key (λ place value. is_sound_entry (listing_of m) (place, value) ≡ true) (listing_of m).coefficients h.coefficients (place_at m.objective column) v is in
+      let at = found-each key_cmp key_total same_key (λ key value. is_sound_entry (listing_of m) (key, value) ≡ true) (listing_of m).coefficients h.coefficients (place_at m.objective column) v is in
       not_so (is_zero v) (first_so (not (is_zero v)) _ (second_so (is_decimal v) _ at))
 
   joined : (o : Option Number) (es : List (CoefficientKey × Number)) → ((v : Number) → o ≡ Some v → is_zero v ≡ false)
