@@ -98,7 +98,7 @@ bounds-walk set bounds before earlier h f good =
     under-walk Bounds late-bounds (bound_item set) bound_decl bounds before earlier h f (section-walk (bound_item set) bound_decl (InBounds set) (bound_step set) bounds there earlier inside).0
 
 -- the end
-pub end-walk : (before : List Item) (earlier : Draft) → IsLate before earlier → Walk before earlier (header_item EndData ∷ []) []
-end-walk before earlier h =
+pub end-walk : (before : List Item) (earlier : Draft) → IsLate before earlier → has_section before EndData ≡ false → Walk before earlier (header_item EndData ∷ []) []
+end-walk before earlier h f =
     walk-cons before earlier (header_item EndData) [] [] [] (header-says EndData before earlier h.objective)
-    (header-good EndData before earlier (record { settled = h.settled; fresh = refl; begins = h.columns })) (walk-nil (before ++ header_item EndData ∷ []) earlier)
+    (header-good EndData before earlier (record { settled = h.settled; fresh = f; begins = h.columns })) (walk-nil (before ++ header_item EndData ∷ []) earlier)

@@ -4,19 +4,18 @@ use Rattle.std.specs.Prelude.{Option, Some, None, is_some, is_none, ◌||◌, fi
 use Rattle.std.specs.List.{list_any, last_or}
 use Rattle.std.specs.Option.{option_or, option_map_or}
 use Rattle.std.proofs.lemmas.List.{append-nil}
-use Rattle.std.proofs.lemmas.List.Folds.{list_any-append}
 use Rattle.mpslp_model.specs.Declaration.{declare_sense, Draft}
 use Rattle.mpslp_types.specs.declared.kinds.Sense.TheVariants.{Maximize}
 use Rattle.mpslp_types.proofs.BoolLemmas.{nor, back}
 use Rattle.mpslp_mps.specs.Line.{Fields, Item, skipped, header, data_line}
 use Rattle.mpslp_mps.specs.Section.{keyword_of, section_begun, section_named, begins, is_section}
-use Rattle.mpslp_mps.specs.Context.{context_of, current_section, has_section, seen_in, has_seen, fields_under, data_lines_after, data_lines, is_read, wanting, wanted}
+use Rattle.mpslp_mps.specs.Context.{context_of, current_section, has_section, fields_under, data_lines_after, data_lines, is_read, wanting, wanted}
 use Rattle.mpslp_mps.specs.LineMeaning.{declared}
 use Rattle.mpslp_mps.specs.HeaderFault.{may_begin, is_out_of_order}
 use Rattle.mpslp_mps.proofs.PlacedLemmas.{form_faults}
 use Rattle.mpslp_mps.specs.declared.sections.Section.{Section}
 use Rattle.mpslp_mps.specs.declared.sections.Section.TheVariants.{Name, ObjSense, Rows, Columns, Rhs, Ranges, Bounds, EndData}
-use Rattle.mpslp_mps.proofs.SectionLemmas.{current_section-push}
+use Rattle.mpslp_mps.proofs.SectionLemmas.{current_section-push, has_section-append, has_section-cons}
 use Rattle.mpslp_mps.proofs.ContextLemmas.{wanted-push}
 
 -- a header that wants a word on a line of its own, and whether a word is to come
@@ -44,7 +43,7 @@ section_named-keyword EndData = refl
 -- OBJSENSE has its word or has not begun; the section has not begun, and may begin
 pub record MayStand (section : Section) (before : List Item) : Type 0 where
   pub settled : wants_word before ≡ false
-  pub fresh : has_seen (seen_in before) section ≡ false
+  pub fresh : has_section before section ≡ false
   pub begins : may_begin (context_of before) section ≡ true
 
 in_order : (section : Section) (before : List Item) → MayStand section before → is_out_of_order (context_of before) section ≡ false
@@ -53,7 +52,7 @@ in_order section before h = rw (h.settled, h.fresh, h.begins) refl
 pub header-good : (section : Section) (before : List Item) (earlier : Draft) → MayStand section before → form_faults (context_of before) earlier (header_item section) ≡ []
 header-good section before earlier h = by section (in_order section before h) h.fresh
   where
-    by : (s : Section) → is_out_of_order (context_of before) s ≡ false → has_seen (seen_in before) s ≡ false → form_faults (context_of before) earlier (header_item s) ≡ []
+    by : (s : Section) → is_out_of_order (context_of before) s ≡ false → has_section before s ≡ false → form_faults (context_of before) earlier (header_item s) ≡ []
     by Name o f = rw (o, f) refl
     by ObjSense o f = rw (o, f) refl
     by Rows o f = rw (o, f) refl
@@ -61,7 +60,7 @@ header-good section before earlier h = by section (in_order section before h) h.
     by Rhs o f = rw (o, f) refl
     by Ranges o f = rw (o, f) refl
     by Bounds o f = rw (o, f) refl
-    by EndData o f = rw o refl
+    by EndData o f = rw (o, f) refl
 
 -- a header declares nothing, but for the objective at COLUMNS where there was none
 pub header-says : (section : Section) (before : List Item) (earlier : Draft) → is_none earlier.objective ≡ false → declared (context_of before) earlier (header_item section) ≡ []
@@ -106,9 +105,9 @@ or_false false = refl
 pub has_section-data : {X : Type 0} (section : Section) (item : X → Item) → ((x : X) → section_begun (item x) ≡ None) → (xs : List X) (before : List Item)
     → has_section (before ++ map item xs) section ≡ has_section before section
 has_section-data section item none xs before =
-    list_any-append (begins section) before (map item xs) ∙ ap (λ (b : Bool). has_section before section || b) (all xs) ∙ or_false (has_section before section)
+    has_section-append section before (map item xs) ∙ ap (λ (b : Bool). has_section before section || b) (all xs) ∙ or_false (has_section before section)
   where
-    all : (ys : List _) → list_any (begins section) (map item ys) ≡ false
+    all : (ys : List _) → has_section (map item ys) section ≡ false
     all [] = refl
     all (y ∷ ys) = rw (none y) (all ys)
 
@@ -131,7 +130,7 @@ under_other section current (data_line fields) h = rw h refl
 lines_of_other : (section : Section) (before : List Item) (current : Option Section) → is_section section current ≡ false → has_section before section ≡ false → data_lines_after section current before ≡ []
 lines_of_other section [] current h k = refl
 lines_of_other section (item ∷ before) current h k =
-    let parts = nor (begins section item) (has_section before section) k in
+    let parts = nor (begins section item) (has_section before section) (sym (has_section-cons section item before) ∙ k) in
     ap (λ (lines : List Fields). lines ++ data_lines_after section (option_or (section_begun item) current) before) (under_other section current item h)
     ∙ lines_of_other section before (option_or (section_begun item) current) (other_section section (section_begun item) current h parts.0) parts.1
 
@@ -152,7 +151,7 @@ bare_begins (data_line fields) h = cc
 no_bare : (before : List Item) → has_section before ObjSense ≡ false → list_any is_bare before ≡ false
 no_bare [] h = refl
 no_bare (item ∷ before) h =
-    let parts = nor (begins ObjSense item) (has_section before ObjSense) h in
+    let parts = nor (begins ObjSense item) (has_section before ObjSense) (sym (has_section-cons ObjSense item before) ∙ h) in
     rw (back (is_bare item) (begins ObjSense item) (bare_begins item) parts.0) (no_bare before parts.1)
 
 -- without OBJSENSE no word is wanted

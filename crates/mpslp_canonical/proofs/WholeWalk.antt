@@ -3,7 +3,6 @@ use Rattle.std.proofs.Common.{◌≡◌, refl, sym, ap, ◌∙◌, List, [], ◌
 use Rattle.std.specs.Prelude.{Option, Some, None, is_some, is_none, ◌||◌, codes}
 use Rattle.std.specs.List.{flat_map}
 use Rattle.std.proofs.lemmas.List.{append-nil}
-use Rattle.std.proofs.lemmas.List.Folds.{list_any-append}
 use Rattle.mpslp_types.specs.Name.{is_mps_name}
 use Rattle.mpslp_model.specs.Declaration.{declare_objective, Declarations, Draft, empty_draft, adding_all, is_free_row}
 use Rattle.mpslp_types.specs.declared.kinds.Sense.{Sense}
@@ -15,6 +14,7 @@ use Rattle.mpslp_mps.specs.Context.{has_section, is_read}
 use Rattle.mpslp_canonical.proofs.HeaderWalk.{is_bare, wants_word, header_item, MayStand, has_section-data, settled-after}
 use Rattle.mpslp_mps.specs.declared.sections.Section.{Section}
 use Rattle.mpslp_mps.specs.declared.sections.Section.TheVariants.{Name, ObjSense, Rows, Columns, Rhs, Ranges, Bounds, EndData}
+use Rattle.mpslp_mps.proofs.SectionLemmas.{has_section-append, has_section-cons}
 use Rattle.mpslp_canonical.proofs.ItemsWalk.{Walk, walk-append}
 use Rattle.mpslp_reading.proofs.ObjectiveLemmas.{named-after}
 use Rattle.mpslp_canonical.proofs.RowsWalk.{RowItem, row_item, row_decl, Side, side_item, side_decl, range_decl, ReadsAs}
@@ -25,9 +25,6 @@ use Rattle.mpslp_canonical.proofs.CanonicalWalk.{IsLate, data-settled, sides-wal
 use Rattle.mpslp_canonical.proofs.EarlyWalk.{sense_items, sense_decl, start-walk, rows-may, objective_item, rows-walk, marker_item, part_items, AreColumns, columns-walk}
 
 -- ---- what has begun, section by section
-
-has-append : (section : Section) (before items : List Item) → has_section (before ++ items) section ≡ (has_section before section || has_section items section)
-has-append section before items = list_any-append (begins section) before items
 
 no-headers : {X : Type 0} (section : Section) (item : X → Item) → ((x : X) → section_begun (item x) ≡ None) → (xs : List X) → has_section (map item xs) section ≡ false
 no-headers section item none xs = has_section-data section item none xs []
@@ -40,7 +37,7 @@ or_false false = refl
 under-begins : {X : Type 0} (section other : Section) (item : X → Item) → ((x : X) → section_begun (item x) ≡ None) → begins other (header_item section) ≡ false → (xs : List X)
     → has_section (under section (map item xs)) other ≡ false
 under-begins section other item none b [] = refl
-under-begins section other item none b (x ∷ xs) = rw b (no-headers other item none (x ∷ xs))
+under-begins section other item none b (x ∷ xs) = has_section-cons other (header_item section) (map item (x ∷ xs)) ∙ rw b (no-headers other item none (x ∷ xs))
 
 under-settled : {X : Type 0} (section : Section) (item : X → Item) → is_bare (header_item section) ≡ false → ((x : X) → is_read (item x) ≡ true) → ((x : X) → is_bare (item x) ≡ false)
     → (xs : List X) (before : List Item) → wants_word before ≡ false → wants_word (before ++ under section (map item xs)) ≡ false
@@ -66,14 +63,14 @@ late-after : {X : Type 0} (section : Section) (item : X → Item) (ds : Declarat
 late-after section item ds b reads bare xs before earlier h =
     record {
       settled = under-settled section item b reads bare xs before h.settled;
-      columns = has-append Columns before (under section (map item xs)) ∙ ap (λ (c : Bool). c || has_section (under section (map item xs)) Columns) h.columns;
+      columns = has_section-append Columns before (under section (map item xs)) ∙ ap (λ (c : Bool). c || has_section (under section (map item xs)) Columns) h.columns;
       objective = still-named ds earlier h.objective;
     }
 
 fresh-after : {X : Type 0} (section other : Section) (item : X → Item) → ((x : X) → section_begun (item x) ≡ None) → begins other (header_item section) ≡ false → (xs : List X) (before : List Item)
     → has_section before other ≡ false → has_section (before ++ under section (map item xs)) other ≡ false
 fresh-after section other item none b xs before h =
-    has-append other before (under section (map item xs)) ∙ (λ i. h i || under-begins section other item none b xs i)
+    has_section-append other before (under section (map item xs)) ∙ (λ i. h i || under-begins section other item none b xs i)
 
 -- ---- RHS, RANGES, BOUNDS and ENDATA
 
@@ -97,8 +94,8 @@ pub record IsGoodLate (l : Late) (earlier : Draft) : Type 0 where
   pub bounds : Each GoodBound l.bounds
 
 pub late-walk : (l : Late) (before : List Item) (earlier : Draft) → IsLate before earlier → has_section before Rhs ≡ false → has_section before Ranges ≡ false → has_section before Bounds ≡ false
-    → IsGoodLate l earlier → Walk before earlier (late_items l) (late_decl l)
-late-walk l before earlier h f g b good =
+    → has_section before EndData ≡ false → IsGoodLate l earlier → Walk before earlier (late_items l) (late_decl l)
+late-walk l before earlier h f g b e good =
     let sides = under Rhs (map (side_item (codes "RHS")) l.sides) in
     let ranges = under Ranges (map (side_item (codes "RNG")) l.ranges) in
     let bounds = under Bounds (map (bound_item (codes "BND")) l.bounds) in
@@ -114,10 +111,13 @@ late-walk l before earlier h f g b good =
     let g1 = fresh-after Rhs Ranges (side_item (codes "RHS")) (λ _. refl) refl l.sides before g in
     let b1 = fresh-after Rhs Bounds (side_item (codes "RHS")) (λ _. refl) refl l.sides before b in
     let b2 = fresh-after Ranges Bounds (side_item (codes "RNG")) (λ _. refl) refl l.ranges first b1 in
+    let e1 = fresh-after Rhs EndData (side_item (codes "RHS")) (λ _. refl) refl l.sides before e in
+    let e2 = fresh-after Ranges EndData (side_item (codes "RNG")) (λ _. refl) refl l.ranges first e1 in
+    let e3 = fresh-after Bounds EndData (bound_item (codes "BND")) (λ _. refl) refl l.bounds second e2 in
     walk-append before earlier sides (ranges ++ (bounds ++ header_item EndData ∷ [])) (flat_map side_decl l.sides) (flat_map range_decl l.ranges ++ (flat_map bound_decl l.bounds ++ []))
     (sides-walk (codes "RHS") l.sides before earlier h f good.sides good.bound)
     (walk-append first d1 ranges (bounds ++ header_item EndData ∷ []) (flat_map range_decl l.ranges) (flat_map bound_decl l.bounds ++ []) (ranges-walk (codes "RNG") l.ranges first d1 h1 g1 good.ranges)
-    (walk-append second d2 bounds (header_item EndData ∷ []) (flat_map bound_decl l.bounds) [] (bounds-walk (codes "BND") l.bounds second d2 h2 b2 good.bounds) (end-walk third d3 h3)))
+    (walk-append second d2 bounds (header_item EndData ∷ []) (flat_map bound_decl l.bounds) [] (bounds-walk (codes "BND") l.bounds second d2 h2 b2 good.bounds) (end-walk third d3 h3 e3)))
 
 -- ---- all sections
 
@@ -178,11 +178,11 @@ rows-settled objective rows before =
 
 part-none : (section : Section) (cells : List Cell) → has_section (part_items cells) section ≡ false
 part-none section [] = refl
-part-none section (cell ∷ cells) = has-append section (map cell_item (cell ∷ cells)) (marker_item false ∷ []) ∙ or_false (has_section (map cell_item (cell ∷ cells)) section) ∙ no-headers section cell_item (λ _. refl) (cell ∷ cells)
+part-none section (cell ∷ cells) = has_section-append section (map cell_item (cell ∷ cells)) (marker_item false ∷ []) ∙ or_false (has_section (map cell_item (cell ∷ cells)) section) ∙ no-headers section cell_item (λ _. refl) (cell ∷ cells)
 
 columns-none : (section : Section) (plain integers : List Group) → begins section (header_item Columns) ≡ false → has_section (columns_items plain integers) section ≡ false
 columns-none section plain integers b =
-    rw b (has-append section (map cell_item (cells_of plain)) (part_items (cells_of integers)) ∙ (λ i. no-headers section cell_item (λ _. refl) (cells_of plain) i || part-none section (cells_of integers) i))
+    rw b (has_section-append section (map cell_item (cells_of plain)) (part_items (cells_of integers)) ∙ (λ i. no-headers section cell_item (λ _. refl) (cells_of plain) i || part-none section (cells_of integers) i))
 
 part-settled : (cells : List Cell) (before : List Item) → wants_word before ≡ false → wants_word (before ++ part_items cells) ≡ false
 part-settled [] before h = ap wants_word (append-nil before) ∙ h
@@ -206,23 +206,23 @@ whole-walk w h =
     let second = first ++ columns in
     let d0 = adding_all empty_draft (sense_decl w.sense) in
     let d1 = draft_at_columns w in
-    let begun_rows : has_section first Rows ≡ true = has-append Rows start rows ∙ ap (λ (b : Bool). b || true) (start-none Rows w.sense refl refl) in
+    let begun_rows : has_section first Rows ≡ true = has_section-append Rows start rows ∙ ap (λ (b : Bool). b || true) (start-none Rows w.sense refl refl) in
     let none : (s : Section) → begins s (header_item Name) ≡ false → begins s (header_item ObjSense) ≡ false → begins s (header_item Rows) ≡ false → has_section first s ≡ false =
-    λ s n o r. has-append s start rows ∙ (λ i. start-none s w.sense n o i || rows_none s r i) in
+    λ s n o r. has_section-append s start rows ∙ (λ i. start-none s w.sense n o i || rows_none s r i) in
     let may : MayStand Columns first = record { settled = rows-settled w.objective w.rows start; fresh = none Columns refl refl refl; begins = begun_rows } in
     let named : is_none d1.objective ≡ false = still-named (flat_map row_decl w.rows) _ refl in
     let late : IsLate second (draft_at_sides w) = record {
       settled = columns-settled w.plain w.integers first;
-      columns = has-append Columns first columns ∙ ap (λ (b : Bool). b || true) (none Columns refl refl refl);
+      columns = has_section-append Columns first columns ∙ ap (λ (b : Bool). b || true) (none Columns refl refl refl);
       objective = still-named (columns_decl w.plain w.integers) d1 named;
     } in
     let none_after : (s : Section) → begins s (header_item Name) ≡ false → begins s (header_item ObjSense) ≡ false → begins s (header_item Rows) ≡ false → begins s (header_item Columns) ≡ false → has_section second s ≡ false =
-    λ s n o r c. has-append s first columns ∙ (λ i. none s n o r i || columns-none s w.plain w.integers c i) in
+    λ s n o r c. has_section-append s first columns ∙ (λ i. none s n o r i || columns-none s w.plain w.integers c i) in
     walk-append [] empty_draft start (rows ++ (columns ++ late_items w.late)) (sense_decl w.sense) (rows_decl w.objective w.rows ++ (columns_decl w.plain w.integers ++ late_decl w.late)) (start-walk w.sense)
     (walk-append start d0 rows (columns ++ late_items w.late) (rows_decl w.objective w.rows) (columns_decl w.plain w.integers ++ late_decl w.late)
     (rows-walk w.objective w.rows start d0 (rows-may w.sense) (no-objective w.sense) h.objective h.rows)
     (walk-append first d1 columns (late_items w.late) (columns_decl w.plain w.integers) (late_decl w.late) (columns-walk w.plain w.integers first d1 may named h.columns)
-    (late-walk w.late second (draft_at_sides w) late (none_after Rhs refl refl refl refl) (none_after Ranges refl refl refl refl) (none_after Bounds refl refl refl refl) h.late)))
+    (late-walk w.late second (draft_at_sides w) late (none_after Rhs refl refl refl refl) (none_after Ranges refl refl refl refl) (none_after Bounds refl refl refl refl) (none_after EndData refl refl refl refl) h.late)))
   where
     rows_none : (s : Section) → begins s (header_item Rows) ≡ false → has_section (rows_items w.objective w.rows) s ≡ false
     rows_none s r = rw r (no-headers s row_item (λ _. refl) w.rows)

@@ -1,4 +1,4 @@
--- What is told of a line of a column: the first fault of its form, or else a row that is not declared, a column that is
+-- The first fault of a line of a column: that of its form, or else a row that is not declared, a column that is
 -- split, or a coefficient that is there twice.
 use Rattle.std.proofs.Common.{◌≡◌, refl, sym, ap, ◌∙◌, ℕ, List, [], ◌∷◌, ◌++◌, Bool, true, false, cond, map, arith}
 use Rattle.std.specs.Prelude.{◌&&◌, not, nat_le, Option, Some, None}
@@ -50,7 +50,7 @@ plain-tests : (context : Context) (earlier : Draft) (fields : Fields) → is_mar
     → data_tests context earlier fields (Some Columns) ≡ judged_by (column_tests context earlier) (column_shape fields)
 plain-tests context earlier fields h = ap (λ (b : Bool). cond b (marker_tests context fields) (judged_by (column_tests context earlier) (column_shape fields))) h
 
--- a fault of the fields is told
+-- a fault of the fields is the line's first fault
 held_fields : (context : Context) (earlier : Draft) (parts : Option ValuesLine) (kind : FaultKind) → first_held (judged_by field_tests parts) ≡ Some kind
     → first_held (judged_by (column_tests context earlier) parts) ≡ Some kind
 held_fields context earlier None kind h = h
@@ -62,15 +62,15 @@ early_fields : (parts : Option ValuesLine) → list_all is_early (judged_by fiel
 early_fields None = refl
 early_fields (Some line) = refl
 
-abbrev told_under : Context → Draft → Fields → Option Section → Option FaultKind
-told_under context earlier fields section = least_kind (those_of (data_tests context earlier fields section) ++ declaring_faults earlier (data_declared context earlier fields section))
+abbrev fault_under : Context → Draft → Fields → Option Section → Option FaultKind
+fault_under context earlier fields section = least_kind (those_of (data_tests context earlier fields section) ++ declaring_faults earlier (data_declared context earlier fields section))
 
 column-form : (context : Context) (earlier : Draft) (fields : Fields) (kind : FaultKind) → context.section ≡ Some Columns → is_marker_line fields ≡ false
     → first_held (judged_by field_tests (column_shape fields)) ≡ Some kind
     → item_fault context earlier (data_line fields) ≡ Some kind
 column-form context earlier fields kind here plain held =
     let tests = data_tests context earlier fields (Some Columns) in
-    ap (told_under context earlier fields) here
+    ap (fault_under context earlier fields) here
     ∙ form-first tests kind earlier (data_declared context earlier fields (Some Columns)) (data-rising context earlier fields (Some Columns))
     (ap first_held (plain-tests context earlier fields plain) ∙ held_fields context earlier (column_shape fields) kind held)
     (held-among (λ other. is_from other kinds.UnknownRow) (judged_by field_tests (column_shape fields)) kind (early_fields (column_shape fields)) held)
@@ -114,16 +114,16 @@ column-declares context earlier fields column values plain is =
 abbrev pub with_column : Context → Draft → List ℕ → Draft
 with_column context earlier column = adding_all earlier (front_declared context.in_integer_part column)
 
-pub column-told : (context : Context) (earlier : Draft) (fields : Fields) (column : List ℕ) (values : List (List ℕ × Number)) → context.section ≡ Some Columns
+pub column-fault : (context : Context) (earlier : Draft) (fields : Fields) (column : List ℕ) (values : List (List ℕ × Number)) → context.section ≡ Some Columns
     → is_marker_line fields ≡ false → first_held (judged_by field_tests (column_shape fields)) ≡ None → option_map named_values (column_shape fields) ≡ Some (column, values)
     → item_fault context earlier (data_line fields)
     ≡ earlier_of (first_held (split_test context earlier column)) (declared_fault (with_column context earlier column) (flat_map (value_declared column) values))
-column-told context earlier fields column values here plain held is =
+column-fault context earlier fields column values here plain held is =
     let tests = data_tests context earlier fields (Some Columns) in
     let ds = data_declared context earlier fields (Some Columns) in
     let front = front_declared context.in_integer_part column in
     let coefficients = flat_map (value_declared column) values in
-    ap (told_under context earlier fields) here
+    ap (fault_under context earlier fields) here
     ∙ least-append (those_of tests) (declaring_faults earlier ds)
     ∙ ap (λ (o : Option FaultKind). earlier_of o (declared_fault earlier ds))
     (least-those_of tests (data-rising context earlier fields (Some Columns)) ∙ ap first_held (plain-tests context earlier fields plain)
@@ -145,12 +145,12 @@ late_enough (Some kind) h = more (kind_rank kind) h
     more : (n : ℕ) → nat_le 27 n ≡ true → nat_le 25 n ≡ true
     more n k = grind (arith, nat_tests)
 
-pub place-told : (context : Context) (earlier : Draft) (fields : Fields) (column : List ℕ) (values : List (List ℕ × Number)) (kind : FaultKind) → context.section ≡ Some Columns
+pub place-fault : (context : Context) (earlier : Draft) (fields : Fields) (column : List ℕ) (values : List (List ℕ × Number)) (kind : FaultKind) → context.section ≡ Some Columns
     → is_marker_line fields ≡ false → first_held (judged_by field_tests (column_shape fields)) ≡ None → option_map named_values (column_shape fields) ≡ Some (column, values)
     → first_held (place_tests context earlier column values) ≡ Some kind
     → item_fault context earlier (data_line fields) ≡ Some kind
-place-told context earlier fields column values kind here plain held is placed =
-    column-told context earlier fields column values here plain held is ∙ by (are_rows earlier values) refl (is_split context earlier column) placed
+place-fault context earlier fields column values kind here plain held is placed =
+    column-fault context earlier fields column values here plain held is ∙ by (are_rows earlier values) refl (is_split context earlier column) placed
   where
     draft : Draft
     draft = with_column context earlier column
@@ -182,13 +182,13 @@ placed context earlier column values h = by (are_rows earlier values) (is_split 
     by true true e = cc
     by true false e = (refl, refl)
 
-pub placed-told : (context : Context) (earlier : Draft) (fields : Fields) (column : List ℕ) (values : List (List ℕ × Number)) → context.section ≡ Some Columns
+pub placed-fault : (context : Context) (earlier : Draft) (fields : Fields) (column : List ℕ) (values : List (List ℕ × Number)) → context.section ≡ Some Columns
     → is_marker_line fields ≡ false → first_held (judged_by field_tests (column_shape fields)) ≡ None → option_map named_values (column_shape fields) ≡ Some (column, values)
     → first_held (place_tests context earlier column values) ≡ None
     → item_fault context earlier (data_line fields) ≡ declared_fault (with_column context earlier column) (flat_map (value_declared column) values)
-placed-told context earlier fields column values here plain held is in_order =
+placed-fault context earlier fields column values here plain held is in_order =
     let coefficients = declared_fault (with_column context earlier column) (flat_map (value_declared column) values) in
-    column-told context earlier fields column values here plain held is
+    column-fault context earlier fields column values here plain held is
     ∙ ap (λ (b : Bool). earlier_of (cond b (Some kinds.ColumnSplit) None) coefficients) (placed context earlier column values in_order).1
 
 -- ---- the column's name

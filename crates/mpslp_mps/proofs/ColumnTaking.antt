@@ -1,4 +1,4 @@
--- Lines of COLUMNS: what is told of their form and of what they declare together.
+-- Lines of COLUMNS: the first fault of their form and of what they declare together.
 use Rattle.std.proofs.Common.{◌≡◌, refl, sym, ap, subst, ◌∙◌, ℕ, List, [], ◌∷◌, ◌++◌, Bool, true, false, cond, map}
 use Rattle.std.specs.Prelude.{◌||◌, ◌&&◌, not, Option, Some, None}
 use Rattle.std.specs.List.{list_all, flat_map}
@@ -53,7 +53,7 @@ pub column-there : (earlier : Draft) (column : List ℕ) → has_column (adding 
 column-there earlier column =
     has-put column column tt earlier.columns ∙ ap (λ (b : Bool). b || has_column earlier column) (itself_named column)
 
--- nothing is told of the column, which may be declared again
+-- the column has no fault, since it may be declared again
 pub front-none : (earlier : Draft) (marked : Bool) (column : List ℕ) → declared_fault earlier (front_declared marked column) ≡ None
 front-none earlier false column = refl
 front-none earlier true column =
@@ -72,10 +72,10 @@ front-rows earlier true column values = refl
 front-rows earlier false column values = refl
 
 -- of one value in a column that is there
-pub value-told : (earlier : Draft) (column : List ℕ) (value : List ℕ × Number) → has_column earlier column ≡ true
+pub value-fault : (earlier : Draft) (column : List ℕ) (value : List ℕ × Number) → has_column earlier column ≡ true
     → declared_fault earlier (value_declared column value)
     ≡ cond (not (has_row earlier value.0)) (Some kinds.UnknownRow) (cond (has_entry earlier (record { row = value.0; column = column })) (Some kinds.DuplicateEntry) None)
-value-told earlier column value there =
+value-fault earlier column value there =
     declared-one earlier (declare_coefficient (record { row = value.0; column = column }) value.1) refl
     ∙ ap (λ (b : Bool). cond (not (has_row earlier value.0)) (Some kinds.UnknownRow) (cond (not b) (Some kinds.UnknownColumn) (cond (has_entry earlier (record { row = value.0; column = column })) (Some kinds.DuplicateEntry) None))) there
 
@@ -88,10 +88,10 @@ value-late : (earlier : Draft) (column : List ℕ) (value : List ℕ × Number) 
 value-late earlier column value there row =
     let double = has_entry earlier (record { row = value.0; column = column }) in
     ap (are_from kinds.DuplicateEntry)
-    (value-told earlier column value there ∙ ap (λ (b : Bool). cond (not b) (Some kinds.UnknownRow) (cond double (Some kinds.DuplicateEntry) None)) row)
+    (value-fault earlier column value there ∙ ap (λ (b : Bool). cond (not b) (Some kinds.UnknownRow) (cond double (Some kinds.DuplicateEntry) None)) row)
     ∙ entry-late double
 
--- where the rows are declared, a coefficient may be there twice, and nothing else is told
+-- where the rows are declared, a coefficient may be there twice, and there is no other fault
 pub values-late : (values : List (List ℕ × Number)) (earlier : Draft) (column : List ℕ) → has_column earlier column ≡ true → are_rows earlier values ≡ true
     → are_from kinds.DuplicateEntry (declared_fault earlier (flat_map (value_declared column) values)) ≡ true
 values-late [] earlier column there rows = refl
@@ -107,16 +107,16 @@ values-late (value ∷ values) earlier column there rows =
 pub values-refused : (earlier : Draft) (column : List ℕ) (value : List ℕ × Number) (values : List (List ℕ × Number)) (error : LineError)
     → has_column earlier column ≡ true → are_rows earlier (value ∷ values) ≡ true → IsErrorOf (declared_fault earlier (value_declared column value)) error
     → IsErrorOf (declared_fault earlier (flat_map (value_declared column) (value ∷ values))) error
-values-refused earlier column value values OutOfMemory there rows told = tt
-values-refused earlier column value values (Fault kind) there rows told =
+values-refused earlier column value values OutOfMemory there rows fault_is = tt
+values-refused earlier column value values (Fault kind) there rows fault_is =
     let next = adding_all earlier (value_declared column value) in
     let later = declared_fault next (flat_map (value_declared column) values) in
     let row = first_so (has_row earlier value.0) (are_rows earlier values) rows in
     let double = has_entry earlier (record { row = value.0; column = column }) in
     let is : cond double (Some kinds.DuplicateEntry) None ≡ Some kind =
-    ap (λ (b : Bool). cond (not b) (Some kinds.UnknownRow) (cond double (Some kinds.DuplicateEntry) None)) (sym row) ∙ sym (value-told earlier column value there) ∙ told in
+    ap (λ (b : Bool). cond (not b) (Some kinds.UnknownRow) (cond double (Some kinds.DuplicateEntry) None)) (sym row) ∙ sym (value-fault earlier column value there) ∙ fault_is in
     declared-append (value_declared column value) (flat_map (value_declared column) values) earlier
-    ∙ ap (λ (o : Option FaultKind). earlier_of o later) told
+    ∙ ap (λ (o : Option FaultKind). earlier_of o later) fault_is
     ∙ ap (λ (k : FaultKind). Some k)
     (ap (λ (k : FaultKind). lesser k later) (sym (entry_kind double kind is))
     ∙ stays-least kinds.DuplicateEntry later (values-late values next column there (second_so (has_row earlier value.0) (are_rows earlier values) rows))
@@ -131,9 +131,9 @@ pub second-refused : (earlier next : Draft) (column : List ℕ) (value other : L
     → declared_fault earlier (value_declared column value) ≡ None → next ≡ adding_all earlier (value_declared column value)
     → IsErrorOf (declared_fault next (value_declared column other)) error
     → IsErrorOf (declared_fault earlier (flat_map (value_declared column) (value ∷ other ∷ []))) error
-second-refused earlier next column value other error none is told =
+second-refused earlier next column value other error none is fault_is =
     subst (λ (o : Option FaultKind). IsErrorOf o error)
-    (ap (λ (d : Draft). declared_fault d (value_declared column other)) is ∙ sym (declared-after earlier (value_declared column value) (value_declared column other) none)) told
+    (ap (λ (d : Draft). declared_fault d (value_declared column other)) is ∙ sym (declared-after earlier (value_declared column value) (value_declared column other) none)) fault_is
 
 -- a row that is not declared comes first
 pub values-unknown : (values : List (List ℕ × Number)) (earlier : Draft) (column : List ℕ) → has_column earlier column ≡ true → are_rows earlier values ≡ false
@@ -141,7 +141,7 @@ pub values-unknown : (values : List (List ℕ × Number)) (earlier : Draft) (col
 values-unknown [] earlier column there rows = cc
 values-unknown (value ∷ values) earlier column there rows =
     declared-append (value_declared column value) more earlier
-    ∙ ap (λ (o : Option FaultKind). earlier_of o later) (value-told earlier column value there)
+    ∙ ap (λ (o : Option FaultKind). earlier_of o later) (value-fault earlier column value there)
     ∙ by (has_row earlier value.0) double rows (λ h. values-unknown values next column there h)
   where
     more : Declarations

@@ -8,24 +8,13 @@ use Rattle.std.proofs.lemmas.List.Elements.{filter_map-append, filter-append}
 use Rattle.mpslp_types.specs.Name.{same_bytes}
 use Rattle.mpslp_model.specs.Lists.{head_of}
 use Rattle.mpslp_mps.specs.Line.{Fields, Item, skipped, header, data_line}
-use Rattle.mpslp_mps.specs.Section.{is_section}
+use Rattle.mpslp_mps.specs.Section.{section_begun, is_section}
 use Rattle.mpslp_mps.specs.DataLine.{opening_word}
-use Rattle.mpslp_mps.specs.Context.{seen_in, is_read, wanting, wanted, marker_word, line_column, vector_set, bound_set, first_set, current_section, fields_under, data_lines, context_of}
-use Rattle.mpslp_mps.specs.NextContext.{next_seen, changed_under, next_part, next_set, next_context}
+use Rattle.mpslp_mps.specs.Context.{is_read, wanting, wanted, marker_word, line_column, vector_set, bound_set, first_set, current_section, fields_under, data_lines, context_of}
+use Rattle.mpslp_mps.specs.NextContext.{changed_under, next_part, next_set, next_context}
 use Rattle.mpslp_mps.specs.declared.sections.Section.{Section}
-use Rattle.mpslp_mps.specs.declared.sections.Section.TheVariants.{Name, ObjSense, Rows, Columns, Rhs, Ranges, Bounds}
-use Rattle.mpslp_mps.proofs.SectionLemmas.{last_or-append, current_section-push, has_section-push, data_lines-push}
-
-seen-push : (before : List Item) (item : Item) → seen_in (before ++ item ∷ []) ≡ next_seen (seen_in before) item
-seen-push before item = λ i. record {
-  name = has_section-push Name before item i;
-  objsense = has_section-push ObjSense before item i;
-  rows = has_section-push Rows before item i;
-  columns = has_section-push Columns before item i;
-  rhs = has_section-push Rhs before item i;
-  ranges = has_section-push Ranges before item i;
-  bounds = has_section-push Bounds before item i;
-}
+use Rattle.mpslp_mps.specs.declared.sections.Section.TheVariants.{Columns, Rhs, Ranges, Bounds}
+use Rattle.mpslp_mps.proofs.SectionLemmas.{last_or-append, current_section-push, data_lines-push}
 
 pub wanted-push : (before : List Item) (item : Item) → wanted (before ++ item ∷ []) ≡ cond (is_read item) (wanting item) (wanted before)
 wanted-push before item =
@@ -80,7 +69,7 @@ set_reading set_of lines fields = ap head_of (filter_map-append set_of lines (fi
 pub context-push : (before : List Item) (item : Item) → context_of (before ++ item ∷ []) ≡ next_context (context_of before) item
 context-push before item = λ i. record {
   section = current_section-push before item i;
-  seen = seen-push before item i;
+  seen = filter_map-append section_begun before (item ∷ []) i;
   wanted = wanted-push before item i;
   in_integer_part = under-push Columns (λ lines. option_map_or (same_bytes opening_word) (last_or None (filter_map marker_word lines)) false) next_part part_reading before item i;
   last_column = under-push Columns (λ lines. option_map_or line_column (last_or None lines) None) (λ fields _. line_column fields) column_reading before item i;

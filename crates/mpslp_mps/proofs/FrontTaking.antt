@@ -20,10 +20,10 @@ use Rattle.mpslp_mps.proofs.FrontLemmas.{data_tests-front, data_declared-front, 
 taken_as : (context : Context) (earlier : Draft) (item other : Item) (answer : LineResult) (next : Context) (later : Draft)
     → item_tests context earlier item ≡ item_tests context earlier other → declared context earlier item ≡ declared context earlier other
     → next_context context item ≡ next_context context other → ReadsItem context earlier item answer next later → ReadsItem context earlier other answer next later
-taken_as context earlier item other (Ok x) next later tests ds step (told, is, draft) =
-    (sym (λ i. least_kind (those_of (tests i) ++ declaring_faults earlier (ds i))) ∙ told, is ∙ step, draft ∙ ap (adding_all earlier) ds)
-taken_as context earlier item other (Err error) next later tests ds step told =
-    subst (λ (o : Option FaultKind). IsErrorOf o error) (λ i. least_kind (those_of (tests i) ++ declaring_faults earlier (ds i))) told
+taken_as context earlier item other (Ok x) next later tests ds step (fault_is, is, draft) =
+    (sym (λ i. least_kind (those_of (tests i) ++ declaring_faults earlier (ds i))) ∙ fault_is, is ∙ step, draft ∙ ap (adding_all earlier) ds)
+taken_as context earlier item other (Err error) next later tests ds step fault_is =
+    subst (λ (o : Option FaultKind). IsErrorOf o error) (λ i. least_kind (those_of (tests i) ++ declaring_faults earlier (ds i))) fault_is
 
 pub data-front : (context : Context) (earlier : Draft) (fields : Fields) (answer : LineResult) (next : Context) (later : Draft)
     → ReadsItem context earlier (data_line (take 6 fields)) answer next later → ReadsItem context earlier (data_line fields) answer next later

@@ -17,7 +17,7 @@ use Rattle.mpslp_model.proofs.RefusalLemmas.{are_known_in_turn}
 use Rattle.mpslp_model.proofs.LaterDrafts.{itself_named}
 use Rattle.mpslp_model.proofs.SlotLemmas.{has-put}
 use Rattle.mpslp_mps.specs.Line.{Fields, Item, skipped, header, data_line}
-use Rattle.mpslp_mps.specs.Section.{section_named, begins, is_section}
+use Rattle.mpslp_mps.specs.Section.{has, section_named, begins, is_section}
 use Rattle.mpslp_mps.specs.DataLine.{RowLine, Pair, ValuesLine, sense_shape, sense_of, row_shape, row_type, column_shape, is_marker_line, vector_shape}
 use Rattle.mpslp_mps.specs.BoundLine.{BoundLine, bound_type, bound_shape}
 use Rattle.mpslp_mps.specs.Context.{Context, context_of, current_section, has_section}
@@ -35,13 +35,13 @@ use Rattle.mpslp_mps.proofs.OrderLemmas.{header-fresh, Past, past-rows, past-col
 
 -- ---- once ROWS is past no rows are declared, once COLUMNS is past no columns
 
-no-rows-header : (context : Context) (earlier : Draft) (keyword : List ℕ) (more : Fields) (o : Option Section) → those_of (header_tests context keyword more o) ≡ [] → context.seen.columns ≡ true
+no-rows-header : (context : Context) (earlier : Draft) (keyword : List ℕ) (more : Fields) (o : Option Section) → those_of (header_tests context keyword more o) ≡ [] → has context.seen Columns ≡ true
     → no_rows (header_declared earlier more o) ≡ true
 no-rows-header context earlier keyword more None h c = refl
 no-rows-header context earlier keyword more (Some Name) h c = refl
 no-rows-header context earlier keyword more (Some ObjSense) h c = sense-passes (λ d. not (declares_row d)) (λ _. refl) more
 no-rows-header context earlier keyword more (Some Rows) h c = refl
-no-rows-header context earlier keyword more (Some Columns) h c = absurd (never context.seen.columns c (header-fresh context keyword more Columns h))
+no-rows-header context earlier keyword more (Some Columns) h c = absurd (never (has context.seen Columns) c (header-fresh context keyword more Columns h))
 no-rows-header context earlier keyword more (Some Rhs) h c = refl
 no-rows-header context earlier keyword more (Some Ranges) h c = refl
 no-rows-header context earlier keyword more (Some Bounds) h c = refl
@@ -242,13 +242,13 @@ is_rowed _ = false
 sense-known : (before : Draft) (fields : Fields) → are_known_in_turn before (declared_of sense_declared (sense_shape fields)) ≡ true
 sense-known before fields = worded (sense_shape fields)
   where
-    told : (o : Option Sense) → are_known_in_turn before (declared_of (λ sense. declare_sense sense ∷ []) o) ≡ true
-    told None = refl
-    told (Some sense) = refl
+    sensed : (o : Option Sense) → are_known_in_turn before (declared_of (λ sense. declare_sense sense ∷ []) o) ≡ true
+    sensed None = refl
+    sensed (Some sense) = refl
 
     worded : (o : Option (List ℕ)) → are_known_in_turn before (declared_of sense_declared o) ≡ true
     worded None = refl
-    worded (Some word) = told (sense_of word)
+    worded (Some word) = sensed (sense_of word)
 
 rows-known : (earlier before : Draft) (fields : Fields) → are_known_in_turn before (declared_of (row_declared earlier) (row_shape fields)) ≡ true
 rows-known earlier before fields = lined (row_shape fields)

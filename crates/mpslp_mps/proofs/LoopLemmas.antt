@@ -23,26 +23,26 @@ use Rattle.mpslp_reading.specs.LineAnswer.{fault_on_line}
 use Rattle.mpslp_mps.specs.Reading.{placed_in, draft_after, context_after, fault_from, draft_from}
 use Rattle.mpslp_mps.specs.ReadingAnswer.{lines_to_end}
 use Rattle.mpslp_mps.specs.declared.sections.Section.TheVariants.{EndData}
-use Rattle.mpslp_mps.specs.DeclareAnswer.{HasMpsSides}
+use Rattle.mpslp_mps.specs.VectorDeclared.{HasMpsSides}
 use Rattle.mpslp_mps.proofs.MpsSidesLemmas.{sides-kept}
 use Rattle.mpslp_mps.proofs.EndLemmas.{up_to_end-last, up_to_end-more, at_end-after}
 
--- ---- numbers of lines, which are told up to 2^64 - 1
+-- ---- numbers of lines, which are counted up to 2^64 - 1
 
 abbrev pub last_number : ℕ
 last_number = 2 ^ 64 - 1
 
--- numbers that are told alike count the later lines alike
+-- numbers that are shown alike count the later lines alike
 pub counted-alike : (lines : List (List ℕ)) (n m : ℕ) (context : Context) (earlier : Draft) → min n last_number ≡ min m last_number
     → fault_from n context earlier lines ≡ fault_from m context earlier lines
 counted-alike [] n m context earlier h = refl
 counted-alike (line ∷ lines) n m context earlier h =
     let next : min (n + 1) last_number ≡ min (m + 1) last_number = omega (arith, h) in
-    let told = line_fault (placed_in context earlier line) in
-    (λ i. option_or (option_map (λ (kind : FaultKind). record { kind = kind; line = h i; name = None }) told)
+    let fault_is = line_fault (placed_in context earlier line) in
+    (λ i. option_or (option_map (λ (kind : FaultKind). record { kind = kind; line = h i; name = None }) fault_is)
     (counted-alike lines (n + 1) (m + 1) (context_after context line) (draft_after context earlier line) next i))
 
--- the number after one that is told as it is
+-- the number after one that is shown as it is
 pub counted-on : (lines : List (List ℕ)) (n : ℕ) (context : Context) (earlier : Draft)
     → fault_from (n + 1) context earlier lines ≡ fault_from (min (n + 1) last_number) context earlier lines
 counted-on lines n context earlier =
@@ -74,10 +74,10 @@ line-legal context earlier line = legal-first line (outside_comment line) (item_
 
 -- ---- a line more
 
-pub told-next : (line : List ℕ) (more : List (List ℕ)) (n : ℕ) (context : Context) (earlier : Draft) → is_end line ≡ false
+pub fault_from-next : (line : List ℕ) (more : List (List ℕ)) (n : ℕ) (context : Context) (earlier : Draft) → is_end line ≡ false
     → line_fault (placed_in context earlier line) ≡ None
     → fault_from n context earlier (lines_to_end (line ∷ more)) ≡ fault_from (min (n + 1) last_number) (context_after context line) (draft_after context earlier line) (lines_to_end more)
-told-next line more n context earlier further none =
+fault_from-next line more n context earlier further none =
     ap (fault_from n context earlier) (up_to_end-more line more further)
     ∙ ap (λ (o : Option FaultKind). option_or (option_map (fault_on_line n) o) (fault_from (n + 1) (context_after context line) (draft_after context earlier line) (lines_to_end more))) none
     ∙ counted-on (lines_to_end more) n (context_after context line) (draft_after context earlier line)
@@ -90,9 +90,9 @@ pub ended-next : (line : List ℕ) (more : List (List ℕ)) → is_end line ≡ 
 ended-next line more further = ap (λ (b : Bool). b || list_any is_end more) further
 
 -- the last line that is read
-pub told-last : (line : List ℕ) (more : List (List ℕ)) (n : ℕ) (context : Context) (earlier : Draft) → is_end line ≡ true → line_fault (placed_in context earlier line) ≡ None
+pub fault_from-last : (line : List ℕ) (more : List (List ℕ)) (n : ℕ) (context : Context) (earlier : Draft) → is_end line ≡ true → line_fault (placed_in context earlier line) ≡ None
     → fault_from n context earlier (lines_to_end (line ∷ more)) ≡ None
-told-last line more n context earlier last none =
+fault_from-last line more n context earlier last none =
     ap (fault_from n context earlier) (up_to_end-last line more last) ∙ ap (λ (o : Option FaultKind). option_or (option_map (fault_on_line n) o) None) none
 
 pub draft-last : (line : List ℕ) (more : List (List ℕ)) (context : Context) (earlier : Draft) → is_end line ≡ true

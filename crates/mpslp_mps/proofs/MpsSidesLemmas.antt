@@ -26,7 +26,7 @@ use Rattle.mpslp_reading.specs.Field.{value_of}
 use Rattle.mpslp_reading.specs.Declaring.{declaring_faults, declared_fault}
 use Rattle.mpslp_mps.proofs.PlacedLemmas.{form_faults}
 use Rattle.mpslp_mps.specs.LineAnswer.{item_fault}
-use Rattle.mpslp_mps.specs.DeclareAnswer.{HasMpsSides}
+use Rattle.mpslp_mps.specs.VectorDeclared.{HasMpsSides}
 use Rattle.mpslp_mps.specs.declared.bound_types.BoundType.{BoundType}
 use Rattle.mpslp_mps.specs.declared.bound_types.BoundType.TheVariants as bounds
 use Rattle.mpslp_mps.specs.declared.sections.Section.{Section}
@@ -34,7 +34,7 @@ use Rattle.mpslp_mps.specs.declared.sections.Section.TheVariants.{Name, ObjSense
 use Rattle.mpslp_reading.proofs.LeastLemmas.{earlier_of, least-append}
 use Rattle.mpslp_mps.proofs.OrderLemmas.{each-declared, each-flat, each-mapped, sense-passes}
 use Rattle.mpslp_reading.proofs.RefusedLemmas.{declared-one, declared-append}
-use Rattle.mpslp_mps.proofs.RightSideLemmas.{side_kind, limited, side_told, same_free, sides-after}
+use Rattle.mpslp_mps.proofs.RightSideLemmas.{side_kind, limited, side_fault, same_free, sides-after}
 
 pub empty_sides : HasMpsSides empty_draft
 empty_sides = record { known = λ row h. absurd cc; limited = λ row h. refl; constant = refl }
@@ -152,7 +152,7 @@ none_so None h = refl
 none_so (Some name) h = cc
 
 new_row : (all : Draft) (name : List ℕ) (type : RowType) → declared_fault all (declare_row name (by_type type) ∷ []) ≡ None → has_row all name ≡ false
-new_row all name type told = by (has_row all name) (sym is ∙ told)
+new_row all name type fault_is = by (has_row all name) (sym is ∙ fault_is)
   where
     is : declared_fault all (declare_row name (by_type type) ∷ []) ≡ cond (has_row all name) (Some kinds.DuplicateRow) None
     is =
@@ -163,7 +163,7 @@ new_row all name type told = by (has_row all name) (sym is ∙ told)
     by false k = refl
 
 objective-or_row : (all : Draft) (name : List ℕ) → declared_fault all (row_of_type all name Free) ≡ None → HasMpsSides all → HasMpsSides (adding_all all (row_of_type all name Free))
-objective-or_row all name told sides = by (is_none all.objective) refl told
+objective-or_row all name fault_is sides = by (is_none all.objective) refl fault_is
   where
     by : (b : Bool) → is_none all.objective ≡ b → declared_fault all (cond b (declare_objective name ∷ []) (declare_row name (by_type Free) ∷ [])) ≡ None
         → HasMpsSides (adding_all all (cond b (declare_objective name ∷ []) (declare_row name (by_type Free) ∷ [])))
@@ -172,7 +172,7 @@ objective-or_row all name told sides = by (is_none all.objective) refl told
 
 rows-kept : (all : Draft) (fields : Fields) → declared_fault all (declared_of (row_declared all) (row_shape fields)) ≡ None → HasMpsSides all
     → HasMpsSides (adding_all all (declared_of (row_declared all) (row_shape fields)))
-rows-kept all fields told sides = lined (row_shape fields) told
+rows-kept all fields fault_is sides = lined (row_shape fields) fault_is
   where
     typed : (name : List ℕ) (o : Option RowType) → declared_fault all (declared_of (row_of_type all name) o) ≡ None → HasMpsSides (adding_all all (declared_of (row_of_type all name) o))
     typed name None k = sides
@@ -202,14 +202,14 @@ there_so false sided h = cc
 pairs-kept : (pairs : List Pair) (earlier all : Draft) → ((row : List ℕ) → is_free_row all row ≡ is_free_row earlier row) → HasMpsSides all
     → declared_fault all (flat_map (λ (pair : Pair). rhs_declared earlier pair.row (value_of pair.literal)) pairs) ≡ None
     → HasMpsSides (adding_all all (flat_map (λ (pair : Pair). rhs_declared earlier pair.row (value_of pair.literal)) pairs))
-pairs-kept [] earlier all free sides told = sides
-pairs-kept (pair ∷ pairs) earlier all free sides told =
+pairs-kept [] earlier all free sides fault_is = sides
+pairs-kept (pair ∷ pairs) earlier all free sides fault_is =
     let value = value_of pair.literal in
     let here = rhs_declared earlier pair.row value in
     let more = flat_map (λ (pair : Pair). rhs_declared earlier pair.row (value_of pair.literal)) pairs in
     let same : rhs_declared all pair.row value ≡ here = ap (λ (b : Bool). cond b [] (declare_rhs pair.row value ∷ [])) (free pair.row) in
-    let none = both_none (declared_fault all here) (declared_fault (adding_all all here) more) (sym (declared-append here more all) ∙ told) in
-    let there = there_so (has_row all pair.row) _ (sym (side_told all pair.row value (limited all sides)) ∙ ap (declared_fault all) same ∙ none.0) in
+    let none = both_none (declared_fault all here) (declared_fault (adding_all all here) more) (sym (declared-append here more all) ∙ fault_is) in
+    let there = there_so (has_row all pair.row) _ (sym (side_fault all pair.row value (limited all sides)) ∙ ap (declared_fault all) same ∙ none.0) in
     let next = subst (λ (ds : Declarations). HasMpsSides (adding_all all ds)) same (sides-after all pair.row value sides there) in
     let after : (row : List ℕ) → is_free_row (adding_all all here) row ≡ is_free_row earlier row =
     λ row. ap (λ (ds : Declarations). is_free_row (adding_all all ds) row) (sym same) ∙ same_free all pair.row value row ∙ free row in
@@ -217,7 +217,7 @@ pairs-kept (pair ∷ pairs) earlier all free sides told =
 
 rhs_values-kept : (all : Draft) (fields : Fields) → declared_fault all (declared_of (right_sides_declared all) (vector_shape fields)) ≡ None → HasMpsSides all
     → HasMpsSides (adding_all all (declared_of (right_sides_declared all) (vector_shape fields)))
-rhs_values-kept all fields told sides = lined (vector_shape fields) told
+rhs_values-kept all fields fault_is sides = lined (vector_shape fields) fault_is
   where
     lined : (o : Option ValuesLine) → declared_fault all (declared_of (right_sides_declared all) o) ≡ None → HasMpsSides (adding_all all (declared_of (right_sides_declared all) o))
     lined None k = sides
@@ -238,22 +238,22 @@ header-kept earlier more (Some EndData) sides = sides
 
 data-kept : (context : Context) (earlier : Draft) (fields : Fields) (o : Option Section) → declared_fault earlier (data_declared context earlier fields o) ≡ None → HasMpsSides earlier
     → HasMpsSides (adding_all earlier (data_declared context earlier fields o))
-data-kept context earlier fields None told sides = sides
-data-kept context earlier fields (Some Name) told sides = sides
-data-kept context earlier fields (Some ObjSense) told sides = stays-kept (data_declared context earlier fields (Some ObjSense)) earlier (sense-stays fields) sides
-data-kept context earlier fields (Some Rows) told sides = rows-kept earlier fields told sides
-data-kept context earlier fields (Some Columns) told sides = stays-kept (columns_line_declared context fields) earlier (columns-stay context fields) sides
-data-kept context earlier fields (Some Rhs) told sides = rhs_values-kept earlier fields told sides
-data-kept context earlier fields (Some Ranges) told sides = stays-kept (declared_of ranges_declared (vector_shape fields)) earlier (ranges-stay fields) sides
-data-kept context earlier fields (Some Bounds) told sides = stays-kept (bound_line_declared fields) earlier (bounds-stay fields) sides
-data-kept context earlier fields (Some EndData) told sides = sides
+data-kept context earlier fields None fault_is sides = sides
+data-kept context earlier fields (Some Name) fault_is sides = sides
+data-kept context earlier fields (Some ObjSense) fault_is sides = stays-kept (data_declared context earlier fields (Some ObjSense)) earlier (sense-stays fields) sides
+data-kept context earlier fields (Some Rows) fault_is sides = rows-kept earlier fields fault_is sides
+data-kept context earlier fields (Some Columns) fault_is sides = stays-kept (columns_line_declared context fields) earlier (columns-stay context fields) sides
+data-kept context earlier fields (Some Rhs) fault_is sides = rhs_values-kept earlier fields fault_is sides
+data-kept context earlier fields (Some Ranges) fault_is sides = stays-kept (declared_of ranges_declared (vector_shape fields)) earlier (ranges-stay fields) sides
+data-kept context earlier fields (Some Bounds) fault_is sides = stays-kept (bound_line_declared fields) earlier (bounds-stay fields) sides
+data-kept context earlier fields (Some EndData) fault_is sides = sides
 
 -- after a line that has no fault
 pub sides-kept : (context : Context) (earlier : Draft) (item : Item) → item_fault context earlier item ≡ None → HasMpsSides earlier
     → HasMpsSides (adding_all earlier (declared context earlier item))
-sides-kept context earlier skipped told sides = sides
-sides-kept context earlier (header keyword more) told sides = header-kept earlier more (section_named keyword) sides
-sides-kept context earlier (data_line fields) told sides =
+sides-kept context earlier skipped fault_is sides = sides
+sides-kept context earlier (header keyword more) fault_is sides = header-kept earlier more (section_named keyword) sides
+sides-kept context earlier (data_line fields) fault_is sides =
     let faults = form_faults context earlier (data_line fields) in
     let ds = data_declared context earlier fields context.section in
-    data-kept context earlier fields context.section (both_none (least_kind faults) (declared_fault earlier ds) (sym (least-append faults (declaring_faults earlier ds)) ∙ told)).1 sides
+    data-kept context earlier fields context.section (both_none (least_kind faults) (declared_fault earlier ds) (sym (least-append faults (declaring_faults earlier ds)) ∙ fault_is)).1 sides

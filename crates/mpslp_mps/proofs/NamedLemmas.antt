@@ -9,7 +9,7 @@ use Rattle.mpslp_reading.proofs.LeastLemmas.{least-none}
 use Rattle.mpslp_types.specs.declared.faults.Fault.{Fault}
 use Rattle.mpslp_types.specs.declared.faults.FaultKind.{FaultKind}
 use Rattle.mpslp_mps.specs.Line.{Fields, Item, skipped, header, data_line, item_of}
-use Rattle.mpslp_mps.specs.Section.{is_section, section_named, begins}
+use Rattle.mpslp_mps.specs.Section.{has, is_section, section_named, section_begun, begins}
 use Rattle.mpslp_mps.specs.Context.{Context}
 use Rattle.mpslp_mps.specs.NextContext.{next_context}
 use Rattle.mpslp_mps.specs.HeaderFault.{header_tests}
@@ -24,6 +24,7 @@ use Rattle.mpslp_mps.specs.ReadingAnswer.{lines_to_end}
 use Rattle.mpslp_mps.specs.declared.sections.Section.{Section}
 use Rattle.mpslp_mps.specs.declared.sections.Section.TheVariants.{Name, ObjSense, Rows, Columns, Rhs, Ranges, Bounds, EndData}
 use Rattle.mpslp_model.proofs.RefusalLemmas.{left_none}
+use Rattle.mpslp_mps.proofs.SectionLemmas.{has-more}
 use Rattle.mpslp_mps.proofs.OrderLemmas.{header-begins}
 use Rattle.mpslp_reading.proofs.ObjectiveLemmas.{named-after}
 use Rattle.mpslp_mps.proofs.EndLemmas.{up_to_end-last, up_to_end-more}
@@ -31,7 +32,7 @@ use Rattle.mpslp_mps.proofs.LoopLemmas.{no-item}
 
 -- once COLUMNS has begun, the objective is there
 abbrev pub HasName : Context → Draft → Type 0
-HasName context earlier = context.seen.columns ≡ true → is_some earlier.objective ≡ true
+HasName context earlier = has context.seen Columns ≡ true → is_some earlier.objective ≡ true
 
 named_columns : (earlier : Draft) (more : Fields) (o : Option Section) → is_section Columns o ≡ true → is_some (adding_all earlier (header_declared earlier more o)).objective ≡ true
 named_columns earlier more None h = cc
@@ -58,15 +59,15 @@ named_begun context earlier (header keyword more) h = named_columns earlier more
 named_begun context earlier (data_line fields) h = cc
 
 named_next : (context : Context) (earlier : Draft) (item : Item) → HasName context earlier → HasName (next_context context item) (adding_all earlier (declared context earlier item))
-named_next context earlier item named h = by context.seen.columns refl h
+named_next context earlier item named h = by (has context.seen Columns) refl (sym (has-more Columns context.seen (section_begun item)) ∙ h)
   where
-    by : (b : Bool) → context.seen.columns ≡ b → (b || begins Columns item) ≡ true → is_some (adding_all earlier (declared context earlier item)).objective ≡ true
+    by : (b : Bool) → has context.seen Columns ≡ b → (b || begins Columns item) ≡ true → is_some (adding_all earlier (declared context earlier item)).objective ≡ true
     by true e k = named-after (declared context earlier item) earlier (named e)
     by false e k = named_begun context earlier item k
 
 -- ENDATA stands after COLUMNS
 ended_tests : (context : Context) (keyword : List ℕ) (more : Fields) (o : Option Section) → those_of (header_tests context keyword more o) ≡ [] → is_section EndData o ≡ true
-    → context.seen.columns ≡ true
+    → has context.seen Columns ≡ true
 ended_tests context keyword more None h e = cc
 ended_tests context keyword more (Some Name) h e = cc
 ended_tests context keyword more (Some ObjSense) h e = cc
@@ -78,7 +79,7 @@ ended_tests context keyword more (Some Bounds) h e = cc
 ended_tests context keyword more (Some EndData) h e = header-begins context keyword more EndData h
 
 ended_columns : (context : Context) (earlier : Draft) (item : Item) → item_fault context earlier item ≡ None → begins EndData item ≡ true
-    → context.seen.columns ≡ true
+    → has context.seen Columns ≡ true
 ended_columns context earlier skipped none h = cc
 ended_columns context earlier (header keyword more) none h =
     let faults = declaring_faults earlier (header_declared earlier more (section_named keyword)) in
@@ -102,8 +103,8 @@ named-lines_to_end [] n context earlier named none ended = cc
 named-lines_to_end (line ∷ more) n context earlier named none ended =
     by (is_end line) refl ended (λ h. named-lines_to_end more (n + 1) (context_after context line) (draft_after context earlier line) (named_next context earlier (item_of line) named) h)
   where
-    told : Option FaultKind
-    told = line_fault (placed_in context earlier line)
+    fault_is : Option FaultKind
+    fault_is = line_fault (placed_in context earlier line)
 
     by : (b : Bool) → is_end line ≡ b → (b || list_any is_end more) ≡ true
         → (fault_from (n + 1) (context_after context line) (draft_after context earlier line) (lines_to_end more) ≡ None → list_any is_end more ≡ true
@@ -112,11 +113,11 @@ named-lines_to_end (line ∷ more) n context earlier named none ended =
     by true e h later =
         let last = up_to_end-last line more e in
         let alone : fault_from n context earlier (line ∷ []) ≡ None = ap (fault_from n context earlier) (sym last) ∙ none in
-        let item = no-item context earlier line (first_none n told None alone) in
+        let item = no-item context earlier line (first_none n fault_is None alone) in
         ap (λ (text : List (List ℕ)). is_some (draft_from context earlier text).objective) last
         ∙ named-after (declared context earlier (item_of line)) earlier (named (ended_columns context earlier (item_of line) item e))
     by false e h later =
         let next = up_to_end-more line more e in
         let both : fault_from n context earlier (line ∷ lines_to_end more) ≡ None = ap (fault_from n context earlier) (sym next) ∙ none in
         ap (λ (text : List (List ℕ)). is_some (draft_from context earlier text).objective) next
-        ∙ later (rest_none n told (fault_from (n + 1) (context_after context line) (draft_after context earlier line) (lines_to_end more)) both) h
+        ∙ later (rest_none n fault_is (fault_from (n + 1) (context_after context line) (draft_after context earlier line) (lines_to_end more)) both) h

@@ -7,7 +7,7 @@ use Rattle.mpslp_model.specs.Lists.{those_of}
 use Rattle.mpslp_model.proofs.MadeDrafts.{adding_all-append}
 use Rattle.mpslp_reading.proofs.ObjectiveLemmas.{named-after}
 use Rattle.mpslp_mps.specs.Line.{Fields, Item, skipped, header, data_line, item_of}
-use Rattle.mpslp_mps.specs.Section.{section_named, begins, is_section}
+use Rattle.mpslp_mps.specs.Section.{has, section_named, begins, is_section}
 use Rattle.mpslp_mps.specs.Context.{Context, context_of, has_section}
 use Rattle.mpslp_mps.specs.LineMeaning.{header_declared, declared}
 use Rattle.mpslp_mps.specs.HeaderFault.{header_tests}
@@ -55,7 +55,7 @@ named-push before earlier item named begun = by (has_section before Columns) ref
     by false e k = new item k
 
 -- ENDATA stands after COLUMNS
-end-after : (context : Context) (keyword : List ℕ) (more : Fields) (o : Option Section) → those_of (header_tests context keyword more o) ≡ [] → is_section EndData o ≡ true → context.seen.columns ≡ true
+end-after : (context : Context) (keyword : List ℕ) (more : Fields) (o : Option Section) → those_of (header_tests context keyword more o) ≡ [] → is_section EndData o ≡ true → has context.seen Columns ≡ true
 end-after context keyword more None h e = cc
 end-after context keyword more (Some Name) h e = cc
 end-after context keyword more (Some ObjSense) h e = cc

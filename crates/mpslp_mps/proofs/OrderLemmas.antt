@@ -9,15 +9,14 @@ use Rattle.mpslp_model.specs.Declaration.{Declaration, declare_sense, declare_ob
 use Rattle.mpslp_model.specs.Lists.{those_of}
 use Rattle.mpslp_types.specs.declared.kinds.Sense.{Sense}
 use Rattle.mpslp_types.specs.declared.kinds.Limit.{Limit}
-use Rattle.mpslp_types.specs.declared.faults.FaultKind.{FaultKind}
 use Rattle.mpslp_types.specs.declared.faults.FaultKind.TheVariants as kinds
 use Rattle.mpslp_types.proofs.BoolLemmas.{both_so, or_left, or_right, nor}
 use Rattle.mpslp_reading.proofs.HeldLemmas.{first_test, later_tests}
 use Rattle.mpslp_mps.specs.Line.{Fields, Item, skipped, header, data_line}
-use Rattle.mpslp_mps.specs.Section.{section_named, section_begun, begins, is_section}
+use Rattle.mpslp_mps.specs.Section.{has, section_named, section_begun, begins, is_section}
 use Rattle.mpslp_mps.specs.DataLine.{Pair, ValuesLine, sense_shape, sense_of, column_shape, is_marker_line, vector_shape}
 use Rattle.mpslp_mps.specs.BoundLine.{BoundLine, bound_type, bound_shape}
-use Rattle.mpslp_mps.specs.Context.{Context, context_of, current_section, has_section, has_seen}
+use Rattle.mpslp_mps.specs.Context.{Context, context_of, current_section, has_section}
 use Rattle.mpslp_mps.specs.LineMeaning.{declared_of, sense_declared, coefficient_declared, column_declared, columns_line_declared, right_sides_declared, ranges_declared, bound_declared, bound_value, bound_line_declared}
 use Rattle.mpslp_reading.specs.Field.{value_of}
 use Rattle.mpslp_reading.specs.Tests.{Tests}
@@ -35,23 +34,23 @@ abbrev tests_of_fields : Fields → Section → Tests
 tests_of_fields more section = (not (may_follow section more), kinds.FieldCount) ∷ header_word_tests section more
 
 abbrev tests_after_order : Context → Fields → Section → Tests
-tests_after_order context more section = (has_seen context.seen section, kinds.SectionRepeated) ∷ tests_of_fields more section
+tests_after_order context more section = (has context.seen section, kinds.SectionRepeated) ∷ tests_of_fields more section
 
 pub header-ordered : (context : Context) (keyword : List ℕ) (more : Fields) (section : Section) → those_of (header_tests context keyword more (Some section)) ≡ []
     → is_out_of_order context section ≡ false
 header-ordered context keyword more section h = first_test (is_out_of_order context section) kinds.SectionOrder (tests_after_order context more section) h
 
 pub header-fresh : (context : Context) (keyword : List ℕ) (more : Fields) (section : Section) → those_of (header_tests context keyword more (Some section)) ≡ []
-    → has_seen context.seen section ≡ false
+    → has context.seen section ≡ false
 header-fresh context keyword more section h =
-    first_test (has_seen context.seen section) kinds.SectionRepeated (tests_of_fields more section)
+    first_test (has context.seen section) kinds.SectionRepeated (tests_of_fields more section)
     (later_tests (is_out_of_order context section) kinds.SectionOrder (tests_after_order context more section) h)
 
 pub header-begins : (context : Context) (keyword : List ℕ) (more : Fields) (section : Section) → those_of (header_tests context keyword more (Some section)) ≡ []
     → may_begin context section ≡ true
 header-begins context keyword more section h =
-    by (has_seen context.seen section) (may_begin context section) (header-fresh context keyword more section h)
-    (nor (is_some context.wanted) (not (has_seen context.seen section || may_begin context section)) (header-ordered context keyword more section h)).1
+    by (has context.seen section) (may_begin context section) (header-fresh context keyword more section h)
+    (nor (is_some context.wanted) (not (has context.seen section || may_begin context section)) (header-ordered context keyword more section h)).1
   where
     by : (seen may : Bool) → seen ≡ false → not (seen || may) ≡ false → may ≡ true
     by true may e f = cc
@@ -65,7 +64,7 @@ pub record Past (section : Section) (before : List Item) : Type 0 where
   pub begun : has_section before section ≡ true
   pub left : is_section section (current_section before) ≡ false
 
-rows-again : (context : Context) (keyword : List ℕ) (more : Fields) (o : Option Section) → those_of (header_tests context keyword more o) ≡ [] → is_section Rows o ≡ true → context.seen.rows ≡ false
+rows-again : (context : Context) (keyword : List ℕ) (more : Fields) (o : Option Section) → those_of (header_tests context keyword more o) ≡ [] → is_section Rows o ≡ true → has context.seen Rows ≡ false
 rows-again context keyword more None h e = cc
 rows-again context keyword more (Some Name) h e = cc
 rows-again context keyword more (Some ObjSense) h e = cc
@@ -76,7 +75,7 @@ rows-again context keyword more (Some Ranges) h e = cc
 rows-again context keyword more (Some Bounds) h e = cc
 rows-again context keyword more (Some EndData) h e = cc
 
-columns-again : (context : Context) (keyword : List ℕ) (more : Fields) (o : Option Section) → those_of (header_tests context keyword more o) ≡ [] → is_section Columns o ≡ true → context.seen.columns ≡ false
+columns-again : (context : Context) (keyword : List ℕ) (more : Fields) (o : Option Section) → those_of (header_tests context keyword more o) ≡ [] → is_section Columns o ≡ true → has context.seen Columns ≡ false
 columns-again context keyword more None h e = cc
 columns-again context keyword more (Some Name) h e = cc
 columns-again context keyword more (Some ObjSense) h e = cc
@@ -144,7 +143,7 @@ pub ordered-nil : Ordered []
 ordered-nil = record { rows = λ h. cc; columns = λ h. cc }
 
 -- COLUMNS begins after ROWS; what begins after COLUMNS
-columns-after : (context : Context) (keyword : List ℕ) (more : Fields) (o : Option Section) → those_of (header_tests context keyword more o) ≡ [] → is_section Columns o ≡ true → context.seen.rows ≡ true
+columns-after : (context : Context) (keyword : List ℕ) (more : Fields) (o : Option Section) → those_of (header_tests context keyword more o) ≡ [] → is_section Columns o ≡ true → has context.seen Rows ≡ true
 columns-after context keyword more None h e = cc
 columns-after context keyword more (Some Name) h e = cc
 columns-after context keyword more (Some ObjSense) h e = cc
@@ -156,15 +155,15 @@ columns-after context keyword more (Some Bounds) h e = cc
 columns-after context keyword more (Some EndData) h e = cc
 
 late-after : (context : Context) (keyword : List ℕ) (more : Fields) (o current : Option Section) → those_of (header_tests context keyword more o) ≡ []
-    → (is_late current ≡ true → context.seen.columns ≡ true) → is_late (option_or o current) ≡ true → (context.seen.columns || is_section Columns o) ≡ true
-late-after context keyword more None current h old e = or_left context.seen.columns false (old e)
+    → (is_late current ≡ true → has context.seen Columns ≡ true) → is_late (option_or o current) ≡ true → (has context.seen Columns || is_section Columns o) ≡ true
+late-after context keyword more None current h old e = or_left (has context.seen Columns) false (old e)
 late-after context keyword more (Some Name) current h old e = cc
 late-after context keyword more (Some ObjSense) current h old e = cc
 late-after context keyword more (Some Rows) current h old e = cc
-late-after context keyword more (Some Columns) current h old e = or_right context.seen.columns true refl
-late-after context keyword more (Some Rhs) current h old e = or_left context.seen.columns false (header-begins context keyword more Rhs h)
-late-after context keyword more (Some Ranges) current h old e = or_left context.seen.columns false (header-begins context keyword more Ranges h)
-late-after context keyword more (Some Bounds) current h old e = or_left context.seen.columns false (header-begins context keyword more Bounds h)
+late-after context keyword more (Some Columns) current h old e = or_right (has context.seen Columns) true refl
+late-after context keyword more (Some Rhs) current h old e = or_left (has context.seen Columns) false (header-begins context keyword more Rhs h)
+late-after context keyword more (Some Ranges) current h old e = or_left (has context.seen Columns) false (header-begins context keyword more Ranges h)
+late-after context keyword more (Some Bounds) current h old e = or_left (has context.seen Columns) false (header-begins context keyword more Bounds h)
 late-after context keyword more (Some EndData) current h old e = cc
 
 pub ordered-push : (before : List Item) (earlier : Draft) (item : Item) → IsGood before earlier item → Ordered before → Ordered (before ++ item ∷ [])

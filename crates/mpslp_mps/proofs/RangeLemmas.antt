@@ -1,4 +1,4 @@
--- What is told of the ranges of a line.
+-- The first fault of the ranges of a line.
 use Rattle.std.proofs.Common.{◌≡◌, refl, sym, ap, ◌∙◌, ℕ, List, [], ◌∷◌, Bool, true, false, not, cond}
 use Rattle.std.specs.Prelude.{◌||◌, Option, Some, None}
 use Rattle.mpslp_decimal.specs.Decimal.{Number, is_infinite_size}
@@ -11,7 +11,7 @@ use Rattle.mpslp_reading.specs.Declaring.{declared_fault}
 use Rattle.mpslp_reading.proofs.LeastLemmas.{earlier_of}
 use Rattle.mpslp_reading.proofs.RefusedLemmas.{declared-one, declared-append}
 
--- the kind that is told, by whether the row is there, has a range, can have none, and by whether the value is infinite
+-- the kind of the fault, by whether the row is there, has a range, can have none, and by whether the value is infinite
 abbrev range_kind : Bool → Bool → Bool → Bool → Option FaultKind
 range_kind there ranged sideless infinite =
     cond (not there) (Some kinds.UnknownRow) (cond ranged (Some kinds.DuplicateRange) (cond sideless (Some kinds.RangeOnFree) (cond infinite (Some kinds.InfiniteValue) None)))
@@ -22,9 +22,9 @@ is_ranged all row = has_name all.ranges row || is_row_by_limits all row
 abbrev has_no_sides : Draft → List ℕ → Bool
 has_no_sides all row = is_objective all row || is_free_row all row
 
-range_told : (all : Draft) (row : List ℕ) (value : Number)
+range_fault : (all : Draft) (row : List ℕ) (value : Number)
     → declared_fault all (declare_range row value ∷ []) ≡ range_kind (has_row all row) (is_ranged all row) (has_no_sides all row) (is_infinite_size value)
-range_told all row value =
+range_fault all row value =
     declared-one all (declare_range row value) refl
 
 -- of another row a range says nothing
@@ -32,9 +32,9 @@ range-apart : (all : Draft) (row : List ℕ) (value : Number) (other : List ℕ)
     → declared_fault (adding all (declare_range row value)) (declare_range other second ∷ []) ≡ declared_fault all (declare_range other second ∷ [])
 range-apart all row value other second apart =
     let ranged = has-put other row value all.ranges ∙ ap (λ (b : Bool). b || has_name all.ranges other) apart in
-    range_told (adding all (declare_range row value)) other second
+    range_fault (adding all (declare_range row value)) other second
     ∙ ap (λ (b : Bool). range_kind (has_row all other) (b || is_row_by_limits all other) (has_no_sides all other) (is_infinite_size second)) ranged
-    ∙ sym (range_told all other second)
+    ∙ sym (range_fault all other second)
 
 pub ranges-apart : (all : Draft) (row : List ℕ) (value : Number) (other : List ℕ) (second : Number) → same_bytes other row ≡ false
     → declared_fault all (declare_range row value ∷ declare_range other second ∷ [])
@@ -50,7 +50,7 @@ ranges-of_one all row value other second same =
     let ranged = has-put other row value all.ranges ∙ ap (λ (b : Bool). b || has_name all.ranges other) same in
     let next = adding all (declare_range row value) in
     declared-append (declare_range row value ∷ []) (declare_range other second ∷ []) all
-    ∙ (λ i. earlier_of (range_told all row value i) (range_told next other second i))
+    ∙ (λ i. earlier_of (range_fault all row value i) (range_fault next other second i))
     ∙ (λ i. earlier_of (range_kind (has_row all row) (is_ranged all row) (has_no_sides all row) (is_infinite_size value))
     (range_kind (has_row all (same_name other row same i)) (ranged i || is_row_by_limits all other) (has_no_sides all other) (is_infinite_size second)))
     ∙ by (has_row all row) (is_ranged all row) (has_no_sides all row) (is_infinite_size value)

@@ -1,4 +1,4 @@
--- What is told of the right sides of a line.
+-- The first fault of the right sides of a line.
 use Rattle.std.proofs.Common.{◌≡◌, refl, sym, ap, subst, ◌∙◌, ℕ, List, [], ◌∷◌, ◌++◌, Bool, true, false, not, cond}
 use Rattle.std.specs.Prelude.{◌&&◌, ◌||◌, Option, Some, None, is_some}
 use Rattle.std.specs.Option.{option_map_or}
@@ -11,7 +11,7 @@ use Rattle.mpslp_types.proofs.BoolLemmas.{or_right}
 use Rattle.mpslp_model.proofs.SlotLemmas.{has-put, same_name}
 use Rattle.mpslp_reading.specs.Declaring.{declared_fault}
 use Rattle.mpslp_reading.specs.LineAnswer.{IsErrorOf}
-use Rattle.mpslp_mps.specs.DeclareAnswer.{HasMpsSides}
+use Rattle.mpslp_mps.specs.VectorDeclared.{HasMpsSides}
 use Rattle.mpslp_reading.specs.declared.errors.LineError.{LineError}
 use Rattle.mpslp_reading.specs.declared.errors.LineError.TheVariants.{Fault, OutOfMemory}
 use Rattle.mpslp_reading.proofs.LeastLemmas.{earlier_of}
@@ -23,7 +23,7 @@ use Rattle.mpslp_reading.proofs.RefusedLemmas.{declared-one, declared-append}
 abbrev is_sided : Draft → List ℕ → Bool
 is_sided all row = has_name all.rhs_values row || (is_row_by_limits all row || (is_objective all row && is_some all.constant))
 
--- the kind that is told, by whether the row is there and has a right side
+-- the kind of the fault, by whether the row is there and has a right side
 abbrev pub side_kind : Bool → Bool → Option FaultKind
 side_kind there sided = cond (not there) (Some kinds.UnknownRow) (cond sided (Some kinds.DuplicateRhs) None)
 
@@ -58,9 +58,9 @@ pub limited : (all : Draft) → HasMpsSides all → AreLimited all
 limited all sides = limited-from all sides.limited sides.constant
 
 -- of one right side
-pub side_told : (all : Draft) (row : List ℕ) (value : Number) → AreLimited all
+pub side_fault : (all : Draft) (row : List ℕ) (value : Number) → AreLimited all
     → declared_fault all (rhs_declared all row value) ≡ side_kind (has_row all row) (is_sided all row)
-side_told all row value free_unsided =
+side_fault all row value free_unsided =
     elim (is_free_row all row) as (λ b. is_free_row all row ≡ b
     → declared_fault all (cond b [] (declare_rhs row value ∷ [])) ≡ side_kind (has_row all row) (is_sided all row)) [
       | true ↦ λ free. let there = free_row all row free in let sided = free_unsided row free in λ i. side_kind (sym there i) (sym sided i)
@@ -121,19 +121,19 @@ sides-after all row value sides there =
 abbrev both : Draft → List ℕ → Number → List ℕ → Number → Option FaultKind
 both all row value other second = declared_fault all (rhs_declared all row value ++ rhs_declared all other second)
 
-both_told : (all : Draft) (row : List ℕ) (value : Number) (other : List ℕ) (second : Number) → HasMpsSides all
+both_fault : (all : Draft) (row : List ℕ) (value : Number) (other : List ℕ) (second : Number) → HasMpsSides all
     → both all row value other second ≡ earlier_of (side_kind (has_row all row) (is_sided all row)) (side_kind (has_row all other) (is_sided (after_side all row value) other))
-both_told all row value other second sides =
+both_fault all row value other second sides =
     let mid = after_side all row value in
     declared-append (rhs_declared all row value) (rhs_declared all other second) all
-    ∙ (λ i. earlier_of (side_told all row value (limited all sides) i) (declared_fault mid (sym (same_side all row value other second) i)))
-    ∙ (λ i. earlier_of (side_kind (has_row all row) (is_sided all row)) (side_told mid other second (limited-after all row value sides) i))
+    ∙ (λ i. earlier_of (side_fault all row value (limited all sides) i) (declared_fault mid (sym (same_side all row value other second) i)))
+    ∙ (λ i. earlier_of (side_kind (has_row all row) (is_sided all row)) (side_fault mid other second (limited-after all row value sides) i))
     ∙ (λ i. earlier_of (side_kind (has_row all row) (is_sided all row)) (side_kind (same_row all row value other i) (is_sided mid other)))
 
 pub row-unknown : (all : Draft) (row : List ℕ) (value : Number) (other : List ℕ) (second : Number) → HasMpsSides all → (has_row all row && has_row all other) ≡ false
     → both all row value other second ≡ Some kinds.UnknownRow
 row-unknown all row value other second sides h =
-    both_told all row value other second sides ∙ by (has_row all row) (is_sided all row) (has_row all other) (is_sided (after_side all row value) other) h
+    both_fault all row value other second sides ∙ by (has_row all row) (is_sided all row) (has_row all other) (is_sided (after_side all row value) other) h
   where
     by : (a b c d : Bool) → (a && c) ≡ false → earlier_of (side_kind a b) (side_kind c d) ≡ Some kinds.UnknownRow
     by true b true d k = cc
@@ -145,10 +145,10 @@ row-unknown all row value other second sides h =
 
 pub first-refused : (all : Draft) (row : List ℕ) (value : Number) (other : List ℕ) (second : Number) (error : LineError) → HasMpsSides all → (has_row all row && has_row all other) ≡ true
     → IsErrorOf (declared_fault all (rhs_declared all row value)) error → IsErrorOf (both all row value other second) error
-first-refused all row value other second error sides h told =
-    subst (λ (o : Option FaultKind). IsErrorOf o error) (sym (both_told all row value other second sides))
+first-refused all row value other second error sides h fault_is =
+    subst (λ (o : Option FaultKind). IsErrorOf o error) (sym (both_fault all row value other second sides))
     (by (has_row all row) (is_sided all row) (has_row all other) (is_sided (after_side all row value) other) error h
-    (subst (λ (o : Option FaultKind). IsErrorOf o error) (side_told all row value (limited all sides)) told))
+    (subst (λ (o : Option FaultKind). IsErrorOf o error) (side_fault all row value (limited all sides)) fault_is))
   where
     by : (a b c d : Bool) (e : LineError) → (a && c) ≡ true → IsErrorOf (side_kind a b) e → IsErrorOf (earlier_of (side_kind a b) (side_kind c d)) e
     by a b c d OutOfMemory k given = tt

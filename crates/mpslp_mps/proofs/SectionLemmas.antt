@@ -7,8 +7,8 @@ use Rattle.std.proofs.lemmas.List.{append-nil}
 use Rattle.std.proofs.lemmas.List.Elements.{filter_map-append}
 use Rattle.std.proofs.lemmas.List.Folds.{list_any-append}
 use Rattle.mpslp_mps.specs.Line.{Fields, Item}
-use Rattle.mpslp_mps.specs.Section.{section_begun, begins}
-use Rattle.mpslp_mps.specs.Context.{section_after, current_section, has_section, fields_under, data_lines_after, data_lines}
+use Rattle.mpslp_mps.specs.Section.{section_begun, begins, is_section, has}
+use Rattle.mpslp_mps.specs.Context.{sections_begun, section_after, current_section, has_section, fields_under, data_lines_after, data_lines}
 use Rattle.mpslp_mps.specs.declared.sections.Section.{Section}
 
 pub last_or-append : {X : Type 0} (o : Option X) (xs ys : List X) → last_or o (xs ++ ys) ≡ last_or (last_or o xs) ys
@@ -29,9 +29,32 @@ or_false : (b : Bool) → (b || false) ≡ b
 or_false true = refl
 or_false false = refl
 
+-- sections, and perhaps one more
+pub has-more : (section : Section) (begun : List Section) (o : Option Section) → has (begun ++ cons_option o []) section ≡ (has begun section || is_section section o)
+has-more section begun o =
+    list_any-append (λ other. is_section section (Some other)) begun (cons_option o []) ∙ ap (λ (b : Bool). has begun section || b) (by o)
+  where
+    by : (x : Option Section) → has (cons_option x []) section ≡ is_section section x
+    by None = refl
+    by (Some s) = or_false (is_section section (Some s))
+
+-- a section has begun once its header has been passed
 pub has_section-push : (section : Section) (before : List Item) (item : Item) → has_section (before ++ item ∷ []) section ≡ (has_section before section || begins section item)
 has_section-push section before item =
-    list_any-append (begins section) before (item ∷ []) ∙ ap (λ (b : Bool). has_section before section || b) (or_false (begins section item))
+    ap (λ (begun : List Section). has begun section) (filter_map-append section_begun before (item ∷ []))
+    ∙ has-more section (sections_begun before) (section_begun item)
+
+pub has_section-append : (section : Section) (before items : List Item) → has_section (before ++ items) section ≡ (has_section before section || has_section items section)
+has_section-append section before items =
+    ap (λ (begun : List Section). has begun section) (filter_map-append section_begun before items)
+    ∙ list_any-append (λ other. is_section section (Some other)) (sections_begun before) (sections_begun items)
+
+pub has_section-cons : (section : Section) (item : Item) (before : List Item) → has_section (item ∷ before) section ≡ (begins section item || has_section before section)
+has_section-cons section item before = by (section_begun item)
+  where
+    by : (o : Option Section) → has (cons_option o (sections_begun before)) section ≡ (is_section section o || has_section before section)
+    by None = refl
+    by (Some s) = refl
 
 section_after-cons : (current : Option Section) (x : Item) (before : List Item) → section_after current (x ∷ before) ≡ section_after (option_or (section_begun x) current) before
 section_after-cons current x before = by (section_begun x)

@@ -1,73 +1,33 @@
 -- What a line of a known shape makes of the context, as `next_context` says.
-use Rattle.std.proofs.Common.{◌≡◌, refl, ap, ◌∙◌, ℕ, List, [], ◌∷◌, Bool, true, false, cond}
-use Rattle.std.specs.Prelude.{◌||◌, Option, Some, None}
+use Rattle.std.proofs.Common.{◌≡◌, refl, ap, ◌∙◌, ℕ, List, [], ◌∷◌, ◌++◌, Bool, true, false, cond}
+use Rattle.std.specs.Prelude.{Option, Some, None}
+use Rattle.std.specs.List.{cons_option}
 use Rattle.std.specs.Option.{option_map, option_map_or, option_or}
+use Rattle.std.proofs.lemmas.List.{append-nil}
 use Rattle.mpslp_decimal.specs.Decimal.{Number}
 use Rattle.mpslp_types.specs.Name.{same_bytes}
 use Rattle.mpslp_mps.specs.Line.{Fields, skipped, header, data_line}
 use Rattle.mpslp_mps.specs.Section.{is_section, section_named}
 use Rattle.mpslp_mps.specs.DataLine.{ValuesLine, column_shape, is_marker_line, marker_shape, opening_word, vector_shape}
 use Rattle.mpslp_mps.specs.BoundLine.{BoundLine, bound_type, bound_shape}
-use Rattle.mpslp_mps.specs.Context.{Seen, Context, wanting, line_column, vector_set, bound_set}
+use Rattle.mpslp_mps.specs.Context.{Context, wanting, line_column, vector_set, bound_set}
 use Rattle.mpslp_mps.specs.NextContext.{next_part, next_set, next_context}
 use Rattle.mpslp_mps.specs.LineValues.{named_values}
-use Rattle.mpslp_mps.specs.ContextStep.{seen_with, word_wanted, after_header, after_data, after_marker, after_column, after_right_side, after_range, after_bound}
+use Rattle.mpslp_mps.specs.ContextStep.{word_wanted, after_header, after_data, after_marker, after_column, after_right_side, after_range, after_bound}
 use Rattle.mpslp_mps.specs.declared.bound_types.BoundType.{BoundType}
 use Rattle.mpslp_mps.specs.declared.sections.Section.{Section}
 use Rattle.mpslp_mps.specs.declared.sections.Section.TheVariants.{Name, ObjSense, Rows, Columns, Rhs, Ranges, Bounds, EndData}
 
-or_false : (b : Bool) → (b || false) ≡ b
-or_false true = refl
-or_false false = refl
-
-or_true : (b : Bool) → (b || true) ≡ true
-or_true true = refl
-or_true false = refl
-
--- the sections that have begun, where a line begins `section`
-abbrev next_seen_of : Seen → Option Section → Seen
-next_seen_of seen section = record {
-  name = seen.name || is_section Name section;
-  objsense = seen.objsense || is_section ObjSense section;
-  rows = seen.rows || is_section Rows section;
-  columns = seen.columns || is_section Columns section;
-  rhs = seen.rhs || is_section Rhs section;
-  ranges = seen.ranges || is_section Ranges section;
-  bounds = seen.bounds || is_section Bounds section;
-}
-
-seen-same : (seen : Seen) → next_seen_of seen None ≡ seen
-seen-same seen = λ i. record {
-  name = or_false seen.name i;
-  objsense = or_false seen.objsense i;
-  rows = or_false seen.rows i;
-  columns = or_false seen.columns i;
-  rhs = or_false seen.rhs i;
-  ranges = or_false seen.ranges i;
-  bounds = or_false seen.bounds i;
-}
-
 pub step-skipped : (c : Context) → next_context c skipped ≡ c
-step-skipped c = ap (λ (seen : Seen). record c { seen = seen }) (seen-same c.seen)
+step-skipped c = ap (λ (seen : List Section). record c { seen = seen }) (append-nil c.seen)
 
 -- ---- headers
-
-seen-header : (seen : Seen) (section : Section) → next_seen_of seen (Some section) ≡ seen_with seen section
-seen-header seen Name = λ i. record seen { name = or_true seen.name i; objsense = or_false seen.objsense i; rows = or_false seen.rows i; columns = or_false seen.columns i; rhs = or_false seen.rhs i; ranges = or_false seen.ranges i; bounds = or_false seen.bounds i }
-seen-header seen ObjSense = λ i. record seen { name = or_false seen.name i; objsense = or_true seen.objsense i; rows = or_false seen.rows i; columns = or_false seen.columns i; rhs = or_false seen.rhs i; ranges = or_false seen.ranges i; bounds = or_false seen.bounds i }
-seen-header seen Rows = λ i. record seen { name = or_false seen.name i; objsense = or_false seen.objsense i; rows = or_true seen.rows i; columns = or_false seen.columns i; rhs = or_false seen.rhs i; ranges = or_false seen.ranges i; bounds = or_false seen.bounds i }
-seen-header seen Columns = λ i. record seen { name = or_false seen.name i; objsense = or_false seen.objsense i; rows = or_false seen.rows i; columns = or_true seen.columns i; rhs = or_false seen.rhs i; ranges = or_false seen.ranges i; bounds = or_false seen.bounds i }
-seen-header seen Rhs = λ i. record seen { name = or_false seen.name i; objsense = or_false seen.objsense i; rows = or_false seen.rows i; columns = or_false seen.columns i; rhs = or_true seen.rhs i; ranges = or_false seen.ranges i; bounds = or_false seen.bounds i }
-seen-header seen Ranges = λ i. record seen { name = or_false seen.name i; objsense = or_false seen.objsense i; rows = or_false seen.rows i; columns = or_false seen.columns i; rhs = or_false seen.rhs i; ranges = or_true seen.ranges i; bounds = or_false seen.bounds i }
-seen-header seen Bounds = λ i. record seen { name = or_false seen.name i; objsense = or_false seen.objsense i; rows = or_false seen.rows i; columns = or_false seen.columns i; rhs = or_false seen.rhs i; ranges = or_false seen.ranges i; bounds = or_true seen.bounds i }
-seen-header seen EndData = seen-same seen
 
 pub step-header : (c : Context) (keyword : List ℕ) (more : Fields) (section : Section) → section_named keyword ≡ Some section
     → next_context c (header keyword more) ≡ after_header c section (wanting (header keyword more))
 step-header c keyword more section h =
     let word = wanting (header keyword more) in
-    let step : Option Section → Context = λ o. record c { section = option_or o c.section; seen = next_seen_of c.seen o; wanted = word } in
-    ap step h ∙ ap (λ (seen : Seen). record c { section = Some section; seen = seen; wanted = word }) (seen-header c.seen section)
+    ap (λ (o : Option Section). record c { section = option_or o c.section; seen = c.seen ++ cons_option o []; wanted = word }) h
 
 -- whose word is to come
 pub header-wanting : (keyword : List ℕ) (more : Fields) (section : Section) → section_named keyword ≡ Some section → wanting (header keyword more) ≡ word_wanted section more
@@ -99,7 +59,7 @@ header-wanting keyword (word ∷ more) section h = of section
 -- after a data line of a section
 abbrev under : Context → Fields → Option Section → Context
 under c fields section = record c {
-  seen = next_seen_of c.seen None;
+  seen = c.seen ++ [];
   wanted = None;
   in_integer_part = cond (is_section Columns section) (next_part fields c.in_integer_part) c.in_integer_part;
   last_column = cond (is_section Columns section) (line_column fields) c.last_column;
@@ -109,16 +69,16 @@ under c fields section = record c {
 }
 
 pub step-sense : (c : Context) (fields : Fields) → c.section ≡ Some ObjSense → next_context c (data_line fields) ≡ after_data c
-step-sense c fields h = ap (under c fields) h ∙ ap (λ (seen : Seen). record c { seen = seen; wanted = None }) (seen-same c.seen)
+step-sense c fields h = ap (under c fields) h ∙ ap (λ (seen : List Section). record c { seen = seen; wanted = None }) (append-nil c.seen)
 
 pub step-row : (c : Context) (fields : Fields) → c.section ≡ Some Rows → next_context c (data_line fields) ≡ after_data c
-step-row c fields h = ap (under c fields) h ∙ ap (λ (seen : Seen). record c { seen = seen; wanted = None }) (seen-same c.seen)
+step-row c fields h = ap (under c fields) h ∙ ap (λ (seen : List Section). record c { seen = seen; wanted = None }) (append-nil c.seen)
 
 pub step-column : (c : Context) (fields : Fields) (column : List ℕ) (values : List (List ℕ × Number)) → c.section ≡ Some Columns → is_marker_line fields ≡ false
     → option_map named_values (column_shape fields) ≡ Some (column, values) → next_context c (data_line fields) ≡ after_column c column
 step-column c fields column values h plain k =
     ap (under c fields) h
-    ∙ (λ i. record c { seen = seen-same c.seen i; wanted = None; in_integer_part = part i; last_column = last i })
+    ∙ (λ i. record c { seen = append-nil c.seen i; wanted = None; in_integer_part = part i; last_column = last i })
   where
     part : next_part fields c.in_integer_part ≡ c.in_integer_part
     part = ap (λ (b : Bool). option_map_or (same_bytes opening_word) (cond b (marker_shape fields) None) c.in_integer_part) plain
@@ -134,7 +94,7 @@ pub step-marker : (c : Context) (fields : Fields) (opens : Bool) → c.section �
     → option_map (same_bytes opening_word) (marker_shape fields) ≡ Some opens → next_context c (data_line fields) ≡ after_marker c opens
 step-marker c fields opens h marked k =
     ap (under c fields) h
-    ∙ (λ i. record c { seen = seen-same c.seen i; wanted = None; in_integer_part = part i; last_column = last i })
+    ∙ (λ i. record c { seen = append-nil c.seen i; wanted = None; in_integer_part = part i; last_column = last i })
   where
     of : (o : Option (List ℕ)) → option_map (same_bytes opening_word) o ≡ Some opens → option_map_or (same_bytes opening_word) o c.in_integer_part ≡ opens
     of None e = cc
@@ -157,17 +117,17 @@ set-of fields set values k = of (vector_shape fields) k
 pub step-right_side : (c : Context) (fields : Fields) (set : List ℕ) (values : List (List ℕ × Number)) → c.section ≡ Some Rhs
     → option_map named_values (vector_shape fields) ≡ Some (set, values) → next_context c (data_line fields) ≡ after_right_side c set
 step-right_side c fields set values h k =
-    ap (under c fields) h ∙ (λ i. record c { seen = seen-same c.seen i; wanted = None; rhs_set = option_or c.rhs_set (set-of fields set values k i) })
+    ap (under c fields) h ∙ (λ i. record c { seen = append-nil c.seen i; wanted = None; rhs_set = option_or c.rhs_set (set-of fields set values k i) })
 
 pub step-range : (c : Context) (fields : Fields) (set : List ℕ) (values : List (List ℕ × Number)) → c.section ≡ Some Ranges
     → option_map named_values (vector_shape fields) ≡ Some (set, values) → next_context c (data_line fields) ≡ after_range c set
 step-range c fields set values h k =
-    ap (under c fields) h ∙ (λ i. record c { seen = seen-same c.seen i; wanted = None; ranges_set = option_or c.ranges_set (set-of fields set values k i) })
+    ap (under c fields) h ∙ (λ i. record c { seen = append-nil c.seen i; wanted = None; ranges_set = option_or c.ranges_set (set-of fields set values k i) })
 
 pub step-bound : (c : Context) (letters : List ℕ) (more : Fields) (type : BoundType) (line : BoundLine) → c.section ≡ Some Bounds → bound_type letters ≡ Some type
     → bound_shape type more ≡ Some line → next_context c (data_line (letters ∷ more)) ≡ after_bound c line.set
 step-bound c letters more type line h t k =
-    ap (under c (letters ∷ more)) h ∙ (λ i. record c { seen = seen-same c.seen i; wanted = None; bounds_set = option_or c.bounds_set (set i) })
+    ap (under c (letters ∷ more)) h ∙ (λ i. record c { seen = append-nil c.seen i; wanted = None; bounds_set = option_or c.bounds_set (set i) })
   where
     set : bound_set (letters ∷ more) ≡ Some line.set
     set =

@@ -1,4 +1,4 @@
--- What is told of a data line, by its section.
+-- The first fault of a data line, by its section.
 use Rattle.std.proofs.Common.{◌≡◌, refl, ap, ◌∙◌, ℕ, List, [], ◌∷◌, ◌++◌, Bool, true, false, cond, map}
 use Rattle.std.specs.Prelude.{Option, Some, None}
 use Rattle.std.specs.List.{list_all, flat_map}
@@ -19,7 +19,7 @@ use Rattle.mpslp_mps.specs.DataFault.{vector_tests, bound_tests, typed_bound_tes
 use Rattle.mpslp_mps.specs.LineAnswer.{item_fault}
 use Rattle.mpslp_mps.specs.LineValues.{row_value, named_values}
 use Rattle.mpslp_reading.specs.Declaring.{declared_fault}
-use Rattle.mpslp_mps.specs.DeclareAnswer.{right_sides_of, ranges_of}
+use Rattle.mpslp_mps.specs.VectorDeclared.{right_sides_of, ranges_of}
 use Rattle.mpslp_mps.specs.declared.bound_types.BoundType.{BoundType}
 use Rattle.mpslp_mps.specs.declared.sections.Section.{Section}
 use Rattle.mpslp_reading.proofs.LeastLemmas.{is_from}
@@ -31,22 +31,22 @@ use Rattle.mpslp_mps.proofs.RisingTests.{data-rising}
 abbrev pub are_early : Tests → Type 0
 are_early tests = list_all (λ test. is_from test.1 kinds.UnknownRow) tests ≡ true
 
-abbrev pub line_told : Context → Draft → Fields → Option FaultKind
-line_told context earlier fields = item_fault context earlier (data_line fields)
+abbrev pub data_fault : Context → Draft → Fields → Option FaultKind
+data_fault context earlier fields = item_fault context earlier (data_line fields)
 
 -- a fault of the line's form, in a section whose lines have no late one
-pub form-told : (context : Context) (earlier : Draft) (fields : Fields) (section : Option Section) (kind : FaultKind) → context.section ≡ section
-    → are_early (data_tests context earlier fields section) → first_held (data_tests context earlier fields section) ≡ Some kind → line_told context earlier fields ≡ Some kind
-form-told context earlier fields section kind h early held =
+pub data_fault-form : (context : Context) (earlier : Draft) (fields : Fields) (section : Option Section) (kind : FaultKind) → context.section ≡ section
+    → are_early (data_tests context earlier fields section) → first_held (data_tests context earlier fields section) ≡ Some kind → data_fault context earlier fields ≡ Some kind
+data_fault-form context earlier fields section kind h early held =
     form-first (data_tests context earlier fields context.section) kind earlier (data_declared context earlier fields context.section) (data-rising context earlier fields context.section)
     (ap (λ (s : Option Section). first_held (data_tests context earlier fields s)) h ∙ held)
     (held-among (λ k. is_from k kinds.UnknownRow) (data_tests context earlier fields section) kind early held)
 
 -- no fault of the line's form
-pub declared-told : (context : Context) (earlier : Draft) (fields : Fields) (section : Option Section) (declarations : Declarations) → context.section ≡ section
+pub data_fault-declared : (context : Context) (earlier : Draft) (fields : Fields) (section : Option Section) (declarations : Declarations) → context.section ≡ section
     → first_held (data_tests context earlier fields section) ≡ None → data_declared context earlier fields section ≡ declarations
-    → line_told context earlier fields ≡ declared_fault earlier declarations
-declared-told context earlier fields section declarations h held is =
+    → data_fault context earlier fields ≡ declared_fault earlier declarations
+data_fault-declared context earlier fields section declarations h held is =
     declared-first (data_tests context earlier fields context.section) earlier (data_declared context earlier fields context.section) (data-rising context earlier fields context.section)
     (ap (λ (s : Option Section). first_held (data_tests context earlier fields s)) h ∙ held)
     ∙ ap (declared_fault earlier) (ap (data_declared context earlier fields) h ∙ is)

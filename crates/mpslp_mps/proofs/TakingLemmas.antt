@@ -18,17 +18,17 @@ use Rattle.mpslp_reading.specs.declared.errors.LineError.{LineError}
 use Rattle.mpslp_reading.specs.declared.errors.LineError.TheVariants.{Fault, OutOfMemory}
 use Rattle.mpslp_mps.specs.declared.sections.Section.{Section}
 use Rattle.mpslp_reading.proofs.LeastLemmas.{is_from}
-use Rattle.mpslp_mps.proofs.TakenLemmas.{line_told, form-told, declared-told, declared-is}
+use Rattle.mpslp_mps.proofs.TakenLemmas.{data_fault, data_fault-form, data_fault-declared, declared-is}
 
 -- a kind before all of what is declared
 abbrev pub is_early : Bool × FaultKind → Bool
 is_early test = is_from test.1 kinds.UnknownRow
 
--- where the form is judged, a fault of it is told
+-- where the form is judged, a fault of it is the line's first fault
 pub data-judged : (context : Context) (earlier : Draft) (fields : Fields) (section : Section) (error : LineError) → context.section ≡ Some section
     → list_all is_early (data_tests context earlier fields (Some section)) ≡ true → IsErrorOf (first_held (data_tests context earlier fields (Some section))) error
-    → IsErrorOf (line_told context earlier fields) error
-data-judged context earlier fields section (Fault kind) here early held = form-told context earlier fields (Some section) kind here early held
+    → IsErrorOf (data_fault context earlier fields) error
+data-judged context earlier fields section (Fault kind) here early held = data_fault-form context earlier fields (Some section) kind here early held
 data-judged context earlier fields section OutOfMemory here early held = tt
 
 -- a data line that is taken
@@ -36,8 +36,8 @@ pub data-taken : (context : Context) (earlier : Draft) (fields : Fields) (sectio
     → context.section ≡ Some section → first_held (data_tests context earlier fields (Some section)) ≡ None → data_declared context earlier fields (Some section) ≡ ds
     → declared_fault earlier ds ≡ None → next ≡ next_context context (data_line fields) → later ≡ adding_all earlier ds
     → ReadsItem context earlier (data_line fields) (Ok tt) next later
-data-taken context earlier fields section ds next later here held is told step draft = (
-  declared-told context earlier fields (Some section) ds here held is ∙ told,
+data-taken context earlier fields section ds next later here held is fault_is step draft = (
+  data_fault-declared context earlier fields (Some section) ds here held is ∙ fault_is,
   step,
   draft ∙ ap (adding_all earlier) (sym (declared-is context earlier fields (Some section) ds here is)),
 )

@@ -19,27 +19,27 @@ use Rattle.mpslp_mps.proofs.ReadingLemmas.{first_fault-is, draft-is}
 use Rattle.mpslp_mps.proofs.NamedLemmas.{named-lines_to_end}
 
 -- the fault of the first line that has one
-abbrev pub told_lines : List ℕ → Option Fault
-told_lines bytes = fault_from 1 (context_of []) empty_draft (lines_to_end (lines bytes))
+abbrev pub fault_of_lines : List ℕ → Option Fault
+fault_of_lines bytes = fault_from 1 (context_of []) empty_draft (lines_to_end (lines bytes))
 
 -- and the draft after all of them
 abbrev pub draft_lines : List ℕ → Draft
 draft_lines bytes = draft_from (context_of []) empty_draft (lines_to_end (lines bytes))
 
-pub told-line : (bytes : List ℕ) (error : ReadFault) → IsFaultOf (told_lines bytes) error → IsFaultOf (first_mps_fault bytes) error
-told-line bytes (File fault) told = first_fault-is bytes ∙ ap (λ (o : Option Fault). option_or o (whole_mps_fault bytes)) told
-told-line bytes Failed told = told
-told-line bytes OutOfMemory told = tt
+pub first_fault-line : (bytes : List ℕ) (error : ReadFault) → IsFaultOf (fault_of_lines bytes) error → IsFaultOf (first_mps_fault bytes) error
+first_fault-line bytes (File fault) fault_is = first_fault-is bytes ∙ ap (λ (o : Option Fault). option_or o (whole_mps_fault bytes)) fault_is
+first_fault-line bytes Failed fault_is = fault_is
+first_fault-line bytes OutOfMemory fault_is = tt
 
 abbrev whole : List ℕ → Bool → Option Fault
 whole bytes ended = cond ended (file_fault (draft_of (declarations_of bytes))) (Some (whole_fault MissingEnd None))
 
-pub told-whole : (bytes : List ℕ) (ended : Bool) → told_lines bytes ≡ None → has_end bytes ≡ ended → first_mps_fault bytes ≡ whole bytes ended
-told-whole bytes ended none is =
+pub first_fault-whole : (bytes : List ℕ) (ended : Bool) → fault_of_lines bytes ≡ None → has_end bytes ≡ ended → first_mps_fault bytes ≡ whole bytes ended
+first_fault-whole bytes ended none is =
     first_fault-is bytes ∙ ap (λ (o : Option Fault). option_or o (whole_mps_fault bytes)) none ∙ ap (whole bytes) is
 
 pub draft-whole : (bytes : List ℕ) → draft_lines bytes ≡ draft_of (declarations_of bytes)
 draft-whole bytes = sym (draft-is bytes)
 
-pub named-whole : (bytes : List ℕ) → told_lines bytes ≡ None → has_end bytes ≡ true → is_some (draft_lines bytes).objective ≡ true
+pub named-whole : (bytes : List ℕ) → fault_of_lines bytes ≡ None → has_end bytes ≡ true → is_some (draft_lines bytes).objective ≡ true
 named-whole bytes none ended = named-lines_to_end (lines bytes) 1 (context_of []) empty_draft (λ h. cc) none ended

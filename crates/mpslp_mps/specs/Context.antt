@@ -1,59 +1,32 @@
 -- What the lines before one say of it: each reading by itself of the list of these lines.
 use Rattle.std.specs.Prelude.{ℕ, Bool, true, false, List, [], ◌∷◌, ◌++◌, filter, filter_map, Option, Some, None, if◌then◌else◌}
-use Rattle.std.specs.List.{list_any, last_or}
+use Rattle.std.specs.List.{last_or}
 use Rattle.std.specs.Option.{option_map, option_map_or, option_or}
 use Rattle.mpslp_types.specs.Name.{same_bytes}
 use Rattle.mpslp_model.specs.Lists.{head_of, when}
 use Rattle.mpslp_mps.specs.Line.{Fields, Item, skipped, header, data_line}
-use Rattle.mpslp_mps.specs.Section.{section_begun, begins, is_section}
+use Rattle.mpslp_mps.specs.Section.{has, section_begun, begins, is_section}
 use Rattle.mpslp_mps.specs.DataLine.{column_shape, is_marker_line, marker_shape, opening_word, vector_shape}
 use Rattle.mpslp_mps.specs.BoundLine.{bound_type, bound_shape}
 use Rattle.mpslp_mps.specs.declared.sections.Section.{Section}
-use Rattle.mpslp_mps.specs.declared.sections.Section.TheVariants.{Name, ObjSense, Rows, Columns, Rhs, Ranges, Bounds, EndData}
+use Rattle.mpslp_mps.specs.declared.sections.Section.TheVariants.{ObjSense, Columns, Rhs, Ranges, Bounds}
 
 -- ---- sections
 
+-- the sections that have begun, in their order
+abbrev pub sections_begun : List Item → List Section
+sections_begun before = filter_map section_begun before
+
+abbrev pub has_section : List Item → Section → Bool
+has_section before section = has (sections_begun before) section
+
 -- the section after some lines that stand in `current`: that of the last header
 abbrev pub section_after : Option Section → List Item → Option Section
-section_after current items = last_or current (filter_map section_begun items)
+section_after current items = last_or current (sections_begun items)
 
 -- the section that a line after these stands in
 abbrev pub current_section : List Item → Option Section
 current_section before = section_after None before
-
-abbrev pub has_section : List Item → Section → Bool
-has_section before section = list_any (begins section) before
-
--- which sections have begun. None has begun twice, and nothing is read after ENDATA
-pub record Seen : Type 0 where
-  pub name : Bool
-  pub objsense : Bool
-  pub rows : Bool
-  pub columns : Bool
-  pub rhs : Bool
-  pub ranges : Bool
-  pub bounds : Bool
-
-abbrev pub seen_in : List Item → Seen
-seen_in before = record {
-  name = has_section before Name;
-  objsense = has_section before ObjSense;
-  rows = has_section before Rows;
-  columns = has_section before Columns;
-  rhs = has_section before Rhs;
-  ranges = has_section before Ranges;
-  bounds = has_section before Bounds;
-}
-
-abbrev pub has_seen : Seen → Section → Bool
-has_seen seen Name = seen.name
-has_seen seen ObjSense = seen.objsense
-has_seen seen Rows = seen.rows
-has_seen seen Columns = seen.columns
-has_seen seen Rhs = seen.rhs
-has_seen seen Ranges = seen.ranges
-has_seen seen Bounds = seen.bounds
-has_seen seen EndData = false
 
 -- ---- the data lines of a section
 
@@ -117,7 +90,7 @@ first_set set_of lines = head_of (filter_map set_of lines)
 
 pub record Context : Type 0 where
   pub section : Option Section
-  pub seen : Seen
+  pub seen : List Section
   pub wanted : Option Section
   pub in_integer_part : Bool
   pub last_column : Option (List ℕ)
@@ -128,7 +101,7 @@ pub record Context : Type 0 where
 abbrev pub context_of : List Item → Context
 context_of before = record {
   section = current_section before;
-  seen = seen_in before;
+  seen = sections_begun before;
   wanted = wanted before;
   in_integer_part = in_integer_part before;
   last_column = last_column before;

@@ -1,21 +1,10 @@
 -- What a line of a known shape makes of the context.
-use Rattle.std.specs.Prelude.{ℕ, Bool, true, false, List, [], Option, Some, None}
+use Rattle.std.specs.Prelude.{ℕ, Bool, List, [], ◌∷◌, ◌++◌, Option, Some, None}
 use Rattle.std.specs.Option.{option_or}
 use Rattle.mpslp_mps.specs.Line.{Fields}
-use Rattle.mpslp_mps.specs.Context.{Seen, Context}
+use Rattle.mpslp_mps.specs.Context.{Context}
 use Rattle.mpslp_mps.specs.declared.sections.Section.{Section}
-use Rattle.mpslp_mps.specs.declared.sections.Section.TheVariants.{Name, ObjSense, Rows, Columns, Rhs, Ranges, Bounds, EndData}
-
--- a section more has begun
-abbrev pub seen_with : Seen → Section → Seen
-seen_with seen Name = record seen { name = true }
-seen_with seen ObjSense = record seen { objsense = true }
-seen_with seen Rows = record seen { rows = true }
-seen_with seen Columns = record seen { columns = true }
-seen_with seen Rhs = record seen { rhs = true }
-seen_with seen Ranges = record seen { ranges = true }
-seen_with seen Bounds = record seen { bounds = true }
-seen_with seen EndData = seen
+use Rattle.mpslp_mps.specs.declared.sections.Section.TheVariants.{ObjSense}
 
 -- the section whose header wants a word on a line of its own: an OBJSENSE without its word
 abbrev pub word_wanted : Section → Fields → Option Section
@@ -24,7 +13,7 @@ word_wanted _ more = None
 
 -- after the header of a section, which may want a word
 abbrev pub after_header : Context → Section → Option Section → Context
-after_header c section wanted = record c { section = Some section; seen = seen_with c.seen section; wanted = wanted }
+after_header c section wanted = record c { section = Some section; seen = c.seen ++ section ∷ []; wanted = wanted }
 
 -- after a data line that later lines ask nothing of
 abbrev pub after_data : Context → Context

@@ -5,8 +5,9 @@ use Rattle.mpslp_model.specs.Lists.{is_nonempty}
 use Rattle.mpslp_types.specs.declared.faults.FaultKind.{FaultKind}
 use Rattle.mpslp_types.specs.declared.faults.FaultKind.TheVariants as kinds
 use Rattle.mpslp_mps.specs.Line.{Fields}
+use Rattle.mpslp_mps.specs.Section.{has}
 use Rattle.mpslp_mps.specs.DataLine.{sense_of}
-use Rattle.mpslp_mps.specs.Context.{Context, has_seen}
+use Rattle.mpslp_mps.specs.Context.{Context}
 use Rattle.mpslp_reading.specs.Tests.{Tests}
 use Rattle.mpslp_mps.specs.declared.sections.Section.{Section}
 use Rattle.mpslp_mps.specs.declared.sections.Section.TheVariants.{Name, ObjSense, Rows, Columns}
@@ -21,14 +22,14 @@ unknown_section keyword =
 -- whether a section that has not begun may begin here
 abbrev pub may_begin : Context → Section → Bool
 may_begin context Name = is_none context.section
-may_begin context ObjSense = not context.seen.rows
+may_begin context ObjSense = not (has context.seen Rows)
 may_begin context Rows = true
-may_begin context Columns = context.seen.rows
-may_begin context _ = context.seen.columns
+may_begin context Columns = has context.seen Rows
+may_begin context _ = has context.seen Columns
 
 -- a header while a word is wanted, and a section out of order
 abbrev pub is_out_of_order : Context → Section → Bool
-is_out_of_order context section = is_some context.wanted || not (has_seen context.seen section || may_begin context section)
+is_out_of_order context section = is_some context.wanted || not (has context.seen section || may_begin context section)
 
 -- what may follow the keyword: anything after NAME, one word after OBJSENSE
 abbrev pub may_follow : Section → Fields → Bool
@@ -49,6 +50,6 @@ abbrev pub header_tests : Context → List ℕ → Fields → Option Section →
 header_tests context keyword more None = (true, unknown_section keyword) ∷ []
 header_tests context keyword more (Some section) =
     (is_out_of_order context section, kinds.SectionOrder)
-    ∷ (has_seen context.seen section, kinds.SectionRepeated)
+    ∷ (has context.seen section, kinds.SectionRepeated)
     ∷ (not (may_follow section more), kinds.FieldCount)
     ∷ header_word_tests section more

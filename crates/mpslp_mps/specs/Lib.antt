@@ -16,6 +16,6 @@ pub mod FirstFault
 pub mod Reading
 pub mod Laws
 pub mod LineAnswer
-pub mod DeclareAnswer
+pub mod VectorDeclared
 pub mod ColumnDeclared
 pub mod ReadingAnswer

@@ -1,24 +1,14 @@
 -- The context after one line more, from the context before it: what a reader keeps in place of the lines.
-use Rattle.std.specs.Prelude.{ℕ, Bool, ◌||◌, List, Option, if◌then◌else◌}
+use Rattle.std.specs.Prelude.{ℕ, Bool, List, [], ◌++◌, Option, if◌then◌else◌}
+use Rattle.std.specs.List.{cons_option}
 use Rattle.std.specs.Option.{option_map_or, option_or}
 use Rattle.mpslp_types.specs.Name.{same_bytes}
 use Rattle.mpslp_mps.specs.Line.{Fields, Item, data_line}
-use Rattle.mpslp_mps.specs.Section.{section_begun, begins, is_section}
+use Rattle.mpslp_mps.specs.Section.{section_begun, is_section}
 use Rattle.mpslp_mps.specs.DataLine.{opening_word}
-use Rattle.mpslp_mps.specs.Context.{Seen, is_read, wanting, marker_word, line_column, vector_set, bound_set, Context}
+use Rattle.mpslp_mps.specs.Context.{is_read, wanting, marker_word, line_column, vector_set, bound_set, Context}
 use Rattle.mpslp_mps.specs.declared.sections.Section.{Section}
-use Rattle.mpslp_mps.specs.declared.sections.Section.TheVariants.{Name, ObjSense, Rows, Columns, Rhs, Ranges, Bounds}
-
-abbrev pub next_seen : Seen → Item → Seen
-next_seen seen item = record {
-  name = seen.name || begins Name item;
-  objsense = seen.objsense || begins ObjSense item;
-  rows = seen.rows || begins Rows item;
-  columns = seen.columns || begins Columns item;
-  rhs = seen.rhs || begins Rhs item;
-  ranges = seen.ranges || begins Ranges item;
-  bounds = seen.bounds || begins Bounds item;
-}
+use Rattle.mpslp_mps.specs.declared.sections.Section.TheVariants.{Columns, Rhs, Ranges, Bounds}
 
 -- what a data line of the section changes a reading to
 abbrev pub changed_under : {X : Type 0} → Section → Option Section → (Fields → X → X) → Item → X → X
@@ -36,7 +26,7 @@ next_set set_of fields old = option_or old (set_of fields)
 abbrev pub next_context : Context → Item → Context
 next_context c item = record {
   section = option_or (section_begun item) c.section;
-  seen = next_seen c.seen item;
+  seen = c.seen ++ cons_option (section_begun item) [];
   wanted = if is_read item then wanting item else c.wanted;
   in_integer_part = changed_under Columns c.section next_part item c.in_integer_part;
   last_column = changed_under Columns c.section (λ fields _. line_column fields) item c.last_column;

@@ -29,7 +29,7 @@ ReadsLines context earlier text answer later =
     let first_fault = fault_from 1 context earlier (lines_to_end text) in
     MatchResult answer (λ ended. (first_fault ≡ None) × (later ≡ draft_from context earlier (lines_to_end text)) × (ended ≡ list_any is_end text)) (IsFaultOf first_fault)
 
--- The first fault is told, or else there is the draft of what the text declares, and then it alone decides whether there
+-- There is the first fault, or else the draft of what the text declares, and then it alone decides whether there
 -- is a fault; its objective has a name.
 abbrev pub ReadsText : List ℕ → Result Draft ReadFault → Type 0
 ReadsText bytes answer =

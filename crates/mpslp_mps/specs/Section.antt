@@ -1,6 +1,6 @@
 -- Headers, and the sections that they begin.
 use Rattle.std.specs.Prelude.{ℕ, Bool, false, List, [], ◌∷◌, Option, Some, None, codes}
-use Rattle.std.specs.List.{find}
+use Rattle.std.specs.List.{find, list_any}
 use Rattle.mpslp_types.specs.Name.{same_bytes}
 use Rattle.mpslp_mps.specs.Line.{Item, header}
 use Rattle.mpslp_mps.specs.declared.sections.Section.{Section}
@@ -36,3 +36,7 @@ is_section section (Some current) = same_bytes (keyword_of section) (keyword_of 
 -- whether a line is the header of the section
 abbrev pub begins : Section → Item → Bool
 begins section item = is_section section (section_begun item)
+
+-- whether a section is one of these
+abbrev pub has : List Section → Section → Bool
+has set section = list_any (λ other. is_section section (Some other)) set

@@ -3,27 +3,15 @@
 ghost use Rattle.std.specs.Prelude.{◌≡◌, [], false, is_some, OnOk};
 ghost use Rattle.std.specs.Option.{option_map, option_map_or};
 ghost use Rattle.mpslp_types.specs.Name.{same_bytes};
-ghost use Rattle.mpslp_mps.specs.Section.{is_section};
+ghost use Rattle.mpslp_mps.specs.Section.{has, is_section};
 ghost use Rattle.mpslp_mps.specs.declared.sections.Section.{Section};
-ghost use Rattle.mpslp_mps.specs.Context.{has_seen, context_of};
+ghost use Rattle.mpslp_mps.specs.Context.{context_of};
 ghost use Rattle.mpslp_mps.specs.ContextStep.{after_header, after_data, after_marker, after_column, after_right_side, after_range, after_bound};
 ghost use Rattle.mpslp_mps.specs.HeaderFault.{may_begin, is_out_of_order};
 
 use crate::sections::Section;
 use std::alloc::{AllocError, Global};
 use std::marker::Model;
-
-/// Which sections have begun.
-#[derive(Clone, Copy, Debug)]
-struct SeenSections {
-    name: bool,
-    objsense: bool,
-    rows: bool,
-    columns: bool,
-    rhs: bool,
-    ranges: bool,
-    bounds: bool,
-}
 
 /// What the lines before one say of it. Contracts see it as a `Context`.
 ///
@@ -32,7 +20,7 @@ struct SeenSections {
 pub(crate) struct LineContext {
     alloc: Global,
     section: Option<Section>,
-    seen: SeenSections,
+    seen: Vec<Section>,
     wanted: Option<Section>,
     in_integer_part: bool,
     last_column: Option<Vec<u8>>,
@@ -49,15 +37,7 @@ impl Model for LineContext {
 
     ghost view = { λ c. record {
       section = c.section;
-      seen = record {
-        name = c.seen.name;
-        objsense = c.seen.objsense;
-        rows = c.seen.rows;
-        columns = c.seen.columns;
-        rhs = c.seen.rhs;
-        ranges = c.seen.ranges;
-        bounds = c.seen.bounds;
-      };
+      seen = c.seen.items;
       wanted = c.wanted;
       in_integer_part = c.in_integer_part;
       last_column = option_map (λ name. name.items) c.last_column;
@@ -95,15 +75,7 @@ impl LineContext {
         LineContext {
             alloc,
             section: None,
-            seen: SeenSections {
-                name: false,
-                objsense: false,
-                rows: false,
-                columns: false,
-                rhs: false,
-                ranges: false,
-                bounds: false,
-            },
+            seen: Vec::new(alloc),
             wanted: None,
             in_integer_part: false,
             last_column: None,
@@ -153,18 +125,9 @@ impl LineContext {
 
     /// Whether the section has begun.
     pub(crate) fn has_seen(&self, section: Section) -> bool
-        ensures { result ≡ has_seen self.now.seen section }
+        ensures { result ≡ has self.now.seen section }
     {
-        match section {
-            Section::Name => self.seen.name,
-            Section::ObjSense => self.seen.objsense,
-            Section::Rows => self.seen.rows,
-            Section::Columns => self.seen.columns,
-            Section::Rhs => self.seen.rhs,
-            Section::Ranges => self.seen.ranges,
-            Section::Bounds => self.seen.bounds,
-            Section::EndData => false,
-        }
+        self.seen.contains(&section)
     }
 
     /// Whether the section, if it has not begun, may begin here.
@@ -173,12 +136,12 @@ impl LineContext {
     {
         match section {
             Section::Name => self.section.is_none(),
-            Section::ObjSense => !self.seen.rows,
+            Section::ObjSense => !self.has_seen(Section::Rows),
             Section::Rows => true,
-            Section::Columns => self.seen.rows,
-            Section::Rhs | Section::Ranges | Section::Bounds | Section::EndData => self
-                .seen
-                .columns,
+            Section::Columns => self.has_seen(Section::Rows),
+            Section::Rhs | Section::Ranges | Section::Bounds | Section::EndData => {
+                self.has_seen(Section::Columns)
+            }
         }
     }
 
@@ -211,21 +174,17 @@ impl LineContext {
     }
 
     /// Goes past the header of a section; `wanted` is the section whose word is to come then.
-    pub(crate) fn pass_header(&mut self, section: Section, wanted: Option<Section>)
-        ensures { self.new ≡ after_header self.old section wanted }
+    pub(crate) fn pass_header(
+        &mut self,
+        section: Section,
+        wanted: Option<Section>,
+    ) -> Result<(), AllocError>
+        ensures { OnOk result (self.new ≡ after_header self.old section wanted) }
     {
-        match section {
-            Section::Name => self.seen.name = true,
-            Section::ObjSense => self.seen.objsense = true,
-            Section::Rows => self.seen.rows = true,
-            Section::Columns => self.seen.columns = true,
-            Section::Rhs => self.seen.rhs = true,
-            Section::Ranges => self.seen.ranges = true,
-            Section::Bounds => self.seen.bounds = true,
-            Section::EndData => {}
-        }
+        self.seen.push(section)?;
         self.section = Some(section);
         self.wanted = wanted;
+        Ok(())
     }
 
     /// Goes past a data line of OBJSENSE or ROWS.

@@ -77,6 +77,6 @@ pub(crate) fn read_header(
 {
     let section = check_header(context, keyword, more)?;
     declare_header(builder, alloc, section, more)?;
-    context.pass_header(section, word_wanted(section, more));
+    context.pass_header(section, word_wanted(section, more))?;
     Ok(())
 }

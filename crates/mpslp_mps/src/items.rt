@@ -7,7 +7,7 @@ ghost use Rattle.mpslp_mps.specs.LineMeaning.{row_of_type};
 ghost use Rattle.mpslp_reading.specs.LineAnswer.{AreDeclared};
 ghost use Rattle.mpslp_mps.specs.LineAnswer.{ReadsItem};
 ghost use Rattle.mpslp_mps.specs.ReadingAnswer.{ReadsLine};
-ghost use Rattle.mpslp_mps.specs.DeclareAnswer.{HasMpsSides};
+ghost use Rattle.mpslp_mps.specs.VectorDeclared.{HasMpsSides};
 
 use crate::bounds::read_bound;
 use crate::columns::read_column;

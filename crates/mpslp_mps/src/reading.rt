@@ -5,7 +5,7 @@ ghost use Rattle.std.specs.Str.Lines.{lines};
 ghost use Rattle.mpslp_mps.specs.Section.{is_section};
 ghost use Rattle.mpslp_mps.specs.declared.sections.Section.{Section};
 ghost use Rattle.mpslp_mps.specs.ReadingAnswer.{ReadsLines, ReadsText, ReadsMps};
-ghost use Rattle.mpslp_mps.specs.DeclareAnswer.{HasMpsSides};
+ghost use Rattle.mpslp_mps.specs.VectorDeclared.{HasMpsSides};
 
 use crate::context::LineContext;
 use crate::items::read_line;

@@ -8,7 +8,7 @@ ghost use Rattle.mpslp_reading.specs.Declaring.{declaring_faults, declared_fault
 ghost use Rattle.mpslp_mps.specs.Line.{data_line};
 ghost use Rattle.mpslp_reading.specs.LineAnswer.{IsErrorOf, AreDeclared};
 ghost use Rattle.mpslp_mps.specs.LineAnswer.{ReadsItem};
-ghost use Rattle.mpslp_mps.specs.DeclareAnswer.{HasMpsSides, right_sides_of, ranges_of};
+ghost use Rattle.mpslp_mps.specs.VectorDeclared.{HasMpsSides, right_sides_of, ranges_of};
 ghost use Rattle.mpslp_mps.specs.declared.sections.Section.{Section};
 
 use crate::context::LineContext;

@@ -10,6 +10,6 @@ returns-in_err-integer c =
     let all = c.args.builder.now in
     let d = declare_integer c.args.column.now in
     let fault = c.in_err-integer.field-0.0 in
-    let told = call-error all d fault (◌≡◌ {A = Draft} c.integer.new.self (adding all d)) (◌≡◌ {A = Draft} c.integer.new.self all) refl c.in_err-integer.ensures in
-    let both = integer-refused all c.args.column.now c.args.lower c.args.upper (error_of_build fault) c.requires.some told in
+    let fault_is = call-error all d fault (◌≡◌ {A = Draft} c.integer.new.self (adding all d)) (◌≡◌ {A = Draft} c.integer.new.self all) refl c.in_err-integer.ensures in
+    let both = integer-refused all c.args.column.now c.args.lower c.args.upper (error_of_build fault) c.requires.some fault_is in
     search rules

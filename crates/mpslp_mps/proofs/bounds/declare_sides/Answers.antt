@@ -7,5 +7,5 @@ pub returns-in_err-bounds : goal.returns-in_err-bounds
 returns-in_err-bounds c =
     let all = c.args.builder.now in
     let later = adding_all all (bounds_declared c.args.column.now c.args.lower c.args.upper) in
-    let told = sides-refused all c.args.column.now c.args.lower c.args.upper c.in_err-bounds.field-0.0 (◌≡◌ {A = Draft} c.bounds.new.self later) (◌≡◌ {A = Draft} c.bounds.new.self all) c.requires.some c.in_err-bounds.ensures in
+    let fault_is = sides-refused all c.args.column.now c.args.lower c.args.upper c.in_err-bounds.field-0.0 (◌≡◌ {A = Draft} c.bounds.new.self later) (◌≡◌ {A = Draft} c.bounds.new.self all) c.requires.some c.in_err-bounds.ensures in
     search rules

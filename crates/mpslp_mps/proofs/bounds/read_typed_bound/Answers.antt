@@ -8,14 +8,14 @@ use Rattle.mpslp_types.specs.declared.faults.FaultKind.{FaultKind}
 use Rattle.mpslp_reading.specs.LineAnswer.{IsErrorOf}
 use Rattle.mpslp_mps.specs.declared.sections.Section.TheVariants.{Bounds}
 use Rattle.mpslp_mps.proofs.StepLemmas.{step-bound}
-use Rattle.mpslp_mps.proofs.TakenLemmas.{form-told, declared-told, declared-is, bounds-early}
+use Rattle.mpslp_mps.proofs.TakenLemmas.{data_fault-form, data_fault-declared, declared-is, bounds-early}
 use Rattle.mpslp_mps.proofs.BoundSideLemmas.{bound-is}
 use Rattle.mpslp_mps.proofs.bounds.read_typed_bound.Goals as goal
 
 pub returns-in_err-bound_type : goal.returns-in_err-bound_type
 returns-in_err-bound_type c =
     let more = map (λ (field : Bor (List ℕ)). field.now) c.args.more.now in
-    let told = form-told c.args.context.now c.args.builder.now (c.args.letters.now ∷ more) (Some Bounds) c.in_err-bound_type.field-0.0 c.requires (bounds-early c.args.context.now c.args.letters.now more) c.in_err-bound_type.ensures in
+    let fault_is = data_fault-form c.args.context.now c.args.builder.now (c.args.letters.now ∷ more) (Some Bounds) c.in_err-bound_type.field-0.0 c.requires (bounds-early c.args.context.now c.args.letters.now more) c.in_err-bound_type.ensures in
     search rules
 
 pub returns-in_err-declare_bound : goal.returns-in_err-declare_bound
@@ -26,8 +26,8 @@ returns-in_err-declare_bound c =
     let said = c.in_ok-bound_type.ensures in
     let declarations = bound_declared type c.line.inside.column.now c.side_of.result in
     let is = bound-is c.args.letters.now more type line c.in_ok-bound_type.value said.1 said.2 said.3 ∙ (λ i. bound_declared type (sym c.line.view_is i).column (sym c.side_of.ensures.value i)) in
-    let told = declared-told c.args.context.now c.args.builder.now (c.args.letters.now ∷ more) (Some Bounds) declarations c.requires said.0 is in
-    let answer = subst (λ (o : Option FaultKind). IsErrorOf o c.in_err-declare_bound.field-0.0) (sym told) c.in_err-declare_bound.ensures in
+    let fault_is = data_fault-declared c.args.context.now c.args.builder.now (c.args.letters.now ∷ more) (Some Bounds) declarations c.requires said.0 is in
+    let answer = subst (λ (o : Option FaultKind). IsErrorOf o c.in_err-declare_bound.field-0.0) (sym fault_is) c.in_err-declare_bound.ensures in
     search rules
 
 pub returns : goal.returns
@@ -38,10 +38,10 @@ returns c =
     let said = c.in_ok-bound_type.ensures in
     let declarations = bound_declared type c.line.inside.column.now c.side_of.result in
     let is = bound-is c.args.letters.now more type line c.in_ok-bound_type.value said.1 said.2 said.3 ∙ (λ i. bound_declared type (sym c.line.view_is i).column (sym c.side_of.ensures.value i)) in
-    let told = declared-told c.args.context.now c.args.builder.now (c.args.letters.now ∷ more) (Some Bounds) declarations c.requires said.0 is in
+    let fault_is = data_fault-declared c.args.context.now c.args.builder.now (c.args.letters.now ∷ more) (Some Bounds) declarations c.requires said.0 is in
     let same = declared-is c.args.context.now c.args.builder.now (c.args.letters.now ∷ more) (Some Bounds) declarations c.requires is in
     let step = step-bound c.args.context.now c.args.letters.now more type line c.requires said.1 said.2 in (
-      told ∙ c.in_ok-declare_bound.ensures.0,
+      fault_is ∙ c.in_ok-declare_bound.ensures.0,
       c.in_ok-pass_bound.ensures ∙ ap (λ (parts : BoundLine). after_bound c.args.context.now parts.set) c.line.view_is ∙ sym step,
       c.in_ok-declare_bound.ensures.1 ∙ ap (adding_all c.args.builder.now) (sym same),
     )

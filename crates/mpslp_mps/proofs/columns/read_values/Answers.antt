@@ -13,7 +13,7 @@ use Rattle.mpslp_mps.specs.declared.sections.Section.{Section}
 use Rattle.mpslp_mps.proofs.StepLemmas.{step-column}
 use Rattle.mpslp_reading.proofs.AnswerLemmas.{ends-by}
 use Rattle.mpslp_mps.proofs.ColumnTaking.{front-there}
-use Rattle.mpslp_mps.proofs.ColumnLine.{column-judged, place-told, placed-told, column-declares, with_column}
+use Rattle.mpslp_mps.proofs.ColumnLine.{column-judged, place-fault, placed-fault, column-declares, with_column}
 use Rattle.mpslp_mps.proofs.columns.read_values.Goals as goal
 
 pub returns-in_err-column : goal.returns-in_err-column
@@ -27,7 +27,7 @@ returns-in_err-check_place c =
     let fields = map (λ field. field.now) c.args.fields.now in
     let line = c.in_ok-column.ensures in
     ends-by c.from_residual-in_err-check_place.result (Fault c.in_err-check_place.field-0.0) _ _ c.from_residual-in_err-check_place.ensures.1
-    (place-told c.args.context.now c.args.builder.now fields c.in_ok-column.column.now c.in_ok-column.values c.in_err-check_place.field-0.0 c.requires.section
+    (place-fault c.args.context.now c.args.builder.now fields c.in_ok-column.column.now c.in_ok-column.values c.in_err-check_place.field-0.0 c.requires.section
     c.requires.plain line.0 line.1 c.in_err-check_place.ensures)
 
 pub declare_values-requires-clause-column : goal.declare_values-requires-clause-column
@@ -46,10 +46,10 @@ returns-in_err-declare_values c =
     let error = c.in_err-declare_values.field-0.0 in
     let draft : c.declare_column.new.builder ≡ with_column context earlier column =
     c.in_ok-declare_column.ensures ∙ ap (λ (marked : Bool). adding_all earlier (front_declared marked column)) c.in_integer_part.ensures in
-    let told = ap (λ (d : Draft). declared_fault d (flat_map (value_declared column) values)) draft
-    ∙ sym (placed-told context earlier fields column values c.requires.section c.requires.plain line.0 line.1 c.in_ok-check_place.ensures) in
+    let fault_is = ap (λ (d : Draft). declared_fault d (flat_map (value_declared column) values)) draft
+    ∙ sym (placed-fault context earlier fields column values c.requires.section c.requires.plain line.0 line.1 c.in_ok-check_place.ensures) in
     ends-by c.from_residual-in_err-declare_values.result error _ _ c.from_residual-in_err-declare_values.ensures.1
-    (subst (λ (o : Option FaultKind). IsErrorOf o error) told c.in_err-declare_values.ensures)
+    (subst (λ (o : Option FaultKind). IsErrorOf o error) fault_is c.in_err-declare_values.ensures)
 
 pub returns : goal.returns
 returns c =
@@ -64,7 +64,7 @@ returns c =
     let draft : c.declare_column.new.builder ≡ with_column context earlier column =
     c.in_ok-declare_column.ensures ∙ ap (λ (marked : Bool). adding_all earlier (front_declared marked column)) c.in_integer_part.ensures in
     let declares = column-declares context earlier fields column values c.requires.plain line.1 in (
-      placed-told context earlier fields column values c.requires.section c.requires.plain line.0 line.1 c.in_ok-check_place.ensures
+      placed-fault context earlier fields column values c.requires.section c.requires.plain line.0 line.1 c.in_ok-check_place.ensures
           ∙ ap (λ (d : Draft). declared_fault d coefficients) (sym draft) ∙ c.in_ok-declare_values.ensures.0,
       c.in_ok-pass_column.ensures ∙ sym (step-column context fields column values c.requires.section c.requires.plain line.1),
       c.in_ok-declare_values.ensures.1 ∙ ap (λ (d : Draft). adding_all d coefficients) draft ∙ sym (adding_all-append front coefficients earlier)

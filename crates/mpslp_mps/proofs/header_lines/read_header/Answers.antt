@@ -1,4 +1,4 @@
-use Rattle.std.proofs.Common.{sym, ap, subst, ◌∙◌, Bool, map}
+use Rattle.std.proofs.Common.{sym, ap, subst, ◌∙◌, map}
 use Rattle.std.specs.Prelude.{Option}
 use Rattle.mpslp_model.specs.Declaration.{adding_all}
 use Rattle.mpslp_types.specs.declared.faults.FaultKind.{FaultKind}
@@ -36,7 +36,7 @@ returns c =
     let section = c.in_ok-section.section in
     let named = c.in_ok-section.ensures.0 in (
       header-declares context earlier keyword more section named c.in_ok-section.ensures.1 ∙ c.in_ok-declare_header.ensures.0,
-      c.pass_header.ensures ∙ ap (λ (word : Option Section). after_header context section word) (c.word_wanted.ensures ∙ sym (header-wanting keyword more section named))
+      c.in_ok-pass_header.ensures ∙ ap (λ (word : Option Section). after_header context section word) (c.word_wanted.ensures ∙ sym (header-wanting keyword more section named))
           ∙ sym (step-header context keyword more section named),
       c.in_ok-declare_header.ensures.1 ∙ ap (λ (o : Option Section). adding_all earlier (header_declared earlier more o)) (sym named),
     )

@@ -5,7 +5,7 @@ use Rattle.mpslp_types.specs.declared.faults.FaultKind.{FaultKind}
 use Rattle.mpslp_reading.specs.ErrorOf.{error_of_build}
 use Rattle.mpslp_reading.specs.LineAnswer.{IsErrorOf}
 use Rattle.mpslp_reading.proofs.RefusedLemmas.{call-error}
-use Rattle.mpslp_mps.proofs.TakenLemmas.{declared-told}
+use Rattle.mpslp_mps.proofs.TakenLemmas.{data_fault-declared}
 use Rattle.mpslp_mps.specs.DataLine.{sense_shape}
 use Rattle.mpslp_reading.specs.declared.errors.LineError.TheVariants.{Fault}
 use Rattle.mpslp_mps.specs.declared.sections.Section.TheVariants.{ObjSense}
@@ -29,6 +29,6 @@ returns-in_err-sense-2 c =
     let d = declare_sense c.in_ok-sense.sense in
     let fault = c.in_err-sense-2.field-0.0 in
     let refused = call-error all d fault (◌≡◌ {A = Draft} c.sense.new.self (adding all d)) (◌≡◌ {A = Draft} c.sense.new.self all) refl c.in_err-sense-2.ensures.answers in
-    let declared = declared-told c.args.context.now all fields (Some ObjSense) (d ∷ []) c.requires.section c.in_ok-sense.ensures.0 c.in_ok-sense.ensures.1 in
+    let declared = data_fault-declared c.args.context.now all fields (Some ObjSense) (d ∷ []) c.requires.section c.in_ok-sense.ensures.0 c.in_ok-sense.ensures.1 in
     ends-by c.from_residual-in_err-sense-2.result (error_of_build fault) _ _ c.from_residual-in_err-sense-2.ensures.1
     (subst (λ (o : Option FaultKind). IsErrorOf o (error_of_build fault)) (sym declared) refused)

@@ -5,7 +5,7 @@ use Rattle.mpslp_mps.specs.MpsText.{is_end}
 use Rattle.mpslp_mps.specs.Reading.{fault_from, draft_from}
 use Rattle.mpslp_mps.specs.ReadingAnswer.{lines_to_end}
 use Rattle.mpslp_mps.proofs.LineLemmas.{bstr-lines}
-use Rattle.mpslp_mps.proofs.LoopLemmas.{told-last, draft-last, ended-last, told-next, draft-next, ended-next, end-shown, sides-next}
+use Rattle.mpslp_mps.proofs.LoopLemmas.{fault_from-last, draft-last, ended-last, fault_from-next, draft-next, ended-next, end-shown, sides-next}
 use Rattle.mpslp_mps.proofs.reading.read_lines.Goals as goal
 
 pub loop-line-init : goal.loop-line-init
@@ -20,7 +20,7 @@ loop-line-init c =
       sides = c.requires.sides;
       unended = c.requires.unended;
       counted = omega arith;
-      told = ap (λ (text : List (List ℕ)). fault_from 1 context earlier (lines_to_end text)) all;
+      fault_is = ap (λ (text : List (List ℕ)). fault_from 1 context earlier (lines_to_end text)) all;
       draft = ap (λ (text : List (List ℕ)). draft_from context earlier (lines_to_end text)) all;
       ended = ap (list_any is_end) all;
     }
@@ -44,8 +44,8 @@ loop-line-preserved c =
       sides = sides-next line context earlier c.read_line.new.builder before.sides none draft;
       unended = sym c.is_at_end.ensures ∙ c.if-is_at_end.false;
       counted = omega (arith, c.saturating_add-number.ensures);
-      told = (λ i. fault_from (c.saturating_add-number.ensures i) (after i) (draft i) (lines_to_end more)) ∙ sym (told-next line more n context earlier further none)
-          ∙ ap (λ (text : List (List ℕ)). fault_from n context earlier (lines_to_end text)) (sym cut) ∙ before.told;
+      fault_is = (λ i. fault_from (c.saturating_add-number.ensures i) (after i) (draft i) (lines_to_end more)) ∙ sym (fault_from-next line more n context earlier further none)
+          ∙ ap (λ (text : List (List ℕ)). fault_from n context earlier (lines_to_end text)) (sym cut) ∙ before.fault_is;
       draft = (λ i. draft_from (after i) (draft i) (lines_to_end more)) ∙ sym (draft-next line more context earlier further)
           ∙ ap (λ (text : List (List ℕ)). draft_from context earlier (lines_to_end text)) (sym cut) ∙ before.draft;
       ended = sym (ended-next line more further) ∙ ap (list_any is_end) (sym cut) ∙ before.ended;
@@ -62,7 +62,7 @@ returns-then-is_at_end c =
     let cut = c.in-Some.ensures.steps in
     let last : is_end line ≡ true =
     end-shown line context c.read_line.new.context c.is_at_end.result before.unended c.in-Ok.ensures.1 c.is_at_end.ensures ∙ c.if-is_at_end.true in (
-      sym before.told ∙ ap (λ (text : List (List ℕ)). fault_from n context earlier (lines_to_end text)) cut ∙ told-last line more n context earlier last c.in-Ok.ensures.0,
+      sym before.fault_is ∙ ap (λ (text : List (List ℕ)). fault_from n context earlier (lines_to_end text)) cut ∙ fault_from-last line more n context earlier last c.in-Ok.ensures.0,
       c.in-Ok.ensures.2 ∙ sym (draft-last line more context earlier last) ∙ ap (λ (text : List (List ℕ)). draft_from context earlier (lines_to_end text)) (sym cut) ∙ before.draft,
       sym (ended-last line more last) ∙ ap (list_any is_end) (sym cut) ∙ before.ended,
     )

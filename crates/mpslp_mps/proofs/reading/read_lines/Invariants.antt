@@ -5,7 +5,7 @@ use Rattle.mpslp_mps.specs.Section.{is_section}
 use Rattle.mpslp_mps.specs.MpsText.{is_end}
 use Rattle.mpslp_mps.specs.Reading.{fault_from, draft_from}
 use Rattle.mpslp_mps.specs.ReadingAnswer.{lines_to_end}
-use Rattle.mpslp_mps.specs.DeclareAnswer.{HasMpsSides}
+use Rattle.mpslp_mps.specs.VectorDeclared.{HasMpsSides}
 use Rattle.mpslp_mps.specs.declared.sections.Section.TheVariants.{EndData}
 use Rattle.mpslp_mps.proofs.LoopLemmas.{last_number}
 use Rattle.mpslp_mps.proofs.reading.read_lines.Given as goal
@@ -18,7 +18,7 @@ invariant-loop-line l = record {
   sides : HasMpsSides l.builder;
   unended : is_section EndData l.context.section ≡ false;
   counted : l.number ≤ last_number;
-  told : fault_from l.number l.context l.builder (lines_to_end l.line-iterator) ≡ fault_from 1 l.fn.context l.fn.builder (lines_to_end (lines l.fn.text));
+  fault_is : fault_from l.number l.context l.builder (lines_to_end l.line-iterator) ≡ fault_from 1 l.fn.context l.fn.builder (lines_to_end (lines l.fn.text));
   draft : draft_from l.context l.builder (lines_to_end l.line-iterator) ≡ draft_from l.fn.context l.fn.builder (lines_to_end (lines l.fn.text));
   ended : list_any is_end l.line-iterator ≡ list_any is_end (lines l.fn.text);
 }

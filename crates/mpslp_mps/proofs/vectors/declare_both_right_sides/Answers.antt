@@ -1,7 +1,7 @@
 use Rattle.std.proofs.Common.{sym, subst, ◌∙◌, rules}
 use Rattle.std.specs.Cmp.{first_so}
 use Rattle.mpslp_model.specs.Declaration.{has_row}
-use Rattle.mpslp_mps.specs.DeclareAnswer.{HasMpsSides}
+use Rattle.mpslp_mps.specs.VectorDeclared.{HasMpsSides}
 use Rattle.mpslp_mps.proofs.RightSideLemmas.{row-unknown, first-refused, sides-after}
 use Rattle.mpslp_mps.proofs.vectors.declare_both_right_sides.Goals as goal
 
@@ -11,7 +11,7 @@ returns-then-not-are_rows c =
 
 pub returns-in_err-declare_rhs : goal.returns-in_err-declare_rhs
 returns-in_err-declare_rhs c =
-    let told = first-refused c.args.builder.now c.args.first.0 c.args.first.1 c.args.second.0 c.args.second.1 c.in_err-declare_rhs.field-0.0 c.requires (sym c.are_rows.ensures ∙ c.if-not-are_rows.false) c.in_err-declare_rhs.ensures in
+    let fault_is = first-refused c.args.builder.now c.args.first.0 c.args.first.1 c.args.second.0 c.args.second.1 c.in_err-declare_rhs.field-0.0 c.requires (sym c.are_rows.ensures ∙ c.if-not-are_rows.false) c.in_err-declare_rhs.ensures in
     search rules
 
 pub declare_rhs-requires-2 : goal.declare_rhs-requires-2

@@ -15,9 +15,9 @@ returns-in-Err-Fault c =
     let all = c.args.builder.now in
     let d1 = declare_range c.args.first.0 c.args.first.1 in
     let d2 = declare_range c.args.second.0 c.args.second.1 in
-    let told = subst (λ (error : LineError). IsErrorOf (declared_fault all (d1 ∷ [])) error) c.in-Err-Fault.field-0-is c.in-Err-Fault.ensures.answers in
+    let fault_is = subst (λ (error : LineError). IsErrorOf (declared_fault all (d1 ∷ [])) error) c.in-Err-Fault.field-0-is c.in-Err-Fault.ensures.answers in
     subst (λ (o : Option FaultKind). IsErrorOf o c.error_of_both.result)
     (ap (λ (draft : Draft). least_kind (c.in-Err-Fault.kind ∷ declaring_faults draft (d2 ∷ []))) c.in-Err-Fault.ensures.unchanged
-    ∙ ap (λ (o : Option FaultKind). earlier_of o (declared_fault all (d2 ∷ []))) (sym told)
+    ∙ ap (λ (o : Option FaultKind). earlier_of o (declared_fault all (d2 ∷ []))) (sym fault_is)
     ∙ sym (ranges-apart all c.args.first.0 c.args.first.1 c.args.second.0 c.args.second.1 c.requires))
     c.error_of_both.ensures

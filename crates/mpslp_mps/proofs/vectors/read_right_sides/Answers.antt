@@ -6,17 +6,17 @@ use Rattle.mpslp_mps.specs.DataLine.{vector_shape}
 use Rattle.mpslp_reading.specs.Tests.{judged_by, first_held}
 use Rattle.mpslp_mps.specs.DataFault.{vector_tests}
 use Rattle.mpslp_reading.specs.LineAnswer.{IsErrorOf}
-use Rattle.mpslp_mps.specs.DeclareAnswer.{right_sides_of}
+use Rattle.mpslp_mps.specs.VectorDeclared.{right_sides_of}
 use Rattle.mpslp_mps.specs.declared.sections.Section.TheVariants.{Rhs}
 use Rattle.mpslp_mps.proofs.StepLemmas.{step-right_side}
-use Rattle.mpslp_mps.proofs.TakenLemmas.{form-told, declared-told, declared-is, vector-early, rhs_values-are}
+use Rattle.mpslp_mps.proofs.TakenLemmas.{data_fault-form, data_fault-declared, declared-is, vector-early, rhs_values-are}
 use Rattle.mpslp_mps.proofs.vectors.read_right_sides.Goals as goal
 
 pub returns-in_err-set : goal.returns-in_err-set
 returns-in_err-set c =
     let fields = map (λ (field : Bor (List ℕ)). field.now) c.args.fields.now in
     let held = ap (λ (first : Option (List ℕ)). first_held (judged_by (vector_tests first) (vector_shape fields))) (sym c.rhs_set.ensures) ∙ c.in_err-set.ensures in
-    let told = form-told c.args.context.now c.args.builder.now fields (Some Rhs) c.in_err-set.field-0.0 c.requires.section (vector-early c.args.context.now.rhs_set (vector_shape fields)) held in
+    let fault_is = data_fault-form c.args.context.now c.args.builder.now fields (Some Rhs) c.in_err-set.field-0.0 c.requires.section (vector-early c.args.context.now.rhs_set (vector_shape fields)) held in
     search rules
 
 pub returns-in_err-declare_right_sides : goal.returns-in_err-declare_right_sides
@@ -24,8 +24,8 @@ returns-in_err-declare_right_sides c =
     let fields = map (λ (field : Bor (List ℕ)). field.now) c.args.fields.now in
     let held = ap (λ (first : Option (List ℕ)). first_held (judged_by (vector_tests first) (vector_shape fields))) (sym c.rhs_set.ensures) ∙ c.in_ok-set.ensures.0 in
     let is = rhs_values-are c.args.builder.now (vector_shape fields) c.in_ok-set.set.now c.in_ok-set.sides c.in_ok-set.ensures.1 in
-    let told = declared-told c.args.context.now c.args.builder.now fields (Some Rhs) (right_sides_of c.args.builder.now c.in_ok-set.sides) c.requires.section held is in
-    let answer = subst (λ (o : Option FaultKind). IsErrorOf o c.in_err-declare_right_sides.field-0.0) (sym told) c.in_err-declare_right_sides.ensures in
+    let fault_is = data_fault-declared c.args.context.now c.args.builder.now fields (Some Rhs) (right_sides_of c.args.builder.now c.in_ok-set.sides) c.requires.section held is in
+    let answer = subst (λ (o : Option FaultKind). IsErrorOf o c.in_err-declare_right_sides.field-0.0) (sym fault_is) c.in_err-declare_right_sides.ensures in
     search rules
 
 pub returns : goal.returns
@@ -33,9 +33,9 @@ returns c =
     let fields = map (λ (field : Bor (List ℕ)). field.now) c.args.fields.now in
     let held = ap (λ (first : Option (List ℕ)). first_held (judged_by (vector_tests first) (vector_shape fields))) (sym c.rhs_set.ensures) ∙ c.in_ok-set.ensures.0 in
     let is = rhs_values-are c.args.builder.now (vector_shape fields) c.in_ok-set.set.now c.in_ok-set.sides c.in_ok-set.ensures.1 in
-    let told = declared-told c.args.context.now c.args.builder.now fields (Some Rhs) (right_sides_of c.args.builder.now c.in_ok-set.sides) c.requires.section held is in
+    let fault_is = data_fault-declared c.args.context.now c.args.builder.now fields (Some Rhs) (right_sides_of c.args.builder.now c.in_ok-set.sides) c.requires.section held is in
     let same = declared-is c.args.context.now c.args.builder.now fields (Some Rhs) (right_sides_of c.args.builder.now c.in_ok-set.sides) c.requires.section is in (
-      told ∙ c.in_ok-declare_right_sides.ensures.0,
+      fault_is ∙ c.in_ok-declare_right_sides.ensures.0,
       c.in_ok-pass_right_side.ensures ∙ sym (step-right_side c.args.context.now fields c.in_ok-set.set.now c.in_ok-set.sides c.requires.section c.in_ok-set.ensures.1),
       c.in_ok-declare_right_sides.ensures.1 ∙ ap (adding_all c.args.builder.now) (sym same),
     )
