@@ -70,7 +70,7 @@ under-walk : {X : Type 0} (section : Section) → IsLateSection section → (ite
 under-walk section s item decl [] before earlier h f w = walk-nil before earlier
 under-walk section s item decl (x ∷ xs) before earlier h f w =
     walk-cons before earlier (header_item section) (map item (x ∷ xs)) [] (flat_map decl (x ∷ xs)) (header-says section before earlier h.objective)
-    (header-good section before earlier (s.stands before earlier h f)) w
+    (header-good section before earlier (s.stands before earlier h f) (λ _. h.objective)) w
 
 -- the lines of a section that has not begun
 pub none-yet : (section : Section) (before : List Item) → begins section (header_item section) ≡ true → has_section before section ≡ false → data_lines section (before ++ header_item section ∷ []) ≡ []
@@ -101,4 +101,4 @@ bounds-walk set bounds before earlier h f good =
 pub end-walk : (before : List Item) (earlier : Draft) → IsLate before earlier → has_section before EndData ≡ false → Walk before earlier (header_item EndData ∷ []) []
 end-walk before earlier h f =
     walk-cons before earlier (header_item EndData) [] [] [] (header-says EndData before earlier h.objective)
-    (header-good EndData before earlier (record { settled = h.settled; fresh = f; begins = h.columns })) (walk-nil (before ++ header_item EndData ∷ []) earlier)
+    (header-good EndData before earlier (record { settled = h.settled; fresh = f; begins = h.columns }) (λ _. h.objective)) (walk-nil (before ++ header_item EndData ∷ []) earlier)

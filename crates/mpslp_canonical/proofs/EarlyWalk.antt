@@ -1,8 +1,8 @@
 -- What NAME, OBJSENSE, ROWS and COLUMNS of canonical text declare.
-use Rattle.std.proofs.Common.{◌≡◌, refl, ap, subst, List, [], ◌∷◌, ◌++◌, ℕ, Bool, true, false, map}
-use Rattle.std.specs.Prelude.{Some, None, is_none, codes, filter_map}
+use Rattle.std.proofs.Common.{◌≡◌, refl, ap, subst, ◌∙◌, List, [], ◌∷◌, ◌++◌, ℕ, Bool, true, false, map}
+use Rattle.std.specs.Prelude.{Option, Some, None, is_none, codes, filter_map}
 use Rattle.std.specs.List.{flat_map, last_or}
-use Rattle.std.specs.Option.{option_map_or}
+use Rattle.std.specs.Option.{option_map_or, option_or}
 use Rattle.std.proofs.lemmas.List.{append-nil}
 use Rattle.mpslp_types.specs.Name.{is_mps_name, same_bytes}
 use Rattle.mpslp_model.specs.Declaration.{declare_sense, declare_objective, Declarations, Draft, empty_draft, adding, adding_all}
@@ -12,9 +12,10 @@ use Rattle.mpslp_types.specs.declared.kinds.RowType.TheVariants.{Free}
 use Rattle.mpslp_types.proofs.EachLemmas.{Each}
 use Rattle.mpslp_mps.specs.Line.{Fields, Item, data_line}
 use Rattle.mpslp_mps.specs.DataLine.{letter_of, opening_word}
-use Rattle.mpslp_mps.specs.Context.{context_of, current_section, data_lines, marker_word, line_column, in_integer_part, last_column}
+use Rattle.mpslp_mps.specs.Context.{context_of, current_section, objective_name, data_lines, marker_word, line_column, in_integer_part, last_column}
 use Rattle.mpslp_mps.specs.LineMeaning.{declared}
 use Rattle.mpslp_mps.proofs.PlacedLemmas.{form_faults}
+use Rattle.mpslp_mps.proofs.ContextLemmas.{objective_name-push}
 use Rattle.mpslp_mps.specs.declared.sections.Section.TheVariants.{Name, ObjSense, Rows, Columns}
 use Rattle.mpslp_canonical.proofs.ItemsWalk.{Walk, walk-nil, walk-cons, walk-append, section-walk}
 use Rattle.mpslp_canonical.proofs.RowsWalk.{RowItem, row_item, row_decl, InRows, row_step, name-good, stays}
@@ -41,28 +42,33 @@ pub rows-may : (sense : Sense) → MayStand Rows (header_item Name ∷ sense_ite
 rows-may Minimize = record { settled = refl; fresh = refl; begins = refl }
 rows-may Maximize = record { settled = refl; fresh = refl; begins = refl }
 
+-- and there is no OBJNAME
+pub start-unnamed : (sense : Sense) → objective_name (header_item Name ∷ sense_items sense) ≡ None
+start-unnamed Minimize = refl
+start-unnamed Maximize = refl
+
 -- ---- ROWS
 
 abbrev pub objective_item : List ℕ → Item
 objective_item name = data_line (letter_of Free ∷ name ∷ [])
 
-objective-says : (name : List ℕ) (before : List Item) (earlier : Draft) → current_section before ≡ Some Rows → is_none earlier.objective ≡ true
+objective-says : (name : List ℕ) (before : List Item) (earlier : Draft) → current_section before ≡ Some Rows → is_none earlier.objective ≡ true → objective_name before ≡ None
     → declared (context_of before) earlier (objective_item name) ≡ declare_objective name ∷ []
-objective-says name before earlier s o = rw (s, o) refl
+objective-says name before earlier s o unnamed = rw (s, o, unnamed) refl
 
 objective-good : (name : List ℕ) (before : List Item) (earlier : Draft) → current_section before ≡ Some Rows → is_mps_name name ≡ true → form_faults (context_of before) earlier (objective_item name) ≡ []
 objective-good name before earlier s h = rw s (name-good name h)
 
-pub rows-walk : (name : List ℕ) (rows : List RowItem) (before : List Item) (earlier : Draft) → MayStand Rows before → is_none earlier.objective ≡ true → is_mps_name name ≡ true
+pub rows-walk : (name : List ℕ) (rows : List RowItem) (before : List Item) (earlier : Draft) → MayStand Rows before → objective_name before ≡ None → is_none earlier.objective ≡ true → is_mps_name name ≡ true
     → Each (λ (row : RowItem). is_mps_name row.0 ≡ true) rows → Walk before earlier (header_item Rows ∷ objective_item name ∷ map row_item rows) (declare_objective name ∷ flat_map row_decl rows)
-rows-walk name rows before earlier may none legal names =
+rows-walk name rows before earlier may unnamed none legal names =
     let headed = before ++ header_item Rows ∷ [] in
     let section = current-header Rows before in
     let there = headed ++ objective_item name ∷ [] in
     let named = adding earlier (declare_objective name) in
     let inside : InRows rows there named = record { section = stays Rows (letter_of Free ∷ name ∷ []) headed section; objective = refl; names = names } in
-    walk-cons before earlier (header_item Rows) (objective_item name ∷ map row_item rows) [] (declare_objective name ∷ flat_map row_decl rows) (early-header-says Rows before earlier refl) (header-good Rows before earlier may)
-    (walk-cons headed earlier (objective_item name) (map row_item rows) (declare_objective name ∷ []) (flat_map row_decl rows) (objective-says name headed earlier section none) (objective-good name headed earlier section legal)
+    walk-cons before earlier (header_item Rows) (objective_item name ∷ map row_item rows) [] (declare_objective name ∷ flat_map row_decl rows) (early-header-says Rows before earlier refl) (header-good Rows before earlier may (λ e. cc))
+    (walk-cons headed earlier (objective_item name) (map row_item rows) (declare_objective name ∷ []) (flat_map row_decl rows) (objective-says name headed earlier section none (objective_name-push before (header_item Rows) ∙ ap (λ (o : Option (List ℕ)). option_or o None) unnamed)) (objective-good name headed earlier section legal)
     (section-walk row_item row_decl InRows row_step rows there named inside).0)
 
 -- ---- COLUMNS
@@ -128,6 +134,6 @@ columns-walk plain integers before earlier may named h =
     let after = headed ++ map cell_item (cells_of plain) in
     let next = adding_all earlier (flat_map (cell_decl false) (cells_of plain)) in
     walk-cons before earlier (header_item Columns) (map cell_item (cells_of plain) ++ part_items (cells_of integers)) []
-    (flat_map (cell_decl false) (cells_of plain) ++ flat_map (cell_decl true) (cells_of integers)) (header-says Columns before earlier named) (header-good Columns before earlier may)
+    (flat_map (cell_decl false) (cells_of plain) ++ flat_map (cell_decl true) (cells_of integers)) (header-says Columns before earlier named) (header-good Columns before earlier may (λ _. named))
     (walk-append headed earlier (map cell_item (cells_of plain)) (part_items (cells_of integers)) (flat_map (cell_decl false) (cells_of plain)) (flat_map (cell_decl true) (cells_of integers)) walked.0
     (part-walk (cells_of integers) after next walked.1.section walked.1.part h.integer_cells (groups_unsplit true integers None next h.integer_groups h.integers_apart h.integers_absent)))

@@ -1,12 +1,11 @@
 -- Headers: what each declares, that it has a good form, and what the lines before say once it stands.
-use Rattle.std.proofs.Common.{◌≡◌, refl, sym, ap, ◌∙◌, List, [], ◌∷◌, ◌++◌, Bool, true, false, map, cond, append_assoc}
-use Rattle.std.specs.Prelude.{Option, Some, None, is_some, is_none, ◌||◌, filter, codes}
-use Rattle.std.specs.List.{list_any, last_or}
-use Rattle.std.specs.Option.{option_or, option_map_or}
+use Rattle.std.proofs.Common.{◌≡◌, refl, sym, ap, ◌∙◌, List, [], ◌∷◌, ◌++◌, Bool, true, false, map, append_assoc}
+use Rattle.std.specs.Prelude.{Option, Some, None, is_some, is_none, ◌||◌, codes}
+use Rattle.std.specs.Option.{option_or}
 use Rattle.std.proofs.lemmas.List.{append-nil}
 use Rattle.mpslp_model.specs.Declaration.{declare_sense, Draft}
 use Rattle.mpslp_types.specs.declared.kinds.Sense.TheVariants.{Maximize}
-use Rattle.mpslp_types.proofs.BoolLemmas.{nor, back}
+use Rattle.mpslp_types.proofs.BoolLemmas.{nor}
 use Rattle.mpslp_mps.specs.Line.{Fields, Item, skipped, header, data_line}
 use Rattle.mpslp_mps.specs.Section.{keyword_of, section_begun, section_named, begins, is_section}
 use Rattle.mpslp_mps.specs.Context.{context_of, current_section, has_section, fields_under, data_lines_after, data_lines, is_read, wanting, wanted}
@@ -14,7 +13,7 @@ use Rattle.mpslp_mps.specs.LineMeaning.{declared}
 use Rattle.mpslp_mps.specs.HeaderFault.{may_begin, is_out_of_order}
 use Rattle.mpslp_mps.proofs.PlacedLemmas.{form_faults}
 use Rattle.mpslp_mps.specs.declared.sections.Section.{Section}
-use Rattle.mpslp_mps.specs.declared.sections.Section.TheVariants.{Name, ObjSense, Rows, Columns, Rhs, Ranges, Bounds, EndData}
+use Rattle.mpslp_mps.specs.declared.sections.Section.TheVariants.{Name, ObjSense, ObjName, Rows, Columns, Rhs, Ranges, Bounds, EndData}
 use Rattle.mpslp_mps.proofs.SectionLemmas.{current_section-push, has_section-append, has_section-cons}
 use Rattle.mpslp_mps.proofs.ContextLemmas.{wanted-push}
 
@@ -31,6 +30,7 @@ header_item section = header (keyword_of section) []
 section_named-keyword : (section : Section) → section_named (keyword_of section) ≡ Some section
 section_named-keyword Name = refl
 section_named-keyword ObjSense = refl
+section_named-keyword ObjName = refl
 section_named-keyword Rows = refl
 section_named-keyword Columns = refl
 section_named-keyword Rhs = refl
@@ -49,23 +49,28 @@ pub record MayStand (section : Section) (before : List Item) : Type 0 where
 in_order : (section : Section) (before : List Item) → MayStand section before → is_out_of_order (context_of before) section ≡ false
 in_order section before h = rw (h.settled, h.fresh, h.begins) refl
 
-pub header-good : (section : Section) (before : List Item) (earlier : Draft) → MayStand section before → form_faults (context_of before) earlier (header_item section) ≡ []
-header-good section before earlier h = by section (in_order section before h) h.fresh
+-- the objective is there where COLUMNS begins
+pub header-good : (section : Section) (before : List Item) (earlier : Draft) → MayStand section before → (is_section Columns (Some section) ≡ true → is_none earlier.objective ≡ false)
+    → form_faults (context_of before) earlier (header_item section) ≡ []
+header-good section before earlier h named = by section (in_order section before h) h.fresh named
   where
-    by : (s : Section) → is_out_of_order (context_of before) s ≡ false → has_section before s ≡ false → form_faults (context_of before) earlier (header_item s) ≡ []
-    by Name o f = rw (o, f) refl
-    by ObjSense o f = rw (o, f) refl
-    by Rows o f = rw (o, f) refl
-    by Columns o f = rw (o, f) refl
-    by Rhs o f = rw (o, f) refl
-    by Ranges o f = rw (o, f) refl
-    by Bounds o f = rw (o, f) refl
-    by EndData o f = rw (o, f) refl
+    by : (s : Section) → is_out_of_order (context_of before) s ≡ false → has_section before s ≡ false → (is_section Columns (Some s) ≡ true → is_none earlier.objective ≡ false)
+        → form_faults (context_of before) earlier (header_item s) ≡ []
+    by Name o f n = rw (o, f) refl
+    by ObjSense o f n = rw (o, f) refl
+    by ObjName o f n = rw (o, f) refl
+    by Rows o f n = rw (o, f) refl
+    by Columns o f n = rw (o, f, n refl) refl
+    by Rhs o f n = rw (o, f) refl
+    by Ranges o f n = rw (o, f) refl
+    by Bounds o f n = rw (o, f) refl
+    by EndData o f n = rw (o, f) refl
 
 -- a header declares nothing, but for the objective at COLUMNS where there was none
 pub header-says : (section : Section) (before : List Item) (earlier : Draft) → is_none earlier.objective ≡ false → declared (context_of before) earlier (header_item section) ≡ []
 header-says Name before earlier o = refl
 header-says ObjSense before earlier o = refl
+header-says ObjName before earlier o = refl
 header-says Rows before earlier o = refl
 header-says Columns before earlier o = rw o refl
 header-says Rhs before earlier o = refl
@@ -77,6 +82,7 @@ header-says EndData before earlier o = refl
 pub early-header-says : (section : Section) (before : List Item) (earlier : Draft) → is_section Columns (Some section) ≡ false → declared (context_of before) earlier (header_item section) ≡ []
 early-header-says Name before earlier o = refl
 early-header-says ObjSense before earlier o = refl
+early-header-says ObjName before earlier o = refl
 early-header-says Rows before earlier o = refl
 early-header-says Columns before earlier o = cc
 early-header-says Rhs before earlier o = refl
@@ -137,43 +143,6 @@ lines_of_other section (item ∷ before) current h k =
 -- a section that has not begun has no lines
 pub no-lines : (section : Section) (before : List Item) → has_section before section ≡ false → data_lines section before ≡ []
 no-lines section before h = lines_of_other section before None refl h
-
-bare_begins : (item : Item) → is_bare item ≡ true → begins ObjSense item ≡ true
-bare_begins skipped h = cc
-bare_begins (header keyword []) h = by (begins ObjSense (header keyword [])) h
-  where
-    by : (b : Bool) → is_some (cond b (Some ObjSense) None) ≡ true → b ≡ true
-    by true e = refl
-    by false e = cc
-bare_begins (header keyword (word ∷ more)) h = cc
-bare_begins (data_line fields) h = cc
-
-no_bare : (before : List Item) → has_section before ObjSense ≡ false → list_any is_bare before ≡ false
-no_bare [] h = refl
-no_bare (item ∷ before) h =
-    let parts = nor (begins ObjSense item) (has_section before ObjSense) (sym (has_section-cons ObjSense item before) ∙ h) in
-    rw (back (is_bare item) (begins ObjSense item) (bare_begins item) parts.0) (no_bare before parts.1)
-
--- without OBJSENSE no word is wanted
-as_word : (o : Option Item) → is_some (option_map_or wanting o None) ≡ option_map_or is_bare o false
-as_word None = refl
-as_word (Some item) = refl
-
-pub settled-without : (before : List Item) → has_section before ObjSense ≡ false → wants_word before ≡ false
-settled-without before h = as_word (last_or None (filter is_read before)) ∙ by (filter is_read before) None (kept before (no_bare before h)) refl
-  where
-    kept : (xs : List Item) → list_any is_bare xs ≡ false → list_any is_bare (filter is_read xs) ≡ false
-    kept [] k = refl
-    kept (x ∷ xs) k =
-        let parts = nor (is_bare x) (list_any is_bare xs) k in
-        elim (is_read x) as (λ b. list_any is_bare (cond b (x ∷ filter is_read xs) (filter is_read xs)) ≡ false) [
-          | true ↦ rw parts.0 (kept xs parts.1)
-          | false ↦ kept xs parts.1
-        ]
-
-    by : (xs : List Item) (o : Option Item) → list_any is_bare xs ≡ false → option_map_or is_bare o false ≡ false → option_map_or is_bare (last_or o xs) false ≡ false
-    by [] o k e = e
-    by (x ∷ xs) o k e = let parts = nor (is_bare x) (list_any is_bare xs) k in by xs (Some x) parts.1 parts.0
 
 -- after a data line, and after a header that is no bare OBJSENSE
 pub settled-after : (before : List Item) (item : Item) → is_read item ≡ true → is_bare item ≡ false → wants_word (before ++ item ∷ []) ≡ false

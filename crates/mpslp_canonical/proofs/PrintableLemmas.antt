@@ -26,7 +26,7 @@ use Rattle.mpslp_mps.specs.Line.{Fields}
 use Rattle.mpslp_mps.specs.DataLine.{letter_of, opening_word, closing_word}
 use Rattle.mpslp_mps.specs.BoundLine.{letters_of}
 use Rattle.mpslp_mps.specs.declared.sections.Section.{Section}
-use Rattle.mpslp_mps.specs.declared.sections.Section.TheVariants.{Name, ObjSense, Rows, Columns, Rhs, Ranges, Bounds, EndData}
+use Rattle.mpslp_mps.specs.declared.sections.Section.TheVariants.{Name, ObjSense, ObjName, Rows, Columns, Rhs, Ranges, Bounds, EndData}
 use Rattle.mpslp_mps.specs.declared.bound_types.BoundType.{BoundType}
 use Rattle.mpslp_mps.specs.declared.bound_types.BoundType.TheVariants as bounds
 use Rattle.mpslp_canonical.specs.Listing.{Listing, listing_of}
@@ -73,6 +73,7 @@ letters-word bounds.IntegerUpper = code-word (codes "UI") refl refl refl
 header-printable : (section : Section) → IsPrintable (header_line section)
 header-printable Name = (code-word (codes "NAME") refl refl refl, refl)
 header-printable ObjSense = (code-word (codes "OBJSENSE") refl refl refl, refl)
+header-printable ObjName = (code-word (codes "OBJNAME") refl refl refl, refl)
 header-printable Rows = (code-word (codes "ROWS") refl refl refl, refl)
 header-printable Columns = (code-word (codes "COLUMNS") refl refl refl, refl)
 header-printable Rhs = (code-word (codes "RHS") refl refl refl, refl)

@@ -22,7 +22,7 @@ use Rattle.mpslp_canonical.proofs.ColumnsWalk.{Cell, cell_item, cell_decl, Group
 use Rattle.mpslp_canonical.proofs.BoundsWalk.{Bound, bound_item, bound_decl, GoodBound}
 use Rattle.mpslp_canonical.proofs.CanonicalItems.{under}
 use Rattle.mpslp_canonical.proofs.CanonicalWalk.{IsLate, data-settled, sides-walk, ranges-walk, bounds-walk, end-walk}
-use Rattle.mpslp_canonical.proofs.EarlyWalk.{sense_items, sense_decl, start-walk, rows-may, objective_item, rows-walk, marker_item, part_items, AreColumns, columns-walk}
+use Rattle.mpslp_canonical.proofs.EarlyWalk.{sense_items, sense_decl, start-walk, rows-may, start-unnamed, objective_item, rows-walk, marker_item, part_items, AreColumns, columns-walk}
 
 -- ---- what has begun, section by section
 
@@ -220,7 +220,7 @@ whole-walk w h =
     λ s n o r c. has_section-append s first columns ∙ (λ i. none s n o r i || columns-none s w.plain w.integers c i) in
     walk-append [] empty_draft start (rows ++ (columns ++ late_items w.late)) (sense_decl w.sense) (rows_decl w.objective w.rows ++ (columns_decl w.plain w.integers ++ late_decl w.late)) (start-walk w.sense)
     (walk-append start d0 rows (columns ++ late_items w.late) (rows_decl w.objective w.rows) (columns_decl w.plain w.integers ++ late_decl w.late)
-    (rows-walk w.objective w.rows start d0 (rows-may w.sense) (no-objective w.sense) h.objective h.rows)
+    (rows-walk w.objective w.rows start d0 (rows-may w.sense) (start-unnamed w.sense) (no-objective w.sense) h.objective h.rows)
     (walk-append first d1 columns (late_items w.late) (columns_decl w.plain w.integers) (late_decl w.late) (columns-walk w.plain w.integers first d1 may named h.columns)
     (late-walk w.late second (draft_at_sides w) late (none_after Rhs refl refl refl refl) (none_after Ranges refl refl refl refl) (none_after Bounds refl refl refl refl) (none_after EndData refl refl refl refl) h.late)))
   where

@@ -120,3 +120,14 @@ usual_layout_lines =
 pub usual_layout : IsPrinted files.usual_layout (files.text usual_layout_lines)
 unfolding digits trailing_zeros
 usual_layout = printed-from_passes files.usual_layout (files.text usual_layout_lines) files.usual_layout_passes refl refl
+
+-- ---- an objective that OBJNAME names
+
+abbrev named_objective_lines : List (List ℕ)
+named_objective_lines =
+    codes "NAME" ∷ codes "ROWS" ∷ codes " N  S" ∷ codes " N  C" ∷ codes " L  R" ∷ codes "COLUMNS" ∷ codes "    X  S  2"
+    ∷ codes "    X  C  1" ∷ codes "    X  R  1" ∷ codes "ENDATA" ∷ []
+
+pub named_objective : IsPrinted files.named_objective (files.text named_objective_lines)
+unfolding digits trailing_zeros
+named_objective = printed-from_passes files.named_objective (files.text named_objective_lines) files.named_objective_passes refl refl

@@ -10,11 +10,11 @@ use Rattle.mpslp_model.specs.Lists.{head_of}
 use Rattle.mpslp_mps.specs.Line.{Fields, Item, skipped, header, data_line}
 use Rattle.mpslp_mps.specs.Section.{section_begun, is_section}
 use Rattle.mpslp_mps.specs.DataLine.{opening_word}
-use Rattle.mpslp_mps.specs.Context.{is_read, wanting, wanted, marker_word, line_column, vector_set, bound_set, first_set, current_section, fields_under, data_lines, context_of}
+use Rattle.mpslp_mps.specs.Context.{is_read, wanting, wanted, said_after, objname_word, objective_name, marker_word, line_column, vector_set, bound_set, first_set, current_section, fields_under, data_lines, context_of}
 use Rattle.mpslp_mps.specs.NextContext.{changed_under, next_part, next_set, next_context}
 use Rattle.mpslp_mps.specs.declared.sections.Section.{Section}
 use Rattle.mpslp_mps.specs.declared.sections.Section.TheVariants.{Columns, Rhs, Ranges, Bounds}
-use Rattle.mpslp_mps.proofs.SectionLemmas.{last_or-append, current_section-push, data_lines-push}
+use Rattle.mpslp_mps.proofs.SectionLemmas.{last_or-append, current_section-push, said_after-push, data_lines-push}
 
 pub wanted-push : (before : List Item) (item : Item) → wanted (before ++ item ∷ []) ≡ cond (is_read item) (wanting item) (wanted before)
 wanted-push before item =
@@ -58,19 +58,25 @@ part_reading lines fields =
 column_reading : (lines : List Fields) (fields : Fields) → option_map_or line_column (last_or None (lines ++ fields ∷ [])) None ≡ line_column fields
 column_reading lines fields = ap (λ (o : Option Fields). option_map_or line_column o None) (last_or-append None lines (fields ∷ []))
 
+first-said : {X : Type 0} (xs : List X) (o : Option X) → head_of (xs ++ cons_option o []) ≡ option_or (head_of xs) o
+first-said [] None = refl
+first-said [] (Some x) = refl
+first-said (x ∷ xs) o = refl
+
 set_reading : (set_of : Fields → Option (List ℕ)) (lines : List Fields) (fields : Fields) → first_set set_of (lines ++ fields ∷ []) ≡ next_set set_of fields (first_set set_of lines)
-set_reading set_of lines fields = ap head_of (filter_map-append set_of lines (fields ∷ [])) ∙ by (filter_map set_of lines) (set_of fields)
-  where
-    by : (xs : List (List ℕ)) (o : Option (List ℕ)) → head_of (xs ++ cons_option o []) ≡ option_or (head_of xs) o
-    by [] None = refl
-    by [] (Some x) = refl
-    by (x ∷ xs) o = refl
+set_reading set_of lines fields = ap head_of (filter_map-append set_of lines (fields ∷ [])) ∙ first-said (filter_map set_of lines) (set_of fields)
+
+pub objective_name-push : (before : List Item) (item : Item) → objective_name (before ++ item ∷ []) ≡ option_or (objective_name before) (objname_word (current_section before) item)
+objective_name-push before item =
+    let says : Option Section → Item → List (List ℕ) = λ current line. cons_option (objname_word current line) [] in
+    ap head_of (said_after-push says None before item) ∙ first-said (said_after says None before) (objname_word (current_section before) item)
 
 pub context-push : (before : List Item) (item : Item) → context_of (before ++ item ∷ []) ≡ next_context (context_of before) item
 context-push before item = λ i. record {
   section = current_section-push before item i;
   seen = filter_map-append section_begun before (item ∷ []) i;
   wanted = wanted-push before item i;
+  objective_name = objective_name-push before item i;
   in_integer_part = under-push Columns (λ lines. option_map_or (same_bytes opening_word) (last_or None (filter_map marker_word lines)) false) next_part part_reading before item i;
   last_column = under-push Columns (λ lines. option_map_or line_column (last_or None lines) None) (λ fields _. line_column fields) column_reading before item i;
   rhs_set = under-push Rhs (first_set vector_set) (next_set vector_set) (set_reading vector_set) before item i;

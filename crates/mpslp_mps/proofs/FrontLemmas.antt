@@ -9,7 +9,7 @@ use Rattle.mpslp_mps.specs.LineMeaning.{data_declared, header_declared}
 use Rattle.mpslp_mps.specs.HeaderFault.{header_tests}
 use Rattle.mpslp_mps.specs.DataFault.{data_tests}
 use Rattle.mpslp_mps.specs.declared.sections.Section.{Section}
-use Rattle.mpslp_mps.specs.declared.sections.Section.TheVariants.{Name, ObjSense, Rows, Columns, Rhs, Ranges, Bounds, EndData}
+use Rattle.mpslp_mps.specs.declared.sections.Section.TheVariants.{Name, ObjSense, ObjName, Rows, Columns, Rhs, Ranges, Bounds, EndData}
 
 -- what is the same of seven fields or more as of the first six of them
 by-front : {X : Type 0} (g : Fields → X)
@@ -29,6 +29,7 @@ pub data_tests-front : (context : Context) (earlier : Draft) (section : Option S
 data_tests-front context earlier None fields = refl
 data_tests-front context earlier (Some Name) fields = refl
 data_tests-front context earlier (Some ObjSense) fields = by-front (λ f. data_tests context earlier f (Some ObjSense)) (λ a b c d e x y more. refl) fields
+data_tests-front context earlier (Some ObjName) fields = by-front (λ f. data_tests context earlier f (Some ObjName)) (λ a b c d e x y more. refl) fields
 data_tests-front context earlier (Some Rows) fields = by-front (λ f. data_tests context earlier f (Some Rows)) (λ a b c d e x y more. refl) fields
 data_tests-front context earlier (Some Columns) fields = by-front (λ f. data_tests context earlier f (Some Columns)) (λ a b c d e x y more. refl) fields
 data_tests-front context earlier (Some Rhs) fields = by-front (λ f. data_tests context earlier f (Some Rhs)) (λ a b c d e x y more. refl) fields
@@ -41,6 +42,7 @@ pub data_declared-front : (context : Context) (earlier : Draft) (section : Optio
 data_declared-front context earlier None fields = refl
 data_declared-front context earlier (Some Name) fields = refl
 data_declared-front context earlier (Some ObjSense) fields = by-front (λ f. data_declared context earlier f (Some ObjSense)) (λ a b c d e x y more. refl) fields
+data_declared-front context earlier (Some ObjName) fields = refl
 data_declared-front context earlier (Some Rows) fields = by-front (λ f. data_declared context earlier f (Some Rows)) (λ a b c d e x y more. refl) fields
 data_declared-front context earlier (Some Columns) fields = by-front (λ f. data_declared context earlier f (Some Columns)) (λ a b c d e x y more. refl) fields
 data_declared-front context earlier (Some Rhs) fields = by-front (λ f. data_declared context earlier f (Some Rhs)) (λ a b c d e x y more. refl) fields
@@ -53,45 +55,47 @@ next_context-front context fields = by-front (λ f. next_context context (data_l
 
 -- ---- headers, of which the fields after the keyword are at most five
 
-short-tests : (context : Context) (keyword : List ℕ) (section : Section) (b c d e x y : List ℕ) (more : Fields)
-    → header_tests context keyword (b ∷ c ∷ d ∷ e ∷ x ∷ []) (Some section) ≡ header_tests context keyword (b ∷ c ∷ d ∷ e ∷ x ∷ y ∷ more) (Some section)
-short-tests context keyword Name b c d e x y more = refl
-short-tests context keyword ObjSense b c d e x y more = refl
-short-tests context keyword Rows b c d e x y more = refl
-short-tests context keyword Columns b c d e x y more = refl
-short-tests context keyword Rhs b c d e x y more = refl
-short-tests context keyword Ranges b c d e x y more = refl
-short-tests context keyword Bounds b c d e x y more = refl
-short-tests context keyword EndData b c d e x y more = refl
+short-tests : (context : Context) (earlier : Draft) (keyword : List ℕ) (section : Section) (b c d e x y : List ℕ) (more : Fields)
+    → header_tests context earlier keyword (b ∷ c ∷ d ∷ e ∷ x ∷ []) (Some section) ≡ header_tests context earlier keyword (b ∷ c ∷ d ∷ e ∷ x ∷ y ∷ more) (Some section)
+short-tests context earlier keyword Name b c d e x y more = refl
+short-tests context earlier keyword ObjSense b c d e x y more = refl
+short-tests context earlier keyword ObjName b c d e x y more = refl
+short-tests context earlier keyword Rows b c d e x y more = refl
+short-tests context earlier keyword Columns b c d e x y more = refl
+short-tests context earlier keyword Rhs b c d e x y more = refl
+short-tests context earlier keyword Ranges b c d e x y more = refl
+short-tests context earlier keyword Bounds b c d e x y more = refl
+short-tests context earlier keyword EndData b c d e x y more = refl
 
-pub header_tests-front : (context : Context) (keyword : List ℕ) (section : Option Section) (more : Fields)
-    → header_tests context keyword (take 5 more) section ≡ header_tests context keyword more section
-header_tests-front context keyword None more = refl
-header_tests-front context keyword (Some section) [] = refl
-header_tests-front context keyword (Some section) (b ∷ []) = refl
-header_tests-front context keyword (Some section) (b ∷ c ∷ []) = refl
-header_tests-front context keyword (Some section) (b ∷ c ∷ d ∷ []) = refl
-header_tests-front context keyword (Some section) (b ∷ c ∷ d ∷ e ∷ []) = refl
-header_tests-front context keyword (Some section) (b ∷ c ∷ d ∷ e ∷ x ∷ []) = refl
-header_tests-front context keyword (Some section) (b ∷ c ∷ d ∷ e ∷ x ∷ y ∷ more) = short-tests context keyword section b c d e x y more
+pub header_tests-front : (context : Context) (earlier : Draft) (keyword : List ℕ) (section : Option Section) (more : Fields)
+    → header_tests context earlier keyword (take 5 more) section ≡ header_tests context earlier keyword more section
+header_tests-front context earlier keyword None more = refl
+header_tests-front context earlier keyword (Some section) [] = refl
+header_tests-front context earlier keyword (Some section) (b ∷ []) = refl
+header_tests-front context earlier keyword (Some section) (b ∷ c ∷ []) = refl
+header_tests-front context earlier keyword (Some section) (b ∷ c ∷ d ∷ []) = refl
+header_tests-front context earlier keyword (Some section) (b ∷ c ∷ d ∷ e ∷ []) = refl
+header_tests-front context earlier keyword (Some section) (b ∷ c ∷ d ∷ e ∷ x ∷ []) = refl
+header_tests-front context earlier keyword (Some section) (b ∷ c ∷ d ∷ e ∷ x ∷ y ∷ more) = short-tests context earlier keyword section b c d e x y more
 
-short-declared : (earlier : Draft) (section : Section) (b c d e x y : List ℕ) (more : Fields)
-    → header_declared earlier (b ∷ c ∷ d ∷ e ∷ x ∷ []) (Some section) ≡ header_declared earlier (b ∷ c ∷ d ∷ e ∷ x ∷ y ∷ more) (Some section)
-short-declared earlier Name b c d e x y more = refl
-short-declared earlier ObjSense b c d e x y more = refl
-short-declared earlier Rows b c d e x y more = refl
-short-declared earlier Columns b c d e x y more = refl
-short-declared earlier Rhs b c d e x y more = refl
-short-declared earlier Ranges b c d e x y more = refl
-short-declared earlier Bounds b c d e x y more = refl
-short-declared earlier EndData b c d e x y more = refl
+short-declared : (context : Context) (earlier : Draft) (section : Section) (b c d e x y : List ℕ) (more : Fields)
+    → header_declared context earlier (b ∷ c ∷ d ∷ e ∷ x ∷ []) (Some section) ≡ header_declared context earlier (b ∷ c ∷ d ∷ e ∷ x ∷ y ∷ more) (Some section)
+short-declared context earlier Name b c d e x y more = refl
+short-declared context earlier ObjSense b c d e x y more = refl
+short-declared context earlier ObjName b c d e x y more = refl
+short-declared context earlier Rows b c d e x y more = refl
+short-declared context earlier Columns b c d e x y more = refl
+short-declared context earlier Rhs b c d e x y more = refl
+short-declared context earlier Ranges b c d e x y more = refl
+short-declared context earlier Bounds b c d e x y more = refl
+short-declared context earlier EndData b c d e x y more = refl
 
-pub header_declared-front : (earlier : Draft) (section : Option Section) (more : Fields) → header_declared earlier (take 5 more) section ≡ header_declared earlier more section
-header_declared-front earlier None more = refl
-header_declared-front earlier (Some section) [] = refl
-header_declared-front earlier (Some section) (b ∷ []) = refl
-header_declared-front earlier (Some section) (b ∷ c ∷ []) = refl
-header_declared-front earlier (Some section) (b ∷ c ∷ d ∷ []) = refl
-header_declared-front earlier (Some section) (b ∷ c ∷ d ∷ e ∷ []) = refl
-header_declared-front earlier (Some section) (b ∷ c ∷ d ∷ e ∷ x ∷ []) = refl
-header_declared-front earlier (Some section) (b ∷ c ∷ d ∷ e ∷ x ∷ y ∷ more) = short-declared earlier section b c d e x y more
+pub header_declared-front : (context : Context) (earlier : Draft) (section : Option Section) (more : Fields) → header_declared context earlier (take 5 more) section ≡ header_declared context earlier more section
+header_declared-front context earlier None more = refl
+header_declared-front context earlier (Some section) [] = refl
+header_declared-front context earlier (Some section) (b ∷ []) = refl
+header_declared-front context earlier (Some section) (b ∷ c ∷ []) = refl
+header_declared-front context earlier (Some section) (b ∷ c ∷ d ∷ []) = refl
+header_declared-front context earlier (Some section) (b ∷ c ∷ d ∷ e ∷ []) = refl
+header_declared-front context earlier (Some section) (b ∷ c ∷ d ∷ e ∷ x ∷ []) = refl
+header_declared-front context earlier (Some section) (b ∷ c ∷ d ∷ e ∷ x ∷ y ∷ more) = short-declared context earlier section b c d e x y more

@@ -33,14 +33,15 @@ data-front context earlier fields answer next later taken =
 
 next_header : (context : Context) (keyword : List ℕ) (more : Fields) → next_context context (header keyword (take 5 more)) ≡ next_context context (header keyword more)
 next_header context keyword [] = refl
-next_header context keyword (word ∷ more) = refl
+next_header context keyword (word ∷ []) = refl
+next_header context keyword (word ∷ second ∷ more) = refl
 
 pub header-front : (context : Context) (earlier : Draft) (fields : Fields) (answer : LineResult) (next : Context) (later : Draft)
     → ReadsItem context earlier (header_of (take 6 fields)) answer next later → ReadsItem context earlier (header_of fields) answer next later
 header-front context earlier [] answer next later taken = taken
 header-front context earlier (keyword ∷ more) answer next later taken =
-    taken_as context earlier (header keyword (take 5 more)) (header keyword more) answer next later (header_tests-front context keyword (section_named keyword) more)
-    (header_declared-front earlier (section_named keyword) more) (next_header context keyword more) taken
+    taken_as context earlier (header keyword (take 5 more)) (header keyword more) answer next later (header_tests-front context earlier keyword (section_named keyword) more)
+    (header_declared-front context earlier (section_named keyword) more) (next_header context keyword more) taken
 
 -- ---- which item a line is
 

@@ -15,7 +15,7 @@ use Rattle.mpslp_mps.specs.LineMeaning.{header_declared}
 use Rattle.mpslp_mps.specs.LineAnswer.{item_fault}
 use Rattle.mpslp_reading.specs.Declaring.{declared_fault}
 use Rattle.mpslp_mps.specs.declared.sections.Section.{Section}
-use Rattle.mpslp_mps.specs.declared.sections.Section.TheVariants.{Name, ObjSense, Rows, Columns, Rhs, Ranges, Bounds, EndData}
+use Rattle.mpslp_mps.specs.declared.sections.Section.TheVariants.{Name, ObjSense, ObjName, Rows, Columns, Rhs, Ranges, Bounds, EndData}
 use Rattle.mpslp_reading.proofs.LeastLemmas.{is_from}
 use Rattle.mpslp_reading.proofs.FirstFaultLemmas.{form-first, declared-first}
 use Rattle.mpslp_reading.proofs.HeldLemmas.{held-among}
@@ -33,30 +33,31 @@ unknown_early keyword =
     by false false true = refl
     by false false false = refl
 
-header-early : (context : Context) (keyword : List ℕ) (more : Fields) (section : Option Section) → list_all is_early (header_tests context keyword more section) ≡ true
-header-early context keyword more None = unknown_early keyword
-header-early context keyword more (Some Name) = refl
-header-early context keyword [] (Some ObjSense) = refl
-header-early context keyword (word ∷ more) (Some ObjSense) = refl
-header-early context keyword more (Some Rows) = refl
-header-early context keyword more (Some Columns) = refl
-header-early context keyword more (Some Rhs) = refl
-header-early context keyword more (Some Ranges) = refl
-header-early context keyword more (Some Bounds) = refl
-header-early context keyword more (Some EndData) = refl
+header-early : (context : Context) (earlier : Draft) (keyword : List ℕ) (more : Fields) (section : Option Section) → list_all is_early (header_tests context earlier keyword more section) ≡ true
+header-early context earlier keyword more None = unknown_early keyword
+header-early context earlier keyword more (Some Name) = refl
+header-early context earlier keyword [] (Some ObjSense) = refl
+header-early context earlier keyword (word ∷ more) (Some ObjSense) = refl
+header-early context earlier keyword more (Some ObjName) = refl
+header-early context earlier keyword more (Some Rows) = refl
+header-early context earlier keyword more (Some Columns) = refl
+header-early context earlier keyword more (Some Rhs) = refl
+header-early context earlier keyword more (Some Ranges) = refl
+header-early context earlier keyword more (Some Bounds) = refl
+header-early context earlier keyword more (Some EndData) = refl
 
 pub header-form : (context : Context) (earlier : Draft) (keyword : List ℕ) (more : Fields) (kind : FaultKind)
-    → first_held (header_tests context keyword more (section_named keyword)) ≡ Some kind
+    → first_held (header_tests context earlier keyword more (section_named keyword)) ≡ Some kind
     → item_fault context earlier (header keyword more) ≡ Some kind
 header-form context earlier keyword more kind held =
-    let tests = header_tests context keyword more (section_named keyword) in
-    form-first tests kind earlier (header_declared earlier more (section_named keyword)) (header-rising context keyword more (section_named keyword)) held
-    (held-among (λ other. is_from other kinds.UnknownRow) tests kind (header-early context keyword more (section_named keyword)) held)
+    let tests = header_tests context earlier keyword more (section_named keyword) in
+    form-first tests kind earlier (header_declared context earlier more (section_named keyword)) (header-rising context earlier keyword more (section_named keyword)) held
+    (held-among (λ other. is_from other kinds.UnknownRow) tests kind (header-early context earlier keyword more (section_named keyword)) held)
 
 pub header-declares : (context : Context) (earlier : Draft) (keyword : List ℕ) (more : Fields) (section : Section) → section_named keyword ≡ Some section
-    → first_held (header_tests context keyword more (section_named keyword)) ≡ None
-    → item_fault context earlier (header keyword more) ≡ declared_fault earlier (header_declared earlier more (Some section))
+    → first_held (header_tests context earlier keyword more (section_named keyword)) ≡ None
+    → item_fault context earlier (header keyword more) ≡ declared_fault earlier (header_declared context earlier more (Some section))
 header-declares context earlier keyword more section is held =
-    declared-first (header_tests context keyword more (section_named keyword)) earlier (header_declared earlier more (section_named keyword))
-    (header-rising context keyword more (section_named keyword)) held
-    ∙ ap (λ (o : Option Section). declared_fault earlier (header_declared earlier more o)) is
+    declared-first (header_tests context earlier keyword more (section_named keyword)) earlier (header_declared context earlier more (section_named keyword))
+    (header-rising context earlier keyword more (section_named keyword)) held
+    ∙ ap (λ (o : Option Section). declared_fault earlier (header_declared context earlier more o)) is

@@ -18,15 +18,15 @@ use Rattle.mpslp_model.proofs.LaterDrafts.{itself_named}
 use Rattle.mpslp_model.proofs.SlotLemmas.{has-put}
 use Rattle.mpslp_mps.specs.Line.{Fields, Item, skipped, header, data_line}
 use Rattle.mpslp_mps.specs.Section.{has, section_named, begins, is_section}
-use Rattle.mpslp_mps.specs.DataLine.{RowLine, Pair, ValuesLine, sense_shape, sense_of, row_shape, row_type, column_shape, is_marker_line, vector_shape}
+use Rattle.mpslp_mps.specs.DataLine.{RowLine, Pair, ValuesLine, word_shape, sense_of, row_shape, row_type, column_shape, is_marker_line, vector_shape}
 use Rattle.mpslp_mps.specs.BoundLine.{BoundLine, bound_type, bound_shape}
 use Rattle.mpslp_mps.specs.Context.{Context, context_of, current_section, has_section}
-use Rattle.mpslp_mps.specs.LineMeaning.{declared_of, sense_declared, row_of_type, row_declared, coefficient_declared, column_declared, columns_line_declared, right_sides_declared, ranges_declared, bound_declared, bound_value, bound_line_declared, data_declared, header_declared, declared}
+use Rattle.mpslp_mps.specs.LineMeaning.{declared_of, sense_declared, is_new_objective, row_of_type, row_declared, coefficient_declared, column_declared, columns_line_declared, right_sides_declared, ranges_declared, bound_declared, bound_value, bound_line_declared, data_declared, header_declared, declared}
 use Rattle.mpslp_reading.specs.Field.{value_of}
 use Rattle.mpslp_mps.specs.HeaderFault.{header_tests}
 use Rattle.mpslp_mps.proofs.PlacedLemmas.{form_faults, declared_items, have_good_form, no_faults}
 use Rattle.mpslp_mps.specs.declared.sections.Section.{Section}
-use Rattle.mpslp_mps.specs.declared.sections.Section.TheVariants.{Name, ObjSense, Rows, Columns, Rhs, Ranges, Bounds, EndData}
+use Rattle.mpslp_mps.specs.declared.sections.Section.TheVariants.{Name, ObjSense, ObjName, Rows, Columns, Rhs, Ranges, Bounds, EndData}
 use Rattle.mpslp_mps.specs.declared.bound_types.BoundType.{BoundType}
 use Rattle.mpslp_mps.specs.declared.bound_types.BoundType.TheVariants as bounds
 use Rattle.mpslp_model.proofs.MadeDrafts.{adding_all-append}
@@ -35,13 +35,14 @@ use Rattle.mpslp_mps.proofs.OrderLemmas.{header-fresh, Past, past-rows, past-col
 
 -- ---- once ROWS is past no rows are declared, once COLUMNS is past no columns
 
-no-rows-header : (context : Context) (earlier : Draft) (keyword : List ℕ) (more : Fields) (o : Option Section) → those_of (header_tests context keyword more o) ≡ [] → has context.seen Columns ≡ true
-    → no_rows (header_declared earlier more o) ≡ true
+no-rows-header : (context : Context) (earlier : Draft) (keyword : List ℕ) (more : Fields) (o : Option Section) → those_of (header_tests context earlier keyword more o) ≡ [] → has context.seen Columns ≡ true
+    → no_rows (header_declared context earlier more o) ≡ true
 no-rows-header context earlier keyword more None h c = refl
 no-rows-header context earlier keyword more (Some Name) h c = refl
 no-rows-header context earlier keyword more (Some ObjSense) h c = sense-passes (λ d. not (declares_row d)) (λ _. refl) more
+no-rows-header context earlier keyword more (Some ObjName) h c = refl
 no-rows-header context earlier keyword more (Some Rows) h c = refl
-no-rows-header context earlier keyword more (Some Columns) h c = absurd (never (has context.seen Columns) c (header-fresh context keyword more Columns h))
+no-rows-header context earlier keyword more (Some Columns) h c = absurd (never (has context.seen Columns) c (header-fresh context earlier keyword more Columns h))
 no-rows-header context earlier keyword more (Some Rhs) h c = refl
 no-rows-header context earlier keyword more (Some Ranges) h c = refl
 no-rows-header context earlier keyword more (Some Bounds) h c = refl
@@ -51,6 +52,7 @@ no-rows-data : (context : Context) (earlier : Draft) (fields : Fields) (o : Opti
 no-rows-data context earlier fields None h = refl
 no-rows-data context earlier fields (Some Name) h = refl
 no-rows-data context earlier fields (Some ObjSense) h = sense-passes (λ d. not (declares_row d)) (λ _. refl) fields
+no-rows-data context earlier fields (Some ObjName) h = refl
 no-rows-data context earlier fields (Some Rows) h = cc
 no-rows-data context earlier fields (Some Columns) h = columns-line-no-rows context fields
 no-rows-data context earlier fields (Some Rhs) h = sides-passes (λ d. not (declares_row d)) passes-no_rows earlier fields
@@ -64,30 +66,32 @@ no-rows-line before earlier skipped h past columns = refl
 no-rows-line before earlier (header keyword more) h past columns = no-rows-header (context_of before) earlier keyword more (section_named keyword) h columns
 no-rows-line before earlier (data_line fields) h past columns = no-rows-data (context_of before) earlier fields (current_section before) past.left
 
-no-columns-header : (earlier : Draft) (more : Fields) (o : Option Section) → no_columns (header_declared earlier more o) ≡ true
-no-columns-header earlier more None = refl
-no-columns-header earlier more (Some Name) = refl
-no-columns-header earlier more (Some ObjSense) = sense-passes (λ d. not (declares_column d)) (λ _. refl) more
-no-columns-header earlier more (Some Rows) = refl
-no-columns-header earlier more (Some Columns) = elim (is_none earlier.objective) as (λ b. no_columns (cond b (declare_objective (codes "obj") ∷ []) []) ≡ true) [ true ↦ refl | false ↦ refl ]
-no-columns-header earlier more (Some Rhs) = refl
-no-columns-header earlier more (Some Ranges) = refl
-no-columns-header earlier more (Some Bounds) = refl
-no-columns-header earlier more (Some EndData) = refl
+no-columns-header : (context : Context) (earlier : Draft) (more : Fields) (o : Option Section) → no_columns (header_declared context earlier more o) ≡ true
+no-columns-header context earlier more None = refl
+no-columns-header context earlier more (Some Name) = refl
+no-columns-header context earlier more (Some ObjSense) = sense-passes (λ d. not (declares_column d)) (λ _. refl) more
+no-columns-header context earlier more (Some ObjName) = refl
+no-columns-header context earlier more (Some Rows) = refl
+no-columns-header context earlier more (Some Columns) = elim (is_none earlier.objective && is_none context.objective_name) as (λ b. no_columns (cond b (declare_objective (codes "obj") ∷ []) []) ≡ true) [ true ↦ refl | false ↦ refl ]
+no-columns-header context earlier more (Some Rhs) = refl
+no-columns-header context earlier more (Some Ranges) = refl
+no-columns-header context earlier more (Some Bounds) = refl
+no-columns-header context earlier more (Some EndData) = refl
 
-row-no-columns : (earlier : Draft) (name : List ℕ) (type : RowType) → no_columns (row_of_type earlier name type) ≡ true
-row-no-columns earlier name Free = elim (is_none earlier.objective) as (λ b. no_columns (cond b (declare_objective name ∷ []) (declare_row name (by_type Free) ∷ [])) ≡ true) [ true ↦ refl | false ↦ refl ]
-row-no-columns earlier name AtMost = refl
-row-no-columns earlier name AtLeast = refl
-row-no-columns earlier name Equal = refl
+row-no-columns : (context : Context) (earlier : Draft) (name : List ℕ) (type : RowType) → no_columns (row_of_type context earlier name type) ≡ true
+row-no-columns context earlier name Free = elim (is_new_objective context earlier name) as (λ b. no_columns (cond b (declare_objective name ∷ []) (declare_row name (by_type Free) ∷ [])) ≡ true) [ true ↦ refl | false ↦ refl ]
+row-no-columns context earlier name AtMost = refl
+row-no-columns context earlier name AtLeast = refl
+row-no-columns context earlier name Equal = refl
 
 no-columns-data : (context : Context) (earlier : Draft) (fields : Fields) (o : Option Section) → is_section Columns o ≡ false → no_columns (data_declared context earlier fields o) ≡ true
 no-columns-data context earlier fields None h = refl
 no-columns-data context earlier fields (Some Name) h = refl
 no-columns-data context earlier fields (Some ObjSense) h = sense-passes (λ d. not (declares_column d)) (λ _. refl) fields
+no-columns-data context earlier fields (Some ObjName) h = refl
 no-columns-data context earlier fields (Some Rows) h =
-    each-declared (λ d. not (declares_column d)) (row_declared earlier) (row_shape fields)
-    (λ line. each-declared (λ d. not (declares_column d)) (row_of_type earlier line.name) (row_type line.letter) (λ type. row-no-columns earlier line.name type))
+    each-declared (λ d. not (declares_column d)) (row_declared context earlier) (row_shape fields)
+    (λ line. each-declared (λ d. not (declares_column d)) (row_of_type context earlier line.name) (row_type line.letter) (λ type. row-no-columns context earlier line.name type))
 no-columns-data context earlier fields (Some Columns) h = cc
 no-columns-data context earlier fields (Some Rhs) h = sides-passes (λ d. not (declares_column d)) passes-no_columns earlier fields
 no-columns-data context earlier fields (Some Ranges) h = ranges-passes (λ d. not (declares_column d)) passes-no_columns fields
@@ -96,7 +100,7 @@ no-columns-data context earlier fields (Some EndData) h = refl
 
 no-columns-line : (before : List Item) (earlier : Draft) (item : Item) → Past Columns before → no_columns (declared (context_of before) earlier item) ≡ true
 no-columns-line before earlier skipped past = refl
-no-columns-line before earlier (header keyword more) past = no-columns-header earlier more (section_named keyword)
+no-columns-line before earlier (header keyword more) past = no-columns-header (context_of before) earlier more (section_named keyword)
 no-columns-line before earlier (data_line fields) past = no-columns-data (context_of before) earlier fields (current_section before) past.left
 
 -- the first of lines of a good form, and the rest
@@ -239,8 +243,8 @@ is_rowed (Some Ranges) = true
 is_rowed _ = false
 
 -- a sense, an objective and a row name nothing that is to be there
-sense-known : (before : Draft) (fields : Fields) → are_known_in_turn before (declared_of sense_declared (sense_shape fields)) ≡ true
-sense-known before fields = worded (sense_shape fields)
+sense-known : (before : Draft) (fields : Fields) → are_known_in_turn before (declared_of sense_declared (word_shape fields)) ≡ true
+sense-known before fields = worded (word_shape fields)
   where
     sensed : (o : Option Sense) → are_known_in_turn before (declared_of (λ sense. declare_sense sense ∷ []) o) ≡ true
     sensed None = refl
@@ -250,37 +254,39 @@ sense-known before fields = worded (sense_shape fields)
     worded None = refl
     worded (Some word) = sensed (sense_of word)
 
-rows-known : (earlier before : Draft) (fields : Fields) → are_known_in_turn before (declared_of (row_declared earlier) (row_shape fields)) ≡ true
-rows-known earlier before fields = lined (row_shape fields)
+rows-known : (context : Context) (earlier before : Draft) (fields : Fields) → are_known_in_turn before (declared_of (row_declared context earlier) (row_shape fields)) ≡ true
+rows-known context earlier before fields = lined (row_shape fields)
   where
-    typed : (name : List ℕ) (o : Option RowType) → are_known_in_turn before (declared_of (row_of_type earlier name) o) ≡ true
+    typed : (name : List ℕ) (o : Option RowType) → are_known_in_turn before (declared_of (row_of_type context earlier name) o) ≡ true
     typed name None = refl
-    typed name (Some Free) = elim (is_none earlier.objective) as (λ b. are_known_in_turn before (cond b (declare_objective name ∷ []) (declare_row name (by_type Free) ∷ [])) ≡ true) [ true ↦ refl | false ↦ refl ]
+    typed name (Some Free) = elim (is_new_objective context earlier name) as (λ b. are_known_in_turn before (cond b (declare_objective name ∷ []) (declare_row name (by_type Free) ∷ [])) ≡ true) [ true ↦ refl | false ↦ refl ]
     typed name (Some AtMost) = refl
     typed name (Some AtLeast) = refl
     typed name (Some Equal) = refl
 
-    lined : (o : Option RowLine) → are_known_in_turn before (declared_of (row_declared earlier) o) ≡ true
+    lined : (o : Option RowLine) → are_known_in_turn before (declared_of (row_declared context earlier) o) ≡ true
     lined None = refl
     lined (Some line) = typed line.name (row_type line.letter)
 
-header-known : (earlier : Draft) (more : Fields) (o : Option Section) → are_known_in_turn earlier (header_declared earlier more o) ≡ true
-header-known earlier more None = refl
-header-known earlier more (Some Name) = refl
-header-known earlier more (Some ObjSense) = sense-known earlier more
-header-known earlier more (Some Rows) = refl
-header-known earlier more (Some Columns) = elim (is_none earlier.objective) as (λ b. are_known_in_turn earlier (cond b (declare_objective (codes "obj") ∷ []) []) ≡ true) [ true ↦ refl | false ↦ refl ]
-header-known earlier more (Some Rhs) = refl
-header-known earlier more (Some Ranges) = refl
-header-known earlier more (Some Bounds) = refl
-header-known earlier more (Some EndData) = refl
+header-known : (context : Context) (earlier : Draft) (more : Fields) (o : Option Section) → are_known_in_turn earlier (header_declared context earlier more o) ≡ true
+header-known context earlier more None = refl
+header-known context earlier more (Some Name) = refl
+header-known context earlier more (Some ObjSense) = sense-known earlier more
+header-known context earlier more (Some ObjName) = refl
+header-known context earlier more (Some Rows) = refl
+header-known context earlier more (Some Columns) = elim (is_none earlier.objective && is_none context.objective_name) as (λ b. are_known_in_turn earlier (cond b (declare_objective (codes "obj") ∷ []) []) ≡ true) [ true ↦ refl | false ↦ refl ]
+header-known context earlier more (Some Rhs) = refl
+header-known context earlier more (Some Ranges) = refl
+header-known context earlier more (Some Bounds) = refl
+header-known context earlier more (Some EndData) = refl
 
 data-known : (context : Context) (final earlier : Draft) (fields : Fields) (o : Option Section) → (is_rowed o ≡ true → HasRowsOf final earlier) → (is_section Bounds o ≡ true → HasColumnsOf final earlier)
     → AreKnown final (data_declared context earlier fields o) → are_known_in_turn earlier (data_declared context earlier fields o) ≡ true
 data-known context final earlier fields None rows columns h = refl
 data-known context final earlier fields (Some Name) rows columns h = refl
 data-known context final earlier fields (Some ObjSense) rows columns h = sense-known earlier fields
-data-known context final earlier fields (Some Rows) rows columns h = rows-known earlier earlier fields
+data-known context final earlier fields (Some ObjName) rows columns h = refl
+data-known context final earlier fields (Some Rows) rows columns h = rows-known context earlier earlier fields
 data-known context final earlier fields (Some Columns) rows columns h = columns-known context final earlier fields (rows refl) h
 data-known context final earlier fields (Some Rhs) rows columns h = of (vector_shape fields) h
   where
@@ -316,6 +322,7 @@ rowed-late : (o : Option Section) → is_rowed o ≡ true → (is_late o ≡ tru
 rowed-late None h = cc
 rowed-late (Some Name) h = cc
 rowed-late (Some ObjSense) h = cc
+rowed-late (Some ObjName) h = cc
 rowed-late (Some Rows) h = cc
 rowed-late (Some Columns) h = (refl, refl)
 rowed-late (Some Rhs) h = (refl, refl)
@@ -327,6 +334,7 @@ bounds-late : (o : Option Section) → is_section Bounds o ≡ true → (is_late
 bounds-late None h = cc
 bounds-late (Some Name) h = cc
 bounds-late (Some ObjSense) h = cc
+bounds-late (Some ObjName) h = cc
 bounds-late (Some Rows) h = cc
 bounds-late (Some Columns) h = cc
 bounds-late (Some Rhs) h = cc
@@ -338,7 +346,7 @@ line-known : (before : List Item) (earlier : Draft) (item : Item) (items : List 
     → AreKnown (adding_all earlier (declared_items before earlier (item ∷ items))) (declared (context_of before) earlier item)
     → are_known_in_turn earlier (declared (context_of before) earlier item) ≡ true
 line-known before earlier skipped items h o known = refl
-line-known before earlier (header keyword more) items h o known = header-known earlier more (section_named keyword)
+line-known before earlier (header keyword more) items h o known = header-known (context_of before) earlier more (section_named keyword)
 line-known before earlier (data_line fields) items h o known =
     data-known (context_of before) (adding_all earlier (declared_items before earlier (data_line fields ∷ items))) earlier fields (current_section before) rows columns known
   where

@@ -1,6 +1,6 @@
 -- What lines of a good form declare has legal names and decimals.
 use Rattle.std.proofs.Common.{◌≡◌, refl, ◌∙◌, List, [], ◌∷◌, ◌++◌, ℕ, Bool, true, false, cond}
-use Rattle.std.specs.Prelude.{Option, Some, None, is_none, codes}
+use Rattle.std.specs.Prelude.{◌&&◌, Option, Some, None, is_none, codes}
 use Rattle.std.specs.List.{list_all, flat_map}
 use Rattle.std.specs.Option.{option_map_or}
 use Rattle.std.proofs.lemmas.List.Folds.{list_all-append}
@@ -18,16 +18,16 @@ use Rattle.mpslp_types.proofs.BoolLemmas.{both_so}
 use Rattle.mpslp_reading.proofs.FieldLemmas.{name-legal, value-decimal, limit-given}
 use Rattle.mpslp_mps.specs.Line.{Fields, Item, skipped, header, data_line}
 use Rattle.mpslp_mps.specs.Section.{section_named}
-use Rattle.mpslp_mps.specs.DataLine.{RowLine, Pair, ValuesLine, sense_shape, sense_of, row_shape, row_type, column_shape, is_marker_line, vector_shape}
+use Rattle.mpslp_mps.specs.DataLine.{RowLine, Pair, ValuesLine, word_shape, sense_of, row_shape, row_type, column_shape, is_marker_line, vector_shape}
 use Rattle.mpslp_mps.specs.BoundLine.{BoundLine, bound_type, bound_shape}
 use Rattle.mpslp_mps.specs.Context.{Context, context_of, current_section}
-use Rattle.mpslp_mps.specs.LineMeaning.{declared_of, sense_declared, row_of_type, row_declared, coefficient_declared, column_declared, columns_line_declared, right_sides_declared, ranges_declared, bound_declared, bound_value, bound_line_declared, data_declared, header_declared, declared}
+use Rattle.mpslp_mps.specs.LineMeaning.{declared_of, sense_declared, is_new_objective, row_of_type, row_declared, coefficient_declared, column_declared, columns_line_declared, right_sides_declared, ranges_declared, bound_declared, bound_value, bound_line_declared, data_declared, header_declared, declared}
 use Rattle.mpslp_reading.specs.Field.{value_of, name_tests, number_tests}
 use Rattle.mpslp_reading.specs.Tests.{judged_by}
 use Rattle.mpslp_mps.specs.FieldFault.{literals_of}
 use Rattle.mpslp_mps.specs.DataFault.{row_tests, marker_tests, is_split, column_tests, columns_line_tests, data_tests}
 use Rattle.mpslp_mps.specs.declared.sections.Section.{Section}
-use Rattle.mpslp_mps.specs.declared.sections.Section.TheVariants.{Name, ObjSense, Rows, Columns, Rhs, Ranges, Bounds, EndData}
+use Rattle.mpslp_mps.specs.declared.sections.Section.TheVariants.{Name, ObjSense, ObjName, Rows, Columns, Rhs, Ranges, Bounds, EndData}
 use Rattle.mpslp_mps.specs.declared.bound_types.BoundType.{BoundType}
 use Rattle.mpslp_mps.specs.declared.bound_types.BoundType.TheVariants as bounds
 use Rattle.mpslp_mps.proofs.PlacedLemmas.{declared_items, have_good_form}
@@ -37,22 +37,22 @@ use Rattle.mpslp_mps.proofs.KnownLemmas.{good-first, good-rest}
 
 -- ---- lines
 
-sense-legal : (fields : Fields) → list_all is_legal (declared_of sense_declared (sense_shape fields)) ≡ true
+sense-legal : (fields : Fields) → list_all is_legal (declared_of sense_declared (word_shape fields)) ≡ true
 sense-legal fields =
-    each-declared is_legal sense_declared (sense_shape fields) (λ word. each-declared is_legal (λ sense. declare_sense sense ∷ []) (sense_of word) (λ s. refl))
+    each-declared is_legal sense_declared (word_shape fields) (λ word. each-declared is_legal (λ sense. declare_sense sense ∷ []) (sense_of word) (λ s. refl))
 
-row-type-legal : (earlier : Draft) (name : List ℕ) (type : RowType) → is_mps_name name ≡ true → list_all is_legal (row_of_type earlier name type) ≡ true
-row-type-legal earlier name Free h =
-    elim (is_none earlier.objective) as (λ b. list_all is_legal (cond b (declare_objective name ∷ []) (declare_row name (by_type Free) ∷ [])) ≡ true) [ true ↦ rw h refl | false ↦ rw h refl ]
-row-type-legal earlier name AtMost h = rw h refl
-row-type-legal earlier name AtLeast h = rw h refl
-row-type-legal earlier name Equal h = rw h refl
+row-type-legal : (context : Context) (earlier : Draft) (name : List ℕ) (type : RowType) → is_mps_name name ≡ true → list_all is_legal (row_of_type context earlier name type) ≡ true
+row-type-legal context earlier name Free h =
+    elim (is_new_objective context earlier name) as (λ b. list_all is_legal (cond b (declare_objective name ∷ []) (declare_row name (by_type Free) ∷ [])) ≡ true) [ true ↦ rw h refl | false ↦ rw h refl ]
+row-type-legal context earlier name AtMost h = rw h refl
+row-type-legal context earlier name AtLeast h = rw h refl
+row-type-legal context earlier name Equal h = rw h refl
 
-row-legal : (earlier : Draft) (o : Option RowLine) → those_of (judged_by row_tests o) ≡ [] → list_all is_legal (declared_of (row_declared earlier) o) ≡ true
-row-legal earlier None h = refl
-row-legal earlier (Some line) h =
+row-legal : (context : Context) (earlier : Draft) (o : Option RowLine) → those_of (judged_by row_tests o) ≡ [] → list_all is_legal (declared_of (row_declared context earlier) o) ≡ true
+row-legal context earlier None h = refl
+row-legal context earlier (Some line) h =
     let name = name-legal line.name [] (later_tests (is_none (row_type line.letter)) kinds.BadType (name_tests line.name) h) in
-    each-declared is_legal (row_of_type earlier line.name) (row_type line.letter) (λ type. row-type-legal earlier line.name type name)
+    each-declared is_legal (row_of_type context earlier line.name) (row_type line.letter) (λ type. row-type-legal context earlier line.name type name)
 
 cells-legal : (column : List ℕ) (pairs : List Pair) → list_all is_legal (flat_map (coefficient_declared column) pairs) ≡ true
 cells-legal column pairs = each-flat is_legal (coefficient_declared column) pairs (λ pair. rw (value-decimal pair.literal) refl)
@@ -115,23 +115,25 @@ bounds-legal (letters ∷ more) =
     (λ type. each-declared is_legal (λ (line : BoundLine). bound_declared type line.column (bound_value line)) (bound_shape type more)
     (λ line. bound-legal type line.column (bound_value line) (bound-value-given line)))
 
-header-legal : (earlier : Draft) (more : Fields) (o : Option Section) → list_all is_legal (header_declared earlier more o) ≡ true
-header-legal earlier more None = refl
-header-legal earlier more (Some Name) = refl
-header-legal earlier more (Some ObjSense) = sense-legal more
-header-legal earlier more (Some Rows) = refl
-header-legal earlier more (Some Columns) = elim (is_none earlier.objective) as (λ b. list_all is_legal (cond b (declare_objective (codes "obj") ∷ []) []) ≡ true) [ true ↦ refl | false ↦ refl ]
-header-legal earlier more (Some Rhs) = refl
-header-legal earlier more (Some Ranges) = refl
-header-legal earlier more (Some Bounds) = refl
-header-legal earlier more (Some EndData) = refl
+header-legal : (context : Context) (earlier : Draft) (more : Fields) (o : Option Section) → list_all is_legal (header_declared context earlier more o) ≡ true
+header-legal context earlier more None = refl
+header-legal context earlier more (Some Name) = refl
+header-legal context earlier more (Some ObjSense) = sense-legal more
+header-legal context earlier more (Some ObjName) = refl
+header-legal context earlier more (Some Rows) = refl
+header-legal context earlier more (Some Columns) = elim (is_none earlier.objective && is_none context.objective_name) as (λ b. list_all is_legal (cond b (declare_objective (codes "obj") ∷ []) []) ≡ true) [ true ↦ refl | false ↦ refl ]
+header-legal context earlier more (Some Rhs) = refl
+header-legal context earlier more (Some Ranges) = refl
+header-legal context earlier more (Some Bounds) = refl
+header-legal context earlier more (Some EndData) = refl
 
 data-legal : (context : Context) (earlier : Draft) (fields : Fields) (o : Option Section) → those_of (data_tests context earlier fields o) ≡ []
     → list_all is_legal (data_declared context earlier fields o) ≡ true
 data-legal context earlier fields None h = refl
 data-legal context earlier fields (Some Name) h = refl
 data-legal context earlier fields (Some ObjSense) h = sense-legal fields
-data-legal context earlier fields (Some Rows) h = row-legal earlier (row_shape fields) h
+data-legal context earlier fields (Some ObjName) h = refl
+data-legal context earlier fields (Some Rows) h = row-legal context earlier (row_shape fields) h
 data-legal context earlier fields (Some Columns) h = columns-legal context earlier fields h
 data-legal context earlier fields (Some Rhs) h = sides-legal earlier fields
 data-legal context earlier fields (Some Ranges) h = ranges-legal fields
@@ -140,7 +142,7 @@ data-legal context earlier fields (Some EndData) h = refl
 
 pub line-legal : (before : List Item) (earlier : Draft) (item : Item) → IsGood before earlier item → list_all is_legal (declared (context_of before) earlier item) ≡ true
 line-legal before earlier skipped h = refl
-line-legal before earlier (header keyword more) h = header-legal earlier more (section_named keyword)
+line-legal before earlier (header keyword more) h = header-legal (context_of before) earlier more (section_named keyword)
 line-legal before earlier (data_line fields) h = data-legal (context_of before) earlier fields (current_section before) h
 
 pub lines-legal : (items before : List Item) (earlier : Draft) → have_good_form before earlier items ≡ true → list_all is_legal (declared_items before earlier items) ≡ true

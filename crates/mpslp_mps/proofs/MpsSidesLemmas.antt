@@ -1,6 +1,6 @@
 -- Lines of MPS text without a fault declare right sides of rows that are there and not of type N.
 use Rattle.std.proofs.Common.{◌≡◌, refl, sym, ap, subst, ◌∙◌, ℕ, List, [], ◌∷◌, ◌++◌, Bool, true, false, cond}
-use Rattle.std.specs.Prelude.{◌||◌, Option, Some, None, is_none, codes}
+use Rattle.std.specs.Prelude.{◌&&◌, ◌||◌, Option, Some, None, is_none, codes}
 use Rattle.std.specs.List.{list_all, flat_map}
 use Rattle.std.specs.Option.{option_map_or}
 use Rattle.std.specs.Cmp.{first_so, second_so}
@@ -18,10 +18,10 @@ use Rattle.mpslp_model.proofs.MadeDrafts.{adding_all-append}
 use Rattle.mpslp_model.proofs.SlotLemmas.{at-put, has-put, same_name}
 use Rattle.mpslp_mps.specs.Line.{Fields, Item, skipped, header, data_line}
 use Rattle.mpslp_mps.specs.Section.{section_named}
-use Rattle.mpslp_mps.specs.DataLine.{RowLine, Pair, ValuesLine, sense_shape, row_shape, row_type, column_shape, is_marker_line, vector_shape}
+use Rattle.mpslp_mps.specs.DataLine.{RowLine, Pair, ValuesLine, word_shape, row_shape, row_type, column_shape, is_marker_line, vector_shape}
 use Rattle.mpslp_mps.specs.BoundLine.{BoundLine, bound_type, bound_shape}
 use Rattle.mpslp_mps.specs.Context.{Context}
-use Rattle.mpslp_mps.specs.LineMeaning.{declared_of, sense_declared, row_of_type, row_declared, coefficient_declared, column_declared, columns_line_declared, right_sides_declared, ranges_declared, bound_declared, bound_value, bound_line_declared, default_objective, data_declared, header_declared, declared}
+use Rattle.mpslp_mps.specs.LineMeaning.{declared_of, sense_declared, is_new_objective, row_of_type, row_declared, coefficient_declared, column_declared, columns_line_declared, right_sides_declared, ranges_declared, bound_declared, bound_value, bound_line_declared, default_objective, data_declared, header_declared, declared}
 use Rattle.mpslp_reading.specs.Field.{value_of}
 use Rattle.mpslp_reading.specs.Declaring.{declaring_faults, declared_fault}
 use Rattle.mpslp_mps.proofs.PlacedLemmas.{form_faults}
@@ -30,7 +30,7 @@ use Rattle.mpslp_mps.specs.VectorDeclared.{HasMpsSides}
 use Rattle.mpslp_mps.specs.declared.bound_types.BoundType.{BoundType}
 use Rattle.mpslp_mps.specs.declared.bound_types.BoundType.TheVariants as bounds
 use Rattle.mpslp_mps.specs.declared.sections.Section.{Section}
-use Rattle.mpslp_mps.specs.declared.sections.Section.TheVariants.{Name, ObjSense, Rows, Columns, Rhs, Ranges, Bounds, EndData}
+use Rattle.mpslp_mps.specs.declared.sections.Section.TheVariants.{Name, ObjSense, ObjName, Rows, Columns, Rhs, Ranges, Bounds, EndData}
 use Rattle.mpslp_reading.proofs.LeastLemmas.{earlier_of, least-append}
 use Rattle.mpslp_mps.proofs.OrderLemmas.{each-declared, each-flat, each-mapped, sense-passes}
 use Rattle.mpslp_reading.proofs.RefusedLemmas.{declared-one, declared-append}
@@ -71,7 +71,7 @@ stays-kept : (ds : Declarations) (all : Draft) → list_all stays ds ≡ true �
 stays-kept [] all h sides = sides
 stays-kept (d ∷ ds) all h sides = stays-kept ds (adding all d) (second_so (stays d) (list_all stays ds) h) (stays-one all d (first_so (stays d) (list_all stays ds) h) sides)
 
-sense-stays : (fields : Fields) → list_all stays (declared_of sense_declared (sense_shape fields)) ≡ true
+sense-stays : (fields : Fields) → list_all stays (declared_of sense_declared (word_shape fields)) ≡ true
 sense-stays fields = sense-passes stays (λ s. refl) fields
 
 columns-stay : (context : Context) (fields : Fields) → list_all stays (columns_line_declared context fields) ≡ true
@@ -162,34 +162,34 @@ new_row all name type fault_is = by (has_row all name) (sym is ∙ fault_is)
     by true k = cc
     by false k = refl
 
-objective-or_row : (all : Draft) (name : List ℕ) → declared_fault all (row_of_type all name Free) ≡ None → HasMpsSides all → HasMpsSides (adding_all all (row_of_type all name Free))
-objective-or_row all name fault_is sides = by (is_none all.objective) refl fault_is
+objective-or_row : (context : Context) (all : Draft) (name : List ℕ) → declared_fault all (row_of_type context all name Free) ≡ None → HasMpsSides all → HasMpsSides (adding_all all (row_of_type context all name Free))
+objective-or_row context all name fault_is sides = by (is_new_objective context all name) refl fault_is
   where
-    by : (b : Bool) → is_none all.objective ≡ b → declared_fault all (cond b (declare_objective name ∷ []) (declare_row name (by_type Free) ∷ [])) ≡ None
+    by : (b : Bool) → is_new_objective context all name ≡ b → declared_fault all (cond b (declare_objective name ∷ []) (declare_row name (by_type Free) ∷ [])) ≡ None
         → HasMpsSides (adding_all all (cond b (declare_objective name ∷ []) (declare_row name (by_type Free) ∷ [])))
-    by true none k = objective-kept all name (none_so all.objective none) sides
+    by true new k = objective-kept all name (none_so all.objective (first_so (is_none all.objective) (option_map_or (same_bytes name) context.objective_name true) new)) sides
     by false there k = row-kept all name (by_type Free) (new_row all name Free k) sides
 
-rows-kept : (all : Draft) (fields : Fields) → declared_fault all (declared_of (row_declared all) (row_shape fields)) ≡ None → HasMpsSides all
-    → HasMpsSides (adding_all all (declared_of (row_declared all) (row_shape fields)))
-rows-kept all fields fault_is sides = lined (row_shape fields) fault_is
+rows-kept : (context : Context) (all : Draft) (fields : Fields) → declared_fault all (declared_of (row_declared context all) (row_shape fields)) ≡ None → HasMpsSides all
+    → HasMpsSides (adding_all all (declared_of (row_declared context all) (row_shape fields)))
+rows-kept context all fields fault_is sides = lined (row_shape fields) fault_is
   where
-    typed : (name : List ℕ) (o : Option RowType) → declared_fault all (declared_of (row_of_type all name) o) ≡ None → HasMpsSides (adding_all all (declared_of (row_of_type all name) o))
+    typed : (name : List ℕ) (o : Option RowType) → declared_fault all (declared_of (row_of_type context all name) o) ≡ None → HasMpsSides (adding_all all (declared_of (row_of_type context all name) o))
     typed name None k = sides
-    typed name (Some Free) k = objective-or_row all name k sides
+    typed name (Some Free) k = objective-or_row context all name k sides
     typed name (Some AtMost) k = row-kept all name (by_type AtMost) (new_row all name AtMost k) sides
     typed name (Some AtLeast) k = row-kept all name (by_type AtLeast) (new_row all name AtLeast k) sides
     typed name (Some Equal) k = row-kept all name (by_type Equal) (new_row all name Equal k) sides
 
-    lined : (o : Option RowLine) → declared_fault all (declared_of (row_declared all) o) ≡ None → HasMpsSides (adding_all all (declared_of (row_declared all) o))
+    lined : (o : Option RowLine) → declared_fault all (declared_of (row_declared context all) o) ≡ None → HasMpsSides (adding_all all (declared_of (row_declared context all) o))
     lined None k = sides
     lined (Some line) k = typed line.name (row_type line.letter) k
 
-default-kept : (all : Draft) → HasMpsSides all → HasMpsSides (adding_all all (default_objective all))
-default-kept all sides = by (is_none all.objective) refl
+default-kept : (context : Context) (all : Draft) → HasMpsSides all → HasMpsSides (adding_all all (default_objective context all))
+default-kept context all sides = by (is_none all.objective && is_none context.objective_name) refl
   where
-    by : (b : Bool) → is_none all.objective ≡ b → HasMpsSides (adding_all all (cond b (declare_objective (codes "obj") ∷ []) []))
-    by true none = objective-kept all (codes "obj") (none_so all.objective none) sides
+    by : (b : Bool) → (is_none all.objective && is_none context.objective_name) ≡ b → HasMpsSides (adding_all all (cond b (declare_objective (codes "obj") ∷ []) []))
+    by true none = objective-kept all (codes "obj") (none_so all.objective (first_so (is_none all.objective) (is_none context.objective_name) none)) sides
     by false there = sides
 
 -- ---- right sides
@@ -225,23 +225,25 @@ rhs_values-kept all fields fault_is sides = lined (vector_shape fields) fault_is
 
 -- ---- a line
 
-header-kept : (earlier : Draft) (more : Fields) (o : Option Section) → HasMpsSides earlier → HasMpsSides (adding_all earlier (header_declared earlier more o))
-header-kept earlier more None sides = sides
-header-kept earlier more (Some Name) sides = sides
-header-kept earlier more (Some ObjSense) sides = stays-kept (header_declared earlier more (Some ObjSense)) earlier (sense-stays more) sides
-header-kept earlier more (Some Rows) sides = sides
-header-kept earlier more (Some Columns) sides = default-kept earlier sides
-header-kept earlier more (Some Rhs) sides = sides
-header-kept earlier more (Some Ranges) sides = sides
-header-kept earlier more (Some Bounds) sides = sides
-header-kept earlier more (Some EndData) sides = sides
+header-kept : (context : Context) (earlier : Draft) (more : Fields) (o : Option Section) → HasMpsSides earlier → HasMpsSides (adding_all earlier (header_declared context earlier more o))
+header-kept context earlier more None sides = sides
+header-kept context earlier more (Some Name) sides = sides
+header-kept context earlier more (Some ObjSense) sides = stays-kept (header_declared context earlier more (Some ObjSense)) earlier (sense-stays more) sides
+header-kept context earlier more (Some ObjName) sides = sides
+header-kept context earlier more (Some Rows) sides = sides
+header-kept context earlier more (Some Columns) sides = default-kept context earlier sides
+header-kept context earlier more (Some Rhs) sides = sides
+header-kept context earlier more (Some Ranges) sides = sides
+header-kept context earlier more (Some Bounds) sides = sides
+header-kept context earlier more (Some EndData) sides = sides
 
 data-kept : (context : Context) (earlier : Draft) (fields : Fields) (o : Option Section) → declared_fault earlier (data_declared context earlier fields o) ≡ None → HasMpsSides earlier
     → HasMpsSides (adding_all earlier (data_declared context earlier fields o))
 data-kept context earlier fields None fault_is sides = sides
 data-kept context earlier fields (Some Name) fault_is sides = sides
 data-kept context earlier fields (Some ObjSense) fault_is sides = stays-kept (data_declared context earlier fields (Some ObjSense)) earlier (sense-stays fields) sides
-data-kept context earlier fields (Some Rows) fault_is sides = rows-kept earlier fields fault_is sides
+data-kept context earlier fields (Some ObjName) fault_is sides = sides
+data-kept context earlier fields (Some Rows) fault_is sides = rows-kept context earlier fields fault_is sides
 data-kept context earlier fields (Some Columns) fault_is sides = stays-kept (columns_line_declared context fields) earlier (columns-stay context fields) sides
 data-kept context earlier fields (Some Rhs) fault_is sides = rhs_values-kept earlier fields fault_is sides
 data-kept context earlier fields (Some Ranges) fault_is sides = stays-kept (declared_of ranges_declared (vector_shape fields)) earlier (ranges-stay fields) sides
@@ -252,7 +254,7 @@ data-kept context earlier fields (Some EndData) fault_is sides = sides
 pub sides-kept : (context : Context) (earlier : Draft) (item : Item) → item_fault context earlier item ≡ None → HasMpsSides earlier
     → HasMpsSides (adding_all earlier (declared context earlier item))
 sides-kept context earlier skipped fault_is sides = sides
-sides-kept context earlier (header keyword more) fault_is sides = header-kept earlier more (section_named keyword) sides
+sides-kept context earlier (header keyword more) fault_is sides = header-kept context earlier more (section_named keyword) sides
 sides-kept context earlier (data_line fields) fault_is sides =
     let faults = form_faults context earlier (data_line fields) in
     let ds = data_declared context earlier fields context.section in

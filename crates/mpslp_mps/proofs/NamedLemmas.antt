@@ -1,15 +1,15 @@
 -- After lines without a fault, the last of which is that of ENDATA, the objective has its name.
-use Rattle.std.proofs.Common.{◌≡◌, refl, sym, ap, ◌∙◌, ℕ, ◌+◌, List, [], ◌∷◌, ◌++◌, Bool, true, false, cond}
-use Rattle.std.specs.Prelude.{◌||◌, Option, Some, None, is_some, is_none, codes}
+use Rattle.std.proofs.Common.{◌≡◌, refl, sym, ap, ◌∙◌, ℕ, ◌+◌, List, [], ◌∷◌, ◌++◌, Bool, true, false}
+use Rattle.std.specs.Prelude.{◌||◌, Option, Some, None, is_some}
 use Rattle.std.specs.List.{list_any}
 use Rattle.std.specs.Option.{option_map, option_or}
-use Rattle.mpslp_model.specs.Declaration.{declare_objective, Draft, adding_all}
+use Rattle.mpslp_model.specs.Declaration.{Draft, adding_all}
 use Rattle.mpslp_model.specs.Lists.{those_of}
 use Rattle.mpslp_reading.proofs.LeastLemmas.{least-none}
 use Rattle.mpslp_types.specs.declared.faults.Fault.{Fault}
 use Rattle.mpslp_types.specs.declared.faults.FaultKind.{FaultKind}
 use Rattle.mpslp_mps.specs.Line.{Fields, Item, skipped, header, data_line, item_of}
-use Rattle.mpslp_mps.specs.Section.{has, is_section, section_named, section_begun, begins}
+use Rattle.mpslp_mps.specs.Section.{has, section_named, section_begun, begins}
 use Rattle.mpslp_mps.specs.Context.{Context}
 use Rattle.mpslp_mps.specs.NextContext.{next_context}
 use Rattle.mpslp_mps.specs.HeaderFault.{header_tests}
@@ -21,11 +21,10 @@ use Rattle.mpslp_mps.specs.FirstFault.{line_fault}
 use Rattle.mpslp_reading.specs.LineAnswer.{fault_on_line}
 use Rattle.mpslp_mps.specs.Reading.{placed_in, context_after, draft_after, fault_from, draft_from}
 use Rattle.mpslp_mps.specs.ReadingAnswer.{lines_to_end}
-use Rattle.mpslp_mps.specs.declared.sections.Section.{Section}
-use Rattle.mpslp_mps.specs.declared.sections.Section.TheVariants.{Name, ObjSense, Rows, Columns, Rhs, Ranges, Bounds, EndData}
+use Rattle.mpslp_mps.specs.declared.sections.Section.TheVariants.{Columns, EndData}
 use Rattle.mpslp_model.proofs.RefusalLemmas.{left_none}
 use Rattle.mpslp_mps.proofs.SectionLemmas.{has-more}
-use Rattle.mpslp_mps.proofs.OrderLemmas.{header-begins}
+use Rattle.mpslp_mps.proofs.ObjectiveLemmas.{columns-name, end-after}
 use Rattle.mpslp_reading.proofs.ObjectiveLemmas.{named-after}
 use Rattle.mpslp_mps.proofs.EndLemmas.{up_to_end-last, up_to_end-more}
 use Rattle.mpslp_mps.proofs.LoopLemmas.{no-item}
@@ -34,57 +33,35 @@ use Rattle.mpslp_mps.proofs.LoopLemmas.{no-item}
 abbrev pub HasName : Context → Draft → Type 0
 HasName context earlier = has context.seen Columns ≡ true → is_some earlier.objective ≡ true
 
-named_columns : (earlier : Draft) (more : Fields) (o : Option Section) → is_section Columns o ≡ true → is_some (adding_all earlier (header_declared earlier more o)).objective ≡ true
-named_columns earlier more None h = cc
-named_columns earlier more (Some Name) h = cc
-named_columns earlier more (Some ObjSense) h = cc
-named_columns earlier more (Some Rows) h = cc
-named_columns earlier more (Some Columns) h = by (is_none earlier.objective) refl
-  where
-    there : (o : Option (List ℕ)) → is_none o ≡ false → is_some o ≡ true
-    there None e = cc
-    there (Some name) e = refl
+-- a header without a fault has a good form
+header_good : (context : Context) (earlier : Draft) (keyword : List ℕ) (more : Fields) → item_fault context earlier (header keyword more) ≡ None
+    → those_of (header_tests context earlier keyword more (section_named keyword)) ≡ []
+header_good context earlier keyword more none =
+    let faults = declaring_faults earlier (header_declared context earlier more (section_named keyword)) in
+    let tests = header_tests context earlier keyword more (section_named keyword) in
+    left_none (those_of tests) faults (least-none (those_of tests ++ faults) none)
 
-    by : (b : Bool) → is_none earlier.objective ≡ b → is_some (adding_all earlier (cond b (declare_objective (codes "obj") ∷ []) [])).objective ≡ true
-    by true e = refl
-    by false e = there earlier.objective e
-named_columns earlier more (Some Rhs) h = cc
-named_columns earlier more (Some Ranges) h = cc
-named_columns earlier more (Some Bounds) h = cc
-named_columns earlier more (Some EndData) h = cc
+named_begun : (context : Context) (earlier : Draft) (item : Item) → item_fault context earlier item ≡ None → begins Columns item ≡ true
+    → is_some (adding_all earlier (declared context earlier item)).objective ≡ true
+named_begun context earlier skipped none h = cc
+named_begun context earlier (header keyword more) none h =
+    columns-name context earlier keyword more (section_named keyword) (header_good context earlier keyword more none) h
+named_begun context earlier (data_line fields) none h = cc
 
-named_begun : (context : Context) (earlier : Draft) (item : Item) → begins Columns item ≡ true → is_some (adding_all earlier (declared context earlier item)).objective ≡ true
-named_begun context earlier skipped h = cc
-named_begun context earlier (header keyword more) h = named_columns earlier more (section_named keyword) h
-named_begun context earlier (data_line fields) h = cc
-
-named_next : (context : Context) (earlier : Draft) (item : Item) → HasName context earlier → HasName (next_context context item) (adding_all earlier (declared context earlier item))
-named_next context earlier item named h = by (has context.seen Columns) refl (sym (has-more Columns context.seen (section_begun item)) ∙ h)
+named_next : (context : Context) (earlier : Draft) (item : Item) → item_fault context earlier item ≡ None → HasName context earlier
+    → HasName (next_context context item) (adding_all earlier (declared context earlier item))
+named_next context earlier item none named h = by (has context.seen Columns) refl (sym (has-more Columns context.seen (section_begun item)) ∙ h)
   where
     by : (b : Bool) → has context.seen Columns ≡ b → (b || begins Columns item) ≡ true → is_some (adding_all earlier (declared context earlier item)).objective ≡ true
     by true e k = named-after (declared context earlier item) earlier (named e)
-    by false e k = named_begun context earlier item k
+    by false e k = named_begun context earlier item none k
 
 -- ENDATA stands after COLUMNS
-ended_tests : (context : Context) (keyword : List ℕ) (more : Fields) (o : Option Section) → those_of (header_tests context keyword more o) ≡ [] → is_section EndData o ≡ true
-    → has context.seen Columns ≡ true
-ended_tests context keyword more None h e = cc
-ended_tests context keyword more (Some Name) h e = cc
-ended_tests context keyword more (Some ObjSense) h e = cc
-ended_tests context keyword more (Some Rows) h e = cc
-ended_tests context keyword more (Some Columns) h e = cc
-ended_tests context keyword more (Some Rhs) h e = cc
-ended_tests context keyword more (Some Ranges) h e = cc
-ended_tests context keyword more (Some Bounds) h e = cc
-ended_tests context keyword more (Some EndData) h e = header-begins context keyword more EndData h
-
 ended_columns : (context : Context) (earlier : Draft) (item : Item) → item_fault context earlier item ≡ None → begins EndData item ≡ true
     → has context.seen Columns ≡ true
 ended_columns context earlier skipped none h = cc
 ended_columns context earlier (header keyword more) none h =
-    let faults = declaring_faults earlier (header_declared earlier more (section_named keyword)) in
-    let tests = header_tests context keyword more (section_named keyword) in
-    ended_tests context keyword more (section_named keyword) (left_none (those_of tests) faults (least-none (those_of tests ++ faults) none)) h
+    end-after context earlier keyword more (section_named keyword) (header_good context earlier keyword more none) h
 ended_columns context earlier (data_line fields) none h = cc
 
 -- ---- lines
@@ -101,13 +78,14 @@ pub named-lines_to_end : (text : List (List ℕ)) (n : ℕ) (context : Context) 
     → fault_from n context earlier (lines_to_end text) ≡ None → list_any is_end text ≡ true → is_some (draft_from context earlier (lines_to_end text)).objective ≡ true
 named-lines_to_end [] n context earlier named none ended = cc
 named-lines_to_end (line ∷ more) n context earlier named none ended =
-    by (is_end line) refl ended (λ h. named-lines_to_end more (n + 1) (context_after context line) (draft_after context earlier line) (named_next context earlier (item_of line) named) h)
+    by (is_end line) refl ended (λ kept h. named-lines_to_end more (n + 1) (context_after context line) (draft_after context earlier line) kept h)
   where
     fault_is : Option FaultKind
     fault_is = line_fault (placed_in context earlier line)
 
     by : (b : Bool) → is_end line ≡ b → (b || list_any is_end more) ≡ true
-        → (fault_from (n + 1) (context_after context line) (draft_after context earlier line) (lines_to_end more) ≡ None → list_any is_end more ≡ true
+        → (HasName (context_after context line) (draft_after context earlier line)
+        → fault_from (n + 1) (context_after context line) (draft_after context earlier line) (lines_to_end more) ≡ None → list_any is_end more ≡ true
         → is_some (draft_from (context_after context line) (draft_after context earlier line) (lines_to_end more)).objective ≡ true)
         → is_some (draft_from context earlier (lines_to_end (line ∷ more))).objective ≡ true
     by true e h later =
@@ -119,5 +97,7 @@ named-lines_to_end (line ∷ more) n context earlier named none ended =
     by false e h later =
         let next = up_to_end-more line more e in
         let both : fault_from n context earlier (line ∷ lines_to_end more) ≡ None = ap (fault_from n context earlier) (sym next) ∙ none in
+        let rest = fault_from (n + 1) (context_after context line) (draft_after context earlier line) (lines_to_end more) in
+        let item = no-item context earlier line (first_none n fault_is rest both) in
         ap (λ (text : List (List ℕ)). is_some (draft_from context earlier text).objective) next
-        ∙ later (rest_none n fault_is (fault_from (n + 1) (context_after context line) (draft_after context earlier line) (lines_to_end more)) both) h
+        ∙ later (named_next context earlier (item_of line) item named) (rest_none n fault_is rest both) h

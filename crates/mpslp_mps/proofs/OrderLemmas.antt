@@ -14,48 +14,57 @@ use Rattle.mpslp_types.proofs.BoolLemmas.{both_so, or_left, or_right, nor}
 use Rattle.mpslp_reading.proofs.HeldLemmas.{first_test, later_tests}
 use Rattle.mpslp_mps.specs.Line.{Fields, Item, skipped, header, data_line}
 use Rattle.mpslp_mps.specs.Section.{has, section_named, section_begun, begins, is_section}
-use Rattle.mpslp_mps.specs.DataLine.{Pair, ValuesLine, sense_shape, sense_of, column_shape, is_marker_line, vector_shape}
+use Rattle.mpslp_mps.specs.DataLine.{Pair, ValuesLine, word_shape, sense_of, column_shape, is_marker_line, vector_shape}
 use Rattle.mpslp_mps.specs.BoundLine.{BoundLine, bound_type, bound_shape}
 use Rattle.mpslp_mps.specs.Context.{Context, context_of, current_section, has_section}
 use Rattle.mpslp_mps.specs.LineMeaning.{declared_of, sense_declared, coefficient_declared, column_declared, columns_line_declared, right_sides_declared, ranges_declared, bound_declared, bound_value, bound_line_declared}
 use Rattle.mpslp_reading.specs.Field.{value_of}
 use Rattle.mpslp_reading.specs.Tests.{Tests}
-use Rattle.mpslp_mps.specs.HeaderFault.{may_begin, is_out_of_order, may_follow, header_word_tests, header_tests}
+use Rattle.mpslp_mps.specs.HeaderFault.{may_begin, is_out_of_order, may_follow, lacks_objective, section_tests, header_tests}
 use Rattle.mpslp_mps.proofs.PlacedLemmas.{form_faults}
 use Rattle.mpslp_mps.specs.declared.sections.Section.{Section}
-use Rattle.mpslp_mps.specs.declared.sections.Section.TheVariants.{Name, ObjSense, Rows, Columns, Rhs, Ranges, Bounds, EndData}
+use Rattle.mpslp_mps.specs.declared.sections.Section.TheVariants.{Name, ObjSense, ObjName, Rows, Columns, Rhs, Ranges, Bounds, EndData}
 use Rattle.mpslp_mps.specs.declared.bound_types.BoundType.{BoundType}
 use Rattle.mpslp_mps.specs.declared.bound_types.BoundType.TheVariants as bounds
 use Rattle.mpslp_mps.proofs.SectionLemmas.{current_section-push, has_section-push}
 
 -- ---- headers of a good form
 
-abbrev tests_of_fields : Fields → Section → Tests
-tests_of_fields more section = (not (may_follow section more), kinds.FieldCount) ∷ header_word_tests section more
+abbrev tests_of_fields : Context → Draft → Fields → Section → Tests
+tests_of_fields context earlier more section = (not (may_follow section more), kinds.FieldCount) ∷ section_tests context earlier section more
 
-abbrev tests_after_order : Context → Fields → Section → Tests
-tests_after_order context more section = (has context.seen section, kinds.SectionRepeated) ∷ tests_of_fields more section
+abbrev tests_after_order : Context → Draft → Fields → Section → Tests
+tests_after_order context earlier more section = (has context.seen section, kinds.SectionRepeated) ∷ tests_of_fields context earlier more section
 
-pub header-ordered : (context : Context) (keyword : List ℕ) (more : Fields) (section : Section) → those_of (header_tests context keyword more (Some section)) ≡ []
+pub header-ordered : (context : Context) (earlier : Draft) (keyword : List ℕ) (more : Fields) (section : Section) → those_of (header_tests context earlier keyword more (Some section)) ≡ []
     → is_out_of_order context section ≡ false
-header-ordered context keyword more section h = first_test (is_out_of_order context section) kinds.SectionOrder (tests_after_order context more section) h
+header-ordered context earlier keyword more section h = first_test (is_out_of_order context section) kinds.SectionOrder (tests_after_order context earlier more section) h
 
-pub header-fresh : (context : Context) (keyword : List ℕ) (more : Fields) (section : Section) → those_of (header_tests context keyword more (Some section)) ≡ []
+pub header-fresh : (context : Context) (earlier : Draft) (keyword : List ℕ) (more : Fields) (section : Section) → those_of (header_tests context earlier keyword more (Some section)) ≡ []
     → has context.seen section ≡ false
-header-fresh context keyword more section h =
-    first_test (has context.seen section) kinds.SectionRepeated (tests_of_fields more section)
-    (later_tests (is_out_of_order context section) kinds.SectionOrder (tests_after_order context more section) h)
+header-fresh context earlier keyword more section h =
+    first_test (has context.seen section) kinds.SectionRepeated (tests_of_fields context earlier more section)
+    (later_tests (is_out_of_order context section) kinds.SectionOrder (tests_after_order context earlier more section) h)
 
-pub header-begins : (context : Context) (keyword : List ℕ) (more : Fields) (section : Section) → those_of (header_tests context keyword more (Some section)) ≡ []
+pub header-begins : (context : Context) (earlier : Draft) (keyword : List ℕ) (more : Fields) (section : Section) → those_of (header_tests context earlier keyword more (Some section)) ≡ []
     → may_begin context section ≡ true
-header-begins context keyword more section h =
-    by (has context.seen section) (may_begin context section) (header-fresh context keyword more section h)
-    (nor (is_some context.wanted) (not (has context.seen section || may_begin context section)) (header-ordered context keyword more section h)).1
+header-begins context earlier keyword more section h =
+    by (has context.seen section) (may_begin context section) (header-fresh context earlier keyword more section h)
+    (nor (is_some context.wanted) (not (has context.seen section || may_begin context section)) (header-ordered context earlier keyword more section h)).1
   where
     by : (seen may : Bool) → seen ≡ false → not (seen || may) ≡ false → may ≡ true
     by true may e f = cc
     by false true e f = refl
     by false false e f = cc
+
+-- COLUMNS has a row for the name that OBJNAME gave the objective
+pub header-complete : (context : Context) (earlier : Draft) (keyword : List ℕ) (more : Fields) → those_of (header_tests context earlier keyword more (Some Columns)) ≡ []
+    → lacks_objective context earlier ≡ false
+header-complete context earlier keyword more h =
+    first_test (lacks_objective context earlier) kinds.UnknownRow []
+    (later_tests (not (may_follow Columns more)) kinds.FieldCount (section_tests context earlier Columns more)
+    (later_tests (has context.seen Columns) kinds.SectionRepeated (tests_of_fields context earlier more Columns)
+    (later_tests (is_out_of_order context Columns) kinds.SectionOrder (tests_after_order context earlier more Columns) h)))
 
 -- ---- a section that is past
 
@@ -64,27 +73,29 @@ pub record Past (section : Section) (before : List Item) : Type 0 where
   pub begun : has_section before section ≡ true
   pub left : is_section section (current_section before) ≡ false
 
-rows-again : (context : Context) (keyword : List ℕ) (more : Fields) (o : Option Section) → those_of (header_tests context keyword more o) ≡ [] → is_section Rows o ≡ true → has context.seen Rows ≡ false
-rows-again context keyword more None h e = cc
-rows-again context keyword more (Some Name) h e = cc
-rows-again context keyword more (Some ObjSense) h e = cc
-rows-again context keyword more (Some Rows) h e = header-fresh context keyword more Rows h
-rows-again context keyword more (Some Columns) h e = cc
-rows-again context keyword more (Some Rhs) h e = cc
-rows-again context keyword more (Some Ranges) h e = cc
-rows-again context keyword more (Some Bounds) h e = cc
-rows-again context keyword more (Some EndData) h e = cc
+rows-again : (context : Context) (earlier : Draft) (keyword : List ℕ) (more : Fields) (o : Option Section) → those_of (header_tests context earlier keyword more o) ≡ [] → is_section Rows o ≡ true → has context.seen Rows ≡ false
+rows-again context earlier keyword more None h e = cc
+rows-again context earlier keyword more (Some Name) h e = cc
+rows-again context earlier keyword more (Some ObjSense) h e = cc
+rows-again context earlier keyword more (Some ObjName) h e = cc
+rows-again context earlier keyword more (Some Rows) h e = header-fresh context earlier keyword more Rows h
+rows-again context earlier keyword more (Some Columns) h e = cc
+rows-again context earlier keyword more (Some Rhs) h e = cc
+rows-again context earlier keyword more (Some Ranges) h e = cc
+rows-again context earlier keyword more (Some Bounds) h e = cc
+rows-again context earlier keyword more (Some EndData) h e = cc
 
-columns-again : (context : Context) (keyword : List ℕ) (more : Fields) (o : Option Section) → those_of (header_tests context keyword more o) ≡ [] → is_section Columns o ≡ true → has context.seen Columns ≡ false
-columns-again context keyword more None h e = cc
-columns-again context keyword more (Some Name) h e = cc
-columns-again context keyword more (Some ObjSense) h e = cc
-columns-again context keyword more (Some Rows) h e = cc
-columns-again context keyword more (Some Columns) h e = header-fresh context keyword more Columns h
-columns-again context keyword more (Some Rhs) h e = cc
-columns-again context keyword more (Some Ranges) h e = cc
-columns-again context keyword more (Some Bounds) h e = cc
-columns-again context keyword more (Some EndData) h e = cc
+columns-again : (context : Context) (earlier : Draft) (keyword : List ℕ) (more : Fields) (o : Option Section) → those_of (header_tests context earlier keyword more o) ≡ [] → is_section Columns o ≡ true → has context.seen Columns ≡ false
+columns-again context earlier keyword more None h e = cc
+columns-again context earlier keyword more (Some Name) h e = cc
+columns-again context earlier keyword more (Some ObjSense) h e = cc
+columns-again context earlier keyword more (Some ObjName) h e = cc
+columns-again context earlier keyword more (Some Rows) h e = cc
+columns-again context earlier keyword more (Some Columns) h e = header-fresh context earlier keyword more Columns h
+columns-again context earlier keyword more (Some Rhs) h e = cc
+columns-again context earlier keyword more (Some Ranges) h e = cc
+columns-again context earlier keyword more (Some Bounds) h e = cc
+columns-again context earlier keyword more (Some EndData) h e = cc
 
 stays-left : (section : Section) (o current : Option Section) → (is_section section o ≡ true → ⊥) → is_section section current ≡ false → is_section section (option_or o current) ≡ false
 stays-left section None current h e = e
@@ -110,7 +121,7 @@ past-rows before earlier item h past =
   where
     by : (x : Item) → IsGood before earlier x → is_section Rows (section_begun x) ≡ true → ⊥
     by skipped g e = cc
-    by (header keyword more) g e = never (has_section before Rows) past.begun (rows-again (context_of before) keyword more (section_named keyword) g e)
+    by (header keyword more) g e = never (has_section before Rows) past.begun (rows-again (context_of before) earlier keyword more (section_named keyword) g e)
     by (data_line fields) g e = cc
 
 pub past-columns : (before : List Item) (earlier : Draft) (item : Item) → IsGood before earlier item → Past Columns before → Past Columns (before ++ item ∷ [])
@@ -122,7 +133,7 @@ past-columns before earlier item h past =
   where
     by : (x : Item) → IsGood before earlier x → is_section Columns (section_begun x) ≡ true → ⊥
     by skipped g e = cc
-    by (header keyword more) g e = never (has_section before Columns) past.begun (columns-again (context_of before) keyword more (section_named keyword) g e)
+    by (header keyword more) g e = never (has_section before Columns) past.begun (columns-again (context_of before) earlier keyword more (section_named keyword) g e)
     by (data_line fields) g e = cc
 
 -- ---- the order of sections
@@ -143,28 +154,30 @@ pub ordered-nil : Ordered []
 ordered-nil = record { rows = λ h. cc; columns = λ h. cc }
 
 -- COLUMNS begins after ROWS; what begins after COLUMNS
-columns-after : (context : Context) (keyword : List ℕ) (more : Fields) (o : Option Section) → those_of (header_tests context keyword more o) ≡ [] → is_section Columns o ≡ true → has context.seen Rows ≡ true
-columns-after context keyword more None h e = cc
-columns-after context keyword more (Some Name) h e = cc
-columns-after context keyword more (Some ObjSense) h e = cc
-columns-after context keyword more (Some Rows) h e = cc
-columns-after context keyword more (Some Columns) h e = header-begins context keyword more Columns h
-columns-after context keyword more (Some Rhs) h e = cc
-columns-after context keyword more (Some Ranges) h e = cc
-columns-after context keyword more (Some Bounds) h e = cc
-columns-after context keyword more (Some EndData) h e = cc
+columns-after : (context : Context) (earlier : Draft) (keyword : List ℕ) (more : Fields) (o : Option Section) → those_of (header_tests context earlier keyword more o) ≡ [] → is_section Columns o ≡ true → has context.seen Rows ≡ true
+columns-after context earlier keyword more None h e = cc
+columns-after context earlier keyword more (Some Name) h e = cc
+columns-after context earlier keyword more (Some ObjSense) h e = cc
+columns-after context earlier keyword more (Some ObjName) h e = cc
+columns-after context earlier keyword more (Some Rows) h e = cc
+columns-after context earlier keyword more (Some Columns) h e = header-begins context earlier keyword more Columns h
+columns-after context earlier keyword more (Some Rhs) h e = cc
+columns-after context earlier keyword more (Some Ranges) h e = cc
+columns-after context earlier keyword more (Some Bounds) h e = cc
+columns-after context earlier keyword more (Some EndData) h e = cc
 
-late-after : (context : Context) (keyword : List ℕ) (more : Fields) (o current : Option Section) → those_of (header_tests context keyword more o) ≡ []
+late-after : (context : Context) (earlier : Draft) (keyword : List ℕ) (more : Fields) (o current : Option Section) → those_of (header_tests context earlier keyword more o) ≡ []
     → (is_late current ≡ true → has context.seen Columns ≡ true) → is_late (option_or o current) ≡ true → (has context.seen Columns || is_section Columns o) ≡ true
-late-after context keyword more None current h old e = or_left (has context.seen Columns) false (old e)
-late-after context keyword more (Some Name) current h old e = cc
-late-after context keyword more (Some ObjSense) current h old e = cc
-late-after context keyword more (Some Rows) current h old e = cc
-late-after context keyword more (Some Columns) current h old e = or_right (has context.seen Columns) true refl
-late-after context keyword more (Some Rhs) current h old e = or_left (has context.seen Columns) false (header-begins context keyword more Rhs h)
-late-after context keyword more (Some Ranges) current h old e = or_left (has context.seen Columns) false (header-begins context keyword more Ranges h)
-late-after context keyword more (Some Bounds) current h old e = or_left (has context.seen Columns) false (header-begins context keyword more Bounds h)
-late-after context keyword more (Some EndData) current h old e = cc
+late-after context earlier keyword more None current h old e = or_left (has context.seen Columns) false (old e)
+late-after context earlier keyword more (Some Name) current h old e = cc
+late-after context earlier keyword more (Some ObjSense) current h old e = cc
+late-after context earlier keyword more (Some ObjName) current h old e = cc
+late-after context earlier keyword more (Some Rows) current h old e = cc
+late-after context earlier keyword more (Some Columns) current h old e = or_right (has context.seen Columns) true refl
+late-after context earlier keyword more (Some Rhs) current h old e = or_left (has context.seen Columns) false (header-begins context earlier keyword more Rhs h)
+late-after context earlier keyword more (Some Ranges) current h old e = or_left (has context.seen Columns) false (header-begins context earlier keyword more Ranges h)
+late-after context earlier keyword more (Some Bounds) current h old e = or_left (has context.seen Columns) false (header-begins context earlier keyword more Bounds h)
+late-after context earlier keyword more (Some EndData) current h old e = cc
 
 pub ordered-push : (before : List Item) (earlier : Draft) (item : Item) → IsGood before earlier item → Ordered before → Ordered (before ++ item ∷ [])
 ordered-push before earlier item h o =
@@ -175,7 +188,7 @@ ordered-push before earlier item h o =
   where
     new_rows : (x : Item) → IsGood before earlier x → begins Columns x ≡ true → has_section before Rows ≡ true
     new_rows skipped g e = cc
-    new_rows (header keyword more) g e = columns-after (context_of before) keyword more (section_named keyword) g e
+    new_rows (header keyword more) g e = columns-after (context_of before) earlier keyword more (section_named keyword) g e
     new_rows (data_line fields) g e = cc
 
     earlier_rows : (b : Bool) → has_section before Columns ≡ b → (b || begins Columns item) ≡ true → has_section before Rows ≡ true
@@ -184,7 +197,7 @@ ordered-push before earlier item h o =
 
     late_columns : (x : Item) → IsGood before earlier x → is_late (option_or (section_begun x) (current_section before)) ≡ true → (has_section before Columns || begins Columns x) ≡ true
     late_columns skipped g e = or_left (has_section before Columns) false (o.columns e)
-    late_columns (header keyword more) g e = late-after (context_of before) keyword more (section_named keyword) (current_section before) g o.columns e
+    late_columns (header keyword more) g e = late-after (context_of before) earlier keyword more (section_named keyword) (current_section before) g o.columns e
     late_columns (data_line fields) g e = or_left (has_section before Columns) false (o.columns e)
 
 -- ---- what declares rows and columns
@@ -268,9 +281,9 @@ pub record Passes (p : Declaration → Bool) : Type 0 where
   pub integer : (c : List ℕ) → p (declare_integer c) ≡ true
 
 -- a sense that is declared
-pub sense-passes : (p : Declaration → Bool) → ((s : Sense) → p (declare_sense s) ≡ true) → (fields : Fields) → list_all p (declared_of sense_declared (sense_shape fields)) ≡ true
+pub sense-passes : (p : Declaration → Bool) → ((s : Sense) → p (declare_sense s) ≡ true) → (fields : Fields) → list_all p (declared_of sense_declared (word_shape fields)) ≡ true
 sense-passes p h fields =
-    each-declared p sense_declared (sense_shape fields)
+    each-declared p sense_declared (word_shape fields)
     (λ word. each-declared p (λ sense. declare_sense sense ∷ []) (sense_of word) (λ s. both_so (p (declare_sense s)) true (h s) refl))
 
 module _ (p : Declaration → Bool) (passes : Passes p) where

@@ -10,7 +10,7 @@ use Rattle.mpslp_types.specs.declared.faults.FaultKind.TheVariants as kinds
 use Rattle.mpslp_mps.specs.Line.{Fields, Item, skipped, header, data_line}
 use Rattle.mpslp_mps.specs.Section.{section_named}
 use Rattle.mpslp_mps.specs.LineFault.{item_tests}
-use Rattle.mpslp_mps.specs.DataLine.{sense_shape, row_shape, column_shape, is_marker_line, marker_shape, vector_shape}
+use Rattle.mpslp_mps.specs.DataLine.{word_shape, row_shape, column_shape, is_marker_line, marker_shape, vector_shape}
 use Rattle.mpslp_mps.specs.BoundLine.{BoundLine, bound_type, bound_shape, is_semi_continuous_type}
 use Rattle.mpslp_mps.specs.Context.{Context}
 use Rattle.mpslp_reading.specs.Tests.{Tests, judged_by}
@@ -20,7 +20,7 @@ use Rattle.mpslp_mps.specs.HeaderFault.{header_tests, word_tests}
 use Rattle.mpslp_mps.specs.DataFault.{row_tests, is_sos_marker, marker_tests, marker_word_tests, typed_bound_tests, column_tests, vector_tests, bound_tests, data_tests}
 use Rattle.mpslp_mps.specs.declared.bound_types.BoundType.{BoundType}
 use Rattle.mpslp_mps.specs.declared.sections.Section.{Section}
-use Rattle.mpslp_mps.specs.declared.sections.Section.TheVariants.{Name, ObjSense, Rows, Columns, Rhs, Ranges, Bounds, EndData}
+use Rattle.mpslp_mps.specs.declared.sections.Section.TheVariants.{Name, ObjSense, ObjName, Rows, Columns, Rhs, Ranges, Bounds, EndData}
 use Rattle.mpslp_reading.proofs.LeastLemmas.{is_from, are_rising}
 
 -- tests that stand in the order of kinds, behind those of a line's length and bytes
@@ -59,6 +59,10 @@ sense-rising : (b : Bool) (o : Option (List ℕ)) → AreRising ((b, kinds.Secti
 sense-rising b None = refl
 sense-rising b (Some word) = refl
 
+judged-after-order : (b : Bool) (o : Option (List ℕ)) → AreRising ((b, kinds.SectionOrder) ∷ judged_by (λ _. []) o)
+judged-after-order b None = refl
+judged-after-order b (Some word) = refl
+
 marker-rising : (b : Bool) (context : Context) (o : Option (List ℕ)) → AreRising ((b, kinds.Sos) ∷ judged_by (marker_word_tests context) o)
 marker-rising b context None = refl
 marker-rising b context (Some word) = refl
@@ -66,7 +70,8 @@ marker-rising b context (Some word) = refl
 data-behind : (context : Context) (earlier : Draft) (fields : Fields) (section : Option Section) → AreRising (data_tests context earlier fields section)
 data-behind context earlier fields None = refl
 data-behind context earlier fields (Some Name) = refl
-data-behind context earlier fields (Some ObjSense) = sense-rising (not (is_some context.wanted)) (sense_shape fields)
+data-behind context earlier fields (Some ObjSense) = sense-rising (not (is_some context.wanted)) (word_shape fields)
+data-behind context earlier fields (Some ObjName) = judged-after-order (not (is_some context.wanted)) (word_shape fields)
 data-behind context earlier fields (Some Rows) = judged-rising row_tests (row_shape fields) (λ _. refl)
 data-behind context earlier fields (Some Columns) =
     rising-if (is_marker_line fields) (marker_tests context fields) (judged_by (column_tests context earlier) (column_shape fields)) (marker-rising (is_sos_marker fields) context (marker_shape fields)) (judged-rising (column_tests context earlier) (column_shape fields) (λ _. refl))
@@ -84,27 +89,28 @@ unknown-behind false true indicator = refl
 unknown-behind false false true = refl
 unknown-behind false false false = refl
 
-header-behind : (context : Context) (keyword : List ℕ) (more : Fields) (section : Option Section) → AreRising (header_tests context keyword more section)
-header-behind context keyword more None =
+header-behind : (context : Context) (earlier : Draft) (keyword : List ℕ) (more : Fields) (section : Option Section) → AreRising (header_tests context earlier keyword more section)
+header-behind context earlier keyword more None =
     unknown-behind (is_one_of (codes "QSECTION" ∷ codes "QMATRIX" ∷ codes "QUADOBJ" ∷ codes "QCMATRIX" ∷ codes "CSECTION" ∷ []) keyword)
     (is_one_of (codes "SOS" ∷ codes "SOS1" ∷ codes "SOS2" ∷ []) keyword) (is_one_of (codes "INDICATORS" ∷ []) keyword)
-header-behind context keyword more (Some Name) = refl
-header-behind context keyword [] (Some ObjSense) = refl
-header-behind context keyword (word ∷ more) (Some ObjSense) = refl
-header-behind context keyword more (Some Rows) = refl
-header-behind context keyword more (Some Columns) = refl
-header-behind context keyword more (Some Rhs) = refl
-header-behind context keyword more (Some Ranges) = refl
-header-behind context keyword more (Some Bounds) = refl
-header-behind context keyword more (Some EndData) = refl
+header-behind context earlier keyword more (Some Name) = refl
+header-behind context earlier keyword [] (Some ObjSense) = refl
+header-behind context earlier keyword (word ∷ more) (Some ObjSense) = refl
+header-behind context earlier keyword more (Some ObjName) = refl
+header-behind context earlier keyword more (Some Rows) = refl
+header-behind context earlier keyword more (Some Columns) = refl
+header-behind context earlier keyword more (Some Rhs) = refl
+header-behind context earlier keyword more (Some Ranges) = refl
+header-behind context earlier keyword more (Some Bounds) = refl
+header-behind context earlier keyword more (Some EndData) = refl
 
 pub item-rising : (context : Context) (earlier : Draft) (item : Item) → AreRising (item_tests context earlier item)
 item-rising context earlier skipped = refl
-item-rising context earlier (header keyword more) = header-behind context keyword more (section_named keyword)
+item-rising context earlier (header keyword more) = header-behind context earlier keyword more (section_named keyword)
 item-rising context earlier (data_line fields) = data-behind context earlier fields context.section
 
 pub data-rising : (context : Context) (earlier : Draft) (fields : Fields) (section : Option Section) → are_rising (data_tests context earlier fields section) ≡ true
 data-rising context earlier fields section = rising-alone (data_tests context earlier fields section) (data-behind context earlier fields section)
 
-pub header-rising : (context : Context) (keyword : List ℕ) (more : Fields) (section : Option Section) → are_rising (header_tests context keyword more section) ≡ true
-header-rising context keyword more section = rising-alone (header_tests context keyword more section) (header-behind context keyword more section)
+pub header-rising : (context : Context) (earlier : Draft) (keyword : List ℕ) (more : Fields) (section : Option Section) → are_rising (header_tests context earlier keyword more section) ≡ true
+header-rising context earlier keyword more section = rising-alone (header_tests context earlier keyword more section) (header-behind context earlier keyword more section)

@@ -1,5 +1,5 @@
--- Lines of OBJSENSE and ROWS: the kinds of their forms come before those of what they declare.
-use Rattle.std.proofs.Common.{◌≡◌, refl, List, ◌∷◌, Bool, true, ℕ}
+-- Lines of OBJSENSE, OBJNAME and ROWS: the kinds of their forms come before those of what they declare.
+use Rattle.std.proofs.Common.{◌≡◌, refl, List, [], ◌∷◌, Bool, true, ℕ}
 use Rattle.std.specs.Prelude.{Option, Some, None}
 use Rattle.std.specs.List.{list_all}
 use Rattle.mpslp_types.specs.declared.faults.FaultKind.TheVariants as kinds
@@ -12,6 +12,10 @@ use Rattle.mpslp_mps.proofs.TakingLemmas.{is_early}
 pub sense-early : (b : Bool) (o : Option (List ℕ)) → list_all is_early ((b, kinds.SectionOrder) ∷ judged_by word_tests o) ≡ true
 sense-early b None = refl
 sense-early b (Some word) = refl
+
+pub objective-name-early : (b : Bool) (o : Option (List ℕ)) → list_all is_early ((b, kinds.SectionOrder) ∷ judged_by (λ _. []) o) ≡ true
+objective-name-early b None = refl
+objective-name-early b (Some word) = refl
 
 pub row-early : (o : Option RowLine) → list_all is_early (judged_by row_tests o) ≡ true
 row-early None = refl

@@ -6,9 +6,9 @@ use Rattle.std.specs.Option.{option_or}
 use Rattle.std.proofs.lemmas.List.{append-nil}
 use Rattle.std.proofs.lemmas.List.Elements.{filter_map-append}
 use Rattle.std.proofs.lemmas.List.Folds.{list_any-append}
-use Rattle.mpslp_mps.specs.Line.{Fields, Item}
+use Rattle.mpslp_mps.specs.Line.{Item}
 use Rattle.mpslp_mps.specs.Section.{section_begun, begins, is_section, has}
-use Rattle.mpslp_mps.specs.Context.{sections_begun, section_after, current_section, has_section, fields_under, data_lines_after, data_lines}
+use Rattle.mpslp_mps.specs.Context.{sections_begun, section_after, current_section, has_section, fields_under, said_after, data_lines}
 use Rattle.mpslp_mps.specs.declared.sections.Section.{Section}
 
 pub last_or-append : {X : Type 0} (o : Option X) (xs ys : List X) → last_or o (xs ++ ys) ≡ last_or (last_or o xs) ys
@@ -63,17 +63,17 @@ section_after-cons current x before = by (section_begun x)
     by None = refl
     by (Some s) = refl
 
-data_lines_after-push : (section : Section) (current : Option Section) (before : List Item) (item : Item)
-    → data_lines_after section current (before ++ item ∷ []) ≡ data_lines_after section current before ++ fields_under section (section_after current before) item
-data_lines_after-push section current [] item = append-nil (fields_under section current item)
-data_lines_after-push section current (x ∷ before) item =
+-- what lines say where they stand: this one too
+pub said_after-push : {X : Type 0} (says : Option Section → Item → List X) (current : Option Section) (before : List Item) (item : Item)
+    → said_after says current (before ++ item ∷ []) ≡ said_after says current before ++ says (section_after current before) item
+said_after-push says current [] item = append-nil (says current item)
+said_after-push {X} says current (x ∷ before) item =
     let next = option_or (section_begun x) current in
-    ap (λ (more : List Fields). fields_under section current x ++ more)
-    (data_lines_after-push section next before item
-    ∙ ap (λ (c : Option Section). data_lines_after section next before ++ fields_under section c item) (sym (section_after-cons current x before)))
-    ∙ sym (append_assoc (fields_under section current x) (data_lines_after section next before) _)
+    ap (λ (more : List X). says current x ++ more)
+    (said_after-push says next before item ∙ ap (λ (c : Option Section). said_after says next before ++ says c item) (sym (section_after-cons current x before)))
+    ∙ sym (append_assoc (says current x) (said_after says next before) _)
 
 -- the data lines of a section: this one too, where it stands in it
 pub data_lines-push : (section : Section) (before : List Item) (item : Item)
     → data_lines section (before ++ item ∷ []) ≡ data_lines section before ++ fields_under section (current_section before) item
-data_lines-push section before item = data_lines_after-push section None before item
+data_lines-push section before item = said_after-push (fields_under section) None before item

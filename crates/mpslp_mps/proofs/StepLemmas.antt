@@ -8,51 +8,35 @@ use Rattle.mpslp_decimal.specs.Decimal.{Number}
 use Rattle.mpslp_types.specs.Name.{same_bytes}
 use Rattle.mpslp_mps.specs.Line.{Fields, skipped, header, data_line}
 use Rattle.mpslp_mps.specs.Section.{is_section, section_named}
-use Rattle.mpslp_mps.specs.DataLine.{ValuesLine, column_shape, is_marker_line, marker_shape, opening_word, vector_shape}
+use Rattle.mpslp_mps.specs.DataLine.{ValuesLine, word_shape, column_shape, is_marker_line, marker_shape, opening_word, vector_shape}
 use Rattle.mpslp_mps.specs.BoundLine.{BoundLine, bound_type, bound_shape}
-use Rattle.mpslp_mps.specs.Context.{Context, wanting, line_column, vector_set, bound_set}
+use Rattle.mpslp_mps.specs.Context.{Context, word_wanted, line_column, vector_set, bound_set}
 use Rattle.mpslp_mps.specs.NextContext.{next_part, next_set, next_context}
 use Rattle.mpslp_mps.specs.LineValues.{named_values}
-use Rattle.mpslp_mps.specs.ContextStep.{word_wanted, after_header, after_data, after_marker, after_column, after_right_side, after_range, after_bound}
+use Rattle.mpslp_mps.specs.ContextStep.{named_objective, after_header, after_objective_name, after_data, after_marker, after_column, after_right_side, after_range, after_bound}
 use Rattle.mpslp_mps.specs.declared.bound_types.BoundType.{BoundType}
 use Rattle.mpslp_mps.specs.declared.sections.Section.{Section}
-use Rattle.mpslp_mps.specs.declared.sections.Section.TheVariants.{Name, ObjSense, Rows, Columns, Rhs, Ranges, Bounds, EndData}
+use Rattle.mpslp_mps.specs.declared.sections.Section.TheVariants.{ObjSense, ObjName, Rows, Columns, Rhs, Ranges, Bounds}
+
+-- what is known stays, where a line tells nothing of it
+same-option : {X : Type 0} (o : Option X) → option_or o None ≡ o
+same-option None = refl
+same-option (Some x) = refl
 
 pub step-skipped : (c : Context) → next_context c skipped ≡ c
-step-skipped c = ap (λ (seen : List Section). record c { seen = seen }) (append-nil c.seen)
+step-skipped c = λ i. record c { seen = append-nil c.seen i; objective_name = same-option c.objective_name i }
 
 -- ---- headers
 
 pub step-header : (c : Context) (keyword : List ℕ) (more : Fields) (section : Section) → section_named keyword ≡ Some section
-    → next_context c (header keyword more) ≡ after_header c section (wanting (header keyword more))
+    → next_context c (header keyword more) ≡ after_header c section (word_wanted section more) (named_objective section more)
 step-header c keyword more section h =
-    let word = wanting (header keyword more) in
-    ap (λ (o : Option Section). record c { section = option_or o c.section; seen = c.seen ++ cons_option o []; wanted = word }) h
-
--- whose word is to come
-pub header-wanting : (keyword : List ℕ) (more : Fields) (section : Section) → section_named keyword ≡ Some section → wanting (header keyword more) ≡ word_wanted section more
-header-wanting keyword [] section h = ap (λ (o : Option Section). cond (is_section ObjSense o) (Some ObjSense) None) h ∙ of section
-  where
-    of : (s : Section) → cond (is_section ObjSense (Some s)) (Some ObjSense) None ≡ word_wanted s []
-    of Name = refl
-    of ObjSense = refl
-    of Rows = refl
-    of Columns = refl
-    of Rhs = refl
-    of Ranges = refl
-    of Bounds = refl
-    of EndData = refl
-header-wanting keyword (word ∷ more) section h = of section
-  where
-    of : (s : Section) → None ≡ word_wanted s (word ∷ more)
-    of Name = refl
-    of ObjSense = refl
-    of Rows = refl
-    of Columns = refl
-    of Rhs = refl
-    of Ranges = refl
-    of Bounds = refl
-    of EndData = refl
+    ap (λ (o : Option Section). record c {
+      section = option_or o c.section;
+      seen = c.seen ++ cons_option o [];
+      wanted = option_map_or (λ begun. word_wanted begun more) o None;
+      objective_name = option_or c.objective_name (cond (is_section ObjName o) (word_shape more) None);
+    }) h
 
 -- ---- data lines
 
@@ -61,6 +45,7 @@ abbrev under : Context → Fields → Option Section → Context
 under c fields section = record c {
   seen = c.seen ++ [];
   wanted = None;
+  objective_name = option_or c.objective_name (cond (is_section ObjName section) (word_shape fields) None);
   in_integer_part = cond (is_section Columns section) (next_part fields c.in_integer_part) c.in_integer_part;
   last_column = cond (is_section Columns section) (line_column fields) c.last_column;
   rhs_set = cond (is_section Rhs section) (next_set vector_set fields c.rhs_set) c.rhs_set;
@@ -68,17 +53,22 @@ under c fields section = record c {
   bounds_set = cond (is_section Bounds section) (next_set bound_set fields c.bounds_set) c.bounds_set;
 }
 
+pub step-objective_name : (c : Context) (fields : Fields) (name : List ℕ) → c.section ≡ Some ObjName → word_shape fields ≡ Some name
+    → next_context c (data_line fields) ≡ after_objective_name c name
+step-objective_name c fields name h k =
+    ap (under c fields) h ∙ (λ i. record c { seen = append-nil c.seen i; wanted = None; objective_name = option_or c.objective_name (k i) })
+
 pub step-sense : (c : Context) (fields : Fields) → c.section ≡ Some ObjSense → next_context c (data_line fields) ≡ after_data c
-step-sense c fields h = ap (under c fields) h ∙ ap (λ (seen : List Section). record c { seen = seen; wanted = None }) (append-nil c.seen)
+step-sense c fields h = ap (under c fields) h ∙ (λ i. record c { seen = append-nil c.seen i; wanted = None; objective_name = same-option c.objective_name i })
 
 pub step-row : (c : Context) (fields : Fields) → c.section ≡ Some Rows → next_context c (data_line fields) ≡ after_data c
-step-row c fields h = ap (under c fields) h ∙ ap (λ (seen : List Section). record c { seen = seen; wanted = None }) (append-nil c.seen)
+step-row c fields h = ap (under c fields) h ∙ (λ i. record c { seen = append-nil c.seen i; wanted = None; objective_name = same-option c.objective_name i })
 
 pub step-column : (c : Context) (fields : Fields) (column : List ℕ) (values : List (List ℕ × Number)) → c.section ≡ Some Columns → is_marker_line fields ≡ false
     → option_map named_values (column_shape fields) ≡ Some (column, values) → next_context c (data_line fields) ≡ after_column c column
 step-column c fields column values h plain k =
     ap (under c fields) h
-    ∙ (λ i. record c { seen = append-nil c.seen i; wanted = None; in_integer_part = part i; last_column = last i })
+    ∙ (λ i. record c { seen = append-nil c.seen i; wanted = None; objective_name = same-option c.objective_name i; in_integer_part = part i; last_column = last i })
   where
     part : next_part fields c.in_integer_part ≡ c.in_integer_part
     part = ap (λ (b : Bool). option_map_or (same_bytes opening_word) (cond b (marker_shape fields) None) c.in_integer_part) plain
@@ -94,7 +84,7 @@ pub step-marker : (c : Context) (fields : Fields) (opens : Bool) → c.section �
     → option_map (same_bytes opening_word) (marker_shape fields) ≡ Some opens → next_context c (data_line fields) ≡ after_marker c opens
 step-marker c fields opens h marked k =
     ap (under c fields) h
-    ∙ (λ i. record c { seen = append-nil c.seen i; wanted = None; in_integer_part = part i; last_column = last i })
+    ∙ (λ i. record c { seen = append-nil c.seen i; wanted = None; objective_name = same-option c.objective_name i; in_integer_part = part i; last_column = last i })
   where
     of : (o : Option (List ℕ)) → option_map (same_bytes opening_word) o ≡ Some opens → option_map_or (same_bytes opening_word) o c.in_integer_part ≡ opens
     of None e = cc
@@ -117,17 +107,17 @@ set-of fields set values k = of (vector_shape fields) k
 pub step-right_side : (c : Context) (fields : Fields) (set : List ℕ) (values : List (List ℕ × Number)) → c.section ≡ Some Rhs
     → option_map named_values (vector_shape fields) ≡ Some (set, values) → next_context c (data_line fields) ≡ after_right_side c set
 step-right_side c fields set values h k =
-    ap (under c fields) h ∙ (λ i. record c { seen = append-nil c.seen i; wanted = None; rhs_set = option_or c.rhs_set (set-of fields set values k i) })
+    ap (under c fields) h ∙ (λ i. record c { seen = append-nil c.seen i; wanted = None; objective_name = same-option c.objective_name i; rhs_set = option_or c.rhs_set (set-of fields set values k i) })
 
 pub step-range : (c : Context) (fields : Fields) (set : List ℕ) (values : List (List ℕ × Number)) → c.section ≡ Some Ranges
     → option_map named_values (vector_shape fields) ≡ Some (set, values) → next_context c (data_line fields) ≡ after_range c set
 step-range c fields set values h k =
-    ap (under c fields) h ∙ (λ i. record c { seen = append-nil c.seen i; wanted = None; ranges_set = option_or c.ranges_set (set-of fields set values k i) })
+    ap (under c fields) h ∙ (λ i. record c { seen = append-nil c.seen i; wanted = None; objective_name = same-option c.objective_name i; ranges_set = option_or c.ranges_set (set-of fields set values k i) })
 
 pub step-bound : (c : Context) (letters : List ℕ) (more : Fields) (type : BoundType) (line : BoundLine) → c.section ≡ Some Bounds → bound_type letters ≡ Some type
     → bound_shape type more ≡ Some line → next_context c (data_line (letters ∷ more)) ≡ after_bound c line.set
 step-bound c letters more type line h t k =
-    ap (under c (letters ∷ more)) h ∙ (λ i. record c { seen = append-nil c.seen i; wanted = None; bounds_set = option_or c.bounds_set (set i) })
+    ap (under c (letters ∷ more)) h ∙ (λ i. record c { seen = append-nil c.seen i; wanted = None; objective_name = same-option c.objective_name i; bounds_set = option_or c.bounds_set (set i) })
   where
     set : bound_set (letters ∷ more) ≡ Some line.set
     set =

@@ -179,3 +179,73 @@ plus_infinite_right_side_of_at_most = refl
 pub range_to_a_large_limit : first_mps_fault (with_sides (codes "    RHS  LIM1  4  MYG  9e19" ∷ codes "RANGES" ∷ codes "    R  MYG  9e19" ∷ [])) ≡ of_name LimitTooLarge (codes "MYG")
 unfolding trailing_zeros
 range_to_a_large_limit = refl
+
+-- ---- an objective that OBJNAME names
+
+abbrev objective_lines : List (List ℕ) → List ℕ
+objective_lines names = text (codes "NAME" ∷ (names ++ codes "ROWS" ∷ codes " N  C" ∷ codes " L  R" ∷ codes " N  S" ∷ codes "COLUMNS"
+    ∷ codes "    X  C  1  R  1" ∷ codes "    X  S  2" ∷ codes "ENDATA" ∷ []))
+
+pub objective_is_of_another_type : first_mps_fault (objective_lines (codes "OBJNAME R" ∷ [])) ≡ on_line 7 UnknownRow
+unfolding trailing_zeros
+objective_is_of_another_type = refl
+
+pub objective_name_is_not_there : first_mps_fault (objective_lines (codes "OBJNAME" ∷ codes "    Q" ∷ [])) ≡ on_line 8 UnknownRow
+unfolding trailing_zeros
+objective_name_is_not_there = refl
+
+pub objective_name_is_missing : first_mps_fault (objective_lines (codes "OBJNAME" ∷ [])) ≡ on_line 3 SectionOrder
+unfolding trailing_zeros
+objective_name_is_missing = refl
+
+pub objective_name_is_missing_before_sense : first_mps_fault (objective_lines (codes "OBJNAME" ∷ codes "OBJSENSE MAX" ∷ [])) ≡ on_line 3 SectionOrder
+unfolding trailing_zeros
+objective_name_is_missing_before_sense = refl
+
+pub objective_name_is_missing_before_another : first_mps_fault (objective_lines (codes "OBJNAME" ∷ codes "OBJNAME S" ∷ [])) ≡ on_line 3 SectionOrder
+unfolding trailing_zeros
+objective_name_is_missing_before_another = refl
+
+pub sense_is_missing_before_objective_name : first_mps_fault (objective_lines (codes "OBJSENSE" ∷ codes "OBJNAME S" ∷ [])) ≡ on_line 3 SectionOrder
+unfolding trailing_zeros
+sense_is_missing_before_objective_name = refl
+
+pub objective_name_after_its_word : first_mps_fault (objective_lines (codes "OBJNAME S" ∷ codes "    C" ∷ [])) ≡ on_line 3 SectionOrder
+unfolding trailing_zeros
+objective_name_after_its_word = refl
+
+pub objective_name_again : first_mps_fault (objective_lines (codes "OBJNAME S" ∷ codes "OBJNAME C" ∷ [])) ≡ on_line 3 SectionRepeated
+unfolding trailing_zeros
+objective_name_again = refl
+
+pub objective_name_after_rows : first_mps_fault (text (codes "ROWS" ∷ codes " N  C" ∷ codes "OBJNAME C" ∷ codes "COLUMNS" ∷ codes "    X  C  1" ∷ codes "ENDATA" ∷ [])) ≡ on_line 3 SectionOrder
+unfolding trailing_zeros
+objective_name_after_rows = refl
+
+pub objective_name_before_name : first_mps_fault (text (codes "OBJNAME C" ∷ codes "NAME" ∷ [])) ≡ on_line 2 SectionOrder
+unfolding trailing_zeros
+objective_name_before_name = refl
+
+pub two_words_after_objective_name : first_mps_fault (objective_lines (codes "OBJNAME S C" ∷ [])) ≡ on_line 2 FieldCount
+unfolding trailing_zeros
+two_words_after_objective_name = refl
+
+pub two_words_on_the_line_of_an_objective_name : first_mps_fault (objective_lines (codes "OBJNAME" ∷ codes "    S C" ∷ [])) ≡ on_line 3 FieldCount
+unfolding trailing_zeros
+two_words_on_the_line_of_an_objective_name = refl
+
+pub objective_name_without_rows_of_type_n : first_mps_fault (text (codes "OBJNAME obj" ∷ codes "ROWS" ∷ codes " L  R" ∷ codes "COLUMNS" ∷ codes "    X  R  1" ∷ codes "ENDATA" ∷ [])) ≡ on_line 4 UnknownRow
+unfolding trailing_zeros
+objective_name_without_rows_of_type_n = refl
+
+pub objective_name_of_a_row_called_as_the_default : first_mps_fault (text (codes "OBJNAME S" ∷ codes "ROWS" ∷ codes " L  obj" ∷ codes "COLUMNS" ∷ codes "    X  obj  1" ∷ codes "ENDATA" ∷ [])) ≡ on_line 4 UnknownRow
+unfolding trailing_zeros
+objective_name_of_a_row_called_as_the_default = refl
+
+pub field_after_columns_comes_before_the_objective : first_mps_fault (text (codes "OBJNAME S" ∷ codes "ROWS" ∷ codes "COLUMNS X" ∷ [])) ≡ on_line 3 FieldCount
+unfolding trailing_zeros
+field_after_columns_comes_before_the_objective = refl
+
+pub named_objective_again : first_mps_fault (text (codes "OBJNAME S" ∷ codes "ROWS" ∷ codes " N  S" ∷ codes " N  S" ∷ [])) ≡ on_line 4 DuplicateRow
+unfolding trailing_zeros
+named_objective_again = refl

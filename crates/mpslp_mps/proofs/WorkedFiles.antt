@@ -1,6 +1,6 @@
 -- Worked files: each declares a model, by computation.
 use Rattle.std.proofs.Common.{◌≡◌, refl}
-use Rattle.std.specs.Prelude.{ℕ, None, List, ◌∷◌, [], ◌++◌, map, take, drop, true, ◌==◌, if◌then◌else◌, codes}
+use Rattle.std.specs.Prelude.{ℕ, Some, None, List, ◌∷◌, [], ◌++◌, map, take, drop, true, ◌==◌, if◌then◌else◌, codes}
 use Rattle.std.specs.List.{list_all, flat_map}
 use Rattle.mpslp_decimal.specs.Decimal.{trailing_zeros}
 use Rattle.mpslp_model.specs.Declaration.{Draft, empty_draft, draft_of}
@@ -273,3 +273,41 @@ usual_layout = text usual_layout_lines
 pub usual_layout_passes : Passes usual_layout
 unfolding trailing_zeros
 usual_layout_passes = record { is_text = refl; objective = refl; legal = refl; unrefused = refl; no_fault = refl }
+
+-- ---- an objective that OBJNAME names among the rows of type N
+
+abbrev objective_tail : List (List ℕ)
+objective_tail =
+    codes "ROWS" ∷ codes " N  C" ∷ codes " L  R" ∷ codes " N  S" ∷ codes "COLUMNS" ∷ codes "    X  C  1  R  1"
+    ∷ codes "    X  S  2" ∷ codes "ENDATA" ∷ []
+
+abbrev pub named_objective : List ℕ
+named_objective = text (codes "NAME" ∷ codes "OBJNAME" ∷ codes "    S" ∷ objective_tail)
+
+pub named_objective_passes : Passes named_objective
+unfolding trailing_zeros
+named_objective_passes = record { is_text = refl; objective = refl; legal = refl; unrefused = refl; no_fault = refl }
+
+pub named_objective_is : (draft_in named_objective).objective ≡ Some (codes "S")
+named_objective_is = refl
+
+abbrev pub named_on_header : List ℕ
+named_on_header = text (codes "OBJNAME S" ∷ objective_tail)
+
+pub named_on_header_is : (draft_in named_on_header).objective ≡ Some (codes "S")
+named_on_header_is = refl
+
+-- before OBJSENSE, and after it
+abbrev pub named_and_maximized : List ℕ
+named_and_maximized = text (codes "OBJNAME" ∷ codes "    C" ∷ codes "OBJSENSE MAX" ∷ objective_tail)
+
+pub named_and_maximized_passes : Passes named_and_maximized
+unfolding trailing_zeros
+named_and_maximized_passes = record { is_text = refl; objective = refl; legal = refl; unrefused = refl; no_fault = refl }
+
+abbrev pub maximized_and_named : List ℕ
+maximized_and_named = text (codes "OBJSENSE" ∷ codes "    MAX" ∷ codes "OBJNAME S" ∷ objective_tail)
+
+pub maximized_and_named_passes : Passes maximized_and_named
+unfolding trailing_zeros
+maximized_and_named_passes = record { is_text = refl; objective = refl; legal = refl; unrefused = refl; no_fault = refl }

@@ -1,15 +1,15 @@
 -- What the lines before one say of it: each reading by itself of the list of these lines.
 use Rattle.std.specs.Prelude.{ℕ, Bool, true, false, List, [], ◌∷◌, ◌++◌, filter, filter_map, Option, Some, None, if◌then◌else◌}
-use Rattle.std.specs.List.{last_or}
+use Rattle.std.specs.List.{last_or, cons_option}
 use Rattle.std.specs.Option.{option_map, option_map_or, option_or}
 use Rattle.mpslp_types.specs.Name.{same_bytes}
 use Rattle.mpslp_model.specs.Lists.{head_of, when}
 use Rattle.mpslp_mps.specs.Line.{Fields, Item, skipped, header, data_line}
-use Rattle.mpslp_mps.specs.Section.{has, section_begun, begins, is_section}
-use Rattle.mpslp_mps.specs.DataLine.{column_shape, is_marker_line, marker_shape, opening_word, vector_shape}
+use Rattle.mpslp_mps.specs.Section.{has, section_named, section_begun, is_section}
+use Rattle.mpslp_mps.specs.DataLine.{word_shape, column_shape, is_marker_line, marker_shape, opening_word, vector_shape}
 use Rattle.mpslp_mps.specs.BoundLine.{bound_type, bound_shape}
 use Rattle.mpslp_mps.specs.declared.sections.Section.{Section}
-use Rattle.mpslp_mps.specs.declared.sections.Section.TheVariants.{ObjSense, Columns, Rhs, Ranges, Bounds}
+use Rattle.mpslp_mps.specs.declared.sections.Section.TheVariants.{ObjSense, ObjName, Columns, Rhs, Ranges, Bounds}
 
 -- ---- sections
 
@@ -35,11 +35,13 @@ abbrev pub fields_under : Section → Option Section → Item → List Fields
 fields_under section current (data_line fields) = when (is_section section current) fields
 fields_under section current _ = []
 
--- of lines that stand in `current` up to the next header
+-- what lines say where they stand, of those that stand in `current` up to the next header
+abbrev pub said_after : {X : Type 0} → (Option Section → Item → List X) → Option Section → List Item → List X
+said_after says current [] = []
+said_after says current (item ∷ items) = says current item ++ said_after says (option_or (section_begun item) current) items
+
 abbrev pub data_lines_after : Section → Option Section → List Item → List Fields
-data_lines_after section current [] = []
-data_lines_after section current (item ∷ items) =
-    fields_under section current item ++ data_lines_after section (option_or (section_begun item) current) items
+data_lines_after section current items = said_after (fields_under section) current items
 
 abbrev pub data_lines : Section → List Item → List Fields
 data_lines section before = data_lines_after section None before
@@ -50,14 +52,34 @@ abbrev pub is_read : Item → Bool
 is_read skipped = false
 is_read _ = true
 
--- the section whose header wants a word on a line of its own: an OBJSENSE without its word
+-- a section of one word: behind the keyword of its header, or on a line of its own
+abbrev pub takes_word : Section → Bool
+takes_word ObjSense = true
+takes_word ObjName = true
+takes_word _ = false
+
+-- the section whose word is still to come after its header
+abbrev pub word_wanted : Section → Fields → Option Section
+word_wanted section [] = if takes_word section then Some section else None
+word_wanted section more = None
+
 abbrev pub wanting : Item → Option Section
-wanting (header keyword []) = if begins ObjSense (header keyword []) then Some ObjSense else None
+wanting (header keyword more) = option_map_or (λ section. word_wanted section more) (section_named keyword) None
 wanting _ = None
 
--- the last line is such a header, but for skipped lines: the word of its section is to come
+-- the section whose word is to come: its header without one is the last line, but for skipped lines
 abbrev pub wanted : List Item → Option Section
 wanted before = option_map_or wanting (last_or None (filter is_read before)) None
+
+-- the word of OBJNAME that a line has, where lines before it stand in `current`
+abbrev pub objname_word : Option Section → Item → Option (List ℕ)
+objname_word current (header keyword more) = if is_section ObjName (section_named keyword) then word_shape more else None
+objname_word current (data_line fields) = if is_section ObjName current then word_shape fields else None
+objname_word current skipped = None
+
+-- the name of the objective, where OBJNAME tells it
+abbrev pub objective_name : List Item → Option (List ℕ)
+objective_name before = head_of (said_after (λ current item. cons_option (objname_word current item) []) None before)
 
 -- the word of a line of COLUMNS, if it is a marker line; its column, if it is none
 abbrev pub marker_word : Fields → Option (List ℕ)
@@ -92,6 +114,7 @@ pub record Context : Type 0 where
   pub section : Option Section
   pub seen : List Section
   pub wanted : Option Section
+  pub objective_name : Option (List ℕ)
   pub in_integer_part : Bool
   pub last_column : Option (List ℕ)
   pub rhs_set : Option (List ℕ)
@@ -103,6 +126,7 @@ context_of before = record {
   section = current_section before;
   seen = sections_begun before;
   wanted = wanted before;
+  objective_name = objective_name before;
   in_integer_part = in_integer_part before;
   last_column = last_column before;
   rhs_set = first_set vector_set (data_lines Rhs before);

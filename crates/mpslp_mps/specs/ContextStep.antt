@@ -1,19 +1,29 @@
 -- What a line of a known shape makes of the context.
-use Rattle.std.specs.Prelude.{ℕ, Bool, List, [], ◌∷◌, ◌++◌, Option, Some, None}
+use Rattle.std.specs.Prelude.{ℕ, Bool, List, [], ◌∷◌, ◌++◌, Option, Some, None, if◌then◌else◌}
 use Rattle.std.specs.Option.{option_or}
 use Rattle.mpslp_mps.specs.Line.{Fields}
+use Rattle.mpslp_mps.specs.Section.{is_section}
+use Rattle.mpslp_mps.specs.DataLine.{word_shape}
 use Rattle.mpslp_mps.specs.Context.{Context}
 use Rattle.mpslp_mps.specs.declared.sections.Section.{Section}
-use Rattle.mpslp_mps.specs.declared.sections.Section.TheVariants.{ObjSense}
+use Rattle.mpslp_mps.specs.declared.sections.Section.TheVariants.{ObjName}
 
--- the section whose header wants a word on a line of its own: an OBJSENSE without its word
-abbrev pub word_wanted : Section → Fields → Option Section
-word_wanted ObjSense [] = Some ObjSense
-word_wanted _ more = None
+-- the name of the objective that follows the keyword OBJNAME
+abbrev pub named_objective : Section → Fields → Option (List ℕ)
+named_objective section more = if is_section ObjName (Some section) then word_shape more else None
 
--- after the header of a section, which may want a word
-abbrev pub after_header : Context → Section → Option Section → Context
-after_header c section wanted = record c { section = Some section; seen = c.seen ++ section ∷ []; wanted = wanted }
+-- a name of the objective is told; the first one counts
+abbrev pub with_objective_name : Context → List ℕ → Context
+with_objective_name c name = record c { objective_name = option_or c.objective_name (Some name) }
+
+-- after the header of a section, whose word may be to come, or name the objective
+abbrev pub after_header : Context → Section → Option Section → Option (List ℕ) → Context
+after_header c section wanted objective =
+    record c { section = Some section; seen = c.seen ++ section ∷ []; wanted = wanted; objective_name = option_or c.objective_name objective }
+
+-- after the word of OBJNAME on a line of its own
+abbrev pub after_objective_name : Context → List ℕ → Context
+after_objective_name c name = with_objective_name (record c { wanted = None }) name
 
 -- after a data line that later lines ask nothing of
 abbrev pub after_data : Context → Context

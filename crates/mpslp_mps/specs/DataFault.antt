@@ -5,7 +5,7 @@ use Rattle.mpslp_types.specs.Name.{same_bytes, is_one_of}
 use Rattle.mpslp_model.specs.Declaration.{Draft, has_column}
 use Rattle.mpslp_types.specs.declared.faults.FaultKind.TheVariants as kinds
 use Rattle.mpslp_mps.specs.Line.{Fields}
-use Rattle.mpslp_mps.specs.DataLine.{RowLine, ValuesLine, sense_shape, row_shape, row_type, column_shape, is_marker_line, third_field, marker_shape, opening_word, closing_word, vector_shape}
+use Rattle.mpslp_mps.specs.DataLine.{RowLine, ValuesLine, word_shape, row_shape, row_type, column_shape, is_marker_line, third_field, marker_shape, opening_word, closing_word, vector_shape}
 use Rattle.mpslp_mps.specs.BoundLine.{BoundLine, bound_type, is_semi_continuous_type, bound_shape}
 use Rattle.mpslp_mps.specs.Context.{Context}
 use Rattle.mpslp_reading.specs.Tests.{Tests, judged_by}
@@ -13,7 +13,7 @@ use Rattle.mpslp_reading.specs.Field.{name_tests, number_tests}
 use Rattle.mpslp_mps.specs.FieldFault.{literals_of, set_tests}
 use Rattle.mpslp_mps.specs.HeaderFault.{word_tests}
 use Rattle.mpslp_mps.specs.declared.sections.Section.{Section}
-use Rattle.mpslp_mps.specs.declared.sections.Section.TheVariants.{ObjSense, Rows, Columns, Rhs, Ranges, Bounds}
+use Rattle.mpslp_mps.specs.declared.sections.Section.TheVariants.{ObjSense, ObjName, Rows, Columns, Rhs, Ranges, Bounds}
 use Rattle.mpslp_mps.specs.declared.bound_types.BoundType.{BoundType}
 
 abbrev pub row_tests : RowLine → Tests
@@ -58,9 +58,11 @@ bound_line_tests context [] = []
 bound_line_tests context (letters ∷ more) =
     if is_semi_continuous_type letters then (true, kinds.SemiContinuous) ∷ [] else typed_bound_tests context more (bound_type letters)
 
--- a data line under NAME, before any header, or under an OBJSENSE that has its word
+-- a data line under NAME, before any header, or under an OBJSENSE or OBJNAME that has its word. The word of OBJNAME is not
+-- judged
 abbrev pub data_tests : Context → Draft → Fields → Option Section → Tests
-data_tests context earlier fields (Some ObjSense) = (not (is_some context.wanted), kinds.SectionOrder) ∷ judged_by word_tests (sense_shape fields)
+data_tests context earlier fields (Some ObjSense) = (not (is_some context.wanted), kinds.SectionOrder) ∷ judged_by word_tests (word_shape fields)
+data_tests context earlier fields (Some ObjName) = (not (is_some context.wanted), kinds.SectionOrder) ∷ judged_by (λ _. []) (word_shape fields)
 data_tests context earlier fields (Some Rows) = judged_by row_tests (row_shape fields)
 data_tests context earlier fields (Some Columns) = columns_line_tests context earlier fields
 data_tests context earlier fields (Some Rhs) = judged_by (vector_tests context.rhs_set) (vector_shape fields)

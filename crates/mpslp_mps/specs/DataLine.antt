@@ -8,11 +8,11 @@ use Rattle.mpslp_types.specs.declared.kinds.RowType.{RowType}
 use Rattle.mpslp_types.specs.declared.kinds.RowType.TheVariants.{Free, AtMost, AtLeast, Equal}
 use Rattle.mpslp_mps.specs.Line.{Fields}
 
--- ---- OBJSENSE: a word, after the keyword or on a line of its own
+-- ---- OBJSENSE and OBJNAME: a word, after the keyword or on a line of its own
 
-abbrev pub sense_shape : Fields → Option (List ℕ)
-sense_shape (word ∷ []) = Some word
-sense_shape _ = None
+abbrev pub word_shape : Fields → Option (List ℕ)
+word_shape (word ∷ []) = Some word
+word_shape _ = None
 
 abbrev pub sense_of : List ℕ → Option Sense
 sense_of word =

@@ -1,6 +1,7 @@
 -- The faults of a header, after the lines before it.
-use Rattle.std.specs.Prelude.{ℕ, Bool, true, ◌||◌, not, List, [], ◌∷◌, Option, Some, None, is_some, is_none, if◌then◌else◌, codes}
+use Rattle.std.specs.Prelude.{ℕ, Bool, true, ◌||◌, ◌&&◌, not, List, [], ◌∷◌, Option, Some, None, is_some, is_none, if◌then◌else◌, codes}
 use Rattle.mpslp_types.specs.Name.{is_one_of}
+use Rattle.mpslp_model.specs.Declaration.{Draft}
 use Rattle.mpslp_model.specs.Lists.{is_nonempty}
 use Rattle.mpslp_types.specs.declared.faults.FaultKind.{FaultKind}
 use Rattle.mpslp_types.specs.declared.faults.FaultKind.TheVariants as kinds
@@ -10,7 +11,7 @@ use Rattle.mpslp_mps.specs.DataLine.{sense_of}
 use Rattle.mpslp_mps.specs.Context.{Context}
 use Rattle.mpslp_reading.specs.Tests.{Tests}
 use Rattle.mpslp_mps.specs.declared.sections.Section.{Section}
-use Rattle.mpslp_mps.specs.declared.sections.Section.TheVariants.{Name, ObjSense, Rows, Columns}
+use Rattle.mpslp_mps.specs.declared.sections.Section.TheVariants.{Name, ObjSense, ObjName, Rows, Columns}
 
 -- a header that begins no section of this profile
 abbrev pub unknown_section : List ℕ → FaultKind
@@ -23,6 +24,7 @@ unknown_section keyword =
 abbrev pub may_begin : Context → Section → Bool
 may_begin context Name = is_none context.section
 may_begin context ObjSense = not (has context.seen Rows)
+may_begin context ObjName = not (has context.seen Rows)
 may_begin context Rows = true
 may_begin context Columns = has context.seen Rows
 may_begin context _ = has context.seen Columns
@@ -31,25 +33,32 @@ may_begin context _ = has context.seen Columns
 abbrev pub is_out_of_order : Context → Section → Bool
 is_out_of_order context section = is_some context.wanted || not (has context.seen section || may_begin context section)
 
--- what may follow the keyword: anything after NAME, one word after OBJSENSE
+-- what may follow the keyword: anything after NAME, one word after OBJSENSE and OBJNAME
 abbrev pub may_follow : Section → Fields → Bool
 may_follow Name more = true
 may_follow ObjSense [] = true
 may_follow ObjSense (word ∷ []) = true
+may_follow ObjName [] = true
+may_follow ObjName (word ∷ []) = true
 may_follow _ more = not (is_nonempty more)
 
 abbrev pub word_tests : List ℕ → Tests
 word_tests word = (is_none (sense_of word), kinds.BadType) ∷ []
 
--- the word of OBJSENSE
-abbrev pub header_word_tests : Section → Fields → Tests
-header_word_tests ObjSense (word ∷ _) = word_tests word
-header_word_tests _ more = []
+-- OBJNAME tells the name of the objective, and no row of type N before has it
+abbrev pub lacks_objective : Context → Draft → Bool
+lacks_objective context earlier = is_none earlier.objective && is_some context.objective_name
 
-abbrev pub header_tests : Context → List ℕ → Fields → Option Section → Tests
-header_tests context keyword more None = (true, unknown_section keyword) ∷ []
-header_tests context keyword more (Some section) =
+-- the word of OBJSENSE, and the objective that OBJNAME names, which ROWS has to have
+abbrev pub section_tests : Context → Draft → Section → Fields → Tests
+section_tests context earlier ObjSense (word ∷ _) = word_tests word
+section_tests context earlier Columns more = (lacks_objective context earlier, kinds.UnknownRow) ∷ []
+section_tests context earlier _ more = []
+
+abbrev pub header_tests : Context → Draft → List ℕ → Fields → Option Section → Tests
+header_tests context earlier keyword more None = (true, unknown_section keyword) ∷ []
+header_tests context earlier keyword more (Some section) =
     (is_out_of_order context section, kinds.SectionOrder)
     ∷ (has context.seen section, kinds.SectionRepeated)
     ∷ (not (may_follow section more), kinds.FieldCount)
-    ∷ header_word_tests section more
+    ∷ section_tests context earlier section more

@@ -12,7 +12,7 @@ use Rattle.mpslp_mps.specs.DataFault.{data_tests}
 -- of what is read of a line
 abbrev pub item_tests : Context → Draft → Item → Tests
 item_tests context earlier skipped = []
-item_tests context earlier (header keyword more) = header_tests context keyword more (section_named keyword)
+item_tests context earlier (header keyword more) = header_tests context earlier keyword more (section_named keyword)
 item_tests context earlier (data_line fields) = data_tests context earlier fields context.section
 
 -- of a line: those of its bytes come first

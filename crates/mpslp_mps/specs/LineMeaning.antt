@@ -1,7 +1,8 @@
 -- What each line of MPS text declares. A line of a wrong shape declares nothing.
-use Rattle.std.specs.Prelude.{ℕ, Bool, true, false, List, [], ◌∷◌, ◌++◌, map, Option, Some, None, is_none, if◌then◌else◌, codes}
+use Rattle.std.specs.Prelude.{ℕ, Bool, true, false, ◌&&◌, List, [], ◌∷◌, ◌++◌, map, Option, Some, None, is_none, if◌then◌else◌, codes}
 use Rattle.std.specs.List.{flat_map}
 use Rattle.std.specs.Option.{option_map_or}
+use Rattle.mpslp_types.specs.Name.{same_bytes}
 use Rattle.mpslp_types.specs.Sides.{limit_of}
 use Rattle.mpslp_model.specs.Declaration.{by_type, declare_sense, declare_objective, declare_row, declare_range, declare_column, declare_coefficient, declare_marked, declare_integer, Declarations, Draft, rhs_declared, bounds_declared}
 use Rattle.mpslp_model.specs.Lists.{when}
@@ -13,7 +14,7 @@ use Rattle.mpslp_types.specs.declared.kinds.Limit.TheVariants.{MinusInf, PlusInf
 use Rattle.mpslp_reading.specs.Field.{value_of}
 use Rattle.mpslp_mps.specs.Line.{Fields, Item, skipped, header, data_line}
 use Rattle.mpslp_mps.specs.Section.{section_named}
-use Rattle.mpslp_mps.specs.DataLine.{RowLine, Pair, ValuesLine, sense_shape, sense_of, row_shape, row_type, column_shape, is_marker_line, vector_shape}
+use Rattle.mpslp_mps.specs.DataLine.{RowLine, Pair, ValuesLine, word_shape, sense_of, row_shape, row_type, column_shape, is_marker_line, vector_shape}
 use Rattle.mpslp_mps.specs.BoundLine.{BoundLine, bound_type, bound_shape}
 use Rattle.mpslp_mps.specs.Context.{Context}
 use Rattle.mpslp_mps.specs.declared.sections.Section.{Section}
@@ -32,17 +33,21 @@ sense_declared word = declared_of (λ sense. declare_sense sense ∷ []) (sense_
 
 -- ---- ROWS
 
--- the first row of type N is the objective; each further one is a row without limits
-abbrev pub row_of_type : Draft → List ℕ → RowType → Declarations
-row_of_type earlier name Free = if is_none earlier.objective then declare_objective name ∷ [] else declare_row name (by_type Free) ∷ []
-row_of_type earlier name type = declare_row name (by_type type) ∷ []
+-- the first row of type N is the objective; where OBJNAME tells a name, the first one of that name
+abbrev pub is_new_objective : Context → Draft → List ℕ → Bool
+is_new_objective context earlier name = is_none earlier.objective && option_map_or (same_bytes name) context.objective_name true
 
-abbrev pub row_declared : Draft → RowLine → Declarations
-row_declared earlier line = declared_of (row_of_type earlier line.name) (row_type line.letter)
+-- each other row of type N is a row without limits
+abbrev pub row_of_type : Context → Draft → List ℕ → RowType → Declarations
+row_of_type context earlier name Free = if is_new_objective context earlier name then declare_objective name ∷ [] else declare_row name (by_type Free) ∷ []
+row_of_type context earlier name type = declare_row name (by_type type) ∷ []
 
--- where no row of type N was declared, the objective is `obj`
-abbrev pub default_objective : Draft → Declarations
-default_objective earlier = if is_none earlier.objective then declare_objective (codes "obj") ∷ [] else []
+abbrev pub row_declared : Context → Draft → RowLine → Declarations
+row_declared context earlier line = declared_of (row_of_type context earlier line.name) (row_type line.letter)
+
+-- where no row of type N was declared, and OBJNAME named none, the objective is `obj`
+abbrev pub default_objective : Context → Draft → Declarations
+default_objective context earlier = if is_none earlier.objective && is_none context.objective_name then declare_objective (codes "obj") ∷ [] else []
 
 -- ---- COLUMNS
 
@@ -116,8 +121,8 @@ bound_line_declared (letters ∷ more) =
 -- ---- a line
 
 abbrev pub data_declared : Context → Draft → Fields → Option Section → Declarations
-data_declared context earlier fields (Some ObjSense) = declared_of sense_declared (sense_shape fields)
-data_declared context earlier fields (Some Rows) = declared_of (row_declared earlier) (row_shape fields)
+data_declared context earlier fields (Some ObjSense) = declared_of sense_declared (word_shape fields)
+data_declared context earlier fields (Some Rows) = declared_of (row_declared context earlier) (row_shape fields)
 data_declared context earlier fields (Some Columns) = columns_line_declared context fields
 data_declared context earlier fields (Some Rhs) = declared_of (right_sides_declared earlier) (vector_shape fields)
 data_declared context earlier fields (Some Ranges) = declared_of ranges_declared (vector_shape fields)
@@ -125,13 +130,13 @@ data_declared context earlier fields (Some Bounds) = bound_line_declared fields
 data_declared context earlier fields _ = []
 
 -- the rest of a header's line is the sense under OBJSENSE, and nothing elsewhere
-abbrev pub header_declared : Draft → Fields → Option Section → Declarations
-header_declared earlier more (Some ObjSense) = declared_of sense_declared (sense_shape more)
-header_declared earlier more (Some Columns) = default_objective earlier
-header_declared earlier more _ = []
+abbrev pub header_declared : Context → Draft → Fields → Option Section → Declarations
+header_declared context earlier more (Some ObjSense) = declared_of sense_declared (word_shape more)
+header_declared context earlier more (Some Columns) = default_objective context earlier
+header_declared context earlier more _ = []
 
 -- what a line declares, where the lines before it say `context` and declare `earlier`
 abbrev pub declared : Context → Draft → Item → Declarations
 declared context earlier skipped = []
-declared context earlier (header keyword more) = header_declared earlier more (section_named keyword)
+declared context earlier (header keyword more) = header_declared context earlier more (section_named keyword)
 declared context earlier (data_line fields) = data_declared context earlier fields context.section

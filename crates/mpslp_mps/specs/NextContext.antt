@@ -6,7 +6,7 @@ use Rattle.mpslp_types.specs.Name.{same_bytes}
 use Rattle.mpslp_mps.specs.Line.{Fields, Item, data_line}
 use Rattle.mpslp_mps.specs.Section.{section_begun, is_section}
 use Rattle.mpslp_mps.specs.DataLine.{opening_word}
-use Rattle.mpslp_mps.specs.Context.{is_read, wanting, marker_word, line_column, vector_set, bound_set, Context}
+use Rattle.mpslp_mps.specs.Context.{is_read, wanting, objname_word, marker_word, line_column, vector_set, bound_set, Context}
 use Rattle.mpslp_mps.specs.declared.sections.Section.{Section}
 use Rattle.mpslp_mps.specs.declared.sections.Section.TheVariants.{Columns, Rhs, Ranges, Bounds}
 
@@ -28,6 +28,7 @@ next_context c item = record {
   section = option_or (section_begun item) c.section;
   seen = c.seen ++ cons_option (section_begun item) [];
   wanted = if is_read item then wanting item else c.wanted;
+  objective_name = option_or c.objective_name (objname_word c.section item);
   in_integer_part = changed_under Columns c.section next_part item c.in_integer_part;
   last_column = changed_under Columns c.section (λ fields _. line_column fields) item c.last_column;
   rhs_set = changed_under Rhs c.section (next_set vector_set) item c.rhs_set;

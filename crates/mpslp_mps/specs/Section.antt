@@ -4,12 +4,13 @@ use Rattle.std.specs.List.{find, list_any}
 use Rattle.mpslp_types.specs.Name.{same_bytes}
 use Rattle.mpslp_mps.specs.Line.{Item, header}
 use Rattle.mpslp_mps.specs.declared.sections.Section.{Section}
-use Rattle.mpslp_mps.specs.declared.sections.Section.TheVariants.{Name, ObjSense, Rows, Columns, Rhs, Ranges, Bounds, EndData}
+use Rattle.mpslp_mps.specs.declared.sections.Section.TheVariants.{Name, ObjSense, ObjName, Rows, Columns, Rhs, Ranges, Bounds, EndData}
 
 -- upper case alone
 abbrev pub keyword_of : Section → List ℕ
 keyword_of Name = codes "NAME"
 keyword_of ObjSense = codes "OBJSENSE"
+keyword_of ObjName = codes "OBJNAME"
 keyword_of Rows = codes "ROWS"
 keyword_of Columns = codes "COLUMNS"
 keyword_of Rhs = codes "RHS"
@@ -18,7 +19,7 @@ keyword_of Bounds = codes "BOUNDS"
 keyword_of EndData = codes "ENDATA"
 
 abbrev pub sections : List Section
-sections = Name ∷ ObjSense ∷ Rows ∷ Columns ∷ Rhs ∷ Ranges ∷ Bounds ∷ EndData ∷ []
+sections = Name ∷ ObjSense ∷ ObjName ∷ Rows ∷ Columns ∷ Rhs ∷ Ranges ∷ Bounds ∷ EndData ∷ []
 
 -- the section of this keyword
 abbrev pub section_named : List ℕ → Option Section

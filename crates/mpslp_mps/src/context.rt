@@ -1,12 +1,12 @@
 //! What the lines before one say of it.
 
-ghost use Rattle.std.specs.Prelude.{◌≡◌, [], false, is_some, OnOk};
+ghost use Rattle.std.specs.Prelude.{◌≡◌, [], true, false, is_some, OnOk};
 ghost use Rattle.std.specs.Option.{option_map, option_map_or};
 ghost use Rattle.mpslp_types.specs.Name.{same_bytes};
 ghost use Rattle.mpslp_mps.specs.Section.{has, is_section};
 ghost use Rattle.mpslp_mps.specs.declared.sections.Section.{Section};
 ghost use Rattle.mpslp_mps.specs.Context.{context_of};
-ghost use Rattle.mpslp_mps.specs.ContextStep.{after_header, after_data, after_marker, after_column, after_right_side, after_range, after_bound};
+ghost use Rattle.mpslp_mps.specs.ContextStep.{with_objective_name, after_header, after_objective_name, after_data, after_marker, after_column, after_right_side, after_range, after_bound};
 ghost use Rattle.mpslp_mps.specs.HeaderFault.{may_begin, is_out_of_order};
 
 use crate::sections::Section;
@@ -22,6 +22,7 @@ pub(crate) struct LineContext {
     section: Option<Section>,
     seen: Vec<Section>,
     wanted: Option<Section>,
+    objective_name: Option<Vec<u8>>,
     in_integer_part: bool,
     last_column: Option<Vec<u8>>,
     rhs_set: Option<Vec<u8>>,
@@ -39,6 +40,7 @@ impl Model for LineContext {
       section = c.section;
       seen = c.seen.items;
       wanted = c.wanted;
+      objective_name = option_map (λ name. name.items) c.objective_name;
       in_integer_part = c.in_integer_part;
       last_column = option_map (λ name. name.items) c.last_column;
       rhs_set = option_map (λ name. name.items) c.rhs_set;
@@ -77,6 +79,7 @@ impl LineContext {
             section: None,
             seen: Vec::new(alloc),
             wanted: None,
+            objective_name: None,
             in_integer_part: false,
             last_column: None,
             rhs_set: None,
@@ -109,6 +112,23 @@ impl LineContext {
         self.wanted.is_some()
     }
 
+    /// Whether OBJNAME has named the objective.
+    pub(crate) fn names_objective(&self) -> bool
+        ensures { result ≡ is_some self.now.objective_name }
+    {
+        self.objective_name.is_some()
+    }
+
+    /// Whether a row of type N of this name may be the objective: it has the name of OBJNAME, or none was told.
+    pub(crate) fn may_name_objective(&self, name: &[u8]) -> bool
+        ensures { result ≡ option_map_or (same_bytes name.now) self.now.objective_name true }
+    {
+        match &self.objective_name {
+            Some(wanted) => name == wanted.as_slice(),
+            None => true,
+        }
+    }
+
     /// Whether the integer part is open.
     pub(crate) fn in_integer_part(&self) -> bool
         ensures { result ≡ self.now.in_integer_part }
@@ -136,7 +156,7 @@ impl LineContext {
     {
         match section {
             Section::Name => self.section.is_none(),
-            Section::ObjSense => !self.has_seen(Section::Rows),
+            Section::ObjSense | Section::ObjName => !self.has_seen(Section::Rows),
             Section::Rows => true,
             Section::Columns => self.has_seen(Section::Rows),
             Section::Rhs | Section::Ranges | Section::Bounds | Section::EndData => {
@@ -173,18 +193,41 @@ impl LineContext {
         bytes_of(&self.bounds_set)
     }
 
-    /// Goes past the header of a section; `wanted` is the section whose word is to come then.
+    /// Goes past the header of a section; `wanted` is the section whose word is to come then, and `objective` the name
+    /// that the header tells.
     pub(crate) fn pass_header(
         &mut self,
         section: Section,
         wanted: Option<Section>,
+        objective: Option<&[u8]>,
     ) -> Result<(), AllocError>
-        ensures { OnOk result (self.new ≡ after_header self.old section wanted) }
+        ensures { OnOk result (self.new ≡ after_header self.old section wanted (option_map (λ name. name.now) objective.entry)) }
     {
         self.seen.push(section)?;
         self.section = Some(section);
         self.wanted = wanted;
+        if let Some(name) = objective {
+            self.keep_objective_name(name)?;
+        }
         Ok(())
+    }
+
+    /// Keeps the name of the objective, unless one was told before.
+    fn keep_objective_name(&mut self, name: &[u8]) -> Result<(), AllocError>
+        ensures { OnOk result (self.new ≡ with_objective_name self.old name.now) }
+    {
+        if self.objective_name.is_none() {
+            self.objective_name = Some(name.to_vec(self.alloc)?);
+        }
+        Ok(())
+    }
+
+    /// Goes past a data line of OBJNAME, which has this word.
+    pub(crate) fn pass_objective_name(&mut self, name: &[u8]) -> Result<(), AllocError>
+        ensures { OnOk result (self.new ≡ after_objective_name self.old name.now) }
+    {
+        self.wanted = None;
+        self.keep_objective_name(name)
     }
 
     /// Goes past a data line of OBJSENSE or ROWS.

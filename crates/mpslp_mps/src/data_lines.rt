@@ -4,8 +4,9 @@ ghost use Rattle.std.specs.Prelude.{◌≡◌, [], ◌∷◌, ◌++◌, map, not
 ghost use Rattle.std.specs.Option.{option_map, option_map_or};
 ghost use Rattle.mpslp_types.specs.Name.{same_bytes};
 ghost use Rattle.mpslp_model.specs.Declaration.{Draft, declare_sense};
-ghost use Rattle.mpslp_mps.specs.DataLine.{sense_shape, row_shape, column_shape, marker_shape, opening_word, vector_shape};
+ghost use Rattle.mpslp_mps.specs.DataLine.{word_shape, row_shape, column_shape, marker_shape, opening_word, vector_shape};
 ghost use Rattle.mpslp_mps.specs.BoundLine.{bound_type, bound_shape};
+ghost use Rattle.mpslp_mps.specs.Context.{Context};
 ghost use Rattle.mpslp_mps.specs.LineMeaning.{declared_of, sense_declared, row_declared, row_of_type};
 ghost use Rattle.mpslp_reading.specs.Field.{value_of, name_tests, number_tests};
 ghost use Rattle.mpslp_reading.specs.Tests.{judged_by, first_held};
@@ -19,8 +20,8 @@ ghost use Rattle.mpslp_reading.specs.LineAnswer.{IsErrorOf};
 use crate::bound_types::BoundType;
 use crate::context::LineContext;
 use crate::shapes::{
-    BoundLine, ValuesLine, bound_shape, column_shape, marker_shape, row_shape, sense_shape,
-    third_field, vector_shape,
+    BoundLine, ValuesLine, bound_shape, column_shape, marker_shape, row_shape, third_field,
+    vector_shape, word_shape,
 };
 use crate::values::{RowValues, is_second_set, values_of};
 use crate::words::{
@@ -34,14 +35,14 @@ use std::alloc::Global;
 
 /// The sense of a data line under OBJSENSE.
 pub(crate) fn check_sense(context: &LineContext, fields: &[&[u8]]) -> Result<Sense, FaultKind>
-    ensures { let parts = sense_shape (map (λ field. field.now) fields.now) in
+    ensures { let parts = word_shape (map (λ field. field.now) fields.now) in
         let first_fault = first_held ((not (is_some context.now.wanted), FaultKind.SectionOrder) ∷ judged_by word_tests parts) in
         MatchResult result (λ sense. (first_fault ≡ None) × (declared_of sense_declared parts ≡ declare_sense sense ∷ [])) (λ kind. first_fault ≡ Some kind) }
 {
     if !context.wants_word() {
         return Err(FaultKind::SectionOrder);
     }
-    let Some(word) = sense_shape(fields) else {
+    let Some(word) = word_shape(fields) else {
         return Err(FaultKind::FieldCount);
     };
     match sense_of(word) {
@@ -50,11 +51,29 @@ pub(crate) fn check_sense(context: &LineContext, fields: &[&[u8]]) -> Result<Sen
     }
 }
 
+/// The word of a data line under OBJNAME.
+pub(crate) fn check_objective_name<'a>(
+    context: &LineContext,
+    fields: &[&'a [u8]],
+) -> Result<&'a [u8], FaultKind>
+    ensures { let parts = word_shape (map (λ field. field.now) fields.now) in
+        let first_fault = first_held ((not (is_some context.now.wanted), FaultKind.SectionOrder) ∷ judged_by (λ _. []) parts) in
+        MatchResult result (λ word. (first_fault ≡ None) × (parts ≡ Some word.now)) (λ kind. first_fault ≡ Some kind) }
+{
+    if !context.wants_word() {
+        return Err(FaultKind::SectionOrder);
+    }
+    match word_shape(fields) {
+        Some(word) => Ok(word),
+        None => Err(FaultKind::FieldCount),
+    }
+}
+
 /// The type and name of a line of ROWS.
 pub(crate) fn check_row(alloc: Global, fields: &[&[u8]]) -> Result<(RowType, Name), LineError>
     ensures { let parts = row_shape (map (λ field. field.now) fields.now) in
         let first_fault = first_held (judged_by row_tests parts) in
-        MatchResult result (λ row. (first_fault ≡ None) × ((earlier : Draft) → declared_of (row_declared earlier) parts ≡ row_of_type earlier row.1 row.0)) (IsErrorOf first_fault) }
+        MatchResult result (λ row. (first_fault ≡ None) × ((context : Context) (earlier : Draft) → declared_of (row_declared context earlier) parts ≡ row_of_type context earlier row.1 row.0)) (IsErrorOf first_fault) }
 {
     let Some(line) = row_shape(fields) else {
         return Err(LineError::Fault(FaultKind::FieldCount));

@@ -4,15 +4,15 @@ ghost use Rattle.std.specs.Prelude.{◌≡◌, [], ◌∷◌, map, Some};
 ghost use Rattle.std.specs.Option.{option_map_or};
 ghost use Rattle.mpslp_model.specs.Declaration.{declare_sense};
 ghost use Rattle.mpslp_mps.specs.Line.{header};
-ghost use Rattle.mpslp_mps.specs.DataLine.{sense_shape};
+ghost use Rattle.mpslp_mps.specs.DataLine.{word_shape};
 ghost use Rattle.mpslp_mps.specs.LineMeaning.{declared_of, sense_declared, default_objective, header_declared};
 ghost use Rattle.mpslp_reading.specs.LineAnswer.{AreDeclared};
 ghost use Rattle.mpslp_mps.specs.LineAnswer.{ReadsItem};
 
 use crate::context::LineContext;
-use crate::headers::{check_header, word_wanted};
+use crate::headers::{check_header, named_objective, word_wanted};
 use crate::sections::Section;
-use crate::shapes::sense_shape;
+use crate::shapes::word_shape;
 use crate::words::sense_of;
 use mpslp_model::{Builder, Name, Sense};
 use mpslp_reading::LineError;
@@ -20,9 +20,9 @@ use std::alloc::Global;
 
 /// The sense that follows the keyword OBJSENSE.
 fn header_sense(more: &[&[u8]]) -> Option<Sense>
-    ensures { option_map_or (λ sense. declare_sense sense ∷ []) result [] ≡ declared_of sense_declared (sense_shape (map (λ field. field.now) more.now)) }
+    ensures { option_map_or (λ sense. declare_sense sense ∷ []) result [] ≡ declared_of sense_declared (word_shape (map (λ field. field.now) more.now)) }
 {
-    match sense_shape(more) {
+    match word_shape(more) {
         Some(word) => sense_of(word),
         None => None,
     }
@@ -30,7 +30,7 @@ fn header_sense(more: &[&[u8]]) -> Option<Sense>
 
 /// Declares the sense that follows the keyword OBJSENSE, if one does.
 fn declare_sense(builder: &mut Builder, more: &[&[u8]]) -> Result<(), LineError>
-    ensures { AreDeclared builder.old (declared_of sense_declared (sense_shape (map (λ field. field.now) more.now))) result builder.new }
+    ensures { AreDeclared builder.old (declared_of sense_declared (word_shape (map (λ field. field.now) more.now))) result builder.new }
 {
     if let Some(sense) = header_sense(more) {
         builder.sense(sense)?;
@@ -38,11 +38,15 @@ fn declare_sense(builder: &mut Builder, more: &[&[u8]]) -> Result<(), LineError>
     Ok(())
 }
 
-/// Names the objective `obj`, where no row of type N has named it.
-fn declare_objective(builder: &mut Builder, alloc: Global) -> Result<(), LineError>
-    ensures { AreDeclared builder.old (default_objective builder.old) result builder.new }
+/// Names the objective `obj`, where no row of type N and no OBJNAME has named it.
+fn declare_objective(
+    context: &LineContext,
+    builder: &mut Builder,
+    alloc: Global,
+) -> Result<(), LineError>
+    ensures { AreDeclared builder.old (default_objective context.now builder.old) result builder.new }
 {
-    if !builder.has_objective() {
+    if !builder.has_objective() && !context.names_objective() {
         let name = Name::new(alloc, b"obj".as_slice())?;
         builder.objective(name)?;
     }
@@ -51,16 +55,17 @@ fn declare_objective(builder: &mut Builder, alloc: Global) -> Result<(), LineErr
 
 /// Declares what the header of a section does.
 fn declare_header(
+    context: &LineContext,
     builder: &mut Builder,
     alloc: Global,
     section: Section,
     more: &[&[u8]],
 ) -> Result<(), LineError>
-    ensures { AreDeclared builder.old (header_declared builder.old (map (λ field. field.now) more.now) (Some section)) result builder.new }
+    ensures { AreDeclared builder.old (header_declared context.now builder.old (map (λ field. field.now) more.now) (Some section)) result builder.new }
 {
     match section {
         Section::ObjSense => declare_sense(builder, more),
-        Section::Columns => declare_objective(builder, alloc),
+        Section::Columns => declare_objective(context, builder, alloc),
         _ => Ok(()),
     }
 }
@@ -75,8 +80,12 @@ pub(crate) fn read_header(
 ) -> Result<(), LineError>
     ensures { ReadsItem context.old builder.old (header keyword.now (map (λ field. field.now) more.now)) result context.new builder.new }
 {
-    let section = check_header(context, keyword, more)?;
-    declare_header(builder, alloc, section, more)?;
-    context.pass_header(section, word_wanted(section, more))?;
+    let section = check_header(context, builder, keyword, more)?;
+    declare_header(context, builder, alloc, section, more)?;
+    context.pass_header(
+        section,
+        word_wanted(section, more),
+        named_objective(section, more),
+    )?;
     Ok(())
 }

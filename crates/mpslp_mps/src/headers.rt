@@ -1,15 +1,18 @@
 //! Headers.
 
-ghost use Rattle.std.specs.Prelude.{◌≡◌, Some, None, map, MatchResult, if◌then◌else◌};
+ghost use Rattle.std.specs.Prelude.{◌≡◌, Some, None, map, MatchResult};
 ghost use Rattle.mpslp_mps.specs.Section.{section_named};
-ghost use Rattle.mpslp_mps.specs.ContextStep.{word_wanted};
+ghost use Rattle.std.specs.Option.{option_map};
+ghost use Rattle.mpslp_mps.specs.Context.{word_wanted};
+ghost use Rattle.mpslp_mps.specs.ContextStep.{named_objective};
 ghost use Rattle.mpslp_reading.specs.Tests.{first_held};
-ghost use Rattle.mpslp_mps.specs.HeaderFault.{may_follow, header_word_tests, header_tests};
+ghost use Rattle.mpslp_mps.specs.HeaderFault.{may_follow, lacks_objective, section_tests, header_tests};
 
 use crate::context::LineContext;
 use crate::sections::Section;
+use crate::shapes::word_shape;
 use crate::words::{section_named, sense_of, unknown_section};
-use mpslp_model::FaultKind;
+use mpslp_model::{Builder, FaultKind};
 
 /// Whether these fields may follow the keyword of the section.
 fn may_follow(section: Section, more: &[&[u8]]) -> bool
@@ -17,28 +20,43 @@ fn may_follow(section: Section, more: &[&[u8]]) -> bool
 {
     match section {
         Section::Name => true,
-        Section::ObjSense => more.len() <= 1,
+        Section::ObjSense | Section::ObjName => more.len() <= 1,
         _ => more.is_empty(),
     }
 }
 
-/// Whether these fields begin with a word of OBJSENSE that is not known.
-fn has_unknown_word(section: Section, more: &[&[u8]]) -> bool
-    ensures { first_held (header_word_tests section (map (λ field. field.now) more.now)) ≡ (if result then Some FaultKind.BadType else None) }
+/// Whether OBJNAME names the objective, and no row of type N before has that name.
+fn lacks_objective(context: &LineContext, builder: &Builder) -> bool
+    ensures { result ≡ lacks_objective context.now builder.now }
 {
-    match more {
-        [word, ..] => section == Section::ObjSense && sense_of(word).is_none(),
-        [] => false,
+    !builder.has_objective() && context.names_objective()
+}
+
+/// The fault of a header by its section: a word of OBJSENSE that is not known, or an objective that ROWS has not.
+fn check_section(
+    context: &LineContext,
+    builder: &Builder,
+    section: Section,
+    more: &[&[u8]],
+) -> Result<(), FaultKind>
+    ensures { let first_fault = first_held (section_tests context.now builder.now section (map (λ field. field.now) more.now)) in
+        MatchResult result (λ _. first_fault ≡ None) (λ kind. first_fault ≡ Some kind) }
+{
+    match (section, more) {
+        (Section::ObjSense, [word, ..]) if sense_of(word).is_none() => Err(FaultKind::BadType),
+        (Section::Columns, _) if lacks_objective(context, builder) => Err(FaultKind::UnknownRow),
+        _ => Ok(()),
     }
 }
 
-/// The section of a header, or the fault of its line after those that say `context`.
+/// The section of a header, or the fault of its line after those that say `context` and declare what `builder` has.
 pub(crate) fn check_header(
     context: &LineContext,
+    builder: &Builder,
     keyword: &[u8],
     more: &[&[u8]],
 ) -> Result<Section, FaultKind>
-    ensures { let first_fault = first_held (header_tests context.now keyword.now (map (λ field. field.now) more.now) (section_named keyword.now)) in
+    ensures { let first_fault = first_held (header_tests context.now builder.now keyword.now (map (λ field. field.now) more.now) (section_named keyword.now)) in
         MatchResult result (λ section. (section_named keyword.now ≡ Some section) × (first_fault ≡ None)) (λ kind. first_fault ≡ Some kind) }
 {
     let Some(section) = section_named(keyword) else {
@@ -53,18 +71,27 @@ pub(crate) fn check_header(
     if !may_follow(section, more) {
         return Err(FaultKind::FieldCount);
     }
-    if has_unknown_word(section, more) {
-        return Err(FaultKind::BadType);
-    }
+    check_section(context, builder, section, more)?;
     Ok(section)
 }
 
-/// The section of a header whose word is to come on a line of its own: an OBJSENSE without one.
+/// The section of a header whose word is to come on a line of its own: an OBJSENSE or OBJNAME without one.
 pub(crate) fn word_wanted(section: Section, more: &[&[u8]]) -> Option<Section>
     ensures { result ≡ word_wanted section (map (λ field. field.now) more.now) }
 {
     match (section, more) {
-        (Section::ObjSense, []) => Some(Section::ObjSense),
+        (Section::ObjSense | Section::ObjName, []) => Some(section),
         _ => None,
+    }
+}
+
+/// The name of the objective that follows the keyword OBJNAME.
+pub(crate) fn named_objective<'a>(section: Section, more: &[&'a [u8]]) -> Option<&'a [u8]>
+    ensures { option_map (λ name. name.now) result ≡ named_objective section (map (λ field. field.now) more.now) }
+{
+    if section == Section::ObjName {
+        word_shape(more)
+    } else {
+        None
     }
 }

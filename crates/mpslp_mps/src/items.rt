@@ -1,9 +1,10 @@
 //! Lines, read one by one: each is checked, and what it declares is declared to the builder.
 
 ghost use Rattle.std.specs.Prelude.{◌≡◌, Some, map};
+ghost use Rattle.mpslp_model.specs.Declaration.{Draft};
 ghost use Rattle.mpslp_mps.specs.declared.sections.Section.{Section};
 ghost use Rattle.mpslp_mps.specs.Line.{data_line, header_of, item_of};
-ghost use Rattle.mpslp_mps.specs.LineMeaning.{row_of_type};
+ghost use Rattle.mpslp_mps.specs.LineMeaning.{is_new_objective, row_of_type};
 ghost use Rattle.mpslp_reading.specs.LineAnswer.{AreDeclared};
 ghost use Rattle.mpslp_mps.specs.LineAnswer.{ReadsItem};
 ghost use Rattle.mpslp_mps.specs.ReadingAnswer.{ReadsLine};
@@ -12,7 +13,7 @@ ghost use Rattle.mpslp_mps.specs.VectorDeclared.{HasMpsSides};
 use crate::bounds::read_bound;
 use crate::columns::read_column;
 use crate::context::LineContext;
-use crate::data_lines::{check_row, check_sense};
+use crate::data_lines::{check_objective_name, check_row, check_sense};
 use crate::fields::front_fields;
 use crate::header_lines::read_header;
 use crate::lines::{has_legal_bytes, is_data, is_skipped};
@@ -37,11 +38,36 @@ pub(crate) fn read_sense(
     Ok(())
 }
 
-/// Declares the row of a line of ROWS: the first one of type N is the objective.
-fn declare_row(builder: &mut Builder, row_type: RowType, name: Name) -> Result<(), LineError>
-    ensures { AreDeclared builder.old (row_of_type builder.old name row_type) result builder.new }
+/// Reads a data line under OBJNAME.
+pub(crate) fn read_objective_name(
+    context: &mut LineContext,
+    fields: &[&[u8]],
+) -> Result<(), LineError>
+    requires section { context.old.section ≡ Some Section.ObjName }
+    ensures { (earlier : Draft) → ReadsItem context.old earlier (data_line (map (λ field. field.now) fields.now)) result context.new earlier }
 {
-    if row_type == RowType::Free && !builder.has_objective() {
+    let name = check_objective_name(context, fields)?;
+    context.pass_objective_name(name)?;
+    Ok(())
+}
+
+/// Whether a row of type N of this name is the objective: the first one, or the first one of the name that OBJNAME tells.
+fn is_new_objective(context: &LineContext, builder: &Builder, name: &Name) -> bool
+    ensures { result ≡ is_new_objective context.now builder.now name.now }
+{
+    !builder.has_objective() && context.may_name_objective(name.as_bytes())
+}
+
+/// Declares the row of a line of ROWS.
+fn declare_row(
+    context: &LineContext,
+    builder: &mut Builder,
+    row_type: RowType,
+    name: Name,
+) -> Result<(), LineError>
+    ensures { AreDeclared builder.old (row_of_type context.now builder.old name row_type) result builder.new }
+{
+    if row_type == RowType::Free && is_new_objective(context, builder, &name) {
         builder.objective(name)?;
     } else {
         builder.row(name, row_type)?;
@@ -60,7 +86,7 @@ pub(crate) fn read_row(
     ensures { ReadsItem context.old builder.old (data_line (map (λ field. field.now) fields.now)) result context.new builder.new }
 {
     let (row_type, name) = check_row(alloc, fields)?;
-    declare_row(builder, row_type, name)?;
+    declare_row(context, builder, row_type, name)?;
     context.pass_data();
     Ok(())
 }
@@ -77,6 +103,7 @@ fn read_data(
 {
     match context.section() {
         Some(Section::ObjSense) => read_sense(context, builder, fields),
+        Some(Section::ObjName) => read_objective_name(context, fields),
         Some(Section::Rows) => read_row(context, builder, alloc, fields),
         Some(Section::Columns) => read_column(context, builder, alloc, fields),
         Some(Section::Rhs) => read_right_sides(context, builder, fields),

@@ -2,7 +2,7 @@
 
 ghost use Rattle.std.specs.Prelude.{◌≡◌, [], ◌∷◌, map};
 ghost use Rattle.std.specs.Option.{option_map};
-ghost use Rattle.mpslp_mps.specs.DataLine.{pair, sense_shape, row_shape, column_shape, is_marker_line, third_field, marker_shape, vector_shape};
+ghost use Rattle.mpslp_mps.specs.DataLine.{pair, word_shape, row_shape, column_shape, is_marker_line, third_field, marker_shape, vector_shape};
 ghost use Rattle.mpslp_mps.specs.BoundLine.{bound_shape};
 
 use crate::bound_types::BoundType;
@@ -112,9 +112,9 @@ impl<'a> Model for BoundLine<'a> {
     ghost view = { λ l. record { set = l.set.now; column = l.column.now; literal = option_map (λ literal. literal.now) l.literal } };
 }
 
-/// The word of a line of OBJSENSE.
-pub(crate) fn sense_shape<'a>(fields: &[&'a [u8]]) -> Option<&'a [u8]>
-    ensures { option_map (λ word. word.now) result ≡ sense_shape (map (λ field. field.now) fields.now) }
+/// The word of OBJSENSE or OBJNAME.
+pub(crate) fn word_shape<'a>(fields: &[&'a [u8]]) -> Option<&'a [u8]>
+    ensures { option_map (λ word. word.now) result ≡ word_shape (map (λ field. field.now) fields.now) }
 {
     match fields {
         [word] => Some(*word),

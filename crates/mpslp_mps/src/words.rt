@@ -20,9 +20,10 @@ fn is_one_of(words: &[&[u8]], word: &[u8]) -> bool
 }
 
 /// All sections.
-const SECTIONS: [Section; 8] = [
+const SECTIONS: [Section; 9] = [
     Section::Name,
     Section::ObjSense,
+    Section::ObjName,
     Section::Rows,
     Section::Columns,
     Section::Rhs,
@@ -39,6 +40,7 @@ impl Section {
         match self {
             Section::Name => b"NAME".as_slice(),
             Section::ObjSense => b"OBJSENSE".as_slice(),
+            Section::ObjName => b"OBJNAME".as_slice(),
             Section::Rows => b"ROWS".as_slice(),
             Section::Columns => b"COLUMNS".as_slice(),
             Section::Rhs => b"RHS".as_slice(),

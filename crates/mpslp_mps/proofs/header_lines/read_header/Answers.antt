@@ -7,7 +7,7 @@ use Rattle.mpslp_mps.specs.LineMeaning.{header_declared}
 use Rattle.mpslp_reading.specs.LineAnswer.{IsErrorOf}
 use Rattle.mpslp_reading.specs.declared.errors.LineError.TheVariants.{Fault}
 use Rattle.mpslp_mps.specs.declared.sections.Section.{Section}
-use Rattle.mpslp_mps.proofs.StepLemmas.{step-header, header-wanting}
+use Rattle.mpslp_mps.proofs.StepLemmas.{step-header}
 use Rattle.mpslp_reading.proofs.AnswerLemmas.{ends-by}
 use Rattle.mpslp_mps.proofs.HeaderTaking.{header-form, header-declares}
 use Rattle.mpslp_mps.proofs.header_lines.read_header.Goals as goal
@@ -36,7 +36,7 @@ returns c =
     let section = c.in_ok-section.section in
     let named = c.in_ok-section.ensures.0 in (
       header-declares context earlier keyword more section named c.in_ok-section.ensures.1 ∙ c.in_ok-declare_header.ensures.0,
-      c.in_ok-pass_header.ensures ∙ ap (λ (word : Option Section). after_header context section word) (c.word_wanted.ensures ∙ sym (header-wanting keyword more section named))
+      c.in_ok-pass_header.ensures ∙ (λ i. after_header context section (c.word_wanted.ensures i) (c.named_objective.ensures i))
           ∙ sym (step-header context keyword more section named),
-      c.in_ok-declare_header.ensures.1 ∙ ap (λ (o : Option Section). adding_all earlier (header_declared earlier more o)) (sym named),
+      c.in_ok-declare_header.ensures.1 ∙ ap (λ (o : Option Section). adding_all earlier (header_declared context earlier more o)) (sym named),
     )

@@ -6,7 +6,7 @@ use Rattle.mpslp_reading.specs.ErrorOf.{error_of_build}
 use Rattle.mpslp_reading.specs.LineAnswer.{IsErrorOf}
 use Rattle.mpslp_reading.proofs.RefusedLemmas.{call-error}
 use Rattle.mpslp_mps.proofs.TakenLemmas.{data_fault-declared}
-use Rattle.mpslp_mps.specs.DataLine.{sense_shape}
+use Rattle.mpslp_mps.specs.DataLine.{word_shape}
 use Rattle.mpslp_reading.specs.declared.errors.LineError.TheVariants.{Fault}
 use Rattle.mpslp_mps.specs.declared.sections.Section.TheVariants.{ObjSense}
 use Rattle.mpslp_reading.proofs.AnswerLemmas.{ends-by}
@@ -20,7 +20,7 @@ returns-in_err-sense c =
     let context = c.args.context.now in
     ends-by c.from_residual.result (Fault c.in_err-sense.field-0.0) _ _ c.from_residual.ensures.1
     (data-judged context c.args.builder.now fields ObjSense (Fault c.in_err-sense.field-0.0) c.requires.section
-    (sense-early (not (is_some context.wanted)) (sense_shape fields)) c.in_err-sense.ensures)
+    (sense-early (not (is_some context.wanted)) (word_shape fields)) c.in_err-sense.ensures)
 
 pub returns-in_err-sense-2 : goal.returns-in_err-sense-2
 returns-in_err-sense-2 c =

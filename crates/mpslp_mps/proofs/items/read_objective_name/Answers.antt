@@ -1,0 +1,25 @@
+use Rattle.std.proofs.Common.{refl, sym, ◌∙◌, [], map, not}
+use Rattle.std.specs.Prelude.{is_some}
+use Rattle.mpslp_mps.specs.DataLine.{word_shape}
+use Rattle.mpslp_reading.specs.declared.errors.LineError.TheVariants.{Fault}
+use Rattle.mpslp_mps.specs.declared.sections.Section.TheVariants.{ObjName}
+use Rattle.mpslp_reading.proofs.AnswerLemmas.{ends-by}
+use Rattle.mpslp_mps.proofs.StepLemmas.{step-objective_name}
+use Rattle.mpslp_mps.proofs.TakingLemmas.{data-judged, data-taken}
+use Rattle.mpslp_mps.proofs.RowTaking.{objective-name-early}
+use Rattle.mpslp_mps.proofs.items.read_objective_name.Goals as goal
+
+pub returns-in_err-name : goal.returns-in_err-name
+returns-in_err-name c = λ earlier.
+    let fields = map (λ field. field.now) c.args.fields.now in
+    let context = c.args.context.now in
+    ends-by c.from_residual.result (Fault c.in_err-name.field-0.0) _ _ c.from_residual.ensures.1
+    (data-judged context earlier fields ObjName (Fault c.in_err-name.field-0.0) c.requires.section
+    (objective-name-early (not (is_some context.wanted)) (word_shape fields)) c.in_err-name.ensures)
+
+pub returns : goal.returns
+returns c = λ earlier.
+    let fields = map (λ field. field.now) c.args.fields.now in
+    let context = c.args.context.now in
+    data-taken context earlier fields ObjName [] c.pass_objective_name.new.self earlier c.requires.section c.in_ok-name.ensures.0 refl refl
+    (c.in_ok-pass_objective_name.ensures ∙ sym (step-objective_name context fields c.in_ok-name.name.now c.requires.section c.in_ok-name.ensures.1)) refl
