@@ -1,28 +1,36 @@
 -- The first fault of a bound, whose sides are declared by one call.
-use Rattle.std.proofs.Common.{◌≡◌, refl, sym, ap, subst, ◌∙◌, ℕ, List, [], ◌∷◌, Bool, true, false, not, cond}
-use Rattle.std.specs.Prelude.{◌&&◌, ◌||◌, Option, Some, None, is_some, Err}
+use Rattle.std.proofs.Common.{◌≡◌, refl, sym, ap, subst, ◌∙◌, ℕ, List, [], ◌∷◌, ◌++◌, Bool, true, false, not, cond, map}
+use Rattle.std.specs.Prelude.{◌&&◌, ◌||◌, Option, Some, None, is_some, Ok, Err}
 use Rattle.std.specs.Option.{option_map, option_map_or}
 use Rattle.mpslp_decimal.specs.Decimal.{Number}
 use Rattle.mpslp_model.specs.Answer.{Answers}
 use Rattle.mpslp_types.specs.Sides.{limit_of, is_plus_infinite, is_minus_infinite}
-use Rattle.mpslp_model.specs.Bounds.{zero_limit}
-use Rattle.mpslp_model.specs.Declaration.{declare_integer, declare_lower, declare_upper, Draft, adding, has_name, has_column, bounds_declared}
-use Rattle.mpslp_model.specs.Refusal.{bounds_refusals, bounds_tests}
+use Rattle.std.proofs.lemmas.List.{append-nil}
+use Rattle.mpslp_model.specs.Bounds.{zero_limit, one_limit}
+use Rattle.mpslp_model.specs.Declaration.{Declaration, declare_integer, declare_semi, declare_lower, declare_upper, Draft, adding, adding_all, has_name, has_column, is_integer, is_semi, bounds_declared}
+use Rattle.mpslp_model.specs.Lists.{those_of, when}
+use Rattle.mpslp_types.specs.FaultOrder.{least_kind}
+use Rattle.mpslp_model.specs.Refusal.{refusals, bounds_refusals, bounds_tests}
 use Rattle.mpslp_types.specs.declared.kinds.Limit.{Limit}
 use Rattle.mpslp_types.specs.declared.faults.BuildFault.{BuildFault}
+use Rattle.mpslp_types.specs.declared.faults.BuildFault.TheVariants.{UnknownColumn, SemiContinuous}
 use Rattle.mpslp_types.specs.declared.faults.FaultKind.{FaultKind}
 use Rattle.mpslp_types.specs.declared.faults.FaultKind.TheVariants as kinds
 use Rattle.mpslp_mps.specs.Line.{Fields}
 use Rattle.mpslp_mps.specs.BoundLine.{BoundLine, bound_type, bound_shape}
-use Rattle.mpslp_mps.specs.LineMeaning.{declared_of, bound_declared, bound_value, bound_line_declared}
+use Rattle.mpslp_mps.specs.LineMeaning.{declared_of, lower_given, upper_given, is_integer_type, is_semi_type, kind_declared, bound_declared, bound_value, bound_line_declared}
+use Rattle.mpslp_mps.specs.KindClash.{type_clash}
 use Rattle.mpslp_reading.specs.Field.{value_of}
-use Rattle.mpslp_reading.specs.Declaring.{declared_fault}
+use Rattle.mpslp_reading.specs.Declaring.{kind_of_refusal, declared_fault}
 use Rattle.mpslp_reading.specs.Tests.{first_held}
 use Rattle.mpslp_reading.specs.ErrorOf.{error_of_build}
-use Rattle.mpslp_reading.specs.LineAnswer.{IsErrorOf}
+use Rattle.mpslp_reading.specs.LineAnswer.{IsErrorOf, LineResult, AreDeclared}
 use Rattle.mpslp_reading.specs.declared.errors.LineError.{LineError}
 use Rattle.mpslp_reading.specs.declared.errors.LineError.TheVariants.{Fault, OutOfMemory}
 use Rattle.mpslp_mps.specs.declared.bound_types.BoundType.{BoundType}
+use Rattle.mpslp_mps.specs.declared.bound_types.BoundType.TheVariants as bounds
+use Rattle.mpslp_types.proofs.BoolLemmas.{nor}
+use Rattle.mpslp_model.proofs.MadeDrafts.{adding_all-append}
 use Rattle.mpslp_reading.proofs.LeastLemmas.{earlier_of}
 use Rattle.mpslp_reading.proofs.RefusedLemmas.{kind_tests, declared-one, declared-append, call-refused}
 
@@ -75,38 +83,173 @@ sides-refused all column lower upper fault P Q h answer =
     subst (λ (o : Option FaultKind). IsErrorOf o (error_of_build fault)) (sym (sides_fault all column lower upper h))
     (call-refused (bounds_tests all column lower upper) fault P Q answer)
 
--- ---- after that the column is integer
+-- ---- after that the column is integer or semi-continuous
 
-integer_fault : (all : Draft) (column : List ℕ) → declared_fault all (declare_integer column ∷ []) ≡ cond (not (has_column all column)) (Some kinds.UnknownColumn) None
-integer_fault all column =
-    declared-one all (declare_integer column) refl
+abbrev one_kind : Draft → List ℕ → Bool → List (Bool × BuildFault)
+one_kind all column other = (not (has_column all column), UnknownColumn) ∷ (other, SemiContinuous) ∷ []
+
+-- where the column is of no other kind
+kind_told : (all : Draft) (d : Declaration) (column : List ℕ) (other : Bool) → refusals all d ≡ those_of (one_kind all column other) → other ≡ false
+    → declared_fault all (d ∷ []) ≡ cond (not (has_column all column)) (Some kinds.UnknownColumn) None
+kind_told all d column other is apart =
+    ap (λ (faults : List BuildFault). least_kind (map kind_of_refusal faults)) (append-nil (refusals all d) ∙ is ∙ ap (λ (b : Bool). those_of (one_kind all column b)) apart)
+    ∙ by (has_column all column)
+  where
+    by : (there : Bool) → least_kind (map kind_of_refusal (those_of ((not there, UnknownColumn) ∷ (false, SemiContinuous) ∷ []))) ≡ cond (not there) (Some kinds.UnknownColumn) None
+    by true = refl
+    by false = refl
+
+-- the one refusal that is left is the call's
+kind_error : (all : Draft) (d : Declaration) (column : List ℕ) (other : Bool) (fault : BuildFault) (P Q : Type 0) → refusals all d ≡ those_of (one_kind all column other) → other ≡ false
+    → Answers (refusals all d) (Err fault) P Q → IsErrorOf (declared_fault all (d ∷ [])) (error_of_build fault)
+kind_error all d column other fault P Q is apart answer =
+    let left : refusals all d ≡ those_of (one_kind all column false) = is ∙ ap (λ (b : Bool). those_of (one_kind all column b)) apart in
+    subst (λ (o : Option FaultKind). IsErrorOf o (error_of_build fault)) (first (has_column all column) ∙ sym (kind_told all d column other is apart))
+    (call-refused (one_kind all column false) fault P Q (subst (λ (faults : List BuildFault). Answers faults (Err fault) P Q) left answer))
+  where
+    first : (there : Bool) → first_held (kind_tests ((not there, UnknownColumn) ∷ (false, SemiContinuous) ∷ [])) ≡ cond (not there) (Some kinds.UnknownColumn) None
+    first true = refl
+    first false = refl
+
+pub integer-error : (all : Draft) (column : List ℕ) (fault : BuildFault) (P Q : Type 0) → is_semi all column ≡ false → Answers (refusals all (declare_integer column)) (Err fault) P Q
+    → IsErrorOf (declared_fault all (declare_integer column ∷ [])) (error_of_build fault)
+integer-error all column fault P Q apart answer = kind_error all (declare_integer column) column (is_semi all column) fault P Q refl apart answer
+
+pub semi-error : (all : Draft) (column : List ℕ) (fault : BuildFault) (P Q : Type 0) → is_integer all column ≡ false → Answers (refusals all (declare_semi column)) (Err fault) P Q
+    → IsErrorOf (declared_fault all (declare_semi column ∷ [])) (error_of_build fault)
+semi-error all column fault P Q apart answer = kind_error all (declare_semi column) column (is_integer all column) fault P Q refl apart answer
+
+-- nothing is refused
+pub integer-none : (all : Draft) (column : List ℕ) → refusals all (declare_integer column) ≡ [] → declared_fault all (declare_integer column ∷ []) ≡ None
+integer-none all column none = ap (λ (faults : List BuildFault). least_kind (map kind_of_refusal faults)) (append-nil (refusals all (declare_integer column)) ∙ none)
+
+pub semi-none : (all : Draft) (column : List ℕ) → refusals all (declare_semi column) ≡ [] → declared_fault all (declare_semi column ∷ []) ≡ None
+semi-none all column none = ap (λ (faults : List BuildFault). least_kind (map kind_of_refusal faults)) (append-nil (refusals all (declare_semi column)) ∙ none)
+
+-- ---- by the type of a bound
+
+pub integer-kind : (type : BoundType) (column : List ℕ) → is_integer_type type ≡ true → kind_declared type column ≡ declare_integer column ∷ []
+integer-kind bounds.Binary column h = refl
+integer-kind bounds.IntegerLower column h = refl
+integer-kind bounds.IntegerUpper column h = refl
+integer-kind bounds.Lower column h = cc
+integer-kind bounds.Upper column h = cc
+integer-kind bounds.Fixed column h = cc
+integer-kind bounds.Free column h = cc
+integer-kind bounds.NoLower column h = cc
+integer-kind bounds.NoUpper column h = cc
+integer-kind bounds.SemiUpper column h = cc
+
+pub semi-kind : (type : BoundType) (column : List ℕ) → is_integer_type type ≡ false → is_semi_type type ≡ true → kind_declared type column ≡ declare_semi column ∷ []
+semi-kind type column h k = λ i. when (h i) (declare_integer column) ++ when (k i) (declare_semi column)
+
+pub no-kind : (type : BoundType) (column : List ℕ) → is_integer_type type ≡ false → is_semi_type type ≡ false → kind_declared type column ≡ []
+no-kind type column h k = λ i. when (h i) (declare_integer column) ++ when (k i) (declare_semi column)
+
+-- a side is given
+pub some-side : (type : BoundType) (value : Limit) → (is_some (lower_given type value) || is_some (upper_given type value)) ≡ true
+some-side bounds.Lower value = refl
+some-side bounds.Upper value = refl
+some-side bounds.Fixed value = refl
+some-side bounds.Free value = refl
+some-side bounds.NoLower value = refl
+some-side bounds.NoUpper value = refl
+some-side bounds.Binary value = refl
+some-side bounds.IntegerLower value = refl
+some-side bounds.IntegerUpper value = refl
+some-side bounds.SemiUpper value = refl
 
 -- the sides' own fault is that of all: where there is no column, it is that fault too
-integer_sides : (all : Draft) (column : List ℕ) (lower upper : Option Limit) → (is_some lower || is_some upper) ≡ true
-    → declared_fault all (declare_integer column ∷ bounds_declared column lower upper) ≡ declared_fault (adding all (declare_integer column)) (bounds_declared column lower upper)
-integer_sides all column lower upper h =
-    let mid = adding all (declare_integer column) in
-    declared-append (declare_integer column ∷ []) (bounds_declared column lower upper) all
-    ∙ (λ i. earlier_of (integer_fault all column i) (sides_fault mid column lower upper h i))
+kind_sides : (all : Draft) (d : Declaration) (column : List ℕ) (lower upper : Option Limit) → bounds_tests (adding all d) column lower upper ≡ bounds_tests all column lower upper
+    → declared_fault all (d ∷ []) ≡ cond (not (has_column all column)) (Some kinds.UnknownColumn) None → (is_some lower || is_some upper) ≡ true
+    → declared_fault all (d ∷ bounds_declared column lower upper) ≡ declared_fault (adding all d) (bounds_declared column lower upper)
+kind_sides all d column lower upper same fault_is h =
+    let mid = adding all d in
+    let sides = sides_fault mid column lower upper h ∙ ap (λ (tests : List (Bool × BuildFault)). first_held (kind_tests tests)) same in
+    declared-append (d ∷ []) (bounds_declared column lower upper) all
+    ∙ (λ i. earlier_of (fault_is i) (sides i))
     ∙ by (has_column all column) ((is_some lower && has_name all.lowers column) || (is_some upper && has_name all.uppers column)) (option_map_or is_plus_infinite lower false || option_map_or is_minus_infinite upper false)
-    ∙ sym (sides_fault mid column lower upper h)
+    ∙ sym sides
   where
     by : (a b c : Bool) → earlier_of (cond (not a) (Some kinds.UnknownColumn) None) (side_kind a b c) ≡ side_kind a b c
     by false b c = refl
     by true b c = refl
 
-pub integer-refused : (all : Draft) (column : List ℕ) (lower upper : Option Limit) (error : LineError) → (is_some lower || is_some upper) ≡ true
-    → IsErrorOf (declared_fault all (declare_integer column ∷ [])) error → IsErrorOf (declared_fault all (declare_integer column ∷ bounds_declared column lower upper)) error
-integer-refused all column lower upper error h fault_is =
-    let mid = adding all (declare_integer column) in
-    subst (λ (o : Option FaultKind). IsErrorOf o error) (sym (integer_sides all column lower upper h ∙ sides_fault mid column lower upper h))
-    (by (has_column all column) ((is_some lower && has_name all.lowers column) || (is_some upper && has_name all.uppers column)) (option_map_or is_plus_infinite lower false || option_map_or is_minus_infinite upper false)
-    error (subst (λ (o : Option FaultKind). IsErrorOf o error) (integer_fault all column) fault_is))
+integer_sides : (all : Draft) (column : List ℕ) (lower upper : Option Limit) → is_semi all column ≡ false → (is_some lower || is_some upper) ≡ true
+    → declared_fault all (declare_integer column ∷ bounds_declared column lower upper) ≡ declared_fault (adding all (declare_integer column)) (bounds_declared column lower upper)
+integer_sides all column lower upper apart some =
+    kind_sides all (declare_integer column) column lower upper refl (kind_told all (declare_integer column) column (is_semi all column) refl apart) some
+
+-- that there is no column is told of the sides too
+column_missing : (all : Draft) (d : Declaration) (column : List ℕ) (lower upper : Option Limit) (kind : FaultKind) → bounds_tests (adding all d) column lower upper ≡ bounds_tests all column lower upper
+    → declared_fault all (d ∷ []) ≡ cond (not (has_column all column)) (Some kinds.UnknownColumn) None → (is_some lower || is_some upper) ≡ true
+    → declared_fault all (d ∷ []) ≡ Some kind → declared_fault all (d ∷ bounds_declared column lower upper) ≡ Some kind
+column_missing all d column lower upper kind same fault_is some is =
+    kind_sides all d column lower upper same fault_is some ∙ sides_fault (adding all d) column lower upper some ∙ ap (λ (tests : List (Bool × BuildFault)). first_held (kind_tests tests)) same
+    ∙ by (has_column all column) ((is_some lower && has_name all.lowers column) || (is_some upper && has_name all.uppers column)) (option_map_or is_plus_infinite lower false || option_map_or is_minus_infinite upper false)
+    (sym fault_is ∙ is)
   where
-    by : (a b c : Bool) (e : LineError) → IsErrorOf (cond (not a) (Some kinds.UnknownColumn) None) e → IsErrorOf (side_kind a b c) e
-    by a b c OutOfMemory k = tt
-    by false b c (Fault kind) k = k
-    by true b c (Fault kind) k = cc
+    by : (a b c : Bool) → cond (not a) (Some kinds.UnknownColumn) None ≡ Some kind → side_kind a b c ≡ Some kind
+    by false b c h = h
+    by true b c h = cc
+
+integer_missing : (all : Draft) (column : List ℕ) (lower upper : Option Limit) (kind : FaultKind) → is_semi all column ≡ false → (is_some lower || is_some upper) ≡ true
+    → declared_fault all (declare_integer column ∷ []) ≡ Some kind → declared_fault all (declare_integer column ∷ bounds_declared column lower upper) ≡ Some kind
+integer_missing all column lower upper kind apart some is =
+    column_missing all (declare_integer column) column lower upper kind refl (kind_told all (declare_integer column) column (is_semi all column) refl apart) some is
+
+-- whatever kind is declared, where none clashes
+pub bound-told : (all : Draft) (type : BoundType) (column : List ℕ) (value : Limit) → type_clash all type column ≡ false
+    → declared_fault all (bound_declared type column value)
+    ≡ declared_fault (adding_all all (kind_declared type column)) (bounds_declared column (lower_given type value) (upper_given type value))
+bound-told all bounds.Lower column value apart = refl
+bound-told all bounds.Upper column value apart = refl
+bound-told all bounds.Fixed column value apart = refl
+bound-told all bounds.Free column value apart = refl
+bound-told all bounds.NoLower column value apart = refl
+bound-told all bounds.NoUpper column value apart = refl
+bound-told all bounds.Binary column value apart = integer_sides all column (Some zero_limit) (Some one_limit) (nor (is_semi all column) false apart).0 refl
+bound-told all bounds.IntegerLower column value apart = integer_sides all column (Some value) None (nor (is_semi all column) false apart).0 refl
+bound-told all bounds.IntegerUpper column value apart = integer_sides all column None (Some value) (nor (is_semi all column) false apart).0 refl
+bound-told all bounds.SemiUpper column value apart =
+    kind_sides all (declare_semi column) column None (Some value) refl (kind_told all (declare_semi column) column (is_integer all column) refl apart) refl
+
+-- the kind, and then the sides
+pub bound-declares : (all mid later : Draft) (type : BoundType) (column : List ℕ) (value : Limit) (lower upper : Option Limit) (answer : LineResult) → type_clash all type column ≡ false
+    → mid ≡ adding_all all (kind_declared type column) → lower ≡ lower_given type value → upper ≡ upper_given type value
+    → AreDeclared mid (bounds_declared column lower upper) answer later → AreDeclared all (bound_declared type column value) answer later
+bound-declares all mid later type column value lower upper answer apart m l u declared = by answer declared
+  where
+    fault_is : declared_fault all (bound_declared type column value) ≡ declared_fault mid (bounds_declared column lower upper)
+    fault_is = bound-told all type column value apart ∙ (λ i. declared_fault (sym m i) (bounds_declared column (sym l i) (sym u i)))
+
+    made : adding_all mid (bounds_declared column lower upper) ≡ adding_all all (bound_declared type column value)
+    made =
+        (λ i. adding_all (m i) (bounds_declared column (l i) (u i)))
+        ∙ sym (adding_all-append (kind_declared type column) (bounds_declared column (lower_given type value) (upper_given type value)) all)
+
+    by : (a : LineResult) → AreDeclared mid (bounds_declared column lower upper) a later → AreDeclared all (bound_declared type column value) a later
+    by (Ok x) h = (fault_is ∙ h.0, h.1 ∙ made)
+    by (Err error) h = subst (λ (o : Option FaultKind). IsErrorOf o error) (sym fault_is) h
+
+-- a fault of the kind is one of all
+pub kind-refused : (all : Draft) (type : BoundType) (column : List ℕ) (value : Limit) (error : LineError) → type_clash all type column ≡ false
+    → IsErrorOf (declared_fault all (kind_declared type column)) error → IsErrorOf (declared_fault all (bound_declared type column value)) error
+kind-refused all type column value OutOfMemory apart fault_is = tt
+kind-refused all bounds.Lower column value (Fault kind) apart fault_is = cc
+kind-refused all bounds.Upper column value (Fault kind) apart fault_is = cc
+kind-refused all bounds.Fixed column value (Fault kind) apart fault_is = cc
+kind-refused all bounds.Free column value (Fault kind) apart fault_is = cc
+kind-refused all bounds.NoLower column value (Fault kind) apart fault_is = cc
+kind-refused all bounds.NoUpper column value (Fault kind) apart fault_is = cc
+kind-refused all bounds.Binary column value (Fault kind) apart fault_is =
+    integer_missing all column (Some zero_limit) (Some one_limit) kind (nor (is_semi all column) false apart).0 refl fault_is
+kind-refused all bounds.IntegerLower column value (Fault kind) apart fault_is =
+    integer_missing all column (Some value) None kind (nor (is_semi all column) false apart).0 refl fault_is
+kind-refused all bounds.IntegerUpper column value (Fault kind) apart fault_is =
+    integer_missing all column None (Some value) kind (nor (is_semi all column) false apart).0 refl fault_is
+kind-refused all bounds.SemiUpper column value (Fault kind) apart fault_is =
+    column_missing all (declare_semi column) column None (Some value) kind refl (kind_told all (declare_semi column) column (is_integer all column) refl apart) refl fault_is
 
 -- ---- what a bound declares
 

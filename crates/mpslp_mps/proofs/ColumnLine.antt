@@ -31,10 +31,13 @@ use Rattle.mpslp_reading.proofs.LeastLemmas.{is_from, earlier_of, stays-least, l
 use Rattle.mpslp_reading.specs.LineAnswer.{IsErrorOf}
 use Rattle.mpslp_reading.specs.declared.errors.LineError.{LineError}
 use Rattle.mpslp_reading.specs.declared.errors.LineError.TheVariants as errors
-use Rattle.mpslp_reading.proofs.FirstFaultLemmas.{form-first}
+use Rattle.mpslp_reading.proofs.FirstFaultLemmas.{form-first, is_behind_clash}
 use Rattle.mpslp_mps.proofs.RisingTests.{data-rising}
 use Rattle.mpslp_reading.proofs.DeclaringLemmas.{declared-after, are_from}
+use Rattle.mpslp_mps.specs.KindClash.{column_clash}
 use Rattle.mpslp_mps.proofs.TakingLemmas.{is_early}
+use Rattle.mpslp_mps.proofs.TakenLemmas.{clash-told}
+use Rattle.mpslp_mps.proofs.ClashLemmas.{column-clashes, column-apart}
 use Rattle.mpslp_mps.proofs.ColumnTaking.{are_rows, front-none, front-there, front-rows, values-late, values-unknown}
 
 -- ---- the form
@@ -66,19 +69,33 @@ abbrev fault_under : Context → Draft → Fields → Option Section → Option 
 fault_under context earlier fields section = least_kind (those_of (data_tests context earlier fields section) ++ declaring_faults earlier (data_declared context earlier fields section))
 
 column-form : (context : Context) (earlier : Draft) (fields : Fields) (kind : FaultKind) → context.section ≡ Some Columns → is_marker_line fields ≡ false
-    → first_held (judged_by field_tests (column_shape fields)) ≡ Some kind
+    → column_clash context earlier fields ≡ false → first_held (judged_by field_tests (column_shape fields)) ≡ Some kind
     → item_fault context earlier (data_line fields) ≡ Some kind
-column-form context earlier fields kind here plain held =
+column-form context earlier fields kind here plain apart held =
     let tests = data_tests context earlier fields (Some Columns) in
     ap (fault_under context earlier fields) here
     ∙ form-first tests kind earlier (data_declared context earlier fields (Some Columns)) (data-rising context earlier fields (Some Columns))
     (ap first_held (plain-tests context earlier fields plain) ∙ held_fields context earlier (column_shape fields) kind held)
     (held-among (λ other. is_from other kinds.UnknownRow) (judged_by field_tests (column_shape fields)) kind (early_fields (column_shape fields)) held)
+    (column-clashes context earlier fields plain ∙ apart)
 
 pub column-judged : (context : Context) (earlier : Draft) (fields : Fields) (error : LineError) → context.section ≡ Some Columns → is_marker_line fields ≡ false
-    → IsErrorOf (first_held (judged_by field_tests (column_shape fields))) error → IsErrorOf (item_fault context earlier (data_line fields)) error
-column-judged context earlier fields (errors.Fault kind) here plain held = column-form context earlier fields kind here plain held
-column-judged context earlier fields errors.OutOfMemory here plain held = tt
+    → column_clash context earlier fields ≡ false → IsErrorOf (first_held (judged_by field_tests (column_shape fields))) error
+    → IsErrorOf (item_fault context earlier (data_line fields)) error
+column-judged context earlier fields (errors.Fault kind) here plain apart held = column-form context earlier fields kind here plain apart held
+column-judged context earlier fields errors.OutOfMemory here plain apart held = tt
+
+-- a column that would be of both kinds, which is told before all that is asked of the fields
+behind_fields : (context : Context) (earlier : Draft) (parts : Option ValuesLine) → list_all (λ test. is_behind_clash test.1) (judged_by (column_tests context earlier) parts) ≡ true
+behind_fields context earlier None = refl
+behind_fields context earlier (Some line) = refl
+
+pub column-clash-told : (context : Context) (earlier : Draft) (fields : Fields) → context.section ≡ Some Columns → is_marker_line fields ≡ false
+    → column_clash context earlier fields ≡ true → item_fault context earlier (data_line fields) ≡ Some kinds.SemiContinuous
+column-clash-told context earlier fields here plain clash =
+    clash-told context earlier fields (Some Columns) here
+    (ap (λ (tests : Tests). list_all (λ test. is_behind_clash test.1) tests) (plain-tests context earlier fields plain) ∙ behind_fields context earlier (column_shape fields))
+    (column-clashes context earlier fields plain ∙ clash)
 
 -- ---- the form and what is declared
 
@@ -115,10 +132,11 @@ abbrev pub with_column : Context → Draft → List ℕ → Draft
 with_column context earlier column = adding_all earlier (front_declared context.in_integer_part column)
 
 pub column-fault : (context : Context) (earlier : Draft) (fields : Fields) (column : List ℕ) (values : List (List ℕ × Number)) → context.section ≡ Some Columns
-    → is_marker_line fields ≡ false → first_held (judged_by field_tests (column_shape fields)) ≡ None → option_map named_values (column_shape fields) ≡ Some (column, values)
+    → is_marker_line fields ≡ false → column_clash context earlier fields ≡ false → first_held (judged_by field_tests (column_shape fields)) ≡ None
+    → option_map named_values (column_shape fields) ≡ Some (column, values)
     → item_fault context earlier (data_line fields)
     ≡ earlier_of (first_held (split_test context earlier column)) (declared_fault (with_column context earlier column) (flat_map (value_declared column) values))
-column-fault context earlier fields column values here plain held is =
+column-fault context earlier fields column values here plain apart held is =
     let tests = data_tests context earlier fields (Some Columns) in
     let ds = data_declared context earlier fields (Some Columns) in
     let front = front_declared context.in_integer_part column in
@@ -130,7 +148,7 @@ column-fault context earlier fields column values here plain held is =
     ∙ held_split context earlier (column_shape fields) column values held is)
     ∙ ap (earlier_of (first_held (split_test context earlier column)))
     (ap (declared_fault earlier) (column-declares context earlier fields column values plain is)
-    ∙ declared-after earlier front coefficients (front-none earlier context.in_integer_part column))
+    ∙ declared-after earlier front coefficients (front-none earlier context.in_integer_part column (column-apart context earlier fields column values is apart)))
 
 -- ---- the place
 
@@ -146,11 +164,11 @@ late_enough (Some kind) h = more (kind_rank kind) h
     more n k = grind (arith, nat_tests)
 
 pub place-fault : (context : Context) (earlier : Draft) (fields : Fields) (column : List ℕ) (values : List (List ℕ × Number)) (kind : FaultKind) → context.section ≡ Some Columns
-    → is_marker_line fields ≡ false → first_held (judged_by field_tests (column_shape fields)) ≡ None → option_map named_values (column_shape fields) ≡ Some (column, values)
-    → first_held (place_tests context earlier column values) ≡ Some kind
+    → is_marker_line fields ≡ false → column_clash context earlier fields ≡ false → first_held (judged_by field_tests (column_shape fields)) ≡ None
+    → option_map named_values (column_shape fields) ≡ Some (column, values) → first_held (place_tests context earlier column values) ≡ Some kind
     → item_fault context earlier (data_line fields) ≡ Some kind
-place-fault context earlier fields column values kind here plain held is placed =
-    column-fault context earlier fields column values here plain held is ∙ by (are_rows earlier values) refl (is_split context earlier column) placed
+place-fault context earlier fields column values kind here plain apart held is placed =
+    column-fault context earlier fields column values here plain apart held is ∙ by (are_rows earlier values) refl (is_split context earlier column) placed
   where
     draft : Draft
     draft = with_column context earlier column
@@ -183,12 +201,12 @@ placed context earlier column values h = by (are_rows earlier values) (is_split 
     by true false e = (refl, refl)
 
 pub placed-fault : (context : Context) (earlier : Draft) (fields : Fields) (column : List ℕ) (values : List (List ℕ × Number)) → context.section ≡ Some Columns
-    → is_marker_line fields ≡ false → first_held (judged_by field_tests (column_shape fields)) ≡ None → option_map named_values (column_shape fields) ≡ Some (column, values)
-    → first_held (place_tests context earlier column values) ≡ None
+    → is_marker_line fields ≡ false → column_clash context earlier fields ≡ false → first_held (judged_by field_tests (column_shape fields)) ≡ None
+    → option_map named_values (column_shape fields) ≡ Some (column, values) → first_held (place_tests context earlier column values) ≡ None
     → item_fault context earlier (data_line fields) ≡ declared_fault (with_column context earlier column) (flat_map (value_declared column) values)
-placed-fault context earlier fields column values here plain held is in_order =
+placed-fault context earlier fields column values here plain apart held is in_order =
     let coefficients = declared_fault (with_column context earlier column) (flat_map (value_declared column) values) in
-    column-fault context earlier fields column values here plain held is
+    column-fault context earlier fields column values here plain apart held is
     ∙ ap (λ (b : Bool). earlier_of (cond b (Some kinds.ColumnSplit) None) coefficients) (placed context earlier column values in_order).1
 
 -- ---- the column's name

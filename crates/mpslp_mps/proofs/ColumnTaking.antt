@@ -4,10 +4,10 @@ use Rattle.std.specs.Prelude.{◌||◌, ◌&&◌, not, Option, Some, None}
 use Rattle.std.specs.List.{list_all, flat_map}
 use Rattle.std.specs.Cmp.{first_so, second_so}
 use Rattle.mpslp_decimal.specs.Decimal.{Number}
-use Rattle.mpslp_model.specs.Declaration.{declare_column, declare_coefficient, Declarations, Draft, adding, adding_all, has_row, has_column, has_entry}
+use Rattle.mpslp_model.specs.Declaration.{declare_column, declare_coefficient, Declarations, Draft, adding, adding_all, has_row, has_column, has_entry, is_semi}
 use Rattle.mpslp_model.specs.Lists.{those_of}
 use Rattle.mpslp_types.specs.FaultOrder.{least_kind}
-use Rattle.mpslp_types.specs.declared.faults.BuildFault.TheVariants.{UnknownColumn}
+use Rattle.mpslp_types.specs.declared.faults.BuildFault.TheVariants.{UnknownColumn, SemiContinuous}
 use Rattle.mpslp_model.proofs.SlotLemmas.{has-put}
 use Rattle.mpslp_model.proofs.LaterDrafts.{itself_named}
 use Rattle.mpslp_types.specs.declared.faults.FaultKind.{FaultKind}
@@ -25,9 +25,11 @@ use Rattle.mpslp_reading.specs.declared.errors.LineError.{LineError}
 use Rattle.mpslp_reading.specs.declared.errors.LineError.TheVariants.{Fault, OutOfMemory}
 use Rattle.mpslp_mps.specs.declared.sections.Section.TheVariants.{Columns}
 use Rattle.mpslp_reading.proofs.LeastLemmas.{lesser, earlier_of, stays-least}
+use Rattle.mpslp_reading.proofs.ClashLemmas.{has_kind_clash, says_no_kind, no-clash}
 use Rattle.mpslp_reading.proofs.FirstFaultLemmas.{form-first}
 use Rattle.mpslp_reading.proofs.RefusedLemmas.{declared-append, declared-one}
 use Rattle.mpslp_reading.proofs.DeclaringLemmas.{declared-after, are_from, from-earlier}
+use Rattle.mpslp_mps.proofs.OrderLemmas.{each-flat}
 use Rattle.mpslp_mps.proofs.TakingLemmas.{is_early}
 
 -- ---- marker lines
@@ -53,11 +55,11 @@ pub column-there : (earlier : Draft) (column : List ℕ) → has_column (adding 
 column-there earlier column =
     has-put column column tt earlier.columns ∙ ap (λ (b : Bool). b || has_column earlier column) (itself_named column)
 
--- the column has no fault, since it may be declared again
-pub front-none : (earlier : Draft) (marked : Bool) (column : List ℕ) → declared_fault earlier (front_declared marked column) ≡ None
-front-none earlier false column = refl
-front-none earlier true column =
-    ap (λ (b : Bool). least_kind (map kind_of_refusal (those_of ((not b, UnknownColumn) ∷ []) ++ []))) (column-there earlier column)
+-- the column has no fault, since it may be declared again, unless it is marked and semi-continuous
+pub front-none : (earlier : Draft) (marked : Bool) (column : List ℕ) → (marked && is_semi earlier column) ≡ false → declared_fault earlier (front_declared marked column) ≡ None
+front-none earlier false column apart = refl
+front-none earlier true column apart = λ i.
+    least_kind (map kind_of_refusal (those_of ((not (column-there earlier column i), UnknownColumn) ∷ (apart i, SemiContinuous) ∷ []) ++ []))
 
 pub front-there : (earlier : Draft) (marked : Bool) (column : List ℕ) → has_column (adding_all earlier (front_declared marked column)) column ≡ true
 front-there earlier true column = column-there earlier column
@@ -156,8 +158,11 @@ values-unknown (value ∷ values) earlier column there rows =
     double : Bool
     double = has_entry earlier (record { row = value.0; column = column })
 
+    values_apart : (all : Draft) → has_kind_clash all more ≡ false
+    values_apart all = no-clash more all (each-flat says_no_kind (value_declared column) values (λ _. refl))
+
     by : (row b : Bool) → (row && are_rows earlier values) ≡ false → (are_rows earlier values ≡ false → later ≡ Some kinds.UnknownRow)
         → earlier_of (cond (not row) (Some kinds.UnknownRow) (cond b (Some kinds.DuplicateEntry) None)) later ≡ Some kinds.UnknownRow
-    by false b h rest = form-first ((true, kinds.UnknownRow) ∷ []) kinds.UnknownRow next more refl refl refl
+    by false b h rest = form-first ((true, kinds.UnknownRow) ∷ []) kinds.UnknownRow next more refl refl refl (values_apart next)
     by true true h rest = ap (λ (o : Option FaultKind). Some (lesser kinds.DuplicateEntry o)) (rest h)
     by true false h rest = rest h

@@ -18,6 +18,7 @@ use Rattle.mpslp_mps.specs.declared.sections.Section.{Section}
 use Rattle.mpslp_mps.specs.declared.sections.Section.TheVariants.{Name, ObjSense, ObjName, Rows, Columns, Rhs, Ranges, Bounds, EndData}
 use Rattle.mpslp_reading.proofs.LeastLemmas.{is_from}
 use Rattle.mpslp_reading.proofs.FirstFaultLemmas.{form-first, declared-first}
+use Rattle.mpslp_mps.proofs.ClashLemmas.{header-apart}
 use Rattle.mpslp_reading.proofs.HeldLemmas.{held-among}
 use Rattle.mpslp_mps.proofs.RisingTests.{header-rising}
 use Rattle.mpslp_mps.proofs.TakingLemmas.{is_early}
@@ -53,6 +54,7 @@ header-form context earlier keyword more kind held =
     let tests = header_tests context earlier keyword more (section_named keyword) in
     form-first tests kind earlier (header_declared context earlier more (section_named keyword)) (header-rising context earlier keyword more (section_named keyword)) held
     (held-among (λ other. is_from other kinds.UnknownRow) tests kind (header-early context earlier keyword more (section_named keyword)) held)
+    (header-apart context earlier more (section_named keyword))
 
 pub header-declares : (context : Context) (earlier : Draft) (keyword : List ℕ) (more : Fields) (section : Section) → section_named keyword ≡ Some section
     → first_held (header_tests context earlier keyword more (section_named keyword)) ≡ None

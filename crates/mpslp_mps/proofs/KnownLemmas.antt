@@ -55,8 +55,8 @@ no-rows-data context earlier fields (Some ObjSense) h = sense-passes (λ d. not 
 no-rows-data context earlier fields (Some ObjName) h = refl
 no-rows-data context earlier fields (Some Rows) h = cc
 no-rows-data context earlier fields (Some Columns) h = columns-line-no-rows context fields
-no-rows-data context earlier fields (Some Rhs) h = sides-passes (λ d. not (declares_row d)) passes-no_rows earlier fields
-no-rows-data context earlier fields (Some Ranges) h = ranges-passes (λ d. not (declares_row d)) passes-no_rows fields
+no-rows-data context earlier fields (Some Rhs) h = sides-passes (λ d. not (declares_row d)) (λ r v. refl) earlier fields
+no-rows-data context earlier fields (Some Ranges) h = ranges-passes (λ d. not (declares_row d)) (λ r v. refl) fields
 no-rows-data context earlier fields (Some Bounds) h = bounds-passes (λ d. not (declares_row d)) passes-no_rows fields
 no-rows-data context earlier fields (Some EndData) h = refl
 
@@ -93,8 +93,8 @@ no-columns-data context earlier fields (Some Rows) h =
     each-declared (λ d. not (declares_column d)) (row_declared context earlier) (row_shape fields)
     (λ line. each-declared (λ d. not (declares_column d)) (row_of_type context earlier line.name) (row_type line.letter) (λ type. row-no-columns context earlier line.name type))
 no-columns-data context earlier fields (Some Columns) h = cc
-no-columns-data context earlier fields (Some Rhs) h = sides-passes (λ d. not (declares_column d)) passes-no_columns earlier fields
-no-columns-data context earlier fields (Some Ranges) h = ranges-passes (λ d. not (declares_column d)) passes-no_columns fields
+no-columns-data context earlier fields (Some Rhs) h = sides-passes (λ d. not (declares_column d)) (λ r v. refl) earlier fields
+no-columns-data context earlier fields (Some Ranges) h = ranges-passes (λ d. not (declares_column d)) (λ r v. refl) fields
 no-columns-data context earlier fields (Some Bounds) h = bounds-passes (λ d. not (declares_column d)) passes-no_columns fields
 no-columns-data context earlier fields (Some EndData) h = refl
 
@@ -220,6 +220,7 @@ bound-known final before bounds.NoUpper c v columns h = let k = columns c (first
 bound-known final before bounds.Binary c v columns h = let k = columns c (first_so (has_column final c) (has_column final c && (has_column final c && true)) h) in rw k refl
 bound-known final before bounds.IntegerLower c v columns h = let k = columns c (first_so (has_column final c) (has_column final c && true) h) in rw k refl
 bound-known final before bounds.IntegerUpper c v columns h = let k = columns c (first_so (has_column final c) (has_column final c && true) h) in rw k refl
+bound-known final before bounds.SemiUpper c v columns h = let k = columns c (first_so (has_column final c) (has_column final c && true) h) in rw k refl
 
 bounds-known : (final before : Draft) (fields : Fields) → HasColumnsOf final before → AreKnown final (bound_line_declared fields) → are_known_in_turn before (bound_line_declared fields) ≡ true
 bounds-known final before [] columns h = refl

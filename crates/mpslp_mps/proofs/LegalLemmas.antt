@@ -100,6 +100,7 @@ bound-legal bounds.NoUpper c v h = refl
 bound-legal bounds.Binary c v h = refl
 bound-legal bounds.IntegerLower c v h = rw h refl
 bound-legal bounds.IntegerUpper c v h = rw h refl
+bound-legal bounds.SemiUpper c v h = rw h refl
 
 bound-value-given : (line : BoundLine) → is_given (bound_value line) ≡ true
 bound-value-given line = by line.literal

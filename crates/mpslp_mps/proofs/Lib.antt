@@ -16,6 +16,7 @@ pub mod LineLemmas
 pub mod FrontLemmas
 pub mod RisingTests
 pub mod EndLemmas
+pub mod ClashLemmas
 pub mod TakingLemmas
 pub mod RowTaking
 pub mod ColumnTaking

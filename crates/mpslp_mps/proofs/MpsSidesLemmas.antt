@@ -5,7 +5,7 @@ use Rattle.std.specs.List.{list_all, flat_map}
 use Rattle.std.specs.Option.{option_map_or}
 use Rattle.std.specs.Cmp.{first_so, second_so}
 use Rattle.mpslp_types.specs.Name.{same_bytes}
-use Rattle.mpslp_model.specs.Declaration.{RowForm, by_type, Declaration, declare_sense, declare_objective, declare_constant, declare_row, declare_rhs, declare_range, declare_column, declare_coefficient, declare_lower, declare_upper, declare_marked, declare_integer, declare_binary, Declarations, Draft, empty_draft, adding, adding_all, at_name, has_name, has_row, is_objective, is_free_form, is_free_row, rhs_declared}
+use Rattle.mpslp_model.specs.Declaration.{RowForm, by_type, Declaration, declare_sense, declare_objective, declare_constant, declare_row, declare_rhs, declare_range, declare_column, declare_coefficient, declare_lower, declare_upper, declare_marked, declare_integer, declare_binary, declare_semi, Declarations, Draft, empty_draft, adding, adding_all, at_name, has_name, has_row, is_objective, is_free_form, is_free_row, rhs_declared}
 use Rattle.mpslp_model.specs.Lists.{when}
 use Rattle.mpslp_types.specs.FaultOrder.{least_kind}
 use Rattle.mpslp_types.specs.declared.kinds.Limit.{Limit}
@@ -66,6 +66,7 @@ stays-one all (declare_upper column side) h sides = record { known = sides.known
 stays-one all (declare_marked column) h sides = record { known = sides.known; limited = sides.limited; constant = sides.constant }
 stays-one all (declare_integer column) h sides = record { known = sides.known; limited = sides.limited; constant = sides.constant }
 stays-one all (declare_binary column) h sides = record { known = sides.known; limited = sides.limited; constant = sides.constant }
+stays-one all (declare_semi column) h sides = record { known = sides.known; limited = sides.limited; constant = sides.constant }
 
 stays-kept : (ds : Declarations) (all : Draft) → list_all stays ds ≡ true → HasMpsSides all → HasMpsSides (adding_all all ds)
 stays-kept [] all h sides = sides
@@ -105,6 +106,7 @@ bound-stays bounds.NoUpper column value = refl
 bound-stays bounds.Binary column value = refl
 bound-stays bounds.IntegerLower column value = refl
 bound-stays bounds.IntegerUpper column value = refl
+bound-stays bounds.SemiUpper column value = refl
 
 bounds-stay : (fields : Fields) → list_all stays (bound_line_declared fields) ≡ true
 bounds-stay [] = refl

@@ -5,7 +5,8 @@ use Rattle.std.specs.List.{list_all, flat_map}
 use Rattle.std.specs.Option.{option_or}
 use Rattle.std.specs.Cmp.{first_so, second_so}
 use Rattle.std.proofs.lemmas.List.Folds.{list_all-append}
-use Rattle.mpslp_model.specs.Declaration.{Declaration, declare_sense, declare_objective, declare_constant, declare_row, declare_rhs, declare_range, declare_column, declare_coefficient, declare_lower, declare_upper, declare_marked, declare_integer, declare_binary, Declarations, Draft, adding, adding_all, is_free_row, has_row, has_column, rhs_declared}
+use Rattle.mpslp_decimal.specs.Decimal.{Number}
+use Rattle.mpslp_model.specs.Declaration.{Declaration, declare_sense, declare_objective, declare_constant, declare_row, declare_rhs, declare_range, declare_column, declare_coefficient, declare_lower, declare_upper, declare_marked, declare_integer, declare_binary, declare_semi, Declarations, Draft, adding, adding_all, is_free_row, has_row, has_column, rhs_declared}
 use Rattle.mpslp_model.specs.Lists.{those_of}
 use Rattle.mpslp_types.specs.declared.kinds.Sense.{Sense}
 use Rattle.mpslp_types.specs.declared.kinds.Limit.{Limit}
@@ -231,6 +232,7 @@ row-kept all (declare_upper _ _) r h = refl
 row-kept all (declare_marked _) r h = refl
 row-kept all (declare_integer _) r h = refl
 row-kept all (declare_binary _) r h = refl
+row-kept all (declare_semi _) r h = refl
 
 pub rows-kept : (ds : Declarations) (all : Draft) (r : List ℕ) → no_rows ds ≡ true → has_row (adding_all all ds) r ≡ has_row all r
 rows-kept [] all r h = refl
@@ -251,6 +253,7 @@ column-kept all (declare_upper _ _) c h = refl
 column-kept all (declare_marked _) c h = refl
 column-kept all (declare_integer _) c h = refl
 column-kept all (declare_binary _) c h = refl
+column-kept all (declare_semi _) c h = refl
 
 pub columns-kept : (ds : Declarations) (all : Draft) (c : List ℕ) → no_columns ds ≡ true → has_column (adding_all all ds) c ≡ has_column all c
 columns-kept [] all c h = refl
@@ -272,13 +275,12 @@ pub each-mapped : {X : Type 0} (p : Declaration → Bool) (f : X → Declaration
 each-mapped p f [] h = refl
 each-mapped p f (x ∷ xs) h = both_so (p (f x)) (list_all p (map f xs)) (h x) (each-mapped p f xs h)
 
--- a test that what RHS, RANGES and BOUNDS declare passes
+-- a test that what BOUNDS declares passes
 pub record Passes (p : Declaration → Bool) : Type 0 where
-  pub side : (r : List ℕ) (v : _) → p (declare_rhs r v) ≡ true
-  pub range : (r : List ℕ) (v : _) → p (declare_range r v) ≡ true
   pub lower : (c : List ℕ) (l : Limit) → p (declare_lower c l) ≡ true
   pub upper : (c : List ℕ) (l : Limit) → p (declare_upper c l) ≡ true
   pub integer : (c : List ℕ) → p (declare_integer c) ≡ true
+  pub semi : (c : List ℕ) → p (declare_semi c) ≡ true
 
 -- a sense that is declared
 pub sense-passes : (p : Declaration → Bool) → ((s : Sense) → p (declare_sense s) ≡ true) → (fields : Fields) → list_all p (declared_of sense_declared (word_shape fields)) ≡ true
@@ -286,21 +288,24 @@ sense-passes p h fields =
     each-declared p sense_declared (word_shape fields)
     (λ word. each-declared p (λ sense. declare_sense sense ∷ []) (sense_of word) (λ s. both_so (p (declare_sense s)) true (h s) refl))
 
+-- right sides and ranges that are declared
+pub sides-passes : (p : Declaration → Bool) → ((r : List ℕ) (v : Number) → p (declare_rhs r v) ≡ true) → (earlier : Draft) (fields : Fields)
+    → list_all p (declared_of (right_sides_declared earlier) (vector_shape fields)) ≡ true
+sides-passes p h earlier fields =
+    each-declared p (right_sides_declared earlier) (vector_shape fields)
+    (λ line. each-flat p (λ (pair : Pair). rhs_declared earlier pair.row (value_of pair.literal)) line.pairs (λ pair. one pair (is_free_row earlier pair.row)))
+  where
+    one : (pair : Pair) (b : Bool) → list_all p (cond b [] (declare_rhs pair.row (value_of pair.literal) ∷ [])) ≡ true
+    one pair true = refl
+    one pair false = both_so (p (declare_rhs pair.row (value_of pair.literal))) true (h pair.row (value_of pair.literal)) refl
+
+pub ranges-passes : (p : Declaration → Bool) → ((r : List ℕ) (v : Number) → p (declare_range r v) ≡ true) → (fields : Fields)
+    → list_all p (declared_of ranges_declared (vector_shape fields)) ≡ true
+ranges-passes p h fields =
+    each-declared p ranges_declared (vector_shape fields)
+    (λ line. each-mapped p (λ (pair : Pair). declare_range pair.row (value_of pair.literal)) line.pairs (λ pair. h pair.row (value_of pair.literal)))
+
 module _ (p : Declaration → Bool) (passes : Passes p) where
-  pub sides-passes : (earlier : Draft) (fields : Fields) → list_all p (declared_of (right_sides_declared earlier) (vector_shape fields)) ≡ true
-  sides-passes earlier fields =
-      each-declared p (right_sides_declared earlier) (vector_shape fields)
-      (λ line. each-flat p (λ (pair : Pair). rhs_declared earlier pair.row (value_of pair.literal)) line.pairs (λ pair. one pair (is_free_row earlier pair.row)))
-    where
-      one : (pair : Pair) (b : Bool) → list_all p (cond b [] (declare_rhs pair.row (value_of pair.literal) ∷ [])) ≡ true
-      one pair true = refl
-      one pair false = both_so (p (declare_rhs pair.row (value_of pair.literal))) true (passes.side pair.row (value_of pair.literal)) refl
-
-  pub ranges-passes : (fields : Fields) → list_all p (declared_of ranges_declared (vector_shape fields)) ≡ true
-  ranges-passes fields =
-      each-declared p ranges_declared (vector_shape fields)
-      (λ line. each-mapped p (λ (pair : Pair). declare_range pair.row (value_of pair.literal)) line.pairs (λ pair. passes.range pair.row (value_of pair.literal)))
-
   bound-passes : (type : BoundType) (c : List ℕ) (v : Limit) → list_all p (bound_declared type c v) ≡ true
   bound-passes bounds.Lower c v = rw (passes.lower c v) refl
   bound-passes bounds.Upper c v = rw (passes.upper c v) refl
@@ -311,6 +316,7 @@ module _ (p : Declaration → Bool) (passes : Passes p) where
   bound-passes bounds.Binary c v = rw (passes.integer c, passes.lower c, passes.upper c) refl
   bound-passes bounds.IntegerLower c v = rw (passes.integer c, passes.lower c v) refl
   bound-passes bounds.IntegerUpper c v = rw (passes.integer c, passes.upper c v) refl
+  bound-passes bounds.SemiUpper c v = rw (passes.semi c, passes.upper c v) refl
 
   pub bounds-passes : (fields : Fields) → list_all p (bound_line_declared fields) ≡ true
   bounds-passes [] = refl
@@ -337,7 +343,7 @@ columns-line-no-rows context fields = by (is_marker_line fields)
     by false = each-declared (λ d. not (declares_row d)) (column_declared context) (column_shape fields) line-no-rows
 
 pub passes-no_rows : Passes (λ d. not (declares_row d))
-passes-no_rows = record { side = λ _ _. refl; range = λ _ _. refl; lower = λ _ _. refl; upper = λ _ _. refl; integer = λ _. refl }
+passes-no_rows = record { lower = λ _ _. refl; upper = λ _ _. refl; integer = λ _. refl; semi = λ _. refl }
 
 pub passes-no_columns : Passes (λ d. not (declares_column d))
-passes-no_columns = record { side = λ _ _. refl; range = λ _ _. refl; lower = λ _ _. refl; upper = λ _ _. refl; integer = λ _. refl }
+passes-no_columns = record { lower = λ _ _. refl; upper = λ _ _. refl; integer = λ _. refl; semi = λ _. refl }

@@ -11,7 +11,7 @@ use Rattle.mpslp_mps.specs.Line.{Fields, Item, skipped, header, data_line}
 use Rattle.mpslp_mps.specs.Section.{section_named}
 use Rattle.mpslp_mps.specs.LineFault.{item_tests}
 use Rattle.mpslp_mps.specs.DataLine.{word_shape, row_shape, column_shape, is_marker_line, marker_shape, vector_shape}
-use Rattle.mpslp_mps.specs.BoundLine.{BoundLine, bound_type, bound_shape, is_semi_continuous_type}
+use Rattle.mpslp_mps.specs.BoundLine.{BoundLine, bound_type, bound_shape}
 use Rattle.mpslp_mps.specs.Context.{Context}
 use Rattle.mpslp_reading.specs.Tests.{Tests, judged_by}
 use Rattle.mpslp_reading.specs.Field.{number_tests}
@@ -78,7 +78,7 @@ data-behind context earlier fields (Some Columns) =
 data-behind context earlier fields (Some Rhs) = judged-rising (vector_tests context.rhs_set) (vector_shape fields) (λ _. refl)
 data-behind context earlier fields (Some Ranges) = judged-rising (vector_tests context.ranges_set) (vector_shape fields) (λ _. refl)
 data-behind context earlier [] (Some Bounds) = refl
-data-behind context earlier (letters ∷ more) (Some Bounds) = rising-if (is_semi_continuous_type letters) ((true, kinds.SemiContinuous) ∷ []) (typed_bound_tests context more (bound_type letters)) refl (typed-rising context more (bound_type letters))
+data-behind context earlier (letters ∷ more) (Some Bounds) = typed-rising context more (bound_type letters)
 data-behind context earlier fields (Some EndData) = refl
 
 -- all kinds of sections that are not known

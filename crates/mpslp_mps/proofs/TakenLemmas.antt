@@ -5,6 +5,8 @@ use Rattle.std.specs.List.{list_all, flat_map}
 use Rattle.std.specs.Option.{option_map, option_map_or}
 use Rattle.mpslp_decimal.specs.Decimal.{Number}
 use Rattle.mpslp_model.specs.Declaration.{Declarations, Draft, declare_range, rhs_declared}
+use Rattle.mpslp_model.specs.Lists.{those_of}
+use Rattle.mpslp_types.specs.FaultOrder.{least_kind}
 use Rattle.mpslp_types.specs.declared.faults.FaultKind.{FaultKind}
 use Rattle.mpslp_types.specs.declared.faults.FaultKind.TheVariants as kinds
 use Rattle.mpslp_mps.specs.Line.{Fields, data_line}
@@ -12,18 +14,19 @@ use Rattle.mpslp_mps.specs.DataLine.{Pair, ValuesLine}
 use Rattle.mpslp_mps.specs.Context.{Context}
 use Rattle.mpslp_mps.specs.LineMeaning.{declared_of, right_sides_declared, ranges_declared, data_declared}
 use Rattle.mpslp_reading.specs.Field.{value_of, number_tests}
-use Rattle.mpslp_mps.specs.BoundLine.{BoundLine, bound_type, bound_shape, is_semi_continuous_type}
+use Rattle.mpslp_mps.specs.BoundLine.{BoundLine, bound_type, bound_shape}
 use Rattle.mpslp_reading.specs.Tests.{Tests, judged_by, first_held}
 use Rattle.mpslp_mps.specs.FieldFault.{set_tests}
 use Rattle.mpslp_mps.specs.DataFault.{vector_tests, bound_tests, typed_bound_tests, bound_line_tests, data_tests}
 use Rattle.mpslp_mps.specs.LineAnswer.{item_fault}
 use Rattle.mpslp_mps.specs.LineValues.{row_value, named_values}
-use Rattle.mpslp_reading.specs.Declaring.{declared_fault}
+use Rattle.mpslp_reading.specs.Declaring.{declaring_faults, declared_fault}
 use Rattle.mpslp_mps.specs.VectorDeclared.{right_sides_of, ranges_of}
 use Rattle.mpslp_mps.specs.declared.bound_types.BoundType.{BoundType}
 use Rattle.mpslp_mps.specs.declared.sections.Section.{Section}
 use Rattle.mpslp_reading.proofs.LeastLemmas.{is_from}
-use Rattle.mpslp_reading.proofs.FirstFaultLemmas.{form-first, declared-first}
+use Rattle.mpslp_reading.proofs.ClashLemmas.{has_kind_clash}
+use Rattle.mpslp_reading.proofs.FirstFaultLemmas.{form-first, is_behind_clash, clash-first, declared-first}
 use Rattle.mpslp_reading.proofs.HeldLemmas.{held-among}
 use Rattle.mpslp_mps.proofs.RisingTests.{data-rising}
 
@@ -34,13 +37,23 @@ are_early tests = list_all (λ test. is_from test.1 kinds.UnknownRow) tests ≡ 
 abbrev pub data_fault : Context → Draft → Fields → Option FaultKind
 data_fault context earlier fields = item_fault context earlier (data_line fields)
 
--- a fault of the line's form, in a section whose lines have no late one
+-- a fault of the line's form, in a section whose lines have no late one, where no kinds of a column clash
 pub data_fault-form : (context : Context) (earlier : Draft) (fields : Fields) (section : Option Section) (kind : FaultKind) → context.section ≡ section
-    → are_early (data_tests context earlier fields section) → first_held (data_tests context earlier fields section) ≡ Some kind → data_fault context earlier fields ≡ Some kind
-data_fault-form context earlier fields section kind h early held =
+    → are_early (data_tests context earlier fields section) → has_kind_clash earlier (data_declared context earlier fields section) ≡ false
+    → first_held (data_tests context earlier fields section) ≡ Some kind → data_fault context earlier fields ≡ Some kind
+data_fault-form context earlier fields section kind h early apart held =
     form-first (data_tests context earlier fields context.section) kind earlier (data_declared context earlier fields context.section) (data-rising context earlier fields context.section)
     (ap (λ (s : Option Section). first_held (data_tests context earlier fields s)) h ∙ held)
     (held-among (λ k. is_from k kinds.UnknownRow) (data_tests context earlier fields section) kind early held)
+    (ap (λ (s : Option Section). has_kind_clash earlier (data_declared context earlier fields s)) h ∙ apart)
+
+-- kinds of a column that clash are told before all that is asked of the line's form behind that
+pub clash-told : (context : Context) (earlier : Draft) (fields : Fields) (section : Option Section) → context.section ≡ section
+    → list_all (λ test. is_behind_clash test.1) (data_tests context earlier fields section) ≡ true → has_kind_clash earlier (data_declared context earlier fields section) ≡ true
+    → data_fault context earlier fields ≡ Some kinds.SemiContinuous
+clash-told context earlier fields section h behind clash =
+    ap (λ (s : Option Section). least_kind (those_of (data_tests context earlier fields s) ++ declaring_faults earlier (data_declared context earlier fields s))) h
+    ∙ clash-first (data_tests context earlier fields section) earlier (data_declared context earlier fields section) (data-rising context earlier fields section) behind clash
 
 -- no fault of the line's form
 pub data_fault-declared : (context : Context) (earlier : Draft) (fields : Fields) (section : Option Section) (declarations : Declarations) → context.section ≡ section
@@ -92,18 +105,30 @@ bound-early context line = of line.literal
     of None = refl
     of (Some literal) = refl
 
-early-if : (b : Bool) (x y : Tests) → are_early x → are_early y → are_early (cond b x y)
-early-if true x y h k = h
-early-if false x y h k = k
-
 pub bounds-early : (context : Context) (letters : List ℕ) (more : Fields) → are_early (bound_line_tests context (letters ∷ more))
-bounds-early context letters more =
-    early-if (is_semi_continuous_type letters) ((true, kinds.SemiContinuous) ∷ []) (typed_bound_tests context more (bound_type letters)) refl (typed (bound_type letters))
+bounds-early context letters more = typed (bound_type letters)
   where
     lined : (o : Option BoundLine) → are_early (judged_by (bound_tests context) o)
     lined None = refl
     lined (Some line) = bound-early context line
 
     typed : (o : Option BoundType) → are_early (typed_bound_tests context more o)
+    typed None = refl
+    typed (Some type) = lined (bound_shape type more)
+
+-- all that is asked of a line of BOUNDS stands behind a clash of kinds
+pub bounds-behind : (context : Context) (letters : List ℕ) (more : Fields) → list_all (λ test. is_behind_clash test.1) (bound_line_tests context (letters ∷ more)) ≡ true
+bounds-behind context letters more = typed (bound_type letters)
+  where
+    parted : (line : BoundLine) (o : Option (List ℕ))
+        → list_all (λ test. is_behind_clash test.1) (option_map_or (λ literal. number_tests (literal ∷ [])) o [] ++ set_tests context.bounds_set line.set) ≡ true
+    parted line None = refl
+    parted line (Some literal) = refl
+
+    lined : (o : Option BoundLine) → list_all (λ test. is_behind_clash test.1) (judged_by (bound_tests context) o) ≡ true
+    lined None = refl
+    lined (Some line) = parted line line.literal
+
+    typed : (o : Option BoundType) → list_all (λ test. is_behind_clash test.1) (typed_bound_tests context more o) ≡ true
     typed None = refl
     typed (Some type) = lined (bound_shape type more)

@@ -1,5 +1,5 @@
 -- Data lines that are taken, and those that are not.
-use Rattle.std.proofs.Common.{◌≡◌, sym, ap, ◌∙◌, Bool, true}
+use Rattle.std.proofs.Common.{◌≡◌, sym, ap, ◌∙◌, Bool, true, false}
 use Rattle.std.specs.Prelude.{Some, None, Ok}
 use Rattle.std.specs.List.{list_all}
 use Rattle.mpslp_model.specs.Declaration.{Declarations, Draft, adding_all}
@@ -18,6 +18,7 @@ use Rattle.mpslp_reading.specs.declared.errors.LineError.{LineError}
 use Rattle.mpslp_reading.specs.declared.errors.LineError.TheVariants.{Fault, OutOfMemory}
 use Rattle.mpslp_mps.specs.declared.sections.Section.{Section}
 use Rattle.mpslp_reading.proofs.LeastLemmas.{is_from}
+use Rattle.mpslp_reading.proofs.ClashLemmas.{has_kind_clash}
 use Rattle.mpslp_mps.proofs.TakenLemmas.{data_fault, data_fault-form, data_fault-declared, declared-is}
 
 -- a kind before all of what is declared
@@ -26,10 +27,10 @@ is_early test = is_from test.1 kinds.UnknownRow
 
 -- where the form is judged, a fault of it is the line's first fault
 pub data-judged : (context : Context) (earlier : Draft) (fields : Fields) (section : Section) (error : LineError) → context.section ≡ Some section
-    → list_all is_early (data_tests context earlier fields (Some section)) ≡ true → IsErrorOf (first_held (data_tests context earlier fields (Some section))) error
+    → list_all is_early (data_tests context earlier fields (Some section)) ≡ true → has_kind_clash earlier (data_declared context earlier fields (Some section)) ≡ false → IsErrorOf (first_held (data_tests context earlier fields (Some section))) error
     → IsErrorOf (data_fault context earlier fields) error
-data-judged context earlier fields section (Fault kind) here early held = data_fault-form context earlier fields (Some section) kind here early held
-data-judged context earlier fields section OutOfMemory here early held = tt
+data-judged context earlier fields section (Fault kind) here early apart held = data_fault-form context earlier fields (Some section) kind here early apart held
+data-judged context earlier fields section OutOfMemory here early apart held = tt
 
 -- a data line that is taken
 pub data-taken : (context : Context) (earlier : Draft) (fields : Fields) (section : Section) (ds : Declarations) (next : Context) (later : Draft)

@@ -6,7 +6,7 @@ use Rattle.mpslp_decimal.specs.Decimal.{trailing_zeros}
 use Rattle.mpslp_model.specs.Meaning.{whole_fault}
 use Rattle.mpslp_types.specs.declared.faults.Fault.{Fault}
 use Rattle.mpslp_types.specs.declared.faults.FaultKind.{FaultKind}
-use Rattle.mpslp_types.specs.declared.faults.FaultKind.TheVariants.{BadMarker, BadNumber, BadType, BoundsCrossed, ColumnSplit, DuplicateBound, DuplicateEntry, DuplicateRhs, DuplicateRow, FieldCount, Indicator, InfiniteLimit, InfiniteValue, LimitTooLarge, MissingEnd, NegativeUpper, NoColumns, Quadratic, RangeOnFree, SecondSet, SectionOrder, SectionRepeated, SemiContinuous, Sos, UnknownColumn, UnknownRow, UnknownSection}
+use Rattle.mpslp_types.specs.declared.faults.FaultKind.TheVariants.{BadMarker, BadNumber, BadType, BoundsCrossed, ColumnSplit, DuplicateBound, DuplicateEntry, DuplicateRhs, DuplicateRow, FieldCount, Indicator, InfiniteLimit, InfiniteValue, LimitTooLarge, MissingEnd, NegativeUpper, NoColumns, Quadratic, RangeOnFree, SecondSet, SectionOrder, SectionRepeated, SemiBounds, SemiContinuous, Sos, UnknownColumn, UnknownRow, UnknownSection}
 use Rattle.mpslp_reading.specs.LineAnswer.{fault_on_line}
 use Rattle.mpslp_mps.specs.FirstFault.{first_mps_fault}
 
@@ -105,9 +105,34 @@ pub right_side_again : first_mps_fault (with_line_after 10 (codes "    A  R  1")
 unfolding trailing_zeros
 right_side_again = refl
 
-pub semi_continuous_bound : first_mps_fault (with_line 12 (codes " SC  B  X  4")) ≡ on_line 12 SemiContinuous
+pub semi_continuous_bound : first_mps_fault (with_line 12 (codes " SC  B  X  4")) ≡ None
 unfolding trailing_zeros
 semi_continuous_bound = refl
+
+pub semi_continuous_without_value : first_mps_fault (with_line 12 (codes " SC  B")) ≡ on_line 12 FieldCount
+unfolding trailing_zeros
+semi_continuous_without_value = refl
+
+pub semi_continuous_without_number : first_mps_fault (with_line 12 (codes " SC  B  X  4x")) ≡ on_line 12 BadNumber
+unfolding trailing_zeros
+semi_continuous_without_number = refl
+
+pub semi_continuous_again : first_mps_fault (with_line_after 12 (codes " SC  B  X  4")) ≡ on_line 13 DuplicateBound
+unfolding trailing_zeros
+semi_continuous_again = refl
+
+pub semi_continuous_then_binary : first_mps_fault (text (take 11 base ++ codes " SC  B  X  4" ∷ codes " BV  B  X" ∷ codes "ENDATA" ∷ [])) ≡ on_line 13 SemiContinuous
+unfolding trailing_zeros
+semi_continuous_then_binary = refl
+
+-- a clash of kinds is told before what is wrong with the line's number
+pub integer_then_semi_continuous : first_mps_fault (text (take 11 base ++ codes " LI  B  X  1" ∷ codes " SC  B  X  4x" ∷ codes "ENDATA" ∷ [])) ≡ on_line 13 SemiContinuous
+unfolding trailing_zeros
+integer_then_semi_continuous = refl
+
+pub marked_then_semi_continuous : first_mps_fault (text (take 7 base ++ codes " M  'MARKER'  'INTORG'" ∷ codes " Y  C  1" ∷ codes "BOUNDS" ∷ codes " SC  B  Y  4" ∷ codes "ENDATA" ∷ [])) ≡ on_line 11 SemiContinuous
+unfolding trailing_zeros
+marked_then_semi_continuous = refl
 
 pub bound_of_unknown_column : first_mps_fault (with_line 12 (codes " UP  B  Z  4")) ≡ on_line 12 UnknownColumn
 unfolding trailing_zeros
@@ -161,6 +186,36 @@ infinite_fixed_value = refl
 pub negative_upper_bound_without_lower : first_mps_fault (with_bounds (codes " UP B X -1" ∷ codes " MI B X" ∷ [])) ≡ None
 unfolding trailing_zeros
 negative_upper_bound_without_lower = refl
+
+-- ---- semi-continuous columns
+
+pub semi_continuous_to_zero : first_mps_fault (with_bounds (codes " SC B X 0" ∷ [])) ≡ of_name SemiBounds (codes "X")
+unfolding trailing_zeros
+semi_continuous_to_zero = refl
+
+pub semi_continuous_to_infinity : first_mps_fault (with_bounds (codes " SC B X 1e20" ∷ [])) ≡ of_name SemiBounds (codes "X")
+unfolding trailing_zeros
+semi_continuous_to_infinity = refl
+
+pub semi_continuous_below_zero : first_mps_fault (with_bounds (codes " SC B X -1" ∷ [])) ≡ of_name NegativeUpper (codes "X")
+unfolding trailing_zeros
+semi_continuous_below_zero = refl
+
+pub semi_continuous_from_below_zero : first_mps_fault (with_bounds (codes " SC B X 4" ∷ codes " LO B X -1" ∷ [])) ≡ of_name SemiBounds (codes "X")
+unfolding trailing_zeros
+semi_continuous_from_below_zero = refl
+
+pub semi_continuous_without_lower : first_mps_fault (with_bounds (codes " SC B X 4" ∷ codes " MI B X" ∷ [])) ≡ of_name SemiBounds (codes "X")
+unfolding trailing_zeros
+semi_continuous_without_lower = refl
+
+pub semi_continuous_crossed : first_mps_fault (with_bounds (codes " SC B X 4" ∷ codes " LO B X 5" ∷ [])) ≡ of_name BoundsCrossed (codes "X")
+unfolding trailing_zeros
+semi_continuous_crossed = refl
+
+pub semi_continuous_with_upper : first_mps_fault (with_bounds (codes " SC B X 4" ∷ codes " UP B X 4" ∷ [])) ≡ on_line 7 DuplicateBound
+unfolding trailing_zeros
+semi_continuous_with_upper = refl
 
 -- ---- infinite right sides and large ranges
 

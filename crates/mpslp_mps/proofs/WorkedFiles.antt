@@ -202,6 +202,21 @@ pub integer_bounds_passes : Passes integer_bounds
 unfolding trailing_zeros
 integer_bounds_passes = record { is_text = refl; objective = refl; legal = refl; unrefused = refl; no_fault = refl }
 
+-- ---- semi-continuous columns, of which one has a lower bound
+
+abbrev pub semi_columns_lines : List (List ℕ)
+semi_columns_lines =
+    codes "NAME" ∷ codes "ROWS" ∷ codes " N  obj" ∷ codes " L  r" ∷ codes "COLUMNS" ∷ codes "    x  obj  1" ∷ codes "    x  r  1"
+    ∷ codes "    y  obj  2" ∷ codes "RHS" ∷ codes "    RHS  r  3" ∷ codes "BOUNDS" ∷ codes " SC  BND  x  4" ∷ codes " LO  BND  y  2"
+    ∷ codes " SC  BND  y  2.5" ∷ codes "ENDATA" ∷ []
+
+abbrev pub semi_columns : List ℕ
+semi_columns = text semi_columns_lines
+
+pub semi_columns_passes : Passes semi_columns
+unfolding trailing_zeros
+semi_columns_passes = record { is_text = refl; objective = refl; legal = refl; unrefused = refl; no_fault = refl }
+
 -- ---- a maximized model with all sections but RANGES
 
 abbrev pub maximized_lines : List (List ℕ)

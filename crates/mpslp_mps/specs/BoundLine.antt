@@ -4,7 +4,7 @@ use Rattle.std.specs.List.{find}
 use Rattle.mpslp_types.specs.Name.{same_bytes}
 use Rattle.mpslp_mps.specs.Line.{Fields}
 use Rattle.mpslp_mps.specs.declared.bound_types.BoundType.{BoundType}
-use Rattle.mpslp_mps.specs.declared.bound_types.BoundType.TheVariants.{Lower, Upper, Fixed, Free, NoLower, NoUpper, Binary, IntegerLower, IntegerUpper}
+use Rattle.mpslp_mps.specs.declared.bound_types.BoundType.TheVariants.{Lower, Upper, Fixed, Free, NoLower, NoUpper, Binary, IntegerLower, IntegerUpper, SemiUpper}
 
 abbrev pub letters_of : BoundType → List ℕ
 letters_of Lower = codes "LO"
@@ -16,16 +16,13 @@ letters_of NoUpper = codes "PL"
 letters_of Binary = codes "BV"
 letters_of IntegerLower = codes "LI"
 letters_of IntegerUpper = codes "UI"
+letters_of SemiUpper = codes "SC"
 
 abbrev pub bound_types : List BoundType
-bound_types = Lower ∷ Upper ∷ Fixed ∷ Free ∷ NoLower ∷ NoUpper ∷ Binary ∷ IntegerLower ∷ IntegerUpper ∷ []
+bound_types = Lower ∷ Upper ∷ Fixed ∷ Free ∷ NoLower ∷ NoUpper ∷ Binary ∷ IntegerLower ∷ IntegerUpper ∷ SemiUpper ∷ []
 
 abbrev pub bound_type : List ℕ → Option BoundType
 bound_type letters = find (λ type. same_bytes letters (letters_of type)) bound_types
-
--- the type of semi-continuous columns, which are refused
-abbrev pub is_semi_continuous_type : List ℕ → Bool
-is_semi_continuous_type letters = same_bytes letters (codes "SC")
 
 abbrev pub takes_value : BoundType → Bool
 takes_value Lower = true
@@ -37,6 +34,7 @@ takes_value NoUpper = false
 takes_value Binary = false
 takes_value IntegerLower = true
 takes_value IntegerUpper = true
+takes_value SemiUpper = true
 
 -- an absent set name counts as the empty name; where the type takes no value there is no literal
 pub record BoundLine : Type 0 where

@@ -6,7 +6,7 @@ use Rattle.mpslp_model.specs.Declaration.{Draft, has_column}
 use Rattle.mpslp_types.specs.declared.faults.FaultKind.TheVariants as kinds
 use Rattle.mpslp_mps.specs.Line.{Fields}
 use Rattle.mpslp_mps.specs.DataLine.{RowLine, ValuesLine, word_shape, row_shape, row_type, column_shape, is_marker_line, third_field, marker_shape, opening_word, closing_word, vector_shape}
-use Rattle.mpslp_mps.specs.BoundLine.{BoundLine, bound_type, is_semi_continuous_type, bound_shape}
+use Rattle.mpslp_mps.specs.BoundLine.{BoundLine, bound_type, bound_shape}
 use Rattle.mpslp_mps.specs.Context.{Context}
 use Rattle.mpslp_reading.specs.Tests.{Tests, judged_by}
 use Rattle.mpslp_reading.specs.Field.{name_tests, number_tests}
@@ -55,8 +55,7 @@ typed_bound_tests context more (Some type) = judged_by (bound_tests context) (bo
 
 abbrev pub bound_line_tests : Context → Fields → Tests
 bound_line_tests context [] = []
-bound_line_tests context (letters ∷ more) =
-    if is_semi_continuous_type letters then (true, kinds.SemiContinuous) ∷ [] else typed_bound_tests context more (bound_type letters)
+bound_line_tests context (letters ∷ more) = typed_bound_tests context more (bound_type letters)
 
 -- a data line under NAME, before any header, or under an OBJSENSE or OBJNAME that has its word. The word of OBJNAME is not
 -- judged

@@ -18,4 +18,5 @@ pub mod Laws
 pub mod LineAnswer
 pub mod VectorDeclared
 pub mod ColumnDeclared
+pub mod KindClash
 pub mod ReadingAnswer

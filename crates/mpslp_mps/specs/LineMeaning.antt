@@ -4,7 +4,7 @@ use Rattle.std.specs.List.{flat_map}
 use Rattle.std.specs.Option.{option_map_or}
 use Rattle.mpslp_types.specs.Name.{same_bytes}
 use Rattle.mpslp_types.specs.Sides.{limit_of}
-use Rattle.mpslp_model.specs.Declaration.{by_type, declare_sense, declare_objective, declare_row, declare_range, declare_column, declare_coefficient, declare_marked, declare_integer, Declarations, Draft, rhs_declared, bounds_declared}
+use Rattle.mpslp_model.specs.Declaration.{by_type, declare_sense, declare_objective, declare_row, declare_range, declare_column, declare_coefficient, declare_marked, declare_integer, declare_semi, Declarations, Draft, rhs_declared, bounds_declared}
 use Rattle.mpslp_model.specs.Lists.{when}
 use Rattle.mpslp_model.specs.Bounds.{zero_limit, one_limit}
 use Rattle.mpslp_types.specs.declared.kinds.RowType.{RowType}
@@ -86,6 +86,7 @@ lower_given bounds.NoUpper value = None
 lower_given bounds.Binary value = Some zero_limit
 lower_given bounds.IntegerLower value = Some value
 lower_given bounds.IntegerUpper value = None
+lower_given bounds.SemiUpper value = None
 
 abbrev pub upper_given : BoundType → Limit → Option Limit
 upper_given bounds.Lower value = None
@@ -97,17 +98,25 @@ upper_given bounds.NoUpper value = Some PlusInf
 upper_given bounds.Binary value = Some one_limit
 upper_given bounds.IntegerLower value = None
 upper_given bounds.IntegerUpper value = Some value
+upper_given bounds.SemiUpper value = Some value
 
--- and whether its column is integer
+-- and whether its column is integer, or semi-continuous
 abbrev pub is_integer_type : BoundType → Bool
 is_integer_type bounds.Binary = true
 is_integer_type bounds.IntegerLower = true
 is_integer_type bounds.IntegerUpper = true
 is_integer_type _ = false
 
--- what a bound of this type declares of a column: that it is integer, then its sides
+abbrev pub is_semi_type : BoundType → Bool
+is_semi_type bounds.SemiUpper = true
+is_semi_type _ = false
+
+abbrev pub kind_declared : BoundType → List ℕ → Declarations
+kind_declared type column = when (is_integer_type type) (declare_integer column) ++ when (is_semi_type type) (declare_semi column)
+
+-- what a bound of this type declares of a column: that it is integer or semi-continuous, then its sides
 abbrev pub bound_declared : BoundType → List ℕ → Limit → Declarations
-bound_declared type column value = when (is_integer_type type) (declare_integer column) ++ bounds_declared column (lower_given type value) (upper_given type value)
+bound_declared type column value = kind_declared type column ++ bounds_declared column (lower_given type value) (upper_given type value)
 
 -- a value of size 10^20 or more is infinite
 abbrev pub bound_value : BoundLine → Limit

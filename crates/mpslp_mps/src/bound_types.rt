@@ -21,4 +21,6 @@ pub enum BoundType {
     IntegerLower,
     /// `UI`: an integer column, and its upper bound.
     IntegerUpper,
+    /// `SC`: a semi-continuous column, which is 0 or lies within its bounds, and its upper bound.
+    SemiUpper,
 }

@@ -1,21 +1,23 @@
 //! Lines of BOUNDS.
 
-ghost use Rattle.std.specs.Prelude.{◌≡◌, ◌∷◌, ◌||◌, true, map, IsTrue, Some, is_some};
+ghost use Rattle.std.specs.Prelude.{◌≡◌, [], ◌∷◌, ◌||◌, true, false, map, IsTrue, Some, is_some};
 ghost use Rattle.std.specs.Option.{ForSome, option_map_or};
 ghost use Rattle.mpslp_types.specs.Sides.{limit_of, is_given};
 ghost use Rattle.mpslp_model.specs.Bounds.{zero_limit, one_limit};
-ghost use Rattle.mpslp_model.specs.Declaration.{declare_integer, bounds_declared};
+ghost use Rattle.mpslp_model.specs.Declaration.{declare_integer, declare_semi, is_integer, is_semi, bounds_declared};
 ghost use Rattle.mpslp_mps.specs.Line.{data_line};
-ghost use Rattle.mpslp_mps.specs.LineMeaning.{lower_given, upper_given, is_integer_type, bound_declared};
+ghost use Rattle.mpslp_mps.specs.LineMeaning.{lower_given, upper_given, is_integer_type, is_semi_type, kind_declared, bound_declared};
+ghost use Rattle.mpslp_mps.specs.KindClash.{type_clash};
 ghost use Rattle.mpslp_mps.specs.LineAnswer.{ReadsItem};
 ghost use Rattle.mpslp_reading.specs.LineAnswer.{AreDeclared};
 ghost use Rattle.mpslp_mps.specs.declared.sections.Section.{Section};
 
 use crate::bound_types::BoundType;
+use crate::clashes::has_bound_clash;
 use crate::context::LineContext;
 use crate::data_lines::check_bound;
 use mpslp_decimal::Decimal;
-use mpslp_model::{Builder, Limit};
+use mpslp_model::{Builder, FaultKind, Limit};
 use mpslp_reading::LineError;
 
 /// The side of 0.
@@ -56,22 +58,12 @@ fn sides_of(bound_type: BoundType, value: &Limit) -> (Option<Limit>, Option<Limi
 {
     match bound_type {
         BoundType::Lower | BoundType::IntegerLower => (Some(*value), None),
-        BoundType::Upper | BoundType::IntegerUpper => (None, Some(*value)),
+        BoundType::Upper | BoundType::IntegerUpper | BoundType::SemiUpper => (None, Some(*value)),
         BoundType::Fixed => (Some(*value), Some(*value)),
         BoundType::Free => (Some(Limit::MinusInf), Some(Limit::PlusInf)),
         BoundType::NoLower => (Some(Limit::MinusInf), None),
         BoundType::NoUpper => (None, Some(Limit::PlusInf)),
         BoundType::Binary => (Some(zero_limit()), Some(one_limit())),
-    }
-}
-
-/// Whether a bound of this type declares that its column is integer.
-fn is_integer_type(bound_type: BoundType) -> bool
-    ensures { result ≡ is_integer_type bound_type }
-{
-    match bound_type {
-        BoundType::Binary | BoundType::IntegerLower | BoundType::IntegerUpper => true,
-        _ => false,
     }
 }
 
@@ -91,20 +83,60 @@ fn declare_sides(
     Ok(())
 }
 
-/// Declares that a column is integer, and the sides of it that are given, of which there is one at least.
-fn declare_integer_sides(
-    builder: &mut Builder,
-    column: &[u8],
-    lower: Option<Limit>,
-    upper: Option<Limit>,
-) -> Result<(), LineError>
-    requires some { (is_some lower || is_some upper) ≡ true }
-    requires lower { ForSome lower (λ side. IsTrue (is_given side)) }
-    requires upper { ForSome upper (λ side. IsTrue (is_given side)) }
-    ensures { AreDeclared builder.old (declare_integer column.now ∷ bounds_declared column.now lower upper) result builder.new }
+/// Whether a bound of this type declares that its column is integer.
+fn is_integer_type(bound_type: BoundType) -> bool
+    ensures { result ≡ is_integer_type bound_type }
+{
+    match bound_type {
+        BoundType::Binary | BoundType::IntegerLower | BoundType::IntegerUpper => true,
+        _ => false,
+    }
+}
+
+/// Whether a bound of this type declares that its column is semi-continuous.
+fn is_semi_type(bound_type: BoundType) -> bool
+    ensures { result ≡ is_semi_type bound_type }
+{
+    match bound_type {
+        BoundType::SemiUpper => true,
+        _ => false,
+    }
+}
+
+/// Declares that a column is integer, which is not semi-continuous.
+fn declare_integer(builder: &mut Builder, column: &[u8]) -> Result<(), LineError>
+    requires apart { is_semi builder.old column.now ≡ false }
+    ensures { AreDeclared builder.old (declare_integer column.now ∷ []) result builder.new }
 {
     builder.integer(column)?;
-    declare_sides(builder, column, lower, upper)
+    Ok(())
+}
+
+/// Declares that a column is semi-continuous, which is not integer.
+fn declare_semi(builder: &mut Builder, column: &[u8]) -> Result<(), LineError>
+    requires apart { is_integer builder.old column.now ≡ false }
+    ensures { AreDeclared builder.old (declare_semi column.now ∷ []) result builder.new }
+{
+    builder.semi(column)?;
+    Ok(())
+}
+
+/// Declares that a column is integer or semi-continuous, if a bound of this type says so.
+fn declare_kind(
+    builder: &mut Builder,
+    bound_type: BoundType,
+    column: &[u8],
+) -> Result<(), LineError>
+    requires { type_clash builder.old bound_type column.now ≡ false }
+    ensures { AreDeclared builder.old (kind_declared bound_type column.now) result builder.new }
+{
+    if is_integer_type(bound_type) {
+        return declare_integer(builder, column);
+    }
+    if is_semi_type(bound_type) {
+        return declare_semi(builder, column);
+    }
+    Ok(())
 }
 
 /// Declares what a bound says of its column.
@@ -114,13 +146,12 @@ fn declare_bound(
     column: &[u8],
     value: Limit,
 ) -> Result<(), LineError>
-    requires { IsTrue (is_given value) }
+    requires given { IsTrue (is_given value) }
+    requires apart { type_clash builder.old bound_type column.now ≡ false }
     ensures { AreDeclared builder.old (bound_declared bound_type column.now value) result builder.new }
 {
     let (lower, upper) = sides_of(bound_type, &value);
-    if is_integer_type(bound_type) {
-        return declare_integer_sides(builder, column, lower, upper);
-    }
+    declare_kind(builder, bound_type, column)?;
     declare_sides(builder, column, lower, upper)
 }
 
@@ -134,6 +165,9 @@ fn read_typed_bound(
     requires { context.old.section ≡ Some Section.Bounds }
     ensures { ReadsItem context.old builder.old (data_line (letters.now ∷ map (λ field. field.now) more.now)) result context.new builder.new }
 {
+    if has_bound_clash(builder, letters, more) {
+        return Err(LineError::Fault(FaultKind::SemiContinuous));
+    }
     let (bound_type, line, value) = check_bound(context, letters, more)?;
     declare_bound(builder, bound_type, line.column, side_of(value))?;
     context.pass_bound(line.set)?;

@@ -1,9 +1,9 @@
 //! Lines of COLUMNS.
 
-ghost use Rattle.std.specs.Prelude.{◌≡◌, [], ◌∷◌, map, not, true, false, Some, None, MatchResult};
+ghost use Rattle.std.specs.Prelude.{◌≡◌, ◌&&◌, [], ◌∷◌, map, not, true, false, Some, None, MatchResult};
 ghost use Rattle.std.specs.List.{list_all, flat_map};
 ghost use Rattle.mpslp_types.specs.Name.{IsMpsName};
-ghost use Rattle.mpslp_model.specs.Declaration.{Draft, adding, adding_all, declare_column, declare_marked, has_row, has_column};
+ghost use Rattle.mpslp_model.specs.Declaration.{Draft, adding, adding_all, declare_column, declare_marked, has_row, has_column, is_semi};
 ghost use Rattle.mpslp_model.specs.Lists.{when};
 ghost use Rattle.mpslp_types.specs.declared.faults.FaultKind.{FaultKind};
 ghost use Rattle.mpslp_reading.specs.declared.errors.LineError.{LineError};
@@ -16,6 +16,7 @@ ghost use Rattle.mpslp_reading.specs.LineAnswer.{AreDeclared};
 ghost use Rattle.mpslp_mps.specs.ColumnDeclared.{front_declared, value_declared};
 ghost use Rattle.mpslp_mps.specs.LineAnswer.{ReadsItem};
 
+use crate::clashes::has_column_clash;
 use crate::context::LineContext;
 use crate::data_lines::{check_column, check_marker};
 use crate::shapes::is_marker_line;
@@ -90,6 +91,7 @@ fn declare_name(builder: &mut Builder, alloc: Global, column: &[u8]) -> Result<(
 /// Declares that the column stands in an integer part, if it does.
 fn declare_mark(builder: &mut Builder, column: &[u8], is_marked: bool) -> Result<(), LineError>
     requires column { has_column builder.old column.now ≡ true }
+    requires apart { (is_marked && is_semi builder.old column.now) ≡ false }
     ensures { MatchResult result (λ _. builder.new ≡ adding_all builder.old (when is_marked (declare_marked column.now))) (λ error. error ≡ LineError.OutOfMemory) }
 {
     if is_marked {
@@ -106,6 +108,7 @@ fn declare_column(
     is_marked: bool,
 ) -> Result<(), LineError>
     requires name { IsMpsName column.now }
+    requires apart { (is_marked && is_semi builder.old column.now) ≡ false }
     ensures { MatchResult result (λ _. builder.new ≡ adding_all builder.old (front_declared is_marked column.now)) (λ error. error ≡ LineError.OutOfMemory) }
 {
     declare_name(builder, alloc, column)?;
@@ -152,6 +155,9 @@ fn read_values(
     requires plain { is_marker_line (map (λ field. field.now) fields.now) ≡ false }
     ensures { ReadsItem context.old builder.old (data_line (map (λ field. field.now) fields.now)) result context.new builder.new }
 {
+    if has_column_clash(context, builder, fields) {
+        return Err(LineError::Fault(FaultKind::SemiContinuous));
+    }
     let (column, values) = check_column(fields)?;
     check_place(context, builder, column, &values)?;
     declare_column(builder, alloc, column, context.in_integer_part())?;

@@ -24,10 +24,7 @@ use crate::shapes::{
     vector_shape, word_shape,
 };
 use crate::values::{RowValues, is_second_set, values_of};
-use crate::words::{
-    bound_type, is_due_word, is_opening_word, is_semi_continuous_type, is_sos_word, row_type,
-    sense_of,
-};
+use crate::words::{bound_type, is_due_word, is_opening_word, is_sos_word, row_type, sense_of};
 use mpslp_decimal::Decimal;
 use mpslp_model::{FaultKind, Name, RowType, Sense};
 use mpslp_reading::{LineError, value_of};
@@ -207,9 +204,6 @@ pub(crate) fn check_bound<'a>(
         let first_fault = first_held (bound_line_tests context.now (letters.now ∷ rest)) in
         MatchResult result (λ bound. (first_fault ≡ None) × (bound_type letters.now ≡ Some bound.0) × (bound_shape bound.0 rest ≡ Some bound.1) × (bound.2 ≡ option_map value_of bound.1.literal)) (λ kind. first_fault ≡ Some kind) }
 {
-    if is_semi_continuous_type(letters) {
-        return Err(FaultKind::SemiContinuous);
-    }
     let Some(bound_type) = bound_type(letters) else {
         return Err(FaultKind::BadType);
     };

@@ -8,6 +8,7 @@
 
 mod bound_types;
 mod bounds;
+mod clashes;
 mod columns;
 mod context;
 mod data_lines;

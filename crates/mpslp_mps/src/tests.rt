@@ -2,7 +2,7 @@
 
 use crate::read_mps;
 use mpslp_decimal::{Decimal, DecimalText};
-use mpslp_model::{Limit, Model, ReadFault, Sense};
+use mpslp_model::{Kind, Limit, Model, ReadFault, Sense};
 use std::alloc::{AllocError, Global};
 use std::test::Fail;
 
@@ -75,8 +75,10 @@ impl Telling {
             return Ok(());
         }
         self.put(model.column_name(j).as_bytes())?;
-        if model.is_integer(j) {
-            self.put(b" integer")?;
+        match model.column_kind(j) {
+            Kind::Continuous => {}
+            Kind::Integer => self.put(b" integer")?,
+            Kind::Semi => self.put(b" semi")?,
         }
         self.put_limit(model.col_lower(j))?;
         self.put_limit(model.col_upper(j))?;
@@ -285,7 +287,7 @@ fn reads_integer_columns(rt: HostRuntime) -> Result<(), Fail> {
 }
 
 /// What stands under BOUNDS, and what the file then tells.
-const BOUNDED: [(&str, &str); 11] = [
+const BOUNDED: [(&str, &str); 19] = [
     (" UP B X -1\n", "file: NegativeUpper X"),
     (" UP B X -1\n MI B X\n", "minimize C 0 0\nX -inf -1 1\n"),
     (" UP B X -1\n LO B X 0\n", "file: BoundsCrossed X"),
@@ -303,6 +305,14 @@ const BOUNDED: [(&str, &str); 11] = [
         "minimize C 0 0\nX integer 2 9 1\n",
     ),
     (" LO X 2\n", "minimize C 0 0\nX 2 inf 1\n"),
+    (" SC B X 4\n", "minimize C 0 0\nX semi 0 4 1\n"),
+    (" SC B X 4\n LO B X 4\n", "minimize C 0 0\nX semi 4 4 1\n"),
+    (" SC B X 0\n", "file: SemiBounds X"),
+    (" SC B X 4\n MI B X\n", "file: SemiBounds X"),
+    (" SC B X -1\n", "file: NegativeUpper X"),
+    (" SC B X 4\n UP B X 4\n", "line 7: DuplicateBound"),
+    (" SC B X 4\n BV B X\n", "line 7: SemiContinuous"),
+    (" LI B X 1\n SC B X 4x\n", "line 7: SemiContinuous"),
 ];
 
 #[test]
@@ -412,7 +422,7 @@ const CHANGES: [(usize, &str, &str); 25] = [
     (8, "    Y  C  1\n    X  R  1", "line 9: ColumnSplit"),
     (10, "    A  R  1\n    A2  R  1", "line 11: SecondSet"),
     (10, "    A  R  1\n    A  R  1", "line 11: DuplicateRhs"),
-    (12, " SC  B  X  4", "line 12: SemiContinuous"),
+    (12, " SC  B", "line 12: FieldCount"),
     (12, " UP  B  Z  4", "line 12: UnknownColumn"),
     (12, " UP  B  X  -1e30", "line 12: InfiniteValue"),
     (12, " UP  B  X  4\n UP  B  X  4", "line 13: DuplicateBound"),

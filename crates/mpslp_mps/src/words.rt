@@ -5,7 +5,7 @@ ghost use Rattle.std.specs.List.{list_any};
 ghost use Rattle.mpslp_types.specs.Name.{same_bytes, marker, is_one_of};
 ghost use Rattle.mpslp_mps.specs.Section.{keyword_of, section_named};
 ghost use Rattle.mpslp_mps.specs.DataLine.{sense_of, row_type, opening_word, closing_word};
-ghost use Rattle.mpslp_mps.specs.BoundLine.{bound_type, is_semi_continuous_type, takes_value};
+ghost use Rattle.mpslp_mps.specs.BoundLine.{bound_type, takes_value};
 ghost use Rattle.mpslp_mps.specs.HeaderFault.{unknown_section};
 
 use crate::bound_types::BoundType;
@@ -124,15 +124,9 @@ pub(crate) fn bound_type(letters: &[u8]) -> Option<BoundType>
         b"BV" => Some(BoundType::Binary),
         b"LI" => Some(BoundType::IntegerLower),
         b"UI" => Some(BoundType::IntegerUpper),
+        b"SC" => Some(BoundType::SemiUpper),
         _ => None,
     }
-}
-
-/// Whether the letters are the type of semi-continuous columns.
-pub(crate) fn is_semi_continuous_type(letters: &[u8]) -> bool
-    ensures { result ≡ is_semi_continuous_type letters.now }
-{
-    letters == b"SC".as_slice()
 }
 
 impl BoundType {
@@ -145,7 +139,8 @@ impl BoundType {
             | BoundType::Upper
             | BoundType::Fixed
             | BoundType::IntegerLower
-            | BoundType::IntegerUpper => true,
+            | BoundType::IntegerUpper
+            | BoundType::SemiUpper => true,
             BoundType::Free | BoundType::NoLower | BoundType::NoUpper | BoundType::Binary => false,
         }
     }

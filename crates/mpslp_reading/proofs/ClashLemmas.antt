@@ -9,13 +9,9 @@ use Rattle.mpslp_model.specs.Declaration.{Declaration, declare_sense, declare_ob
 use Rattle.mpslp_model.specs.Lists.{those_of}
 use Rattle.mpslp_model.specs.Refusal.{refusals, refusal_tests, refusals_in_turn}
 use Rattle.mpslp_types.specs.declared.faults.BuildFault.{BuildFault}
-use Rattle.mpslp_types.specs.declared.faults.BuildFault.TheVariants.{SemiContinuous}
+use Rattle.mpslp_reading.specs.Declaring.{is_kind_clash}
 use Rattle.mpslp_types.proofs.BoolLemmas.{both_false, nor}
 use Rattle.mpslp_model.proofs.MadeDrafts.{refusals_in_turn-append}
-
-abbrev pub is_kind_clash : BuildFault → Bool
-is_kind_clash SemiContinuous = true
-is_kind_clash _ = false
 
 abbrev pub has_kind_clash : Draft → Declarations → Bool
 has_kind_clash earlier ds = list_any is_kind_clash (refusals_in_turn earlier ds)

@@ -18,10 +18,10 @@ use Rattle.mpslp_types.specs.declared.faults.FaultKind.{FaultKind}
 use Rattle.mpslp_types.specs.declared.faults.FaultKind.TheVariants as kinds
 use Rattle.mpslp_reading.specs.Tests.{Tests, first_held}
 use Rattle.mpslp_reading.specs.LegalLine.{has_legal_length, is_legal_byte, legal_tests}
-use Rattle.mpslp_reading.specs.Declaring.{kind_of_refusal, declaring_faults, declared_fault, first_fault}
+use Rattle.mpslp_reading.specs.Declaring.{kind_of_refusal, is_kind_clash, declaring_faults, declared_fault, first_fault}
 use Rattle.mpslp_reading.proofs.LeastLemmas.{is_from, are_rising, lesser, stays-least, earlier_of, least-those_of, least-append, least-none}
 use Rattle.mpslp_reading.proofs.HeldLemmas.{held-among}
-use Rattle.mpslp_reading.proofs.ClashLemmas.{is_kind_clash, has_kind_clash}
+use Rattle.mpslp_reading.proofs.ClashLemmas.{has_kind_clash}
 use Rattle.mpslp_reading.proofs.DeclaringLemmas.{unrefused}
 
 -- ---- what is declared

@@ -1,5 +1,5 @@
 -- The faults of what a line declares, and the first fault of a line.
-use Rattle.std.specs.Prelude.{List, ◌++◌, map, Option}
+use Rattle.std.specs.Prelude.{Bool, true, false, List, ◌++◌, map, Option}
 use Rattle.mpslp_model.specs.Declaration.{Declarations, Draft}
 use Rattle.mpslp_model.specs.Lists.{those_of}
 use Rattle.mpslp_model.specs.Refusal.{refusals_in_turn}
@@ -26,6 +26,11 @@ kind_of_refusal builds.RangeOnFree = kinds.RangeOnFree
 kind_of_refusal builds.SemiContinuous = kinds.SemiContinuous
 kind_of_refusal builds.InfiniteValue = kinds.InfiniteValue
 kind_of_refusal builds.OutOfMemory = kinds.DuplicateEntry
+
+-- the refusal of a column that would be both integer and semi-continuous: its kind comes before those of a line's form
+abbrev pub is_kind_clash : BuildFault → Bool
+is_kind_clash builds.SemiContinuous = true
+is_kind_clash _ = false
 
 -- the faults of declarations, each after all before it, those of the same line too
 abbrev pub declaring_faults : Draft → Declarations → List FaultKind

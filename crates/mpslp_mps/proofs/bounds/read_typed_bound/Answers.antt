@@ -8,14 +8,31 @@ use Rattle.mpslp_types.specs.declared.faults.FaultKind.{FaultKind}
 use Rattle.mpslp_reading.specs.LineAnswer.{IsErrorOf}
 use Rattle.mpslp_mps.specs.declared.sections.Section.TheVariants.{Bounds}
 use Rattle.mpslp_mps.proofs.StepLemmas.{step-bound}
-use Rattle.mpslp_mps.proofs.TakenLemmas.{data_fault-form, data_fault-declared, declared-is, bounds-early}
+use Rattle.mpslp_mps.proofs.TakenLemmas.{data_fault-form, clash-told, data_fault-declared, declared-is, bounds-early, bounds-behind}
+use Rattle.mpslp_mps.specs.KindClash.{type_clash}
+use Rattle.mpslp_mps.proofs.ClashLemmas.{bound-clashes, bound-apart}
 use Rattle.mpslp_mps.proofs.BoundSideLemmas.{bound-is}
 use Rattle.mpslp_mps.proofs.bounds.read_typed_bound.Goals as goal
+
+pub returns-then-has_bound_clash : goal.returns-then-has_bound_clash
+returns-then-has_bound_clash c =
+    let more = map (λ (field : Bor (List ℕ)). field.now) c.args.more.now in
+    clash-told c.args.context.now c.args.builder.now (c.args.letters.now ∷ more) (Some Bounds) c.requires (bounds-behind c.args.context.now c.args.letters.now more)
+    (bound-clashes c.args.builder.now (c.args.letters.now ∷ more) ∙ sym c.has_bound_clash.ensures ∙ c.if-has_bound_clash.true)
+
+pub declare_bound-requires-clause-apart : goal.declare_bound-requires-clause-apart
+declare_bound-requires-clause-apart c =
+    let more = map (λ (field : Bor (List ℕ)). field.now) c.args.more.now in
+    let said = c.in_ok-bound_type.ensures in
+    let apart = sym c.has_bound_clash.ensures ∙ c.if-has_bound_clash.false in
+    ap (λ (line : BoundLine). type_clash c.args.builder.now c.in_ok-bound_type.bound_type line.column) c.line.view_is
+    ∙ bound-apart c.args.builder.now c.args.letters.now more c.in_ok-bound_type.bound_type c.in_ok-bound_type.line said.1 said.2 apart
 
 pub returns-in_err-bound_type : goal.returns-in_err-bound_type
 returns-in_err-bound_type c =
     let more = map (λ (field : Bor (List ℕ)). field.now) c.args.more.now in
-    let fault_is = data_fault-form c.args.context.now c.args.builder.now (c.args.letters.now ∷ more) (Some Bounds) c.in_err-bound_type.field-0.0 c.requires (bounds-early c.args.context.now c.args.letters.now more) c.in_err-bound_type.ensures in
+    let apart = bound-clashes c.args.builder.now (c.args.letters.now ∷ more) ∙ sym c.has_bound_clash.ensures ∙ c.if-has_bound_clash.false in
+    let fault_is = data_fault-form c.args.context.now c.args.builder.now (c.args.letters.now ∷ more) (Some Bounds) c.in_err-bound_type.field-0.0 c.requires (bounds-early c.args.context.now c.args.letters.now more) apart c.in_err-bound_type.ensures in
     search rules
 
 pub returns-in_err-declare_bound : goal.returns-in_err-declare_bound

@@ -1,7 +1,7 @@
 use Rattle.std.proofs.Common.{◌≡◌, sym, ap, subst, ◌∙◌, Bool, map}
-use Rattle.std.specs.Prelude.{Option}
+use Rattle.std.specs.Prelude.{◌&&◌, Option}
 use Rattle.std.specs.List.{flat_map}
-use Rattle.mpslp_model.specs.Declaration.{Draft, adding_all, has_column}
+use Rattle.mpslp_model.specs.Declaration.{Draft, adding_all, has_column, is_semi}
 use Rattle.mpslp_types.specs.declared.faults.FaultKind.{FaultKind}
 use Rattle.mpslp_model.proofs.MadeDrafts.{adding_all-append}
 use Rattle.mpslp_mps.specs.LineMeaning.{data_declared}
@@ -13,14 +13,28 @@ use Rattle.mpslp_mps.specs.declared.sections.Section.{Section}
 use Rattle.mpslp_mps.proofs.StepLemmas.{step-column}
 use Rattle.mpslp_reading.proofs.AnswerLemmas.{ends-by}
 use Rattle.mpslp_mps.proofs.ColumnTaking.{front-there}
-use Rattle.mpslp_mps.proofs.ColumnLine.{column-judged, place-fault, placed-fault, column-declares, with_column}
+use Rattle.mpslp_mps.proofs.ClashLemmas.{column-apart}
+use Rattle.mpslp_mps.proofs.ColumnLine.{column-judged, column-clash-told, place-fault, placed-fault, column-declares, with_column}
 use Rattle.mpslp_mps.proofs.columns.read_values.Goals as goal
+
+pub returns-then-has_column_clash : goal.returns-then-has_column_clash
+returns-then-has_column_clash c =
+    let fields = map (λ field. field.now) c.args.fields.now in
+    column-clash-told c.args.context.now c.args.builder.now fields c.requires.section c.requires.plain (sym c.has_column_clash.ensures ∙ c.if-has_column_clash.true)
+
+pub declare_column-requires-clause-apart : goal.declare_column-requires-clause-apart
+declare_column-requires-clause-apart c =
+    let fields = map (λ field. field.now) c.args.fields.now in
+    let column = c.in_ok-column.column.now in
+    ap (λ (b : Bool). b && is_semi c.args.builder.now column) c.in_integer_part.ensures
+    ∙ column-apart c.args.context.now c.args.builder.now fields column c.in_ok-column.values c.in_ok-column.ensures.1 (sym c.has_column_clash.ensures ∙ c.if-has_column_clash.false)
 
 pub returns-in_err-column : goal.returns-in_err-column
 returns-in_err-column c =
     let fields = map (λ field. field.now) c.args.fields.now in
     ends-by c.from_residual.result c.in_err-column.field-0.0 _ _ c.from_residual.ensures.1
-    (column-judged c.args.context.now c.args.builder.now fields c.in_err-column.field-0.0 c.requires.section c.requires.plain c.in_err-column.ensures)
+    (column-judged c.args.context.now c.args.builder.now fields c.in_err-column.field-0.0 c.requires.section c.requires.plain
+    (sym c.has_column_clash.ensures ∙ c.if-has_column_clash.false) c.in_err-column.ensures)
 
 pub returns-in_err-check_place : goal.returns-in_err-check_place
 returns-in_err-check_place c =
@@ -28,7 +42,7 @@ returns-in_err-check_place c =
     let line = c.in_ok-column.ensures in
     ends-by c.from_residual-in_err-check_place.result (Fault c.in_err-check_place.field-0.0) _ _ c.from_residual-in_err-check_place.ensures.1
     (place-fault c.args.context.now c.args.builder.now fields c.in_ok-column.column.now c.in_ok-column.values c.in_err-check_place.field-0.0 c.requires.section
-    c.requires.plain line.0 line.1 c.in_err-check_place.ensures)
+    c.requires.plain (sym c.has_column_clash.ensures ∙ c.if-has_column_clash.false) line.0 line.1 c.in_err-check_place.ensures)
 
 pub declare_values-requires-clause-column : goal.declare_values-requires-clause-column
 declare_values-requires-clause-column c =
@@ -47,7 +61,7 @@ returns-in_err-declare_values c =
     let draft : c.declare_column.new.builder ≡ with_column context earlier column =
     c.in_ok-declare_column.ensures ∙ ap (λ (marked : Bool). adding_all earlier (front_declared marked column)) c.in_integer_part.ensures in
     let fault_is = ap (λ (d : Draft). declared_fault d (flat_map (value_declared column) values)) draft
-    ∙ sym (placed-fault context earlier fields column values c.requires.section c.requires.plain line.0 line.1 c.in_ok-check_place.ensures) in
+    ∙ sym (placed-fault context earlier fields column values c.requires.section c.requires.plain (sym c.has_column_clash.ensures ∙ c.if-has_column_clash.false) line.0 line.1 c.in_ok-check_place.ensures) in
     ends-by c.from_residual-in_err-declare_values.result error _ _ c.from_residual-in_err-declare_values.ensures.1
     (subst (λ (o : Option FaultKind). IsErrorOf o error) fault_is c.in_err-declare_values.ensures)
 
@@ -64,7 +78,7 @@ returns c =
     let draft : c.declare_column.new.builder ≡ with_column context earlier column =
     c.in_ok-declare_column.ensures ∙ ap (λ (marked : Bool). adding_all earlier (front_declared marked column)) c.in_integer_part.ensures in
     let declares = column-declares context earlier fields column values c.requires.plain line.1 in (
-      placed-fault context earlier fields column values c.requires.section c.requires.plain line.0 line.1 c.in_ok-check_place.ensures
+      placed-fault context earlier fields column values c.requires.section c.requires.plain (sym c.has_column_clash.ensures ∙ c.if-has_column_clash.false) line.0 line.1 c.in_ok-check_place.ensures
           ∙ ap (λ (d : Draft). declared_fault d coefficients) (sym draft) ∙ c.in_ok-declare_values.ensures.0,
       c.in_ok-pass_column.ensures ∙ sym (step-column context fields column values c.requires.section c.requires.plain line.1),
       c.in_ok-declare_values.ensures.1 ∙ ap (λ (d : Draft). adding_all d coefficients) draft ∙ sym (adding_all-append front coefficients earlier)

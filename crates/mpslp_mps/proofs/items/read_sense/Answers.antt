@@ -12,6 +12,7 @@ use Rattle.mpslp_mps.specs.declared.sections.Section.TheVariants.{ObjSense}
 use Rattle.mpslp_reading.proofs.AnswerLemmas.{ends-by}
 use Rattle.mpslp_mps.proofs.TakingLemmas.{data-judged}
 use Rattle.mpslp_mps.proofs.RowTaking.{sense-early}
+use Rattle.mpslp_mps.proofs.ClashLemmas.{sense-apart}
 use Rattle.mpslp_mps.proofs.items.read_sense.Goals as goal
 
 pub returns-in_err-sense : goal.returns-in_err-sense
@@ -20,7 +21,7 @@ returns-in_err-sense c =
     let context = c.args.context.now in
     ends-by c.from_residual.result (Fault c.in_err-sense.field-0.0) _ _ c.from_residual.ensures.1
     (data-judged context c.args.builder.now fields ObjSense (Fault c.in_err-sense.field-0.0) c.requires.section
-    (sense-early (not (is_some context.wanted)) (word_shape fields)) c.in_err-sense.ensures)
+    (sense-early (not (is_some context.wanted)) (word_shape fields)) (sense-apart context c.args.builder.now fields) c.in_err-sense.ensures)
 
 pub returns-in_err-sense-2 : goal.returns-in_err-sense-2
 returns-in_err-sense-2 c =

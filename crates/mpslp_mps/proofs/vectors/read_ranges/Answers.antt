@@ -10,13 +10,15 @@ use Rattle.mpslp_mps.specs.VectorDeclared.{ranges_of}
 use Rattle.mpslp_mps.specs.declared.sections.Section.TheVariants.{Ranges}
 use Rattle.mpslp_mps.proofs.StepLemmas.{step-range}
 use Rattle.mpslp_mps.proofs.TakenLemmas.{data_fault-form, data_fault-declared, declared-is, vector-early, ranges-are}
+use Rattle.mpslp_mps.proofs.ClashLemmas.{ranges-apart}
 use Rattle.mpslp_mps.proofs.vectors.read_ranges.Goals as goal
 
 pub returns-in_err-set : goal.returns-in_err-set
 returns-in_err-set c =
     let fields = map (λ (field : Bor (List ℕ)). field.now) c.args.fields.now in
     let held = ap (λ (first : Option (List ℕ)). first_held (judged_by (vector_tests first) (vector_shape fields))) (sym c.ranges_set.ensures) ∙ c.in_err-set.ensures in
-    let fault_is = data_fault-form c.args.context.now c.args.builder.now fields (Some Ranges) c.in_err-set.field-0.0 c.requires (vector-early c.args.context.now.ranges_set (vector_shape fields)) held in
+    let fault_is = data_fault-form c.args.context.now c.args.builder.now fields (Some Ranges) c.in_err-set.field-0.0 c.requires (vector-early c.args.context.now.ranges_set (vector_shape fields))
+    (ranges-apart c.args.context.now c.args.builder.now fields) held in
     search rules
 
 pub returns-in_err-declare_ranges : goal.returns-in_err-declare_ranges

@@ -10,13 +10,15 @@ use Rattle.mpslp_mps.specs.VectorDeclared.{right_sides_of}
 use Rattle.mpslp_mps.specs.declared.sections.Section.TheVariants.{Rhs}
 use Rattle.mpslp_mps.proofs.StepLemmas.{step-right_side}
 use Rattle.mpslp_mps.proofs.TakenLemmas.{data_fault-form, data_fault-declared, declared-is, vector-early, rhs_values-are}
+use Rattle.mpslp_mps.proofs.ClashLemmas.{sides-apart}
 use Rattle.mpslp_mps.proofs.vectors.read_right_sides.Goals as goal
 
 pub returns-in_err-set : goal.returns-in_err-set
 returns-in_err-set c =
     let fields = map (λ (field : Bor (List ℕ)). field.now) c.args.fields.now in
     let held = ap (λ (first : Option (List ℕ)). first_held (judged_by (vector_tests first) (vector_shape fields))) (sym c.rhs_set.ensures) ∙ c.in_err-set.ensures in
-    let fault_is = data_fault-form c.args.context.now c.args.builder.now fields (Some Rhs) c.in_err-set.field-0.0 c.requires.section (vector-early c.args.context.now.rhs_set (vector_shape fields)) held in
+    let fault_is = data_fault-form c.args.context.now c.args.builder.now fields (Some Rhs) c.in_err-set.field-0.0 c.requires.section (vector-early c.args.context.now.rhs_set (vector_shape fields))
+    (sides-apart c.args.context.now c.args.builder.now fields) held in
     search rules
 
 pub returns-in_err-declare_right_sides : goal.returns-in_err-declare_right_sides

@@ -1,0 +1,193 @@
+-- Lines that would make a column both integer and semi-continuous: that is told before all else of their form, and of no
+-- other line.
+use Rattle.std.proofs.Common.{◌≡◌, refl, sym, ap, ◌∙◌, ℕ, List, [], ◌∷◌, ◌++◌, Bool, true, false, not, cond}
+use Rattle.std.specs.Prelude.{◌||◌, ◌&&◌, Option, Some, None, Ok, Err, is_none, codes}
+use Rattle.std.specs.List.{list_any, list_all, flat_map}
+use Rattle.std.specs.Option.{option_map, option_map_or}
+use Rattle.std.proofs.lemmas.List.Folds.{list_any-append}
+use Rattle.mpslp_decimal.specs.Decimal.{Number}
+use Rattle.mpslp_model.specs.Answer.{Answer, first_refusal}
+use Rattle.mpslp_model.specs.Declaration.{Declaration, declare_objective, declare_row, by_type, declare_column, declare_marked, declare_integer, declare_semi, Declarations, Draft, adding, has_column, is_integer, is_semi, bounds_declared}
+use Rattle.mpslp_model.specs.Bounds.{zero_limit, one_limit}
+use Rattle.mpslp_model.specs.Lists.{those_of, when}
+use Rattle.mpslp_model.specs.Made.{IsMade}
+use Rattle.mpslp_model.specs.Refusal.{refusals, refusals_in_turn}
+use Rattle.mpslp_types.specs.declared.kinds.Limit.{Limit}
+use Rattle.mpslp_types.specs.declared.kinds.RowType.{RowType}
+use Rattle.mpslp_types.specs.declared.kinds.RowType.TheVariants.{Free, AtMost, AtLeast, Equal}
+use Rattle.mpslp_types.specs.declared.faults.BuildFault.TheVariants as builds
+use Rattle.mpslp_model.proofs.MadeDrafts.{declared_names-from_made}
+use Rattle.mpslp_reading.specs.Declaring.{is_kind_clash}
+use Rattle.mpslp_reading.proofs.ClashLemmas.{has_kind_clash, says_no_kind, no-clash}
+use Rattle.mpslp_mps.specs.Line.{Fields}
+use Rattle.mpslp_mps.specs.DataLine.{ValuesLine, sense_shape, row_shape, row_type, column_shape, is_marker_line}
+use Rattle.mpslp_mps.specs.BoundLine.{BoundLine, bound_type, bound_shape}
+use Rattle.mpslp_mps.specs.Context.{Context}
+use Rattle.mpslp_mps.specs.LineMeaning.{declared_of, sense_declared, row_of_type, row_declared, coefficient_declared, column_declared, bound_declared, bound_value, bound_line_declared, default_objective, data_declared, header_declared}
+use Rattle.mpslp_mps.specs.LineValues.{named_values}
+use Rattle.mpslp_mps.specs.KindClash.{column_clash, type_clash, bound_clash}
+use Rattle.mpslp_mps.specs.declared.bound_types.BoundType.{BoundType}
+use Rattle.mpslp_mps.specs.declared.bound_types.BoundType.TheVariants as bounds
+use Rattle.mpslp_mps.specs.declared.sections.Section.{Section}
+use Rattle.mpslp_mps.specs.declared.sections.Section.TheVariants.{Name, ObjSense, Rows, Columns, Rhs, Ranges, Bounds, EndData}
+use Rattle.mpslp_mps.proofs.OrderLemmas.{each-declared, each-flat, sense-passes, sides-passes, ranges-passes}
+
+-- ---- what a builder is asked
+
+-- whether the answer is that a column is of the other kind. It is so where it is, since the column is there then
+abbrev pub is_clash_answer : Answer → Bool
+is_clash_answer (Ok x) = false
+is_clash_answer (Err fault) = is_kind_clash fault
+
+told_so : (known other : Bool) → (other ≡ true → known ≡ true)
+    → is_clash_answer (first_refusal (those_of ((not known, builds.UnknownColumn) ∷ (other, builds.SemiContinuous) ∷ []))) ≡ other
+told_so true true h = refl
+told_so true false h = refl
+told_so false true h = h refl
+told_so false false h = refl
+
+pub integer-answered : (all : Draft) (c : List ℕ) (answer : Answer) → IsMade all → answer ≡ first_refusal (refusals all (declare_integer c)) → is_clash_answer answer ≡ is_semi all c
+integer-answered all c answer made is = ap is_clash_answer is ∙ told_so (has_column all c) (is_semi all c) ((declared_names-from_made all made).semis c)
+
+pub semi-answered : (all : Draft) (c : List ℕ) (answer : Answer) → IsMade all → answer ≡ first_refusal (refusals all (declare_semi c)) → is_clash_answer answer ≡ is_integer all c
+semi-answered all c answer made is = ap is_clash_answer is ∙ told_so (has_column all c) (is_integer all c) ((declared_names-from_made all made).integers c)
+
+-- ---- what a line declares
+
+-- one declaration of a column's kind clashes where the column is of the other kind
+kind_clash : (unknown other : Bool) → list_any is_kind_clash (those_of ((unknown, builds.UnknownColumn) ∷ (other, builds.SemiContinuous) ∷ [])) ≡ other
+kind_clash true true = refl
+kind_clash true false = refl
+kind_clash false true = refl
+kind_clash false false = refl
+
+then_none : (earlier : Draft) (d : Declaration) (more : Declarations) (other : Bool) → list_any is_kind_clash (refusals earlier d) ≡ other → list_all says_no_kind more ≡ true
+    → has_kind_clash earlier (d ∷ more) ≡ (other || false)
+then_none earlier d more other is none =
+    list_any-append is_kind_clash (refusals earlier d) (refusals_in_turn (adding earlier d) more) ∙ (λ i. is i || no-clash more (adding earlier d) none i)
+
+and_none : (b : Bool) → (b && false) ≡ false
+and_none true = refl
+and_none false = refl
+
+or_none : (b : Bool) → (b || false) ≡ b
+or_none true = refl
+or_none false = refl
+
+-- of COLUMNS
+pub column-clashes : (context : Context) (earlier : Draft) (fields : Fields) → is_marker_line fields ≡ false
+    → has_kind_clash earlier (data_declared context earlier fields (Some Columns)) ≡ column_clash context earlier fields
+column-clashes context earlier fields plain =
+    ap (λ (b : Bool). has_kind_clash earlier (cond b [] (declared_of (column_declared context) (column_shape fields)))) plain ∙ of (column_shape fields)
+  where
+    front : (line : ValuesLine) (marked : Bool)
+        → has_kind_clash earlier (declare_column line.name ∷ (when marked (declare_marked line.name) ++ flat_map (coefficient_declared line.name) line.pairs))
+        ≡ (marked && is_semi earlier line.name)
+    front line true =
+        let next = adding earlier (declare_column line.name) in
+        then_none next (declare_marked line.name) (flat_map (coefficient_declared line.name) line.pairs) (is_semi earlier line.name)
+        (kind_clash (not (has_column next line.name)) (is_semi earlier line.name)) (each-flat says_no_kind (coefficient_declared line.name) line.pairs (λ pair. refl))
+        ∙ or_none (is_semi earlier line.name)
+    front line false =
+        no-clash (declare_column line.name ∷ flat_map (coefficient_declared line.name) line.pairs) earlier
+        (each-flat says_no_kind (coefficient_declared line.name) line.pairs (λ pair. refl))
+
+    of : (o : Option ValuesLine) → has_kind_clash earlier (declared_of (column_declared context) o)
+        ≡ (context.in_integer_part && option_map_or (λ line. is_semi earlier line.name) o false)
+    of None = sym (and_none context.in_integer_part)
+    of (Some line) = front line context.in_integer_part
+
+-- the column of a line that does not clash
+pub column-apart : (context : Context) (earlier : Draft) (fields : Fields) (column : List ℕ) (values : List (List ℕ × Number))
+    → option_map named_values (column_shape fields) ≡ Some (column, values) → column_clash context earlier fields ≡ false
+    → (context.in_integer_part && is_semi earlier column) ≡ false
+column-apart context earlier fields column values is apart = of (column_shape fields) is apart
+  where
+    of : (o : Option ValuesLine) → option_map named_values o ≡ Some (column, values)
+        → (context.in_integer_part && option_map_or (λ line. is_semi earlier line.name) o false) ≡ false → (context.in_integer_part && is_semi earlier column) ≡ false
+    of None e h = cc
+    of (Some line) e h =
+        let same : line.name ≡ column = ap (λ (o : Option (List ℕ × List (List ℕ × Number))). elim o as (λ _. List ℕ) [ None ↦ [] | Some p ↦ p.0 ]) e in
+        ap (λ (name : List ℕ). context.in_integer_part && is_semi earlier name) (sym same) ∙ h
+
+-- of BOUNDS
+type-clashes : (earlier : Draft) (type : BoundType) (c : List ℕ) (v : Limit) → has_kind_clash earlier (bound_declared type c v) ≡ type_clash earlier type c
+type-clashes earlier bounds.Lower c v = no-clash (bound_declared bounds.Lower c v) earlier refl
+type-clashes earlier bounds.Upper c v = no-clash (bound_declared bounds.Upper c v) earlier refl
+type-clashes earlier bounds.Fixed c v = no-clash (bound_declared bounds.Fixed c v) earlier refl
+type-clashes earlier bounds.Free c v = no-clash (bound_declared bounds.Free c v) earlier refl
+type-clashes earlier bounds.NoLower c v = no-clash (bound_declared bounds.NoLower c v) earlier refl
+type-clashes earlier bounds.NoUpper c v = no-clash (bound_declared bounds.NoUpper c v) earlier refl
+type-clashes earlier bounds.Binary c v =
+    then_none earlier (declare_integer c) (bounds_declared c (Some zero_limit) (Some one_limit)) (is_semi earlier c) (kind_clash (not (has_column earlier c)) (is_semi earlier c)) refl
+type-clashes earlier bounds.IntegerLower c v =
+    then_none earlier (declare_integer c) (bounds_declared c (Some v) None) (is_semi earlier c) (kind_clash (not (has_column earlier c)) (is_semi earlier c)) refl
+type-clashes earlier bounds.IntegerUpper c v =
+    then_none earlier (declare_integer c) (bounds_declared c None (Some v)) (is_semi earlier c) (kind_clash (not (has_column earlier c)) (is_semi earlier c)) refl
+type-clashes earlier bounds.SemiUpper c v =
+    then_none earlier (declare_semi c) (bounds_declared c None (Some v)) (is_integer earlier c) (kind_clash (not (has_column earlier c)) (is_integer earlier c)) refl
+    ∙ or_none (is_integer earlier c)
+
+pub bound-clashes : (earlier : Draft) (fields : Fields) → has_kind_clash earlier (bound_line_declared fields) ≡ bound_clash earlier fields
+bound-clashes earlier [] = refl
+bound-clashes earlier (letters ∷ more) = typed (bound_type letters)
+  where
+    lined : (type : BoundType) (o : Option BoundLine) → has_kind_clash earlier (declared_of (λ (line : BoundLine). bound_declared type line.column (bound_value line)) o)
+        ≡ option_map_or (λ line. type_clash earlier type line.column) o false
+    lined type None = refl
+    lined type (Some line) = type-clashes earlier type line.column (bound_value line)
+
+    typed : (o : Option BoundType)
+        → has_kind_clash earlier (declared_of (λ type. declared_of (λ (line : BoundLine). bound_declared type line.column (bound_value line)) (bound_shape type more)) o)
+        ≡ option_map_or (λ type. option_map_or (λ line. type_clash earlier type line.column) (bound_shape type more) false) o false
+    typed None = refl
+    typed (Some type) = lined type (bound_shape type more)
+
+-- the column of a bound that does not clash
+pub bound-apart : (earlier : Draft) (letters : List ℕ) (more : Fields) (type : BoundType) (line : BoundLine) → bound_type letters ≡ Some type → bound_shape type more ≡ Some line
+    → bound_clash earlier (letters ∷ more) ≡ false → type_clash earlier type line.column ≡ false
+bound-apart earlier letters more type line t l apart =
+    ap (λ (o : Option BoundLine). option_map_or (λ line. type_clash earlier type line.column) o false) (sym l)
+    ∙ ap (λ (o : Option BoundType). option_map_or (λ type. option_map_or (λ (line : BoundLine). type_clash earlier type line.column) (bound_shape type more) false) o false) (sym t)
+    ∙ apart
+
+-- of the other sections nothing clashes
+pub sense-apart : (context : Context) (earlier : Draft) (fields : Fields) → has_kind_clash earlier (data_declared context earlier fields (Some ObjSense)) ≡ false
+sense-apart context earlier fields = no-clash (data_declared context earlier fields (Some ObjSense)) earlier (sense-passes says_no_kind (λ s. refl) fields)
+
+pub rows-apart : (context : Context) (earlier : Draft) (fields : Fields) → has_kind_clash earlier (data_declared context earlier fields (Some Rows)) ≡ false
+rows-apart context earlier fields =
+    no-clash (data_declared context earlier fields (Some Rows)) earlier
+    (each-declared says_no_kind (row_declared earlier) (row_shape fields)
+    (λ line. each-declared says_no_kind (row_of_type earlier line.name) (row_type line.letter) (λ type. one line.name type)))
+  where
+    first : (name : List ℕ) (b : Bool) → list_all says_no_kind (cond b (declare_objective name ∷ []) (declare_row name (by_type Free) ∷ [])) ≡ true
+    first name true = refl
+    first name false = refl
+
+    one : (name : List ℕ) (type : RowType) → list_all says_no_kind (row_of_type earlier name type) ≡ true
+    one name Free = first name (is_none earlier.objective)
+    one name AtMost = refl
+    one name AtLeast = refl
+    one name Equal = refl
+
+pub sides-apart : (context : Context) (earlier : Draft) (fields : Fields) → has_kind_clash earlier (data_declared context earlier fields (Some Rhs)) ≡ false
+sides-apart context earlier fields = no-clash (data_declared context earlier fields (Some Rhs)) earlier (sides-passes says_no_kind (λ r v. refl) earlier fields)
+
+pub ranges-apart : (context : Context) (earlier : Draft) (fields : Fields) → has_kind_clash earlier (data_declared context earlier fields (Some Ranges)) ≡ false
+ranges-apart context earlier fields = no-clash (data_declared context earlier fields (Some Ranges)) earlier (ranges-passes says_no_kind (λ r v. refl) fields)
+
+pub header-apart : (earlier : Draft) (more : Fields) (section : Option Section) → has_kind_clash earlier (header_declared earlier more section) ≡ false
+header-apart earlier more None = refl
+header-apart earlier more (Some Name) = refl
+header-apart earlier more (Some ObjSense) = no-clash (declared_of sense_declared (sense_shape more)) earlier (sense-passes says_no_kind (λ s. refl) more)
+header-apart earlier more (Some Rows) = refl
+header-apart earlier more (Some Columns) = no-clash (default_objective earlier) earlier (named (is_none earlier.objective))
+  where
+    named : (b : Bool) → list_all says_no_kind (cond b (declare_objective (codes "obj") ∷ []) []) ≡ true
+    named true = refl
+    named false = refl
+header-apart earlier more (Some Rhs) = refl
+header-apart earlier more (Some Ranges) = refl
+header-apart earlier more (Some Bounds) = refl
+header-apart earlier more (Some EndData) = refl

@@ -1,0 +1,23 @@
+-- Lines that would make a column both integer and semi-continuous.
+use Rattle.std.specs.Prelude.{ℕ, Bool, false, ◌&&◌, ◌||◌, List, [], ◌∷◌}
+use Rattle.std.specs.Option.{option_map_or}
+use Rattle.mpslp_model.specs.Declaration.{Draft, is_integer, is_semi}
+use Rattle.mpslp_mps.specs.Line.{Fields}
+use Rattle.mpslp_mps.specs.DataLine.{column_shape}
+use Rattle.mpslp_mps.specs.BoundLine.{bound_type, bound_shape}
+use Rattle.mpslp_mps.specs.Context.{Context}
+use Rattle.mpslp_mps.specs.LineMeaning.{is_integer_type, is_semi_type}
+use Rattle.mpslp_mps.specs.declared.bound_types.BoundType.{BoundType}
+
+-- a line of a column that is semi-continuous, in an integer part
+abbrev pub column_clash : Context → Draft → Fields → Bool
+column_clash context earlier fields = context.in_integer_part && option_map_or (λ line. is_semi earlier line.name) (column_shape fields) false
+
+-- a bound that makes its column integer or semi-continuous, where the column is of the other kind
+abbrev pub type_clash : Draft → BoundType → List ℕ → Bool
+type_clash earlier type column = (is_integer_type type && is_semi earlier column) || (is_semi_type type && is_integer earlier column)
+
+abbrev pub bound_clash : Draft → Fields → Bool
+bound_clash earlier [] = false
+bound_clash earlier (letters ∷ more) =
+    option_map_or (λ type. option_map_or (λ line. type_clash earlier type line.column) (bound_shape type more) false) (bound_type letters) false

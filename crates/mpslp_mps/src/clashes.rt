@@ -1,0 +1,100 @@
+//! Lines that would make a column both integer and semi-continuous.
+//!
+//! That is told of a line before what is wrong with its name or its numbers, so it is asked before these are read.
+
+ghost use Rattle.std.specs.Prelude.{◌≡◌, ◌∷◌, map, false};
+ghost use Rattle.std.specs.Option.{option_map_or};
+ghost use Rattle.mpslp_model.specs.Declaration.{is_integer, is_semi};
+ghost use Rattle.mpslp_reading.specs.Declaring.{is_kind_clash};
+ghost use Rattle.mpslp_mps.specs.DataLine.{column_shape};
+ghost use Rattle.mpslp_mps.specs.BoundLine.{bound_shape};
+ghost use Rattle.mpslp_mps.specs.KindClash.{column_clash, type_clash, bound_clash};
+
+use crate::bound_types::BoundType;
+use crate::context::LineContext;
+use crate::shapes::{bound_shape, column_shape};
+use crate::words::bound_type;
+use mpslp_model::laws::each_builder_is_made;
+use mpslp_model::{BuildFault, Builder};
+
+/// Whether the refusal is that of a column of the other kind.
+fn is_kind_clash(fault: BuildFault) -> bool
+    ensures { result ≡ is_kind_clash fault }
+{
+    match fault {
+        BuildFault::SemiContinuous => true,
+        _ => false,
+    }
+}
+
+/// Whether the column is declared to be semi-continuous.
+fn is_semi(builder: &Builder, column: &[u8]) -> bool
+    ensures { result ≡ is_semi builder.now column.now }
+{
+    each_builder_is_made(builder);
+    match builder.check_integer(column) {
+        Err(fault) => is_kind_clash(fault),
+        Ok(()) => false,
+    }
+}
+
+/// Whether the column is declared to be integer, or marked.
+fn is_integer(builder: &Builder, column: &[u8]) -> bool
+    ensures { result ≡ is_integer builder.now column.now }
+{
+    each_builder_is_made(builder);
+    match builder.check_semi(column) {
+        Err(fault) => is_kind_clash(fault),
+        Ok(()) => false,
+    }
+}
+
+/// Whether the column of a line of COLUMNS is semi-continuous.
+fn has_semi_column(builder: &Builder, fields: &[&[u8]]) -> bool
+    ensures { result ≡ option_map_or (λ line. is_semi builder.now line.name) (column_shape (map (λ field. field.now) fields.now)) false }
+{
+    match column_shape(fields) {
+        Some(line) => is_semi(builder, line.name),
+        None => false,
+    }
+}
+
+/// Whether a line of COLUMNS that is no marker line stands in an integer part and is one of a semi-continuous column.
+pub(crate) fn has_column_clash(context: &LineContext, builder: &Builder, fields: &[&[u8]]) -> bool
+    ensures { result ≡ column_clash context.now builder.now (map (λ field. field.now) fields.now) }
+{
+    context.in_integer_part() && has_semi_column(builder, fields)
+}
+
+/// Whether a bound of this type makes the column integer where it is semi-continuous, or semi-continuous where it is integer.
+fn has_type_clash(builder: &Builder, bound_type: BoundType, column: &[u8]) -> bool
+    ensures { result ≡ type_clash builder.now bound_type column.now }
+{
+    match bound_type {
+        BoundType::Binary | BoundType::IntegerLower | BoundType::IntegerUpper => {
+            is_semi(builder, column)
+        }
+        BoundType::SemiUpper => is_integer(builder, column),
+        _ => false,
+    }
+}
+
+/// Whether a bound of this type has such fields that it makes its column of both kinds.
+fn has_line_clash(builder: &Builder, bound_type: BoundType, more: &[&[u8]]) -> bool
+    ensures { result ≡ option_map_or (λ line. type_clash builder.now bound_type line.column) (bound_shape bound_type (map (λ field. field.now) more.now)) false }
+{
+    match bound_shape(bound_type, more) {
+        Some(line) => has_type_clash(builder, bound_type, line.column),
+        None => false,
+    }
+}
+
+/// Whether a line of BOUNDS makes its column of both kinds.
+pub(crate) fn has_bound_clash(builder: &Builder, letters: &[u8], more: &[&[u8]]) -> bool
+    ensures { result ≡ bound_clash builder.now (letters.now ∷ map (λ field. field.now) more.now) }
+{
+    match bound_type(letters) {
+        Some(bound_type) => has_line_clash(builder, bound_type, more),
+        None => false,
+    }
+}
