@@ -20,16 +20,16 @@ use Rattle.mpslp_model.proofs.MadeDrafts.{declared_names-from_made}
 use Rattle.mpslp_reading.specs.Declaring.{is_kind_clash}
 use Rattle.mpslp_reading.proofs.ClashLemmas.{has_kind_clash, says_no_kind, no-clash}
 use Rattle.mpslp_mps.specs.Line.{Fields}
-use Rattle.mpslp_mps.specs.DataLine.{ValuesLine, sense_shape, row_shape, row_type, column_shape, is_marker_line}
+use Rattle.mpslp_mps.specs.DataLine.{ValuesLine, word_shape, row_shape, row_type, column_shape, is_marker_line}
 use Rattle.mpslp_mps.specs.BoundLine.{BoundLine, bound_type, bound_shape}
 use Rattle.mpslp_mps.specs.Context.{Context}
-use Rattle.mpslp_mps.specs.LineMeaning.{declared_of, sense_declared, row_of_type, row_declared, coefficient_declared, column_declared, bound_declared, bound_value, bound_line_declared, default_objective, data_declared, header_declared}
+use Rattle.mpslp_mps.specs.LineMeaning.{declared_of, sense_declared, is_new_objective, row_of_type, row_declared, coefficient_declared, column_declared, bound_declared, bound_value, bound_line_declared, default_objective, data_declared, header_declared}
 use Rattle.mpslp_mps.specs.LineValues.{named_values}
 use Rattle.mpslp_mps.specs.KindClash.{column_clash, type_clash, bound_clash}
 use Rattle.mpslp_mps.specs.declared.bound_types.BoundType.{BoundType}
 use Rattle.mpslp_mps.specs.declared.bound_types.BoundType.TheVariants as bounds
 use Rattle.mpslp_mps.specs.declared.sections.Section.{Section}
-use Rattle.mpslp_mps.specs.declared.sections.Section.TheVariants.{Name, ObjSense, Rows, Columns, Rhs, Ranges, Bounds, EndData}
+use Rattle.mpslp_mps.specs.declared.sections.Section.TheVariants.{Name, ObjSense, ObjName, Rows, Columns, Rhs, Ranges, Bounds, EndData}
 use Rattle.mpslp_mps.proofs.OrderLemmas.{each-declared, each-flat, sense-passes, sides-passes, ranges-passes}
 
 -- ---- what a builder is asked
@@ -158,15 +158,15 @@ sense-apart context earlier fields = no-clash (data_declared context earlier fie
 pub rows-apart : (context : Context) (earlier : Draft) (fields : Fields) → has_kind_clash earlier (data_declared context earlier fields (Some Rows)) ≡ false
 rows-apart context earlier fields =
     no-clash (data_declared context earlier fields (Some Rows)) earlier
-    (each-declared says_no_kind (row_declared earlier) (row_shape fields)
-    (λ line. each-declared says_no_kind (row_of_type earlier line.name) (row_type line.letter) (λ type. one line.name type)))
+    (each-declared says_no_kind (row_declared context earlier) (row_shape fields)
+    (λ line. each-declared says_no_kind (row_of_type context earlier line.name) (row_type line.letter) (λ type. one line.name type)))
   where
     first : (name : List ℕ) (b : Bool) → list_all says_no_kind (cond b (declare_objective name ∷ []) (declare_row name (by_type Free) ∷ [])) ≡ true
     first name true = refl
     first name false = refl
 
-    one : (name : List ℕ) (type : RowType) → list_all says_no_kind (row_of_type earlier name type) ≡ true
-    one name Free = first name (is_none earlier.objective)
+    one : (name : List ℕ) (type : RowType) → list_all says_no_kind (row_of_type context earlier name type) ≡ true
+    one name Free = first name (is_new_objective context earlier name)
     one name AtMost = refl
     one name AtLeast = refl
     one name Equal = refl
@@ -177,17 +177,18 @@ sides-apart context earlier fields = no-clash (data_declared context earlier fie
 pub ranges-apart : (context : Context) (earlier : Draft) (fields : Fields) → has_kind_clash earlier (data_declared context earlier fields (Some Ranges)) ≡ false
 ranges-apart context earlier fields = no-clash (data_declared context earlier fields (Some Ranges)) earlier (ranges-passes says_no_kind (λ r v. refl) fields)
 
-pub header-apart : (earlier : Draft) (more : Fields) (section : Option Section) → has_kind_clash earlier (header_declared earlier more section) ≡ false
-header-apart earlier more None = refl
-header-apart earlier more (Some Name) = refl
-header-apart earlier more (Some ObjSense) = no-clash (declared_of sense_declared (sense_shape more)) earlier (sense-passes says_no_kind (λ s. refl) more)
-header-apart earlier more (Some Rows) = refl
-header-apart earlier more (Some Columns) = no-clash (default_objective earlier) earlier (named (is_none earlier.objective))
+pub header-apart : (context : Context) (earlier : Draft) (more : Fields) (section : Option Section) → has_kind_clash earlier (header_declared context earlier more section) ≡ false
+header-apart context earlier more None = refl
+header-apart context earlier more (Some Name) = refl
+header-apart context earlier more (Some ObjSense) = no-clash (declared_of sense_declared (word_shape more)) earlier (sense-passes says_no_kind (λ s. refl) more)
+header-apart context earlier more (Some ObjName) = refl
+header-apart context earlier more (Some Rows) = refl
+header-apart context earlier more (Some Columns) = no-clash (default_objective context earlier) earlier (named (is_none earlier.objective && is_none context.objective_name))
   where
     named : (b : Bool) → list_all says_no_kind (cond b (declare_objective (codes "obj") ∷ []) []) ≡ true
     named true = refl
     named false = refl
-header-apart earlier more (Some Rhs) = refl
-header-apart earlier more (Some Ranges) = refl
-header-apart earlier more (Some Bounds) = refl
-header-apart earlier more (Some EndData) = refl
+header-apart context earlier more (Some Rhs) = refl
+header-apart context earlier more (Some Ranges) = refl
+header-apart context earlier more (Some Bounds) = refl
+header-apart context earlier more (Some EndData) = refl

@@ -15,7 +15,7 @@ returns-in_err-name c = λ earlier.
     let context = c.args.context.now in
     ends-by c.from_residual.result (Fault c.in_err-name.field-0.0) _ _ c.from_residual.ensures.1
     (data-judged context earlier fields ObjName (Fault c.in_err-name.field-0.0) c.requires.section
-    (objective-name-early (not (is_some context.wanted)) (word_shape fields)) c.in_err-name.ensures)
+    (objective-name-early (not (is_some context.wanted)) (word_shape fields)) refl c.in_err-name.ensures)
 
 pub returns : goal.returns
 returns c = λ earlier.
