@@ -4,9 +4,9 @@ use Rattle.std.specs.Prelude.{Some, ℤ, pos, negsuc, ◌+ℤ◌, ◌*ℤ◌, ne
 use Rattle.std.specs.Ordering.{is_eq, int_cmp}
 use Rattle.std.specs.Cmp.{int_cmp_is}
 use Rattle.std.specs.FinMap.{int_cmp-IsAntisymmetric}
-use Rattle.std.specs.declared.cmp.Ordering.{Ordering}
-use Rattle.std.specs.declared.cmp.Ordering.TheVariants.{Less, Equal, Greater}
+use Rattle.std.specs.declared.cmp.Ordering.TheVariants.{Equal}
 use Rattle.std.proofs.lemmas.Int.{ints}
+use Rattle.mpslp_model.proofs.PutsLemmas.{equal_from}
 use Rattle.mpslp_decimal.specs.Decimal.{Number, is_zero, height, scaled, negated, difference_of}
 use Rattle.mpslp_decimal.proofs.NormalLemmas.{pow_positive, zero_mantissa}
 use Rattle.mpslp_decimal.proofs.ScaleLemmas.{signed_times, negated_scaled}
@@ -40,11 +40,6 @@ scaled-zero d e = let none : 0 * times d ≡ 0 = omega arith in ap (λ (m : ℤ)
 
 units : (a b d : Number) → difference_of b a ≡ Some d → scaled d ≡ scaled b +ℤ neg_ℤ (scaled a)
 units a b d e = ((sums-exact b (negated a) d).0 e).1 ∙ ap (λ (z : ℤ). scaled b +ℤ z) (negated_scaled a)
-
-equal_from : (r : Ordering) → is_eq r ≡ true → r ≡ Equal
-equal_from Less h = cc
-equal_from Equal h = refl
-equal_from Greater h = cc
 
 same-units : (x y : ℤ) → is_eq (int_cmp x y) ≡ true → y +ℤ neg_ℤ x ≡ pos 0
 same-units x y h = let same = int_cmp-IsAntisymmetric x y (equal_from (int_cmp x y) h) in omega (arith, ints)

@@ -107,8 +107,8 @@ impl Buffer {
         self.put(sink, header);
     }
 
-    /// Ends a section: where it has no line, its header is not put. Tells whether it has any, and that it
-    /// has none where the sink has failed.
+    /// Ends a section: where it has no line, its header is not put. Tells whether it has any; where the
+    /// sink has failed, that it has none.
     pub(crate) fn close_section(&mut self) -> bool
         ensures closed { self.new ≡ with_header [] self.old }
         ensures has_lines { result ≡ (not self.old.has_failed && (length self.old.header == 0)) }
