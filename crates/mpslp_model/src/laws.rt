@@ -35,8 +35,8 @@ pub fn each_builder_is_made(builder: &Builder)
     let _sense = builder.sense;
 }
 
-/// Every model is sound: sides that values meet, a column at least, and each coefficient not 0 and of a row, or the
-/// objective, and a column that are there.
+/// Every model is sound: sides that values meet, bounds that suit a column's kind, a column at least, and each coefficient
+/// not 0 and of a row, or the objective, and a column that are there.
 pub fn each_model_is_sound(model: &Model)
     ensures { IsSound model.now }
 {

@@ -150,7 +150,8 @@ fn same_coefficients(a: &[(OwnedKey, Decimal)], b: &[(OwnedKey, Decimal)]) -> bo
 }
 
 /// A linear or mixed-integer model. Contracts see it as the value that it is, and it is always sound: sides that values
-/// meet, a column at least, and each coefficient not 0 and of a row, or the objective, and a column that are there.
+/// meet, bounds that suit a column's kind, a column at least, and each coefficient not 0 and of a row, or the objective, and
+/// a column that are there.
 ///
 /// Rows and columns are numbered from 0, in byte order of their names. The objective is no row.
 #[derive(Debug, Drop)]
