@@ -277,7 +277,7 @@ ENDATA
 ";
 
 /// Files and their canonical texts.
-const CONVERTED: [(&str, &str); 13] = [
+const CONVERTED: [(&str, &str); 14] = [
     (SMALL, SMALL_CANONICAL),
     (SMALL_WITH_TABS, SMALL_CANONICAL),
     (SMALL_CANONICAL, SMALL_CANONICAL),
@@ -295,6 +295,10 @@ const CONVERTED: [(&str, &str); 13] = [
     (
         "ROWS\n N C\n G c1\nCOLUMNS\n x c1 0.1234567890123456789\nRHS\n c1 1e-10\nRANGES\n c1 9999999999999999999.9999999999\nENDATA\n",
         "NAME\nROWS\n N  C\n G  c1\nCOLUMNS\n    x  c1  1234567890123456789e-19\nRHS\n    RHS  c1  0.0000000001\nRANGES\n    RNG  c1  9999999999999999999.9999999999\nENDATA\n",
+    ),
+    (
+        "NAME\nOBJNAME\n    S\nROWS\n N  C\n L  R\n N  S\nCOLUMNS\n    X  C  1  R  1\n    X  S  2\nENDATA\n",
+        "NAME\nROWS\n N  S\n N  C\n L  R\nCOLUMNS\n    X  S  2\n    X  C  1\n    X  R  1\nENDATA\n",
     ),
     ("", "file: MissingEnd\n"),
 ];

@@ -277,6 +277,10 @@ pub objective_name_after_rows : first_mps_fault (text (codes "ROWS" ∷ codes " 
 unfolding trailing_zeros
 objective_name_after_rows = refl
 
+pub objective_name_again_after_rows : first_mps_fault (text (codes "OBJNAME C" ∷ codes "ROWS" ∷ codes " N  C" ∷ codes "OBJNAME C" ∷ [])) ≡ on_line 4 SectionRepeated
+unfolding trailing_zeros
+objective_name_again_after_rows = refl
+
 pub objective_name_before_name : first_mps_fault (text (codes "OBJNAME C" ∷ codes "NAME" ∷ [])) ≡ on_line 2 SectionOrder
 unfolding trailing_zeros
 objective_name_before_name = refl

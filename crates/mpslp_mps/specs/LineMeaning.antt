@@ -66,7 +66,7 @@ columns_line_declared context fields = if is_marker_line fields then [] else dec
 
 -- ---- RHS and RANGES
 
--- of the objective, the negative of its constant; of a further row of type N, nothing
+-- of the objective, the negative of its constant; of another row of type N, nothing
 abbrev pub right_sides_declared : Draft → ValuesLine → Declarations
 right_sides_declared earlier line = flat_map (λ pair. rhs_declared earlier pair.row (value_of pair.literal)) line.pairs
 

@@ -461,7 +461,7 @@ fn tells_the_fault_of_a_line(rt: HostRuntime) -> Result<(), Fail> {
 }
 
 /// Short files, and the fault of each.
-const SHORTER_FILES: [(&str, &str); 7] = [
+const SHORTER_FILES: [(&str, &str); 10] = [
     (
         "NAME\nROWS\n N  C\n L  R\nCOLUMNS\n    Y  C  1\nRHS\n    A  R  1\nRANGES\n    G  C  1\nENDATA\n",
         "line 10: RangeOnFree",
@@ -476,6 +476,12 @@ const SHORTER_FILES: [(&str, &str); 7] = [
     ),
     ("ROWS\n N C\nENDATA\n", "line 3: SectionOrder"),
     ("OBJSENSE\nROWS\n", "line 2: SectionOrder"),
+    ("OBJNAME obj\nROWS\n L  R\nCOLUMNS\n", "line 4: UnknownRow"),
+    ("OBJNAME S\nROWS\n L  obj\nCOLUMNS\n", "line 4: UnknownRow"),
+    (
+        "OBJNAME S\nROWS\n N  S\n N  S\nCOLUMNS\n",
+        "line 4: DuplicateRow",
+    ),
     ("OBJSENSE\n    BEST\nROWS\n", "line 2: BadType"),
     (" N C\n", "line 1: SectionOrder"),
 ];
@@ -488,6 +494,64 @@ fn tells_faults_of_shorter_files(rt: HostRuntime) -> Result<(), Fail> {
             told(alloc, text.as_bytes())?.as_slice(),
             expected.as_bytes(),
             "at {text}"
+        );
+    }
+    Ok(())
+}
+
+/// What follows OBJNAME in files with two rows of type N.
+const TWO_OBJECTIVES: &str = "ROWS
+ N  C
+ L  R
+ N  S
+COLUMNS
+    X  C  1  R  1
+    X  S  2
+RHS
+    RHS  S  5  C  3
+ENDATA
+";
+
+const FIRST_MODEL: &str = "minimize C -3 3\nR L -inf 0 0 0\nS N -inf inf 0 0\nX 0 inf 1 R:1 S:2\n";
+
+const SECOND_MODEL: &str = "minimize S -5 5\nC N -inf inf 0 0\nR L -inf 0 0 0\nX 0 inf 2 C:1 R:1\n";
+
+const SECOND_MAXIMIZED: &str =
+    "maximize S -5 5\nC N -inf inf 0 0\nR L -inf 0 0 0\nX 0 inf 2 C:1 R:1\n";
+
+/// The heads of such files, and what each of them declares, or its fault.
+const OBJECTIVES: [(&str, &str); 17] = [
+    ("", FIRST_MODEL),
+    ("OBJNAME C\n", FIRST_MODEL),
+    ("OBJNAME S\n", SECOND_MODEL),
+    ("NAME\nOBJNAME\n    S\n", SECOND_MODEL),
+    (
+        "OBJNAME\n* the second one\n\n\tS\nOBJSENSE MAX\n",
+        SECOND_MAXIMIZED,
+    ),
+    ("OBJSENSE\n    MAX\nOBJNAME S\n", SECOND_MAXIMIZED),
+    ("OBJNAME R\n", "line 6: UnknownRow"),
+    ("OBJNAME\n    Q\n", "line 7: UnknownRow"),
+    ("OBJNAME 'MARKER'\n", "line 6: UnknownRow"),
+    ("OBJNAME\n", "line 2: SectionOrder"),
+    ("OBJNAME\nOBJNAME S\n", "line 2: SectionOrder"),
+    ("OBJNAME S\n    C\n", "line 2: SectionOrder"),
+    ("OBJNAME\n    S\n    C\n", "line 3: SectionOrder"),
+    ("OBJNAME S\nOBJNAME C\n", "line 2: SectionRepeated"),
+    ("OBJNAME S\nNAME\n", "line 2: SectionOrder"),
+    ("OBJNAME S C\n", "line 1: FieldCount"),
+    ("OBJNAME\n    S C\n", "line 2: FieldCount"),
+];
+
+#[test]
+fn reads_the_objective_that_is_named(rt: HostRuntime) -> Result<(), Fail> {
+    let alloc = rt.alloc();
+    for (head, expected) in OBJECTIVES {
+        let text = joined(alloc, &[head, TWO_OBJECTIVES])?;
+        assert_eq!(rt;
+            told(alloc, &text)?.as_slice(),
+            expected.as_bytes(),
+            "at {head}"
         );
     }
     Ok(())

@@ -55,6 +55,23 @@ const SENSES: [Change; 13] = [
     ),
 ];
 
+/// OBJNAME.
+const OBJECTIVES: [Change; 13] = [
+    (2, "OBJNAME\nROWS", "line 3: SectionOrder\n"),
+    (2, "OBJNAME\nOBJSENSE MAX\nROWS", "line 3: SectionOrder\n"),
+    (2, "OBJSENSE\nOBJNAME C\nROWS", "line 3: SectionOrder\n"),
+    (2, "OBJNAME\nFOO", "line 3: UnknownSection\n"),
+    (2, "OBJNAME C S\nROWS", "line 2: FieldCount\n"),
+    (2, "OBJNAME\n    C S\nROWS", "line 3: FieldCount\n"),
+    (2, "OBJNAME C\n    C\nROWS", "line 3: SectionOrder\n"),
+    (2, "OBJNAME\n    C\n    C\nROWS", "line 4: SectionOrder\n"),
+    (2, "OBJNAME C\nOBJNAME C\nROWS", "line 3: SectionRepeated\n"),
+    (6, "OBJNAME C", "line 6: SectionOrder\n"),
+    (15, "OBJNAME C", "line 15: SectionOrder\n"),
+    (2, "OBJNAME S\nROWS", "line 7: UnknownRow\n"),
+    (2, "OBJNAME\n    a.row\nROWS", "line 8: UnknownRow\n"),
+];
+
 /// Headers in another order, and headers with too many fields.
 const HEADERS: [Change; 13] = [
     (2, "ROWS 1", "line 2: FieldCount\n"),
@@ -365,6 +382,11 @@ fn are_told(rt: &impl Abort, alloc: Global, changes: &[Change]) -> Result<(), Fa
 #[test]
 fn faults_of_senses(rt: HostRuntime) -> Result<(), Fail> {
     are_told(&rt, rt.alloc(), &SENSES)
+}
+
+#[test]
+fn faults_of_objectives(rt: HostRuntime) -> Result<(), Fail> {
+    are_told(&rt, rt.alloc(), &OBJECTIVES)
 }
 
 #[test]
