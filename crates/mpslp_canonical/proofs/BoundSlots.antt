@@ -7,15 +7,15 @@ use Rattle.mpslp_model.specs.Model.{Column}
 use Rattle.mpslp_model.specs.Lists.{are_distinct}
 use Rattle.mpslp_model.specs.Consistency.{Slot, lower_slot, upper_slot, same_slot, slots_of}
 use Rattle.mpslp_types.specs.declared.kinds.Kind.{Kind}
-use Rattle.mpslp_types.specs.declared.kinds.Kind.TheVariants.{Continuous, Integer}
+use Rattle.mpslp_types.specs.declared.kinds.Kind.TheVariants.{Continuous, Integer, Semi}
 use Rattle.mpslp_types.specs.declared.kinds.Limit.{Limit}
 use Rattle.mpslp_types.specs.declared.kinds.Limit.TheVariants.{MinusInf, Finite, PlusInf}
 use Rattle.mpslp_types.proofs.BoolLemmas.{both_false}
 use Rattle.mpslp_types.proofs.EachLemmas.{Each, Each-weaker, Each-append, Each-all}
 use Rattle.mpslp_model.proofs.DistinctLemmas.{IsNew, Apart, distinct-flat_map}
 use Rattle.mpslp_mps.specs.declared.bound_types.BoundType.TheVariants as bounds
-use Rattle.mpslp_canonical.proofs.BoundsWalk.{BoundForm, fixed, lower, upper, free, no_lower, no_upper, bound_decl, decl_at}
-use Rattle.mpslp_canonical.specs.PrintedValues.{have_same_value, valued, PrintedBound, printed_lower, printed_upper, printed_bounds}
+use Rattle.mpslp_canonical.proofs.BoundsWalk.{BoundForm, fixed, lower, upper, free, no_lower, no_upper, semi_upper, bound_decl, decl_at}
+use Rattle.mpslp_canonical.specs.PrintedValues.{is_fixed, valued, PrintedBound, printed_lower, printed_upper, printed_bounds}
 use Rattle.mpslp_canonical.proofs.CanonicalItems.{to_bound, bounds_in}
 use Rattle.mpslp_canonical.proofs.WholeParts.{made_of}
 use Rattle.mpslp_canonical.proofs.ListedOnce.{AreOther}
@@ -36,6 +36,7 @@ each-form P name l u upper value = (u, tt)
 each-form P name l u free value = (l, (u, tt))
 each-form P name l u no_lower value = (l, tt)
 each-form P name l u no_upper value = (u, tt)
+each-form P name l u semi_upper value = (u, tt)
 
 each-slot : (P : Slot → Type 0) (name : List ℕ) → P (lower_slot name) → P (upper_slot name) → (printed : List PrintedBound) → Each P (slots_at name printed)
 each-slot P name l u [] = tt
@@ -53,22 +54,39 @@ lower-once : (name : List ℕ) (a : Number) (rest : List PrintedBound) → are_d
     → are_distinct same_slot (slots_at name (printed_lower (Finite a) ++ rest)) ≡ true
 lower-once name a rest h k = elim (is_zero a) as (λ b. are_distinct same_slot (slots_at name (cond b [] (valued bounds.Lower a ∷ []) ++ rest)) ≡ true) [ true ↦ h | false ↦ k ]
 
+upper-once : (name : List ℕ) (kind : Kind) (b : Number) → are_distinct same_slot (slots_at name (printed_upper kind (Finite b))) ≡ true
+upper-once name Continuous b = refl
+upper-once name Integer b = refl
+upper-once name Semi b = refl
+
+no-lower-once : (name : List ℕ) (kind : Kind) (b : Number) → are_distinct same_slot (slots_at name (printed_lower MinusInf ++ printed_upper kind (Finite b))) ≡ true
+no-lower-once name Continuous b = refl
+no-lower-once name Integer b = refl
+no-lower-once name Semi b = refl
+
+both-once : (name : List ℕ) (kind : Kind) (a b : Number) → are_distinct same_slot (slots_at name (printed_lower (Finite a) ++ printed_upper kind (Finite b))) ≡ true
+both-once name Continuous a b = lower-once name a (printed_upper Continuous (Finite b)) refl refl
+both-once name Integer a b = lower-once name a (printed_upper Integer (Finite b)) refl refl
+both-once name Semi a b = lower-once name a (printed_upper Semi (Finite b)) refl refl
+
 sides-once : (name : List ℕ) (kind : Kind) (l u : Limit) → are_distinct same_slot (slots_at name (printed_bounds kind l u)) ≡ true
 sides-once name kind MinusInf PlusInf = refl
 sides-once name kind MinusInf MinusInf = refl
-sides-once name kind MinusInf (Finite b) = refl
+sides-once name kind MinusInf (Finite b) = no-lower-once name kind b
 sides-once name kind (Finite a) (Finite b) =
-    elim (have_same_value a b) as (λ t. are_distinct same_slot (slots_at name (cond t (valued bounds.Fixed b ∷ []) (printed_lower (Finite a) ++ printed_upper kind (Finite b)))) ≡ true) [
+    elim (is_fixed kind a b) as (λ t. are_distinct same_slot (slots_at name (cond t (valued bounds.Fixed b ∷ []) (printed_lower (Finite a) ++ printed_upper kind (Finite b)))) ≡ true) [
       | true ↦ refl
-      | false ↦ lower-once name a (printed_upper kind (Finite b)) refl refl
+      | false ↦ both-once name kind a b
     ]
 sides-once name kind (Finite a) MinusInf = lower-once name a (printed_upper kind MinusInf) refl refl
 sides-once name Integer (Finite a) PlusInf = lower-once name a (printed_upper Integer PlusInf) refl refl
 sides-once name Continuous (Finite a) PlusInf = lower-once name a (printed_upper Continuous PlusInf) refl refl
+sides-once name Semi (Finite a) PlusInf = lower-once name a (printed_upper Semi PlusInf) refl refl
 sides-once name kind PlusInf MinusInf = refl
-sides-once name kind PlusInf (Finite b) = refl
+sides-once name kind PlusInf (Finite b) = upper-once name kind b
 sides-once name Integer PlusInf PlusInf = refl
 sides-once name Continuous PlusInf PlusInf = refl
+sides-once name Semi PlusInf PlusInf = refl
 
 -- ---- and no side is another column's
 

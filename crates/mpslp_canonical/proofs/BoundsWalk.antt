@@ -4,7 +4,7 @@ use Rattle.std.specs.Prelude.{Some, Ok}
 use Rattle.mpslp_decimal.specs.Decimal.{Number}
 use Rattle.mpslp_decimal.specs.Literal.{number_of}
 use Rattle.mpslp_types.specs.Sides.{limit_of}
-use Rattle.mpslp_model.specs.Declaration.{declare_lower, declare_upper, Declarations, Draft}
+use Rattle.mpslp_model.specs.Declaration.{declare_lower, declare_upper, declare_semi, Declarations, Draft}
 use Rattle.mpslp_model.specs.Lists.{those_of}
 use Rattle.mpslp_types.specs.declared.kinds.Limit.TheVariants.{MinusInf, Finite, PlusInf}
 use Rattle.mpslp_types.proofs.EachLemmas.{Each, Each-append}
@@ -27,6 +27,7 @@ pub data BoundForm : Type 0 where
   free : BoundForm
   no_lower : BoundForm
   no_upper : BoundForm
+  semi_upper : BoundForm
 
 pub record Bound : Type 0 where
   pub form : BoundForm
@@ -41,6 +42,7 @@ fields_at set upper x text = letters_of bounds.Upper ∷ set ∷ x ∷ text ∷ 
 fields_at set free x text = letters_of bounds.Free ∷ set ∷ x ∷ []
 fields_at set no_lower x text = letters_of bounds.NoLower ∷ set ∷ x ∷ []
 fields_at set no_upper x text = letters_of bounds.NoUpper ∷ set ∷ x ∷ []
+fields_at set semi_upper x text = letters_of bounds.SemiUpper ∷ set ∷ x ∷ text ∷ []
 
 abbrev pub decl_at : BoundForm → List ℕ → Number → Declarations
 decl_at fixed x v = declare_lower x (Finite v) ∷ declare_upper x (Finite v) ∷ []
@@ -49,6 +51,7 @@ decl_at upper x v = declare_upper x (Finite v) ∷ []
 decl_at free x v = declare_lower x MinusInf ∷ declare_upper x PlusInf ∷ []
 decl_at no_lower x v = declare_lower x MinusInf ∷ []
 decl_at no_upper x v = declare_upper x PlusInf ∷ []
+decl_at semi_upper x v = declare_semi x ∷ declare_upper x (Finite v) ∷ []
 
 abbrev pub bound_fields : List ℕ → Bound → Fields
 bound_fields set b = fields_at set b.form b.column b.text
@@ -77,6 +80,7 @@ bound_says set no_upper x text v before earlier s n f = rw s refl
 bound_says set lower x text v before earlier s n f = rw (s, n, f) refl
 bound_says set upper x text v before earlier s n f = rw (s, n, f) refl
 bound_says set fixed x text v before earlier s n f = rw (s, n, f) refl
+bound_says set semi_upper x text v before earlier s n f = rw (s, n, f) refl
 
 set_at : (set : List ℕ) (t : BoundForm) (x text : List ℕ) → bound_set (fields_at set t x text) ≡ Some set
 set_at set free x text = refl
@@ -85,6 +89,7 @@ set_at set no_upper x text = refl
 set_at set lower x text = refl
 set_at set upper x text = refl
 set_at set fixed x text = refl
+set_at set semi_upper x text = refl
 
 bound_good : (set : List ℕ) (t : BoundForm) (x text : List ℕ) (v : Number) (before : List Item) (earlier : Draft) → current_section before ≡ Some Bounds → number_of text ≡ Ok v
     → those_of (set_tests (first_set bound_set (data_lines Bounds before)) set) ≡ [] → form_faults (context_of before) earlier (data_line (fields_at set t x text)) ≡ []
@@ -94,6 +99,7 @@ bound_good set no_upper x text v before earlier s n h = rw s h
 bound_good set lower x text v before earlier s n h = rw s (vector_good (first_set bound_set (data_lines Bounds before)) set text v n h)
 bound_good set upper x text v before earlier s n h = rw s (vector_good (first_set bound_set (data_lines Bounds before)) set text v n h)
 bound_good set fixed x text v before earlier s n h = rw s (vector_good (first_set bound_set (data_lines Bounds before)) set text v n h)
+bound_good set semi_upper x text v before earlier s n h = rw s (vector_good (first_set bound_set (data_lines Bounds before)) set text v n h)
 
 pub bound_step : (set : List ℕ) (b : Bound) (rest : List Bound) (before : List Item) (earlier : Draft) → InBounds set (b ∷ rest) before earlier
     → Step (bound_item set) bound_decl (InBounds set) b rest before earlier

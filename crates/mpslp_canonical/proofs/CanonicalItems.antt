@@ -13,7 +13,7 @@ use Rattle.mpslp_mps.specs.declared.bound_types.BoundType.{BoundType}
 use Rattle.mpslp_mps.specs.declared.bound_types.BoundType.TheVariants as bounds
 use Rattle.mpslp_canonical.proofs.RowsWalk.{RowItem, row_item, Side, side_item}
 use Rattle.mpslp_canonical.proofs.ColumnsWalk.{Cell, cell_item, Group, cells_of}
-use Rattle.mpslp_canonical.proofs.BoundsWalk.{BoundForm, fixed, lower, upper, free, no_lower, no_upper, Bound}
+use Rattle.mpslp_canonical.proofs.BoundsWalk.{BoundForm, fixed, lower, upper, free, no_lower, no_upper, semi_upper, Bound}
 use Rattle.mpslp_canonical.proofs.HeaderWalk.{header_item}
 use Rattle.mpslp_canonical.specs.Printed.{item_in}
 use Rattle.mpslp_canonical.specs.Listing.{Listing}
@@ -113,6 +113,7 @@ form_of bounds.Upper = upper
 form_of bounds.Fixed = fixed
 form_of bounds.NoLower = no_lower
 form_of bounds.NoUpper = no_upper
+form_of bounds.SemiUpper = semi_upper
 form_of _ = free
 
 abbrev pub value_in : Option Number → Number
@@ -130,6 +131,7 @@ is_fit bound = fits bound.type bound.value
     fits bounds.Lower (Some d) = true
     fits bounds.Upper (Some d) = true
     fits bounds.Fixed (Some d) = true
+    fits bounds.SemiUpper (Some d) = true
     fits bounds.Free None = true
     fits bounds.NoLower None = true
     fits bounds.NoUpper None = true

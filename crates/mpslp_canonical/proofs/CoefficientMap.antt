@@ -17,7 +17,7 @@ use Rattle.mpslp_model.proofs.LaterDrafts.{value_in}
 use Rattle.mpslp_model.proofs.SlotLemmas.{same_name}
 use Rattle.mpslp_model.proofs.SortedDrafts.{key_total}
 use Rattle.mpslp_canonical.specs.Listing.{Listing}
-use Rattle.mpslp_canonical.specs.CanonicalMps.{cell_at, column_cells, printed_cells, is_integer_column, is_continuous_column}
+use Rattle.mpslp_canonical.specs.CanonicalMps.{cell_at, column_cells, printed_cells, is_integer_column, is_plain_column}
 use Rattle.mpslp_canonical.proofs.CanonicalItems.{to_cell, cells_in}
 use Rattle.mpslp_canonical.proofs.EntryLemmas.{puts-kept, found-each, filter-not_not, found-either}
 use Rattle.mpslp_canonical.proofs.ListedParts.{own_coefficient, listed_decl, from_cells, coefficients-part}
@@ -135,26 +135,26 @@ module _ (m : Listing) (h : IsSoundListing m) where
       (row-hit m.coefficients key.row column.0 value here (m.objective ∷ map (λ row. row.0) m.rows) there)
 
   each-printed : (key : CoefficientKey) → SomeAt key m.coefficients
-      → SomeAt key (from_cells own_coefficient m (filter is_continuous_column m.columns) ++ from_cells own_coefficient m (filter (λ column. not (is_continuous_column column)) m.columns))
+      → SomeAt key (from_cells own_coefficient m (filter is_plain_column m.columns) ++ from_cells own_coefficient m (filter (λ column. not (is_plain_column column)) m.columns))
   each-printed key some =
       let found = value_in (find key_cmp key m.coefficients) some in
       let names = is_one_of (names_in m.columns) key.column in
       let rows = is_one_of (m.objective ∷ names_in m.rows) key.row in
       let sound = sound-at key found.0 found.1 in
       let there : names ≡ true = first_so names rows (second_so (is_kept found.0) (names && rows) (second_so (is_decimal found.0) (is_kept found.0 && (names && rows)) sound)) in
-      join-some key (from_cells own_coefficient m (filter is_continuous_column m.columns)) (from_cells own_coefficient m (filter (λ column. not (is_continuous_column column)) m.columns))
-      (found-either key_cmp key_total same_key (λ column. flat_map own_coefficient (cells_in m column)) is_continuous_column (λ column. same_bytes key.column column.0) key m.columns
+      join-some key (from_cells own_coefficient m (filter is_plain_column m.columns)) (from_cells own_coefficient m (filter (λ column. not (is_plain_column column)) m.columns))
+      (found-either key_cmp key_total same_key (λ column. flat_map own_coefficient (cells_in m column)) is_plain_column (λ column. same_bytes key.column column.0) key m.columns
       (sym (any-name key.column m.columns) ∙ there) (hit key found.0 found.1))
 
   -- The coefficients that are declared, but for the zeros, are the listing's.
   pub coefficients-kept : filter (λ entry. not (is_zero entry.1)) (drafted m).coefficients ≡ m.coefficients
   coefficients-kept =
-      let plain = from_cells own_coefficient m (filter is_continuous_column m.columns) in
-      let others = from_cells own_coefficient m (filter (λ column. not (is_continuous_column column)) m.columns) in
+      let plain = from_cells own_coefficient m (filter is_plain_column m.columns) in
+      let others = from_cells own_coefficient m (filter (λ column. not (is_plain_column column)) m.columns) in
       ap (filter (λ entry. not (is_zero entry.1)))
       (coefficients-all (listed_decl m) empty_draft
       ∙ ap (λ (es : List (CoefficientKey × Number)). puts key_cmp es [])
       (coefficients-part m ∙ ap (λ (cs : List (List ℕ × Column)). plain ++ from_cells own_coefficient m cs) (sym (filter-not_not is_integer_column m.columns))))
       ∙ puts-kept key_cmp key_total same_key is_kept m.coefficients (plain ++ others) h.coefficients_sorted
-      (Each-append (IsTrueEntry m.coefficients) plain others (columns-true m all-kept (filter is_continuous_column m.columns)) (columns-true m all-kept (filter (λ column. not (is_continuous_column column)) m.columns)))
+      (Each-append (IsTrueEntry m.coefficients) plain others (columns-true m all-kept (filter is_plain_column m.columns)) (columns-true m all-kept (filter (λ column. not (is_plain_column column)) m.columns)))
       each-printed

@@ -4,24 +4,32 @@ use Rattle.std.specs.Prelude.{Option, Some, None, is_some, filter, ◌&&◌, ◌
 use Rattle.std.specs.List.{flat_map}
 use Rattle.std.specs.Ordering.{eq_by_cmp}
 use Rattle.std.specs.Cmp.Lexicographic.{texts_ties}
+use Rattle.std.specs.Cmp.{second_so}
 use Rattle.std.specs.FinMap.{find, is_sorted}
 use Rattle.std.proofs.lemmas.List.{append-nil}
 use Rattle.mpslp_decimal.specs.Decimal.{Number, IsDecimal, is_decimal, is_zero, negated}
 use Rattle.mpslp_types.specs.Name.{is_mps_name, is_one_of, bytes_cmp}
-use Rattle.mpslp_model.specs.Model.{Column, CoefficientKey, key_cmp, is_sound_row, is_sound_column}
+use Rattle.mpslp_model.specs.Model.{Column, CoefficientKey, key_cmp, suits, is_sound_row, is_sound_column}
+use Rattle.mpslp_model.specs.Views as views
+use Rattle.mpslp_types.specs.Sides.{zero_limit, is_at_most}
+use Rattle.mpslp_types.specs.declared.kinds.Kind.{Kind}
+use Rattle.mpslp_types.specs.declared.kinds.Kind.TheVariants.{Continuous, Integer, Semi}
+use Rattle.mpslp_types.specs.declared.kinds.Limit.{Limit}
+use Rattle.mpslp_types.specs.declared.kinds.Limit.TheVariants.{MinusInf, Finite, PlusInf}
 use Rattle.mpslp_model.specs.Declaration.{RowForm, Draft, draft_of, empty_draft, at_name, has_name, names_in}
 use Rattle.mpslp_types.proofs.EachLemmas.{Each, Each-all}
 use Rattle.mpslp_types.proofs.BoolLemmas.{T_from}
 use Rattle.mpslp_model.proofs.PutsLemmas.{puts, puts-append, find-front, finds_own}
+use Rattle.mpslp_model.proofs.BoundsLemmas.{is_semi_kind}
 use Rattle.mpslp_model.proofs.PartedLemmas.{parted-give}
-use Rattle.mpslp_model.proofs.DraftLemmas.{rows-all, rhs_values-all, ranges-all, columns-all, lowers-all, uppers-all, marked-all, integers-all, binaries-all}
+use Rattle.mpslp_model.proofs.DraftLemmas.{rows-all, rhs_values-all, ranges-all, columns-all, lowers-all, uppers-all, marked-all, integers-all, binaries-all, semis-all}
 use Rattle.mpslp_model.proofs.MeaningFromNoFault.{sorted-mapped}
 use Rattle.mpslp_model.proofs.SortedDrafts.{bytes_total, tied_names}
 use Rattle.mpslp_canonical.specs.Listing.{Listing}
-use Rattle.mpslp_canonical.specs.CanonicalMps.{column_cells, printed_cells, is_integer_kind, is_integer_column, is_continuous_column}
+use Rattle.mpslp_canonical.specs.CanonicalMps.{column_cells, printed_cells, is_integer_column, is_plain_column}
 use Rattle.mpslp_canonical.proofs.CanonicalItems.{to_cell, cells_in}
 use Rattle.mpslp_canonical.proofs.EntryLemmas.{first_there, then_told, told, all_told, sorted-kept, find-puts, puts-own, find-kept, sorted-told, find-told, filter-not_not}
-use Rattle.mpslp_canonical.proofs.ListedParts.{form_told, value_told, side_told, range_told, column_lower, column_upper, row_forms, own_column, listed_decl, from_cells, rows-part, rhs_values-part, ranges-part, columns-part, marked-part, integers-part, binaries-part, lowers-part, uppers-part}
+use Rattle.mpslp_canonical.proofs.ListedParts.{form_told, value_told, side_told, range_told, column_lower, column_upper, semi_told, column_semi, row_forms, own_column, listed_decl, from_cells, rows-part, rhs_values-part, ranges-part, columns-part, marked-part, integers-part, binaries-part, lowers-part, uppers-part, semis-part}
 
 -- ---- a sound listing
 
@@ -119,6 +127,30 @@ upper-at m h q =
     ∙ puts-own bytes_cmp bytes_total tied_names (all_told column_upper m.columns) (sorted-told bytes_cmp column_upper m.columns h.columns_sorted))
     ∙ find-told bytes_cmp column_upper bytes_total tied_names q m.columns h.columns_sorted
 
+semi-at : (m : Listing) → IsSoundListing m → (q : List ℕ) → at_name (drafted m).semis q ≡ then_told column_semi (at_name m.columns q)
+semi-at m h q =
+    ap (λ (es : List _). at_name es q)
+    (semis-all (listed_decl m) empty_draft ∙ ap (λ (es : List _). puts bytes_cmp es []) (semis-part m)
+    ∙ puts-own bytes_cmp bytes_total tied_names (all_told column_semi m.columns) (sorted-told bytes_cmp column_semi m.columns h.columns_sorted))
+    ∙ find-told bytes_cmp column_semi bytes_total tied_names q m.columns h.columns_sorted
+
+-- a semi-continuous column of a sound listing has a finite upper bound, which tells its kind
+semi-suited : (kind : Kind) (l u : Limit) → suits kind l u ≡ true → is_some (semi_told kind u) ≡ is_semi_kind kind
+semi-suited Continuous l MinusInf h = refl
+semi-suited Continuous l (Finite b) h = refl
+semi-suited Continuous l PlusInf h = refl
+semi-suited Integer l MinusInf h = refl
+semi-suited Integer l (Finite b) h = refl
+semi-suited Integer l PlusInf h = refl
+semi-suited Semi l MinusInf h = second_so (is_at_most zero_limit l) false h
+semi-suited Semi l (Finite b) h = refl
+semi-suited Semi l PlusInf h = second_so (is_at_most zero_limit l) false h
+
+pub semis-at : (m : Listing) → IsSoundListing m → (q : List ℕ) (column : Column) → suits column.kind column.lower column.upper ≡ true → at_name m.columns q ≡ Some column
+    → has_name (drafted m).semis q ≡ is_semi_kind column.kind
+semis-at m h q column suited is =
+    ap is_some (semi-at m h q ∙ ap (then_told column_semi) is) ∙ semi-suited column.kind column.lower column.upper suited
+
 abbrev pub named : {X : Type 0} → List ℕ × X → List ℕ × Unit {0}
 named entry = (entry.0, tt)
 
@@ -146,8 +178,8 @@ columns-drafted m h =
     columns-all (listed_decl m) empty_draft
     ∙ ap (λ (es : List (List ℕ × Unit {0})). puts bytes_cmp es [])
     (columns-part m
-    ∙ ap (λ (cs : List (List ℕ × Column)). from_cells own_column m (filter is_continuous_column m.columns) ++ from_cells own_column m cs) (sym (filter-not_not is_integer_column m.columns)))
-    ∙ columns-parted m is_continuous_column m.columns h.columns_sorted
+    ∙ ap (λ (cs : List (List ℕ × Column)). from_cells own_column m (filter is_plain_column m.columns) ++ from_cells own_column m cs) (sym (filter-not_not is_integer_column m.columns)))
+    ∙ columns-parted m is_plain_column m.columns h.columns_sorted
 
 filter-all : {X : Type 0} (xs : List X) → filter (λ _. true) xs ≡ xs
 filter-all [] = refl
@@ -175,12 +207,12 @@ plain-alone m columns h =
     ap (λ (es : List (List ℕ × Unit {0})). puts bytes_cmp es []) (one-part (λ column. flat_map own_column (cells_in m column)) columns)
     ∙ columns-parted m (λ _. true) columns h
 
-pub marked-at : (m : Listing) → IsSoundListing m → (q : List ℕ) (column : Column) → at_name m.columns q ≡ Some column → has_name (drafted m).marked q ≡ is_integer_kind column.kind
+pub marked-at : (m : Listing) → IsSoundListing m → (q : List ℕ) (column : Column) → at_name m.columns q ≡ Some column → has_name (drafted m).marked q ≡ views.is_integer_column column
 marked-at m h q column is =
     ap (λ (es : List (List ℕ × Unit {0})). has_name es q) (marked-drafted m h)
     ∙ ap is_some (at-mapped (λ _. tt) q (filter is_integer_column m.columns))
-    ∙ ap (λ (o : Option Column). is_some (then_told (λ _. Some tt) o)) (find-kept bytes_cmp bytes_total tied_names (λ c. is_integer_kind c.kind) q m.columns h.columns_sorted ∙ ap (then_told (λ c. cond (is_integer_kind c.kind) (Some c) None)) is)
-    ∙ by (is_integer_kind column.kind)
+    ∙ ap (λ (o : Option Column). is_some (then_told (λ _. Some tt) o)) (find-kept bytes_cmp bytes_total tied_names (λ c. views.is_integer_column c) q m.columns h.columns_sorted ∙ ap (then_told (λ c. cond (views.is_integer_column c) (Some c) None)) is)
+    ∙ by (views.is_integer_column column)
   where
     by : (b : Bool) → is_some (then_told {V = Unit {0}} (λ _. Some tt) (cond b (Some column) None)) ≡ b
     by true = refl

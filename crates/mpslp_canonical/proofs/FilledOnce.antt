@@ -7,6 +7,7 @@ use Rattle.std.proofs.lemmas.List.{append-nil}
 use Rattle.std.proofs.lemmas.List.Concat.{flat_map-append}
 use Rattle.mpslp_types.specs.Name.{same_bytes, bytes_cmp}
 use Rattle.mpslp_model.specs.Model.{Column}
+use Rattle.mpslp_model.specs.Views as views
 use Rattle.mpslp_model.specs.Declaration.{declare_objective, at_name, names_in}
 use Rattle.mpslp_model.specs.Lists.{are_distinct}
 use Rattle.mpslp_model.specs.Consistency.{Slot, row_slot, rhs_slot, range_slot, same_slot, slots_of, all_slots}
@@ -19,7 +20,7 @@ use Rattle.mpslp_model.proofs.SlotLemmas.{same_name}
 use Rattle.mpslp_canonical.proofs.ColumnsWalk.{Cell, cell_decl, cells_of}
 use Rattle.mpslp_canonical.proofs.BoundsWalk.{bound_decl}
 use Rattle.mpslp_canonical.specs.Listing.{Listing}
-use Rattle.mpslp_canonical.specs.CanonicalMps.{is_integer_kind, is_integer_column, is_continuous_column}
+use Rattle.mpslp_canonical.specs.CanonicalMps.{is_integer_column, is_plain_column}
 use Rattle.mpslp_canonical.proofs.CanonicalItems.{group_in, cells_in, bounds_in}
 use Rattle.mpslp_canonical.proofs.EarlyWalk.{sense_decl}
 use Rattle.mpslp_canonical.proofs.EntryLemmas.{all_told, sorted-kept}
@@ -71,36 +72,36 @@ sense-section Maximize = record { once = refl; rank = (refl, tt) }
 -- ---- COLUMNS: the columns outside the integer part, then those in it
 
 abbrev listed_columns : Listing → List (List ℕ × Column)
-listed_columns m = filter is_continuous_column m.columns ++ filter is_integer_column m.columns
+listed_columns m = filter is_plain_column m.columns ++ filter is_integer_column m.columns
 
 abbrev IsFound : Listing → List ℕ × Column → Type 0
 IsFound m column = at_name m.columns column.0 ≡ Some column.1
 
 -- a name has one column, of one kind
-kinds_differ : (m : Listing) (x y : List ℕ × Column) → IsFound m x → is_continuous_column x ≡ true → IsFound m y → is_integer_column y ≡ true → same_bytes y.0 x.0 ≡ false
-kinds_differ m x y found continuous there integer = by (same_bytes y.0 x.0) refl
+kinds_differ : (m : Listing) (x y : List ℕ × Column) → IsFound m x → is_plain_column x ≡ true → IsFound m y → is_integer_column y ≡ true → same_bytes y.0 x.0 ≡ false
+kinds_differ m x y found plain there integer = by (same_bytes y.0 x.0) refl
   where
     by : (b : Bool) → same_bytes y.0 x.0 ≡ b → b ≡ false
     by false same = refl
     by true same =
         sym integer
-        ∙ ap (λ (o : Option Column). option_map_or (λ column. is_integer_kind column.kind) o false) (sym there ∙ ap (at_name m.columns) (same_name y.0 x.0 same) ∙ found)
-        ∙ not_so (is_integer_column x) continuous
+        ∙ ap (λ (o : Option Column). option_map_or views.is_integer_column o false) (sym there ∙ ap (at_name m.columns) (same_name y.0 x.0 same) ∙ found)
+        ∙ not_so (is_integer_column x) plain
 
-parts-differ : (m : Listing) → IsSoundListing m → Each (λ x. Each (λ y. same_bytes y.0 x.0 ≡ false) (filter is_integer_column m.columns)) (filter is_continuous_column m.columns)
+parts-differ : (m : Listing) → IsSoundListing m → Each (λ x. Each (λ y. same_bytes y.0 x.0 ≡ false) (filter is_integer_column m.columns)) (filter is_plain_column m.columns)
 parts-differ m h =
     let own = own-found m.columns h.columns_sorted in
-    Each-filter (λ x. Each (λ y. same_bytes y.0 x.0 ≡ false) (filter is_integer_column m.columns)) is_continuous_column m.columns
-    (Each-weaker (IsFound m) (λ x. is_continuous_column x ≡ true → Each (λ y. same_bytes y.0 x.0 ≡ false) (filter is_integer_column m.columns))
-    (λ x found continuous.
+    Each-filter (λ x. Each (λ y. same_bytes y.0 x.0 ≡ false) (filter is_integer_column m.columns)) is_plain_column m.columns
+    (Each-weaker (IsFound m) (λ x. is_plain_column x ≡ true → Each (λ y. same_bytes y.0 x.0 ≡ false) (filter is_integer_column m.columns))
+    (λ x found plain.
     Each-filter (λ y. same_bytes y.0 x.0 ≡ false) is_integer_column m.columns
     (Each-weaker (IsFound m) (λ y. is_integer_column y ≡ true → same_bytes y.0 x.0 ≡ false)
-    (λ y there integer. kinds_differ m x y found continuous there integer) m.columns own)) m.columns own)
+    (λ y there integer. kinds_differ m x y found plain there integer) m.columns own)) m.columns own)
 
 listed-other : (m : Listing) → IsSoundListing m → AreOther (listed_columns m)
 listed-other m h =
-    other-append (filter is_continuous_column m.columns) (filter is_integer_column m.columns)
-    (sorted-other (filter is_continuous_column m.columns) (sorted-kept bytes_cmp is_continuous_column m.columns h.columns_sorted))
+    other-append (filter is_plain_column m.columns) (filter is_integer_column m.columns)
+    (sorted-other (filter is_plain_column m.columns) (sorted-kept bytes_cmp is_plain_column m.columns h.columns_sorted))
     (sorted-other (filter is_integer_column m.columns) (sorted-kept bytes_cmp is_integer_column m.columns h.columns_sorted))
     (parts-differ m h)
 
@@ -110,12 +111,12 @@ cells-fill m marked h columns =
     flat-same (made_of slots_of (cell_decl marked)) cell_slot h (cells_of (map (group_in m) columns)) ∙ cells-made cell_slot m columns
 
 columns-fill : (m : Listing)
-    → flat_map (made_of slots_of (cell_decl false)) (cells_of (map (group_in m) (filter is_continuous_column m.columns)))
+    → flat_map (made_of slots_of (cell_decl false)) (cells_of (map (group_in m) (filter is_plain_column m.columns)))
     ++ flat_map (made_of slots_of (cell_decl true)) (cells_of (map (group_in m) (filter is_integer_column m.columns)))
     ≡ flat_map (column_slots m) (listed_columns m)
 columns-fill m =
-    (λ i. cells-fill m false (λ _. refl) (filter is_continuous_column m.columns) i ++ cells-fill m true (λ _. refl) (filter is_integer_column m.columns) i)
-    ∙ sym (flat_map-append (column_slots m) (filter is_continuous_column m.columns) (filter is_integer_column m.columns))
+    (λ i. cells-fill m false (λ _. refl) (filter is_plain_column m.columns) i ++ cells-fill m true (λ _. refl) (filter is_integer_column m.columns) i)
+    ∙ sym (flat_map-append (column_slots m) (filter is_plain_column m.columns) (filter is_integer_column m.columns))
 
 column-rank : (m : Listing) (column : List ℕ × Column) → AllOf 2 (column_slots m column)
 column-rank m column = Each-flat_map (λ slot. rank slot ≡ 2) cell_slot (cells_in m column) (Each-all (λ cell. AllOf 2 (cell_slot cell)) (λ cell. (refl, tt)) (cells_in m column))

@@ -10,6 +10,7 @@ use Rattle.mpslp_decimal.specs.Decimal.{Number, IsDecimal, is_decimal}
 use Rattle.mpslp_decimal.proofs.NumberTextLemmas.{number-text}
 use Rattle.mpslp_types.specs.Name.{same_bytes, marker, bytes_cmp}
 use Rattle.mpslp_model.specs.Model.{Column, CoefficientKey, key_cmp, is_sound_row, is_sound_column}
+use Rattle.mpslp_model.specs.Views as views
 use Rattle.mpslp_model.specs.Declaration.{Declaration, declare_objective, Draft, empty_draft, adding, adding_all, at_name, has_name, has_column}
 use Rattle.mpslp_model.specs.Lists.{is_nonempty}
 use Rattle.mpslp_types.specs.declared.kinds.Sense.{Sense}
@@ -23,7 +24,7 @@ use Rattle.mpslp_model.proofs.SortedDrafts.{bytes_total, key_total, tied_names}
 use Rattle.mpslp_canonical.proofs.RowsWalk.{row_decl}
 use Rattle.mpslp_canonical.proofs.ColumnsWalk.{cell_decl, GoodCell, AreOf, Group, cells_of, IsGroup, AreApart, AreAbsent}
 use Rattle.mpslp_canonical.specs.Listing.{Listing}
-use Rattle.mpslp_canonical.specs.CanonicalMps.{cell_at, column_cells, printed_cells, is_integer_kind, is_integer_column, is_continuous_column}
+use Rattle.mpslp_canonical.specs.CanonicalMps.{cell_at, column_cells, printed_cells, is_integer_column, is_plain_column}
 use Rattle.mpslp_canonical.proofs.CanonicalItems.{to_row, to_cell, cells_in, group_in}
 use Rattle.mpslp_canonical.proofs.EarlyWalk.{sense_decl, AreColumns}
 use Rattle.mpslp_canonical.proofs.WholeWalk.{draft_at_columns}
@@ -121,13 +122,13 @@ after-columns m columns all none h =
     ∙ plain-alone m columns h
 
 integer-absent : (m : Listing) → IsSoundListing m → (column : List ℕ × Column) → at_name m.columns column.0 ≡ Some column.1 → is_integer_column column ≡ true
-    → has_name (map named (filter is_continuous_column m.columns)) column.0 ≡ false
+    → has_name (map named (filter is_plain_column m.columns)) column.0 ≡ false
 integer-absent m h column is integer =
-    ap is_some (at-mapped (λ _. tt) column.0 (filter is_continuous_column m.columns))
-    ∙ ap (λ (o : Option Column). is_some (then_told {V = Unit {0}} (λ _. Some tt) o)) (find-kept bytes_cmp bytes_total tied_names (λ c. not (is_integer_kind c.kind)) column.0 m.columns h.columns_sorted
-    ∙ ap (then_told (λ c. cond (not (is_integer_kind c.kind)) (Some c) None)) is ∙ ap (λ (b : Bool). cond (not b) (Some column.1) None) integer)
+    ap is_some (at-mapped (λ _. tt) column.0 (filter is_plain_column m.columns))
+    ∙ ap (λ (o : Option Column). is_some (then_told {V = Unit {0}} (λ _. Some tt) o)) (find-kept bytes_cmp bytes_total tied_names (λ c. not (views.is_integer_column c)) column.0 m.columns h.columns_sorted
+    ∙ ap (then_told (λ c. cond (not (views.is_integer_column c)) (Some c) None)) is ∙ ap (λ (b : Bool). cond (not b) (Some column.1) None) integer)
 
-integers-absent : (m : Listing) → IsSoundListing m → (all : Draft) → all.columns ≡ map named (filter is_continuous_column m.columns) → AreAbsent all (map (group_in m) (filter is_integer_column m.columns))
+integers-absent : (m : Listing) → IsSoundListing m → (all : Draft) → all.columns ≡ map named (filter is_plain_column m.columns) → AreAbsent all (map (group_in m) (filter is_integer_column m.columns))
 integers-absent m h all are =
     Each-map (λ (group : Group). has_column all group.0 ≡ false) (group_in m) (filter is_integer_column m.columns)
     (Each-filter (λ column. has_column all column.0 ≡ false) is_integer_column m.columns
@@ -141,9 +142,9 @@ none-there m all none columns =
 
 pub are-columns : (m : Listing) → IsSoundListing m → AreColumns (whole_of m).plain (whole_of m).integers (draft_at_columns (whole_of m))
 are-columns m h =
-    let plain = filter is_continuous_column m.columns in
+    let plain = filter is_plain_column m.columns in
     let integers = filter is_integer_column m.columns in
-    let sorted_plain = sorted-kept bytes_cmp is_continuous_column m.columns h.columns_sorted in
+    let sorted_plain = sorted-kept bytes_cmp is_plain_column m.columns h.columns_sorted in
     let before = draft_at_columns (whole_of m) in
     let between = adding_all before (flat_map (cell_decl false) (cells_of (map (group_in m) plain))) in
     record {
@@ -153,6 +154,6 @@ are-columns m h =
       integers_apart = groups-apart m integers (sorted-kept bytes_cmp is_integer_column m.columns h.columns_sorted);
       plain_absent = none-there m before (no-columns m) plain;
       integers_absent = integers-absent m h between (after-columns m plain before (no-columns m) sorted_plain);
-      plain_cells = groups-cells m h plain (kept_sound is_continuous_column m.columns h.columns);
+      plain_cells = groups-cells m h plain (kept_sound is_plain_column m.columns h.columns);
       integer_cells = groups-cells m h integers (kept_sound is_integer_column m.columns h.columns);
     }

@@ -12,7 +12,7 @@ use Rattle.mpslp_model.specs.Declaration.{RowForm, by_type, Declaration, declare
 use Rattle.mpslp_types.specs.declared.kinds.Sense.{Sense}
 use Rattle.mpslp_types.specs.declared.kinds.Sense.TheVariants.{Minimize, Maximize}
 use Rattle.mpslp_types.specs.declared.kinds.Kind.{Kind}
-use Rattle.mpslp_types.specs.declared.kinds.Kind.TheVariants.{Continuous, Integer}
+use Rattle.mpslp_types.specs.declared.kinds.Kind.TheVariants.{Continuous, Integer, Semi}
 use Rattle.mpslp_types.specs.declared.kinds.Limit.{Limit}
 use Rattle.mpslp_types.specs.declared.kinds.Limit.TheVariants.{MinusInf, Finite, PlusInf}
 use Rattle.mpslp_types.proofs.BoolLemmas.{back}
@@ -25,7 +25,7 @@ use Rattle.mpslp_canonical.proofs.RowsWalk.{RowItem, row_decl, Side, ReadsAs}
 use Rattle.mpslp_canonical.proofs.ColumnsWalk.{Cell, cell_decl, cells_of}
 use Rattle.mpslp_canonical.proofs.BoundsWalk.{GoodBound}
 use Rattle.mpslp_canonical.specs.Listing.{Listing}
-use Rattle.mpslp_canonical.specs.PrintedValues.{have_same_value, valued, printed_type, printed_side, printed_range, PrintedBound, printed_lower, printed_upper, printed_bounds}
+use Rattle.mpslp_canonical.specs.PrintedValues.{have_same_value, is_fixed, valued, printed_type, printed_side, printed_range, PrintedBound, printed_lower, printed_upper, printed_bounds}
 use Rattle.mpslp_mps.specs.declared.bound_types.BoundType.TheVariants as bounds
 use Rattle.mpslp_canonical.proofs.CanonicalItems.{to_row, to_side, side_unless_zero, row_side, sides_in, row_range, to_bound, bounds_in}
 use Rattle.mpslp_canonical.proofs.EarlyWalk.{sense_decl}
@@ -155,13 +155,14 @@ upper-bounded kind MinusInf h = tt
 upper-bounded kind (Finite b) h = (h, tt)
 upper-bounded Continuous PlusInf h = tt
 upper-bounded Integer PlusInf h = (tt, tt)
+upper-bounded Semi PlusInf h = tt
 
 all-bounded : (kind : Kind) (l u : Limit) → is_lower_side l ≡ true → is_upper_side u ≡ true → Each IsBounded (printed_bounds kind l u)
 all-bounded kind MinusInf PlusInf h k = (tt, tt)
 all-bounded kind MinusInf MinusInf h k = cc
 all-bounded kind MinusInf (Finite b) h k = (tt, (k, tt))
 all-bounded kind (Finite a) (Finite b) h k =
-    elim (have_same_value a b) as (λ t. Each IsBounded (cond t (valued bounds.Fixed b ∷ []) (printed_lower (Finite a) ++ printed_upper kind (Finite b)))) [
+    elim (is_fixed kind a b) as (λ t. Each IsBounded (cond t (valued bounds.Fixed b ∷ []) (printed_lower (Finite a) ++ printed_upper kind (Finite b)))) [
       | true ↦ (k, tt)
       | false ↦ Each-append IsBounded (printed_lower (Finite a)) (printed_upper kind (Finite b)) (lower-bounded (Finite a) h) (upper-bounded kind (Finite b) k)
     ]

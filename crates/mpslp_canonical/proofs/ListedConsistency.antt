@@ -10,34 +10,38 @@ use Rattle.mpslp_decimal.specs.Decimal.{Number, is_decimal, is_zero, is_infinite
 use Rattle.mpslp_types.specs.Name.{same_bytes}
 use Rattle.mpslp_model.specs.Model.{Row, Column, CoefficientKey, key_cmp}
 use Rattle.mpslp_types.specs.Sides.{is_bounded_decimal, has_bounded_distance}
-use Rattle.mpslp_model.specs.Declaration.{RowForm, by_type, Declaration, declare_objective, Declarations, at_name, has_name, has_row, has_column, is_objective, is_free_form, is_free_row}
+use Rattle.mpslp_model.specs.Declaration.{RowForm, by_type, Declaration, declare_objective, Declarations, at_name, has_name, has_row, has_column, is_integer, is_semi, is_objective, is_free_form, is_free_row}
 use Rattle.mpslp_model.specs.Lists.{are_distinct}
 use Rattle.mpslp_model.specs.Consistency.{is_known, is_allowed, has_objective_rhs, declares_objective, same_slot, all_slots, AreConsistent}
 use Rattle.mpslp_types.specs.declared.kinds.Sense.{Sense}
 use Rattle.mpslp_types.specs.declared.kinds.Sense.TheVariants.{Minimize, Maximize}
+use Rattle.mpslp_types.specs.declared.kinds.Kind.{Kind}
+use Rattle.mpslp_types.specs.declared.kinds.Kind.TheVariants.{Continuous, Integer, Semi}
 use Rattle.mpslp_types.specs.declared.kinds.Limit.{Limit}
 use Rattle.mpslp_types.specs.declared.kinds.Limit.TheVariants.{MinusInf, Finite, PlusInf}
 use Rattle.mpslp_types.specs.declared.kinds.RowType.TheVariants.{AtLeast, Equal}
-use Rattle.mpslp_types.proofs.BoolLemmas.{both_so, or_left, or_right, both_false}
+use Rattle.mpslp_types.proofs.BoolLemmas.{both_so, so_not, or_left, or_right, both_false}
 use Rattle.mpslp_types.proofs.EachLemmas.{Each, Each-weaker, Each-append, Each-map, Each-flat_map, Each-filter, Each-all, list_all-from_Each}
+use Rattle.mpslp_model.proofs.BoundsLemmas.{is_semi_kind}
 use Rattle.mpslp_model.proofs.LaterDrafts.{itself_named}
+use Rattle.mpslp_mps.specs.declared.bound_types.BoundType.TheVariants as bounds
 use Rattle.mpslp_canonical.proofs.RowsWalk.{RowItem, row_decl, Side, side_decl, range_decl}
 use Rattle.mpslp_canonical.proofs.ColumnsWalk.{Cell, cell_decl, Group, cells_of}
-use Rattle.mpslp_canonical.proofs.BoundsWalk.{BoundForm, fixed, free, no_lower, no_upper, Bound, bound_decl, decl_at}
+use Rattle.mpslp_canonical.proofs.BoundsWalk.{BoundForm, fixed, free, no_lower, no_upper, semi_upper, Bound, bound_decl, decl_at}
 use Rattle.mpslp_canonical.proofs.BoundsWalk as forms
 use Rattle.mpslp_canonical.specs.Listing.{Listing}
-use Rattle.mpslp_canonical.specs.PrintedValues.{have_same_value, printed_type, printed_side, printed_range, PrintedBound, printed_bounds}
-use Rattle.mpslp_canonical.specs.CanonicalMps.{cell_at, column_cells, printed_cells, is_integer_column, is_continuous_column}
+use Rattle.mpslp_canonical.specs.PrintedValues.{have_same_value, valued, printed_type, printed_side, printed_range, PrintedBound, printed_lower, printed_upper, printed_bounds}
+use Rattle.mpslp_canonical.specs.CanonicalMps.{cell_at, column_cells, printed_cells, is_integer_column, is_plain_column}
 use Rattle.mpslp_canonical.proofs.PrintableLemmas.{Holds}
-use Rattle.mpslp_canonical.proofs.CanonicalItems.{to_cell, cells_in, group_in, to_side, side_unless_zero, row_side, sides_in, row_range, to_bound, bounds_in}
+use Rattle.mpslp_canonical.proofs.CanonicalItems.{to_cell, cells_in, group_in, to_side, side_unless_zero, row_side, sides_in, row_range, form_of, value_in, to_bound, bounds_in}
 use Rattle.mpslp_canonical.proofs.EarlyWalk.{sense_decl}
 use Rattle.mpslp_canonical.proofs.ListedItems.{whole_of}
 use Rattle.mpslp_canonical.proofs.EntryLemmas.{then_told}
 use Rattle.mpslp_canonical.proofs.WholeParts.{each-whole}
 use Rattle.mpslp_canonical.proofs.ListedParts.{form_told, listed_decl}
-use Rattle.mpslp_canonical.proofs.DraftMaps.{IsSoundListing, drafted, at-mapped, row-at, columns-drafted}
+use Rattle.mpslp_canonical.proofs.DraftMaps.{IsSoundListing, drafted, at-mapped, row-at, columns-drafted, marked-at, integers-drafted, binaries-drafted, semis-at}
 use Rattle.mpslp_canonical.proofs.CoefficientMap.{place_at}
-use Rattle.mpslp_canonical.proofs.ListingFacts.{row_distance}
+use Rattle.mpslp_canonical.proofs.ListingFacts.{row_distance, column_suited}
 use Rattle.mpslp_canonical.proofs.ListedMeaning.{constant-drafted, objective-drafted, other-name, IsOwnRow, own-rows, IsOwnColumn, own-columns}
 
 -- ---- what is there
@@ -111,6 +115,7 @@ known-form m forms.upper x v k = (k, tt)
 known-form m free x v k = (k, (k, tt))
 known-form m no_lower x v k = (k, tt)
 known-form m no_upper x v k = (k, tt)
+known-form m semi_upper x v k = (k, (k, tt))
 
 known-bounds : (m : Listing) (name : List ℕ) → has_column (drafted m) name ≡ true → (printed : List PrintedBound) → Each (λ (b : Bound). Each (Known m) (bound_decl b)) (map (to_bound name) printed)
 known-bounds m name k [] = tt
@@ -125,7 +130,7 @@ all-known m h = list_all-from_Each (is_known (drafted m)) (listed_decl m) (each-
   sense = known-sense m m.sense;
   objective = refl;
   rows = Each-all (λ (row : RowItem). Each (Known m) (row_decl row)) (λ row. (refl, tt)) (whole_of m).rows;
-  plain = Each-weaker (KnownCell m) (λ (cell : Cell). Each (Known m) (cell_decl false cell)) (λ cell k. (refl, (known-coefficient m cell k, tt))) (cells_of (whole_of m).plain) (known-groups m h is_continuous_column);
+  plain = Each-weaker (KnownCell m) (λ (cell : Cell). Each (Known m) (cell_decl false cell)) (λ cell k. (refl, (known-coefficient m cell k, tt))) (cells_of (whole_of m).plain) (known-groups m h is_plain_column);
   integers = Each-weaker (KnownCell m) (λ (cell : Cell). Each (Known m) (cell_decl true cell)) (λ cell k. (refl, (k.1, (known-coefficient m cell k, tt)))) (cells_of (whole_of m).integers) (known-groups m h is_integer_column);
   sides = Each-append (λ (side : Side). Each (Known m) (side_decl side)) (side_unless_zero m.objective (negated m.constant)) (flat_map row_side m.rows) (known-side m m.objective (negated m.constant) (objective-there m))
       (Each-flat_map (λ (side : Side). Each (Known m) (side_decl side)) row_side m.rows
@@ -195,13 +200,96 @@ allowed-range m h row k = by (printed_range row.1.lower row.1.upper) refl (range
       tt,
     )
 
-allowed-form : (m : Listing) (form : BoundForm) (x : List ℕ) (v : Number) → Each (Allowed m) (decl_at form x v)
-allowed-form m fixed x v = (refl, (refl, tt))
-allowed-form m forms.lower x v = (refl, tt)
-allowed-form m forms.upper x v = (refl, tt)
-allowed-form m free x v = (refl, (refl, tt))
-allowed-form m no_lower x v = (refl, tt)
-allowed-form m no_upper x v = (refl, tt)
+-- ---- no column is both integer and semi-continuous
+
+own-semi : (m : Listing) → IsSoundListing m → (column : List ℕ × Column) → IsOwnColumn m column → is_semi (drafted m) column.0 ≡ is_semi_kind column.1.kind
+own-semi m h column k = semis-at m h column.0 column.1 (column_suited column k.0) k.1
+
+own-integer : (m : Listing) → IsSoundListing m → (column : List ℕ × Column) → IsOwnColumn m column → is_integer (drafted m) column.0 ≡ is_integer_column column
+own-integer m h column k =
+    (λ i. marked-at m h column.0 column.1 k.1 i || (has_name (integers-drafted m i) column.0 || has_name (binaries-drafted m i) column.0)) ∙ or_none (is_integer_column column)
+  where
+    or_none : (b : Bool) → (b || (false || false)) ≡ b
+    or_none true = refl
+    or_none false = refl
+
+integer-not_semi : (kind : Kind) (l u : Limit) → is_integer_column ([], record { kind = kind; lower = l; upper = u }) ≡ true → is_semi_kind kind ≡ false
+integer-not_semi Continuous l u h = refl
+integer-not_semi Integer l u h = refl
+integer-not_semi Semi l u h = cc
+
+abbrev AllowedCell : Listing → Cell → Type 0
+AllowedCell m cell = Each (Allowed m) (cell_decl true cell)
+
+-- a column of the integer part is not semi-continuous
+allowed-integers : (m : Listing) → IsSoundListing m → Each (AllowedCell m) (cells_of (map (group_in m) (filter is_integer_column m.columns)))
+allowed-integers m h =
+    Each-flat_map (AllowedCell m) (λ group. group.1) (map (group_in m) (filter is_integer_column m.columns))
+    (Each-map (λ (group : Group). Each (AllowedCell m) group.1) (group_in m) (filter is_integer_column m.columns)
+    (Each-filter (λ column. Each (AllowedCell m) (cells_in m column)) is_integer_column m.columns
+    (Each-weaker (IsOwnColumn m) (λ column. is_integer_column column ≡ true → Each (AllowedCell m) (cells_in m column)) one m.columns (own-columns m h))))
+  where
+    one : (column : List ℕ × Column) → IsOwnColumn m column → is_integer_column column ≡ true → Each (AllowedCell m) (cells_in m column)
+    one column k integer =
+        let other = so_not (is_semi (drafted m) column.0) (own-semi m h column k ∙ integer-not_semi column.1.kind column.1.lower column.1.upper integer) in
+        Each-map (AllowedCell m) (to_cell column.0) (printed_cells m.objective (column_cells m column.0))
+        (Each-all (λ cell. AllowedCell m (to_cell column.0 cell)) (λ cell. (refl, (other, (refl, tt)))) (printed_cells m.objective (column_cells m column.0)))
+
+abbrev tells_semi : BoundForm → Bool
+tells_semi semi_upper = true
+tells_semi _ = false
+
+allowed-form : (m : Listing) (form : BoundForm) (x : List ℕ) (v : Number) → (tells_semi form ≡ true → is_integer (drafted m) x ≡ false) → Each (Allowed m) (decl_at form x v)
+allowed-form m fixed x v h = (refl, (refl, tt))
+allowed-form m forms.lower x v h = (refl, tt)
+allowed-form m forms.upper x v h = (refl, tt)
+allowed-form m free x v h = (refl, (refl, tt))
+allowed-form m no_lower x v h = (refl, tt)
+allowed-form m no_upper x v h = (refl, tt)
+allowed-form m semi_upper x v h = (so_not (is_integer (drafted m) x) (h refl), (refl, tt))
+
+allowed-printed : (m : Listing) (name : List ℕ) (printed : List PrintedBound) → Each (λ (b : PrintedBound). tells_semi (form_of b.type) ≡ true → is_integer (drafted m) name ≡ false) printed
+    → Each (λ (b : Bound). Each (Allowed m) (bound_decl b)) (map (to_bound name) printed)
+allowed-printed m name [] h = tt
+allowed-printed m name (bound ∷ printed) h = (allowed-form m (form_of bound.type) name (value_in bound.value) h.0, allowed-printed m name printed h.1)
+
+-- a bound that would tell an integer column to be semi-continuous is not printed
+abbrev TellsNoSemi : PrintedBound → Type 0
+TellsNoSemi bound = tells_semi (form_of bound.type) ≡ false
+
+lower-plain : (l : Limit) → Each TellsNoSemi (printed_lower l)
+lower-plain MinusInf = (refl, tt)
+lower-plain (Finite a) = elim (is_zero a) as (λ b. Each TellsNoSemi (cond b [] (valued bounds.Lower a ∷ []))) [ true ↦ tt | false ↦ (refl, tt) ]
+lower-plain PlusInf = tt
+
+integer-plain : (l u : Limit) → Each TellsNoSemi (printed_bounds Integer l u)
+integer-plain MinusInf PlusInf = (refl, tt)
+integer-plain MinusInf MinusInf = (refl, tt)
+integer-plain MinusInf (Finite b) = (refl, (refl, tt))
+integer-plain (Finite a) (Finite b) =
+    elim (have_same_value a b) as (λ t. Each TellsNoSemi (cond t (valued bounds.Fixed b ∷ []) (printed_lower (Finite a) ++ printed_upper Integer (Finite b)))) [
+      | true ↦ (refl, tt)
+      | false ↦ Each-append TellsNoSemi (printed_lower (Finite a)) (printed_upper Integer (Finite b)) (lower-plain (Finite a)) (refl, tt)
+    ]
+integer-plain (Finite a) MinusInf = Each-append TellsNoSemi (printed_lower (Finite a)) [] (lower-plain (Finite a)) tt
+integer-plain (Finite a) PlusInf = Each-append TellsNoSemi (printed_lower (Finite a)) (printed_upper Integer PlusInf) (lower-plain (Finite a)) (refl, tt)
+integer-plain PlusInf MinusInf = tt
+integer-plain PlusInf (Finite b) = (refl, tt)
+integer-plain PlusInf PlusInf = (refl, tt)
+
+allowed-bounds : (m : Listing) → IsSoundListing m → (column : List ℕ × Column) → IsOwnColumn m column → Each (λ (b : Bound). Each (Allowed m) (bound_decl b)) (bounds_in column)
+allowed-bounds m h column k = allowed-printed m column.0 (printed_bounds column.1.kind column.1.lower column.1.upper) (by column.1.kind column.1.lower column.1.upper (own-integer m h column k))
+  where
+    silent : (b c : Bool) → b ≡ false → b ≡ true → c ≡ false
+    silent b c e f = cc
+
+    by : (kind : Kind) (l u : Limit) → is_integer (drafted m) column.0 ≡ is_integer_column ([], record { kind = kind; lower = l; upper = u })
+        → Each (λ (b : PrintedBound). tells_semi (form_of b.type) ≡ true → is_integer (drafted m) column.0 ≡ false) (printed_bounds kind l u)
+    by Continuous l u e = Each-all (λ (b : PrintedBound). tells_semi (form_of b.type) ≡ true → is_integer (drafted m) column.0 ≡ false) (λ _ _. e) (printed_bounds Continuous l u)
+    by Integer l u e =
+        Each-weaker TellsNoSemi (λ (b : PrintedBound). tells_semi (form_of b.type) ≡ true → is_integer (drafted m) column.0 ≡ false)
+        (λ b plain told. silent (tells_semi (form_of b.type)) (is_integer (drafted m) column.0) plain told) (printed_bounds Integer l u) (integer-plain l u)
+    by Semi l u e = Each-all (λ (b : PrintedBound). tells_semi (form_of b.type) ≡ true → is_integer (drafted m) column.0 ≡ false) (λ _ _. e) (printed_bounds Semi l u)
 
 allowed-sense : (m : Listing) (s : Sense) → Each (Allowed m) (sense_decl s)
 allowed-sense m Minimize = tt
@@ -213,11 +301,12 @@ all-allowed m h = list_all-from_Each (is_allowed (drafted m)) (listed_decl m) (e
   objective = refl;
   rows = Each-all (λ (row : RowItem). Each (Allowed m) (row_decl row)) (λ row. (refl, tt)) (whole_of m).rows;
   plain = Each-all (λ (cell : Cell). Each (Allowed m) (cell_decl false cell)) (λ cell. (refl, (refl, tt))) (cells_of (whole_of m).plain);
-  integers = Each-all (λ (cell : Cell). Each (Allowed m) (cell_decl true cell)) (λ cell. (refl, (refl, (refl, tt)))) (cells_of (whole_of m).integers);
+  integers = allowed-integers m h;
   sides = Each-all (λ (side : Side). Each (Allowed m) (side_decl side)) (λ side. (refl, tt)) (sides_in m);
   ranges = Each-flat_map (λ (side : Side). Each (Allowed m) (range_decl side)) row_range m.rows
       (Each-weaker (IsOwnRow m) (λ row. Each (λ (side : Side). Each (Allowed m) (range_decl side)) (row_range row)) (allowed-range m h) m.rows (own-rows m h));
-  bounds = Each-all (λ (b : Bound). Each (Allowed m) (bound_decl b)) (λ b. allowed-form m b.form b.column b.value) (flat_map bounds_in m.columns);
+  bounds = Each-flat_map (λ (b : Bound). Each (Allowed m) (bound_decl b)) bounds_in m.columns
+      (Each-weaker (IsOwnColumn m) (λ column. Each (λ (b : Bound). Each (Allowed m) (bound_decl b)) (bounds_in column)) (allowed-bounds m h) m.columns (own-columns m h));
 }))
 
 -- ---- the objective

@@ -8,7 +8,7 @@ use Rattle.mpslp_model.specs.Model.{Column}
 use Rattle.mpslp_types.specs.declared.kinds.Sense.{Sense}
 use Rattle.mpslp_types.specs.declared.kinds.Sense.TheVariants.{Minimize, Maximize}
 use Rattle.mpslp_types.specs.declared.kinds.Kind.{Kind}
-use Rattle.mpslp_types.specs.declared.kinds.Kind.TheVariants.{Continuous, Integer}
+use Rattle.mpslp_types.specs.declared.kinds.Kind.TheVariants.{Continuous, Integer, Semi}
 use Rattle.mpslp_types.specs.declared.kinds.Limit.{Limit}
 use Rattle.mpslp_types.specs.declared.kinds.Limit.TheVariants.{MinusInf, Finite, PlusInf}
 use Rattle.mpslp_types.proofs.EachLemmas.{Each, Each-append}
@@ -22,8 +22,8 @@ use Rattle.mpslp_canonical.proofs.BoundsWalk.{bound_item}
 use Rattle.mpslp_canonical.proofs.HeaderWalk.{header_item}
 use Rattle.mpslp_canonical.specs.Printed.{item_in}
 use Rattle.mpslp_canonical.specs.Listing.{Listing}
-use Rattle.mpslp_canonical.specs.PrintedValues.{have_same_value, PrintedBound, printed_lower, printed_upper, printed_bounds}
-use Rattle.mpslp_canonical.specs.CanonicalMps.{Lines, sense_lines, rows_section, column_lines, is_integer_column, is_continuous_column, marker_line, integer_part, columns_section, side_lines, row_side_lines, right_sides_section, range_lines, ranges_section, bound_line, column_bound_lines, bounds_section, header_line, listed_lines}
+use Rattle.mpslp_canonical.specs.PrintedValues.{is_fixed, PrintedBound, printed_lower, printed_upper, printed_bounds}
+use Rattle.mpslp_canonical.specs.CanonicalMps.{Lines, sense_lines, rows_section, column_lines, is_integer_column, is_plain_column, marker_line, integer_part, columns_section, side_lines, row_side_lines, right_sides_section, range_lines, ranges_section, bound_line, column_bound_lines, bounds_section, header_line, listed_lines}
 use Rattle.mpslp_canonical.proofs.CanonicalItems.{items_in, flat-items, to_row, row-items, group_in, column-items, sides_in, sides-items, row_range, ranges-items, to_bound, is_fit, bounds_in, under, under-items}
 use Rattle.mpslp_canonical.proofs.EarlyWalk.{sense_items, objective_item, marker_item, part_items}
 use Rattle.mpslp_canonical.proofs.WholeWalk.{Whole, whole_items}
@@ -35,12 +35,14 @@ fit-item : (column : List ℕ) (type : BoundType) (value : Option Number) → is
 fit-item column bounds.Lower (Some d) h = refl
 fit-item column bounds.Upper (Some d) h = refl
 fit-item column bounds.Fixed (Some d) h = refl
+fit-item column bounds.SemiUpper (Some d) h = refl
 fit-item column bounds.Free None h = refl
 fit-item column bounds.NoLower None h = refl
 fit-item column bounds.NoUpper None h = refl
 fit-item column bounds.Lower None h = cc
 fit-item column bounds.Upper None h = cc
 fit-item column bounds.Fixed None h = cc
+fit-item column bounds.SemiUpper None h = cc
 fit-item column bounds.Free (Some d) h = cc
 fit-item column bounds.NoLower (Some d) h = cc
 fit-item column bounds.NoUpper (Some d) h = cc
@@ -62,9 +64,12 @@ lower-fit PlusInf = tt
 
 upper-fit : (kind : Kind) (upper : Limit) → AllFit (printed_upper kind upper)
 upper-fit kind MinusInf = tt
-upper-fit kind (Finite b) = (refl, tt)
+upper-fit Continuous (Finite b) = (refl, tt)
+upper-fit Integer (Finite b) = (refl, tt)
+upper-fit Semi (Finite b) = (refl, tt)
 upper-fit Integer PlusInf = (refl, tt)
 upper-fit Continuous PlusInf = tt
+upper-fit Semi PlusInf = tt
 
 both-fit : (kind : Kind) (lower upper : Limit) → AllFit (printed_lower lower ++ printed_upper kind upper)
 both-fit kind lower upper = Each-append (λ (b : PrintedBound). is_fit b ≡ true) (printed_lower lower) (printed_upper kind upper) (lower-fit lower) (upper-fit kind upper)
@@ -74,7 +79,7 @@ bounds-fit kind MinusInf PlusInf = (refl, tt)
 bounds-fit kind MinusInf MinusInf = both-fit kind MinusInf MinusInf
 bounds-fit kind MinusInf (Finite b) = both-fit kind MinusInf (Finite b)
 bounds-fit kind (Finite a) (Finite b) =
-    elim (have_same_value a b) as (λ t. AllFit (cond t (record { type = bounds.Fixed; value = Some b } ∷ []) (printed_lower (Finite a) ++ printed_upper kind (Finite b)))) [
+    elim (is_fixed kind a b) as (λ t. AllFit (cond t (record { type = bounds.Fixed; value = Some b } ∷ []) (printed_lower (Finite a) ++ printed_upper kind (Finite b)))) [
       | true ↦ (refl, tt)
       | false ↦ both-fit kind (Finite a) (Finite b)
     ]
@@ -96,7 +101,7 @@ whole_of m = record {
   sense = m.sense;
   objective = m.objective;
   rows = map to_row m.rows;
-  plain = map (group_in m) (filter is_continuous_column m.columns);
+  plain = map (group_in m) (filter is_plain_column m.columns);
   integers = map (group_in m) (filter is_integer_column m.columns);
   late = record { sides = sides_in m; ranges = flat_map row_range m.rows; bounds = flat_map bounds_in m.columns };
 }
@@ -118,10 +123,10 @@ follow xs ys is js h k = map-append item_in xs ys ∙ (λ i. h i ++ k i)
 
 columns-items : (m : Listing) → items_in (columns_section m) ≡ header_item Columns ∷ (map cell_item (cells_of (whole_of m).plain) ++ part_items (cells_of (whole_of m).integers))
 columns-items m =
-    let plain = flat_map (column_lines m) (filter is_continuous_column m.columns) in
+    let plain = flat_map (column_lines m) (filter is_plain_column m.columns) in
     let integers = flat_map (column_lines m) (filter is_integer_column m.columns) in
     ap (λ (more : List Item). header_item Columns ∷ more)
-    (follow plain (integer_part integers) _ _ (column-items m (filter is_continuous_column m.columns))
+    (follow plain (integer_part integers) _ _ (column-items m (filter is_plain_column m.columns))
     (part-items integers (cells_of (whole_of m).integers) (column-items m (filter is_integer_column m.columns))))
 
 pub listed-items : (m : Listing) → items_in (listed_lines m) ≡ whole_items (whole_of m)

@@ -14,7 +14,7 @@ use Rattle.mpslp_decimal.proofs.OrderLemmas.{same_decimal}
 use Rattle.mpslp_model.specs.Model.{LinearModel, Row, Column, is_sound_row, is_sound_column, IsSound}
 use Rattle.mpslp_types.specs.Name.{bytes_cmp}
 use Rattle.mpslp_types.specs.Sides.{is_at_most, is_bounded_decimal, is_lower_side, is_upper_side, are_sides}
-use Rattle.mpslp_model.specs.Declaration.{RowForm, by_type, Declaration, declare_sense, declare_objective, declare_row, declare_rhs, declare_range, declare_column, declare_coefficient, declare_lower, declare_upper, declare_marked, Declarations, Draft, empty_draft, adding, adding_all, at_name, has_name, names_in}
+use Rattle.mpslp_model.specs.Declaration.{RowForm, by_type, Declaration, declare_sense, declare_objective, declare_row, declare_rhs, declare_range, declare_column, declare_coefficient, declare_lower, declare_upper, declare_marked, declare_semi, Declarations, Draft, empty_draft, adding, adding_all, at_name, has_name, names_in}
 use Rattle.mpslp_model.specs.Limits.{limits_of, plain_limits, has_infinite_rhs}
 use Rattle.mpslp_model.specs.Bounds.{zero_limit, one_limit, lower_bound, upper_bound, column_of, has_negative_upper, has_binary_bounds}
 use Rattle.mpslp_model.specs.Meaning.{objective_name, constant_of, rhs_or_zero, row_limits, row_entry, row_passes, model_of, DraftMeans}
@@ -31,7 +31,7 @@ use Rattle.mpslp_model.proofs.BoundsLemmas.{column_back}
 use Rattle.mpslp_model.proofs.SortedDrafts.{bytes_total, tied_names}
 use Rattle.mpslp_canonical.proofs.RowsWalk.{RowItem, row_decl, Side, side_decl, range_decl}
 use Rattle.mpslp_canonical.proofs.ColumnsWalk.{Cell, cell_decl, cells_of}
-use Rattle.mpslp_canonical.proofs.BoundsWalk.{BoundForm, fixed, free, no_lower, no_upper, Bound, bound_decl, decl_at}
+use Rattle.mpslp_canonical.proofs.BoundsWalk.{BoundForm, fixed, free, no_lower, no_upper, semi_upper, Bound, bound_decl, decl_at}
 use Rattle.mpslp_canonical.proofs.BoundsWalk as forms
 use Rattle.mpslp_canonical.specs.Listing.{Listing, listing_of}
 use Rattle.mpslp_canonical.specs.PrintedValues.{have_same_value, printed_type, printed_side, printed_range}
@@ -42,9 +42,9 @@ use Rattle.mpslp_canonical.proofs.ListedItems.{whole_of}
 use Rattle.mpslp_canonical.proofs.EntryLemmas.{first_there, then_told, told}
 use Rattle.mpslp_canonical.proofs.WholeParts.{each-whole}
 use Rattle.mpslp_canonical.proofs.ListedParts.{form_told, value_told, side_told, range_told, column_lower, column_upper, row_forms, listed_decl}
-use Rattle.mpslp_canonical.proofs.DraftMaps.{IsSoundListing, drafted, own-found, named, rows-drafted, right_side-at, range-at, lower-at, upper-at, columns-drafted, marked-at, integers-drafted, binaries-drafted}
+use Rattle.mpslp_canonical.proofs.DraftMaps.{IsSoundListing, drafted, own-found, named, rows-drafted, right_side-at, range-at, lower-at, upper-at, columns-drafted, marked-at, integers-drafted, binaries-drafted, semis-at}
 use Rattle.mpslp_canonical.proofs.CoefficientMap.{coefficients-kept}
-use Rattle.mpslp_canonical.proofs.ListingFacts.{sound-listing, row_sides, row_distance, column_sides, bounded_so, lower_of, upper_of, straight_of}
+use Rattle.mpslp_canonical.proofs.ListingFacts.{sound-listing, row_sides, row_distance, column_sides, column_suited, bounded_so, lower_of, upper_of, straight_of}
 use Rattle.mpslp_canonical.proofs.GoodWhole.{objective-no-row}
 
 -- ---- what is declared once, or not at all
@@ -67,6 +67,7 @@ pub record EachKind (P : Declaration → Type 0) (objective : List ℕ) : Type 0
   pub of_coefficient : (cell : Cell) → P (declare_coefficient (record { row = cell.row; column = cell.column }) cell.value)
   pub of_lower : (x : List ℕ) (l : Limit) → P (declare_lower x l)
   pub of_upper : (x : List ℕ) (l : Limit) → P (declare_upper x l)
+  pub of_semi : (x : List ℕ) → P (declare_semi x)
 
 pub each-kind : (P : Declaration → Type 0) (w : Whole) → Each P (sense_decl w.sense) → EachKind P w.objective → Each P (whole_decl w)
 each-kind P w sense h = each-whole P w (record {
@@ -87,6 +88,7 @@ each-kind P w sense h = each-whole P w (record {
     of_form free x v = (h.of_lower x MinusInf, (h.of_upper x PlusInf, tt))
     of_form no_lower x v = (h.of_lower x MinusInf, tt)
     of_form no_upper x v = (h.of_upper x PlusInf, tt)
+    of_form semi_upper x v = (h.of_semi x, (h.of_upper x (Finite v), tt))
 
 sense-keeps : {X : Type 0} (part : Draft → X) (value : X) (s : Sense) → ((t : Sense) → Stays part value (declare_sense t)) → Each (Stays part value) (sense_decl s)
 sense-keeps part value Minimize h = tt
@@ -105,6 +107,7 @@ constant-drafted m =
       of_coefficient = λ _ all is. is;
       of_lower = λ _ _ all is. is;
       of_upper = λ _ _ all is. is;
+      of_semi = λ _ all is. is;
     })) empty_draft refl
 
 -- from the objective on
@@ -126,6 +129,7 @@ objective-drafted m =
       of_coefficient = λ _ all is. is;
       of_lower = λ _ _ all is. is;
       of_upper = λ _ _ all is. is;
+      of_semi = λ _ all is. is;
     }))
 
 abbrev told_sense : Sense → Option Sense
@@ -158,6 +162,7 @@ sense-drafted m =
       of_coefficient = λ _ all is. is;
       of_lower = λ _ _ all is. is;
       of_upper = λ _ _ all is. is;
+      of_semi = λ _ all is. is;
     }))) ∙ sense-back m.sense
 
 -- ---- the constant
@@ -273,6 +278,7 @@ bounds-back m h column k =
     let upper_side = upper_of l u sides in
     column_back have_same_value (drafted m) column.0 column.1 (lower-at m h column.0 ∙ ap (then_told column_lower) k.1) (upper-at m h column.0 ∙ ap (then_told column_upper) k.1)
     (marked-at m h column.0 column.1 k.1) (ap (λ (es : List (List ℕ × Unit {0})). has_name es column.0) (integers-drafted m)) (ap (λ (es : List (List ℕ × Unit {0})). has_name es column.0) (binaries-drafted m))
+    (semis-at m h column.0 column.1 (column_suited column k.0) k.1)
     lower_side upper_side
     (λ a b p q e. same_decimal a b (finite-lower l a lower_side p) (finite-upper u b upper_side q) e)
     (λ a p z. zero-is a (finite-lower l a lower_side p) z)

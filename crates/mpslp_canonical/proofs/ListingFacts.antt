@@ -8,7 +8,7 @@ use Rattle.std.specs.FinMap.{is_sorted, entries, entries_sorted}
 use Rattle.std.specs.FinMap.Entries.{below_all}
 use Rattle.mpslp_decimal.specs.Decimal.{Number, IsDecimal, is_decimal, is_infinite_size}
 use Rattle.mpslp_types.specs.Name.{is_mps_name, has_name_length, is_visible, same_bytes, marker, bytes_cmp}
-use Rattle.mpslp_model.specs.Model.{LinearModel, Row, Column, key_cmp, is_sound_row, is_sound_column, is_sound_coefficient, IsSound}
+use Rattle.mpslp_model.specs.Model.{LinearModel, Row, Column, key_cmp, suits, is_sound_row, is_sound_column, is_sound_coefficient, IsSound}
 use Rattle.mpslp_types.specs.Sides.{limit_of, is_bounded_decimal, is_lower_side, is_upper_side, is_at_most, are_sides, has_bounded_distance}
 use Rattle.mpslp_types.specs.declared.kinds.Limit.{Limit}
 use Rattle.mpslp_types.specs.declared.kinds.Limit.TheVariants.{Finite}
@@ -50,10 +50,17 @@ row_distance row h =
     (second_so (is_mps_name row.0) (are_sides row.1.lower row.1.upper && has_bounded_distance row.1.lower row.1.upper) h)
 
 pub column_named : (column : List ℕ × Column) → is_sound_column column ≡ true → is_mps_name column.0 ≡ true
-column_named column h = first_so (is_mps_name column.0) (are_sides column.1.lower column.1.upper) h
+column_named column h = first_so (is_mps_name column.0) (are_sides column.1.lower column.1.upper && suits column.1.kind column.1.lower column.1.upper) h
 
 pub column_sides : (column : List ℕ × Column) → is_sound_column column ≡ true → are_sides column.1.lower column.1.upper ≡ true
-column_sides column h = second_so (is_mps_name column.0) (are_sides column.1.lower column.1.upper) h
+column_sides column h =
+    first_so (are_sides column.1.lower column.1.upper) (suits column.1.kind column.1.lower column.1.upper)
+    (second_so (is_mps_name column.0) (are_sides column.1.lower column.1.upper && suits column.1.kind column.1.lower column.1.upper) h)
+
+pub column_suited : (column : List ℕ × Column) → is_sound_column column ≡ true → suits column.1.kind column.1.lower column.1.upper ≡ true
+column_suited column h =
+    second_so (are_sides column.1.lower column.1.upper) (suits column.1.kind column.1.lower column.1.upper)
+    (second_so (is_mps_name column.0) (are_sides column.1.lower column.1.upper && suits column.1.kind column.1.lower column.1.upper) h)
 
 pub lower_of : (l u : Limit) → are_sides l u ≡ true → is_lower_side l ≡ true
 lower_of l u h = first_so (is_lower_side l) (is_upper_side u && is_at_most l u) h

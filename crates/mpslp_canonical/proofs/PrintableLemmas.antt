@@ -11,12 +11,12 @@ use Rattle.std.proofs.lemmas.Bool.{ltb-true, leb-true}
 use Rattle.mpslp_decimal.specs.Decimal.{Number, IsDecimal, is_decimal, is_zero, is_infinite_size, zero_number, negated, difference_of}
 use Rattle.mpslp_decimal.specs.NumberText.{number_text}
 use Rattle.mpslp_types.specs.Name.{is_mps_name, has_name_length, is_visible, same_bytes, marker}
-use Rattle.mpslp_model.specs.Model.{LinearModel, Row, Column, CoefficientKey, key_cmp, is_sound_row, is_sound_column, is_sound_coefficient, IsSound}
+use Rattle.mpslp_model.specs.Model.{LinearModel, Row, Column, CoefficientKey, key_cmp, is_sound_row, is_sound_column, is_sound_coefficient, suits, IsSound}
 use Rattle.mpslp_types.specs.Sides.{is_bounded_decimal, is_lower_side, is_upper_side, is_at_most, are_sides, has_bounded_distance}
 use Rattle.mpslp_types.specs.declared.kinds.Sense.{Sense}
 use Rattle.mpslp_types.specs.declared.kinds.Sense.TheVariants.{Minimize, Maximize}
 use Rattle.mpslp_types.specs.declared.kinds.Kind.{Kind}
-use Rattle.mpslp_types.specs.declared.kinds.Kind.TheVariants.{Continuous, Integer}
+use Rattle.mpslp_types.specs.declared.kinds.Kind.TheVariants.{Continuous, Integer, Semi}
 use Rattle.mpslp_types.specs.declared.kinds.Limit.{Limit}
 use Rattle.mpslp_types.specs.declared.kinds.Limit.TheVariants.{MinusInf, Finite, PlusInf}
 use Rattle.mpslp_types.specs.declared.kinds.RowType.{RowType}
@@ -30,8 +30,8 @@ use Rattle.mpslp_mps.specs.declared.sections.Section.TheVariants.{Name, ObjSense
 use Rattle.mpslp_mps.specs.declared.bound_types.BoundType.{BoundType}
 use Rattle.mpslp_mps.specs.declared.bound_types.BoundType.TheVariants as bounds
 use Rattle.mpslp_canonical.specs.Listing.{Listing, listing_of}
-use Rattle.mpslp_canonical.specs.PrintedValues.{have_same_value, printed_type, printed_side, printed_range, PrintedBound, printed_lower, printed_upper, printed_bounds}
-use Rattle.mpslp_canonical.specs.CanonicalMps.{Lines, header_line, under_header, sense_lines, objective_line, row_line, rows_section, cell_line, cell_at, column_cells, printed_cells, column_lines, is_integer_column, is_continuous_column, marker_line, integer_part, columns_section, vector_line, side_lines, row_side_lines, right_sides_section, range_lines, ranges_section, bound_line, column_bound_lines, bounds_section, listed_lines, canonical_lines}
+use Rattle.mpslp_canonical.specs.PrintedValues.{have_same_value, is_fixed, printed_type, printed_side, printed_range, PrintedBound, printed_lower, printed_upper, printed_bounds}
+use Rattle.mpslp_canonical.specs.CanonicalMps.{Lines, header_line, under_header, sense_lines, objective_line, row_line, rows_section, cell_line, cell_at, column_cells, printed_cells, column_lines, is_integer_column, is_plain_column, marker_line, integer_part, columns_section, vector_line, side_lines, row_side_lines, right_sides_section, range_lines, ranges_section, bound_line, column_bound_lines, bounds_section, listed_lines, canonical_lines}
 use Rattle.mpslp_canonical.proofs.TextLemmas.{Word, Words, IsPrintable}
 use Rattle.mpslp_canonical.proofs.NumberWords.{number-word}
 
@@ -69,6 +69,7 @@ letters-word bounds.NoUpper = code-word (codes "PL") refl refl refl
 letters-word bounds.Binary = code-word (codes "BV") refl refl refl
 letters-word bounds.IntegerLower = code-word (codes "LI") refl refl refl
 letters-word bounds.IntegerUpper = code-word (codes "UI") refl refl refl
+letters-word bounds.SemiUpper = code-word (codes "SC") refl refl refl
 
 header-printable : (section : Section) → IsPrintable (header_line section)
 header-printable Name = (code-word (codes "NAME") refl refl refl, refl)
@@ -207,10 +208,12 @@ row-distance row h =
     (second_so (is_mps_name row.0) (are_sides row.1.lower row.1.upper && has_bounded_distance row.1.lower row.1.upper) h)
 
 column-name : (column : List ℕ × Column) → is_sound_column column ≡ true → Word column.0
-column-name column h = name-word column.0 (first_so (is_mps_name column.0) (are_sides column.1.lower column.1.upper) h)
+column-name column h = name-word column.0 (first_so (is_mps_name column.0) (are_sides column.1.lower column.1.upper && suits column.1.kind column.1.lower column.1.upper) h)
 
 column-sides : (column : List ℕ × Column) → is_sound_column column ≡ true → are_sides column.1.lower column.1.upper ≡ true
-column-sides column h = second_so (is_mps_name column.0) (are_sides column.1.lower column.1.upper) h
+column-sides column h =
+    first_so (are_sides column.1.lower column.1.upper) (suits column.1.kind column.1.lower column.1.upper)
+    (second_so (is_mps_name column.0) (are_sides column.1.lower column.1.upper && suits column.1.kind column.1.lower column.1.upper) h)
 
 column-printable : (m : Listing) → IsListed m → (column : List ℕ × Column) → is_sound_column column ≡ true → AllPrintable (column_lines m column)
 column-printable m h column sound =
@@ -275,13 +278,14 @@ upper-bounds kind MinusInf h = tt
 upper-bounds kind (Finite b) h = (bounded-decimal b h, tt)
 upper-bounds Continuous PlusInf h = tt
 upper-bounds Integer PlusInf h = (tt, tt)
+upper-bounds Semi PlusInf h = tt
 
 all-bounds : (kind : Kind) (lower upper : Limit) → is_lower_side lower ≡ true → is_upper_side upper ≡ true → Each IsBound (printed_bounds kind lower upper)
 all-bounds kind MinusInf PlusInf h k = (tt, tt)
 all-bounds kind MinusInf MinusInf h k = cc
 all-bounds kind MinusInf (Finite b) h k = (tt, (bounded-decimal b k, tt))
 all-bounds kind (Finite a) (Finite b) h k =
-    elim (have_same_value a b) as (λ t. Each IsBound (cond t (record { type = bounds.Fixed; value = Some b } ∷ []) (printed_lower (Finite a) ++ printed_upper kind (Finite b)))) [
+    elim (is_fixed kind a b) as (λ t. Each IsBound (cond t (record { type = bounds.Fixed; value = Some b } ∷ []) (printed_lower (Finite a) ++ printed_upper kind (Finite b)))) [
       | true ↦ (bounded-decimal b k, tt)
       | false ↦ Each-append IsBound (printed_lower (Finite a)) (printed_upper kind (Finite b)) (lower-bounds kind (Finite a) h) (upper-bounds kind (Finite b) k)
     ]
@@ -323,8 +327,8 @@ rows-printable m h = (
 columns_section-printable : (m : Listing) → IsListed m → AllPrintable (columns_section m)
 columns_section-printable m h = (
   header-printable Columns,
-  in-turn (flat_map (column_lines m) (filter is_continuous_column m.columns)) (integer_part (flat_map (column_lines m) (filter is_integer_column m.columns)))
-      (columns-printable m h (filter is_continuous_column m.columns) (kept is_continuous_column m.columns h.columns))
+  in-turn (flat_map (column_lines m) (filter is_plain_column m.columns)) (integer_part (flat_map (column_lines m) (filter is_integer_column m.columns)))
+      (columns-printable m h (filter is_plain_column m.columns) (kept is_plain_column m.columns h.columns))
       (part-printable (flat_map (column_lines m) (filter is_integer_column m.columns)) (columns-printable m h (filter is_integer_column m.columns) (kept is_integer_column m.columns h.columns))),
 )
 

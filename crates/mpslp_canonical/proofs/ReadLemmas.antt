@@ -17,7 +17,7 @@ use Rattle.mpslp_mps.specs.declared.sections.Section.TheVariants.{Name, Rhs, Ran
 use Rattle.mpslp_canonical.specs.Printed.{PrintedLine, printed, item_in}
 use Rattle.mpslp_canonical.specs.Listing.{Listing, listing_of}
 use Rattle.mpslp_canonical.specs.PrintedValues.{printed_side, printed_range, printed_bounds}
-use Rattle.mpslp_canonical.specs.CanonicalMps.{Lines, header_line, under_header, sense_lines, row_line, rows_section, cell_line, column_cells, printed_cells, column_lines, is_integer_column, is_continuous_column, marker_line, integer_part, columns_section, vector_line, side_lines, row_side_lines, right_sides_section, range_lines, ranges_section, bound_line, column_bound_lines, bounds_section, listed_lines, canonical_lines, canonical_mps}
+use Rattle.mpslp_canonical.specs.CanonicalMps.{Lines, header_line, under_header, sense_lines, row_line, rows_section, cell_line, column_cells, printed_cells, column_lines, is_integer_column, is_plain_column, marker_line, integer_part, columns_section, vector_line, side_lines, row_side_lines, right_sides_section, range_lines, ranges_section, bound_line, column_bound_lines, bounds_section, listed_lines, canonical_lines, canonical_mps}
 use Rattle.mpslp_canonical.specs.Laws.{AreReadAsPrinted}
 use Rattle.mpslp_canonical.proofs.TextLemmas.{IsPrintable, item-printed, items-printed, legal-lines, lines-text}
 use Rattle.mpslp_canonical.proofs.PrintableLemmas.{canonical-printable}
@@ -100,8 +100,8 @@ before-go m =
           (in-turn (rows_section m) columns_on (refl, (refl, mapped-go row_line (λ _. refl) m.rows))
           (in-turn (columns_section m) sides_on (
             refl,
-            in-turn (flat_map (column_lines m) (filter is_continuous_column m.columns)) (integer_part (flat_map (column_lines m) (filter is_integer_column m.columns)))
-                (columns-go m (filter is_continuous_column m.columns)) (part-go (flat_map (column_lines m) (filter is_integer_column m.columns)) (columns-go m (filter is_integer_column m.columns))),
+            in-turn (flat_map (column_lines m) (filter is_plain_column m.columns)) (integer_part (flat_map (column_lines m) (filter is_integer_column m.columns)))
+                (columns-go m (filter is_plain_column m.columns)) (part-go (flat_map (column_lines m) (filter is_integer_column m.columns)) (columns-go m (filter is_integer_column m.columns))),
           )
           (in-turn (right_sides_section m) ranges_on (under-goes Rhs _ refl (in-turn (side_lines m.objective (negated m.constant)) (flat_map row_side_lines m.rows)
           (side-go m.objective (negated m.constant)) (flat-go row_side_lines (λ row. side-go row.0 (printed_side row.1.lower row.1.upper)) m.rows)))

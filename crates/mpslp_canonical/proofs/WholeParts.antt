@@ -3,7 +3,7 @@ use Rattle.std.proofs.Common.{◌≡◌, refl, ap, ◌∙◌, List, [], ◌∷�
 use Rattle.std.specs.List.{flat_map}
 use Rattle.std.proofs.lemmas.List.{append-nil}
 use Rattle.std.proofs.lemmas.List.Concat.{flat_map-append}
-use Rattle.mpslp_model.specs.Declaration.{Declaration, declare_sense, declare_objective, declare_lower, declare_upper, Declarations, Draft, adding, adding_all}
+use Rattle.mpslp_model.specs.Declaration.{Declaration, declare_sense, declare_objective, declare_lower, declare_upper, declare_semi, Declarations, Draft, adding, adding_all}
 use Rattle.mpslp_types.specs.declared.kinds.Sense.{Sense}
 use Rattle.mpslp_types.specs.declared.kinds.Sense.TheVariants.{Minimize, Maximize}
 use Rattle.mpslp_types.specs.declared.kinds.Limit.{Limit}
@@ -12,7 +12,7 @@ use Rattle.mpslp_types.proofs.EachLemmas.{Each, Each-append, Each-flat_map}
 use Rattle.mpslp_model.proofs.CoefficientLemmas.{flat_map-flat_map}
 use Rattle.mpslp_canonical.proofs.RowsWalk.{RowItem, row_decl, Side, side_decl, range_decl}
 use Rattle.mpslp_canonical.proofs.ColumnsWalk.{Cell, cell_decl, cells_of}
-use Rattle.mpslp_canonical.proofs.BoundsWalk.{BoundForm, fixed, lower, upper, free, no_lower, no_upper, Bound, bound_decl, decl_at}
+use Rattle.mpslp_canonical.proofs.BoundsWalk.{BoundForm, fixed, lower, upper, free, no_lower, no_upper, semi_upper, Bound, bound_decl, decl_at}
 use Rattle.mpslp_canonical.proofs.EarlyWalk.{sense_decl}
 use Rattle.mpslp_canonical.proofs.WholeWalk.{Whole, whole_decl}
 
@@ -97,8 +97,8 @@ sense-none part h Minimize = refl
 sense-none part h Maximize = ap (λ (ys : List _). ys ++ []) (h Maximize)
 
 pub bound-none : {Y : Type 0} (part : Declaration → List Y) → ((x : List ℕ) (l : Limit) → part (declare_lower x l) ≡ []) → ((x : List ℕ) (l : Limit) → part (declare_upper x l) ≡ [])
-    → (b : Bound) → made_of part bound_decl b ≡ []
-bound-none part h k b = by b.form
+    → ((x : List ℕ) → part (declare_semi x) ≡ []) → (b : Bound) → made_of part bound_decl b ≡ []
+bound-none part h k s b = by b.form
   where
     by : (t : BoundForm) → flat_map part (decl_at t b.column b.value) ≡ []
     by fixed = λ i. h b.column (Finite b.value) i ++ (k b.column (Finite b.value) i ++ [])
@@ -107,6 +107,7 @@ bound-none part h k b = by b.form
     by free = λ i. h b.column MinusInf i ++ (k b.column PlusInf i ++ [])
     by no_lower = λ i. h b.column MinusInf i ++ []
     by no_upper = λ i. k b.column PlusInf i ++ []
+    by semi_upper = λ i. s b.column i ++ (k b.column (Finite b.value) i ++ [])
 
 -- the parts of all sections, one by one
 pub record SectionParts {Y : Type 0} (part : Declaration → List Y) (w : Whole) (rows plain integers sides ranges bounds : List Y) : Type 0 where

@@ -131,3 +131,39 @@ named_objective_lines =
 pub named_objective : IsPrinted files.named_objective (files.text named_objective_lines)
 unfolding digits trailing_zeros
 named_objective = printed-from_passes files.named_objective (files.text named_objective_lines) files.named_objective_passes refl refl
+
+-- ---- semi-continuous columns
+
+-- this is its own canonical text
+pub semi_columns : IsPrinted files.semi_columns (files.semi_columns)
+unfolding digits trailing_zeros
+semi_columns = printed-from_passes files.semi_columns (files.semi_columns) files.semi_columns_passes refl refl
+
+abbrev semi_file : List (List ℕ) → List ℕ
+semi_file bounds =
+    files.text (codes "NAME" ∷ codes "ROWS" ∷ codes " N  C" ∷ codes "COLUMNS" ∷ codes "    MARKER  'MARKER'  'INTORG'" ∷ codes "    X  C  1"
+    ∷ codes "    MARKER  'MARKER'  'INTEND'" ∷ codes "    Y  C  1" ∷ codes "BOUNDS" ∷ bounds ++ codes "ENDATA" ∷ [])
+
+abbrev semi_text : List (List ℕ) → List ℕ
+semi_text bounds =
+    files.text (codes "NAME" ∷ codes "ROWS" ∷ codes " N  C" ∷ codes "COLUMNS" ∷ codes "    Y  C  1" ∷ codes "    MARKER  'MARKER'  'INTORG'"
+    ∷ codes "    X  C  1" ∷ codes "    MARKER  'MARKER'  'INTEND'" ∷ codes "BOUNDS" ∷ codes " UP  BND  X  1" ∷ bounds ++ codes "ENDATA" ∷ [])
+
+-- an upper bound alone: the column stands before the integer ones
+abbrev upper_alone : List ℕ
+upper_alone = semi_file (codes " SC  B  Y  4" ∷ [])
+
+pub semi_upper_alone : IsPrinted upper_alone (semi_text (codes " SC  BND  Y  4" ∷ []))
+unfolding digits trailing_zeros
+semi_upper_alone =
+    printed-from_passes upper_alone (semi_text (codes " SC  BND  Y  4" ∷ [])) (record { is_text = refl; objective = refl; legal = refl; unrefused = refl; no_fault = refl }) refl refl
+
+-- both bounds equal, which are told apart, the lower one first
+abbrev equal_bounds : List ℕ
+equal_bounds = semi_file (codes " SC  B  Y  4" ∷ codes " LO  B  Y  4" ∷ [])
+
+pub semi_equal_bounds : IsPrinted equal_bounds (semi_text (codes " LO  BND  Y  4" ∷ codes " SC  BND  Y  4" ∷ []))
+unfolding digits trailing_zeros
+semi_equal_bounds =
+    printed-from_passes equal_bounds (semi_text (codes " LO  BND  Y  4" ∷ codes " SC  BND  Y  4" ∷ []))
+    (record { is_text = refl; objective = refl; legal = refl; unrefused = refl; no_fault = refl }) refl refl

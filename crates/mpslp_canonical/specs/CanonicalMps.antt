@@ -1,5 +1,5 @@
 -- The canonical MPS text of a model.
-use Rattle.std.specs.Prelude.{ℕ, Bool, true, false, not, List, [], ◌∷◌, ◌++◌, map, filter, filter_map, Option, if◌then◌else◌, codes}
+use Rattle.std.specs.Prelude.{ℕ, Bool, not, List, [], ◌∷◌, ◌++◌, map, filter, filter_map, Option, if◌then◌else◌, codes}
 use Rattle.std.specs.List.{flat_map}
 use Rattle.std.specs.Option.{option_map, option_map_or}
 use Rattle.std.specs.FinMap.{find}
@@ -7,10 +7,9 @@ use Rattle.mpslp_decimal.specs.Decimal.{Number, is_zero, negated, zero_number}
 use Rattle.mpslp_decimal.specs.NumberText.{number_text}
 use Rattle.mpslp_types.specs.Name.{marker}
 use Rattle.mpslp_model.specs.Model.{LinearModel, Row, Column, CoefficientKey, key_cmp}
+use Rattle.mpslp_model.specs.Views as views
 use Rattle.mpslp_types.specs.declared.kinds.Sense.{Sense}
 use Rattle.mpslp_types.specs.declared.kinds.Sense.TheVariants.{Minimize, Maximize}
-use Rattle.mpslp_types.specs.declared.kinds.Kind.{Kind}
-use Rattle.mpslp_types.specs.declared.kinds.Kind.TheVariants.{Continuous, Integer}
 use Rattle.mpslp_types.specs.declared.kinds.RowType.TheVariants.{Free}
 use Rattle.mpslp_mps.specs.Section.{keyword_of}
 use Rattle.mpslp_mps.specs.DataLine.{letter_of, opening_word, closing_word}
@@ -71,15 +70,12 @@ printed_cells objective (cell ∷ cells) = cell ∷ cells
 abbrev pub column_lines : Listing → List ℕ × Column → Lines
 column_lines m column = map (cell_line column.0) (printed_cells m.objective (column_cells m column.0))
 
-abbrev pub is_integer_kind : Kind → Bool
-is_integer_kind Integer = true
-is_integer_kind Continuous = false
-
 abbrev pub is_integer_column : List ℕ × Column → Bool
-is_integer_column column = is_integer_kind column.1.kind
+is_integer_column column = views.is_integer_column column.1
 
-abbrev pub is_continuous_column : List ℕ × Column → Bool
-is_continuous_column column = not (is_integer_column column)
+-- a continuous or a semi-continuous column
+abbrev pub is_plain_column : List ℕ × Column → Bool
+is_plain_column column = not (is_integer_column column)
 
 abbrev pub marker_line : List ℕ → PrintedLine
 marker_line word = long_line (codes "MARKER" ∷ marker ∷ word ∷ [])
@@ -90,7 +86,7 @@ integer_part (line ∷ lines) = marker_line opening_word ∷ (line ∷ lines) ++
 
 abbrev pub columns_section : Listing → Lines
 columns_section m =
-    header_line Columns ∷ (flat_map (column_lines m) (filter is_continuous_column m.columns)
+    header_line Columns ∷ (flat_map (column_lines m) (filter is_plain_column m.columns)
     ++ integer_part (flat_map (column_lines m) (filter is_integer_column m.columns)))
 
 -- ---- RHS: the negated constant of the objective, then the right sides of the rows, where they are not 0

@@ -1,9 +1,9 @@
 -- What is printed of a row and of a column's bounds: the declarations that give them back.
-use Rattle.std.specs.Prelude.{Bool, List, [], ◌∷◌, ◌++◌, Option, Some, None, if◌then◌else◌}
+use Rattle.std.specs.Prelude.{Bool, false, List, [], ◌∷◌, ◌++◌, Option, Some, None, if◌then◌else◌}
 use Rattle.std.specs.Ordering.{is_eq}
 use Rattle.mpslp_decimal.specs.Decimal.{Number, is_zero, zero_number, difference_of, decimal_cmp}
 use Rattle.mpslp_types.specs.declared.kinds.Kind.{Kind}
-use Rattle.mpslp_types.specs.declared.kinds.Kind.TheVariants.{Continuous, Integer}
+use Rattle.mpslp_types.specs.declared.kinds.Kind.TheVariants.{Continuous, Integer, Semi}
 use Rattle.mpslp_types.specs.declared.kinds.Limit.{Limit}
 use Rattle.mpslp_types.specs.declared.kinds.Limit.TheVariants.{MinusInf, Finite, PlusInf}
 use Rattle.mpslp_types.specs.declared.kinds.RowType.{RowType}
@@ -52,17 +52,29 @@ printed_lower MinusInf = bare bounds.NoLower ∷ []
 printed_lower (Finite lower) = if is_zero lower then [] else valued bounds.Lower lower ∷ []
 printed_lower PlusInf = []
 
+-- the type of a finite upper bound: SC declares its column semi-continuous too
+abbrev pub upper_type : Kind → BoundType
+upper_type Continuous = bounds.Upper
+upper_type Integer = bounds.Upper
+upper_type Semi = bounds.SemiUpper
+
 -- an upper bound: a finite one, and of an integer column the infinite one too, since without it the column ends at 1
 abbrev pub printed_upper : Kind → Limit → List PrintedBound
 printed_upper kind MinusInf = []
-printed_upper kind (Finite upper) = valued bounds.Upper upper ∷ []
+printed_upper kind (Finite upper) = valued (upper_type kind) upper ∷ []
 printed_upper Integer PlusInf = bare bounds.NoUpper ∷ []
 printed_upper Continuous PlusInf = []
+printed_upper Semi PlusInf = []
+
+-- bounds of the same value are told together, but for a semi-continuous column: no type but SC declares its kind
+abbrev pub is_fixed : Kind → Number → Number → Bool
+is_fixed Semi lower upper = false
+is_fixed _ lower upper = have_same_value lower upper
 
 -- both together where they are equal or both infinite
 abbrev pub printed_bounds : Kind → Limit → Limit → List PrintedBound
 printed_bounds kind MinusInf PlusInf = bare bounds.Free ∷ []
 printed_bounds kind (Finite lower) (Finite upper) =
-    if have_same_value lower upper then valued bounds.Fixed upper ∷ []
+    if is_fixed kind lower upper then valued bounds.Fixed upper ∷ []
     else printed_lower (Finite lower) ++ printed_upper kind (Finite upper)
 printed_bounds kind lower upper = printed_lower lower ++ printed_upper kind upper
