@@ -13,15 +13,15 @@ use Rattle.mpslp_model.specs.Model.{LinearModel, CoefficientKey, Column, key_cmp
 use Rattle.mpslp_model.specs.Views.{coefficient_at, column_elements}
 use Rattle.mpslp_model.specs.Views as views
 use Rattle.mpslp_types.specs.declared.kinds.Kind.{Kind}
-use Rattle.mpslp_types.specs.declared.kinds.Kind.TheVariants.{Continuous, Integer}
 use Rattle.mpslp_types.specs.declared.kinds.Limit.{Limit}
 use Rattle.mpslp_types.proofs.BoolLemmas.{not_so}
 use Rattle.mpslp_model.proofs.DraftEntries.{same_key}
 use Rattle.mpslp_model.proofs.SlotLemmas.{same_name}
 use Rattle.mpslp_model.proofs.SortedDrafts.{key_total}
 use Rattle.mpslp_canonical.specs.Listing.{listing_of}
-use Rattle.mpslp_canonical.specs.CanonicalMps.{Lines, bound_line, column_bound_lines, cell_line, column_cells, printed_cells, is_integer_kind, is_integer_column}
-use Rattle.mpslp_write.specs.LinesAt.{lines_at, is_wanted, of_kind, element_lines, objective_line_at, objective_lines, kind_of}
+use Rattle.mpslp_canonical.specs.CanonicalMps.{Lines, bound_line, column_bound_lines, cell_line, column_cells, printed_cells, is_integer_column}
+use Rattle.mpslp_write.specs.LinesAt.{lines_at, is_wanted, of_part, element_lines, objective_line_at, objective_lines}
+use Rattle.mpslp_write.specs.declared.columns.Part.{Part}
 use Rattle.mpslp_canonical.specs.PrintedValues.{PrintedBound, printed_bounds}
 use Rattle.mpslp_write.proofs.LinesAtLemmas.{both_seen, lines_seen}
 use Rattle.mpslp_canonical.proofs.EntryLemmas.{found-each}
@@ -29,22 +29,6 @@ use Rattle.mpslp_canonical.proofs.CoefficientMap.{place_at}
 use Rattle.mpslp_canonical.proofs.DraftMaps.{is_sound_entry}
 use Rattle.mpslp_canonical.proofs.ListingFacts.{sound-listing}
 use Rattle.mpslp_write.proofs.CellLemmas.{by_row, column-cells}
-
--- ---- kinds
-
-pub kind-is : (column : Column) → kind_of (views.is_integer_column column) ≡ column.kind
-kind-is column = by column.kind
-  where
-    by : (k : Kind) → kind_of (views.is_integer_column (record { kind = k; lower = column.lower; upper = column.upper })) ≡ k
-    by Continuous = refl
-    by Integer = refl
-
-tests-same : (column : Column) → views.is_integer_column column ≡ is_integer_kind column.kind
-tests-same column = by column.kind
-  where
-    by : (k : Kind) → views.is_integer_column (record { kind = k; lower = column.lower; upper = column.upper }) ≡ is_integer_kind k
-    by Continuous = refl
-    by Integer = refl
 
 -- ---- the column of a number
 
@@ -62,14 +46,14 @@ at-kind es j b is = by (slice_get es j) refl (ap (option_map views.is_integer_co
     by : (o : Option (List ℕ × Column)) → slice_get es j ≡ o → option_map views.is_integer_column (option_map (λ (e : List ℕ × Column). e.1) o) ≡ Some b
         → (e : List ℕ × Column) × (slice_get es j ≡ Some e) × (is_integer_column e ≡ b)
     by None at h = absurd (no_bool b h)
-    by (Some e) at h = let told : views.is_integer_column e.1 ≡ b = cc in (e, at, sym (tests-same e.1) ∙ told)
+    by (Some e) at h = let told : views.is_integer_column e.1 ≡ b = cc in (e, at, told)
 
--- the lines of the column of a number, if it is of the kind that is wanted
-pub kind-lines : (kind : Kind) (f : List ℕ × Column → Lines) (es : Columns) (j : ℕ) (b : Bool)
-    → option_map views.is_integer_column (slice_get (map (λ e. e.1) es) j) ≡ Some b → cond (is_wanted kind b) (lines_at f es j) [] ≡ lines_at (of_kind kind f) es j
-kind-lines wanted f es j b is =
+-- the lines of the column of a number, if it stands in the part
+pub part-lines : (part : Part) (f : List ℕ × Column → Lines) (es : Columns) (j : ℕ) (b : Bool)
+    → option_map views.is_integer_column (slice_get (map (λ e. e.1) es) j) ≡ Some b → cond (is_wanted part b) (lines_at f es j) [] ≡ lines_at (of_part part f) es j
+part-lines part f es j b is =
     let (e, at, kind) = at-kind es j b is in
-    (λ i. cond (is_wanted wanted (sym kind i)) (option_map_or f (at i) []) []) ∙ sym (ap (λ (o : Option (List ℕ × Column)). option_map_or (of_kind wanted f) o []) at)
+    (λ i. cond (is_wanted part (sym kind i)) (option_map_or f (at i) []) []) ∙ sym (ap (λ (o : Option (List ℕ × Column)). option_map_or (of_part part f) o []) at)
 
 -- ---- the lines of one column
 
@@ -158,28 +142,22 @@ row-named m row name i is named =
 
 -- ---- the bounds of the column of a number, by the views
 
-bounds-seen : (es : Columns) (j : ℕ) (integer : Bool) (lower upper : Limit)
-    → option_map views.is_integer_column (slice_get (map (λ e. e.1) es) j) ≡ Some integer
+bounds-seen : (es : Columns) (j : ℕ) (kind : Kind) (lower upper : Limit)
+    → option_map (λ column. column.kind) (slice_get (map (λ e. e.1) es) j) ≡ Some kind
     → option_map (λ column. column.lower) (slice_get (map (λ e. e.1) es) j) ≡ Some lower
     → option_map (λ column. column.upper) (slice_get (map (λ e. e.1) es) j) ≡ Some upper
-    → option_map (λ column. printed_bounds (kind_of (views.is_integer_column column)) column.lower column.upper) (slice_get (map (λ e. e.1) es) j)
-    ≡ Some (printed_bounds (kind_of integer) lower upper)
-bounds-seen es j integer lower upper p q r =
+    → option_map (λ column. printed_bounds column.kind column.lower column.upper) (slice_get (map (λ e. e.1) es) j) ≡ Some (printed_bounds kind lower upper)
+bounds-seen es j kind lower upper p q r =
     let at = slice_get (map (λ (e : List ℕ × Column). e.1) es) j in
-    both_seen (λ (column : Column). (views.is_integer_column column, column.lower)) (λ (column : Column). column.upper)
-    (λ (pair : Bool × Limit) (u : Limit). printed_bounds (kind_of pair.0) pair.1 u) at (integer, lower) upper
-    (both_seen views.is_integer_column (λ (column : Column). column.lower) (λ (i : Bool) (l : Limit). (i, l)) at integer lower p q) r
+    both_seen (λ (column : Column). (column.kind, column.lower)) (λ (column : Column). column.upper)
+    (λ (pair : Kind × Limit) (u : Limit). printed_bounds pair.0 pair.1 u) at (kind, lower) upper
+    (both_seen (λ (column : Column). column.kind) (λ (column : Column). column.lower) (λ (k : Kind) (l : Limit). (k, l)) at kind lower p q) r
 
-by-kind : (es : Columns) (j : ℕ)
-    → lines_at (λ (e : List ℕ × Column). map (bound_line e.0) (printed_bounds (kind_of (views.is_integer_column e.1)) e.1.lower e.1.upper)) es j ≡ lines_at column_bound_lines es j
-by-kind es j = λ i. lines_at (λ (e : List ℕ × Column). map (bound_line e.0) (printed_bounds (kind-is e.1 i) e.1.lower e.1.upper)) es j
-
-pub bounds-lines : (es : Columns) (j : ℕ) (name : List ℕ) (integer : Bool) (lower upper : Limit) → slice_get (map (λ e. e.0) es) j ≡ Some name
-    → option_map views.is_integer_column (slice_get (map (λ e. e.1) es) j) ≡ Some integer
+pub bounds-lines : (es : Columns) (j : ℕ) (name : List ℕ) (kind : Kind) (lower upper : Limit) → slice_get (map (λ e. e.0) es) j ≡ Some name
+    → option_map (λ column. column.kind) (slice_get (map (λ e. e.1) es) j) ≡ Some kind
     → option_map (λ column. column.lower) (slice_get (map (λ e. e.1) es) j) ≡ Some lower
     → option_map (λ column. column.upper) (slice_get (map (λ e. e.1) es) j) ≡ Some upper
-    → map (bound_line name) (printed_bounds (kind_of integer) lower upper) ≡ lines_at column_bound_lines es j
-bounds-lines es j name integer lower upper named p q r =
-    lines_seen es j (λ (column : Column). printed_bounds (kind_of (views.is_integer_column column)) column.lower column.upper)
-    (λ (n : List ℕ) (bs : List PrintedBound). map (bound_line n) bs) name _ named (bounds-seen es j integer lower upper p q r)
-    ∙ by-kind es j
+    → map (bound_line name) (printed_bounds kind lower upper) ≡ lines_at column_bound_lines es j
+bounds-lines es j name kind lower upper named p q r =
+    lines_seen es j (λ (column : Column). printed_bounds column.kind column.lower column.upper)
+    (λ (n : List ℕ) (bs : List PrintedBound). map (bound_line n) bs) name _ named (bounds-seen es j kind lower upper p q r)

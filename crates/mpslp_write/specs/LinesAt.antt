@@ -5,11 +5,12 @@ use Rattle.mpslp_decimal.specs.Decimal.{Number, is_zero}
 use Rattle.mpslp_model.specs.Model.{LinearModel, CoefficientKey, Column}
 use Rattle.mpslp_model.specs.Views.{coefficient_at, column_elements}
 use Rattle.mpslp_types.specs.declared.kinds.Kind.{Kind}
-use Rattle.mpslp_types.specs.declared.kinds.Kind.TheVariants.{Continuous, Integer}
 use Rattle.mpslp_types.specs.declared.kinds.Limit.{Limit}
 use Rattle.mpslp_types.specs.declared.kinds.Limit.TheVariants.{MinusInf, Finite, PlusInf}
-use Rattle.mpslp_canonical.specs.PrintedValues.{have_same_value}
+use Rattle.mpslp_canonical.specs.PrintedValues.{is_fixed}
 use Rattle.mpslp_canonical.specs.CanonicalMps.{Lines, is_integer_column, cell_line}
+use Rattle.mpslp_write.specs.declared.columns.Part.{Part}
+use Rattle.mpslp_write.specs.declared.columns.Part.TheVariants.{Plain, Integers}
 
 -- the lines of the entry of this number, if there is one
 abbrev pub lines_at : {X : Type 0} → (X → Lines) → List X → ℕ → Lines
@@ -19,14 +20,14 @@ lines_at lines_of entries i = option_map_or lines_of (slice_get entries i) []
 abbrev pub printed_letter : ℕ → ℕ
 printed_letter sense = if sense == 82 then 71 else sense
 
--- whether a column that is integer, or not, is of the kind that is wanted
-abbrev pub is_wanted : Kind → Bool → Bool
-is_wanted Integer is_integer = is_integer
-is_wanted Continuous is_integer = not is_integer
+-- whether a column that is integer, or not, stands in the part of COLUMNS
+abbrev pub is_wanted : Part → Bool → Bool
+is_wanted Integers is_integer = is_integer
+is_wanted Plain is_integer = not is_integer
 
--- the lines of a column of the kind that is wanted
-abbrev pub of_kind : Kind → (List ℕ × Column → Lines) → List ℕ × Column → Lines
-of_kind kind lines_of column = if is_wanted kind (is_integer_column column) then lines_of column else []
+-- the lines of a column that stands in the part
+abbrev pub of_part : Part → (List ℕ × Column → Lines) → List ℕ × Column → Lines
+of_part part lines_of column = if is_wanted part (is_integer_column column) then lines_of column else []
 
 -- the line of a coefficient of a row
 abbrev pub element_lines : List ℕ → CoefficientKey × Number → Lines
@@ -40,14 +41,10 @@ objective_line_at objective column value (element ∷ elements) = if is_zero val
 abbrev pub objective_lines : LinearModel → List ℕ → Lines
 objective_lines m column = objective_line_at m.objective column (coefficient_at m m.objective column) (column_elements m column)
 
-abbrev pub kind_of : Bool → Kind
-kind_of true = Integer
-kind_of false = Continuous
-
--- the value of a column whose bounds are finite and have the same value
-abbrev pub fixed_value : Limit → Limit → Option Number
-fixed_value (Finite lower) (Finite upper) = if have_same_value lower upper then Some upper else None
-fixed_value _ _ = None
+-- the value of a column whose bounds are told together, as they are finite and have the same value
+abbrev pub fixed_value : Kind → Limit → Limit → Option Number
+fixed_value kind (Finite lower) (Finite upper) = if is_fixed kind lower upper then Some upper else None
+fixed_value kind _ _ = None
 
 -- neither bound is finite
 abbrev pub are_free : Limit → Limit → Bool

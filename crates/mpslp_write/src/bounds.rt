@@ -4,10 +4,10 @@ ghost use Rattle.std.specs.Prelude.{◌≡◌, ◌<◌, [], ◌∷◌, ◌++◌,
 ghost use Rattle.std.specs.List.{flat_map};
 ghost use Rattle.std.specs.FinMap.{entries};
 ghost use Rattle.mpslp_model.specs.Views.{num_columns};
-ghost use Rattle.mpslp_canonical.specs.PrintedValues.{have_same_value, printed_lower, printed_upper, printed_bounds};
+ghost use Rattle.mpslp_canonical.specs.PrintedValues.{have_same_value, is_fixed, printed_lower, printed_upper, printed_bounds};
 ghost use Rattle.mpslp_canonical.specs.CanonicalMps.{bound_line, column_bound_lines, bounds_section};
 ghost use Rattle.mpslp_canonical.specs.Listing.{listing_of};
-ghost use Rattle.mpslp_write.specs.LinesAt.{lines_at, kind_of, fixed_value, are_free};
+ghost use Rattle.mpslp_write.specs.LinesAt.{lines_at, fixed_value, are_free};
 ghost use Rattle.mpslp_write.specs.Output.{Prints, PrintsSection};
 
 use crate::lines::{put_bare_bound, put_valued_bound};
@@ -15,17 +15,6 @@ use crate::output::Buffer;
 use mpslp_decimal::Decimal;
 use mpslp_decimal::laws::each_value_is_a_decimal;
 use mpslp_model::{Kind, Limit, Model, Sink};
-
-/// The kind of a column that is integer, or not.
-fn kind_of(is_integer: bool) -> Kind
-    ensures { result ≡ kind_of is_integer }
-{
-    if is_integer {
-        Kind::Integer
-    } else {
-        Kind::Continuous
-    }
-}
 
 /// Puts the line of a lower bound, unless it is 0.
 fn put_lower<W: Sink>(sink: &mut W, buffer: &mut Buffer, column: &[u8], lower: &Limit)
@@ -42,6 +31,22 @@ fn put_lower<W: Sink>(sink: &mut W, buffer: &mut Buffer, column: &[u8], lower: &
     }
 }
 
+/// Puts the line of a finite upper bound, which tells a semi-continuous column's kind too.
+fn put_finite_upper<W: Sink>(
+    sink: &mut W,
+    buffer: &mut Buffer,
+    column: &[u8],
+    kind: Kind,
+    value: Decimal,
+)
+    ensures { Prints W.holds W.failed W.count sink.old sink.new buffer.old buffer.new (map (bound_line column.now) (printed_upper kind (Limit.Finite value))) }
+{
+    match kind {
+        Kind::Continuous | Kind::Integer => put_valued_bound(sink, buffer, b"UP", column, value),
+        Kind::Semi => put_valued_bound(sink, buffer, b"SC", column, value),
+    }
+}
+
 /// Puts the line of an upper bound. Plus infinity has one for an integer column alone, which would end
 /// at 1 without it.
 fn put_upper<W: Sink>(sink: &mut W, buffer: &mut Buffer, column: &[u8], kind: Kind, upper: &Limit)
@@ -49,10 +54,10 @@ fn put_upper<W: Sink>(sink: &mut W, buffer: &mut Buffer, column: &[u8], kind: Ki
 {
     match upper {
         Limit::MinusInf => {}
-        Limit::Finite(value) => put_valued_bound(sink, buffer, b"UP", column, *value),
+        Limit::Finite(value) => put_finite_upper(sink, buffer, column, kind, *value),
         Limit::PlusInf => match kind {
-            Kind::Continuous => {}
             Kind::Integer => put_bare_bound(sink, buffer, b"PL", column),
+            Kind::Continuous | Kind::Semi => {}
         },
     }
 }
@@ -81,25 +86,36 @@ fn have_same_value(a: Decimal, b: Decimal) -> bool
     a.cmp(&b).is_eq()
 }
 
-/// The value of a column whose bounds are finite and have the same value.
-fn fixed_value(lower: &Limit, upper: &Limit) -> Option<Decimal>
-    ensures { result ≡ fixed_value lower.now upper.now }
+/// Whether finite bounds are told together: they have the same value, and the column is not
+/// semi-continuous, since its upper bound tells its kind.
+fn is_fixed(kind: Kind, lower: Decimal, upper: Decimal) -> bool
+    ensures { result ≡ is_fixed kind lower upper }
+{
+    match kind {
+        Kind::Continuous | Kind::Integer => have_same_value(lower, upper),
+        Kind::Semi => false,
+    }
+}
+
+/// The value of a column whose bounds are told together, as they are finite and have the same value.
+fn fixed_value(kind: Kind, lower: &Limit, upper: &Limit) -> Option<Decimal>
+    ensures { result ≡ fixed_value kind lower.now upper.now }
 {
     match lower {
         Limit::Finite(lower) => match upper {
-            Limit::Finite(upper) => value_if_same(lower, upper),
+            Limit::Finite(upper) => value_if_fixed(kind, *lower, *upper),
             _ => None,
         },
         _ => None,
     }
 }
 
-/// The upper one of two numbers that have the same value.
-fn value_if_same(lower: &Decimal, upper: &Decimal) -> Option<Decimal>
-    ensures { result ≡ (if have_same_value lower.now upper.now then Some upper.now else None) }
+/// The upper one of two bounds that are told together.
+fn value_if_fixed(kind: Kind, lower: Decimal, upper: Decimal) -> Option<Decimal>
+    ensures { result ≡ (if is_fixed kind lower upper then Some upper else None) }
 {
-    if have_same_value(*lower, *upper) {
-        Some(*upper)
+    if is_fixed(kind, lower, upper) {
+        Some(upper)
     } else {
         None
     }
@@ -133,7 +149,7 @@ fn put_bounds_of<W: Sink>(
         put_bare_bound(sink, buffer, b"FR", column);
         return;
     }
-    match fixed_value(lower, upper) {
+    match fixed_value(kind, lower, upper) {
         Some(value) => put_valued_bound(sink, buffer, b"FX", column, value),
         None => put_both(sink, buffer, column, kind, lower, upper),
     }
@@ -146,7 +162,7 @@ fn put_bounds<W: Sink>(model: &Model, j: usize, sink: &mut W, buffer: &mut Buffe
 {
     let lower = model.col_lower(j);
     let upper = model.col_upper(j);
-    let kind = kind_of(model.is_integer(j));
+    let kind = model.column_kind(j);
     put_bounds_of(
         sink,
         buffer,

@@ -6,13 +6,22 @@ ghost use Rattle.std.specs.FinMap.{entries};
 ghost use Rattle.mpslp_model.specs.Views.{num_columns, column_name, column_elements};
 ghost use Rattle.mpslp_canonical.specs.CanonicalMps.{column_lines, columns_section, integer_part};
 ghost use Rattle.mpslp_canonical.specs.Listing.{listing_of};
-ghost use Rattle.mpslp_write.specs.LinesAt.{lines_at, is_wanted, of_kind, element_lines, objective_lines};
+ghost use Rattle.mpslp_write.specs.LinesAt.{lines_at, is_wanted, of_part, element_lines, objective_lines};
 ghost use Rattle.mpslp_write.specs.Output.{Prints, PrintsSection};
 
 use crate::lines::put_value_line;
 use crate::output::Buffer;
 use mpslp_model::laws::each_model_is_sound;
-use mpslp_model::{Kind, Model, Sink};
+use mpslp_model::{Model, Sink};
+
+/// The parts of COLUMNS, one after the other.
+#[derive(Clone, Copy)]
+enum Part {
+    /// The columns that are not integer.
+    Plain,
+    /// The integer columns, between marker lines.
+    Integers,
+}
 
 /// Puts the line of the coefficient of number `k` among those of rows in the column of number `j`.
 fn put_element<W: Sink>(model: &Model, j: usize, k: usize, sink: &mut W, buffer: &mut Buffer)
@@ -70,50 +79,50 @@ fn put_column<W: Sink>(model: &Model, j: usize, sink: &mut W, buffer: &mut Buffe
     put_elements(model, j, sink, buffer);
 }
 
-/// Whether a column that is integer, or not, is of the kind that is wanted.
-fn is_wanted(kind: Kind, is_integer: bool) -> bool
-    ensures { result ≡ is_wanted kind is_integer }
+/// Whether a column that is integer, or not, stands in the part.
+fn is_wanted(part: Part, is_integer: bool) -> bool
+    ensures { result ≡ is_wanted part is_integer }
 {
-    match kind {
-        Kind::Continuous => !is_integer,
-        Kind::Integer => is_integer,
+    match part {
+        Part::Plain => !is_integer,
+        Part::Integers => is_integer,
     }
 }
 
-/// Puts the lines of the column of number `j`, if it is of the kind.
-fn put_column_of_kind<W: Sink>(
+/// Puts the lines of the column of number `j`, if it stands in the part.
+fn put_column_of_part<W: Sink>(
     model: &Model,
     j: usize,
-    kind: Kind,
+    part: Part,
     sink: &mut W,
     buffer: &mut Buffer,
 )
     requires { j < num_columns model.now }
-    ensures { Prints W.holds W.failed W.count sink.old sink.new buffer.old buffer.new (lines_at (of_kind kind (column_lines (listing_of model.now))) (entries model.now.columns) j) }
+    ensures { Prints W.holds W.failed W.count sink.old sink.new buffer.old buffer.new (lines_at (of_part part (column_lines (listing_of model.now))) (entries model.now.columns) j) }
 {
-    if is_wanted(kind, model.is_integer(j)) {
+    if is_wanted(part, model.is_integer(j)) {
         put_column(model, j, sink, buffer);
     }
 }
 
-/// Puts the lines of all columns of the kind.
-fn put_columns<W: Sink>(model: &Model, kind: Kind, sink: &mut W, buffer: &mut Buffer)
-    ensures { Prints W.holds W.failed W.count sink.old sink.new buffer.old buffer.new (flat_map (of_kind kind (column_lines (listing_of model.now))) (entries model.now.columns)) }
+/// Puts the lines of all columns of the part.
+fn put_columns<W: Sink>(model: &Model, part: Part, sink: &mut W, buffer: &mut Buffer)
+    ensures { Prints W.holds W.failed W.count sink.old sink.new buffer.old buffer.new (flat_map (of_part part (column_lines (listing_of model.now))) (entries model.now.columns)) }
 {
     for j in 0..model.num_cols() {
         if buffer.has_failed() {
             return;
         }
-        put_column_of_kind(model, j, kind, sink, buffer);
+        put_column_of_part(model, j, part, sink, buffer);
     }
 }
 
 /// Puts the lines of the integer columns between marker lines, or nothing where no column is integer.
 fn put_integer_part<W: Sink>(model: &Model, sink: &mut W, buffer: &mut Buffer)
-    ensures { PrintsSection W.holds W.failed W.count sink.old sink.new buffer.old buffer.new (integer_part (flat_map (of_kind Kind.Integer (column_lines (listing_of model.now))) (entries model.now.columns))) }
+    ensures { PrintsSection W.holds W.failed W.count sink.old sink.new buffer.old buffer.new (integer_part (flat_map (of_part Part.Integers (column_lines (listing_of model.now))) (entries model.now.columns))) }
 {
     buffer.open_section(b"    MARKER  'MARKER'  'INTORG'\n");
-    put_columns(model, Kind::Integer, sink, buffer);
+    put_columns(model, Part::Integers, sink, buffer);
     if buffer.close_section() {
         buffer.put(sink, b"    MARKER  'MARKER'  'INTEND'\n");
     }
@@ -125,6 +134,6 @@ pub(crate) fn put_columns_section<W: Sink>(model: &Model, sink: &mut W, buffer: 
     ensures { PrintsSection W.holds W.failed W.count sink.old sink.new buffer.old buffer.new (columns_section (listing_of model.now)) }
 {
     buffer.put(sink, b"COLUMNS\n");
-    put_columns(model, Kind::Continuous, sink, buffer);
+    put_columns(model, Part::Plain, sink, buffer);
     put_integer_part(model, sink, buffer);
 }

@@ -24,6 +24,7 @@ COLUMNS
     K  LIM  1
     B  COST  -1
     M  'MARKER'  'INTEND'
+    S  COST  1
     X  LIM  3e0  EQ  2
     EMPTY  COST  0
 RHS
@@ -33,6 +34,8 @@ RHS
 RANGES
     BETWEEN  2.5
 BOUNDS
+ SC  BND  S  4
+ LO  BND  S  4
  PL  BND  K
  LO  BND  X  -1
  UP  BND  X  10
@@ -52,6 +55,7 @@ ROWS
  G  MYG
 COLUMNS
     EMPTY  COST  0
+    S  COST  1
     X  EQ  2
     X  LIM  3
     Y  COST  2
@@ -70,6 +74,8 @@ RANGES
 BOUNDS
  UP  BND  B  1
  PL  BND  K
+ LO  BND  S  4
+ SC  BND  S  4
  LO  BND  X  -1
  UP  BND  X  10
  FR  BND  Y

@@ -8,6 +8,6 @@ use Rattle.mpslp_write.proofs.bounds.put_bounds.Goals as goal
 
 pub returns : goal.returns
 returns g c =
-    prints_same ((λ i. map (bound_line (c.as_bytes.ensures i)) (printed_bounds (c.kind_of-kind.ensures i) c.col_lower-lower.result c.col_upper-upper.result))
-    ∙ bounds-lines (entries c.args.model.now.columns) c.args.j _ _ _ _ c.column_name.ensures c.is_integer.ensures c.col_lower-lower.ensures c.col_upper-upper.ensures)
+    prints_same ((λ i. map (bound_line (c.as_bytes.ensures i)) (printed_bounds c.column_kind-kind.result c.col_lower-lower.result c.col_upper-upper.result))
+    ∙ bounds-lines (entries c.args.model.now.columns) c.args.j _ _ _ _ c.column_name.ensures c.column_kind-kind.ensures c.col_lower-lower.ensures c.col_upper-upper.ensures)
     c.put_bounds_of.ensures

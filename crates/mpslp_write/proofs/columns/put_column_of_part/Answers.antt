@@ -2,16 +2,16 @@ use Rattle.std.proofs.Common.{sym, ap, ◌∙◌, Bool, cond, []}
 use Rattle.mpslp_canonical.specs.Listing.{listing_of}
 use Rattle.mpslp_canonical.specs.CanonicalMps.{column_lines}
 use Rattle.mpslp_write.specs.LinesAt.{lines_at}
-use Rattle.mpslp_write.proofs.ColumnLemmas.{kind-lines}
+use Rattle.mpslp_write.proofs.ColumnLemmas.{part-lines}
 use Rattle.mpslp_write.proofs.OutputLemmas.{prints_same, prints_nothing}
-use Rattle.mpslp_write.proofs.columns.put_column_of_kind.Goals as goal
+use Rattle.mpslp_write.proofs.columns.put_column_of_part.Goals as goal
 
 pub returns-then-is_wanted : goal.returns-then-is_wanted
 returns-then-is_wanted g c =
     let m = listing_of c.args.model.now in
     let lines = lines_at (column_lines m) m.columns c.args.j in
     prints_same (sym (ap (λ (wanted : Bool). cond wanted lines []) (sym c.is_wanted.ensures ∙ c.if-is_wanted.true))
-    ∙ kind-lines c.args.kind (column_lines m) m.columns c.args.j c.is_integer.result c.is_integer.ensures)
+    ∙ part-lines c.args.part (column_lines m) m.columns c.args.j c.is_integer.result c.is_integer.ensures)
     c.put_column.ensures
 
 pub returns-else-is_wanted : goal.returns-else-is_wanted
@@ -19,5 +19,5 @@ returns-else-is_wanted g c =
     let m = listing_of c.args.model.now in
     let lines = lines_at (column_lines m) m.columns c.args.j in
     prints_same (sym (ap (λ (wanted : Bool). cond wanted lines []) (sym c.is_wanted.ensures ∙ c.if-is_wanted.false))
-    ∙ kind-lines c.args.kind (column_lines m) m.columns c.args.j c.is_integer.result c.is_integer.ensures)
+    ∙ part-lines c.args.part (column_lines m) m.columns c.args.j c.is_integer.result c.is_integer.ensures)
     (prints_nothing c.args.sink.now c.args.buffer.now)
