@@ -276,8 +276,37 @@ BOUNDS
 ENDATA
 ";
 
+/// A semi-continuous column behind an integer one, and its bounds in the other order.
+const SEMI: &str = "ROWS
+ N  C
+COLUMNS
+    M  'MARKER'  'INTORG'
+    X  C  1
+    M  'MARKER'  'INTEND'
+    Y  C  1
+BOUNDS
+ SC B Y 2.50
+ LO B Y 1
+ENDATA
+";
+
+const SEMI_CANONICAL: &str = "NAME
+ROWS
+ N  C
+COLUMNS
+    Y  C  1
+    MARKER  'MARKER'  'INTORG'
+    X  C  1
+    MARKER  'MARKER'  'INTEND'
+BOUNDS
+ UP  BND  X  1
+ LO  BND  Y  1
+ SC  BND  Y  2.5
+ENDATA
+";
+
 /// Files and their canonical texts.
-const CONVERTED: [(&str, &str); 14] = [
+const CONVERTED: [(&str, &str); 16] = [
     (SMALL, SMALL_CANONICAL),
     (SMALL_WITH_TABS, SMALL_CANONICAL),
     (SMALL_CANONICAL, SMALL_CANONICAL),
@@ -288,6 +317,8 @@ const CONVERTED: [(&str, &str); 14] = [
     (FREE_ROW, FREE_ROW),
     (FIXED_AND_FREE, FIXED_AND_FREE),
     (USUAL_LAYOUT, USUAL_LAYOUT_CANONICAL),
+    (SEMI, SEMI_CANONICAL),
+    (SEMI_CANONICAL, SEMI_CANONICAL),
     (
         "ROWS\n N C\nCOLUMNS\n X C 1\nRHS\n    RHS  C  5\nENDATA\n",
         "NAME\nROWS\n N  C\nCOLUMNS\n    X  C  1\nRHS\n    RHS  C  5\nENDATA\n",
@@ -316,7 +347,7 @@ fn files_have_their_texts(rt: HostRuntime) -> Result<(), Fail> {
 }
 
 /// What stands under BOUNDS, and what it is converted to.
-const BOUNDED: [(&str, &str); 7] = [
+const BOUNDED: [(&str, &str); 9] = [
     (" UP B X -1\n", "file: NegativeUpper X\n"),
     (
         " UP B X -1\n MI B X\n",
@@ -332,6 +363,14 @@ const BOUNDED: [(&str, &str); 7] = [
         "NAME\nROWS\n N  C\nCOLUMNS\n    X  C  1\nBOUNDS\n FR  BND  X\nENDATA\n",
     ),
     (" FX B X 1e20\n", "line 6: InfiniteValue\n"),
+    (
+        " SC B X 4\n",
+        "NAME\nROWS\n N  C\nCOLUMNS\n    X  C  1\nBOUNDS\n SC  BND  X  4\nENDATA\n",
+    ),
+    (
+        " SC B X 4\n LO B X 4\n",
+        "NAME\nROWS\n N  C\nCOLUMNS\n    X  C  1\nBOUNDS\n LO  BND  X  4\n SC  BND  X  4\nENDATA\n",
+    ),
     (
         " LI B X 2\n PL B X\n",
         "NAME\nROWS\n N  C\nCOLUMNS\n    MARKER  'MARKER'  'INTORG'\n    X  C  1\n    MARKER  'MARKER'  'INTEND'\nBOUNDS\n LO  BND  X  2\n PL  BND  X\nENDATA\n",
@@ -389,7 +428,7 @@ const CHANGES: [(usize, &str, &str); 22] = [
     (8, "    Y  C  1\n    X  R  1", "line 9: ColumnSplit\n"),
     (10, "    A  R  1\n    A2  R  1", "line 11: SecondSet\n"),
     (10, "    A  R  1\n    A  R  1", "line 11: DuplicateRhs\n"),
-    (12, " SC  B  X  4", "line 12: SemiContinuous\n"),
+    (12, " SC  B  X  4\n BV  B  X", "line 13: SemiContinuous\n"),
     (12, " UP  B  Z  4", "line 12: UnknownColumn\n"),
     (12, " UP  B  X  -1e30", "line 12: InfiniteValue\n"),
     (
@@ -567,6 +606,23 @@ fn models_are_compared(rt: HostRuntime) {
     assert!(rt; matches!(&first, Err(ConvertFault::First(fault)) if fault.line == 0));
     let second = same_model::<Mps, Mps>(alloc, marked, b"X\n");
     assert!(rt; matches!(&second, Err(ConvertFault::Second(fault)) if fault.line == 1));
+}
+
+#[test]
+fn semi_continuous_columns_are_compared(rt: HostRuntime) -> Result<(), Fail> {
+    let alloc = rt.alloc();
+    let (semi, expected) = (SEMI.as_bytes(), SEMI_CANONICAL.as_bytes());
+    assert!(rt; matches!(same_model::<Mps, Mps>(alloc, semi, expected), Ok(true)));
+    assert!(rt; matches!(same_model::<Mps, Mps>(alloc, expected, semi), Ok(true)));
+    assert!(rt; matches!(is_canonical::<Mps>(alloc, semi), Ok(false)));
+    assert!(rt; matches!(is_canonical::<Mps>(alloc, expected), Ok(true)));
+    let head = "ROWS\n N C\nCOLUMNS\n X C 1\nBOUNDS\n";
+    let end = " X 4\nENDATA\n";
+    let up = joined(alloc, &[head, " UP B", end])?;
+    let sc = joined(alloc, &[head, " SC B", end])?;
+    assert!(rt; matches!(same_model::<Mps, Mps>(alloc, &up, &sc), Ok(false)));
+    assert!(rt; matches!(same_model::<Mps, Mps>(alloc, &sc, &sc), Ok(true)));
+    Ok(())
 }
 
 /// Gives one byte in each read, but fails in one of them: in the first one, at 1.

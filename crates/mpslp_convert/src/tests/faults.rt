@@ -319,6 +319,41 @@ const BOUND_SIDES: [Change; 12] = [
     (14, " FX  B  X  -1e20", "line 14: InfiniteValue\n"),
 ];
 
+/// Semi-continuous columns.
+const SEMI_CONTINUOUS: [Change; 19] = [
+    (14, " SC  X", "line 14: FieldCount\n"),
+    (14, " SC  B  X  4  5", "line 14: FieldCount\n"),
+    (14, " sc  B  X  4", "line 14: BadType\n"),
+    (14, " SC  B  X  4x", "line 14: BadNumber\n"),
+    (14, " SC  B  Z  4", "line 14: UnknownColumn\n"),
+    (14, " SC  B  X  -1e20", "line 14: InfiniteValue\n"),
+    (14, " SC  B  X  4\n SC  D  Y  4", "line 15: SecondSet\n"),
+    (
+        14,
+        " SC  B  X  4\n UP  B  X  4",
+        "line 15: DuplicateBound\n",
+    ),
+    (
+        14,
+        " UP  B  X  4\n SC  B  X  4",
+        "line 15: DuplicateBound\n",
+    ),
+    (14, " SC  B  X  4\n BV  B  X", "line 15: SemiContinuous\n"),
+    (
+        14,
+        " LI  B  X  1\n SC  B  X  4",
+        "line 15: SemiContinuous\n",
+    ),
+    (14, " SC  B  X  0", "file: SemiBounds X\n"),
+    (14, " SC  B  X  1e20", "file: SemiBounds X\n"),
+    (14, " SC  B  X  -1", "file: NegativeUpper X\n"),
+    (14, " SC  B  X  4\n LO  B  X  -1", "file: SemiBounds X\n"),
+    (14, " SC  B  X  4\n MI  B  X", "file: SemiBounds X\n"),
+    (14, " SC  B  X  4\n LO  B  X  5", "file: BoundsCrossed X\n"),
+    (14, " SC  B  Y  0\n SC  B  X  0", "file: SemiBounds X\n"),
+    (14, " SC  B  X  0\n SC  B  Y  -1", "file: NegativeUpper Y\n"),
+];
+
 /// The whole file.
 const WHOLE: [Change; 10] = [
     (15, "", "file: MissingEnd\n"),
@@ -437,6 +472,11 @@ fn faults_of_unknown_columns(rt: HostRuntime) -> Result<(), Fail> {
 #[test]
 fn faults_of_bound_sides(rt: HostRuntime) -> Result<(), Fail> {
     are_told(&rt, rt.alloc(), &BOUND_SIDES)
+}
+
+#[test]
+fn faults_of_semi_continuous_columns(rt: HostRuntime) -> Result<(), Fail> {
+    are_told(&rt, rt.alloc(), &SEMI_CONTINUOUS)
 }
 
 #[test]
