@@ -34,7 +34,7 @@ key_ties a b =
     and_comm (same_bytes a.row b.row) (same_bytes a.column b.column)
     ∙ both_tied _ _ (bytes_cmp a.column b.column) (bytes_cmp a.row b.row) (texts_ties a.column b.column) (texts_ties a.row b.row)
 
-has-put_key : {X : Type 0} (q k : CoefficientKey) (v : X) (es : List (CoefficientKey × X))
+pub has-put_key : {X : Type 0} (q k : CoefficientKey) (v : X) (es : List (CoefficientKey × X))
     → is_some (find key_cmp q (put key_cmp k v es)) ≡ ((same_bytes q.row k.row && same_bytes q.column k.column) || is_some (find key_cmp q es))
 has-put_key q k v es =
     ap is_some (find-put key_cmp key_total q k v es)

@@ -54,9 +54,7 @@ fn is_finite_above_zero(side: Limit) -> bool
     ensures { result ≡ is_finite_above_zero side }
 {
     match side {
-        Limit::Finite(value) => {
-            !Limit::Finite(value).is_at_most(Limit::Finite(Decimal::zero()))
-        }
+        Limit::Finite(value) => { !Limit::Finite(value).is_at_most(Limit::Finite(Decimal::zero())) }
         Limit::MinusInf | Limit::PlusInf => false,
     }
 }

@@ -71,14 +71,21 @@ impl Builder {
         self.columns.has(&name)
     }
 
-    /// Whether a row of this name is declared by type N.
-    pub(crate) fn is_free_row(&self, name: &[u8]) -> bool
+    /// Whether a row of this name is declared by type N. The objective is not.
+    pub fn is_free_row(&self, name: &[u8]) -> bool
         ensures { result ≡ is_free_row self.now name.now }
     {
         match self.rows.find(&name) {
             Some(form) => form.is_free(),
             None => false,
         }
+    }
+
+    /// Whether a coefficient of this row, or of the objective, is declared in this column.
+    pub fn has_coefficient(&self, row: &[u8], column: &[u8]) -> bool
+        ensures { result ≡ has_entry self.now (record { row = row.now; column = column.now }) }
+    {
+        self.coefficients.has(&BorrowedKey { row, column })
     }
 
     /// Whether a row of this name is declared by its limits.
@@ -213,7 +220,7 @@ impl Builder {
             (!self.has_row(row), BuildFault::UnknownRow),
             (!self.has_column(column), BuildFault::UnknownColumn),
             (
-                self.coefficients.has(&BorrowedKey { row, column }),
+                self.has_coefficient(row, column),
                 BuildFault::DuplicateEntry,
             ),
         ])
