@@ -3,7 +3,7 @@ use Rattle.std.proofs.Common.{◌≡◌, refl, sym, ap, subst, ◌∙◌, ℕ, L
 use Rattle.std.specs.Prelude.{◌&&◌, ◌||◌, Option, Some, None, is_some, Ok, Err}
 use Rattle.std.specs.Option.{option_map, option_map_or}
 use Rattle.mpslp_decimal.specs.Decimal.{Number}
-use Rattle.mpslp_model.specs.Answer.{Answers}
+use Rattle.mpslp_model.specs.Answer.{Answers, first_refusal}
 use Rattle.mpslp_types.specs.Sides.{limit_of, is_plus_infinite, is_minus_infinite}
 use Rattle.std.proofs.lemmas.List.{append-nil}
 use Rattle.mpslp_model.specs.Bounds.{zero_limit, one_limit}
@@ -32,7 +32,7 @@ use Rattle.mpslp_mps.specs.declared.bound_types.BoundType.TheVariants as bounds
 use Rattle.mpslp_types.proofs.BoolLemmas.{nor}
 use Rattle.mpslp_model.proofs.MadeDrafts.{adding_all-append}
 use Rattle.mpslp_reading.proofs.LeastLemmas.{earlier_of}
-use Rattle.mpslp_reading.proofs.RefusedLemmas.{kind_tests, declared-one, declared-append, call-refused}
+use Rattle.mpslp_reading.proofs.RefusedLemmas.{kind_tests, declared-one, declared-append, call-refused, tests-none, tests-error}
 
 -- the kind of the fault, by whether the column is there, a side is declared already, and one is of the wrong infinity
 abbrev side_kind : Bool → Bool → Bool → Option FaultKind
@@ -82,6 +82,16 @@ pub sides-refused : (all : Draft) (column : List ℕ) (lower upper : Option Limi
 sides-refused all column lower upper fault P Q h answer =
     subst (λ (o : Option FaultKind). IsErrorOf o (error_of_build fault)) (sym (sides_fault all column lower upper h))
     (call-refused (bounds_tests all column lower upper) fault P Q answer)
+
+-- sides that are asked for
+pub sides-none : (all : Draft) (column : List ℕ) (lower upper : Option Limit) → (is_some lower || is_some upper) ≡ true → Ok tt ≡ first_refusal (bounds_refusals all column lower upper)
+    → declared_fault all (bounds_declared column lower upper) ≡ None
+sides-none all column lower upper h told = sides_fault all column lower upper h ∙ tests-none (bounds_tests all column lower upper) told
+
+pub sides-error : (all : Draft) (column : List ℕ) (lower upper : Option Limit) (fault : BuildFault) → (is_some lower || is_some upper) ≡ true
+    → Err fault ≡ first_refusal (bounds_refusals all column lower upper) → IsErrorOf (declared_fault all (bounds_declared column lower upper)) (error_of_build fault)
+sides-error all column lower upper fault h told =
+    subst (λ (o : Option FaultKind). IsErrorOf o (error_of_build fault)) (sym (sides_fault all column lower upper h)) (tests-error (bounds_tests all column lower upper) fault told)
 
 -- ---- after that the column is integer or semi-continuous
 
@@ -213,6 +223,33 @@ bound-told all bounds.IntegerLower column value apart = integer_sides all column
 bound-told all bounds.IntegerUpper column value apart = integer_sides all column None (Some value) (nor (is_semi all column) false apart).0 refl
 bound-told all bounds.SemiUpper column value apart =
     kind_sides all (declare_semi column) column None (Some value) refl (kind_told all (declare_semi column) column (is_integer all column) refl apart) refl
+
+-- the kind that is declared changes nothing for the sides
+same_sides : (all : Draft) (type : BoundType) (column : List ℕ) (lower upper : Option Limit)
+    → bounds_tests (adding_all all (kind_declared type column)) column lower upper ≡ bounds_tests all column lower upper
+same_sides all bounds.Lower column lower upper = refl
+same_sides all bounds.Upper column lower upper = refl
+same_sides all bounds.Fixed column lower upper = refl
+same_sides all bounds.Free column lower upper = refl
+same_sides all bounds.NoLower column lower upper = refl
+same_sides all bounds.NoUpper column lower upper = refl
+same_sides all bounds.Binary column lower upper = refl
+same_sides all bounds.IntegerLower column lower upper = refl
+same_sides all bounds.IntegerUpper column lower upper = refl
+same_sides all bounds.SemiUpper column lower upper = refl
+
+-- so they tell the fault of all before the kind is declared
+pub bound-asked : (all : Draft) (type : BoundType) (column : List ℕ) (value : Limit) (lower upper : Option Limit) → type_clash all type column ≡ false
+    → lower ≡ lower_given type value → upper ≡ upper_given type value → declared_fault all (bounds_declared column lower upper) ≡ declared_fault all (bound_declared type column value)
+bound-asked all type column value lower upper apart l u =
+    let below = lower_given type value in
+    let above = upper_given type value in
+    let given = some-side type value in
+    (λ i. declared_fault all (bounds_declared column (l i) (u i)))
+    ∙ sides_fault all column below above given
+    ∙ ap (λ (tests : List (Bool × BuildFault)). first_held (kind_tests tests)) (sym (same_sides all type column below above))
+    ∙ sym (sides_fault (adding_all all (kind_declared type column)) column below above given)
+    ∙ sym (bound-told all type column value apart)
 
 -- the kind, and then the sides
 pub bound-declares : (all mid later : Draft) (type : BoundType) (column : List ℕ) (value : Limit) (lower upper : Option Limit) (answer : LineResult) → type_clash all type column ≡ false

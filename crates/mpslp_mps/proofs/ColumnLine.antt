@@ -23,7 +23,7 @@ use Rattle.mpslp_mps.specs.DataFault.{is_split, marker_tests, column_tests, data
 use Rattle.mpslp_mps.specs.LineMeaning.{coefficient_declared, data_declared, declared_of, column_declared}
 use Rattle.mpslp_reading.specs.Declaring.{declaring_faults, declared_fault}
 use Rattle.mpslp_mps.specs.LineAnswer.{item_fault}
-use Rattle.mpslp_mps.specs.ColumnDeclared.{front_declared, value_declared}
+use Rattle.mpslp_mps.specs.ColumnDeclared.{front_declared, value_declared, has_double}
 use Rattle.mpslp_mps.specs.declared.sections.Section.{Section}
 use Rattle.mpslp_mps.specs.declared.sections.Section.TheVariants.{Columns}
 use Rattle.mpslp_reading.proofs.HeldLemmas.{held-third, held-among}
@@ -38,7 +38,7 @@ use Rattle.mpslp_mps.specs.KindClash.{column_clash}
 use Rattle.mpslp_mps.proofs.TakingLemmas.{is_early}
 use Rattle.mpslp_mps.proofs.TakenLemmas.{clash-told}
 use Rattle.mpslp_mps.proofs.ClashLemmas.{column-clashes, column-apart}
-use Rattle.mpslp_mps.proofs.ColumnTaking.{are_rows, front-none, front-there, front-rows, values-late, values-unknown}
+use Rattle.mpslp_mps.proofs.ColumnTaking.{are_rows, front-none, front-there, front-rows, values-late, values-unknown, values-double, front-double}
 
 -- ---- the form
 
@@ -208,6 +208,18 @@ placed-fault context earlier fields column values here plain apart held is in_or
     let coefficients = declared_fault (with_column context earlier column) (flat_map (value_declared column) values) in
     column-fault context earlier fields column values here plain apart held is
     ∙ ap (λ (b : Bool). earlier_of (cond b (Some kinds.ColumnSplit) None) coefficients) (placed context earlier column values in_order).1
+
+-- and so they do before the column is declared
+pub double-fault : (context : Context) (earlier : Draft) (fields : Fields) (column : List ℕ) (values : List (List ℕ × Number)) → context.section ≡ Some Columns
+    → is_marker_line fields ≡ false → column_clash context earlier fields ≡ false → first_held (judged_by field_tests (column_shape fields)) ≡ None
+    → option_map named_values (column_shape fields) ≡ Some (column, values) → first_held (place_tests context earlier column values) ≡ None
+    → item_fault context earlier (data_line fields) ≡ cond (has_double earlier column values) (Some kinds.DuplicateEntry) None
+double-fault context earlier fields column values here plain apart held is in_order =
+    let marked = context.in_integer_part in
+    placed-fault context earlier fields column values here plain apart held is in_order
+    ∙ values-double values (with_column context earlier column) column (front-there earlier marked column)
+    (front-rows earlier marked column values ∙ (placed context earlier column values in_order).0)
+    ∙ ap (λ (b : Bool). cond b (Some kinds.DuplicateEntry) None) (front-double earlier marked column values)
 
 -- ---- the column's name
 

@@ -1,14 +1,17 @@
 -- Lines of COLUMNS: the first fault of their form and of what they declare together.
 use Rattle.std.proofs.Common.{◌≡◌, refl, sym, ap, subst, ◌∙◌, ℕ, List, [], ◌∷◌, ◌++◌, Bool, true, false, cond, map}
-use Rattle.std.specs.Prelude.{◌||◌, ◌&&◌, not, Option, Some, None}
+use Rattle.std.specs.Prelude.{◌||◌, ◌&&◌, not, Option, Some, None, is_some}
 use Rattle.std.specs.List.{list_all, flat_map}
 use Rattle.std.specs.Cmp.{first_so, second_so}
+use Rattle.std.specs.FinMap.{find, put}
 use Rattle.mpslp_decimal.specs.Decimal.{Number}
+use Rattle.mpslp_types.specs.Name.{same_bytes}
+use Rattle.mpslp_model.specs.Model.{CoefficientKey, key_cmp}
 use Rattle.mpslp_model.specs.Declaration.{declare_column, declare_coefficient, Declarations, Draft, adding, adding_all, has_row, has_column, has_entry, is_semi}
 use Rattle.mpslp_model.specs.Lists.{those_of}
 use Rattle.mpslp_types.specs.FaultOrder.{least_kind}
 use Rattle.mpslp_types.specs.declared.faults.BuildFault.TheVariants.{UnknownColumn, SemiContinuous}
-use Rattle.mpslp_model.proofs.SlotLemmas.{has-put}
+use Rattle.mpslp_model.proofs.SlotLemmas.{has-put, has-put_key}
 use Rattle.mpslp_model.proofs.LaterDrafts.{itself_named}
 use Rattle.mpslp_types.specs.declared.faults.FaultKind.{FaultKind}
 use Rattle.mpslp_types.specs.declared.faults.FaultKind.TheVariants as kinds
@@ -19,7 +22,7 @@ use Rattle.mpslp_reading.specs.Tests.{judged_by}
 use Rattle.mpslp_mps.specs.DataFault.{marker_tests, marker_word_tests, is_sos_marker, column_tests, data_tests}
 use Rattle.mpslp_mps.specs.LineMeaning.{data_declared, declared_of, column_declared}
 use Rattle.mpslp_reading.specs.Declaring.{kind_of_refusal, declared_fault}
-use Rattle.mpslp_mps.specs.ColumnDeclared.{front_declared, value_declared}
+use Rattle.mpslp_mps.specs.ColumnDeclared.{front_declared, value_declared, has_double}
 use Rattle.mpslp_reading.specs.LineAnswer.{IsErrorOf}
 use Rattle.mpslp_reading.specs.declared.errors.LineError.{LineError}
 use Rattle.mpslp_reading.specs.declared.errors.LineError.TheVariants.{Fault, OutOfMemory}
@@ -104,6 +107,59 @@ values-late (value ∷ values) earlier column there rows =
     ap (are_from kinds.DuplicateEntry) (declared-append (value_declared column value) (flat_map (value_declared column) values) earlier)
     ∙ from-earlier kinds.DuplicateEntry first later (value-late earlier column value there (first_so (has_row earlier value.0) (are_rows earlier values) rows))
     (values-late values next column there (second_so (has_row earlier value.0) (are_rows earlier values) rows))
+
+-- that fault, by whether a coefficient is there twice
+pub values-double : (values : List (List ℕ × Number)) (earlier : Draft) (column : List ℕ) → has_column earlier column ≡ true → are_rows earlier values ≡ true
+    → declared_fault earlier (flat_map (value_declared column) values) ≡ cond (has_double earlier column values) (Some kinds.DuplicateEntry) None
+values-double [] earlier column there rows = refl
+values-double (value ∷ values) earlier column there rows =
+    let next = adding_all earlier (value_declared column value) in
+    let double = has_entry earlier (record { row = value.0; column = column }) in
+    let row = first_so (has_row earlier value.0) (are_rows earlier values) rows in
+    let first = value-fault earlier column value there ∙ ap (λ (b : Bool). cond (not b) (Some kinds.UnknownRow) (cond double (Some kinds.DuplicateEntry) None)) row in
+    let later = values-double values next column there (second_so (has_row earlier value.0) (are_rows earlier values) rows) in
+    declared-append (value_declared column value) (flat_map (value_declared column) values) earlier
+    ∙ (λ i. earlier_of (first i) (later i))
+    ∙ by double (has_double next column values)
+  where
+    by : (a b : Bool) → earlier_of (cond a (Some kinds.DuplicateEntry) None) (cond b (Some kinds.DuplicateEntry) None) ≡ cond (a || b) (Some kinds.DuplicateEntry) None
+    by true true = refl
+    by true false = refl
+    by false b = refl
+
+-- which the coefficients alone decide
+same_double : (values : List (List ℕ × Number)) (before after : Draft) (column : List ℕ) → before.coefficients ≡ after.coefficients
+    → has_double before column values ≡ has_double after column values
+same_double [] before after column same = refl
+same_double (value ∷ values) before after column same =
+    let key : CoefficientKey = record { row = value.0; column = column } in
+    let later = same_double values (adding before (declare_coefficient key value.1)) (adding after (declare_coefficient key value.1)) column (ap (put key_cmp key value.1) same) in
+    λ i. is_some (find key_cmp key (same i)) || later i
+
+pub front-double : (earlier : Draft) (marked : Bool) (column : List ℕ) (values : List (List ℕ × Number))
+    → has_double (adding_all earlier (front_declared marked column)) column values ≡ has_double earlier column values
+front-double earlier true column values = same_double values (adding_all earlier (front_declared true column)) earlier column refl
+front-double earlier false column values = same_double values (adding_all earlier (front_declared false column)) earlier column refl
+
+-- of two values: the second one is of the first one's row, or its coefficient is declared
+pub two-double : (earlier : Draft) (column : List ℕ) (value other : List ℕ × Number)
+    → (has_entry earlier (record { row = value.0; column = column }) || (same_bytes other.0 value.0 || has_entry earlier (record { row = other.0; column = column })))
+    ≡ has_double earlier column (value ∷ other ∷ [])
+two-double earlier column value other =
+    let key : CoefficientKey = record { row = value.0; column = column } in
+    let other_key : CoefficientKey = record { row = other.0; column = column } in
+    ap (λ (b : Bool). has_entry earlier key || b)
+    (by (same_bytes other.0 value.0) (has_entry earlier other_key)
+    ∙ sym (ap (λ (b : Bool). b || false) (has-put_key other_key key value.1 earlier.coefficients ∙ ap (λ (b : Bool). (same_bytes other.0 value.0 && b) || has_entry earlier other_key) (itself_named column))))
+  where
+    by : (a b : Bool) → (a || b) ≡ (((a && true) || b) || false)
+    by true b = refl
+    by false true = refl
+    by false false = refl
+
+pub one-double : (b : Bool) → b ≡ (b || false)
+one-double true = refl
+one-double false = refl
 
 -- the first value is refused
 pub values-refused : (earlier : Draft) (column : List ℕ) (value : List ℕ × Number) (values : List (List ℕ × Number)) (error : LineError)

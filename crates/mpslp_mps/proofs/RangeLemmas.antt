@@ -1,6 +1,6 @@
 -- The first fault of the ranges of a line.
-use Rattle.std.proofs.Common.{◌≡◌, refl, sym, ap, ◌∙◌, ℕ, List, [], ◌∷◌, Bool, true, false, not, cond}
-use Rattle.std.specs.Prelude.{◌||◌, Option, Some, None}
+use Rattle.std.proofs.Common.{◌≡◌, refl, sym, ap, subst, ◌∙◌, ℕ, List, [], ◌∷◌, Bool, true, false, not, cond}
+use Rattle.std.specs.Prelude.{◌||◌, Option, Some, None, MatchResult}
 use Rattle.mpslp_decimal.specs.Decimal.{Number, is_infinite_size}
 use Rattle.mpslp_types.specs.Name.{same_bytes}
 use Rattle.mpslp_model.specs.Declaration.{declare_range, Draft, adding, has_name, has_row, is_objective, is_free_row, is_row_by_limits}
@@ -8,6 +8,7 @@ use Rattle.mpslp_types.specs.declared.faults.FaultKind.{FaultKind}
 use Rattle.mpslp_types.specs.declared.faults.FaultKind.TheVariants as kinds
 use Rattle.mpslp_model.proofs.SlotLemmas.{has-put, same_name}
 use Rattle.mpslp_reading.specs.Declaring.{declared_fault}
+use Rattle.mpslp_reading.specs.LineAnswer.{LineResult, IsErrorOf}
 use Rattle.mpslp_reading.proofs.LeastLemmas.{earlier_of}
 use Rattle.mpslp_reading.proofs.RefusedLemmas.{declared-one, declared-append}
 
@@ -42,6 +43,16 @@ pub ranges-apart : (all : Draft) (row : List ℕ) (value : Number) (other : List
 ranges-apart all row value other second apart =
     declared-append (declare_range row value ∷ []) (declare_range other second ∷ []) all
     ∙ ap (earlier_of (declared_fault all (declare_range row value ∷ []))) (range-apart all row value other second apart)
+
+-- where the first one has no fault, the second one's is that of both
+pub second-range : (all : Draft) (row : List ℕ) (value : Number) (other : List ℕ) (second : Number) (answer : LineResult) → same_bytes other row ≡ false
+    → declared_fault all (declare_range row value ∷ []) ≡ None
+    → MatchResult answer (λ _. declared_fault all (declare_range other second ∷ []) ≡ None) (IsErrorOf (declared_fault all (declare_range other second ∷ [])))
+    → MatchResult answer (λ _. declared_fault all (declare_range row value ∷ declare_range other second ∷ []) ≡ None)
+    (IsErrorOf (declared_fault all (declare_range row value ∷ declare_range other second ∷ [])))
+second-range all row value other second answer apart none h =
+    subst (λ (o : Option FaultKind). MatchResult answer (λ _. o ≡ None) (IsErrorOf o))
+    (sym (ranges-apart all row value other second apart ∙ ap (λ (o : Option FaultKind). earlier_of o (declared_fault all (declare_range other second ∷ []))) none)) h
 
 -- two ranges of one row
 pub ranges-of_one : (all : Draft) (row : List ℕ) (value : Number) (other : List ℕ) (second : Number) → same_bytes other row ≡ true

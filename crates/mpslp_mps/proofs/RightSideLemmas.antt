@@ -1,7 +1,8 @@
 -- The first fault of the right sides of a line.
 use Rattle.std.proofs.Common.{◌≡◌, refl, sym, ap, subst, ◌∙◌, ℕ, List, [], ◌∷◌, ◌++◌, Bool, true, false, not, cond}
-use Rattle.std.specs.Prelude.{◌&&◌, ◌||◌, Option, Some, None, is_some}
+use Rattle.std.specs.Prelude.{◌&&◌, ◌||◌, Option, Some, None, is_some, MatchResult}
 use Rattle.std.specs.Option.{option_map_or}
+use Rattle.std.specs.Cmp.{second_so}
 use Rattle.mpslp_decimal.specs.Decimal.{Number}
 use Rattle.mpslp_types.specs.Name.{same_bytes}
 use Rattle.mpslp_model.specs.Declaration.{RowForm, by_type, by_limits, declare_rhs, Draft, adding, adding_all, at_name, has_name, has_row, is_objective, is_free_form, is_free_row, is_limits_form, is_row_by_limits, rhs_declared}
@@ -10,7 +11,7 @@ use Rattle.mpslp_types.specs.declared.faults.FaultKind.TheVariants as kinds
 use Rattle.mpslp_types.proofs.BoolLemmas.{or_right}
 use Rattle.mpslp_model.proofs.SlotLemmas.{has-put, same_name}
 use Rattle.mpslp_reading.specs.Declaring.{declared_fault}
-use Rattle.mpslp_reading.specs.LineAnswer.{IsErrorOf}
+use Rattle.mpslp_reading.specs.LineAnswer.{LineResult, IsErrorOf}
 use Rattle.mpslp_mps.specs.VectorDeclared.{HasMpsSides}
 use Rattle.mpslp_reading.specs.declared.errors.LineError.{LineError}
 use Rattle.mpslp_reading.specs.declared.errors.LineError.TheVariants.{Fault, OutOfMemory}
@@ -157,3 +158,48 @@ first-refused all row value other second error sides h fault_is =
     by true false c d (Fault kind) k given = cc
     by false b c d (Fault kind) k given = cc
     by true b false d (Fault kind) k given = cc
+
+-- ---- right sides that are asked for before they are declared
+
+-- the second right side is one more of the row, which is not of type N
+abbrev is_again : Draft → List ℕ → List ℕ → Bool
+is_again all row other = same_bytes other row && not (is_free_row all row)
+
+sided_after : (all : Draft) (row : List ℕ) (value : Number) (other : List ℕ) → is_sided (after_side all row value) other ≡ (is_again all row other || is_sided all other)
+sided_after all row value other =
+    elim (is_free_row all row) as (λ b. is_sided (adding_all all (cond b [] (declare_rhs row value ∷ []))) other ≡ ((same_bytes other row && not b) || is_sided all other)) [
+      | true ↦ free (same_bytes other row)
+      | false ↦
+          ap (λ (b : Bool). b || (is_row_by_limits all other || (is_objective all other && is_some all.constant))) (has-put other row value all.rhs_values)
+          ∙ held (same_bytes other row) (has_name all.rhs_values other) (is_row_by_limits all other || (is_objective all other && is_some all.constant))
+    ]
+  where
+    free : (a : Bool) → is_sided all other ≡ ((a && false) || is_sided all other)
+    free true = refl
+    free false = refl
+
+    held : (a b c : Bool) → ((a || b) || c) ≡ ((a && true) || (b || c))
+    held true b c = refl
+    held false b c = refl
+
+both_after : (all : Draft) (row : List ℕ) (value : Number) (other : List ℕ) (second : Number) → HasMpsSides all → declared_fault all (rhs_declared all row value) ≡ None
+    → both all row value other second ≡ side_kind (has_row all other) (is_again all row other || is_sided all other)
+both_after all row value other second sides none =
+    both_fault all row value other second sides
+    ∙ (λ i. earlier_of (side_kind (has_row all row) (is_sided all row)) (side_kind (has_row all other) (sided_after all row value other i)))
+    ∙ ap (λ (o : Option FaultKind). earlier_of o (side_kind (has_row all other) (is_again all row other || is_sided all other))) (sym (side_fault all row value (limited all sides)) ∙ none)
+
+-- where the first one has no fault
+pub given-again : (all : Draft) (row : List ℕ) (value : Number) (other : List ℕ) (second : Number) → HasMpsSides all → (has_row all row && has_row all other) ≡ true
+    → declared_fault all (rhs_declared all row value) ≡ None → (same_bytes other row && not (is_free_row all row)) ≡ true → both all row value other second ≡ Some kinds.DuplicateRhs
+given-again all row value other second sides rows none again =
+    let there = second_so (has_row all row) (has_row all other) rows in
+    both_after all row value other second sides none ∙ (λ i. side_kind (there i) (again i || is_sided all other))
+
+pub given-apart : (all : Draft) (row : List ℕ) (value : Number) (other : List ℕ) (second : Number) (answer : LineResult) → HasMpsSides all
+    → declared_fault all (rhs_declared all row value) ≡ None → (same_bytes other row && not (is_free_row all row)) ≡ false
+    → MatchResult answer (λ _. declared_fault all (rhs_declared all other second) ≡ None) (IsErrorOf (declared_fault all (rhs_declared all other second)))
+    → MatchResult answer (λ _. both all row value other second ≡ None) (IsErrorOf (both all row value other second))
+given-apart all row value other second answer sides none apart h =
+    subst (λ (o : Option FaultKind). MatchResult answer (λ _. o ≡ None) (IsErrorOf o))
+    (side_fault all other second (limited all sides) ∙ (λ i. side_kind (has_row all other) (sym apart i || is_sided all other)) ∙ sym (both_after all row value other second sides none)) h

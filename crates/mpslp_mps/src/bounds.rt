@@ -1,6 +1,6 @@
 //! Lines of BOUNDS.
 
-ghost use Rattle.std.specs.Prelude.{◌≡◌, [], ◌∷◌, ◌||◌, true, false, map, IsTrue, Some, is_some};
+ghost use Rattle.std.specs.Prelude.{◌≡◌, [], ◌∷◌, ◌||◌, true, false, map, IsTrue, Some, None, is_some, MatchResult};
 ghost use Rattle.std.specs.Option.{ForSome, option_map_or};
 ghost use Rattle.mpslp_types.specs.Sides.{limit_of, is_given};
 ghost use Rattle.mpslp_model.specs.Bounds.{zero_limit, one_limit};
@@ -9,7 +9,8 @@ ghost use Rattle.mpslp_mps.specs.Line.{data_line};
 ghost use Rattle.mpslp_mps.specs.LineMeaning.{lower_given, upper_given, is_integer_type, is_semi_type, kind_declared, bound_declared};
 ghost use Rattle.mpslp_mps.specs.KindClash.{type_clash};
 ghost use Rattle.mpslp_mps.specs.LineAnswer.{ReadsItem};
-ghost use Rattle.mpslp_reading.specs.LineAnswer.{AreDeclared};
+ghost use Rattle.mpslp_reading.specs.LineAnswer.{AreDeclared, IfFault, IsErrorOf};
+ghost use Rattle.mpslp_reading.specs.Declaring.{declared_fault};
 ghost use Rattle.mpslp_mps.specs.declared.sections.Section.{Section};
 
 use crate::bound_types::BoundType;
@@ -65,6 +66,21 @@ fn sides_of(bound_type: BoundType, value: &Limit) -> (Option<Limit>, Option<Limi
         BoundType::NoUpper => (None, Some(Limit::PlusInf)),
         BoundType::Binary => (Some(zero_limit()), Some(one_limit())),
     }
+}
+
+/// The fault that the sides of a column that are given, of which there is one at least, would have now, if they have one.
+fn check_sides(
+    builder: &Builder,
+    column: &[u8],
+    lower: &Option<Limit>,
+    upper: &Option<Limit>,
+) -> Result<(), LineError>
+    requires { (is_some lower.now || is_some upper.now) ≡ true }
+    ensures { let first_fault = declared_fault builder.now (bounds_declared column.now lower.now upper.now) in
+        MatchResult result (λ _. first_fault ≡ None) (IsErrorOf first_fault) }
+{
+    builder.check_bounds(column, lower, upper)?;
+    Ok(())
 }
 
 /// Declares the sides of a column that are given, of which there is one at least.
@@ -139,7 +155,7 @@ fn declare_kind(
     Ok(())
 }
 
-/// Declares what a bound says of its column.
+/// Declares what a bound says of its column. The sides are asked for before the kind is declared.
 fn declare_bound(
     builder: &mut Builder,
     bound_type: BoundType,
@@ -148,9 +164,11 @@ fn declare_bound(
 ) -> Result<(), LineError>
     requires given { IsTrue (is_given value) }
     requires apart { type_clash builder.old bound_type column.now ≡ false }
-    ensures { AreDeclared builder.old (bound_declared bound_type column.now value) result builder.new }
+    ensures answers { AreDeclared builder.old (bound_declared bound_type column.now value) result builder.new }
+    ensures unchanged { IfFault result (builder.new ≡ builder.old) }
 {
     let (lower, upper) = sides_of(bound_type, &value);
+    check_sides(builder, column, &lower, &upper)?;
     declare_kind(builder, bound_type, column)?;
     declare_sides(builder, column, lower, upper)
 }
@@ -163,7 +181,8 @@ fn read_typed_bound(
     more: &[&[u8]],
 ) -> Result<(), LineError>
     requires { context.old.section ≡ Some Section.Bounds }
-    ensures { ReadsItem context.old builder.old (data_line (letters.now ∷ map (λ field. field.now) more.now)) result context.new builder.new }
+    ensures answers { ReadsItem context.old builder.old (data_line (letters.now ∷ map (λ field. field.now) more.now)) result context.new builder.new }
+    ensures unchanged { IfFault result ((context.new ≡ context.old) × (builder.new ≡ builder.old)) }
 {
     if has_bound_clash(builder, letters, more) {
         return Err(LineError::Fault(FaultKind::SemiContinuous));
@@ -181,7 +200,8 @@ pub(crate) fn read_bound(
     fields: &[&[u8]],
 ) -> Result<(), LineError>
     requires { context.old.section ≡ Some Section.Bounds }
-    ensures { ReadsItem context.old builder.old (data_line (map (λ field. field.now) fields.now)) result context.new builder.new }
+    ensures answers { ReadsItem context.old builder.old (data_line (map (λ field. field.now) fields.now)) result context.new builder.new }
+    ensures unchanged { IfFault result ((context.new ≡ context.old) × (builder.new ≡ builder.old)) }
 {
     let [letters, more @ ..] = fields else {
         context.pass_data();

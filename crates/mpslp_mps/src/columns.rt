@@ -12,15 +12,15 @@ ghost use Rattle.mpslp_mps.specs.Line.{data_line};
 ghost use Rattle.mpslp_mps.specs.DataLine.{is_marker_line};
 ghost use Rattle.mpslp_mps.specs.DataFault.{is_split};
 ghost use Rattle.mpslp_reading.specs.Tests.{first_held};
-ghost use Rattle.mpslp_reading.specs.LineAnswer.{AreDeclared};
-ghost use Rattle.mpslp_mps.specs.ColumnDeclared.{front_declared, value_declared};
+ghost use Rattle.mpslp_reading.specs.LineAnswer.{AreDeclared, IfFault};
+ghost use Rattle.mpslp_mps.specs.ColumnDeclared.{front_declared, value_declared, has_double};
 ghost use Rattle.mpslp_mps.specs.LineAnswer.{ReadsItem};
 
 use crate::clashes::has_column_clash;
 use crate::context::LineContext;
 use crate::data_lines::{check_column, check_marker};
 use crate::shapes::is_marker_line;
-use crate::values::{RowValue, RowValues};
+use crate::values::{RowValue, RowValues, is_same_row};
 use mpslp_model::laws::each_builder_is_made;
 use mpslp_model::{Builder, FaultKind, Name};
 use mpslp_reading::LineError;
@@ -30,7 +30,8 @@ use std::alloc::Global;
 fn read_marker(context: &mut LineContext, fields: &[&[u8]]) -> Result<(), LineError>
     requires section { context.old.section ≡ Some Section.Columns }
     requires marker { is_marker_line (map (λ field. field.now) fields.now) ≡ true }
-    ensures { (earlier : Draft) → ReadsItem context.old earlier (data_line (map (λ field. field.now) fields.now)) result context.new earlier }
+    ensures answers { (earlier : Draft) → ReadsItem context.old earlier (data_line (map (λ field. field.now) fields.now)) result context.new earlier }
+    ensures unchanged { IfFault result (context.new ≡ context.old) }
 {
     let opens = check_marker(context, fields)?;
     context.pass_marker(opens);
@@ -72,6 +73,20 @@ fn check_place(
         return Err(FaultKind::ColumnSplit);
     }
     Ok(())
+}
+
+/// Whether a coefficient of the column is declared already, or both values are of one row.
+fn has_double(builder: &Builder, column: &[u8], values: &RowValues<'_>) -> bool
+    ensures { result ≡ has_double builder.now column.now values.now }
+{
+    let first = builder.has_coefficient(values.first.row, column);
+    match &values.second {
+        Some(value) => {
+            first
+                || (is_same_row(&values.first, value) || builder.has_coefficient(value.row, column))
+        }
+        None => first,
+    }
 }
 
 /// Declares the column, if it is not declared yet.
@@ -144,7 +159,7 @@ fn declare_values(
     Ok(())
 }
 
-/// Reads a line of a column.
+/// Reads a line of a column: it is asked for each fault before anything is declared.
 fn read_values(
     context: &mut LineContext,
     builder: &mut Builder,
@@ -153,13 +168,17 @@ fn read_values(
 ) -> Result<(), LineError>
     requires section { context.old.section ≡ Some Section.Columns }
     requires plain { is_marker_line (map (λ field. field.now) fields.now) ≡ false }
-    ensures { ReadsItem context.old builder.old (data_line (map (λ field. field.now) fields.now)) result context.new builder.new }
+    ensures answers { ReadsItem context.old builder.old (data_line (map (λ field. field.now) fields.now)) result context.new builder.new }
+    ensures unchanged { IfFault result ((context.new ≡ context.old) × (builder.new ≡ builder.old)) }
 {
     if has_column_clash(context, builder, fields) {
         return Err(LineError::Fault(FaultKind::SemiContinuous));
     }
     let (column, values) = check_column(fields)?;
     check_place(context, builder, column, &values)?;
+    if has_double(builder, column, &values) {
+        return Err(LineError::Fault(FaultKind::DuplicateEntry));
+    }
     declare_column(builder, alloc, column, context.in_integer_part())?;
     declare_values(builder, column, values)?;
     context.pass_column(column)?;
@@ -174,7 +193,8 @@ pub(crate) fn read_column(
     fields: &[&[u8]],
 ) -> Result<(), LineError>
     requires section { context.old.section ≡ Some Section.Columns }
-    ensures { ReadsItem context.old builder.old (data_line (map (λ field. field.now) fields.now)) result context.new builder.new }
+    ensures answers { ReadsItem context.old builder.old (data_line (map (λ field. field.now) fields.now)) result context.new builder.new }
+    ensures unchanged { IfFault result ((context.new ≡ context.old) × (builder.new ≡ builder.old)) }
 {
     if is_marker_line(fields) {
         read_marker(context, fields)

@@ -6,7 +6,7 @@ ghost use Rattle.mpslp_model.specs.Declaration.{declare_sense};
 ghost use Rattle.mpslp_mps.specs.Line.{header};
 ghost use Rattle.mpslp_mps.specs.DataLine.{word_shape};
 ghost use Rattle.mpslp_mps.specs.LineMeaning.{declared_of, sense_declared, default_objective, header_declared};
-ghost use Rattle.mpslp_reading.specs.LineAnswer.{AreDeclared};
+ghost use Rattle.mpslp_reading.specs.LineAnswer.{AreDeclared, IfFault};
 ghost use Rattle.mpslp_mps.specs.LineAnswer.{ReadsItem};
 
 use crate::context::LineContext;
@@ -30,7 +30,8 @@ fn header_sense(more: &[&[u8]]) -> Option<Sense>
 
 /// Declares the sense that follows the keyword OBJSENSE, if one does.
 fn declare_sense(builder: &mut Builder, more: &[&[u8]]) -> Result<(), LineError>
-    ensures { AreDeclared builder.old (declared_of sense_declared (word_shape (map (λ field. field.now) more.now))) result builder.new }
+    ensures answers { AreDeclared builder.old (declared_of sense_declared (word_shape (map (λ field. field.now) more.now))) result builder.new }
+    ensures unchanged { IfFault result (builder.new ≡ builder.old) }
 {
     if let Some(sense) = header_sense(more) {
         builder.sense(sense)?;
@@ -44,7 +45,8 @@ fn declare_objective(
     builder: &mut Builder,
     alloc: Global,
 ) -> Result<(), LineError>
-    ensures { AreDeclared builder.old (default_objective context.now builder.old) result builder.new }
+    ensures answers { AreDeclared builder.old (default_objective context.now builder.old) result builder.new }
+    ensures unchanged { IfFault result (builder.new ≡ builder.old) }
 {
     if !builder.has_objective() && !context.names_objective() {
         let name = Name::new(alloc, b"obj".as_slice())?;
@@ -61,7 +63,8 @@ fn declare_header(
     section: Section,
     more: &[&[u8]],
 ) -> Result<(), LineError>
-    ensures { AreDeclared builder.old (header_declared context.now builder.old (map (λ field. field.now) more.now) (Some section)) result builder.new }
+    ensures answers { AreDeclared builder.old (header_declared context.now builder.old (map (λ field. field.now) more.now) (Some section)) result builder.new }
+    ensures unchanged { IfFault result (builder.new ≡ builder.old) }
 {
     match section {
         Section::ObjSense => declare_sense(builder, more),
@@ -78,7 +81,8 @@ pub(crate) fn read_header(
     keyword: &[u8],
     more: &[&[u8]],
 ) -> Result<(), LineError>
-    ensures { ReadsItem context.old builder.old (header keyword.now (map (λ field. field.now) more.now)) result context.new builder.new }
+    ensures answers { ReadsItem context.old builder.old (header keyword.now (map (λ field. field.now) more.now)) result context.new builder.new }
+    ensures unchanged { IfFault result ((context.new ≡ context.old) × (builder.new ≡ builder.old)) }
 {
     let section = check_header(context, builder, keyword, more)?;
     declare_header(context, builder, alloc, section, more)?;

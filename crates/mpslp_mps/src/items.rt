@@ -5,7 +5,7 @@ ghost use Rattle.mpslp_model.specs.Declaration.{Draft};
 ghost use Rattle.mpslp_mps.specs.declared.sections.Section.{Section};
 ghost use Rattle.mpslp_mps.specs.Line.{data_line, header_of, item_of};
 ghost use Rattle.mpslp_mps.specs.LineMeaning.{is_new_objective, row_of_type};
-ghost use Rattle.mpslp_reading.specs.LineAnswer.{AreDeclared};
+ghost use Rattle.mpslp_reading.specs.LineAnswer.{AreDeclared, IfFault};
 ghost use Rattle.mpslp_mps.specs.LineAnswer.{ReadsItem};
 ghost use Rattle.mpslp_mps.specs.ReadingAnswer.{ReadsLine};
 ghost use Rattle.mpslp_mps.specs.VectorDeclared.{HasMpsSides};
@@ -30,7 +30,8 @@ pub(crate) fn read_sense(
     fields: &[&[u8]],
 ) -> Result<(), LineError>
     requires section { context.old.section ≡ Some Section.ObjSense }
-    ensures { ReadsItem context.old builder.old (data_line (map (λ field. field.now) fields.now)) result context.new builder.new }
+    ensures answers { ReadsItem context.old builder.old (data_line (map (λ field. field.now) fields.now)) result context.new builder.new }
+    ensures unchanged { IfFault result ((context.new ≡ context.old) × (builder.new ≡ builder.old)) }
 {
     let sense = check_sense(context, fields)?;
     builder.sense(sense)?;
@@ -44,7 +45,8 @@ pub(crate) fn read_objective_name(
     fields: &[&[u8]],
 ) -> Result<(), LineError>
     requires section { context.old.section ≡ Some Section.ObjName }
-    ensures { (earlier : Draft) → ReadsItem context.old earlier (data_line (map (λ field. field.now) fields.now)) result context.new earlier }
+    ensures answers { (earlier : Draft) → ReadsItem context.old earlier (data_line (map (λ field. field.now) fields.now)) result context.new earlier }
+    ensures unchanged { IfFault result (context.new ≡ context.old) }
 {
     let name = check_objective_name(context, fields)?;
     context.pass_objective_name(name)?;
@@ -65,7 +67,8 @@ fn declare_row(
     row_type: RowType,
     name: Name,
 ) -> Result<(), LineError>
-    ensures { AreDeclared builder.old (row_of_type context.now builder.old name row_type) result builder.new }
+    ensures answers { AreDeclared builder.old (row_of_type context.now builder.old name row_type) result builder.new }
+    ensures unchanged { IfFault result (builder.new ≡ builder.old) }
 {
     if row_type == RowType::Free && is_new_objective(context, builder, &name) {
         builder.objective(name)?;
@@ -83,7 +86,8 @@ pub(crate) fn read_row(
     fields: &[&[u8]],
 ) -> Result<(), LineError>
     requires section { context.old.section ≡ Some Section.Rows }
-    ensures { ReadsItem context.old builder.old (data_line (map (λ field. field.now) fields.now)) result context.new builder.new }
+    ensures answers { ReadsItem context.old builder.old (data_line (map (λ field. field.now) fields.now)) result context.new builder.new }
+    ensures unchanged { IfFault result ((context.new ≡ context.old) × (builder.new ≡ builder.old)) }
 {
     let (row_type, name) = check_row(alloc, fields)?;
     declare_row(context, builder, row_type, name)?;
@@ -99,7 +103,8 @@ fn read_data(
     fields: &[&[u8]],
 ) -> Result<(), LineError>
     requires { HasMpsSides builder.old }
-    ensures { ReadsItem context.old builder.old (data_line (map (λ field. field.now) fields.now)) result context.new builder.new }
+    ensures answers { ReadsItem context.old builder.old (data_line (map (λ field. field.now) fields.now)) result context.new builder.new }
+    ensures unchanged { IfFault result ((context.new ≡ context.old) × (builder.new ≡ builder.old)) }
 {
     match context.section() {
         Some(Section::ObjSense) => read_sense(context, builder, fields),
@@ -123,7 +128,8 @@ fn read_keyword(
     fields: &[&[u8]],
 ) -> Result<(), LineError>
     requires { HasMpsSides builder.old }
-    ensures { ReadsItem context.old builder.old (header_of (map (λ field. field.now) fields.now)) result context.new builder.new }
+    ensures answers { ReadsItem context.old builder.old (header_of (map (λ field. field.now) fields.now)) result context.new builder.new }
+    ensures unchanged { IfFault result ((context.new ≡ context.old) × (builder.new ≡ builder.old)) }
 {
     match fields {
         [keyword, more @ ..] => read_header(context, builder, alloc, keyword, more),
@@ -139,7 +145,8 @@ fn read_item(
     line: &[u8],
 ) -> Result<(), LineError>
     requires { HasMpsSides builder.old }
-    ensures { ReadsItem context.old builder.old (item_of line.now) result context.new builder.new }
+    ensures answers { ReadsItem context.old builder.old (item_of line.now) result context.new builder.new }
+    ensures unchanged { IfFault result ((context.new ≡ context.old) × (builder.new ≡ builder.old)) }
 {
     if is_skipped(line) {
         return Ok(());
@@ -160,7 +167,8 @@ pub(crate) fn read_line(
     line: &[u8],
 ) -> Result<(), LineError>
     requires { HasMpsSides builder.old }
-    ensures { ReadsLine context.old builder.old line.now result context.new builder.new }
+    ensures answers { ReadsLine context.old builder.old line.now result context.new builder.new }
+    ensures unchanged { IfFault result ((context.new ≡ context.old) × (builder.new ≡ builder.old)) }
 {
     if !has_legal_length(line) {
         return Err(LineError::Fault(FaultKind::LineTooLong));

@@ -104,3 +104,10 @@ pub(crate) fn is_second_set(first: Option<&[u8]>, set: &[u8]) -> bool
         None => false,
     }
 }
+
+/// Whether both values are of one row.
+pub(crate) fn is_same_row(first: &RowValue, second: &RowValue) -> bool
+    ensures { result ≡ same_bytes second.now.0 first.now.0 }
+{
+    second.row == first.row
+}

@@ -1,19 +1,19 @@
 //! Lines of RHS and RANGES.
 
-ghost use Rattle.std.specs.Prelude.{◌≡◌, [], ◌∷◌, ◌++◌, ◌+◌, ◌&&◌, false, map, Some, None, IfErr, MatchResult};
-ghost use Rattle.mpslp_model.specs.Declaration.{has_row, rhs_declared, declare_range};
+ghost use Rattle.std.specs.Prelude.{◌≡◌, [], ◌∷◌, ◌++◌, ◌+◌, ◌&&◌, false, true, not, map, Some, None, IfErr, MatchResult};
+ghost use Rattle.mpslp_model.specs.Declaration.{has_row, is_free_row, rhs_declared, declare_range};
 ghost use Rattle.mpslp_types.specs.Name.{same_bytes};
 ghost use Rattle.mpslp_types.specs.FaultOrder.{least_kind};
 ghost use Rattle.mpslp_reading.specs.Declaring.{declaring_faults, declared_fault};
 ghost use Rattle.mpslp_mps.specs.Line.{data_line};
-ghost use Rattle.mpslp_reading.specs.LineAnswer.{IsErrorOf, AreDeclared};
+ghost use Rattle.mpslp_reading.specs.LineAnswer.{IsErrorOf, AreDeclared, IfFault};
 ghost use Rattle.mpslp_mps.specs.LineAnswer.{ReadsItem};
 ghost use Rattle.mpslp_mps.specs.VectorDeclared.{HasMpsSides, right_sides_of, ranges_of};
 ghost use Rattle.mpslp_mps.specs.declared.sections.Section.{Section};
 
 use crate::context::LineContext;
 use crate::data_lines::check_vector;
-use crate::values::{RowValue, RowValues};
+use crate::values::{RowValue, RowValues, is_same_row};
 use mpslp_model::{Builder, FaultKind};
 use mpslp_reading::{LineError, lesser_kind};
 
@@ -27,24 +27,62 @@ fn are_rows(builder: &Builder, first: &RowValue, second: &RowValue) -> bool
 /// Declares the right side of a row.
 fn declare_rhs<'a>(builder: &mut Builder, side: RowValue<'a>) -> Result<(), LineError>
     requires { HasMpsSides builder.old }
-    ensures { AreDeclared builder.old (rhs_declared builder.old side.entry.0 side.entry.1) result builder.new }
+    ensures answers { AreDeclared builder.old (rhs_declared builder.old side.entry.0 side.entry.1) result builder.new }
+    ensures unchanged { IfFault result (builder.new ≡ builder.old) }
 {
     builder.rhs(side.row, side.value)?;
     Ok(())
 }
 
+/// The fault that a right side would have now, if it has one.
+fn check_right_side(builder: &Builder, side: &RowValue) -> Result<(), LineError>
+    requires { HasMpsSides builder.now }
+    ensures { MatchResult result (λ _. declared_fault builder.now (rhs_declared builder.now side.now.0 side.now.1) ≡ None) (IsErrorOf (declared_fault builder.now (rhs_declared builder.now side.now.0 side.now.1))) }
+{
+    builder.check_rhs(side.row)?;
+    Ok(())
+}
+
+/// Whether the second right side is one more of the first one's row, which takes one alone: it is not of type N.
+fn is_given_again(builder: &Builder, first: &RowValue, second: &RowValue) -> bool
+    ensures { result ≡ (same_bytes second.now.0 first.now.0 && not (is_free_row builder.now first.now.0)) }
+{
+    is_same_row(first, second) && !builder.is_free_row(first.row)
+}
+
+/// The fault that the right sides of two rows that are declared would have now, if they have one.
+fn check_both_right_sides(
+    builder: &Builder,
+    first: &RowValue,
+    second: &RowValue,
+) -> Result<(), LineError>
+    requires sides { HasMpsSides builder.now }
+    requires rows { (has_row builder.now first.now.0 && has_row builder.now second.now.0) ≡ true }
+    ensures { let first_fault = declared_fault builder.now (rhs_declared builder.now first.now.0 first.now.1 ++ rhs_declared builder.now second.now.0 second.now.1) in
+        MatchResult result (λ _. first_fault ≡ None) (IsErrorOf first_fault) }
+{
+    check_right_side(builder, first)?;
+    if is_given_again(builder, first, second) {
+        return Err(LineError::Fault(FaultKind::DuplicateRhs));
+    }
+    check_right_side(builder, second)
+}
+
 /// Declares the right sides of two rows. A row that is not declared comes before a right side that is declared already.
+/// Both are asked for before the first is declared.
 fn declare_both_right_sides<'a>(
     builder: &mut Builder,
     first: RowValue<'a>,
     second: RowValue<'a>,
 ) -> Result<(), LineError>
     requires { HasMpsSides builder.old }
-    ensures { AreDeclared builder.old (rhs_declared builder.old first.entry.0 first.entry.1 ++ rhs_declared builder.old second.entry.0 second.entry.1) result builder.new }
+    ensures answers { AreDeclared builder.old (rhs_declared builder.old first.entry.0 first.entry.1 ++ rhs_declared builder.old second.entry.0 second.entry.1) result builder.new }
+    ensures unchanged { IfFault result (builder.new ≡ builder.old) }
 {
     if !are_rows(builder, &first, &second) {
         return Err(LineError::Fault(FaultKind::UnknownRow));
     }
+    check_both_right_sides(builder, &first, &second)?;
     declare_rhs(builder, first)?;
     declare_rhs(builder, second)
 }
@@ -52,7 +90,8 @@ fn declare_both_right_sides<'a>(
 /// Declares the right sides of the rows of a line.
 fn declare_right_sides<'a>(builder: &mut Builder, sides: RowValues<'a>) -> Result<(), LineError>
     requires { HasMpsSides builder.old }
-    ensures { AreDeclared builder.old (right_sides_of builder.old sides.entry) result builder.new }
+    ensures answers { AreDeclared builder.old (right_sides_of builder.old sides.entry) result builder.new }
+    ensures unchanged { IfFault result (builder.new ≡ builder.old) }
 {
     let RowValues { first, second } = sides;
     match second {
@@ -69,19 +108,13 @@ pub(crate) fn read_right_sides(
 ) -> Result<(), LineError>
     requires section { context.old.section ≡ Some Section.Rhs }
     requires sides { HasMpsSides builder.old }
-    ensures { ReadsItem context.old builder.old (data_line (map (λ field. field.now) fields.now)) result context.new builder.new }
+    ensures answers { ReadsItem context.old builder.old (data_line (map (λ field. field.now) fields.now)) result context.new builder.new }
+    ensures unchanged { IfFault result ((context.new ≡ context.old) × (builder.new ≡ builder.old)) }
 {
     let (set, sides) = check_vector(context.rhs_set(), fields)?;
     declare_right_sides(builder, sides)?;
     context.pass_right_side(set)?;
     Ok(())
-}
-
-/// Whether the rows have the same name.
-fn is_same_row(first: &RowValue, second: &RowValue) -> bool
-    ensures { result ≡ same_bytes second.now.0 first.now.0 }
-{
-    second.row == first.row
 }
 
 /// Declares the range of a row. Where it is refused, the builder stays as it was.
@@ -112,20 +145,36 @@ fn error_of_both(builder: &Builder, kind: FaultKind, second: &RowValue) -> LineE
     }
 }
 
-/// Declares the ranges of two rows that are not the same one.
+/// The fault that the ranges of two rows that are not the same one would have now, if they have one.
+fn check_ranges_apart(
+    builder: &Builder,
+    first: &RowValue,
+    second: &RowValue,
+) -> Result<(), LineError>
+    requires { same_bytes second.now.0 first.now.0 ≡ false }
+    ensures { let first_fault = declared_fault builder.now (declare_range first.now.0 first.now.1 ∷ declare_range second.now.0 second.now.1 ∷ []) in
+        MatchResult result (λ _. first_fault ≡ None) (IsErrorOf first_fault) }
+{
+    match check_range(builder, first) {
+        Ok(()) => check_range(builder, second),
+        Err(LineError::Fault(kind)) => Err(error_of_both(builder, kind, second)),
+        Err(LineError::OutOfMemory) => Err(LineError::OutOfMemory),
+    }
+}
+
+/// Declares the ranges of two rows that are not the same one. Both are asked for before the first is declared.
 fn declare_ranges_apart<'a>(
     builder: &mut Builder,
     first: RowValue<'a>,
     second: RowValue<'a>,
 ) -> Result<(), LineError>
     requires { same_bytes second.0 first.0 ≡ false }
-    ensures { AreDeclared builder.old (declare_range first.entry.0 first.entry.1 ∷ declare_range second.entry.0 second.entry.1 ∷ []) result builder.new }
+    ensures answers { AreDeclared builder.old (declare_range first.entry.0 first.entry.1 ∷ declare_range second.entry.0 second.entry.1 ∷ []) result builder.new }
+    ensures unchanged { IfFault result (builder.new ≡ builder.old) }
 {
-    match declare_range(builder, first) {
-        Ok(()) => declare_range(builder, second),
-        Err(LineError::Fault(kind)) => Err(error_of_both(builder, kind, &second)),
-        Err(LineError::OutOfMemory) => Err(LineError::OutOfMemory),
-    }
+    check_ranges_apart(builder, &first, &second)?;
+    declare_range(builder, first)?;
+    declare_range(builder, second)
 }
 
 /// Declares the ranges of two rows. Of one row the second range is a duplicate, whatever the first one's fault is.
@@ -134,7 +183,8 @@ fn declare_both_ranges<'a>(
     first: RowValue<'a>,
     second: RowValue<'a>,
 ) -> Result<(), LineError>
-    ensures { AreDeclared builder.old (declare_range first.entry.0 first.entry.1 ∷ declare_range second.entry.0 second.entry.1 ∷ []) result builder.new }
+    ensures answers { AreDeclared builder.old (declare_range first.entry.0 first.entry.1 ∷ declare_range second.entry.0 second.entry.1 ∷ []) result builder.new }
+    ensures unchanged { IfFault result (builder.new ≡ builder.old) }
 {
     if !is_same_row(&first, &second) {
         return declare_ranges_apart(builder, first, second);
@@ -147,7 +197,8 @@ fn declare_both_ranges<'a>(
 
 /// Declares the ranges of the rows of a line.
 fn declare_ranges<'a>(builder: &mut Builder, ranges: RowValues<'a>) -> Result<(), LineError>
-    ensures { AreDeclared builder.old (ranges_of ranges.entry) result builder.new }
+    ensures answers { AreDeclared builder.old (ranges_of ranges.entry) result builder.new }
+    ensures unchanged { IfFault result (builder.new ≡ builder.old) }
 {
     let RowValues { first, second } = ranges;
     match second {
@@ -163,7 +214,8 @@ pub(crate) fn read_ranges(
     fields: &[&[u8]],
 ) -> Result<(), LineError>
     requires { context.old.section ≡ Some Section.Ranges }
-    ensures { ReadsItem context.old builder.old (data_line (map (λ field. field.now) fields.now)) result context.new builder.new }
+    ensures answers { ReadsItem context.old builder.old (data_line (map (λ field. field.now) fields.now)) result context.new builder.new }
+    ensures unchanged { IfFault result ((context.new ≡ context.old) × (builder.new ≡ builder.old)) }
 {
     let (set, ranges) = check_vector(context.ranges_set(), fields)?;
     declare_ranges(builder, ranges)?;

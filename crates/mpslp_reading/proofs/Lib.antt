@@ -7,3 +7,4 @@ pub mod FirstFaultLemmas
 pub mod FieldLemmas
 pub mod ObjectiveLemmas
 pub mod AnswerLemmas
+pub mod UnchangedLemmas

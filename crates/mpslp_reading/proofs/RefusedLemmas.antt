@@ -94,13 +94,25 @@ check-none all d rising h = ap (λ (faults : List BuildFault). least_kind (map k
     by [] e = refl
     by (fault ∷ faults) e = cc
 
+refused_answers : (faults : List BuildFault) (fault : BuildFault) → Err fault ≡ first_refusal faults → Answers faults (Err fault) ⊥ (Unit {0})
+refused_answers [] fault e = cc
+refused_answers (first ∷ faults) fault e = (e, tt)
+
 pub check-error : (all : Draft) (d : Declaration) (fault : BuildFault) → are_rising (kind_tests (refusal_tests all d)) ≡ true → Err fault ≡ first_refusal (refusals all d)
     → IsErrorOf (declared_fault all (d ∷ [])) (error_of_build fault)
-check-error all d fault rising h = call-error all d fault ⊥ (Unit {0}) rising (by (refusals all d) h)
-  where
-    by : (faults : List BuildFault) → Err fault ≡ first_refusal faults → Answers faults (Err fault) ⊥ (Unit {0})
-    by [] e = cc
-    by (first ∷ faults) e = (e, tt)
+check-error all d fault rising h = call-error all d fault ⊥ (Unit {0}) rising (refused_answers (refusals all d) fault h)
+
+-- of a question that is told by its tests
+pub tests-none : (tests : RefusalTests) → Ok tt ≡ first_refusal (those_of tests) → first_held (kind_tests tests) ≡ None
+tests-none [] h = refl
+tests-none (test ∷ tests) h =
+    elim test.0 as (λ b. Ok tt ≡ first_refusal (cond b (test.1 ∷ those_of tests) (those_of tests)) → cond b (Some (kind_of_refusal test.1)) (first_held (kind_tests tests)) ≡ None) [
+      | true ↦ λ e. cc
+      | false ↦ λ e. tests-none tests e
+    ] h
+
+pub tests-error : (tests : RefusalTests) (fault : BuildFault) → Err fault ≡ first_refusal (those_of tests) → IsErrorOf (first_held (kind_tests tests)) (error_of_build fault)
+tests-error tests fault h = call-refused tests fault ⊥ (Unit {0}) (refused_answers (those_of tests) fault h)
 
 -- a call that is refused changes nothing
 pub call-unchanged : (faults : List BuildFault) (fault : BuildFault) (P Q : Type 0) → Answers faults (Err fault) P Q → Q

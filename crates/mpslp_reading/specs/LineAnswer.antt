@@ -1,5 +1,5 @@
 -- What the code answers of a line and of its declarations, and how the fault of a line is told.
-use Rattle.std.specs.Prelude.{◌≡◌, ℕ, ◌-◌, ◌^◌, min, Option, Some, None, Result, MatchResult}
+use Rattle.std.specs.Prelude.{◌≡◌, ℕ, ◌-◌, ◌^◌, min, Option, Some, None, Result, Err, MatchResult}
 use Rattle.mpslp_model.specs.Declaration.{Declarations, Draft, adding_all}
 use Rattle.mpslp_types.specs.declared.faults.Fault.{Fault}
 use Rattle.mpslp_types.specs.declared.faults.FaultKind.{FaultKind}
@@ -18,6 +18,11 @@ IsErrorOf first_fault lines.OutOfMemory = Unit {0}
 
 abbrev pub LineResult : Type 0
 LineResult = Result (Unit {0}) LineError
+
+-- what stands where the line has a fault; of want of memory nothing is said
+abbrev pub IfFault : LineResult → Type 0 → Type 0
+IfFault (Err (lines.Fault kind)) Stands = Stands
+IfFault _ Stands = Unit {0}
 
 -- Declarations are made where they have no fault.
 abbrev pub AreDeclared : Draft → Declarations → LineResult → Draft → Type 0

@@ -10,8 +10,8 @@ use Rattle.mpslp_reading.proofs.ClashLemmas.{has_kind_clash}
 use Rattle.mpslp_mps.proofs.ColumnTaking.{marker-tests, marker-early, marker-declares}
 use Rattle.mpslp_mps.proofs.columns.read_marker.Goals as goal
 
-pub returns-in_err-opens : goal.returns-in_err-opens
-returns-in_err-opens c earlier =
+pub returns-in_err-opens-clause-answers : goal.returns-in_err-opens-clause-answers
+returns-in_err-opens-clause-answers c earlier =
     let fields = map (λ field. field.now) c.args.fields.now in
     let context = c.args.context.now in
     let tests = marker-tests context earlier fields c.requires.marker in
@@ -20,8 +20,8 @@ returns-in_err-opens c earlier =
     (ap (λ (t : Tests). list_all is_early t) tests ∙ marker-early context fields)
     (ap (has_kind_clash earlier) (marker-declares context earlier fields c.requires.marker)) (ap first_held tests ∙ c.in_err-opens.ensures))
 
-pub returns : goal.returns
-returns c earlier =
+pub returns-clause-answers : goal.returns-clause-answers
+returns-clause-answers c earlier =
     let fields = map (λ field. field.now) c.args.fields.now in
     let context = c.args.context.now in
     data-taken context earlier fields Columns [] c.pass_marker.new.self earlier c.requires.section

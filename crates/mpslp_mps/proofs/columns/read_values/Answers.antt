@@ -1,8 +1,9 @@
-use Rattle.std.proofs.Common.{◌≡◌, sym, ap, subst, ◌∙◌, Bool, map}
-use Rattle.std.specs.Prelude.{◌&&◌, Option}
+use Rattle.std.proofs.Common.{◌≡◌, sym, ap, subst, ◌∙◌, Bool, cond, map}
+use Rattle.std.specs.Prelude.{◌&&◌, Option, Some, None}
 use Rattle.std.specs.List.{flat_map}
 use Rattle.mpslp_model.specs.Declaration.{Draft, adding_all, has_column, is_semi}
 use Rattle.mpslp_types.specs.declared.faults.FaultKind.{FaultKind}
+use Rattle.mpslp_types.specs.declared.faults.FaultKind.TheVariants.{DuplicateEntry}
 use Rattle.mpslp_model.proofs.MadeDrafts.{adding_all-append}
 use Rattle.mpslp_mps.specs.LineMeaning.{data_declared}
 use Rattle.mpslp_reading.specs.Declaring.{declared_fault}
@@ -12,13 +13,15 @@ use Rattle.mpslp_reading.specs.declared.errors.LineError.TheVariants.{Fault}
 use Rattle.mpslp_mps.specs.declared.sections.Section.{Section}
 use Rattle.mpslp_mps.proofs.StepLemmas.{step-column}
 use Rattle.mpslp_reading.proofs.AnswerLemmas.{ends-by}
+use Rattle.mpslp_reading.proofs.UnchangedLemmas.{if_fault-ends, if_fault-none}
+use Rattle.mpslp_mps.specs.DataLine.{column_shape}
 use Rattle.mpslp_mps.proofs.ColumnTaking.{front-there}
 use Rattle.mpslp_mps.proofs.ClashLemmas.{column-apart}
-use Rattle.mpslp_mps.proofs.ColumnLine.{column-judged, column-clash-told, place-fault, placed-fault, column-declares, with_column}
+use Rattle.mpslp_mps.proofs.ColumnLine.{column-judged, column-clash-told, place-fault, placed-fault, double-fault, column-declares, column-named, with_column}
 use Rattle.mpslp_mps.proofs.columns.read_values.Goals as goal
 
-pub returns-then-has_column_clash : goal.returns-then-has_column_clash
-returns-then-has_column_clash c =
+pub returns-then-has_column_clash-clause-answers : goal.returns-then-has_column_clash-clause-answers
+returns-then-has_column_clash-clause-answers c =
     let fields = map (λ field. field.now) c.args.fields.now in
     column-clash-told c.args.context.now c.args.builder.now fields c.requires.section c.requires.plain (sym c.has_column_clash.ensures ∙ c.if-has_column_clash.true)
 
@@ -29,15 +32,15 @@ declare_column-requires-clause-apart c =
     ap (λ (b : Bool). b && is_semi c.args.builder.now column) c.in_integer_part.ensures
     ∙ column-apart c.args.context.now c.args.builder.now fields column c.in_ok-column.values c.in_ok-column.ensures.1 (sym c.has_column_clash.ensures ∙ c.if-has_column_clash.false)
 
-pub returns-in_err-column : goal.returns-in_err-column
-returns-in_err-column c =
+pub returns-in_err-column-clause-answers : goal.returns-in_err-column-clause-answers
+returns-in_err-column-clause-answers c =
     let fields = map (λ field. field.now) c.args.fields.now in
     ends-by c.from_residual.result c.in_err-column.field-0.0 _ _ c.from_residual.ensures.1
     (column-judged c.args.context.now c.args.builder.now fields c.in_err-column.field-0.0 c.requires.section c.requires.plain
     (sym c.has_column_clash.ensures ∙ c.if-has_column_clash.false) c.in_err-column.ensures)
 
-pub returns-in_err-check_place : goal.returns-in_err-check_place
-returns-in_err-check_place c =
+pub returns-in_err-check_place-clause-answers : goal.returns-in_err-check_place-clause-answers
+returns-in_err-check_place-clause-answers c =
     let fields = map (λ field. field.now) c.args.fields.now in
     let line = c.in_ok-column.ensures in
     ends-by c.from_residual-in_err-check_place.result (Fault c.in_err-check_place.field-0.0) _ _ c.from_residual-in_err-check_place.ensures.1
@@ -49,8 +52,8 @@ declare_values-requires-clause-column c =
     let column = c.in_ok-column.column.now in
     ap (λ (d : Draft). has_column d column) c.in_ok-declare_column.ensures ∙ front-there c.args.builder.now c.in_integer_part.result column
 
-pub returns-in_err-declare_values : goal.returns-in_err-declare_values
-returns-in_err-declare_values c =
+pub returns-in_err-declare_values-clause-answers : goal.returns-in_err-declare_values-clause-answers
+returns-in_err-declare_values-clause-answers c =
     let fields = map (λ field. field.now) c.args.fields.now in
     let context = c.args.context.now in
     let earlier = c.args.builder.now in
@@ -65,8 +68,8 @@ returns-in_err-declare_values c =
     ends-by c.from_residual-in_err-declare_values.result error _ _ c.from_residual-in_err-declare_values.ensures.1
     (subst (λ (o : Option FaultKind). IsErrorOf o error) fault_is c.in_err-declare_values.ensures)
 
-pub returns : goal.returns
-returns c =
+pub returns-clause-answers : goal.returns-clause-answers
+returns-clause-answers c =
     let fields = map (λ field. field.now) c.args.fields.now in
     let context = c.args.context.now in
     let earlier = c.args.builder.now in
@@ -84,3 +87,35 @@ returns c =
       c.in_ok-declare_values.ensures.1 ∙ ap (λ (d : Draft). adding_all d coefficients) draft ∙ sym (adding_all-append front coefficients earlier)
           ∙ ap (adding_all earlier) (sym (ap (λ (section : Option Section). data_declared context earlier fields section) c.requires.section ∙ declares)),
     )
+
+pub returns-then-has_double-clause-answers : goal.returns-then-has_double-clause-answers
+returns-then-has_double-clause-answers c =
+    let fields = map (λ field. field.now) c.args.fields.now in
+    let line = c.in_ok-column.ensures in
+    double-fault c.args.context.now c.args.builder.now fields c.in_ok-column.column.now c.in_ok-column.values c.requires.section c.requires.plain
+    (sym c.has_column_clash.ensures ∙ c.if-has_column_clash.false) line.0 line.1 c.in_ok-check_place.ensures
+    ∙ ap (λ (b : Bool). cond b (Some DuplicateEntry) None) (sym c.has_double.ensures ∙ c.if-has_double.true)
+
+pub declare_column-requires-clause-name : goal.declare_column-requires-clause-name
+declare_column-requires-clause-name c =
+    let fields = map (λ field. field.now) c.args.fields.now in
+    column-named (column_shape fields) c.in_ok-column.column.now c.in_ok-column.values c.in_ok-column.ensures.0 c.in_ok-column.ensures.1
+
+pub returns-in_err-declare_values-clause-unchanged : goal.returns-in_err-declare_values-clause-unchanged
+returns-in_err-declare_values-clause-unchanged c =
+    let fields = map (λ field. field.now) c.args.fields.now in
+    let context = c.args.context.now in
+    let earlier = c.args.builder.now in
+    let column = c.in_ok-column.column.now in
+    let values = c.in_ok-column.values in
+    let line = c.in_ok-column.ensures in
+    let apart = sym c.has_column_clash.ensures ∙ c.if-has_column_clash.false in
+    let error = c.in_err-declare_values.field-0.0 in
+    let draft : c.declare_column.new.builder ≡ with_column context earlier column =
+    c.in_ok-declare_column.ensures ∙ ap (λ (marked : Bool). adding_all earlier (front_declared marked column)) c.in_integer_part.ensures in
+    let none = ap (λ (d : Draft). declared_fault d (flat_map (value_declared column) values)) draft
+    ∙ sym (placed-fault context earlier fields column values c.requires.section c.requires.plain apart line.0 line.1 c.in_ok-check_place.ensures)
+    ∙ double-fault context earlier fields column values c.requires.section c.requires.plain apart line.0 line.1 c.in_ok-check_place.ensures
+    ∙ ap (λ (b : Bool). cond b (Some DuplicateEntry) None) (sym c.has_double.ensures ∙ c.if-has_double.false) in
+    if_fault-ends c.from_residual-in_err-declare_values.result error _ c.from_residual-in_err-declare_values.ensures.1
+    (if_fault-none (declared_fault c.declare_column.new.builder (flat_map (value_declared column) values)) error _ none c.in_err-declare_values.ensures)

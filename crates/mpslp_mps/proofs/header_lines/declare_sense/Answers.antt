@@ -10,8 +10,8 @@ use Rattle.mpslp_reading.proofs.RefusedLemmas.{call-error}
 use Rattle.mpslp_reading.proofs.AnswerLemmas.{ends-by}
 use Rattle.mpslp_mps.proofs.header_lines.declare_sense.Goals as goal
 
-pub returns-in_err-sense : goal.returns-in_err-sense
-returns-in_err-sense c =
+pub returns-in_err-sense-clause-answers : goal.returns-in_err-sense-clause-answers
+returns-in_err-sense-clause-answers c =
     let all = c.args.builder.now in
     let d = declare_sense c.in-Some.sense in
     let fault = c.in_err-sense.field-0.0 in

@@ -4,8 +4,8 @@ use Rattle.mpslp_mps.specs.LineAnswer.{ReadsItem}
 use Rattle.mpslp_mps.proofs.FrontTaking.{data-front, header-front, data-item, header-item}
 use Rattle.mpslp_mps.proofs.items.read_item.Goals as goal
 
-pub returns-then-is_data : goal.returns-then-is_data
-returns-then-is_data c =
+pub returns-then-is_data-clause-answers : goal.returns-then-is_data-clause-answers
+returns-then-is_data-clause-answers c =
     let line = c.args.line.now in
     let context = c.args.context.now in
     let earlier = c.args.builder.now in
@@ -14,10 +14,10 @@ returns-then-is_data c =
     let item = data-item line (sym c.is_skipped.ensures ∙ c.if-is_skipped.false) (sym c.is_data.ensures ∙ c.if-is_data.true) in
     subst (λ (i : Item). ReadsItem context earlier i c.read_data.result c.read_data.new.context c.read_data.new.builder) (sym item)
     (data-front context earlier (fields line) c.read_data.result c.read_data.new.context c.read_data.new.builder
-    (subst (λ (f : Fields). ReadsItem context earlier (data_line f) c.read_data.result c.read_data.new.context c.read_data.new.builder) names c.read_data.ensures))
+    (subst (λ (f : Fields). ReadsItem context earlier (data_line f) c.read_data.result c.read_data.new.context c.read_data.new.builder) names c.read_data.ensures.answers))
 
-pub returns-else-is_data : goal.returns-else-is_data
-returns-else-is_data c =
+pub returns-else-is_data-clause-answers : goal.returns-else-is_data-clause-answers
+returns-else-is_data-clause-answers c =
     let line = c.args.line.now in
     let context = c.args.context.now in
     let earlier = c.args.builder.now in
@@ -26,4 +26,4 @@ returns-else-is_data c =
     let item = header-item line (sym c.is_skipped.ensures ∙ c.if-is_skipped.false) (sym c.is_data.ensures ∙ c.if-is_data.false) in
     subst (λ (i : Item). ReadsItem context earlier i c.read_keyword.result c.read_keyword.new.context c.read_keyword.new.builder) (sym item)
     (header-front context earlier (fields line) c.read_keyword.result c.read_keyword.new.context c.read_keyword.new.builder
-    (subst (λ (f : Fields). ReadsItem context earlier (header_of f) c.read_keyword.result c.read_keyword.new.context c.read_keyword.new.builder) names c.read_keyword.ensures))
+    (subst (λ (f : Fields). ReadsItem context earlier (header_of f) c.read_keyword.result c.read_keyword.new.context c.read_keyword.new.builder) names c.read_keyword.ensures.answers))

@@ -9,16 +9,16 @@ use Rattle.mpslp_mps.proofs.TakingLemmas.{data-judged, data-taken}
 use Rattle.mpslp_mps.proofs.RowTaking.{objective-name-early}
 use Rattle.mpslp_mps.proofs.items.read_objective_name.Goals as goal
 
-pub returns-in_err-name : goal.returns-in_err-name
-returns-in_err-name c = λ earlier.
+pub returns-in_err-name-clause-answers : goal.returns-in_err-name-clause-answers
+returns-in_err-name-clause-answers c = λ earlier.
     let fields = map (λ field. field.now) c.args.fields.now in
     let context = c.args.context.now in
     ends-by c.from_residual.result (Fault c.in_err-name.field-0.0) _ _ c.from_residual.ensures.1
     (data-judged context earlier fields ObjName (Fault c.in_err-name.field-0.0) c.requires.section
     (objective-name-early (not (is_some context.wanted)) (word_shape fields)) refl c.in_err-name.ensures)
 
-pub returns : goal.returns
-returns c = λ earlier.
+pub returns-clause-answers : goal.returns-clause-answers
+returns-clause-answers c = λ earlier.
     let fields = map (λ field. field.now) c.args.fields.now in
     let context = c.args.context.now in
     data-taken context earlier fields ObjName [] c.pass_objective_name.new.self earlier c.requires.section c.in_ok-name.ensures.0 refl refl

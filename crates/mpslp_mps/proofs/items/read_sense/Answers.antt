@@ -15,16 +15,16 @@ use Rattle.mpslp_mps.proofs.RowTaking.{sense-early}
 use Rattle.mpslp_mps.proofs.ClashLemmas.{sense-apart}
 use Rattle.mpslp_mps.proofs.items.read_sense.Goals as goal
 
-pub returns-in_err-sense : goal.returns-in_err-sense
-returns-in_err-sense c =
+pub returns-in_err-sense-clause-answers : goal.returns-in_err-sense-clause-answers
+returns-in_err-sense-clause-answers c =
     let fields = map (λ field. field.now) c.args.fields.now in
     let context = c.args.context.now in
     ends-by c.from_residual.result (Fault c.in_err-sense.field-0.0) _ _ c.from_residual.ensures.1
     (data-judged context c.args.builder.now fields ObjSense (Fault c.in_err-sense.field-0.0) c.requires.section
     (sense-early (not (is_some context.wanted)) (word_shape fields)) (sense-apart context c.args.builder.now fields) c.in_err-sense.ensures)
 
-pub returns-in_err-sense-2 : goal.returns-in_err-sense-2
-returns-in_err-sense-2 c =
+pub returns-in_err-sense-2-clause-answers : goal.returns-in_err-sense-2-clause-answers
+returns-in_err-sense-2-clause-answers c =
     let fields = map (λ field. field.now) c.args.fields.now in
     let all = c.args.builder.now in
     let d = declare_sense c.in_ok-sense.sense in

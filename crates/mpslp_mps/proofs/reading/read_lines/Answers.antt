@@ -34,9 +34,9 @@ loop-line-preserved c =
     let line = c.in-Some.line.now in
     let more = c.next.new.self in
     let cut = c.in-Some.ensures.steps in
-    let none = c.in-Ok.ensures.0 in
-    let after = c.in-Ok.ensures.1 in
-    let draft = c.in-Ok.ensures.2 in
+    let none = c.in-Ok.ensures.answers.0 in
+    let after = c.in-Ok.ensures.answers.1 in
+    let draft = c.in-Ok.ensures.answers.2 in
     let further : is_end line ≡ false = end-shown line context c.read_line.new.context c.is_at_end.result before.unended after c.is_at_end.ensures ∙ c.if-is_at_end.false in
     record {
       next = tt;
@@ -61,8 +61,8 @@ returns-then-is_at_end c =
     let more = c.next.new.self in
     let cut = c.in-Some.ensures.steps in
     let last : is_end line ≡ true =
-    end-shown line context c.read_line.new.context c.is_at_end.result before.unended c.in-Ok.ensures.1 c.is_at_end.ensures ∙ c.if-is_at_end.true in (
-      sym before.fault_is ∙ ap (λ (text : List (List ℕ)). fault_from n context earlier (lines_to_end text)) cut ∙ fault_from-last line more n context earlier last c.in-Ok.ensures.0,
-      c.in-Ok.ensures.2 ∙ sym (draft-last line more context earlier last) ∙ ap (λ (text : List (List ℕ)). draft_from context earlier (lines_to_end text)) (sym cut) ∙ before.draft,
+    end-shown line context c.read_line.new.context c.is_at_end.result before.unended c.in-Ok.ensures.answers.1 c.is_at_end.ensures ∙ c.if-is_at_end.true in (
+      sym before.fault_is ∙ ap (λ (text : List (List ℕ)). fault_from n context earlier (lines_to_end text)) cut ∙ fault_from-last line more n context earlier last c.in-Ok.ensures.answers.0,
+      c.in-Ok.ensures.answers.2 ∙ sym (draft-last line more context earlier last) ∙ ap (λ (text : List (List ℕ)). draft_from context earlier (lines_to_end text)) (sym cut) ∙ before.draft,
       sym (ended-last line more last) ∙ ap (list_any is_end) (sym cut) ∙ before.ended,
     )
