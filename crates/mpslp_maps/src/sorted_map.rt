@@ -248,20 +248,20 @@ mod tests {
     /// A map of three names that were not put in their order.
     fn three_names(alloc: Global) -> Result<SortedMap<Name, u8>, Fail> {
         let mut map = SortedMap::new(alloc);
-        map.put(Name::new(alloc, b"R2".as_slice())?, 2)?;
-        map.put(Name::new(alloc, b"R10".as_slice())?, 10)?;
-        map.put(Name::new(alloc, b"R3".as_slice())?, 3)?;
+        map.put(Name::new(alloc, b"x2".as_slice())?, 2)?;
+        map.put(Name::new(alloc, b"x10".as_slice())?, 10)?;
+        map.put(Name::new(alloc, b"x3".as_slice())?, 3)?;
         Ok(map)
     }
 
     #[test]
     fn finds_what_was_put(rt: HostRuntime) -> Result<(), Fail> {
         let map = three_names(rt.alloc())?;
-        assert_eq!(rt; map.find(&b"R10".as_slice()).copied(), Some(10));
-        assert_eq!(rt; map.find(&b"R2".as_slice()).copied(), Some(2));
-        assert_eq!(rt; map.find(&b"R1".as_slice()).copied(), None);
-        assert!(rt; map.has(&b"R3".as_slice()));
-        assert!(rt; !map.has(&b"R4".as_slice()));
+        assert_eq!(rt; map.find(&b"x10".as_slice()).copied(), Some(10));
+        assert_eq!(rt; map.find(&b"x2".as_slice()).copied(), Some(2));
+        assert_eq!(rt; map.find(&b"x1".as_slice()).copied(), None);
+        assert!(rt; map.has(&b"x3".as_slice()));
+        assert!(rt; !map.has(&b"x4".as_slice()));
         assert!(rt; !map.is_empty());
         Ok(())
     }
@@ -270,11 +270,11 @@ mod tests {
     fn entries_stand_in_byte_order(rt: HostRuntime) -> Result<(), Fail> {
         let map = three_names(rt.alloc())?;
         assert_eq!(rt; map.as_slice().len(), 3);
-        assert_eq!(rt; index_of_entry(map.as_slice(), &b"R10".as_slice()), Some(0));
-        assert_eq!(rt; index_of_entry(map.as_slice(), &b"R3".as_slice()), Some(2));
-        assert_eq!(rt; index_of_entry(map.as_slice(), &b"R".as_slice()), None);
+        assert_eq!(rt; index_of_entry(map.as_slice(), &b"x10".as_slice()), Some(0));
+        assert_eq!(rt; index_of_entry(map.as_slice(), &b"x3".as_slice()), Some(2));
+        assert_eq!(rt; index_of_entry(map.as_slice(), &b"x".as_slice()), None);
         assert_eq!(rt;
-            find_entry(map.as_slice(), &b"R2".as_slice()).copied(),
+            find_entry(map.as_slice(), &b"x2".as_slice()).copied(),
             Some(2)
         );
         assert_eq!(rt; map.into_entries().len(), 3);
