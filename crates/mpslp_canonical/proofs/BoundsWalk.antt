@@ -4,8 +4,8 @@ use Rattle.std.specs.Prelude.{Some, Ok}
 use Rattle.mpslp_decimal.specs.Decimal.{Number}
 use Rattle.mpslp_decimal.specs.Literal.{number_of}
 use Rattle.mpslp_types.specs.Sides.{limit_of}
-use Rattle.mpslp_model.specs.Declaration.{declare_lower, declare_upper, declare_semi, Declarations, Draft}
-use Rattle.mpslp_model.specs.Lists.{those_of}
+use Rattle.mpslp_builder.specs.Declaration.{declare_lower, declare_upper, declare_semi, Declarations, Draft}
+use Rattle.mpslp_core.specs.Lists.{those_of}
 use Rattle.mpslp_types.specs.declared.kinds.Limit.TheVariants.{MinusInf, Finite, PlusInf}
 use Rattle.mpslp_types.proofs.EachLemmas.{Each, Each-append}
 use Rattle.mpslp_mps.specs.Line.{Fields, Item, data_line}

@@ -1,10 +1,10 @@
 -- The canonical text of a sound model declares it.
 use Rattle.std.proofs.Common.{◌≡◌, sym, ap, subst, ◌∙◌, List, [], ℕ, map}
 use Rattle.std.specs.List.{list_all}
-use Rattle.mpslp_model.specs.Model.{LinearModel, IsSound}
-use Rattle.mpslp_model.specs.Declaration.{Declarations, empty_draft}
-use Rattle.mpslp_model.specs.Meaning.{Means}
-use Rattle.mpslp_model.specs.Consistency.{AreConsistent}
+use Rattle.mpslp_core.specs.Model.{LinearModel, IsSound}
+use Rattle.mpslp_builder.specs.Declaration.{Declarations, empty_draft}
+use Rattle.mpslp_builder.specs.Meaning.{Means}
+use Rattle.mpslp_builder.specs.Consistency.{AreConsistent}
 use Rattle.mpslp_types.proofs.BoolLemmas.{both_so}
 use Rattle.mpslp_mps.specs.Line.{is_legal_line, item_of}
 use Rattle.mpslp_mps.specs.MpsText.{read_lines, has_end, declarations_of, DeclaresMps}

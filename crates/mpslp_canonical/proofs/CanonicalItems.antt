@@ -6,7 +6,7 @@ use Rattle.std.specs.Option.{option_map_or}
 use Rattle.std.proofs.lemmas.List.{map-append}
 use Rattle.mpslp_decimal.specs.Decimal.{Number, is_zero, negated, zero_number}
 use Rattle.mpslp_decimal.specs.NumberText.{number_text}
-use Rattle.mpslp_model.specs.Model.{Row, Column}
+use Rattle.mpslp_core.specs.Model.{Row, Column}
 use Rattle.mpslp_mps.specs.Line.{Item}
 use Rattle.mpslp_mps.specs.declared.sections.Section.{Section}
 use Rattle.mpslp_mps.specs.declared.bound_types.BoundType.{BoundType}

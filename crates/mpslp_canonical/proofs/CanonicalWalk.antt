@@ -3,7 +3,7 @@ use Rattle.std.proofs.Common.{◌≡◌, refl, sym, ap, ◌∙◌, List, [], ◌
 use Rattle.std.specs.Prelude.{is_none, ◌||◌}
 use Rattle.std.specs.List.{flat_map}
 use Rattle.std.proofs.lemmas.List.{append-nil}
-use Rattle.mpslp_model.specs.Declaration.{Declarations, Draft, is_free_row}
+use Rattle.mpslp_builder.specs.Declaration.{Declarations, Draft, is_free_row}
 use Rattle.mpslp_types.proofs.EachLemmas.{Each}
 use Rattle.mpslp_mps.specs.Line.{Item}
 use Rattle.mpslp_mps.specs.Section.{begins}

@@ -7,15 +7,15 @@ use Rattle.std.specs.Cmp.{first_so, second_so}
 use Rattle.std.specs.FinMap.{find}
 use Rattle.mpslp_decimal.specs.Decimal.{Number, is_decimal, is_zero}
 use Rattle.mpslp_types.specs.Name.{same_bytes, is_one_of}
-use Rattle.mpslp_model.specs.Model.{Column, CoefficientKey, key_cmp}
-use Rattle.mpslp_model.specs.Declaration.{empty_draft, names_in}
+use Rattle.mpslp_core.specs.Model.{Column, CoefficientKey, key_cmp}
+use Rattle.mpslp_builder.specs.Declaration.{empty_draft, names_in}
 use Rattle.mpslp_types.proofs.EachLemmas.{Each, Each-append, Each-flat_map, Each-all}
-use Rattle.mpslp_model.proofs.PutsLemmas.{puts, find-front, some_cons, some_append_left, some_append_right}
-use Rattle.mpslp_model.proofs.DraftLemmas.{coefficients-all}
-use Rattle.mpslp_model.proofs.DraftEntries.{same_key}
-use Rattle.mpslp_model.proofs.LaterDrafts.{value_in}
-use Rattle.mpslp_model.proofs.SlotLemmas.{same_name}
-use Rattle.mpslp_model.proofs.SortedDrafts.{key_total}
+use Rattle.mpslp_core.proofs.PutsLemmas.{puts, find-front, some_cons, some_append_left, some_append_right}
+use Rattle.mpslp_builder.proofs.DraftLemmas.{coefficients-all}
+use Rattle.mpslp_builder.proofs.DraftEntries.{same_key}
+use Rattle.mpslp_builder.proofs.LaterDrafts.{value_in}
+use Rattle.mpslp_builder.proofs.SlotLemmas.{same_name}
+use Rattle.mpslp_builder.proofs.SortedDrafts.{key_total}
 use Rattle.mpslp_canonical.specs.Listing.{Listing}
 use Rattle.mpslp_canonical.specs.CanonicalMps.{cell_at, column_cells, printed_cells, is_integer_column, is_plain_column}
 use Rattle.mpslp_canonical.proofs.CanonicalItems.{to_cell, cells_in}

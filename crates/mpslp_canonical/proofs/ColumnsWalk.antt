@@ -8,13 +8,13 @@ use Rattle.std.proofs.lemmas.List.Elements.{filter_map-append}
 use Rattle.mpslp_decimal.specs.Decimal.{Number}
 use Rattle.mpslp_decimal.specs.Literal.{number_of}
 use Rattle.mpslp_types.specs.Name.{is_mps_name, same_bytes, marker}
-use Rattle.mpslp_model.specs.Declaration.{declare_column, declare_marked, declare_coefficient, Declarations, Draft, adding_all, has_column}
-use Rattle.mpslp_model.specs.Lists.{those_of, when, is_nonempty}
+use Rattle.mpslp_builder.specs.Declaration.{declare_column, declare_marked, declare_coefficient, Declarations, Draft, adding_all, has_column}
+use Rattle.mpslp_core.specs.Lists.{those_of, when, is_nonempty}
 use Rattle.mpslp_types.specs.declared.faults.FaultKind.TheVariants as kinds
 use Rattle.mpslp_types.proofs.BoolLemmas.{both_false}
-use Rattle.mpslp_model.proofs.LaterDrafts.{itself_named}
-use Rattle.mpslp_model.proofs.SlotLemmas.{has-put}
-use Rattle.mpslp_model.proofs.MadeDrafts.{adding_all-append}
+use Rattle.mpslp_builder.proofs.LaterDrafts.{itself_named}
+use Rattle.mpslp_builder.proofs.SlotLemmas.{has-put}
+use Rattle.mpslp_builder.proofs.MadeDrafts.{adding_all-append}
 use Rattle.mpslp_types.proofs.EachLemmas.{Each}
 use Rattle.mpslp_mps.specs.Line.{Fields, Item, data_line}
 use Rattle.mpslp_mps.specs.DataLine.{opening_word, closing_word}

@@ -9,22 +9,22 @@ use Rattle.std.specs.FinMap.{find, is_sorted}
 use Rattle.std.proofs.lemmas.List.{append-nil}
 use Rattle.mpslp_decimal.specs.Decimal.{Number, IsDecimal, is_decimal, is_zero, negated}
 use Rattle.mpslp_types.specs.Name.{is_mps_name, is_one_of, bytes_cmp}
-use Rattle.mpslp_model.specs.Model.{Column, CoefficientKey, key_cmp, suits, is_sound_row, is_sound_column}
-use Rattle.mpslp_model.specs.Views as views
+use Rattle.mpslp_core.specs.Model.{Column, CoefficientKey, key_cmp, suits, is_sound_row, is_sound_column}
+use Rattle.mpslp_core.specs.Views as views
 use Rattle.mpslp_types.specs.Sides.{zero_limit, is_at_most}
 use Rattle.mpslp_types.specs.declared.kinds.Kind.{Kind}
 use Rattle.mpslp_types.specs.declared.kinds.Kind.TheVariants.{Continuous, Integer, Semi}
 use Rattle.mpslp_types.specs.declared.kinds.Limit.{Limit}
 use Rattle.mpslp_types.specs.declared.kinds.Limit.TheVariants.{MinusInf, Finite, PlusInf}
-use Rattle.mpslp_model.specs.Declaration.{RowForm, Draft, draft_of, empty_draft, at_name, has_name, names_in}
+use Rattle.mpslp_builder.specs.Declaration.{RowForm, Draft, draft_of, empty_draft, at_name, has_name, names_in}
 use Rattle.mpslp_types.proofs.EachLemmas.{Each, Each-all}
 use Rattle.mpslp_types.proofs.BoolLemmas.{T_from}
-use Rattle.mpslp_model.proofs.PutsLemmas.{puts, puts-append, find-front, finds_own}
-use Rattle.mpslp_model.proofs.BoundsLemmas.{is_semi_kind}
-use Rattle.mpslp_model.proofs.PartedLemmas.{parted-give}
-use Rattle.mpslp_model.proofs.DraftLemmas.{rows-all, rhs_values-all, ranges-all, columns-all, lowers-all, uppers-all, marked-all, integers-all, binaries-all, semis-all}
-use Rattle.mpslp_model.proofs.MeaningFromNoFault.{sorted-mapped}
-use Rattle.mpslp_model.proofs.SortedDrafts.{bytes_total, tied_names}
+use Rattle.mpslp_core.proofs.PutsLemmas.{puts, puts-append, find-front, finds_own}
+use Rattle.mpslp_builder.proofs.BoundsLemmas.{is_semi_kind}
+use Rattle.mpslp_builder.proofs.PartedLemmas.{parted-give}
+use Rattle.mpslp_builder.proofs.DraftLemmas.{rows-all, rhs_values-all, ranges-all, columns-all, lowers-all, uppers-all, marked-all, integers-all, binaries-all, semis-all}
+use Rattle.mpslp_builder.proofs.MeaningFromNoFault.{sorted-mapped}
+use Rattle.mpslp_builder.proofs.SortedDrafts.{bytes_total, tied_names}
 use Rattle.mpslp_canonical.specs.Listing.{Listing}
 use Rattle.mpslp_canonical.specs.CanonicalMps.{column_cells, printed_cells, is_integer_column, is_plain_column}
 use Rattle.mpslp_canonical.proofs.CanonicalItems.{to_cell, cells_in}

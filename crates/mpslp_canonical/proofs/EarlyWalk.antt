@@ -5,7 +5,7 @@ use Rattle.std.specs.List.{flat_map, last_or}
 use Rattle.std.specs.Option.{option_map_or, option_or}
 use Rattle.std.proofs.lemmas.List.{append-nil}
 use Rattle.mpslp_types.specs.Name.{is_mps_name, same_bytes}
-use Rattle.mpslp_model.specs.Declaration.{declare_sense, declare_objective, Declarations, Draft, empty_draft, adding, adding_all}
+use Rattle.mpslp_builder.specs.Declaration.{declare_sense, declare_objective, Declarations, Draft, empty_draft, adding, adding_all}
 use Rattle.mpslp_types.specs.declared.kinds.Sense.{Sense}
 use Rattle.mpslp_types.specs.declared.kinds.Sense.TheVariants.{Minimize, Maximize}
 use Rattle.mpslp_types.specs.declared.kinds.RowType.TheVariants.{Free}

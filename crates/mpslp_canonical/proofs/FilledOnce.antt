@@ -6,17 +6,17 @@ use Rattle.std.specs.Option.{option_map_or}
 use Rattle.std.proofs.lemmas.List.{append-nil}
 use Rattle.std.proofs.lemmas.List.Concat.{flat_map-append}
 use Rattle.mpslp_types.specs.Name.{same_bytes, bytes_cmp}
-use Rattle.mpslp_model.specs.Model.{Column}
-use Rattle.mpslp_model.specs.Views as views
-use Rattle.mpslp_model.specs.Declaration.{declare_objective, at_name, names_in}
-use Rattle.mpslp_model.specs.Lists.{are_distinct}
-use Rattle.mpslp_model.specs.Consistency.{Slot, row_slot, rhs_slot, range_slot, same_slot, slots_of, all_slots}
+use Rattle.mpslp_core.specs.Model.{Column}
+use Rattle.mpslp_core.specs.Views as views
+use Rattle.mpslp_builder.specs.Declaration.{declare_objective, at_name, names_in}
+use Rattle.mpslp_core.specs.Lists.{are_distinct}
+use Rattle.mpslp_builder.specs.Consistency.{Slot, row_slot, rhs_slot, range_slot, same_slot, slots_of, all_slots}
 use Rattle.mpslp_types.specs.declared.kinds.Sense.{Sense}
 use Rattle.mpslp_types.specs.declared.kinds.Sense.TheVariants.{Minimize, Maximize}
 use Rattle.mpslp_types.proofs.BoolLemmas.{not_so}
 use Rattle.mpslp_types.proofs.EachLemmas.{Each, Each-weaker, Each-append, Each-flat_map, Each-filter, Each-all}
-use Rattle.mpslp_model.proofs.CoefficientLemmas.{flat_map-flat_map}
-use Rattle.mpslp_model.proofs.SlotLemmas.{same_name}
+use Rattle.mpslp_builder.proofs.CoefficientLemmas.{flat_map-flat_map}
+use Rattle.mpslp_builder.proofs.SlotLemmas.{same_name}
 use Rattle.mpslp_canonical.proofs.ColumnsWalk.{Cell, cell_decl, cells_of}
 use Rattle.mpslp_canonical.proofs.BoundsWalk.{bound_decl}
 use Rattle.mpslp_canonical.specs.Listing.{Listing}

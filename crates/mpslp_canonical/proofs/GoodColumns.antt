@@ -9,18 +9,18 @@ use Rattle.std.specs.FinMap.Entries.{below_all}
 use Rattle.mpslp_decimal.specs.Decimal.{Number, IsDecimal, is_decimal}
 use Rattle.mpslp_decimal.proofs.NumberTextLemmas.{number-text}
 use Rattle.mpslp_types.specs.Name.{same_bytes, marker, bytes_cmp}
-use Rattle.mpslp_model.specs.Model.{Column, CoefficientKey, key_cmp, is_sound_row, is_sound_column}
-use Rattle.mpslp_model.specs.Views as views
-use Rattle.mpslp_model.specs.Declaration.{Declaration, declare_objective, Draft, empty_draft, adding, adding_all, at_name, has_name, has_column}
-use Rattle.mpslp_model.specs.Lists.{is_nonempty}
+use Rattle.mpslp_core.specs.Model.{Column, CoefficientKey, key_cmp, is_sound_row, is_sound_column}
+use Rattle.mpslp_core.specs.Views as views
+use Rattle.mpslp_builder.specs.Declaration.{Declaration, declare_objective, Draft, empty_draft, adding, adding_all, at_name, has_name, has_column}
+use Rattle.mpslp_core.specs.Lists.{is_nonempty}
 use Rattle.mpslp_types.specs.declared.kinds.Sense.{Sense}
 use Rattle.mpslp_types.specs.declared.kinds.Sense.TheVariants.{Minimize, Maximize}
 use Rattle.mpslp_types.proofs.EachLemmas.{Each, Each-weaker, Each-map, Each-flat_map, Each-filter, Each-all}
-use Rattle.mpslp_model.proofs.PutsLemmas.{puts}
-use Rattle.mpslp_model.proofs.CoefficientLemmas.{flat_map-flat_map}
-use Rattle.mpslp_model.proofs.DraftLemmas.{column_part, columns-all}
-use Rattle.mpslp_model.proofs.DraftEntries.{same_key}
-use Rattle.mpslp_model.proofs.SortedDrafts.{bytes_total, key_total, tied_names}
+use Rattle.mpslp_core.proofs.PutsLemmas.{puts}
+use Rattle.mpslp_builder.proofs.CoefficientLemmas.{flat_map-flat_map}
+use Rattle.mpslp_builder.proofs.DraftLemmas.{column_part, columns-all}
+use Rattle.mpslp_builder.proofs.DraftEntries.{same_key}
+use Rattle.mpslp_builder.proofs.SortedDrafts.{bytes_total, key_total, tied_names}
 use Rattle.mpslp_canonical.proofs.RowsWalk.{row_decl}
 use Rattle.mpslp_canonical.proofs.ColumnsWalk.{cell_decl, GoodCell, AreOf, Group, cells_of, IsGroup, AreApart, AreAbsent}
 use Rattle.mpslp_canonical.specs.Listing.{Listing}

@@ -6,9 +6,9 @@ use Rattle.std.specs.Option.{option_map_or}
 use Rattle.mpslp_decimal.specs.Decimal.{Number, IsDecimal, is_zero, zero_number, negated}
 use Rattle.mpslp_decimal.proofs.NumberTextLemmas.{number-text}
 use Rattle.mpslp_types.specs.Name.{is_mps_name, bytes_cmp}
-use Rattle.mpslp_model.specs.Model.{Row, Column, is_sound_row, is_sound_column}
+use Rattle.mpslp_core.specs.Model.{Row, Column, is_sound_row, is_sound_column}
 use Rattle.mpslp_types.specs.Sides.{is_bounded_decimal, is_lower_side, is_upper_side}
-use Rattle.mpslp_model.specs.Declaration.{RowForm, by_type, Declaration, declare_objective, Draft, empty_draft, adding, adding_all, at_name, is_free_form, is_free_row}
+use Rattle.mpslp_builder.specs.Declaration.{RowForm, by_type, Declaration, declare_objective, Draft, empty_draft, adding, adding_all, at_name, is_free_form, is_free_row}
 use Rattle.mpslp_types.specs.declared.kinds.Sense.{Sense}
 use Rattle.mpslp_types.specs.declared.kinds.Sense.TheVariants.{Minimize, Maximize}
 use Rattle.mpslp_types.specs.declared.kinds.Kind.{Kind}
@@ -17,10 +17,10 @@ use Rattle.mpslp_types.specs.declared.kinds.Limit.{Limit}
 use Rattle.mpslp_types.specs.declared.kinds.Limit.TheVariants.{MinusInf, Finite, PlusInf}
 use Rattle.mpslp_types.proofs.BoolLemmas.{back}
 use Rattle.mpslp_types.proofs.EachLemmas.{Each, Each-weaker, Each-append, Each-map, Each-flat_map, Each-all}
-use Rattle.mpslp_model.proofs.PutsLemmas.{puts}
-use Rattle.mpslp_model.proofs.CoefficientLemmas.{flat_map-flat_map}
-use Rattle.mpslp_model.proofs.DraftLemmas.{row_part, rows-all}
-use Rattle.mpslp_model.proofs.SortedDrafts.{bytes_total, tied_names}
+use Rattle.mpslp_core.proofs.PutsLemmas.{puts}
+use Rattle.mpslp_builder.proofs.CoefficientLemmas.{flat_map-flat_map}
+use Rattle.mpslp_builder.proofs.DraftLemmas.{row_part, rows-all}
+use Rattle.mpslp_builder.proofs.SortedDrafts.{bytes_total, tied_names}
 use Rattle.mpslp_canonical.proofs.RowsWalk.{RowItem, row_decl, Side, ReadsAs}
 use Rattle.mpslp_canonical.proofs.ColumnsWalk.{Cell, cell_decl, cells_of}
 use Rattle.mpslp_canonical.proofs.BoundsWalk.{GoodBound}

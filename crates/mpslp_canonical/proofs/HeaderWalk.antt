@@ -3,7 +3,7 @@ use Rattle.std.proofs.Common.{◌≡◌, refl, sym, ap, ◌∙◌, List, [], ◌
 use Rattle.std.specs.Prelude.{Option, Some, None, is_some, is_none, ◌||◌, codes}
 use Rattle.std.specs.Option.{option_or}
 use Rattle.std.proofs.lemmas.List.{append-nil}
-use Rattle.mpslp_model.specs.Declaration.{declare_sense, Draft}
+use Rattle.mpslp_builder.specs.Declaration.{declare_sense, Draft}
 use Rattle.mpslp_types.specs.declared.kinds.Sense.TheVariants.{Maximize}
 use Rattle.mpslp_types.proofs.BoolLemmas.{nor}
 use Rattle.mpslp_mps.specs.Line.{Fields, Item, skipped, header, data_line}

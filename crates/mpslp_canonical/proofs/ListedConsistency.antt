@@ -8,11 +8,11 @@ use Rattle.std.specs.Cmp.Lexicographic.{texts_ties}
 use Rattle.std.specs.FinMap.{find}
 use Rattle.mpslp_decimal.specs.Decimal.{Number, is_decimal, is_zero, is_infinite_size, negated, difference_of}
 use Rattle.mpslp_types.specs.Name.{same_bytes}
-use Rattle.mpslp_model.specs.Model.{Row, Column, CoefficientKey, key_cmp}
+use Rattle.mpslp_core.specs.Model.{Row, Column, CoefficientKey, key_cmp}
 use Rattle.mpslp_types.specs.Sides.{is_bounded_decimal, has_bounded_distance}
-use Rattle.mpslp_model.specs.Declaration.{RowForm, by_type, Declaration, declare_objective, Declarations, at_name, has_name, has_row, has_column, is_integer, is_semi, is_objective, is_free_form, is_free_row}
-use Rattle.mpslp_model.specs.Lists.{are_distinct}
-use Rattle.mpslp_model.specs.Consistency.{is_known, is_allowed, has_objective_rhs, declares_objective, same_slot, all_slots, AreConsistent}
+use Rattle.mpslp_builder.specs.Declaration.{RowForm, by_type, Declaration, declare_objective, Declarations, at_name, has_name, has_row, has_column, is_integer, is_semi, is_objective, is_free_form, is_free_row}
+use Rattle.mpslp_core.specs.Lists.{are_distinct}
+use Rattle.mpslp_builder.specs.Consistency.{is_known, is_allowed, has_objective_rhs, declares_objective, same_slot, all_slots, AreConsistent}
 use Rattle.mpslp_types.specs.declared.kinds.Sense.{Sense}
 use Rattle.mpslp_types.specs.declared.kinds.Sense.TheVariants.{Minimize, Maximize}
 use Rattle.mpslp_types.specs.declared.kinds.Kind.{Kind}
@@ -22,8 +22,8 @@ use Rattle.mpslp_types.specs.declared.kinds.Limit.TheVariants.{MinusInf, Finite,
 use Rattle.mpslp_types.specs.declared.kinds.RowType.TheVariants.{AtLeast, Equal}
 use Rattle.mpslp_types.proofs.BoolLemmas.{both_so, so_not, or_left, or_right, both_false}
 use Rattle.mpslp_types.proofs.EachLemmas.{Each, Each-weaker, Each-append, Each-map, Each-flat_map, Each-filter, Each-all, list_all-from_Each}
-use Rattle.mpslp_model.proofs.BoundsLemmas.{is_semi_kind}
-use Rattle.mpslp_model.proofs.LaterDrafts.{itself_named}
+use Rattle.mpslp_builder.proofs.BoundsLemmas.{is_semi_kind}
+use Rattle.mpslp_builder.proofs.LaterDrafts.{itself_named}
 use Rattle.mpslp_mps.specs.declared.bound_types.BoundType.TheVariants as bounds
 use Rattle.mpslp_canonical.proofs.RowsWalk.{RowItem, row_decl, Side, side_decl, range_decl}
 use Rattle.mpslp_canonical.proofs.ColumnsWalk.{Cell, cell_decl, Group, cells_of}

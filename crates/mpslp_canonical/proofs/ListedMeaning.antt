@@ -11,13 +11,13 @@ use Rattle.std.proofs.Math.Dec.{T}
 use Rattle.mpslp_decimal.specs.Decimal.{Number, IsDecimal, is_decimal, is_zero, is_infinite_size, zero_number, negated, difference_of}
 use Rattle.mpslp_decimal.proofs.NumberTextLemmas.{zero-is}
 use Rattle.mpslp_decimal.proofs.OrderLemmas.{same_decimal}
-use Rattle.mpslp_model.specs.Model.{LinearModel, Row, Column, is_sound_row, is_sound_column, IsSound}
+use Rattle.mpslp_core.specs.Model.{LinearModel, Row, Column, is_sound_row, is_sound_column, IsSound}
 use Rattle.mpslp_types.specs.Name.{bytes_cmp}
 use Rattle.mpslp_types.specs.Sides.{is_at_most, is_bounded_decimal, is_lower_side, is_upper_side, are_sides}
-use Rattle.mpslp_model.specs.Declaration.{RowForm, by_type, Declaration, declare_sense, declare_objective, declare_row, declare_rhs, declare_range, declare_column, declare_coefficient, declare_lower, declare_upper, declare_marked, declare_semi, Declarations, Draft, empty_draft, adding, adding_all, at_name, has_name, names_in}
-use Rattle.mpslp_model.specs.Limits.{limits_of, plain_limits, has_infinite_rhs}
-use Rattle.mpslp_model.specs.Bounds.{zero_limit, one_limit, lower_bound, upper_bound, column_of, has_negative_upper, has_binary_bounds}
-use Rattle.mpslp_model.specs.Meaning.{objective_name, constant_of, rhs_or_zero, row_limits, row_entry, row_passes, model_of, DraftMeans}
+use Rattle.mpslp_builder.specs.Declaration.{RowForm, by_type, Declaration, declare_sense, declare_objective, declare_row, declare_rhs, declare_range, declare_column, declare_coefficient, declare_lower, declare_upper, declare_marked, declare_semi, Declarations, Draft, empty_draft, adding, adding_all, at_name, has_name, names_in}
+use Rattle.mpslp_core.specs.Limits.{limits_of, plain_limits, has_infinite_rhs}
+use Rattle.mpslp_builder.specs.Bounds.{zero_limit, one_limit, lower_bound, upper_bound, column_of, has_negative_upper, has_binary_bounds}
+use Rattle.mpslp_builder.specs.Meaning.{objective_name, constant_of, rhs_or_zero, row_limits, row_entry, row_passes, model_of, DraftMeans}
 use Rattle.mpslp_types.specs.declared.kinds.Sense.{Sense}
 use Rattle.mpslp_types.specs.declared.kinds.Sense.TheVariants.{Minimize, Maximize}
 use Rattle.mpslp_types.specs.declared.kinds.Limit.{Limit}
@@ -25,10 +25,10 @@ use Rattle.mpslp_types.specs.declared.kinds.Limit.TheVariants.{MinusInf, Finite,
 use Rattle.mpslp_types.specs.declared.kinds.RowType.TheVariants.{Free, AtLeast, Equal}
 use Rattle.mpslp_types.proofs.BoolLemmas.{so_not}
 use Rattle.mpslp_types.proofs.EachLemmas.{Each, Each-weaker, Each-both, Each-map, Each-all, list_all-from_Each}
-use Rattle.mpslp_model.proofs.PutsLemmas.{equal_from}
-use Rattle.mpslp_model.proofs.RowLemmas.{row_back, side-told}
-use Rattle.mpslp_model.proofs.BoundsLemmas.{column_back}
-use Rattle.mpslp_model.proofs.SortedDrafts.{bytes_total, tied_names}
+use Rattle.mpslp_core.proofs.PutsLemmas.{equal_from}
+use Rattle.mpslp_builder.proofs.RowLemmas.{row_back, side-told}
+use Rattle.mpslp_builder.proofs.BoundsLemmas.{column_back}
+use Rattle.mpslp_builder.proofs.SortedDrafts.{bytes_total, tied_names}
 use Rattle.mpslp_canonical.proofs.RowsWalk.{RowItem, row_decl, Side, side_decl, range_decl}
 use Rattle.mpslp_canonical.proofs.ColumnsWalk.{Cell, cell_decl, cells_of}
 use Rattle.mpslp_canonical.proofs.BoundsWalk.{BoundForm, fixed, free, no_lower, no_upper, semi_upper, Bound, bound_decl, decl_at}

@@ -8,15 +8,15 @@ use Rattle.std.specs.FinMap.{is_sorted}
 use Rattle.std.specs.FinMap.Entries.{below_all}
 use Rattle.mpslp_decimal.specs.Decimal.{Number}
 use Rattle.mpslp_types.specs.Name.{same_bytes, is_one_of, bytes_cmp}
-use Rattle.mpslp_model.specs.Model.{Column}
-use Rattle.mpslp_model.specs.Declaration.{names_in}
-use Rattle.mpslp_model.specs.Lists.{are_distinct}
-use Rattle.mpslp_model.specs.Consistency.{Slot, same_slot}
+use Rattle.mpslp_core.specs.Model.{Column}
+use Rattle.mpslp_builder.specs.Declaration.{names_in}
+use Rattle.mpslp_core.specs.Lists.{are_distinct}
+use Rattle.mpslp_builder.specs.Consistency.{Slot, same_slot}
 use Rattle.mpslp_types.proofs.BoolLemmas.{both_so, so_not}
 use Rattle.mpslp_types.proofs.EachLemmas.{Each, Each-weaker, Each-append, Each-map, Each-flat_map, Each-all}
-use Rattle.mpslp_model.proofs.DistinctLemmas.{IsNew, Apart, distinct-flat_map, distinct-sorted}
-use Rattle.mpslp_model.proofs.SlotLemmas.{same_name}
-use Rattle.mpslp_model.proofs.SortedDrafts.{bytes_total}
+use Rattle.mpslp_builder.proofs.DistinctLemmas.{IsNew, Apart, distinct-flat_map, distinct-sorted}
+use Rattle.mpslp_builder.proofs.SlotLemmas.{same_name}
+use Rattle.mpslp_builder.proofs.SortedDrafts.{bytes_total}
 use Rattle.mpslp_canonical.proofs.ColumnsWalk.{Cell}
 use Rattle.mpslp_canonical.specs.Listing.{Listing}
 use Rattle.mpslp_canonical.specs.CanonicalMps.{column_cells, printed_cells}

@@ -7,15 +7,15 @@ use Rattle.std.specs.Cmp.{first_so, second_so}
 use Rattle.std.specs.FinMap.{find, is_sorted}
 use Rattle.mpslp_decimal.specs.Decimal.{Number}
 use Rattle.mpslp_types.specs.Name.{same_bytes, bytes_cmp}
-use Rattle.mpslp_model.specs.Model.{CoefficientKey, key_cmp}
-use Rattle.mpslp_model.specs.Declaration.{Declarations, names_in}
-use Rattle.mpslp_model.specs.Lists.{are_distinct}
-use Rattle.mpslp_model.specs.Consistency.{Slot, sense_slot, objective_slot, constant_slot, row_slot, rhs_slot, range_slot, coefficient_slot, lower_slot, upper_slot, same_slot, slots_of, all_slots}
+use Rattle.mpslp_core.specs.Model.{CoefficientKey, key_cmp}
+use Rattle.mpslp_builder.specs.Declaration.{Declarations, names_in}
+use Rattle.mpslp_core.specs.Lists.{are_distinct}
+use Rattle.mpslp_builder.specs.Consistency.{Slot, sense_slot, objective_slot, constant_slot, row_slot, rhs_slot, range_slot, coefficient_slot, lower_slot, upper_slot, same_slot, slots_of, all_slots}
 use Rattle.mpslp_types.proofs.BoolLemmas.{both_so, both_false, not_so, so_not, nor}
 use Rattle.mpslp_types.proofs.EachLemmas.{Each, Each-weaker}
-use Rattle.mpslp_model.proofs.DistinctLemmas.{IsNew, distinct-append, distinct-sorted}
-use Rattle.mpslp_model.proofs.SlotLemmas.{same_name}
-use Rattle.mpslp_model.proofs.SortedDrafts.{bytes_total}
+use Rattle.mpslp_builder.proofs.DistinctLemmas.{IsNew, distinct-append, distinct-sorted}
+use Rattle.mpslp_builder.proofs.SlotLemmas.{same_name}
+use Rattle.mpslp_builder.proofs.SortedDrafts.{bytes_total}
 use Rattle.mpslp_canonical.proofs.ColumnsWalk.{Cell}
 use Rattle.mpslp_canonical.specs.CanonicalMps.{cell_at}
 use Rattle.mpslp_canonical.proofs.CanonicalItems.{to_cell}

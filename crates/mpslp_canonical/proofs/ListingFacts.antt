@@ -8,14 +8,14 @@ use Rattle.std.specs.FinMap.{is_sorted, entries, entries_sorted}
 use Rattle.std.specs.FinMap.Entries.{below_all}
 use Rattle.mpslp_decimal.specs.Decimal.{Number, IsDecimal, is_decimal, is_infinite_size}
 use Rattle.mpslp_types.specs.Name.{is_mps_name, has_name_length, is_visible, same_bytes, marker, bytes_cmp}
-use Rattle.mpslp_model.specs.Model.{LinearModel, Row, Column, key_cmp, suits, is_sound_row, is_sound_column, is_sound_coefficient, IsSound}
+use Rattle.mpslp_core.specs.Model.{LinearModel, Row, Column, key_cmp, suits, is_sound_row, is_sound_column, is_sound_coefficient, IsSound}
 use Rattle.mpslp_types.specs.Sides.{limit_of, is_bounded_decimal, is_lower_side, is_upper_side, is_at_most, are_sides, has_bounded_distance}
 use Rattle.mpslp_types.specs.declared.kinds.Limit.{Limit}
 use Rattle.mpslp_types.specs.declared.kinds.Limit.TheVariants.{Finite}
 use Rattle.mpslp_types.proofs.BoolLemmas.{not_so, true_from}
 use Rattle.mpslp_types.proofs.EachLemmas.{Each, Each-from_list_all}
-use Rattle.mpslp_model.proofs.SlotLemmas.{same_name}
-use Rattle.mpslp_model.proofs.SortedDrafts.{bytes_total}
+use Rattle.mpslp_builder.proofs.SlotLemmas.{same_name}
+use Rattle.mpslp_builder.proofs.SortedDrafts.{bytes_total}
 use Rattle.mpslp_canonical.specs.Listing.{listing_of}
 use Rattle.mpslp_canonical.proofs.DraftMaps.{IsSoundListing}
 

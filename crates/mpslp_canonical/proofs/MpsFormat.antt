@@ -1,7 +1,7 @@
 -- The laws of MPS as a format of model files, in the words of the trait of formats.
 use Rattle.std.proofs.Common.{◌≡◌, refl, List, ℕ}
 use Rattle.std.specs.Prelude.{Option, None}
-use Rattle.mpslp_model.specs.Model.{LinearModel, IsSound}
+use Rattle.mpslp_core.specs.Model.{LinearModel, IsSound}
 use Rattle.mpslp_types.specs.declared.faults.Fault.{Fault}
 use Rattle.mpslp_types.specs.declared.faults.NameAt.{NameAt}
 use Rattle.mpslp_mps.specs.MpsText.{DeclaresMps}

@@ -11,7 +11,7 @@ use Rattle.std.proofs.lemmas.Bool.{ltb-true, leb-true}
 use Rattle.mpslp_decimal.specs.Decimal.{Number, IsDecimal, is_decimal, is_zero, is_infinite_size, zero_number, negated, difference_of}
 use Rattle.mpslp_decimal.specs.NumberText.{number_text}
 use Rattle.mpslp_types.specs.Name.{is_mps_name, has_name_length, is_visible, same_bytes, marker}
-use Rattle.mpslp_model.specs.Model.{LinearModel, Row, Column, CoefficientKey, key_cmp, is_sound_row, is_sound_column, is_sound_coefficient, suits, IsSound}
+use Rattle.mpslp_core.specs.Model.{LinearModel, Row, Column, CoefficientKey, key_cmp, is_sound_row, is_sound_column, is_sound_coefficient, suits, IsSound}
 use Rattle.mpslp_types.specs.Sides.{is_bounded_decimal, is_lower_side, is_upper_side, is_at_most, are_sides, has_bounded_distance}
 use Rattle.mpslp_types.specs.declared.kinds.Sense.{Sense}
 use Rattle.mpslp_types.specs.declared.kinds.Sense.TheVariants.{Minimize, Maximize}

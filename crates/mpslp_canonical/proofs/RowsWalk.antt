@@ -5,12 +5,12 @@ use Rattle.std.specs.List.{list_all}
 use Rattle.mpslp_decimal.specs.Decimal.{Number}
 use Rattle.mpslp_decimal.specs.Literal.{number_of}
 use Rattle.mpslp_types.specs.Name.{is_mps_name, has_name_length, is_visible, same_bytes, marker}
-use Rattle.mpslp_model.specs.Declaration.{by_type, declare_row, declare_rhs, declare_range, Declarations, Draft, is_free_row}
-use Rattle.mpslp_model.specs.Lists.{those_of}
+use Rattle.mpslp_builder.specs.Declaration.{by_type, declare_row, declare_rhs, declare_range, Declarations, Draft, is_free_row}
+use Rattle.mpslp_core.specs.Lists.{those_of}
 use Rattle.mpslp_types.specs.declared.kinds.RowType.{RowType}
 use Rattle.mpslp_types.specs.declared.kinds.RowType.TheVariants.{Free, AtMost, AtLeast, Equal}
 use Rattle.mpslp_types.proofs.EachLemmas.{Each, Each-append}
-use Rattle.mpslp_model.proofs.LaterDrafts.{itself_named}
+use Rattle.mpslp_builder.proofs.LaterDrafts.{itself_named}
 use Rattle.mpslp_mps.specs.Line.{Fields, Item, data_line}
 use Rattle.mpslp_mps.specs.DataLine.{letter_of}
 use Rattle.mpslp_mps.specs.Context.{context_of, current_section, data_lines, fields_under, vector_set, first_set}

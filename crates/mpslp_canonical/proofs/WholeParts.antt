@@ -3,13 +3,13 @@ use Rattle.std.proofs.Common.{◌≡◌, refl, ap, ◌∙◌, List, [], ◌∷�
 use Rattle.std.specs.List.{flat_map}
 use Rattle.std.proofs.lemmas.List.{append-nil}
 use Rattle.std.proofs.lemmas.List.Concat.{flat_map-append}
-use Rattle.mpslp_model.specs.Declaration.{Declaration, declare_sense, declare_objective, declare_lower, declare_upper, declare_semi, Declarations, Draft, adding, adding_all}
+use Rattle.mpslp_builder.specs.Declaration.{Declaration, declare_sense, declare_objective, declare_lower, declare_upper, declare_semi, Declarations, Draft, adding, adding_all}
 use Rattle.mpslp_types.specs.declared.kinds.Sense.{Sense}
 use Rattle.mpslp_types.specs.declared.kinds.Sense.TheVariants.{Minimize, Maximize}
 use Rattle.mpslp_types.specs.declared.kinds.Limit.{Limit}
 use Rattle.mpslp_types.specs.declared.kinds.Limit.TheVariants.{MinusInf, Finite, PlusInf}
 use Rattle.mpslp_types.proofs.EachLemmas.{Each, Each-append, Each-flat_map}
-use Rattle.mpslp_model.proofs.CoefficientLemmas.{flat_map-flat_map}
+use Rattle.mpslp_builder.proofs.CoefficientLemmas.{flat_map-flat_map}
 use Rattle.mpslp_canonical.proofs.RowsWalk.{RowItem, row_decl, Side, side_decl, range_decl}
 use Rattle.mpslp_canonical.proofs.ColumnsWalk.{Cell, cell_decl, cells_of}
 use Rattle.mpslp_canonical.proofs.BoundsWalk.{BoundForm, fixed, lower, upper, free, no_lower, no_upper, semi_upper, Bound, bound_decl, decl_at}

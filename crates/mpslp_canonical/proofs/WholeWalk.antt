@@ -4,7 +4,7 @@ use Rattle.std.specs.Prelude.{Option, Some, None, is_some, is_none, ◌||◌, co
 use Rattle.std.specs.List.{flat_map}
 use Rattle.std.proofs.lemmas.List.{append-nil}
 use Rattle.mpslp_types.specs.Name.{is_mps_name}
-use Rattle.mpslp_model.specs.Declaration.{declare_objective, Declarations, Draft, empty_draft, adding_all, is_free_row}
+use Rattle.mpslp_builder.specs.Declaration.{declare_objective, Declarations, Draft, empty_draft, adding_all, is_free_row}
 use Rattle.mpslp_types.specs.declared.kinds.Sense.{Sense}
 use Rattle.mpslp_types.specs.declared.kinds.Sense.TheVariants.{Minimize, Maximize}
 use Rattle.mpslp_types.proofs.EachLemmas.{Each}

@@ -6,8 +6,8 @@ use Rattle.std.specs.FinMap.{find}
 use Rattle.mpslp_decimal.specs.Decimal.{Number, is_zero, negated, zero_number}
 use Rattle.mpslp_decimal.specs.NumberText.{number_text}
 use Rattle.mpslp_types.specs.Name.{marker}
-use Rattle.mpslp_model.specs.Model.{LinearModel, Row, Column, CoefficientKey, key_cmp}
-use Rattle.mpslp_model.specs.Views as views
+use Rattle.mpslp_core.specs.Model.{LinearModel, Row, Column, CoefficientKey, key_cmp}
+use Rattle.mpslp_core.specs.Views as views
 use Rattle.mpslp_types.specs.declared.kinds.Sense.{Sense}
 use Rattle.mpslp_types.specs.declared.kinds.Sense.TheVariants.{Minimize, Maximize}
 use Rattle.mpslp_types.specs.declared.kinds.RowType.TheVariants.{Free}

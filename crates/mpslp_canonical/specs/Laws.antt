@@ -1,7 +1,7 @@
 -- Laws of canonical texts.
 use Rattle.std.specs.Prelude.{◌≡◌, ◌↔◌, IsTrue, map}
 use Rattle.std.specs.List.{list_all}
-use Rattle.mpslp_model.specs.Model.{LinearModel, IsSound}
+use Rattle.mpslp_core.specs.Model.{LinearModel, IsSound}
 use Rattle.mpslp_mps.specs.Line.{is_legal_line, item_of}
 use Rattle.mpslp_mps.specs.MpsText.{read_lines, has_end, DeclaresMps}
 use Rattle.mpslp_canonical.specs.Printed.{printed, item_in}

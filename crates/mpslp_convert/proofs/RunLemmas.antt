@@ -1,6 +1,6 @@
 -- What the parts of a run answer together.
 use Rattle.std.proofs.Common.{ℕ, List, Bool, Option, Result, Ok, Err}
-use Rattle.mpslp_model.specs.Model.{LinearModel}
+use Rattle.mpslp_core.specs.Model.{LinearModel}
 use Rattle.mpslp_convert.specs.Conversions.{Declares, HasFirstFault, Unfit, TextOf}
 use Rattle.mpslp_convert.specs.Runs.{SourceGave, IsPut, IsRun}
 use Rattle.mpslp_convert.specs.declared.faults.RunFault.{RunFault}

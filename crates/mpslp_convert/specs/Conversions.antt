@@ -1,7 +1,7 @@
 -- What the conversions and comparisons of whole texts answer, over any formats.
 use Rattle.std.specs.Prelude.{◌≡◌, ◌≢◌, ◌⊎◌, ℕ, List, Bool, true, false, Option, None, Some, Result, Ok, Err, Vec}
 use Rattle.std.specs.declared.alloc.Global.{Global}
-use Rattle.mpslp_model.specs.Model.{LinearModel}
+use Rattle.mpslp_core.specs.Model.{LinearModel}
 use Rattle.mpslp_types.specs.declared.faults.Fault.{Fault}
 use Rattle.mpslp_types.specs.declared.faults.NameAt.{NameAt}
 use Rattle.mpslp_convert.specs.declared.faults.ConvertFault.{ConvertFault}

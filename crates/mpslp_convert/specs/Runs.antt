@@ -4,7 +4,7 @@ use Rattle.std.specs.Io.KnownBytes.{Consumes, IsAtEnd}
 use Rattle.std.specs.declared.alloc.Global.{Global}
 use Rattle.mpslp_io.specs.Devices.{Grows}
 use Rattle.mpslp_model.specs.Formats.{TookFirst}
-use Rattle.mpslp_model.specs.Model.{LinearModel}
+use Rattle.mpslp_core.specs.Model.{LinearModel}
 use Rattle.mpslp_convert.specs.Conversions.{Declares, HasFirstFault, Unfit, TextOf}
 use Rattle.mpslp_convert.specs.declared.faults.RunFault.{RunFault}
 use Rattle.mpslp_convert.specs.declared.faults.RunFault.TheVariants.{Read, TooLong, File, NotLp, Write, OutOfMemory}

@@ -1,7 +1,7 @@
 //! Conversions and comparisons of whole texts in memory.
 
 ghost use Rattle.std.specs.Prelude.{◌≡◌, None, Some, IfOk, IsOkUnless};
-ghost use Rattle.mpslp_model.specs.Model.{LinearModel};
+ghost use Rattle.mpslp_core.specs.Model.{LinearModel};
 ghost use Rattle.mpslp_types.specs.declared.faults.Fault.{Fault};
 ghost use Rattle.mpslp_types.specs.declared.faults.NameAt.{NameAt};
 ghost use Rattle.mpslp_convert.specs.Conversions.{IsReadingOfFirst, IsText, IsConversion, IsComparison, IsTestOfText, IsErrUnless};

@@ -2,7 +2,7 @@
 
 ghost use Rattle.std.specs.Prelude.{◌≡◌, ◌+◌, ◌-◌, ◌^◌, ◌≤◌, ℕ, List, true, false, None, Some, min, length, IfOk, OnOk, IsOkUnless};
 ghost use Rattle.std.specs.Io.KnownBytes.{IsAtEnd};
-ghost use Rattle.mpslp_model.specs.Model.{LinearModel};
+ghost use Rattle.mpslp_core.specs.Model.{LinearModel};
 ghost use Rattle.mpslp_types.specs.declared.faults.Fault.{Fault};
 ghost use Rattle.mpslp_types.specs.declared.faults.NameAt.{NameAt};
 ghost use Rattle.mpslp_convert.specs.Conversions.{IsErrUnless};

@@ -5,7 +5,7 @@ mod faults;
 mod large;
 
 ghost use Rattle.std.specs.Prelude.{◌≡◌, IfOk};
-ghost use Rattle.mpslp_model.specs.Model.{LinearModel};
+ghost use Rattle.mpslp_core.specs.Model.{LinearModel};
 
 use crate::{ConvertFault, RunFault, canonical, is_canonical, laws, report, run, same_model};
 use mpslp_model::{FaultKind, Format, FromRead, Sink, Source, ToWrite};

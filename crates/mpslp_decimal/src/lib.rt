@@ -8,10 +8,12 @@ pub mod laws;
 mod literal;
 mod number;
 mod order;
+mod packed;
 mod sums;
 mod text;
 
 pub use literal::{MAX_LITERAL_LEN, NumberFault};
+pub use packed::PackedDecimal;
 pub use number::{Decimal, MAX_DIGITS, MAX_EXPONENT, MIN_EXPONENT};
 pub use text::DecimalText;
 

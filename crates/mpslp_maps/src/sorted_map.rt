@@ -1,9 +1,9 @@
 //! Maps, each kept as a vector of its entries in the order of their keys.
 
-ghost use Rattle.std.specs.Prelude.{◌≡◌, ◌<◌, ◌↔◌, [], None, IsOk, IsTrue, OnOk, OnErr, Some, length, is_some, position, slice_get, vec_len, vec_capacity};
+ghost use Rattle.std.specs.Prelude.{◌≡◌, ◌<◌, ◌-◌, ◌↔◌, [], None, IsOk, IsTrue, OnOk, OnErr, Some, length, is_some, true, position, slice_get, vec_len, vec_capacity};
 ghost use Rattle.std.specs.Option.{ForSome, option_copied, option_map_or};
-ghost use Rattle.std.specs.Ordering.{is_eq, is_le};
-ghost use Rattle.std.specs.Cmp.{IsTotalOrder};
+ghost use Rattle.std.specs.Ordering.{is_eq, is_gt, is_le, nat_cmp};
+ghost use Rattle.std.specs.Cmp.{IsTotalOrder, nat_cmp_total};
 ghost use Rattle.std.specs.declared.cmp.Ordering.{Ordering};
 ghost use Rattle.std.specs.List.{position_or_len};
 ghost use Rattle.std.specs.Cmp.Lexicographic.{nat_list_cmp_total};
@@ -58,6 +58,16 @@ impl<'a> Query<Name> for &'a [u8] {
 
     fn compare(&self, other: &Name) -> Ordering {
         (*self).cmp(other.as_bytes())
+    }
+}
+
+impl Key for u32 {
+    ghost cmp = { nat_cmp };
+
+    ghost total = { nat_cmp_total };
+
+    fn compare_keys(&self, other: &u32) -> Ordering {
+        self.cmp(other)
     }
 }
 
@@ -164,6 +174,23 @@ impl<K: Key, V> SortedMap<K, V> {
         ensures { result.items ≡ self }
     {
         self.entries
+    }
+
+    /// How many entries there are.
+    pub fn len(&self) -> usize
+        ensures { result ≡ length self.now }
+    {
+        self.as_slice().len()
+    }
+
+    /// Whether the key lies above that of the last entry. It does where there is no entry.
+    pub fn ends_below<Q: Query<K>>(&self, query: &Q) -> bool
+        ensures { result ≡ option_map_or (λ last. is_gt (K.cmp (Q.key query.now) last.0)) (slice_get self.now (length self.now - 1)) true }
+    {
+        match self.as_slice().last() {
+            Some(last) => query.compare(&last.0).is_gt(),
+            None => true,
+        }
     }
 
     /// Whether there is no entry.

@@ -3,9 +3,9 @@
 //!
 //! A law of every builder or model reads a field of it, and that brings what is known of all its parts.
 
-ghost use Rattle.mpslp_model.specs.Made.{IsMade};
-ghost use Rattle.mpslp_model.specs.Model.{IsSound};
-ghost use Rattle.mpslp_model.specs.Laws.{FaultsAreExact, MeanOneModel, MeanTheSameInAnyOrder};
+ghost use Rattle.mpslp_builder.specs.Made.{IsMade};
+ghost use Rattle.mpslp_core.specs.Model.{IsSound};
+ghost use Rattle.mpslp_builder.specs.Laws.{FaultsAreExact, MeanOneModel, MeanTheSameInAnyOrder};
 
 use crate::builder::Builder;
 use crate::model::Model;

@@ -3,14 +3,14 @@ use Rattle.std.proofs.Common.{◌≡◌, refl, sym, ap, subst, ◌∙◌, ℕ, L
 use Rattle.std.specs.Prelude.{◌&&◌, ◌||◌, Option, Some, None, is_some, Ok, Err}
 use Rattle.std.specs.Option.{option_map, option_map_or}
 use Rattle.mpslp_decimal.specs.Decimal.{Number}
-use Rattle.mpslp_model.specs.Answer.{Answers, first_refusal}
+use Rattle.mpslp_builder.specs.Answer.{Answers, first_refusal}
 use Rattle.mpslp_types.specs.Sides.{limit_of, is_plus_infinite, is_minus_infinite}
 use Rattle.std.proofs.lemmas.List.{append-nil}
-use Rattle.mpslp_model.specs.Bounds.{zero_limit, one_limit}
-use Rattle.mpslp_model.specs.Declaration.{Declaration, declare_integer, declare_semi, declare_lower, declare_upper, Draft, adding, adding_all, has_name, has_column, is_integer, is_semi, bounds_declared}
-use Rattle.mpslp_model.specs.Lists.{those_of, when}
+use Rattle.mpslp_builder.specs.Bounds.{zero_limit, one_limit}
+use Rattle.mpslp_builder.specs.Declaration.{Declaration, declare_integer, declare_semi, declare_lower, declare_upper, Draft, adding, adding_all, has_name, has_column, is_integer, is_semi, bounds_declared}
+use Rattle.mpslp_core.specs.Lists.{those_of, when}
 use Rattle.mpslp_types.specs.FaultOrder.{least_kind}
-use Rattle.mpslp_model.specs.Refusal.{refusals, bounds_refusals, bounds_tests}
+use Rattle.mpslp_builder.specs.Refusal.{refusals, bounds_refusals, bounds_tests}
 use Rattle.mpslp_types.specs.declared.kinds.Limit.{Limit}
 use Rattle.mpslp_types.specs.declared.faults.BuildFault.{BuildFault}
 use Rattle.mpslp_types.specs.declared.faults.BuildFault.TheVariants.{UnknownColumn, SemiContinuous}
@@ -30,7 +30,7 @@ use Rattle.mpslp_reading.specs.declared.errors.LineError.TheVariants.{Fault, Out
 use Rattle.mpslp_mps.specs.declared.bound_types.BoundType.{BoundType}
 use Rattle.mpslp_mps.specs.declared.bound_types.BoundType.TheVariants as bounds
 use Rattle.mpslp_types.proofs.BoolLemmas.{nor}
-use Rattle.mpslp_model.proofs.MadeDrafts.{adding_all-append}
+use Rattle.mpslp_builder.proofs.MadeDrafts.{adding_all-append}
 use Rattle.mpslp_reading.proofs.LeastLemmas.{earlier_of}
 use Rattle.mpslp_reading.proofs.RefusedLemmas.{kind_tests, declared-one, declared-append, call-refused, tests-none, tests-error}
 

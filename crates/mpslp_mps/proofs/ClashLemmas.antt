@@ -6,17 +6,17 @@ use Rattle.std.specs.List.{list_any, list_all, flat_map}
 use Rattle.std.specs.Option.{option_map, option_map_or}
 use Rattle.std.proofs.lemmas.List.Folds.{list_any-append}
 use Rattle.mpslp_decimal.specs.Decimal.{Number}
-use Rattle.mpslp_model.specs.Answer.{Answer, first_refusal}
-use Rattle.mpslp_model.specs.Declaration.{Declaration, declare_objective, declare_row, by_type, declare_column, declare_marked, declare_integer, declare_semi, Declarations, Draft, adding, has_column, is_integer, is_semi, bounds_declared}
-use Rattle.mpslp_model.specs.Bounds.{zero_limit, one_limit}
-use Rattle.mpslp_model.specs.Lists.{those_of, when}
-use Rattle.mpslp_model.specs.Made.{IsMade}
-use Rattle.mpslp_model.specs.Refusal.{refusals, refusals_in_turn}
+use Rattle.mpslp_builder.specs.Answer.{Answer, first_refusal}
+use Rattle.mpslp_builder.specs.Declaration.{Declaration, declare_objective, declare_row, by_type, declare_column, declare_marked, declare_integer, declare_semi, Declarations, Draft, adding, has_column, is_integer, is_semi, bounds_declared}
+use Rattle.mpslp_builder.specs.Bounds.{zero_limit, one_limit}
+use Rattle.mpslp_core.specs.Lists.{those_of, when}
+use Rattle.mpslp_builder.specs.Made.{IsMade}
+use Rattle.mpslp_builder.specs.Refusal.{refusals, refusals_in_turn}
 use Rattle.mpslp_types.specs.declared.kinds.Limit.{Limit}
 use Rattle.mpslp_types.specs.declared.kinds.RowType.{RowType}
 use Rattle.mpslp_types.specs.declared.kinds.RowType.TheVariants.{Free, AtMost, AtLeast, Equal}
 use Rattle.mpslp_types.specs.declared.faults.BuildFault.TheVariants as builds
-use Rattle.mpslp_model.proofs.MadeDrafts.{declared_names-from_made}
+use Rattle.mpslp_builder.proofs.MadeDrafts.{declared_names-from_made}
 use Rattle.mpslp_reading.specs.Declaring.{is_kind_clash}
 use Rattle.mpslp_reading.proofs.ClashLemmas.{has_kind_clash, says_no_kind, no-clash}
 use Rattle.mpslp_mps.specs.Line.{Fields}

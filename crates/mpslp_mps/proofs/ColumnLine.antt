@@ -7,8 +7,8 @@ use Rattle.std.specs.Option.{option_map, option_or}
 use Rattle.std.proofs.lemmas.Bool.Decides.{nat_tests}
 use Rattle.mpslp_decimal.specs.Decimal.{Number}
 use Rattle.mpslp_types.specs.Name.{same_bytes, has_name_length, is_visible, marker, is_mps_name}
-use Rattle.mpslp_model.specs.Declaration.{Declarations, Draft, adding_all, has_column}
-use Rattle.mpslp_model.specs.Lists.{those_of}
+use Rattle.mpslp_builder.specs.Declaration.{Declarations, Draft, adding_all, has_column}
+use Rattle.mpslp_core.specs.Lists.{those_of}
 use Rattle.mpslp_types.specs.FaultOrder.{kind_rank, least_kind}
 use Rattle.mpslp_types.specs.declared.faults.FaultKind.{FaultKind}
 use Rattle.mpslp_types.specs.declared.faults.FaultKind.TheVariants as kinds

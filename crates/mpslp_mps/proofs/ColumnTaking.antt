@@ -6,13 +6,13 @@ use Rattle.std.specs.Cmp.{first_so, second_so}
 use Rattle.std.specs.FinMap.{find, put}
 use Rattle.mpslp_decimal.specs.Decimal.{Number}
 use Rattle.mpslp_types.specs.Name.{same_bytes}
-use Rattle.mpslp_model.specs.Model.{CoefficientKey, key_cmp}
-use Rattle.mpslp_model.specs.Declaration.{declare_column, declare_coefficient, Declarations, Draft, adding, adding_all, has_row, has_column, has_entry, is_semi}
-use Rattle.mpslp_model.specs.Lists.{those_of}
+use Rattle.mpslp_core.specs.Model.{CoefficientKey, key_cmp}
+use Rattle.mpslp_builder.specs.Declaration.{declare_column, declare_coefficient, Declarations, Draft, adding, adding_all, has_row, has_column, has_entry, is_semi}
+use Rattle.mpslp_core.specs.Lists.{those_of}
 use Rattle.mpslp_types.specs.FaultOrder.{least_kind}
 use Rattle.mpslp_types.specs.declared.faults.BuildFault.TheVariants.{UnknownColumn, SemiContinuous}
-use Rattle.mpslp_model.proofs.SlotLemmas.{has-put, has-put_key}
-use Rattle.mpslp_model.proofs.LaterDrafts.{itself_named}
+use Rattle.mpslp_builder.proofs.SlotLemmas.{has-put, has-put_key}
+use Rattle.mpslp_builder.proofs.LaterDrafts.{itself_named}
 use Rattle.mpslp_types.specs.declared.faults.FaultKind.{FaultKind}
 use Rattle.mpslp_types.specs.declared.faults.FaultKind.TheVariants as kinds
 use Rattle.mpslp_mps.specs.Line.{Fields}

@@ -6,7 +6,7 @@ use Rattle.std.specs.Option.{option_map_or, option_or}
 use Rattle.std.proofs.lemmas.List.{append-nil}
 use Rattle.std.proofs.lemmas.List.Elements.{filter_map-append, filter-append}
 use Rattle.mpslp_types.specs.Name.{same_bytes}
-use Rattle.mpslp_model.specs.Lists.{head_of}
+use Rattle.mpslp_core.specs.Lists.{head_of}
 use Rattle.mpslp_mps.specs.Line.{Fields, Item, skipped, header, data_line}
 use Rattle.mpslp_mps.specs.Section.{section_begun, is_section}
 use Rattle.mpslp_mps.specs.DataLine.{opening_word}

@@ -1,7 +1,7 @@
 -- The first six fields of a line show all that is asked of it: no data line of a known shape has so many.
 use Rattle.std.proofs.Common.{◌≡◌, refl, ℕ, List, [], ◌∷◌, take}
 use Rattle.std.specs.Prelude.{Option, Some, None}
-use Rattle.mpslp_model.specs.Declaration.{Draft}
+use Rattle.mpslp_builder.specs.Declaration.{Draft}
 use Rattle.mpslp_mps.specs.Line.{Fields, data_line}
 use Rattle.mpslp_mps.specs.Context.{Context}
 use Rattle.mpslp_mps.specs.NextContext.{next_context}

@@ -1,8 +1,8 @@
 -- A line is taken as its first six fields are.
 use Rattle.std.proofs.Common.{◌≡◌, refl, sym, ap, subst, ◌∙◌, ℕ, List, [], ◌∷◌, ◌++◌, take, Bool, true, false, cond}
 use Rattle.std.specs.Prelude.{Option, Ok, Err}
-use Rattle.mpslp_model.specs.Declaration.{Draft, adding_all}
-use Rattle.mpslp_model.specs.Lists.{those_of}
+use Rattle.mpslp_builder.specs.Declaration.{Draft, adding_all}
+use Rattle.mpslp_core.specs.Lists.{those_of}
 use Rattle.mpslp_types.specs.FaultOrder.{least_kind}
 use Rattle.mpslp_types.specs.declared.faults.FaultKind.{FaultKind}
 use Rattle.mpslp_mps.specs.Line.{Fields, Item, skipped, header, data_line, header_of, fields, is_skipped, is_data, item_of}

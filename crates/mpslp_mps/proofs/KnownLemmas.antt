@@ -4,18 +4,18 @@ use Rattle.std.specs.Prelude.{Option, Some, None, is_none, ◌&&◌, not, codes}
 use Rattle.std.specs.List.{list_all, flat_map}
 use Rattle.std.specs.Cmp.{first_so, second_so}
 use Rattle.std.proofs.lemmas.List.Folds.{list_all-append}
-use Rattle.mpslp_model.specs.Declaration.{by_type, Declaration, declare_sense, declare_objective, declare_row, declare_rhs, declare_range, declare_column, declare_coefficient, declare_marked, Declarations, Draft, adding, adding_all, has_row, has_column, is_free_row, rhs_declared}
-use Rattle.mpslp_model.specs.Consistency.{is_known}
+use Rattle.mpslp_builder.specs.Declaration.{by_type, Declaration, declare_sense, declare_objective, declare_row, declare_rhs, declare_range, declare_column, declare_coefficient, declare_marked, Declarations, Draft, adding, adding_all, has_row, has_column, is_free_row, rhs_declared}
+use Rattle.mpslp_builder.specs.Consistency.{is_known}
 use Rattle.mpslp_types.specs.Name.{same_bytes}
-use Rattle.mpslp_model.specs.Lists.{those_of, is_nonempty, when}
+use Rattle.mpslp_core.specs.Lists.{those_of, is_nonempty, when}
 use Rattle.mpslp_types.specs.declared.kinds.Sense.{Sense}
 use Rattle.mpslp_types.specs.declared.kinds.Limit.{Limit}
 use Rattle.mpslp_types.specs.declared.kinds.RowType.{RowType}
 use Rattle.mpslp_types.specs.declared.kinds.RowType.TheVariants.{Free, AtMost, AtLeast, Equal}
 use Rattle.mpslp_types.proofs.BoolLemmas.{both_so, or_left}
-use Rattle.mpslp_model.proofs.RefusalLemmas.{are_known_in_turn}
-use Rattle.mpslp_model.proofs.LaterDrafts.{itself_named}
-use Rattle.mpslp_model.proofs.SlotLemmas.{has-put}
+use Rattle.mpslp_builder.proofs.RefusalLemmas.{are_known_in_turn}
+use Rattle.mpslp_builder.proofs.LaterDrafts.{itself_named}
+use Rattle.mpslp_builder.proofs.SlotLemmas.{has-put}
 use Rattle.mpslp_mps.specs.Line.{Fields, Item, skipped, header, data_line}
 use Rattle.mpslp_mps.specs.Section.{has, section_named, begins, is_section}
 use Rattle.mpslp_mps.specs.DataLine.{RowLine, Pair, ValuesLine, word_shape, sense_of, row_shape, row_type, column_shape, is_marker_line, vector_shape}
@@ -29,7 +29,7 @@ use Rattle.mpslp_mps.specs.declared.sections.Section.{Section}
 use Rattle.mpslp_mps.specs.declared.sections.Section.TheVariants.{Name, ObjSense, ObjName, Rows, Columns, Rhs, Ranges, Bounds, EndData}
 use Rattle.mpslp_mps.specs.declared.bound_types.BoundType.{BoundType}
 use Rattle.mpslp_mps.specs.declared.bound_types.BoundType.TheVariants as bounds
-use Rattle.mpslp_model.proofs.MadeDrafts.{adding_all-append}
+use Rattle.mpslp_builder.proofs.MadeDrafts.{adding_all-append}
 use Rattle.mpslp_mps.proofs.SectionLemmas.{has_section-push}
 use Rattle.mpslp_mps.proofs.OrderLemmas.{header-fresh, Past, past-rows, past-columns, never, IsGood, is_late, Ordered, ordered-push, declares_row, declares_column, no_rows, no_columns, rows-kept, columns-kept, each-declared, sense-passes, sides-passes, ranges-passes, bounds-passes, columns-line-no-rows, passes-no_rows, passes-no_columns}
 

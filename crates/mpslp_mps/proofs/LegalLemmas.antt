@@ -6,10 +6,10 @@ use Rattle.std.specs.Option.{option_map_or}
 use Rattle.std.proofs.lemmas.List.Folds.{list_all-append}
 use Rattle.mpslp_types.specs.Name.{is_mps_name}
 use Rattle.mpslp_types.specs.Sides.{limit_of, is_given}
-use Rattle.mpslp_model.specs.Declaration.{by_type, declare_sense, declare_objective, declare_row, declare_rhs, declare_range, declare_marked, Draft, adding_all, is_free_row, rhs_declared}
-use Rattle.mpslp_model.specs.Bounds.{zero_limit}
-use Rattle.mpslp_model.specs.Made.{is_legal}
-use Rattle.mpslp_model.specs.Lists.{those_of}
+use Rattle.mpslp_builder.specs.Declaration.{by_type, declare_sense, declare_objective, declare_row, declare_rhs, declare_range, declare_marked, Draft, adding_all, is_free_row, rhs_declared}
+use Rattle.mpslp_builder.specs.Bounds.{zero_limit}
+use Rattle.mpslp_builder.specs.Made.{is_legal}
+use Rattle.mpslp_core.specs.Lists.{those_of}
 use Rattle.mpslp_types.specs.declared.kinds.Limit.{Limit}
 use Rattle.mpslp_types.specs.declared.kinds.RowType.{RowType}
 use Rattle.mpslp_types.specs.declared.kinds.RowType.TheVariants.{Free, AtMost, AtLeast, Equal}

@@ -3,7 +3,7 @@ use Rattle.std.proofs.Common.{◌≡◌, refl, sym, ap, subst, ◌∙◌, ℕ, �
 use Rattle.std.specs.Prelude.{◌||◌, Option, Some, None}
 use Rattle.std.specs.List.{list_any, list_all}
 use Rattle.std.specs.Option.{option_map, option_or}
-use Rattle.mpslp_model.specs.Declaration.{Draft}
+use Rattle.mpslp_builder.specs.Declaration.{Draft}
 use Rattle.mpslp_types.specs.declared.faults.FaultKind.{FaultKind}
 use Rattle.mpslp_types.specs.declared.faults.FaultKind.TheVariants.{LineTooLong, BadByte}
 use Rattle.mpslp_reading.specs.LegalLine.{has_legal_length, is_legal_byte}

@@ -4,15 +4,15 @@ use Rattle.std.specs.Prelude.{Option, None}
 use Rattle.std.specs.List.{list_all, flat_map}
 use Rattle.std.specs.Option.{option_map, option_or}
 use Rattle.std.specs.Cmp.{first_so, second_so}
-use Rattle.mpslp_model.specs.Model.{LinearModel}
-use Rattle.mpslp_model.specs.Declaration.{Declarations, Draft, empty_draft, adding_all, draft_of}
-use Rattle.mpslp_model.specs.Lists.{those_of}
-use Rattle.mpslp_model.specs.Refusal.{refusals_in_turn}
-use Rattle.mpslp_model.specs.Meaning.{file_fault, Means}
+use Rattle.mpslp_core.specs.Model.{LinearModel}
+use Rattle.mpslp_builder.specs.Declaration.{Declarations, Draft, empty_draft, adding_all, draft_of}
+use Rattle.mpslp_core.specs.Lists.{those_of}
+use Rattle.mpslp_builder.specs.Refusal.{refusals_in_turn}
+use Rattle.mpslp_builder.specs.Meaning.{file_fault, Means}
 use Rattle.mpslp_types.specs.declared.faults.FaultKind.{FaultKind}
-use Rattle.mpslp_model.proofs.RefusalLemmas.{left_none, right_none}
-use Rattle.mpslp_model.proofs.MadeDrafts.{refusals_in_turn-append}
-use Rattle.mpslp_model.proofs.Acceptance.{none-from_means}
+use Rattle.mpslp_builder.proofs.RefusalLemmas.{left_none, right_none}
+use Rattle.mpslp_builder.proofs.MadeDrafts.{refusals_in_turn-append}
+use Rattle.mpslp_builder.proofs.Acceptance.{none-from_means}
 use Rattle.mpslp_reading.specs.LineAnswer.{fault_on_line}
 use Rattle.mpslp_reading.proofs.FirstFaultLemmas.{no_fault}
 use Rattle.mpslp_reading.proofs.AnswerLemmas.{model-or_fault as one_of_both}

@@ -5,8 +5,8 @@ use Rattle.std.specs.List.{list_all, flat_map}
 use Rattle.std.specs.Option.{option_map_or}
 use Rattle.std.specs.Cmp.{first_so, second_so}
 use Rattle.mpslp_types.specs.Name.{same_bytes}
-use Rattle.mpslp_model.specs.Declaration.{RowForm, by_type, Declaration, declare_sense, declare_objective, declare_constant, declare_row, declare_rhs, declare_range, declare_column, declare_coefficient, declare_lower, declare_upper, declare_marked, declare_integer, declare_binary, declare_semi, Declarations, Draft, empty_draft, adding, adding_all, at_name, has_name, has_row, is_objective, is_free_form, is_free_row, rhs_declared}
-use Rattle.mpslp_model.specs.Lists.{when}
+use Rattle.mpslp_builder.specs.Declaration.{RowForm, by_type, Declaration, declare_sense, declare_objective, declare_constant, declare_row, declare_rhs, declare_range, declare_column, declare_coefficient, declare_lower, declare_upper, declare_marked, declare_integer, declare_binary, declare_semi, Declarations, Draft, empty_draft, adding, adding_all, at_name, has_name, has_row, is_objective, is_free_form, is_free_row, rhs_declared}
+use Rattle.mpslp_core.specs.Lists.{when}
 use Rattle.mpslp_types.specs.FaultOrder.{least_kind}
 use Rattle.mpslp_types.specs.declared.kinds.Limit.{Limit}
 use Rattle.mpslp_types.specs.declared.kinds.RowType.{RowType}
@@ -14,8 +14,8 @@ use Rattle.mpslp_types.specs.declared.kinds.RowType.TheVariants.{Free, AtMost, A
 use Rattle.mpslp_types.specs.declared.faults.FaultKind.{FaultKind}
 use Rattle.mpslp_types.specs.declared.faults.FaultKind.TheVariants as kinds
 use Rattle.mpslp_types.proofs.BoolLemmas.{or_right}
-use Rattle.mpslp_model.proofs.MadeDrafts.{adding_all-append}
-use Rattle.mpslp_model.proofs.SlotLemmas.{at-put, has-put, same_name}
+use Rattle.mpslp_builder.proofs.MadeDrafts.{adding_all-append}
+use Rattle.mpslp_builder.proofs.SlotLemmas.{at-put, has-put, same_name}
 use Rattle.mpslp_mps.specs.Line.{Fields, Item, skipped, header, data_line}
 use Rattle.mpslp_mps.specs.Section.{section_named}
 use Rattle.mpslp_mps.specs.DataLine.{RowLine, Pair, ValuesLine, word_shape, row_shape, row_type, column_shape, is_marker_line, vector_shape}

@@ -3,8 +3,8 @@ use Rattle.std.proofs.Common.{◌≡◌, refl, sym, ap, ◌∙◌, ℕ, ◌+◌,
 use Rattle.std.specs.Prelude.{◌||◌, Option, Some, None, is_some}
 use Rattle.std.specs.List.{list_any}
 use Rattle.std.specs.Option.{option_map, option_or}
-use Rattle.mpslp_model.specs.Declaration.{Draft, adding_all}
-use Rattle.mpslp_model.specs.Lists.{those_of}
+use Rattle.mpslp_builder.specs.Declaration.{Draft, adding_all}
+use Rattle.mpslp_core.specs.Lists.{those_of}
 use Rattle.mpslp_reading.proofs.LeastLemmas.{least-none}
 use Rattle.mpslp_types.specs.declared.faults.Fault.{Fault}
 use Rattle.mpslp_types.specs.declared.faults.FaultKind.{FaultKind}
@@ -22,7 +22,7 @@ use Rattle.mpslp_reading.specs.LineAnswer.{fault_on_line}
 use Rattle.mpslp_mps.specs.Reading.{placed_in, context_after, draft_after, fault_from, draft_from}
 use Rattle.mpslp_mps.specs.ReadingAnswer.{lines_to_end}
 use Rattle.mpslp_mps.specs.declared.sections.Section.TheVariants.{Columns, EndData}
-use Rattle.mpslp_model.proofs.RefusalLemmas.{left_none}
+use Rattle.mpslp_builder.proofs.RefusalLemmas.{left_none}
 use Rattle.mpslp_mps.proofs.SectionLemmas.{has-more}
 use Rattle.mpslp_mps.proofs.ObjectiveLemmas.{columns-name, end-after}
 use Rattle.mpslp_reading.proofs.ObjectiveLemmas.{named-after}

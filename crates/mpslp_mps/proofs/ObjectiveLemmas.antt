@@ -2,9 +2,9 @@
 use Rattle.std.proofs.Common.{◌≡◌, refl, sym, ap, ◌∙◌, List, [], ◌∷◌, ◌++◌, ℕ, Bool, true, false, cond, map}
 use Rattle.std.specs.Prelude.{Option, Some, None, is_some, is_none, ◌&&◌, ◌||◌, codes}
 use Rattle.std.specs.List.{list_any}
-use Rattle.mpslp_model.specs.Declaration.{declare_objective, Draft, adding_all}
-use Rattle.mpslp_model.specs.Lists.{those_of}
-use Rattle.mpslp_model.proofs.MadeDrafts.{adding_all-append}
+use Rattle.mpslp_builder.specs.Declaration.{declare_objective, Draft, adding_all}
+use Rattle.mpslp_core.specs.Lists.{those_of}
+use Rattle.mpslp_builder.proofs.MadeDrafts.{adding_all-append}
 use Rattle.mpslp_reading.proofs.ObjectiveLemmas.{named-after}
 use Rattle.mpslp_mps.specs.Line.{Fields, Item, skipped, header, data_line, item_of}
 use Rattle.mpslp_mps.specs.Section.{has, section_named, begins, is_section}

@@ -3,8 +3,8 @@ use Rattle.std.proofs.Common.{◌≡◌, refl, ap, ◌∙◌, ℕ, List, [], ◌
 use Rattle.std.specs.Prelude.{◌&&◌, not}
 use Rattle.std.specs.List.{flat_map, list_all}
 use Rattle.std.specs.Cmp.{first_so, second_so}
-use Rattle.mpslp_model.specs.Declaration.{Declarations, Draft, adding_all}
-use Rattle.mpslp_model.specs.Lists.{is_nonempty, those_of}
+use Rattle.mpslp_builder.specs.Declaration.{Declarations, Draft, adding_all}
+use Rattle.mpslp_core.specs.Lists.{is_nonempty, those_of}
 use Rattle.mpslp_types.specs.declared.faults.FaultKind.{FaultKind}
 use Rattle.mpslp_types.specs.declared.faults.FaultKind.TheVariants.{LineTooLong, BadByte}
 use Rattle.mpslp_types.proofs.BoolLemmas.{both_so}

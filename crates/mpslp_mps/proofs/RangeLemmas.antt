@@ -3,10 +3,10 @@ use Rattle.std.proofs.Common.{◌≡◌, refl, sym, ap, subst, ◌∙◌, ℕ, L
 use Rattle.std.specs.Prelude.{◌||◌, Option, Some, None, MatchResult}
 use Rattle.mpslp_decimal.specs.Decimal.{Number, is_infinite_size}
 use Rattle.mpslp_types.specs.Name.{same_bytes}
-use Rattle.mpslp_model.specs.Declaration.{declare_range, Draft, adding, has_name, has_row, is_objective, is_free_row, is_row_by_limits}
+use Rattle.mpslp_builder.specs.Declaration.{declare_range, Draft, adding, has_name, has_row, is_objective, is_free_row, is_row_by_limits}
 use Rattle.mpslp_types.specs.declared.faults.FaultKind.{FaultKind}
 use Rattle.mpslp_types.specs.declared.faults.FaultKind.TheVariants as kinds
-use Rattle.mpslp_model.proofs.SlotLemmas.{has-put, same_name}
+use Rattle.mpslp_builder.proofs.SlotLemmas.{has-put, same_name}
 use Rattle.mpslp_reading.specs.Declaring.{declared_fault}
 use Rattle.mpslp_reading.specs.LineAnswer.{LineResult, IsErrorOf}
 use Rattle.mpslp_reading.proofs.LeastLemmas.{earlier_of}

@@ -1,10 +1,10 @@
 -- The end of a text: what its builder answers is what the bytes have.
 use Rattle.std.proofs.Common.{◌≡◌, sym, subst, ℕ, List}
 use Rattle.std.specs.Prelude.{Result}
-use Rattle.mpslp_model.specs.Model.{LinearModel}
-use Rattle.mpslp_model.specs.Declaration.{Draft, draft_of}
-use Rattle.mpslp_model.specs.Meaning.{model_of, file_fault}
-use Rattle.mpslp_model.specs.Finish.{Finishes}
+use Rattle.mpslp_core.specs.Model.{LinearModel}
+use Rattle.mpslp_builder.specs.Declaration.{Draft, draft_of}
+use Rattle.mpslp_builder.specs.Meaning.{model_of, file_fault}
+use Rattle.mpslp_builder.specs.Finish.{Finishes}
 use Rattle.mpslp_types.specs.declared.faults.ReadFault.{ReadFault}
 use Rattle.mpslp_reading.proofs.AnswerLemmas.{finished-answers}
 use Rattle.mpslp_mps.specs.MpsText.{declarations_of, DeclaresMps}

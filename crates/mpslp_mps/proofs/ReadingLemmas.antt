@@ -3,9 +3,9 @@ use Rattle.std.proofs.Common.{◌≡◌, refl, ap, ◌∙◌, ℕ, ◌+◌, List
 use Rattle.std.specs.Prelude.{Option}
 use Rattle.std.specs.List.{flat_map}
 use Rattle.std.specs.Option.{option_map, option_or}
-use Rattle.mpslp_model.specs.Declaration.{Draft, empty_draft, adding_all, draft_of}
+use Rattle.mpslp_builder.specs.Declaration.{Draft, empty_draft, adding_all, draft_of}
 use Rattle.mpslp_types.specs.declared.faults.Fault.{Fault}
-use Rattle.mpslp_model.proofs.MadeDrafts.{adding_all-append}
+use Rattle.mpslp_builder.proofs.MadeDrafts.{adding_all-append}
 use Rattle.mpslp_mps.specs.Line.{Item, item_of}
 use Rattle.mpslp_mps.specs.Context.{Context, context_of}
 use Rattle.mpslp_mps.specs.LineMeaning.{declared}

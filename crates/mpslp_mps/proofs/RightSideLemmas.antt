@@ -5,11 +5,11 @@ use Rattle.std.specs.Option.{option_map_or}
 use Rattle.std.specs.Cmp.{second_so}
 use Rattle.mpslp_decimal.specs.Decimal.{Number}
 use Rattle.mpslp_types.specs.Name.{same_bytes}
-use Rattle.mpslp_model.specs.Declaration.{RowForm, by_type, by_limits, declare_rhs, Draft, adding, adding_all, at_name, has_name, has_row, is_objective, is_free_form, is_free_row, is_limits_form, is_row_by_limits, rhs_declared}
+use Rattle.mpslp_builder.specs.Declaration.{RowForm, by_type, by_limits, declare_rhs, Draft, adding, adding_all, at_name, has_name, has_row, is_objective, is_free_form, is_free_row, is_limits_form, is_row_by_limits, rhs_declared}
 use Rattle.mpslp_types.specs.declared.faults.FaultKind.{FaultKind}
 use Rattle.mpslp_types.specs.declared.faults.FaultKind.TheVariants as kinds
 use Rattle.mpslp_types.proofs.BoolLemmas.{or_right}
-use Rattle.mpslp_model.proofs.SlotLemmas.{has-put, same_name}
+use Rattle.mpslp_builder.proofs.SlotLemmas.{has-put, same_name}
 use Rattle.mpslp_reading.specs.Declaring.{declared_fault}
 use Rattle.mpslp_reading.specs.LineAnswer.{LineResult, IsErrorOf}
 use Rattle.mpslp_mps.specs.VectorDeclared.{HasMpsSides}

@@ -3,8 +3,8 @@ use Rattle.std.proofs.Common.{◌≡◌, sym, ap, ◌∙◌, ℕ, List, [], Bool
 use Rattle.std.specs.Prelude.{Option, Some, None, is_some}
 use Rattle.std.specs.Option.{option_or}
 use Rattle.std.specs.Str.Lines.{lines}
-use Rattle.mpslp_model.specs.Declaration.{Draft, empty_draft, draft_of}
-use Rattle.mpslp_model.specs.Meaning.{whole_fault, file_fault}
+use Rattle.mpslp_builder.specs.Declaration.{Draft, empty_draft, draft_of}
+use Rattle.mpslp_builder.specs.Meaning.{whole_fault, file_fault}
 use Rattle.mpslp_types.specs.declared.faults.Fault.{Fault}
 use Rattle.mpslp_types.specs.declared.faults.FaultKind.TheVariants.{MissingEnd}
 use Rattle.mpslp_types.specs.declared.faults.ReadFault.{ReadFault}

@@ -3,12 +3,12 @@ use Rattle.std.proofs.Common.{◌≡◌, refl}
 use Rattle.std.specs.Prelude.{ℕ, Some, None, List, ◌∷◌, [], ◌++◌, map, take, drop, true, ◌==◌, if◌then◌else◌, codes}
 use Rattle.std.specs.List.{list_all, flat_map}
 use Rattle.mpslp_decimal.specs.Decimal.{trailing_zeros}
-use Rattle.mpslp_model.specs.Declaration.{Draft, empty_draft, draft_of}
-use Rattle.mpslp_model.specs.Consistency.{has_objective}
-use Rattle.mpslp_model.specs.Refusal.{refusals_in_turn}
-use Rattle.mpslp_model.specs.Made.{is_legal}
-use Rattle.mpslp_model.specs.Meaning.{model_of, file_fault}
-use Rattle.mpslp_model.proofs.Acceptance.{means-from_none}
+use Rattle.mpslp_builder.specs.Declaration.{Draft, empty_draft, draft_of}
+use Rattle.mpslp_builder.specs.Consistency.{has_objective}
+use Rattle.mpslp_builder.specs.Refusal.{refusals_in_turn}
+use Rattle.mpslp_builder.specs.Made.{is_legal}
+use Rattle.mpslp_builder.specs.Meaning.{model_of, file_fault}
+use Rattle.mpslp_builder.proofs.Acceptance.{means-from_none}
 use Rattle.mpslp_mps.specs.MpsText.{is_mps_text, declarations_of, DeclaresMps}
 
 -- lines, each ended by a line feed

@@ -1,8 +1,8 @@
 -- What a line of COLUMNS declares of its column, and of each of its rows and values.
 use Rattle.std.specs.Prelude.{ℕ, Bool, false, ◌||◌, List, [], ◌∷◌}
 use Rattle.mpslp_decimal.specs.Decimal.{Number}
-use Rattle.mpslp_model.specs.Declaration.{declare_column, declare_marked, declare_coefficient, Declarations, Draft, adding_all, has_entry}
-use Rattle.mpslp_model.specs.Lists.{when}
+use Rattle.mpslp_builder.specs.Declaration.{declare_column, declare_marked, declare_coefficient, Declarations, Draft, adding_all, has_entry}
+use Rattle.mpslp_core.specs.Lists.{when}
 
 abbrev pub front_declared : Bool → List ℕ → Declarations
 front_declared marked column = declare_column column ∷ when marked (declare_marked column)

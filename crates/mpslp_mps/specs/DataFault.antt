@@ -2,7 +2,7 @@
 use Rattle.std.specs.Prelude.{ℕ, Bool, true, false, ◌&&◌, not, List, [], ◌∷◌, ◌++◌, Option, Some, None, is_some, is_none, if◌then◌else◌, codes}
 use Rattle.std.specs.Option.{option_map_or}
 use Rattle.mpslp_types.specs.Name.{same_bytes, is_one_of}
-use Rattle.mpslp_model.specs.Declaration.{Draft, has_column}
+use Rattle.mpslp_builder.specs.Declaration.{Draft, has_column}
 use Rattle.mpslp_types.specs.declared.faults.FaultKind.TheVariants as kinds
 use Rattle.mpslp_mps.specs.Line.{Fields}
 use Rattle.mpslp_mps.specs.DataLine.{RowLine, ValuesLine, word_shape, row_shape, row_type, column_shape, is_marker_line, third_field, marker_shape, opening_word, closing_word, vector_shape}

@@ -1,8 +1,8 @@
 -- The first fault of MPS text.
 use Rattle.std.specs.Prelude.{◌≡◌, ℕ, ◌+◌, List, [], ◌∷◌, Option, Some, None, if◌then◌else◌}
 use Rattle.std.specs.Option.{option_map, option_or}
-use Rattle.mpslp_model.specs.Declaration.{draft_of}
-use Rattle.mpslp_model.specs.Meaning.{whole_fault, file_fault}
+use Rattle.mpslp_builder.specs.Declaration.{draft_of}
+use Rattle.mpslp_builder.specs.Meaning.{whole_fault, file_fault}
 use Rattle.mpslp_types.specs.declared.faults.Fault.{Fault}
 use Rattle.mpslp_types.specs.declared.faults.FaultKind.{FaultKind}
 use Rattle.mpslp_types.specs.declared.faults.FaultKind.TheVariants.{MissingEnd}

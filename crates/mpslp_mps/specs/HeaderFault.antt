@@ -1,8 +1,8 @@
 -- The faults of a header, after the lines before it.
 use Rattle.std.specs.Prelude.{ℕ, Bool, true, ◌||◌, ◌&&◌, not, List, [], ◌∷◌, Option, Some, None, is_some, is_none, if◌then◌else◌, codes}
 use Rattle.mpslp_types.specs.Name.{is_one_of}
-use Rattle.mpslp_model.specs.Declaration.{Draft}
-use Rattle.mpslp_model.specs.Lists.{is_nonempty}
+use Rattle.mpslp_builder.specs.Declaration.{Draft}
+use Rattle.mpslp_core.specs.Lists.{is_nonempty}
 use Rattle.mpslp_types.specs.declared.faults.FaultKind.{FaultKind}
 use Rattle.mpslp_types.specs.declared.faults.FaultKind.TheVariants as kinds
 use Rattle.mpslp_mps.specs.Line.{Fields}

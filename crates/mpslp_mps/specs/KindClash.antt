@@ -1,7 +1,7 @@
 -- Lines that would make a column both integer and semi-continuous.
 use Rattle.std.specs.Prelude.{ℕ, Bool, false, ◌&&◌, ◌||◌, List, [], ◌∷◌}
 use Rattle.std.specs.Option.{option_map_or}
-use Rattle.mpslp_model.specs.Declaration.{Draft, is_integer, is_semi}
+use Rattle.mpslp_builder.specs.Declaration.{Draft, is_integer, is_semi}
 use Rattle.mpslp_mps.specs.Line.{Fields}
 use Rattle.mpslp_mps.specs.DataLine.{column_shape}
 use Rattle.mpslp_mps.specs.BoundLine.{bound_type, bound_shape}

@@ -1,6 +1,6 @@
 -- What the code answers of what is read of a line.
 use Rattle.std.specs.Prelude.{◌≡◌, Option, None, MatchResult}
-use Rattle.mpslp_model.specs.Declaration.{Draft, adding_all}
+use Rattle.mpslp_builder.specs.Declaration.{Draft, adding_all}
 use Rattle.mpslp_types.specs.declared.faults.FaultKind.{FaultKind}
 use Rattle.mpslp_reading.specs.Declaring.{first_fault}
 use Rattle.mpslp_reading.specs.LineAnswer.{IsErrorOf, LineResult}

@@ -1,6 +1,6 @@
 -- The faults of the form of a line of MPS text, after the lines before it, as tests in the order of their kinds.
 use Rattle.std.specs.Prelude.{ℕ, List, [], ◌++◌}
-use Rattle.mpslp_model.specs.Declaration.{Draft}
+use Rattle.mpslp_builder.specs.Declaration.{Draft}
 use Rattle.mpslp_reading.specs.Tests.{Tests}
 use Rattle.mpslp_reading.specs.LegalLine.{legal_tests}
 use Rattle.mpslp_mps.specs.Line.{Item, skipped, header, data_line, outside_comment, item_of}

@@ -2,10 +2,10 @@
 use Rattle.std.specs.Prelude.{ℕ, suc, Bool, ◌&&◌, not, IsTrue, List, [], ◌∷◌, ◌++◌, take}
 use Rattle.std.specs.List.{list_any, list_all, flat_map, position_or_len}
 use Rattle.std.specs.Str.Lines.{lines}
-use Rattle.mpslp_model.specs.Model.{LinearModel}
-use Rattle.mpslp_model.specs.Declaration.{Declarations, Draft, empty_draft, adding_all}
-use Rattle.mpslp_model.specs.Meaning.{Means}
-use Rattle.mpslp_model.specs.Lists.{is_nonempty, those_of}
+use Rattle.mpslp_core.specs.Model.{LinearModel}
+use Rattle.mpslp_builder.specs.Declaration.{Declarations, Draft, empty_draft, adding_all}
+use Rattle.mpslp_builder.specs.Meaning.{Means}
+use Rattle.mpslp_core.specs.Lists.{is_nonempty, those_of}
 use Rattle.mpslp_reading.specs.Tests.{Tests}
 use Rattle.mpslp_mps.specs.Line.{Item, item_of}
 use Rattle.mpslp_mps.specs.Section.{begins}

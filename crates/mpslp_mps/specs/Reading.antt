@@ -1,7 +1,7 @@
 -- Lines read one after another from a context and a draft, in place of all the lines before them.
 use Rattle.std.specs.Prelude.{ℕ, ◌+◌, List, [], ◌∷◌, Option, None}
 use Rattle.std.specs.Option.{option_map, option_or}
-use Rattle.mpslp_model.specs.Declaration.{Draft, adding_all}
+use Rattle.mpslp_builder.specs.Declaration.{Draft, adding_all}
 use Rattle.mpslp_types.specs.declared.faults.Fault.{Fault}
 use Rattle.mpslp_mps.specs.Line.{item_of}
 use Rattle.mpslp_mps.specs.Context.{Context}

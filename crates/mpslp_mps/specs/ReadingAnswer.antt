@@ -1,9 +1,9 @@
 -- What the code answers of a line of bytes, and of all lines.
 use Rattle.std.specs.Prelude.{◌≡◌, ℕ, suc, Bool, true, List, take, None, is_some, Result, MatchResult}
 use Rattle.std.specs.List.{list_any, position_or_len}
-use Rattle.mpslp_model.specs.Model.{LinearModel}
-use Rattle.mpslp_model.specs.Declaration.{Draft, draft_of}
-use Rattle.mpslp_model.specs.Meaning.{file_fault}
+use Rattle.mpslp_core.specs.Model.{LinearModel}
+use Rattle.mpslp_builder.specs.Declaration.{Draft, draft_of}
+use Rattle.mpslp_builder.specs.Meaning.{file_fault}
 use Rattle.mpslp_types.specs.declared.faults.ReadFault.{ReadFault}
 use Rattle.mpslp_model.specs.Formats.{IsAnswerTo}
 use Rattle.mpslp_mps.specs.Context.{Context}

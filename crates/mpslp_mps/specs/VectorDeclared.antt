@@ -2,7 +2,7 @@
 use Rattle.std.specs.Prelude.{◌≡◌, ℕ, true, false, List, map, None}
 use Rattle.std.specs.List.{flat_map}
 use Rattle.mpslp_decimal.specs.Decimal.{Number}
-use Rattle.mpslp_model.specs.Declaration.{declare_range, Declarations, Draft, has_name, has_row, is_free_row, rhs_declared}
+use Rattle.mpslp_builder.specs.Declaration.{declare_range, Declarations, Draft, has_name, has_row, is_free_row, rhs_declared}
 
 -- the right sides of rows with values, and their ranges
 abbrev pub right_sides_of : Draft → List (List ℕ × Number) → Declarations

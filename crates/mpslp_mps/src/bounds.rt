@@ -3,8 +3,8 @@
 ghost use Rattle.std.specs.Prelude.{◌≡◌, [], ◌∷◌, ◌||◌, true, false, map, IsTrue, Some, None, is_some, MatchResult};
 ghost use Rattle.std.specs.Option.{ForSome, option_map_or};
 ghost use Rattle.mpslp_types.specs.Sides.{limit_of, is_given};
-ghost use Rattle.mpslp_model.specs.Bounds.{zero_limit, one_limit};
-ghost use Rattle.mpslp_model.specs.Declaration.{declare_integer, declare_semi, is_integer, is_semi, bounds_declared};
+ghost use Rattle.mpslp_builder.specs.Bounds.{zero_limit, one_limit};
+ghost use Rattle.mpslp_builder.specs.Declaration.{declare_integer, declare_semi, is_integer, is_semi, bounds_declared};
 ghost use Rattle.mpslp_mps.specs.Line.{data_line};
 ghost use Rattle.mpslp_mps.specs.LineMeaning.{lower_given, upper_given, is_integer_type, is_semi_type, kind_declared, bound_declared};
 ghost use Rattle.mpslp_mps.specs.KindClash.{type_clash};

@@ -3,8 +3,8 @@
 ghost use Rattle.std.specs.Prelude.{◌≡◌, ◌&&◌, [], ◌∷◌, map, not, true, false, Some, None, MatchResult};
 ghost use Rattle.std.specs.List.{list_all, flat_map};
 ghost use Rattle.mpslp_types.specs.Name.{IsMpsName};
-ghost use Rattle.mpslp_model.specs.Declaration.{Draft, adding, adding_all, declare_column, declare_marked, has_row, has_column, is_semi};
-ghost use Rattle.mpslp_model.specs.Lists.{when};
+ghost use Rattle.mpslp_builder.specs.Declaration.{Draft, adding, adding_all, declare_column, declare_marked, has_row, has_column, is_semi};
+ghost use Rattle.mpslp_core.specs.Lists.{when};
 ghost use Rattle.mpslp_types.specs.declared.faults.FaultKind.{FaultKind};
 ghost use Rattle.mpslp_reading.specs.declared.errors.LineError.{LineError};
 ghost use Rattle.mpslp_mps.specs.declared.sections.Section.{Section};

@@ -3,7 +3,7 @@
 ghost use Rattle.std.specs.Prelude.{◌≡◌, [], ◌∷◌, ◌++◌, map, not, Some, None, is_some, MatchResult};
 ghost use Rattle.std.specs.Option.{option_map, option_map_or};
 ghost use Rattle.mpslp_types.specs.Name.{same_bytes};
-ghost use Rattle.mpslp_model.specs.Declaration.{Draft, declare_sense};
+ghost use Rattle.mpslp_builder.specs.Declaration.{Draft, declare_sense};
 ghost use Rattle.mpslp_mps.specs.DataLine.{word_shape, row_shape, column_shape, marker_shape, opening_word, vector_shape};
 ghost use Rattle.mpslp_mps.specs.BoundLine.{bound_type, bound_shape};
 ghost use Rattle.mpslp_mps.specs.Context.{Context};

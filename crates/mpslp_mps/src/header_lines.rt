@@ -2,7 +2,7 @@
 
 ghost use Rattle.std.specs.Prelude.{◌≡◌, [], ◌∷◌, map, Some};
 ghost use Rattle.std.specs.Option.{option_map_or};
-ghost use Rattle.mpslp_model.specs.Declaration.{declare_sense};
+ghost use Rattle.mpslp_builder.specs.Declaration.{declare_sense};
 ghost use Rattle.mpslp_mps.specs.Line.{header};
 ghost use Rattle.mpslp_mps.specs.DataLine.{word_shape};
 ghost use Rattle.mpslp_mps.specs.LineMeaning.{declared_of, sense_declared, default_objective, header_declared};

@@ -1,7 +1,7 @@
 //! Lines, read one by one: each is checked, and what it declares is declared to the builder.
 
 ghost use Rattle.std.specs.Prelude.{◌≡◌, Some, map};
-ghost use Rattle.mpslp_model.specs.Declaration.{Draft};
+ghost use Rattle.mpslp_builder.specs.Declaration.{Draft};
 ghost use Rattle.mpslp_mps.specs.declared.sections.Section.{Section};
 ghost use Rattle.mpslp_mps.specs.Line.{data_line, header_of, item_of};
 ghost use Rattle.mpslp_mps.specs.LineMeaning.{is_new_objective, row_of_type};

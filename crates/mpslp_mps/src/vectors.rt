@@ -1,7 +1,7 @@
 //! Lines of RHS and RANGES.
 
 ghost use Rattle.std.specs.Prelude.{◌≡◌, [], ◌∷◌, ◌++◌, ◌+◌, ◌&&◌, false, true, not, map, Some, None, IfErr, MatchResult};
-ghost use Rattle.mpslp_model.specs.Declaration.{has_row, is_free_row, rhs_declared, declare_range};
+ghost use Rattle.mpslp_builder.specs.Declaration.{has_row, is_free_row, rhs_declared, declare_range};
 ghost use Rattle.mpslp_types.specs.Name.{same_bytes};
 ghost use Rattle.mpslp_types.specs.FaultOrder.{least_kind};
 ghost use Rattle.mpslp_reading.specs.Declaring.{declaring_faults, declared_fault};

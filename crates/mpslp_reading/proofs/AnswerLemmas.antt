@@ -2,10 +2,10 @@
 -- fault, and bytes that have none declare one.
 use Rattle.std.proofs.Common.{◌≡◌, refl, sym, subst, ◌∙◌, ℕ, List}
 use Rattle.std.specs.Prelude.{Option, Some, None, Result, Ok, Err, IsErrAnd, MatchResult}
-use Rattle.mpslp_model.specs.Model.{LinearModel}
-use Rattle.mpslp_model.specs.Declaration.{Draft}
-use Rattle.mpslp_model.specs.Meaning.{model_of, file_fault}
-use Rattle.mpslp_model.specs.Finish.{Finishes}
+use Rattle.mpslp_core.specs.Model.{LinearModel}
+use Rattle.mpslp_builder.specs.Declaration.{Draft}
+use Rattle.mpslp_builder.specs.Meaning.{model_of, file_fault}
+use Rattle.mpslp_builder.specs.Finish.{Finishes}
 use Rattle.mpslp_model.specs.Formats.{IsAnswerTo}
 use Rattle.mpslp_types.specs.declared.faults.Fault.{Fault}
 use Rattle.mpslp_types.specs.declared.faults.FaultKind.{FaultKind}

@@ -5,13 +5,13 @@ use Rattle.std.specs.Prelude.{◌||◌}
 use Rattle.std.specs.List.{list_any, list_all}
 use Rattle.std.specs.Cmp.{first_so, second_so}
 use Rattle.std.proofs.lemmas.List.Folds.{list_any-append}
-use Rattle.mpslp_model.specs.Declaration.{Declaration, declare_sense, declare_objective, declare_constant, declare_row, declare_rhs, declare_range, declare_column, declare_coefficient, declare_lower, declare_upper, declare_marked, declare_integer, declare_binary, declare_semi, Declarations, Draft, adding, adding_all}
-use Rattle.mpslp_model.specs.Lists.{those_of}
-use Rattle.mpslp_model.specs.Refusal.{refusals, refusal_tests, refusals_in_turn}
+use Rattle.mpslp_builder.specs.Declaration.{Declaration, declare_sense, declare_objective, declare_constant, declare_row, declare_rhs, declare_range, declare_column, declare_coefficient, declare_lower, declare_upper, declare_marked, declare_integer, declare_binary, declare_semi, Declarations, Draft, adding, adding_all}
+use Rattle.mpslp_core.specs.Lists.{those_of}
+use Rattle.mpslp_builder.specs.Refusal.{refusals, refusal_tests, refusals_in_turn}
 use Rattle.mpslp_types.specs.declared.faults.BuildFault.{BuildFault}
 use Rattle.mpslp_reading.specs.Declaring.{is_kind_clash}
 use Rattle.mpslp_types.proofs.BoolLemmas.{both_false, nor}
-use Rattle.mpslp_model.proofs.MadeDrafts.{refusals_in_turn-append}
+use Rattle.mpslp_builder.proofs.MadeDrafts.{refusals_in_turn-append}
 
 abbrev pub has_kind_clash : Draft → Declarations → Bool
 has_kind_clash earlier ds = list_any is_kind_clash (refusals_in_turn earlier ds)

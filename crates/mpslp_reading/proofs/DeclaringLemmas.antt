@@ -2,8 +2,8 @@
 use Rattle.std.proofs.Common.{◌≡◌, refl, ap, ◌∙◌, List, [], ◌∷◌, ◌++◌, Bool, true, false, cond, map}
 use Rattle.std.specs.Prelude.{nat_lt, Option, Some, None}
 use Rattle.std.specs.Option.{option_map_or}
-use Rattle.mpslp_model.specs.Declaration.{Declarations, Draft, adding_all}
-use Rattle.mpslp_model.specs.Refusal.{refusals_in_turn}
+use Rattle.mpslp_builder.specs.Declaration.{Declarations, Draft, adding_all}
+use Rattle.mpslp_builder.specs.Refusal.{refusals_in_turn}
 use Rattle.mpslp_types.specs.FaultOrder.{kind_rank}
 use Rattle.mpslp_types.specs.declared.faults.BuildFault.{BuildFault}
 use Rattle.mpslp_types.specs.declared.faults.FaultKind.{FaultKind}

@@ -7,10 +7,10 @@ use Rattle.std.specs.Option.{option_map_or}
 use Rattle.std.specs.Cmp.{first_so, second_so}
 use Rattle.std.proofs.lemmas.Bool.Decides.{nat_tests}
 use Rattle.mpslp_types.proofs.BoolLemmas.{both_so, nor}
-use Rattle.mpslp_model.proofs.RefusalLemmas.{left_none, right_none}
-use Rattle.mpslp_model.specs.Declaration.{Declarations, Draft}
-use Rattle.mpslp_model.specs.Lists.{those_of}
-use Rattle.mpslp_model.specs.Refusal.{refusals_in_turn}
+use Rattle.mpslp_builder.proofs.RefusalLemmas.{left_none, right_none}
+use Rattle.mpslp_builder.specs.Declaration.{Declarations, Draft}
+use Rattle.mpslp_core.specs.Lists.{those_of}
+use Rattle.mpslp_builder.specs.Refusal.{refusals_in_turn}
 use Rattle.mpslp_types.specs.FaultOrder.{kind_rank, least_kind}
 use Rattle.mpslp_types.specs.declared.faults.BuildFault.{BuildFault}
 use Rattle.mpslp_types.specs.declared.faults.BuildFault.TheVariants as builds

@@ -1,8 +1,8 @@
 -- The name of the objective in the draft of some declarations.
 use Rattle.std.proofs.Common.{◌≡◌, refl, ap, [], ◌∷◌, Bool, true, false}
 use Rattle.std.specs.Prelude.{◌||◌, is_some}
-use Rattle.mpslp_model.specs.Declaration.{Declaration, declare_sense, declare_objective, declare_constant, declare_row, declare_rhs, declare_range, declare_column, declare_coefficient, declare_lower, declare_upper, declare_marked, declare_integer, declare_binary, declare_semi, Declarations, Draft, adding, adding_all}
-use Rattle.mpslp_model.specs.Consistency.{has_objective}
+use Rattle.mpslp_builder.specs.Declaration.{Declaration, declare_sense, declare_objective, declare_constant, declare_row, declare_rhs, declare_range, declare_column, declare_coefficient, declare_lower, declare_upper, declare_marked, declare_integer, declare_binary, declare_semi, Declarations, Draft, adding, adding_all}
+use Rattle.mpslp_builder.specs.Consistency.{has_objective}
 use Rattle.mpslp_types.proofs.BoolLemmas.{or_right}
 
 -- a name that is there stays

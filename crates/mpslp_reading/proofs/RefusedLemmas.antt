@@ -2,15 +2,15 @@
 use Rattle.std.proofs.Common.{◌≡◌, refl, sym, ap, subst, ◌∙◌, List, [], ◌∷◌, ◌++◌, Bool, true, false, cond, map}
 use Rattle.std.specs.Prelude.{Option, Some, None, Ok, Err}
 use Rattle.std.proofs.lemmas.List.{append-nil, map-append}
-use Rattle.mpslp_model.specs.Answer.{Answers, first_refusal}
-use Rattle.mpslp_model.specs.Declaration.{Declaration, Declarations, Draft, adding_all}
-use Rattle.mpslp_model.specs.Lists.{those_of}
-use Rattle.mpslp_model.specs.Refusal.{refusals, refusal_tests, refusals_in_turn}
+use Rattle.mpslp_builder.specs.Answer.{Answers, first_refusal}
+use Rattle.mpslp_builder.specs.Declaration.{Declaration, Declarations, Draft, adding_all}
+use Rattle.mpslp_core.specs.Lists.{those_of}
+use Rattle.mpslp_builder.specs.Refusal.{refusals, refusal_tests, refusals_in_turn}
 use Rattle.mpslp_types.specs.FaultOrder.{least_kind}
 use Rattle.mpslp_types.specs.declared.faults.BuildFault.{BuildFault}
 use Rattle.mpslp_types.specs.declared.faults.BuildFault.TheVariants as builds
 use Rattle.mpslp_types.specs.declared.faults.FaultKind.{FaultKind}
-use Rattle.mpslp_model.proofs.MadeDrafts.{refusals_in_turn-append}
+use Rattle.mpslp_builder.proofs.MadeDrafts.{refusals_in_turn-append}
 use Rattle.mpslp_reading.specs.Tests.{Tests, first_held}
 use Rattle.mpslp_reading.specs.Declaring.{kind_of_refusal, declared_fault}
 use Rattle.mpslp_reading.specs.ErrorOf.{error_of_build}

@@ -2,7 +2,7 @@
 use Rattle.std.proofs.Common.{◌≡◌, sym, subst, ◌∙◌}
 use Rattle.std.specs.Prelude.{Option, Some, None, Ok, Err, IsErrAnd}
 use Rattle.mpslp_types.specs.declared.faults.FaultKind.{FaultKind}
-use Rattle.mpslp_model.specs.Declaration.{Declarations, Draft}
+use Rattle.mpslp_builder.specs.Declaration.{Declarations, Draft}
 use Rattle.mpslp_reading.specs.Declaring.{declared_fault}
 use Rattle.mpslp_reading.specs.LineAnswer.{LineResult, IsErrorOf, AreDeclared, IfFault}
 use Rattle.mpslp_reading.specs.declared.errors.LineError.{LineError}

@@ -1,8 +1,8 @@
 -- The faults of what a line declares, and the first fault of a line.
 use Rattle.std.specs.Prelude.{Bool, true, false, List, ◌++◌, map, Option}
-use Rattle.mpslp_model.specs.Declaration.{Declarations, Draft}
-use Rattle.mpslp_model.specs.Lists.{those_of}
-use Rattle.mpslp_model.specs.Refusal.{refusals_in_turn}
+use Rattle.mpslp_builder.specs.Declaration.{Declarations, Draft}
+use Rattle.mpslp_core.specs.Lists.{those_of}
+use Rattle.mpslp_builder.specs.Refusal.{refusals_in_turn}
 use Rattle.mpslp_types.specs.FaultOrder.{least_kind}
 use Rattle.mpslp_types.specs.declared.faults.BuildFault.{BuildFault}
 use Rattle.mpslp_types.specs.declared.faults.BuildFault.TheVariants as builds

@@ -1,6 +1,6 @@
 -- What the code answers of a line and of its declarations, and how the fault of a line is told.
 use Rattle.std.specs.Prelude.{◌≡◌, ℕ, ◌-◌, ◌^◌, min, Option, Some, None, Result, Err, MatchResult}
-use Rattle.mpslp_model.specs.Declaration.{Declarations, Draft, adding_all}
+use Rattle.mpslp_builder.specs.Declaration.{Declarations, Draft, adding_all}
 use Rattle.mpslp_types.specs.declared.faults.Fault.{Fault}
 use Rattle.mpslp_types.specs.declared.faults.FaultKind.{FaultKind}
 use Rattle.mpslp_types.specs.declared.faults.ReadFault.{ReadFault}

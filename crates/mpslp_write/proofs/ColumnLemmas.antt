@@ -9,15 +9,15 @@ use Rattle.std.proofs.lemmas.List.Quantifiers.{position-Some}
 use Rattle.std.proofs.lemmas.Option.{slice_get-map, slice_get-get_or, get_or_from_slice_get}
 use Rattle.mpslp_decimal.specs.Decimal.{Number, is_decimal, is_zero, zero_number}
 use Rattle.mpslp_types.specs.Name.{same_bytes}
-use Rattle.mpslp_model.specs.Model.{LinearModel, CoefficientKey, Column, key_cmp, IsSound}
-use Rattle.mpslp_model.specs.Views.{coefficient_at, column_elements}
-use Rattle.mpslp_model.specs.Views as views
+use Rattle.mpslp_core.specs.Model.{LinearModel, CoefficientKey, Column, key_cmp, IsSound}
+use Rattle.mpslp_core.specs.Views.{coefficient_at, column_elements}
+use Rattle.mpslp_core.specs.Views as views
 use Rattle.mpslp_types.specs.declared.kinds.Kind.{Kind}
 use Rattle.mpslp_types.specs.declared.kinds.Limit.{Limit}
 use Rattle.mpslp_types.proofs.BoolLemmas.{not_so}
-use Rattle.mpslp_model.proofs.DraftEntries.{same_key}
-use Rattle.mpslp_model.proofs.SlotLemmas.{same_name}
-use Rattle.mpslp_model.proofs.SortedDrafts.{key_total}
+use Rattle.mpslp_builder.proofs.DraftEntries.{same_key}
+use Rattle.mpslp_builder.proofs.SlotLemmas.{same_name}
+use Rattle.mpslp_builder.proofs.SortedDrafts.{key_total}
 use Rattle.mpslp_canonical.specs.Listing.{listing_of}
 use Rattle.mpslp_canonical.specs.CanonicalMps.{Lines, bound_line, column_bound_lines, cell_line, column_cells, printed_cells, is_integer_column}
 use Rattle.mpslp_write.specs.LinesAt.{lines_at, is_wanted, of_part, element_lines, objective_line_at, objective_lines}

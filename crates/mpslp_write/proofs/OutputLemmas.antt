@@ -1,7 +1,7 @@
 -- How what was put grows piece by piece, and by what is handed to the sink.
 use Rattle.std.proofs.Common.{◌≡◌, refl, sym, ap, subst, ◌∙◌, ℕ, ◌+◌, ◌-◌, ◌^◌, ◌<◌, ◌≤◌, min, Bool, true, false, inl, inr, List, [], ◌∷◌, ◌++◌, length, take, append_assoc, append-nil, arith}
 use Rattle.std.specs.Prelude.{Result, Ok, Err, None, IsOk}
-use Rattle.mpslp_model.specs.Model.{LinearModel}
+use Rattle.mpslp_core.specs.Model.{LinearModel}
 use Rattle.mpslp_types.specs.declared.faults.WriteFault.{WriteFault}
 use Rattle.mpslp_types.specs.declared.faults.WriteFault.TheVariants.{Write, NotLp}
 use Rattle.std.proofs.Math.Seq.{take-append-add}

@@ -8,9 +8,9 @@ use Rattle.mpslp_write.proofs.DifferenceLemmas.{difference-zero}
 use Rattle.std.specs.Cmp.{first_so, second_so}
 use Rattle.std.specs.FinMap.{entries}
 use Rattle.mpslp_types.specs.Name.{is_mps_name}
-use Rattle.mpslp_model.specs.Model.{LinearModel, Row, IsSound, is_sound_row}
+use Rattle.mpslp_core.specs.Model.{LinearModel, Row, IsSound, is_sound_row}
 use Rattle.mpslp_types.specs.Sides.{are_sides, is_bounded_decimal, has_bounded_distance}
-use Rattle.mpslp_model.specs.Views.{row_sense, row_range, right_hand_side}
+use Rattle.mpslp_core.specs.Views.{row_sense, row_range, right_hand_side}
 use Rattle.mpslp_types.specs.declared.kinds.Limit.{Limit}
 use Rattle.mpslp_types.specs.declared.kinds.Limit.TheVariants.{MinusInf, Finite, PlusInf}
 use Rattle.mpslp_types.specs.declared.kinds.RowType.TheVariants.{AtLeast, Equal}

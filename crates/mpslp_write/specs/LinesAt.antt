@@ -2,8 +2,8 @@
 use Rattle.std.specs.Prelude.{ℕ, Bool, true, false, not, List, [], ◌∷◌, slice_get, Option, Some, None, ◌==◌, if◌then◌else◌}
 use Rattle.std.specs.Option.{option_map_or}
 use Rattle.mpslp_decimal.specs.Decimal.{Number, is_zero}
-use Rattle.mpslp_model.specs.Model.{LinearModel, CoefficientKey, Column}
-use Rattle.mpslp_model.specs.Views.{coefficient_at, column_elements}
+use Rattle.mpslp_core.specs.Model.{LinearModel, CoefficientKey, Column}
+use Rattle.mpslp_core.specs.Views.{coefficient_at, column_elements}
 use Rattle.mpslp_types.specs.declared.kinds.Kind.{Kind}
 use Rattle.mpslp_types.specs.declared.kinds.Limit.{Limit}
 use Rattle.mpslp_types.specs.declared.kinds.Limit.TheVariants.{MinusInf, Finite, PlusInf}

@@ -3,7 +3,7 @@
 ghost use Rattle.std.specs.Prelude.{◌≡◌, ◌<◌, [], ◌∷◌, ◌++◌, Some, None, map, if◌then◌else◌};
 ghost use Rattle.std.specs.List.{flat_map};
 ghost use Rattle.std.specs.FinMap.{entries};
-ghost use Rattle.mpslp_model.specs.Views.{num_columns};
+ghost use Rattle.mpslp_core.specs.Views.{num_columns};
 ghost use Rattle.mpslp_canonical.specs.PrintedValues.{have_same_value, is_fixed, printed_lower, printed_upper, printed_bounds};
 ghost use Rattle.mpslp_canonical.specs.CanonicalMps.{bound_line, column_bound_lines, bounds_section};
 ghost use Rattle.mpslp_canonical.specs.Listing.{listing_of};

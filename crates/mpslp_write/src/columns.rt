@@ -3,7 +3,7 @@
 ghost use Rattle.std.specs.Prelude.{◌≡◌, ◌<◌, [], ◌∷◌, length};
 ghost use Rattle.std.specs.List.{flat_map};
 ghost use Rattle.std.specs.FinMap.{entries};
-ghost use Rattle.mpslp_model.specs.Views.{num_columns, column_name, column_elements};
+ghost use Rattle.mpslp_core.specs.Views.{num_columns, column_name, column_elements};
 ghost use Rattle.mpslp_canonical.specs.CanonicalMps.{column_lines, columns_section, integer_part};
 ghost use Rattle.mpslp_canonical.specs.Listing.{listing_of};
 ghost use Rattle.mpslp_write.specs.LinesAt.{lines_at, is_wanted, of_part, element_lines, objective_lines};

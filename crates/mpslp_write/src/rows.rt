@@ -4,7 +4,7 @@ ghost use Rattle.std.specs.Prelude.{◌≡◌, ◌<◌, [], ◌∷◌, Some, sli
 ghost use Rattle.std.specs.List.{flat_map};
 ghost use Rattle.std.specs.Option.{option_map};
 ghost use Rattle.std.specs.FinMap.{entries};
-ghost use Rattle.mpslp_model.specs.Views.{num_rows, rows_of};
+ghost use Rattle.mpslp_core.specs.Views.{num_rows, rows_of};
 ghost use Rattle.mpslp_canonical.specs.PrintedValues.{printed_side};
 ghost use Rattle.mpslp_canonical.specs.CanonicalMps.{row_line, side_lines, row_side_lines, range_lines, rows_section, right_sides_section, ranges_section};
 ghost use Rattle.mpslp_canonical.specs.Listing.{listing_of};

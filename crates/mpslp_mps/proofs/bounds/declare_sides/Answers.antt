@@ -1,5 +1,5 @@
 use Rattle.std.proofs.Common.{◌≡◌, rules}
-use Rattle.mpslp_model.specs.Declaration.{Draft, adding_all, bounds_declared}
+use Rattle.mpslp_builder.specs.Declaration.{Draft, adding_all, bounds_declared}
 use Rattle.mpslp_mps.proofs.BoundSideLemmas.{sides-refused}
 use Rattle.mpslp_mps.proofs.bounds.declare_sides.Goals as goal
 

@@ -1,6 +1,6 @@
 use Rattle.std.proofs.Common.{sym, ap, subst, ◌∙◌, rules, map, Bor, ℕ, List, ◌∷◌}
 use Rattle.std.specs.Prelude.{Option, Some}
-use Rattle.mpslp_model.specs.Declaration.{adding_all}
+use Rattle.mpslp_builder.specs.Declaration.{adding_all}
 use Rattle.mpslp_mps.specs.BoundLine.{BoundLine}
 use Rattle.mpslp_mps.specs.ContextStep.{after_bound}
 use Rattle.mpslp_mps.specs.LineMeaning.{bound_declared}

@@ -1,6 +1,6 @@
 use Rattle.std.proofs.Common.{ap, ◌∙◌}
 use Rattle.std.specs.Prelude.{◌&&◌}
-use Rattle.mpslp_model.specs.Declaration.{Draft, has_column, is_semi}
+use Rattle.mpslp_builder.specs.Declaration.{Draft, has_column, is_semi}
 use Rattle.mpslp_mps.proofs.ColumnTaking.{column-there}
 use Rattle.mpslp_mps.proofs.columns.declare_column.Goals as goal
 

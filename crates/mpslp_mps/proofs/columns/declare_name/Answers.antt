@@ -1,6 +1,6 @@
 use Rattle.std.proofs.Common.{sym, ap, ◌∙◌, ℕ, List}
-use Rattle.mpslp_model.proofs.SortedDrafts.{sorted-from_made}
-use Rattle.mpslp_model.proofs.AnswerLemmas.{put_again}
+use Rattle.mpslp_builder.proofs.SortedDrafts.{sorted-from_made}
+use Rattle.mpslp_builder.proofs.AnswerLemmas.{put_again}
 use Rattle.mpslp_mps.proofs.columns.declare_name.Goals as goal
 
 pub returns-then-has_column : goal.returns-then-has_column

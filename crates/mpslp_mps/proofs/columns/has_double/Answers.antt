@@ -3,7 +3,7 @@ use Rattle.std.specs.Prelude.{◌||◌, Option, Some}
 use Rattle.std.specs.List.{cons_option}
 use Rattle.mpslp_decimal.specs.Decimal.{Number}
 use Rattle.mpslp_types.specs.Name.{same_bytes}
-use Rattle.mpslp_model.specs.Declaration.{has_entry}
+use Rattle.mpslp_builder.specs.Declaration.{has_entry}
 use Rattle.mpslp_mps.specs.ColumnDeclared.{has_double}
 use Rattle.mpslp_mps.specs.declared.values.RowValues.TheInside.{Inside}
 use Rattle.mpslp_mps.proofs.ColumnTaking.{two-double}

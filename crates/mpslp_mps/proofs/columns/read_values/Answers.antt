@@ -1,10 +1,10 @@
 use Rattle.std.proofs.Common.{◌≡◌, sym, ap, subst, ◌∙◌, Bool, cond, map}
 use Rattle.std.specs.Prelude.{◌&&◌, Option, Some, None}
 use Rattle.std.specs.List.{flat_map}
-use Rattle.mpslp_model.specs.Declaration.{Draft, adding_all, has_column, is_semi}
+use Rattle.mpslp_builder.specs.Declaration.{Draft, adding_all, has_column, is_semi}
 use Rattle.mpslp_types.specs.declared.faults.FaultKind.{FaultKind}
 use Rattle.mpslp_types.specs.declared.faults.FaultKind.TheVariants.{DuplicateEntry}
-use Rattle.mpslp_model.proofs.MadeDrafts.{adding_all-append}
+use Rattle.mpslp_builder.proofs.MadeDrafts.{adding_all-append}
 use Rattle.mpslp_mps.specs.LineMeaning.{data_declared}
 use Rattle.mpslp_reading.specs.Declaring.{declared_fault}
 use Rattle.mpslp_mps.specs.ColumnDeclared.{front_declared, value_declared}

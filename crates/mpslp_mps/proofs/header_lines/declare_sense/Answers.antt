@@ -1,7 +1,7 @@
 use Rattle.std.proofs.Common.{◌≡◌, refl, sym, ap, subst, ◌∙◌, [], ◌∷◌}
 use Rattle.std.specs.Prelude.{Option}
 use Rattle.std.specs.Option.{option_map_or}
-use Rattle.mpslp_model.specs.Declaration.{declare_sense, Declarations, Draft, adding}
+use Rattle.mpslp_builder.specs.Declaration.{declare_sense, Declarations, Draft, adding}
 use Rattle.mpslp_types.specs.declared.kinds.Sense.{Sense}
 use Rattle.mpslp_reading.specs.ErrorOf.{error_of_build}
 use Rattle.mpslp_reading.specs.LineAnswer.{IsErrorOf}

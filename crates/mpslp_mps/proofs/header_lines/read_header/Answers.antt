@@ -1,6 +1,6 @@
 use Rattle.std.proofs.Common.{sym, ap, subst, ◌∙◌, map}
 use Rattle.std.specs.Prelude.{Option}
-use Rattle.mpslp_model.specs.Declaration.{adding_all}
+use Rattle.mpslp_builder.specs.Declaration.{adding_all}
 use Rattle.mpslp_types.specs.declared.faults.FaultKind.{FaultKind}
 use Rattle.mpslp_mps.specs.ContextStep.{after_header}
 use Rattle.mpslp_mps.specs.LineMeaning.{header_declared}

@@ -1,6 +1,6 @@
 use Rattle.std.proofs.Common.{◌≡◌, refl, sym, subst, [], ◌∷◌, map, not}
 use Rattle.std.specs.Prelude.{Option, Some, is_some}
-use Rattle.mpslp_model.specs.Declaration.{declare_sense, Draft, adding}
+use Rattle.mpslp_builder.specs.Declaration.{declare_sense, Draft, adding}
 use Rattle.mpslp_types.specs.declared.faults.FaultKind.{FaultKind}
 use Rattle.mpslp_reading.specs.ErrorOf.{error_of_build}
 use Rattle.mpslp_reading.specs.LineAnswer.{IsErrorOf}

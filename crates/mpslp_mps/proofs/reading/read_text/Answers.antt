@@ -1,8 +1,8 @@
 use Rattle.std.proofs.Common.{◌≡◌, sym, ap, subst, ◌∙◌, true, false}
 use Rattle.std.specs.Prelude.{Option, is_some}
 use Rattle.std.specs.Str.Lines.{lines}
-use Rattle.mpslp_model.specs.Declaration.{Draft}
-use Rattle.mpslp_model.specs.Meaning.{file_fault}
+use Rattle.mpslp_builder.specs.Declaration.{Draft}
+use Rattle.mpslp_builder.specs.Meaning.{file_fault}
 use Rattle.mpslp_types.specs.declared.faults.Fault.{Fault}
 use Rattle.mpslp_mps.specs.Reading.{fault_from, draft_from}
 use Rattle.mpslp_reading.specs.LineAnswer.{IsFaultOf}

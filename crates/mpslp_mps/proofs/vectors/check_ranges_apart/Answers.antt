@@ -1,6 +1,6 @@
 use Rattle.std.proofs.Common.{sym, ap, subst, ◌∙◌, [], ◌∷◌}
 use Rattle.std.specs.Prelude.{Option}
-use Rattle.mpslp_model.specs.Declaration.{declare_range}
+use Rattle.mpslp_builder.specs.Declaration.{declare_range}
 use Rattle.mpslp_types.specs.declared.faults.FaultKind.{FaultKind}
 use Rattle.mpslp_reading.specs.Declaring.{declared_fault}
 use Rattle.mpslp_reading.specs.LineAnswer.{IsErrorOf}

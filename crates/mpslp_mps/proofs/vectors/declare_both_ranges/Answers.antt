@@ -1,7 +1,7 @@
 use Rattle.std.proofs.Common.{sym, ap, ◌∙◌, cond, Bool, ℕ, List}
 use Rattle.std.specs.Prelude.{Some}
 use Rattle.mpslp_decimal.specs.Decimal.{Number}
-use Rattle.mpslp_model.specs.Declaration.{has_row}
+use Rattle.mpslp_builder.specs.Declaration.{has_row}
 use Rattle.mpslp_types.specs.declared.faults.FaultKind.TheVariants as kinds
 use Rattle.mpslp_mps.proofs.RangeLemmas.{ranges-of_one}
 use Rattle.mpslp_mps.proofs.vectors.declare_both_ranges.Goals as goal

@@ -1,6 +1,6 @@
 use Rattle.std.proofs.Common.{sym, subst, ◌∙◌, rules}
 use Rattle.std.specs.Cmp.{first_so}
-use Rattle.mpslp_model.specs.Declaration.{has_row}
+use Rattle.mpslp_builder.specs.Declaration.{has_row}
 use Rattle.mpslp_mps.specs.VectorDeclared.{HasMpsSides}
 use Rattle.mpslp_mps.proofs.RightSideLemmas.{row-unknown, first-refused, sides-after}
 use Rattle.mpslp_mps.proofs.vectors.declare_both_right_sides.Goals as goal

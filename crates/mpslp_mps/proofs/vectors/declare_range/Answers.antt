@@ -1,7 +1,7 @@
 use Rattle.std.proofs.Common.{◌≡◌, refl, subst, rules, ℕ, List, [], ◌∷◌}
 use Rattle.mpslp_decimal.specs.Decimal.{Number}
-use Rattle.mpslp_model.specs.Declaration.{declare_range, Draft, adding}
-use Rattle.mpslp_model.specs.Refusal.{refusals}
+use Rattle.mpslp_builder.specs.Declaration.{declare_range, Draft, adding}
+use Rattle.mpslp_builder.specs.Refusal.{refusals}
 use Rattle.mpslp_reading.specs.ErrorOf.{error_of_build}
 use Rattle.mpslp_reading.specs.LineAnswer.{IsErrorOf}
 use Rattle.mpslp_reading.specs.Declaring.{declared_fault}

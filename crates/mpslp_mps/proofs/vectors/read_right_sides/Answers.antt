@@ -1,6 +1,6 @@
 use Rattle.std.proofs.Common.{sym, ap, subst, ◌∙◌, rules, map, Bor, ℕ, List}
 use Rattle.std.specs.Prelude.{Option, Some}
-use Rattle.mpslp_model.specs.Declaration.{adding_all}
+use Rattle.mpslp_builder.specs.Declaration.{adding_all}
 use Rattle.mpslp_types.specs.declared.faults.FaultKind.{FaultKind}
 use Rattle.mpslp_mps.specs.DataLine.{vector_shape}
 use Rattle.mpslp_reading.specs.Tests.{judged_by, first_held}

@@ -1,6 +1,6 @@
 use Rattle.std.proofs.Common.{◌∙◌, map}
 use Rattle.std.specs.FinMap.{entries}
-use Rattle.mpslp_model.specs.Views.{column_name}
+use Rattle.mpslp_core.specs.Views.{column_name}
 use Rattle.mpslp_canonical.specs.Listing.{listing_of}
 use Rattle.mpslp_canonical.specs.CanonicalMps.{cell_line, printed_cells, column_cells}
 use Rattle.mpslp_write.proofs.ColumnLemmas.{column-joined, named-lines}

@@ -3,8 +3,8 @@ use Rattle.std.specs.Prelude.{Option}
 use Rattle.std.specs.Option.{option_map_or}
 use Rattle.std.proofs.lemmas.Option.{get_or_from_slice_get}
 use Rattle.mpslp_decimal.specs.Decimal.{Number}
-use Rattle.mpslp_model.specs.Model.{CoefficientKey}
-use Rattle.mpslp_model.specs.Views.{column_name, column_names, column_elements}
+use Rattle.mpslp_core.specs.Model.{CoefficientKey}
+use Rattle.mpslp_core.specs.Views.{column_name, column_names, column_elements}
 use Rattle.mpslp_canonical.specs.CanonicalMps.{cell_line}
 use Rattle.mpslp_write.specs.LinesAt.{element_lines}
 use Rattle.mpslp_write.proofs.ColumnLemmas.{element-seen, row-within, row-named}

@@ -1,5 +1,5 @@
 use Rattle.std.proofs.Common.{arith}
-use Rattle.mpslp_model.specs.Views.{column_name, column_elements}
+use Rattle.mpslp_core.specs.Views.{column_name, column_elements}
 use Rattle.mpslp_write.specs.LinesAt.{element_lines}
 use Rattle.mpslp_write.proofs.LinesAtLemmas.{flat_map-next, flat_map-all}
 use Rattle.mpslp_write.proofs.OutputLemmas.{prints_nothing, prints_then, prints_same}

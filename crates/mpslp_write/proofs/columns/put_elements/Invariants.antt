@@ -1,6 +1,6 @@
 use Rattle.std.proofs.Common.{take}
 use Rattle.std.specs.List.{flat_map}
-use Rattle.mpslp_model.specs.Views.{column_name, column_elements}
+use Rattle.mpslp_core.specs.Views.{column_name, column_elements}
 use Rattle.mpslp_write.specs.LinesAt.{element_lines}
 use Rattle.mpslp_write.specs.Output.{Prints}
 use Rattle.mpslp_write.proofs.columns.put_elements.Given as goal

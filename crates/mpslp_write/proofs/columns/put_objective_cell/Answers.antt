@@ -1,5 +1,5 @@
 use Rattle.std.proofs.Common.{◌≡◌, sym, ◌∙◌, [], ◌∷◌, arith}
-use Rattle.mpslp_model.specs.Views.{column_name, column_names, coefficient_at, column_elements}
+use Rattle.mpslp_core.specs.Views.{column_name, column_names, coefficient_at, column_elements}
 use Rattle.std.proofs.lemmas.Option.{get_or_from_slice_get}
 use Rattle.mpslp_canonical.specs.CanonicalMps.{cell_line}
 use Rattle.mpslp_write.specs.LinesAt.{objective_lines}

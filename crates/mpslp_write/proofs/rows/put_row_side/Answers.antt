@@ -1,6 +1,6 @@
 use Rattle.std.proofs.Common.{ap, ◌∙◌, ℕ, List}
 use Rattle.std.specs.FinMap.{entries}
-use Rattle.mpslp_model.specs.Model.{Row}
+use Rattle.mpslp_core.specs.Model.{Row}
 use Rattle.mpslp_canonical.specs.PrintedValues.{printed_side}
 use Rattle.mpslp_canonical.specs.CanonicalMps.{side_lines}
 use Rattle.mpslp_write.proofs.LinesAtLemmas.{lines_seen}

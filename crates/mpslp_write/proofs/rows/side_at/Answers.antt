@@ -1,6 +1,6 @@
 use Rattle.std.proofs.Common.{ap, ◌∙◌}
 use Rattle.std.specs.Prelude.{Some}
-use Rattle.mpslp_model.specs.Views.{rows_of}
+use Rattle.mpslp_core.specs.Views.{rows_of}
 use Rattle.mpslp_write.proofs.RowLines.{side-finite, side-left}
 use Rattle.mpslp_write.proofs.rows.side_at.Goals as goal
 

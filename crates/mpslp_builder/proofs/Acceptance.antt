@@ -1,0 +1,24 @@
+-- The three lemmas together, as both readers use them.
+use Rattle.std.proofs.Common.{◌≡◌, [], true}
+use Rattle.std.specs.Prelude.{None}
+use Rattle.std.specs.List.{list_all}
+use Rattle.mpslp_core.specs.Model.{LinearModel}
+use Rattle.mpslp_builder.specs.Declaration.{Declarations, empty_draft, draft_of}
+use Rattle.mpslp_builder.specs.Consistency.{has_objective}
+use Rattle.mpslp_builder.specs.Refusal.{refusals_in_turn}
+use Rattle.mpslp_builder.specs.Made.{is_legal}
+use Rattle.mpslp_builder.specs.Meaning.{model_of, file_fault, Means}
+use Rattle.mpslp_builder.proofs.RefusalLemmas.{are_known_in_turn, consistent-from_none, none-from_consistent}
+use Rattle.mpslp_builder.proofs.MeaningFromNoFault.{means-from_no_fault}
+use Rattle.mpslp_builder.proofs.NoFaultFromMeaning.{no_fault-from_means}
+
+-- Legal declarations of which none is refused, with an objective and without a fault of the whole, mean the model of their draft.
+pub means-from_none : (declarations : Declarations) → has_objective declarations ≡ true → list_all is_legal declarations ≡ true
+    → refusals_in_turn empty_draft declarations ≡ [] → file_fault (draft_of declarations) ≡ None → Means declarations (model_of (draft_of declarations))
+means-from_none declarations objective legal refused fault = means-from_no_fault declarations (consistent-from_none declarations objective refused) legal fault
+
+-- Legal declarations that mean a model, each name declared before it is used, are not refused and have no fault of the whole.
+pub none-from_means : (declarations : Declarations) (m : LinearModel) → list_all is_legal declarations ≡ true → are_known_in_turn empty_draft declarations ≡ true
+    → Means declarations m → (refusals_in_turn empty_draft declarations ≡ []) × (file_fault (draft_of declarations) ≡ None)
+none-from_means declarations m legal known means =
+    (none-from_consistent declarations means.consistent known, no_fault-from_means declarations m means legal)

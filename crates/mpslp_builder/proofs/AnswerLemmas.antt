@@ -1,0 +1,161 @@
+-- What a call answers, from its first refusal, and what stands where it is not refused.
+use Rattle.std.proofs.Common.{◌≡◌, refl, sym, ap, subst, ◌∙◌, ℕ, Bool, true, false, cond, not, List, [], ◌∷◌}
+use Rattle.std.specs.Prelude.{◌||◌, ◌&&◌, IsTrue, Option, Some, None, is_some, Ok, Err}
+use Rattle.std.specs.List.{list_all}
+use Rattle.std.specs.Result.{IsErrAnd}
+use Rattle.std.specs.Option.{ForSome, option_map, option_map_or}
+use Rattle.std.specs.Ordering.{eq_by_cmp}
+use Rattle.std.specs.Cmp.{first_so, second_so}
+use Rattle.std.specs.Cmp.Lexicographic.{texts_ties}
+use Rattle.std.specs.FinMap.{find, put, is_sorted}
+use Rattle.std.proofs.Math.Dec.{T}
+use Rattle.mpslp_types.specs.Name.{is_mps_name, bytes_cmp}
+use Rattle.mpslp_builder.specs.Declaration.{Declaration, Draft, adding, has_name, is_objective, has_row, has_column, adding_all, bounds_declared}
+use Rattle.mpslp_core.specs.Lists.{those_of}
+use Rattle.mpslp_builder.specs.Refusal.{refusals, bounds_refusals}
+use Rattle.mpslp_types.specs.Sides.{is_given, is_plus_infinite, is_minus_infinite}
+use Rattle.mpslp_builder.specs.Made.{is_legal, IsMade}
+use Rattle.mpslp_types.specs.declared.kinds.Limit.{Limit}
+use Rattle.mpslp_types.specs.declared.faults.BuildFault.{BuildFault}
+use Rattle.mpslp_types.specs.declared.faults.BuildFault.TheVariants.{UnknownRow, UnknownColumn, DuplicateBound, InfiniteValue, OutOfMemory}
+use Rattle.mpslp_builder.specs.Answer.{Answer, Answers, first_refusal}
+use Rattle.mpslp_types.proofs.EachLemmas.{imp_all}
+use Rattle.mpslp_builder.proofs.SlotLemmas.{same_name}
+use Rattle.mpslp_builder.proofs.LaterDrafts.{objective_is}
+use Rattle.mpslp_builder.proofs.RefusalLemmas.{first_none, rest_none}
+use Rattle.mpslp_types.proofs.BoolLemmas.{either, nor}
+use Rattle.mpslp_builder.proofs.PutOrderLemmas.{put-again}
+use Rattle.mpslp_builder.proofs.SortedDrafts.{bytes_total, tied_names}
+use Rattle.mpslp_builder.proofs.MadeDrafts.{made-adding, made-bounds, good-from_made}
+
+pub none_refused : (faults : List BuildFault) → Ok tt ≡ first_refusal faults → faults ≡ []
+none_refused [] h = refl
+none_refused (fault ∷ later) h = cc
+
+-- the first refusal is answered
+pub first_answered : (faults : List BuildFault) (fault : BuildFault) (P Q : Type 0) → Err fault ≡ first_refusal faults → Q → Answers faults (Err fault) P Q
+first_answered [] fault P Q h q = cc
+first_answered (first ∷ later) fault P Q h q = (h, q)
+
+-- what a question answers is handed on
+pub handed_on : (faults : List BuildFault) (answer : Answer) (fault : BuildFault) (P Q : Type 0)
+    → IsErrAnd answer (λ told. told ≡ fault) → Err fault ≡ first_refusal faults → Q → Answers faults answer P Q
+handed_on faults (Ok x) fault P Q told first q = absurd told
+handed_on faults (Err e) fault P Q told first q = first_answered faults e P Q (cc) q
+
+-- nothing is refused, and it is declared
+pub declared : (faults : List BuildFault) (P Q : Type 0) → faults ≡ [] → P → Answers faults (Ok tt) P Q
+declared [] P Q h p = p
+declared (first ∷ later) P Q h p = cc
+
+-- nothing is refused, but there is no memory
+pub no_memory : (faults : List BuildFault) (P Q : Type 0) → faults ≡ [] → Q → Answers faults (Err OutOfMemory) P Q
+no_memory [] P Q h q = (refl, q)
+no_memory (first ∷ later) P Q h q = cc
+
+pub want_of_memory : (faults : List BuildFault) (answer : Answer) (P Q : Type 0) → IsErrAnd answer (λ told. told ≡ OutOfMemory) → faults ≡ [] → Q
+    → Answers faults answer P Q
+want_of_memory faults (Ok x) P Q told none q = absurd told
+want_of_memory faults (Err e) P Q told none q = subst (λ (t : BuildFault). Answers faults (Err t) P Q) (sym told) (no_memory faults P Q none q)
+
+-- ---- what stands where a call is not refused
+
+-- one more declaration is made
+pub made_next : {inner all : Draft} (d : Declaration) → inner ≡ all → IsMade inner → is_legal d ≡ true → refusals all d ≡ [] → IsMade (adding inner d)
+made_next {inner} {all} d seen made legal none = made-adding inner d made legal (ap (λ (before : Draft). refusals before d) seen ∙ none)
+
+-- what holds of each name holds of one that is there
+named_so : {X : Type 0} (p : List ℕ → Bool) (name : List ℕ) (es : List (List ℕ × X)) → list_all (λ e. p e.0) es ≡ true → has_name es name ≡ true → p name ≡ true
+named_so p name [] all h = cc
+named_so {X} p name (e ∷ es) all h =
+    elim (eq_by_cmp bytes_cmp name e.0) as (λ b. eq_by_cmp bytes_cmp name e.0 ≡ b → is_some (cond b (Some e.1) (find bytes_cmp name es)) ≡ true → p name ≡ true) [
+      | true ↦ λ same _. ap p (same_name name e.0 (texts_ties name e.0 ∙ same)) ∙ first_so (p e.0) (list_all (λ (e : List ℕ × X). p e.0) es) all
+      | false ↦ λ _ there. named_so p name es (second_so (p e.0) (list_all (λ (e : List ℕ × X). p e.0) es) all) there
+    ] refl h
+
+-- a declared row has a legal name
+pub row_is_legal : (all : Draft) (name : List ℕ) → IsMade all → has_row all name ≡ true → is_mps_name name ≡ true
+row_is_legal all name made =
+    let good = good-from_made all made in
+    either (is_objective all name) (has_name all.rows name) (is_mps_name name)
+    (λ is. ap (λ (o : Option (List ℕ)). option_map_or is_mps_name o true) (sym (objective_is all.objective name is)) ∙ good.objective)
+    (named_so is_mps_name name all.rows (imp_all _ (λ e. is_mps_name e.0) all.rows (λ e h. first_so (is_mps_name e.0) _ h) good.rows))
+
+-- a declared column has a legal name
+pub column_is_legal : (all : Draft) (name : List ℕ) → IsMade all → has_column all name ≡ true → is_mps_name name ≡ true
+column_is_legal all name made h = named_so is_mps_name name all.columns (good-from_made all made).columns h
+
+-- ---- what is known where no test holds
+
+so_from : (b : Bool) → not b ≡ false → b ≡ true
+so_from true h = refl
+so_from false h = cc
+
+pub known_row : (all : Draft) (name : List ℕ) (more : List (Bool × BuildFault)) → those_of ((not (has_row all name), UnknownRow) ∷ more) ≡ [] → has_row all name ≡ true
+known_row all name more h = so_from (has_row all name) (first_none (not (has_row all name)) UnknownRow more h)
+
+pub known_column : (all : Draft) (name : List ℕ) (more : List (Bool × BuildFault)) → those_of ((not (has_column all name), UnknownColumn) ∷ more) ≡ [] → has_column all name ≡ true
+known_column all name more h = so_from (has_column all name) (first_none (not (has_column all name)) UnknownColumn more h)
+
+-- ---- a set that has a name already
+
+one_unit : (o : Option (Unit {0})) → is_some o ≡ true → o ≡ Some tt
+one_unit None h = cc
+one_unit (Some x) h = refl
+
+pub put_again : (name : List ℕ) (names : List (List ℕ × Unit {0})) → T (is_sorted bytes_cmp names) → has_name names name ≡ true → names ≡ put bytes_cmp name tt names
+put_again name names sorted there = sym (put-again bytes_cmp bytes_total name tt names tied_names sorted (one_unit (find bytes_cmp name names) there))
+
+pub made_now : {inner all : Draft} → inner ≡ all → IsMade inner → IsMade all
+made_now seen made = subst IsMade seen made
+
+-- ---- the sides of a column
+
+none_there : {X : Type 0} (o : Option X) → is_some o ≡ false → o ≡ None
+none_there None h = refl
+none_there (Some x) h = cc
+
+-- neither side that is given is declared
+pub no_side : (all : Draft) (column : List ℕ) (lower upper : Option Limit) → bounds_refusals all column lower upper ≡ []
+    → ((is_some lower && has_name all.lowers column) ≡ false) × ((is_some upper && has_name all.uppers column) ≡ false)
+no_side all column lower upper h =
+    let last : List (Bool × BuildFault) = (option_map_or is_plus_infinite lower false || option_map_or is_minus_infinite upper false, InfiniteValue) ∷ [] in
+    let declared : Bool = (is_some lower && has_name all.lowers column) || (is_some upper && has_name all.uppers column) in
+    let rest : List (Bool × BuildFault) = (declared, DuplicateBound) ∷ last in
+    nor (is_some lower && has_name all.lowers column) (is_some upper && has_name all.uppers column)
+    (first_none declared DuplicateBound last (rest_none (not (has_column all column)) UnknownColumn rest h))
+
+-- a side that is given, with its column's name
+abbrev pub entry_of : List ℕ → Option Limit → Option (List ℕ × Limit)
+entry_of column side = option_map (λ limit. (column, limit)) side
+
+pub side_absent : (column : List ℕ) (side : Option Limit) (sides : List (List ℕ × Limit)) (e : List ℕ × Limit) → (is_some side && has_name sides column) ≡ false
+    → entry_of column side ≡ Some e → find bytes_cmp e.0 sides ≡ None
+side_absent column None sides e h is = cc
+side_absent column (Some limit) sides e h is =
+    let same : ◌≡◌ {A = List ℕ × Limit} (column, limit) e = cc in
+    subst (λ (x : List ℕ × Limit). find bytes_cmp x.0 sides ≡ None) same (none_there (find bytes_cmp column sides) h)
+
+-- a side that is given is put
+abbrev pub put_in : Option (List ℕ × Limit) → List (List ℕ × Limit) → List (List ℕ × Limit)
+put_in entry sides = option_map_or (λ e. put bytes_cmp e.0 e.1 sides) entry sides
+
+abbrev pub with_sides : Draft → List ℕ → Option Limit → Option Limit → Draft
+with_sides all column lower upper = record all { lowers = put_in (entry_of column lower) all.lowers; uppers = put_in (entry_of column upper) all.uppers }
+
+pub sides-added : (all : Draft) (column : List ℕ) (lower upper : Option Limit) → adding_all all (bounds_declared column lower upper) ≡ with_sides all column lower upper
+sides-added all column None None = refl
+sides-added all column (Some l) None = refl
+sides-added all column None (Some u) = refl
+sides-added all column (Some l) (Some u) = refl
+
+given : (side : Option Limit) → ForSome side (λ s. IsTrue (is_given s)) → option_map_or is_given side true ≡ true
+given None h = refl
+given (Some limit) h = h limit refl
+
+-- the sides that one call gives are declared
+pub made_sides : {inner all : Draft} (column : List ℕ) (lower upper : Option Limit) → inner ≡ all → IsMade inner → ForSome lower (λ s. IsTrue (is_given s))
+    → ForSome upper (λ s. IsTrue (is_given s)) → bounds_refusals all column lower upper ≡ [] → IsMade (with_sides inner column lower upper)
+made_sides {inner} {all} column lower upper seen made l u none =
+    subst IsMade (sides-added inner column lower upper)
+    (made-bounds inner column lower upper made (given lower l) (given upper u) (ap (λ (before : Draft). bounds_refusals before column lower upper) seen ∙ none))

@@ -1,0 +1,74 @@
+-- Lists without two alike: joined, made by a flat_map, and the keys of sorted entries.
+use Rattle.std.proofs.Common.{◌≡◌, refl, sym, ap, ◌∙◌, List, [], ◌∷◌, ◌++◌, Bool, true, false, map}
+use Rattle.std.specs.Prelude.{◌&&◌, ◌||◌, not}
+use Rattle.std.specs.List.{list_any, flat_map}
+use Rattle.std.specs.Cmp.{first_so, second_so, IsTotalOrder, tied_itself}
+use Rattle.std.specs.Ordering.{is_lt}
+use Rattle.std.specs.declared.cmp.Ordering.{Ordering}
+use Rattle.std.specs.declared.cmp.Ordering.TheVariants.{Equal}
+use Rattle.std.specs.FinMap.{is_sorted}
+use Rattle.std.specs.FinMap.Entries.{below_all}
+use Rattle.std.proofs.lemmas.List.Folds.{list_any-append}
+use Rattle.mpslp_core.specs.Lists.{are_distinct}
+use Rattle.mpslp_types.proofs.EachLemmas.{Each, Each-weaker}
+
+both : (a b : Bool) → a ≡ true → b ≡ true → (a && b) ≡ true
+both true b p q = q
+both false b p q = p
+
+not_of : (a : Bool) → not a ≡ true → a ≡ false
+not_of true h = cc
+not_of false h = refl
+
+module _ {K : Type 0} (same : K → K → Bool) where
+  -- none of the keys is the same as this one
+  abbrev pub IsNew : K → List K → Type 0
+  IsNew k keys = list_any (λ later. same later k) keys ≡ false
+
+  new_append : (k : K) (xs ys : List K) → IsNew k xs → IsNew k ys → IsNew k (xs ++ ys)
+  new_append k xs ys h i = list_any-append (λ later. same later k) xs ys ∙ (λ j. h j || i j)
+
+  -- joined: no later key is an earlier one
+  pub distinct-append : (xs ys : List K) → are_distinct same xs ≡ true → are_distinct same ys ≡ true → Each (λ x. IsNew x ys) xs → are_distinct same (xs ++ ys) ≡ true
+  distinct-append [] ys h k apart = k
+  distinct-append (x ∷ xs) ys h k apart =
+      let alone = list_any (λ later. same later x) xs in
+      let here = not_of alone (first_so (not alone) (are_distinct same xs) h) in
+      both (not (list_any (λ later. same later x) (xs ++ ys))) (are_distinct same (xs ++ ys)) (ap not (new_append x xs ys here apart.0))
+      (distinct-append xs ys (second_so (not alone) (are_distinct same xs) h) k apart.1)
+
+  new_flat : {X : Type 0} (f : X → List K) (k : K) (xs : List X) → Each (λ x. IsNew k (f x)) xs → IsNew k (flat_map f xs)
+  new_flat f k [] h = refl
+  new_flat f k (x ∷ xs) h = new_append k (f x) (flat_map f xs) h.0 (new_flat f k xs h.1)
+
+  -- the keys of each element are none of a later one's
+  abbrev pub Apart : {X : Type 0} → (X → List K) → List X → Type 0
+  Apart f [] = Unit {0}
+  Apart f (x ∷ xs) = Each (λ k. Each (λ y. IsNew k (f y)) xs) (f x) × Apart f xs
+
+  -- made of elements that are pairwise apart, each without two alike
+  pub distinct-flat_map : {X : Type 0} (f : X → List K) (xs : List X) → Each (λ x. are_distinct same (f x) ≡ true) xs → Apart f xs → are_distinct same (flat_map f xs) ≡ true
+  distinct-flat_map f [] h apart = refl
+  distinct-flat_map f (x ∷ xs) h apart =
+      distinct-append (f x) (flat_map f xs) h.0 (distinct-flat_map f xs h.1 apart.1) (Each-weaker _ _ (λ k each. new_flat f k xs each) (f x) apart.0)
+
+module _ {K : Type 0} (R : K → K → Ordering) (o : IsTotalOrder R) (same : K → K → Bool) (equal : (x y : K) → same x y ≡ true → x ≡ y) where
+  differs : (x y : K) (b : Bool) → same y x ≡ b → is_lt (R x y) ≡ true → b ≡ false
+  differs x y true e below =
+      let same_key : y ≡ x = equal y x e in
+      let itself : R x y ≡ Equal = ap (R x) same_key ∙ tied_itself o x in
+      let no : is_lt Equal ≡ true = ap is_lt (sym itself) ∙ below in cc
+  differs x y false e below = refl
+
+module _ {K X : Type 0} (R : K → K → Ordering) (o : IsTotalOrder R) (same : K → K → Bool) (equal : (x y : K) → same x y ≡ true → x ≡ y) where
+  none_above : (x : K) (es : List (K × X)) → below_all R x es ≡ true → list_any (λ later. same later x) (map (λ e. e.0) es) ≡ false
+  none_above x [] h = refl
+  none_above x (e ∷ es) h =
+      (λ i. differs R o same equal x e.0 (same e.0 x) refl (first_so (is_lt (R x e.0)) (below_all R x es) h) i || none_above x es (second_so (is_lt (R x e.0)) (below_all R x es) h) i)
+
+  -- the keys of sorted entries
+  pub distinct-sorted : (es : List (K × X)) → is_sorted R es ≡ true → are_distinct same (map (λ e. e.0) es) ≡ true
+  distinct-sorted [] h = refl
+  distinct-sorted (e ∷ es) h =
+      both (not (list_any (λ later. same later e.0) (map (λ e. e.0) es))) (are_distinct same (map (λ e. e.0) es))
+      (ap not (none_above e.0 es (first_so (below_all R e.0 es) (is_sorted R es) h))) (distinct-sorted es (second_so (below_all R e.0 es) (is_sorted R es) h))

@@ -1,0 +1,192 @@
+-- What holds of each declaration holds of each entry of the draft.
+use Rattle.std.proofs.Common.{◌≡◌, refl, sym, ap, ◌∙◌, ℕ, List, [], ◌∷◌, Bool, true, not}
+use Rattle.std.specs.Prelude.{◌&&◌}
+use Rattle.std.specs.List.{list_all}
+use Rattle.std.specs.Option.{option_map_or}
+use Rattle.std.specs.Cmp.{first_so, second_so}
+use Rattle.std.specs.Cmp.Lexicographic.{nat_list_cmp_total}
+use Rattle.std.proofs.Math.Dec.{T}
+use Rattle.std.specs.Ordering.{ordering_then}
+use Rattle.std.specs.declared.cmp.Ordering.{Ordering}
+use Rattle.std.specs.declared.cmp.Ordering.TheVariants as orders
+use Rattle.std.specs.FinMap.{put, is_sorted, slice_cmp-IsAntisymmetric, nat_cmp-IsAntisymmetric}
+use Rattle.std.specs.FinMap.Entries.{by_order, is_sorted-put}
+use Rattle.mpslp_decimal.specs.Decimal.{Number, is_decimal}
+use Rattle.mpslp_types.specs.Name.{is_mps_name, bytes_cmp}
+use Rattle.mpslp_core.specs.Model.{CoefficientKey, key_cmp, key_total}
+pub use Rattle.mpslp_core.proofs.KeyLemmas.{same_key}
+use Rattle.mpslp_core.proofs.KeyLemmas.{tied_names}
+use Rattle.mpslp_builder.specs.Declaration.{RowForm, Declaration, declare_objective, declare_constant, declare_row, declare_rhs, declare_column, declare_coefficient, declare_lower, declare_upper, Declarations, Draft, empty_draft, adding, adding_all, has_row, has_column, have_infinite_side}
+use Rattle.mpslp_types.specs.Sides.{is_given, is_plus_infinite, is_minus_infinite}
+use Rattle.mpslp_builder.specs.Made.{are_given, is_legal}
+use Rattle.mpslp_builder.specs.Consistency.{is_known, is_allowed}
+use Rattle.mpslp_types.specs.declared.kinds.Limit.{Limit}
+use Rattle.mpslp_types.proofs.BoolLemmas.{both_so}
+
+-- ---- one entry more
+
+put_all : {K X : Type 0} (R : K → K → Ordering) (p : K × X → Bool) (k : K) (v : X) (es : List (K × X)) → ((j : K) → R k j ≡ orders.Equal → p (j, v) ≡ true) → p (k, v) ≡ true
+    → list_all p es ≡ true → list_all p (put R k v es) ≡ true
+put_all R p k v [] tied h all = both_so (p (k, v)) true h refl
+put_all {K} {X} R p k v (e ∷ es) tied h all =
+    elim (R k e.0) as (λ r. R k e.0 ≡ r → list_all p (by_order r ((k, v) ∷ e ∷ es) ((e.0, v) ∷ es) (e ∷ put R k v es)) ≡ true) [
+      | orders.Less ↦ λ _. both_so (p (k, v)) (list_all p (e ∷ es)) h all
+      | orders.Equal ↦ λ is. both_so (p (e.0, v)) (list_all p es) (tied e.0 is) (second_so (p e) (list_all p es) all)
+      | orders.Greater ↦ λ _. both_so (p e) (list_all p (put R k v es)) (first_so (p e) (list_all p es) all) (put_all R p k v es tied h (second_so (p e) (list_all p es) all))
+    ] refl
+
+put_names : {X : Type 0} (p : List ℕ × X → Bool) (k : List ℕ) (v : X) (es : List (List ℕ × X)) → p (k, v) ≡ true → list_all p es ≡ true → list_all p (put bytes_cmp k v es) ≡ true
+put_names p k v es h all = put_all bytes_cmp p k v es (λ j tie. ap (λ (n : List ℕ). p (n, v)) (sym (tied_names k j tie)) ∙ h) h all
+
+put_keys : {X : Type 0} (p : CoefficientKey × X → Bool) (k : CoefficientKey) (v : X) (es : List (CoefficientKey × X)) → p (k, v) ≡ true → list_all p es ≡ true → list_all p (put key_cmp k v es) ≡ true
+put_keys p k v es h all = put_all key_cmp p k v es (λ j tie. ap (λ (n : CoefficientKey). p (n, v)) (sym (same_key k j tie)) ∙ h) h all
+
+-- ---- a draft whose entries are good, beside the draft of all
+
+-- the entries of a draft: names are legal, values are decimals, sides are given ones, coefficients are of what is declared; and sorted
+pub record IsGood (all draft : Draft) : Type 0 where
+  pub objective : option_map_or is_mps_name draft.objective true ≡ true
+  pub constant : option_map_or is_decimal draft.constant true ≡ true
+  pub rows : list_all (λ e. is_mps_name e.0 && (are_given e.1 && not (have_infinite_side e.1))) draft.rows ≡ true
+  pub rhs_values : list_all (λ e. is_decimal e.1) draft.rhs_values ≡ true
+  pub columns : list_all (λ e. is_mps_name e.0) draft.columns ≡ true
+  pub coefficients : list_all (λ e. is_decimal e.1 && (has_row all e.0.row && has_column all e.0.column)) draft.coefficients ≡ true
+  pub lowers : list_all (λ e. is_given e.1 && not (is_plus_infinite e.1)) draft.lowers ≡ true
+  pub uppers : list_all (λ e. is_given e.1 && not (is_minus_infinite e.1)) draft.uppers ≡ true
+  pub rows_sorted : T (is_sorted bytes_cmp draft.rows)
+  pub columns_sorted : T (is_sorted bytes_cmp draft.columns)
+  pub coefficients_sorted : T (is_sorted key_cmp draft.coefficients)
+
+good-adding : (all draft : Draft) (d : Declaration) → IsGood all draft → is_legal d ≡ true → is_known all d ≡ true → is_allowed all d ≡ true → IsGood all (adding draft d)
+good-adding all b (declare_objective name) g legal known allowed = record {
+  objective = legal;
+  constant = g.constant;
+  rows = g.rows;
+  rhs_values = g.rhs_values;
+  columns = g.columns;
+  coefficients = g.coefficients;
+  lowers = g.lowers;
+  uppers = g.uppers;
+  rows_sorted = g.rows_sorted;
+  columns_sorted = g.columns_sorted;
+  coefficients_sorted = g.coefficients_sorted;
+}
+good-adding all b (declare_constant value) g legal known allowed = record {
+  objective = g.objective;
+  constant = legal;
+  rows = g.rows;
+  rhs_values = g.rhs_values;
+  columns = g.columns;
+  coefficients = g.coefficients;
+  lowers = g.lowers;
+  uppers = g.uppers;
+  rows_sorted = g.rows_sorted;
+  columns_sorted = g.columns_sorted;
+  coefficients_sorted = g.coefficients_sorted;
+}
+good-adding all b (declare_row name form) g legal known allowed = record {
+  objective = g.objective;
+  constant = g.constant;
+  rows = put_names (λ (e : List ℕ × RowForm). is_mps_name e.0 && (are_given e.1 && not (have_infinite_side e.1))) name form b.rows
+      (both_so (is_mps_name name) (are_given form && not (have_infinite_side form)) (first_so (is_mps_name name) (are_given form) legal)
+      (both_so (are_given form) (not (have_infinite_side form)) (second_so (is_mps_name name) (are_given form) legal) allowed)) g.rows;
+  rhs_values = g.rhs_values;
+  columns = g.columns;
+  coefficients = g.coefficients;
+  lowers = g.lowers;
+  uppers = g.uppers;
+  rows_sorted = is_sorted-put bytes_cmp nat_list_cmp_total name form b.rows g.rows_sorted;
+  columns_sorted = g.columns_sorted;
+  coefficients_sorted = g.coefficients_sorted;
+}
+good-adding all b (declare_rhs row value) g legal known allowed = record {
+  objective = g.objective;
+  constant = g.constant;
+  rows = g.rows;
+  rhs_values = put_names (λ (e : List ℕ × Number). is_decimal e.1) row value b.rhs_values legal g.rhs_values;
+  columns = g.columns;
+  coefficients = g.coefficients;
+  lowers = g.lowers;
+  uppers = g.uppers;
+  rows_sorted = g.rows_sorted;
+  columns_sorted = g.columns_sorted;
+  coefficients_sorted = g.coefficients_sorted;
+}
+good-adding all b (declare_column name) g legal known allowed = record {
+  objective = g.objective;
+  constant = g.constant;
+  rows = g.rows;
+  rhs_values = g.rhs_values;
+  columns = put_names (λ (e : List ℕ × Unit {0}). is_mps_name e.0) name tt b.columns legal g.columns;
+  coefficients = g.coefficients;
+  lowers = g.lowers;
+  uppers = g.uppers;
+  rows_sorted = g.rows_sorted;
+  columns_sorted = is_sorted-put bytes_cmp nat_list_cmp_total name tt b.columns g.columns_sorted;
+  coefficients_sorted = g.coefficients_sorted;
+}
+good-adding all b (declare_coefficient key value) g legal known allowed = record {
+  objective = g.objective;
+  constant = g.constant;
+  rows = g.rows;
+  rhs_values = g.rhs_values;
+  columns = g.columns;
+  coefficients = put_keys (λ (e : CoefficientKey × Number). is_decimal e.1 && (has_row all e.0.row && has_column all e.0.column)) key value b.coefficients
+      (both_so (is_decimal value) (has_row all key.row && has_column all key.column) legal known) g.coefficients;
+  lowers = g.lowers;
+  uppers = g.uppers;
+  rows_sorted = g.rows_sorted;
+  columns_sorted = g.columns_sorted;
+  coefficients_sorted = is_sorted-put key_cmp key_total key value b.coefficients g.coefficients_sorted;
+}
+good-adding all b (declare_lower column limit) g legal known allowed = record {
+  objective = g.objective;
+  constant = g.constant;
+  rows = g.rows;
+  rhs_values = g.rhs_values;
+  columns = g.columns;
+  coefficients = g.coefficients;
+  lowers = put_names (λ (e : List ℕ × Limit). is_given e.1 && not (is_plus_infinite e.1)) column limit b.lowers (both_so (is_given limit) (not (is_plus_infinite limit)) legal allowed) g.lowers;
+  uppers = g.uppers;
+  rows_sorted = g.rows_sorted;
+  columns_sorted = g.columns_sorted;
+  coefficients_sorted = g.coefficients_sorted;
+}
+good-adding all b (declare_upper column limit) g legal known allowed = record {
+  objective = g.objective;
+  constant = g.constant;
+  rows = g.rows;
+  rhs_values = g.rhs_values;
+  columns = g.columns;
+  coefficients = g.coefficients;
+  lowers = g.lowers;
+  uppers = put_names (λ (e : List ℕ × Limit). is_given e.1 && not (is_minus_infinite e.1)) column limit b.uppers (both_so (is_given limit) (not (is_minus_infinite limit)) legal allowed) g.uppers;
+  rows_sorted = g.rows_sorted;
+  columns_sorted = g.columns_sorted;
+  coefficients_sorted = g.coefficients_sorted;
+}
+good-adding all b _ g legal known allowed = record {
+  objective = g.objective;
+  constant = g.constant;
+  rows = g.rows;
+  rhs_values = g.rhs_values;
+  columns = g.columns;
+  coefficients = g.coefficients;
+  lowers = g.lowers;
+  uppers = g.uppers;
+  rows_sorted = g.rows_sorted;
+  columns_sorted = g.columns_sorted;
+  coefficients_sorted = g.coefficients_sorted;
+}
+
+pub good-adding_all : (all : Draft) (declarations : Declarations) (draft : Draft) → IsGood all draft → list_all is_legal declarations ≡ true
+    → list_all (is_known all) declarations ≡ true → list_all (is_allowed all) declarations ≡ true → IsGood all (adding_all draft declarations)
+good-adding_all all [] draft g legal known allowed = g
+good-adding_all all (d ∷ more) draft g legal known allowed =
+    good-adding_all all more (adding draft d)
+    (good-adding all draft d g (first_so (is_legal d) (list_all is_legal more) legal) (first_so (is_known all d) (list_all (is_known all) more) known) (first_so (is_allowed all d) (list_all (is_allowed all) more) allowed))
+    (second_so (is_legal d) (list_all is_legal more) legal) (second_so (is_known all d) (list_all (is_known all) more) known) (second_so (is_allowed all d) (list_all (is_allowed all) more) allowed)
+
+-- no entries
+pub empty_good : (all : Draft) → IsGood all empty_draft
+empty_good all = record { objective = refl; constant = refl; rows = refl; rhs_values = refl; columns = refl; coefficients = refl; lowers = refl; uppers = refl; rows_sorted = tt; columns_sorted = tt; coefficients_sorted = tt }

@@ -1,0 +1,167 @@
+-- A file has no fault of the whole exactly where no row and no column passes a test of one.
+use Rattle.std.proofs.Common.{◌≡◌, refl, ap, ◌∙◌, ℕ, List, [], ◌∷◌, Bool, true, false, not, cond, map}
+use Rattle.std.specs.Prelude.{◌&&◌, Option, Some, None, filter, filter_map}
+use Rattle.std.specs.List.{list_all, cons_option}
+use Rattle.std.specs.Option.{option_map, option_map_or}
+use Rattle.std.specs.Cmp.{first_so, second_so}
+use Rattle.std.specs.Ordering.{eq_by_cmp}
+use Rattle.mpslp_decimal.specs.Decimal.{Number}
+use Rattle.mpslp_types.specs.Name.{bytes_cmp}
+use Rattle.mpslp_builder.specs.Declaration.{RowForm, Draft, at_name, names_in}
+use Rattle.mpslp_core.specs.Limits.{limits_of, has_infinite_rhs, is_inexact, is_too_large, is_crossed}
+use Rattle.mpslp_builder.specs.Bounds.{has_negative_upper, has_crossed_bounds, has_binary_bounds, has_semi_bounds}
+use Rattle.mpslp_core.specs.Lists.{is_nonempty, head_of}
+use Rattle.mpslp_builder.specs.Meaning.{whole_fault, row_passes, rows_where, names_with, named_faults, file_fault}
+use Rattle.mpslp_types.specs.declared.faults.Fault.{Fault}
+use Rattle.mpslp_types.specs.declared.faults.FaultKind.{FaultKind}
+use Rattle.mpslp_types.specs.declared.faults.FaultKind.TheVariants.{NoColumns, InfiniteLimit, RangeInexact, LimitTooLarge, LimitsCrossed, NegativeUpper, BoundsCrossed, BinaryBounds, SemiBounds}
+
+-- ---- the tests of the kinds
+
+-- no row passes the test, and no column
+abbrev pub passes_rows : Draft → (RowForm → Number → Option Number → Bool) → Bool
+passes_rows all test = list_all (λ row. not (row_passes all test row)) all.rows
+
+abbrev pub passes_columns : Draft → (Draft → List ℕ → Bool) → Bool
+passes_columns all test = list_all (λ name. not (test all name)) (names_in all.columns)
+
+-- No row and no column passes a test of a fault, and there is a column.
+pub record HasNoFault (all : Draft) : Type 0 where
+  pub column : is_nonempty all.columns ≡ true
+  pub rhs_values : passes_rows all has_infinite_rhs ≡ true
+  pub exact : passes_rows all (λ form b r. is_inexact (limits_of form b r)) ≡ true
+  pub small : passes_rows all (λ form b r. is_too_large (limits_of form b r)) ≡ true
+  pub straight : passes_rows all (λ form b r. is_crossed (limits_of form b r)) ≡ true
+  pub no_negative_upper : passes_columns all has_negative_upper ≡ true
+  pub bounds : passes_columns all has_crossed_bounds ≡ true
+  pub binary : passes_columns all has_binary_bounds ≡ true
+  pub semi : passes_columns all has_semi_bounds ≡ true
+
+none_filtered : {X : Type 0} (p : X → Bool) (xs : List X) → filter p xs ≡ [] → list_all (λ x. not (p x)) xs ≡ true
+none_filtered p [] h = refl
+none_filtered {X} p (x ∷ xs) h =
+    elim (p x) as (λ b. cond b (x ∷ filter p xs) (filter p xs) ≡ [] → (not b && list_all (λ x. not (p x)) xs) ≡ true) [
+      | true ↦ λ e. cc
+      | false ↦ λ e. none_filtered p xs e
+    ] h
+
+filtered_none : {X : Type 0} (p : X → Bool) (xs : List X) → list_all (λ x. not (p x)) xs ≡ true → filter p xs ≡ []
+filtered_none p [] h = refl
+filtered_none {X} p (x ∷ xs) h =
+    elim (p x) as (λ b. (not b && list_all (λ x. not (p x)) xs) ≡ true → cond b (x ∷ filter p xs) (filter p xs) ≡ []) [
+      | true ↦ λ e. cc
+      | false ↦ λ e. filtered_none p xs e
+    ] h
+
+none_mapped : {X Y : Type 0} (f : X → Y) (xs : List X) → map f xs ≡ [] → xs ≡ []
+none_mapped f [] h = refl
+none_mapped f (x ∷ xs) h = cc
+
+abbrev told : FaultKind → List ℕ → Fault
+told kind name = whole_fault kind (Some name)
+
+no_first : {X Y : Type 0} (f : X → Y) (xs : List X) → option_map f (head_of xs) ≡ None → xs ≡ []
+no_first f [] h = refl
+no_first f (x ∷ xs) h = cc
+
+first_left : {X : Type 0} (o : Option X) (rest : List X) → head_of (cons_option o rest) ≡ None → o ≡ None
+first_left None rest h = refl
+first_left (Some x) rest h = cc
+
+first_right : {X : Type 0} (o : Option X) (rest : List X) → head_of (cons_option o rest) ≡ None → head_of rest ≡ None
+first_right None rest h = h
+first_right (Some x) rest h = cc
+
+first_join : {X : Type 0} (o : Option X) (rest : List X) → o ≡ None → head_of rest ≡ None → head_of (cons_option o rest) ≡ None
+first_join None rest h k = k
+first_join (Some x) rest h k = cc
+
+abbrev fault_of : Draft → FaultKind → Option Fault
+fault_of all kind = option_map (told kind) (head_of (names_with all kind))
+
+abbrev faults_from : Draft → List FaultKind → List Fault
+faults_from all kinds = filter_map (fault_of all) kinds
+
+here : (all : Draft) (kind : FaultKind) (more : List FaultKind) → head_of (faults_from all (kind ∷ more)) ≡ None → names_with all kind ≡ []
+here all kind more h = no_first (told kind) (names_with all kind) (first_left (fault_of all kind) (faults_from all more) h)
+
+later : (all : Draft) (kind : FaultKind) (more : List FaultKind) → head_of (faults_from all (kind ∷ more)) ≡ None → head_of (faults_from all more) ≡ None
+later all kind more h = first_right (fault_of all kind) (faults_from all more) h
+
+add : (all : Draft) (kind : FaultKind) (more : List FaultKind) → names_with all kind ≡ [] → head_of (faults_from all more) ≡ None → head_of (faults_from all (kind ∷ more)) ≡ None
+add all kind more h k = first_join (fault_of all kind) (faults_from all more) (ap (λ (names : List (List ℕ)). option_map (told kind) (head_of names)) h) k
+
+rows_pass : (all : Draft) (test : RowForm → Number → Option Number → Bool) → rows_where all test ≡ [] → passes_rows all test ≡ true
+rows_pass all test h = none_filtered (row_passes all test) all.rows (none_mapped (λ (entry : List ℕ × RowForm). entry.0) _ h)
+
+pass_rows : (all : Draft) (test : RowForm → Number → Option Number → Bool) → passes_rows all test ≡ true → rows_where all test ≡ []
+pass_rows all test h = ap names_in (filtered_none (row_passes all test) all.rows h)
+
+test_of : {X : Type 0} (b : Bool) (x : X) (o : Option X) → cond b o (Some x) ≡ None → b ≡ true
+test_of true x o h = refl
+test_of false x o h = cc
+
+branch_of : {X : Type 0} (b : Bool) (x : X) (o : Option X) → cond b o (Some x) ≡ None → o ≡ None
+branch_of true x o h = h
+branch_of false x o h = cc
+
+-- No fault is told, so there is none.
+pub no_fault-from_none : (all : Draft) → file_fault all ≡ None → HasNoFault all
+no_fault-from_none all h =
+    let there = is_nonempty all.columns in
+    let none = whole_fault NoColumns None in
+    let k8 = SemiBounds ∷ [] in
+    let k7 = BinaryBounds ∷ k8 in
+    let k6 = BoundsCrossed ∷ k7 in
+    let k5 = NegativeUpper ∷ k6 in
+    let k4 = LimitsCrossed ∷ k5 in
+    let k3 = LimitTooLarge ∷ k4 in
+    let k2 = RangeInexact ∷ k3 in
+    let h1 = branch_of there none (head_of (named_faults all)) h in
+    let h2 = later all InfiniteLimit k2 h1 in
+    let h3 = later all RangeInexact k3 h2 in
+    let h4 = later all LimitTooLarge k4 h3 in
+    let h5 = later all LimitsCrossed k5 h4 in
+    let h6 = later all NegativeUpper k6 h5 in
+    let h7 = later all BoundsCrossed k7 h6 in
+    let h8 = later all BinaryBounds k8 h7 in
+    record {
+      column = test_of there none (head_of (named_faults all)) h;
+      rhs_values = rows_pass all has_infinite_rhs (here all InfiniteLimit k2 h1);
+      exact = rows_pass all (λ form b r. is_inexact (limits_of form b r)) (here all RangeInexact k3 h2);
+      small = rows_pass all (λ form b r. is_too_large (limits_of form b r)) (here all LimitTooLarge k4 h3);
+      straight = rows_pass all (λ form b r. is_crossed (limits_of form b r)) (here all LimitsCrossed k5 h4);
+      no_negative_upper = none_filtered (has_negative_upper all) (names_in all.columns) (here all NegativeUpper k6 h5);
+      bounds = none_filtered (has_crossed_bounds all) (names_in all.columns) (here all BoundsCrossed k7 h6);
+      binary = none_filtered (has_binary_bounds all) (names_in all.columns) (here all BinaryBounds k8 h7);
+      semi = none_filtered (has_semi_bounds all) (names_in all.columns) (here all SemiBounds [] h8);
+    }
+
+-- There is none, so none is told.
+pub none-from_no_fault : (all : Draft) → HasNoFault all → file_fault all ≡ None
+none-from_no_fault all f =
+    let k8 = SemiBounds ∷ [] in
+    let k7 = BinaryBounds ∷ k8 in
+    let k6 = BoundsCrossed ∷ k7 in
+    let k5 = NegativeUpper ∷ k6 in
+    let k4 = LimitsCrossed ∷ k5 in
+    let k3 = LimitTooLarge ∷ k4 in
+    let k2 = RangeInexact ∷ k3 in
+    ap (λ (b : Bool). cond b (head_of (named_faults all)) (Some (whole_fault NoColumns None))) f.column
+    ∙ add all InfiniteLimit k2 (pass_rows all has_infinite_rhs f.rhs_values)
+    (add all RangeInexact k3 (pass_rows all (λ form b r. is_inexact (limits_of form b r)) f.exact)
+    (add all LimitTooLarge k4 (pass_rows all (λ form b r. is_too_large (limits_of form b r)) f.small)
+    (add all LimitsCrossed k5 (pass_rows all (λ form b r. is_crossed (limits_of form b r)) f.straight)
+    (add all NegativeUpper k6 (filtered_none (has_negative_upper all) (names_in all.columns) f.no_negative_upper)
+    (add all BoundsCrossed k7 (filtered_none (has_crossed_bounds all) (names_in all.columns) f.bounds)
+    (add all BinaryBounds k8 (filtered_none (has_binary_bounds all) (names_in all.columns) f.binary)
+    (add all SemiBounds [] (filtered_none (has_semi_bounds all) (names_in all.columns) f.semi) refl)))))))
+
+-- what holds of all values of entries holds of the one that is found
+pub found_all : {X : Type 0} (p : X → Bool) (name : List ℕ) (es : List (List ℕ × X)) → list_all (λ e. p e.1) es ≡ true → option_map_or p (at_name es name) true ≡ true
+found_all p name [] h = refl
+found_all {X} p name (e ∷ es) h =
+    elim (eq_by_cmp bytes_cmp name e.0) as (λ b. option_map_or p (cond b (Some e.1) (at_name es name)) true ≡ true) [
+      | true ↦ first_so (p e.1) (list_all (λ (e : List ℕ × X). p e.1) es) h
+      | false ↦ found_all p name es (second_so (p e.1) (list_all (λ (e : List ℕ × X). p e.1) es) h)
+    ]

@@ -1,0 +1,167 @@
+-- Drafts that a builder can hold: each call that is not refused keeps them so, and at the end they mean a model exactly
+-- where they have no fault of the whole file.
+use Rattle.std.proofs.Common.{◌≡◌, refl, sym, ap, subst, ◌∙◌, ℕ, List, [], ◌∷◌, ◌++◌, Bool, true, false, not, cond}
+use Rattle.std.specs.Prelude.{◌&&◌, ◌||◌, Option, Some, None, is_some}
+use Rattle.std.specs.List.{list_all}
+use Rattle.std.specs.Option.{option_map_or}
+use Rattle.std.proofs.lemmas.List.{append-nil, append_assoc}
+use Rattle.std.proofs.lemmas.List.Folds.{list_all-append}
+use Rattle.mpslp_decimal.specs.Decimal.{Number, is_decimal}
+use Rattle.mpslp_core.specs.Model.{LinearModel}
+use Rattle.mpslp_builder.specs.Declaration.{Declaration, declare_objective, declare_rhs, declare_lower, declare_upper, Declarations, Draft, empty_draft, adding, adding_all, draft_of, has_name, has_column, is_free_row, rhs_declared, bounds_declared}
+use Rattle.mpslp_types.specs.Sides.{is_plus_infinite, is_minus_infinite, is_given}
+use Rattle.mpslp_builder.specs.Consistency.{has_objective, AreConsistent}
+use Rattle.mpslp_core.specs.Lists.{those_of}
+use Rattle.mpslp_builder.specs.Refusal.{refusals, refusals_in_turn, bounds_refusals}
+use Rattle.mpslp_builder.specs.Made.{is_legal, IsMade}
+use Rattle.mpslp_builder.specs.Meaning.{model_of, file_fault, DraftMeans}
+use Rattle.mpslp_types.specs.declared.kinds.Limit.{Limit}
+use Rattle.mpslp_types.specs.declared.faults.BuildFault.{BuildFault}
+use Rattle.mpslp_types.specs.declared.faults.BuildFault.TheVariants.{UnknownColumn, DuplicateBound, InfiniteValue}
+use Rattle.mpslp_types.proofs.BoolLemmas.{both_so, nor}
+use Rattle.mpslp_builder.proofs.RefusalLemmas.{HasDeclaredNames, first_none, rest_none, pass, join_none, empty_declared_names, empty_kinds_apart, none-fine, consistent-from_none}
+use Rattle.mpslp_builder.proofs.DraftEntries.{IsGood, good-adding_all, empty_good}
+use Rattle.mpslp_builder.proofs.WellFormed.{IsWellFormed, well_formed-from_consistent}
+use Rattle.mpslp_builder.proofs.MeaningFromNoFault.{meant-from_no_fault}
+use Rattle.mpslp_builder.proofs.NoFaultFromMeaning.{no_fault-from_meant}
+
+-- ---- several declarations after several
+
+-- the draft, and the refusals, of declarations after others
+pub adding_all-append : (xs ys : Declarations) (before : Draft) → adding_all before (xs ++ ys) ≡ adding_all (adding_all before xs) ys
+adding_all-append [] ys before = refl
+adding_all-append (x ∷ xs) ys before = adding_all-append xs ys (adding before x)
+
+pub refusals_in_turn-append : (xs ys : Declarations) (before : Draft)
+    → refusals_in_turn before (xs ++ ys) ≡ refusals_in_turn before xs ++ refusals_in_turn (adding_all before xs) ys
+refusals_in_turn-append [] ys before = refl
+refusals_in_turn-append (x ∷ xs) ys before =
+    ap (λ (faults : List _). refusals before x ++ faults) (refusals_in_turn-append xs ys (adding before x))
+    ∙ sym (append_assoc (refusals before x) (refusals_in_turn (adding before x) xs) (refusals_in_turn (adding_all (adding before x) xs) ys))
+
+-- ---- what keeps a draft one that a builder can hold
+
+-- a builder begins with nothing declared
+pub empty_made : IsMade empty_draft
+empty_made = record { declarations = []; legal = refl; unrefused = refl; draft = refl }
+
+-- several legal declarations, none of them refused
+pub made-adding_all : (all : Draft) (more : Declarations) → IsMade all → list_all is_legal more ≡ true → refusals_in_turn all more ≡ []
+    → IsMade (adding_all all more)
+made-adding_all all more made legal unrefused = record {
+  declarations = made.declarations ++ more;
+  legal = list_all-append is_legal made.declarations more ∙ both_so (list_all is_legal made.declarations) (list_all is_legal more) made.legal legal;
+  unrefused = refusals_in_turn-append made.declarations more empty_draft
+      ∙ join_none (refusals_in_turn empty_draft made.declarations) (refusals_in_turn (draft_of made.declarations) more) made.unrefused
+      (ap (λ (before : Draft). refusals_in_turn before more) (sym made.draft) ∙ unrefused);
+  draft = ap (λ (before : Draft). adding_all before more) made.draft ∙ sym (adding_all-append made.declarations more empty_draft);
+}
+
+-- one legal declaration that is not refused
+pub made-adding : (all : Draft) (d : Declaration) → IsMade all → is_legal d ≡ true → refusals all d ≡ [] → IsMade (adding all d)
+made-adding all d made legal unrefused = made-adding_all all (d ∷ []) made (both_so (is_legal d) true legal refl) (append-nil (refusals all d) ∙ unrefused)
+
+-- a right side, which of a row of type N declares nothing
+pub made-right_side : (all : Draft) (row : List ℕ) (value : Number) → IsMade all → is_decimal value ≡ true → refusals all (declare_rhs row value) ≡ []
+    → IsMade (adding_all all (rhs_declared all row value))
+made-right_side all row value made legal unrefused =
+    elim (is_free_row all row) as (λ (free : Bool). IsMade (adding_all all (cond free [] (declare_rhs row value ∷ [])))) [
+      | true ↦ made
+      | false ↦ made-adding all (declare_rhs row value) made legal unrefused
+    ]
+
+-- the tests of a bound
+abbrev bound_tests : Bool → Bool → Bool → List (Bool × BuildFault)
+bound_tests unknown filled infinite = (unknown, UnknownColumn) ∷ (filled, DuplicateBound) ∷ (infinite, InfiniteValue) ∷ []
+
+all_fail : (a b c : Bool) → those_of (bound_tests a b c) ≡ [] → (a ≡ false) × (b ≡ false) × (c ≡ false)
+all_fail a b c h =
+    let last : List (Bool × BuildFault) = (c, InfiniteValue) ∷ [] in
+    let rest : List (Bool × BuildFault) = (b, DuplicateBound) ∷ last in
+    let h1 = rest_none a UnknownColumn rest h in
+    (first_none a UnknownColumn rest h, first_none b DuplicateBound last h1, first_none c InfiniteValue [] (rest_none b DuplicateBound last h1))
+
+none_passes : (a b c : Bool) → a ≡ false → b ≡ false → c ≡ false → those_of (bound_tests a b c) ≡ []
+none_passes a b c p q r =
+    let last : List (Bool × BuildFault) = (c, InfiniteValue) ∷ [] in
+    let rest : List (Bool × BuildFault) = (b, DuplicateBound) ∷ last in
+    pass a UnknownColumn rest p (pass b DuplicateBound last q (pass c InfiniteValue [] r refl))
+
+-- the sides of a column that one call gives are not refused one after another
+pub bounds-in_turn : (all : Draft) (column : List ℕ) (lower upper : Option Limit) → bounds_refusals all column lower upper ≡ []
+    → refusals_in_turn all (bounds_declared column lower upper) ≡ []
+bounds-in_turn all column None None h = refl
+bounds-in_turn all column (Some l) None h =
+    let unknown = not (has_column all column) in
+    let t = all_fail unknown (has_name all.lowers column || false) (is_plus_infinite l || false) h in
+    append-nil (refusals all (declare_lower column l))
+    ∙ none_passes unknown (has_name all.lowers column) (is_plus_infinite l) t.0 (nor (has_name all.lowers column) false t.1).0 (nor (is_plus_infinite l) false t.2).0
+bounds-in_turn all column None (Some u) h =
+    let unknown = not (has_column all column) in
+    let t = all_fail unknown (has_name all.uppers column) (is_minus_infinite u) h in
+    append-nil (refusals all (declare_upper column u)) ∙ none_passes unknown (has_name all.uppers column) (is_minus_infinite u) t.0 t.1 t.2
+bounds-in_turn all column (Some l) (Some u) h =
+    let unknown = not (has_column all column) in
+    let t = all_fail unknown (has_name all.lowers column || has_name all.uppers column) (is_plus_infinite l || is_minus_infinite u) h in
+    let filled = nor (has_name all.lowers column) (has_name all.uppers column) t.1 in
+    let infinite = nor (is_plus_infinite l) (is_minus_infinite u) t.2 in
+    join_none (refusals all (declare_lower column l)) (refusals_in_turn (adding all (declare_lower column l)) (declare_upper column u ∷ []))
+    (none_passes unknown (has_name all.lowers column) (is_plus_infinite l) t.0 filled.0 infinite.0)
+    (append-nil (refusals (adding all (declare_lower column l)) (declare_upper column u))
+    ∙ none_passes unknown (has_name all.uppers column) (is_minus_infinite u) t.0 filled.1 infinite.1)
+
+legal_bounds : (column : List ℕ) (lower upper : Option Limit) → option_map_or is_given lower true ≡ true → option_map_or is_given upper true ≡ true
+    → list_all is_legal (bounds_declared column lower upper) ≡ true
+legal_bounds column None None h k = refl
+legal_bounds column (Some l) None h k = both_so (is_given l) true h refl
+legal_bounds column None (Some u) h k = both_so (is_given u) true k refl
+legal_bounds column (Some l) (Some u) h k = both_so (is_given l) (is_given u && true) h (both_so (is_given u) true k refl)
+
+-- the bounds that one call gives
+pub made-bounds : (all : Draft) (column : List ℕ) (lower upper : Option Limit) → IsMade all → option_map_or is_given lower true ≡ true
+    → option_map_or is_given upper true ≡ true → bounds_refusals all column lower upper ≡ [] → IsMade (adding_all all (bounds_declared column lower upper))
+made-bounds all column lower upper made h k unrefused =
+    made-adding_all all (bounds_declared column lower upper) made (legal_bounds column lower upper h k) (bounds-in_turn all column lower upper unrefused)
+
+-- ---- what such a draft is
+
+objective-declared : (declarations : Declarations) (before : Draft) → is_some before.objective ≡ false → is_some (adding_all before declarations).objective ≡ true
+    → has_objective declarations ≡ true
+objective-declared [] before none there = absurd cc
+objective-declared (declare_objective name ∷ more) before none there = refl
+objective-declared (d ∷ more) before none there = objective-declared more (adding before d) none there
+
+-- what it names is declared
+pub declared_names-from_made : (all : Draft) → IsMade all → HasDeclaredNames all
+declared_names-from_made all made =
+    let fine = none-fine made.declarations empty_draft empty_declared_names empty_kinds_apart refl made.unrefused in
+    subst HasDeclaredNames (sym made.draft) fine.declared_names
+
+-- with an objective, its declarations are consistent
+pub consistent-from_made : (all : Draft) (made : IsMade all) → is_some all.objective ≡ true → AreConsistent made.declarations
+consistent-from_made all made there =
+    consistent-from_none made.declarations
+    (objective-declared made.declarations empty_draft refl (ap (λ (draft : Draft). is_some draft.objective) (sym made.draft) ∙ there)) made.unrefused
+
+-- each entry of it is good, also before the objective has its name
+pub good-from_made : (all : Draft) → IsMade all → IsGood all all
+good-from_made all made =
+    let drafted = draft_of made.declarations in
+    let fine = none-fine made.declarations empty_draft empty_declared_names empty_kinds_apart refl made.unrefused in
+    subst (λ (draft : Draft). IsGood draft draft) (sym made.draft)
+    (good-adding_all drafted made.declarations empty_draft (empty_good drafted) made.legal fine.known fine.allowed)
+
+-- with an objective, it is well formed
+pub well_formed-from_made : (all : Draft) → IsMade all → is_some all.objective ≡ true → IsWellFormed all
+well_formed-from_made all made there =
+    subst IsWellFormed (sym made.draft) (well_formed-from_consistent made.declarations (consistent-from_made all made there) made.legal)
+
+-- ---- the end: a model is meant exactly where there is no fault of the whole
+
+-- no fault is told: the model of the draft is meant
+pub meant-from_made : (all : Draft) → IsMade all → is_some all.objective ≡ true → file_fault all ≡ None → DraftMeans all (model_of all)
+meant-from_made all made there none = meant-from_no_fault all (well_formed-from_made all made there) none
+
+-- a model is meant: no fault is told
+pub no_fault-from_made : (all : Draft) (m : LinearModel) → IsMade all → is_some all.objective ≡ true → DraftMeans all m → file_fault all ≡ None
+no_fault-from_made all m made there meant = no_fault-from_meant all m (well_formed-from_made all made there) meant

@@ -1,0 +1,290 @@
+-- What has no fault of the whole file means its model.
+use Rattle.std.proofs.Common.{◌≡◌, ◌<◌, refl, sym, ap, subst, ◌∙◌, ℕ, zero, suc, List, [], ◌∷◌, length, Bool, true, false, not, cond, map, arith}
+use Rattle.std.specs.Prelude.{◌&&◌, ◌||◌, ℤ, Option, Some, None, is_some, unwrap_or, filter, pos, negsuc}
+use Rattle.std.specs.List.{list_all}
+use Rattle.std.specs.Option.{option_map_or}
+use Rattle.std.specs.Cmp.{first_so, second_so}
+use Rattle.std.specs.Cmp.Lexicographic.{texts_ties}
+use Rattle.std.proofs.Math.Dec.{T}
+use Rattle.std.specs.Ordering.{eq_by_cmp, is_lt}
+use Rattle.std.specs.FinMap as maps
+use Rattle.std.specs.FinMap.{find, is_sorted}
+use Rattle.std.specs.FinMap.Entries.{below_all}
+use Rattle.mpslp_decimal.specs.Decimal.{Number, zero_number, is_decimal, is_zero, negated}
+use Rattle.mpslp_types.specs.Name.{same_bytes, is_mps_name, is_one_of, bytes_cmp}
+use Rattle.mpslp_core.specs.Model.{LinearModel, Row, Column, CoefficientKey, key_cmp, is_sound_row, is_sound_column, is_sound_coefficient, suits}
+use Rattle.mpslp_types.specs.Sides.{are_sides, is_at_most, is_lower_side, is_upper_side, has_bounded_distance, is_bounded_decimal, is_plus_infinite, is_minus_infinite, is_given}
+use Rattle.mpslp_builder.specs.Declaration.{RowForm, by_type, by_limits, Declarations, Draft, draft_of, at_name, has_name, has_row, has_column, names_in, have_infinite_side}
+use Rattle.mpslp_core.specs.Limits.{limits_of, plain_limits, has_infinite_rhs, is_inexact, is_too_large, is_crossed}
+use Rattle.mpslp_builder.specs.Bounds.{zero_limit, one_limit, lower_bound, upper_bound, has_no_side, kind_of, column_of, has_crossed_bounds, has_semi_bounds}
+use Rattle.mpslp_builder.specs.Made.{are_given, is_legal}
+use Rattle.mpslp_core.specs.Lists.{is_nonempty}
+use Rattle.mpslp_builder.specs.Meaning.{rhs_or_zero, row_limits, row_entry, model_of, objective_name, file_fault, DraftMeans, Means}
+use Rattle.mpslp_builder.specs.Consistency.{AreConsistent}
+use Rattle.mpslp_types.specs.declared.kinds.Limit.{Limit}
+use Rattle.mpslp_types.specs.declared.kinds.Limit.TheVariants.{MinusInf, Finite, PlusInf}
+use Rattle.mpslp_types.specs.declared.kinds.RowType.TheVariants.{Free}
+use Rattle.mpslp_types.proofs.BoolLemmas.{both_so, or_right, not_so}
+use Rattle.mpslp_builder.proofs.LaterDrafts.{itself_named}
+use Rattle.mpslp_builder.proofs.RowSoundness.{IsSoundForm, sound-from_no_fault, is_legal_form}
+use Rattle.mpslp_builder.proofs.DraftEntries.{IsGood}
+use Rattle.mpslp_builder.proofs.WellFormed.{IsWellFormed, well_formed-from_consistent}
+use Rattle.mpslp_types.proofs.EachLemmas.{imp_all, and_all, map_all}
+use Rattle.mpslp_builder.proofs.FileFaultLemmas.{HasNoFault, no_fault-from_none, found_all}
+
+-- ---- the objective
+
+named_objective : (o : Option (List ℕ)) → is_some o ≡ true → option_map_or (same_bytes (unwrap_or o [])) o false ≡ true
+named_objective None h = h
+named_objective (Some name) h = itself_named name
+
+legal_objective : (o : Option (List ℕ)) → is_some o ≡ true → option_map_or is_mps_name o true ≡ true → is_mps_name (unwrap_or o []) ≡ true
+legal_objective None h k = cc
+legal_objective (Some name) h k = k
+
+named_row : (o : Option (List ℕ)) (q : List ℕ) (r s : Bool) → r ≡ s → (option_map_or (same_bytes q) o false || s) ≡ true → (same_bytes q (unwrap_or o []) || r) ≡ true
+named_row None q r s e h = or_right (same_bytes q []) r (e ∙ h)
+named_row (Some name) q r s e h = ap (λ (b : Bool). same_bytes q name || b) e ∙ h
+
+-- ---- entries
+
+one_of-names : {X : Type 0} (q : List ℕ) (es : List (List ℕ × X)) → is_one_of (names_in es) q ≡ has_name es q
+one_of-names q [] = refl
+one_of-names {X} q (e ∷ es) =
+    ap (λ (b : Bool). b || is_one_of (names_in es) q) (texts_ties q e.0)
+    ∙ elim (eq_by_cmp bytes_cmp q e.0) as (λ b. (b || is_one_of (names_in es) q) ≡ is_some (cond b (Some e.1) (find bytes_cmp q es))) [ true ↦ refl | false ↦ one_of-names q es ]
+
+below-mapped : {X Y : Type 0} (g : List ℕ × X → Y) (x : List ℕ) (es : List (List ℕ × X)) → below_all bytes_cmp x (map (λ e. (e.0, g e)) es) ≡ below_all bytes_cmp x es
+below-mapped g x [] = refl
+below-mapped g x (e ∷ es) = ap (λ (b : Bool). is_lt (bytes_cmp x e.0) && b) (below-mapped g x es)
+
+-- entries with other values at the same names are sorted alike, and have the same names
+pub sorted-mapped : {X Y : Type 0} (g : List ℕ × X → Y) (es : List (List ℕ × X)) → is_sorted bytes_cmp (map (λ e. (e.0, g e)) es) ≡ is_sorted bytes_cmp es
+sorted-mapped g [] = refl
+sorted-mapped g (e ∷ es) = λ i. below-mapped g e.0 es i && sorted-mapped g es i
+
+pub names-mapped : {X Y : Type 0} (g : List ℕ × X → Y) (es : List (List ℕ × X)) → names_in (map (λ e. (e.0, g e)) es) ≡ names_in es
+names-mapped g [] = refl
+names-mapped g (e ∷ es) = ap (λ (names : List (List ℕ)). e.0 ∷ names) (names-mapped g es)
+
+t_first : (a b : Bool) → T (a && b) → T a
+t_first true b h = tt
+t_first false b h = h
+
+t_second : (a b : Bool) → T (a && b) → T b
+t_second true b h = h
+t_second false b h = absurd h
+
+t_both : (a b : Bool) → T a → T b → T (a && b)
+t_both true b h k = k
+t_both false b h k = h
+
+below-filtered : {X : Type 0} (p : CoefficientKey × X → Bool) (x : CoefficientKey) (es : List (CoefficientKey × X)) → T (below_all key_cmp x es) → T (below_all key_cmp x (filter p es))
+below-filtered p x [] h = tt
+below-filtered {X} p x (e ∷ es) h =
+    let rest = below-filtered p x es (t_second (is_lt (key_cmp x e.0)) (below_all key_cmp x es) h) in
+    elim (p e) as (λ b. T (below_all key_cmp x (cond b (e ∷ filter p es) (filter p es)))) [
+      | true ↦ t_both (is_lt (key_cmp x e.0)) (below_all key_cmp x (filter p es)) (t_first (is_lt (key_cmp x e.0)) (below_all key_cmp x es) h) rest
+      | false ↦ rest
+    ]
+
+pub sorted-filtered : {X : Type 0} (p : CoefficientKey × X → Bool) (es : List (CoefficientKey × X)) → T (is_sorted key_cmp es) → T (is_sorted key_cmp (filter p es))
+sorted-filtered p [] h = tt
+sorted-filtered {X} p (e ∷ es) h =
+    let rest = sorted-filtered p es (t_second (below_all key_cmp e.0 es) (is_sorted key_cmp es) h) in
+    elim (p e) as (λ b. T (is_sorted key_cmp (cond b (e ∷ filter p es) (filter p es)))) [
+      | true ↦ t_both (below_all key_cmp e.0 (filter p es)) (is_sorted key_cmp (filter p es)) (below-filtered p e.0 es (t_first (below_all key_cmp e.0 es) (is_sorted key_cmp es) h)) rest
+      | false ↦ rest
+    ]
+
+filter_all : {X : Type 0} (p q : X → Bool) (xs : List X) → list_all q xs ≡ true → list_all (λ x. q x && p x) (filter p xs) ≡ true
+filter_all p q [] h = refl
+filter_all {X} p q (x ∷ xs) h =
+    let rest = filter_all p q xs (second_so (q x) (list_all q xs) h) in
+    elim (p x) as (λ b. p x ≡ b → list_all (λ x. q x && p x) (cond b (x ∷ filter p xs) (filter p xs)) ≡ true) [
+      | true ↦ λ is. both_so (q x && p x) (list_all (λ x. q x && p x) (filter p xs)) (both_so (q x) (p x) (first_so (q x) (list_all q xs) h) is) rest
+      | false ↦ λ is. rest
+    ] refl
+
+-- ---- values
+
+or_zero : (o : Option Number) → option_map_or is_decimal o true ≡ true → is_decimal (unwrap_or o zero_number) ≡ true
+or_zero None h = refl
+or_zero (Some d) h = h
+
+decimal-negated : (m e : ℤ) → is_decimal (record { mantissa = m; exponent = e }) ≡ true → is_decimal (negated (record { mantissa = m; exponent = e })) ≡ true
+decimal-negated (pos zero) e h = h
+decimal-negated (pos (suc n)) e h = h
+decimal-negated (negsuc n) e h = h
+
+legal_constant : (o : Option Number) (d : Number) → option_map_or is_decimal o true ≡ true → is_decimal d ≡ true → is_decimal (unwrap_or o (negated d)) ≡ true
+legal_constant None d h k = decimal-negated d.mantissa d.exponent k
+legal_constant (Some c) d h k = h
+
+form-legal : (form : RowForm) → (are_given form && not (have_infinite_side form)) ≡ true → is_legal_form form ≡ true
+form-legal (by_type type) h = refl
+form-legal (by_limits l u) h = h
+
+-- ---- rows
+
+sound_entry : (name : List ℕ) (limits : Option Row) → is_mps_name name ≡ true → IsSoundForm limits → is_sound_row (name, unwrap_or limits (plain_limits Free zero_number)) ≡ true
+sound_entry name None h s = let e = s.is in cc
+sound_entry name (Some row) h s =
+    let same : s.row ≡ row = ap (λ (o : Option Row). unwrap_or o row) (sym s.is) in
+    both_so (is_mps_name name) (are_sides row.lower row.upper && has_bounded_distance row.lower row.upper) h
+    (both_so (are_sides row.lower row.upper) (has_bounded_distance row.lower row.upper)
+    (ap (λ (r : Row). are_sides r.lower r.upper) (sym same) ∙ s.sides) (ap (λ (r : Row). has_bounded_distance r.lower r.upper) (sym same) ∙ s.distance))
+
+some_limits : (limits : Option Row) → IsSoundForm limits → is_some limits ≡ true
+some_limits limits s = ap is_some s.is
+
+abbrev row_tests : Draft → List ℕ × RowForm → Bool
+row_tests all row =
+    let b = rhs_or_zero all row.0 in
+    let r = at_name all.ranges row.0 in
+    (is_mps_name row.0 && (are_given row.1 && not (have_infinite_side row.1)))
+    && (not (has_infinite_rhs row.1 b r) && (not (is_inexact (limits_of row.1 b r)) && (not (is_too_large (limits_of row.1 b r)) && not (is_crossed (limits_of row.1 b r)))))
+
+sound_row : (all : Draft) (row : List ℕ × RowForm) → list_all (λ e. is_decimal e.1) all.rhs_values ≡ true → row_tests all row ≡ true → IsSoundForm (row_limits all row)
+sound_row all row sides h =
+    let b = rhs_or_zero all row.0 in
+    let r = at_name all.ranges row.0 in
+    let limits = limits_of row.1 b r in
+    let legal = are_given row.1 && not (have_infinite_side row.1) in
+    let a1 = is_mps_name row.0 && legal in
+    let t4 = not (is_crossed limits) in
+    let t3 = not (is_too_large limits) in
+    let t2 = not (is_inexact limits) in
+    let t1 = not (has_infinite_rhs row.1 b r) in
+    let h1 = second_so a1 (t1 && (t2 && (t3 && t4))) h in
+    let h2 = second_so t1 (t2 && (t3 && t4)) h1 in
+    let h3 = second_so t2 (t3 && t4) h2 in
+    sound-from_no_fault row.1 b r (form-legal row.1 (second_so (is_mps_name row.0) legal (first_so a1 (t1 && (t2 && (t3 && t4))) h)))
+    (or_zero (at_name all.rhs_values row.0) (found_all is_decimal row.0 all.rhs_values sides))
+    (not_so (has_infinite_rhs row.1 b r) (first_so t1 (t2 && (t3 && t4)) h1)) (not_so (is_inexact limits) (first_so t2 (t3 && t4) h2))
+    (not_so (is_too_large limits) (first_so t3 t4 h3)) (not_so (is_crossed limits) (second_so t3 t4 h3))
+
+rows_pass : (all : Draft) → IsGood all all → HasNoFault all → list_all (row_tests all) all.rows ≡ true
+rows_pass all g f =
+    and_all _ _ all.rows g.rows (and_all _ _ all.rows f.rhs_values (and_all _ _ all.rows f.exact (and_all _ _ all.rows f.small f.straight)))
+
+-- ---- columns
+
+lower_ok : (l : Limit) → (is_given l && not (is_plus_infinite l)) ≡ true → is_lower_side l ≡ true
+lower_ok MinusInf h = refl
+lower_ok (Finite d) h = first_so (is_bounded_decimal d) true h
+lower_ok PlusInf h = h
+
+upper_ok : (l : Limit) → (is_given l && not (is_minus_infinite l)) ≡ true → is_upper_side l ≡ true
+upper_ok MinusInf h = h
+upper_ok (Finite d) h = first_so (is_bounded_decimal d) true h
+upper_ok PlusInf h = refl
+
+lower_or : (o : Option Limit) → option_map_or (λ l. is_given l && not (is_plus_infinite l)) o true ≡ true → is_lower_side (unwrap_or o zero_limit) ≡ true
+lower_or None h = refl
+lower_or (Some l) h = lower_ok l h
+
+upper_or : (o : Option Limit) (b : Bool) → option_map_or (λ l. is_given l && not (is_minus_infinite l)) o true ≡ true → is_upper_side (unwrap_or o (cond b one_limit PlusInf)) ≡ true
+upper_or None true h = refl
+upper_or None false h = refl
+upper_or (Some l) b h = upper_ok l h
+
+straight : (b : Bool) → not (not b) ≡ true → b ≡ true
+straight true h = refl
+straight false h = h
+
+sound_column : (all : Draft) (name : List ℕ) → IsGood all all → is_mps_name name ≡ true → not (has_crossed_bounds all name) ≡ true → not (has_semi_bounds all name) ≡ true
+    → is_sound_column (name, column_of all name) ≡ true
+sound_column all name g h k s =
+    let l = lower_bound all name in
+    let u = upper_bound all name in
+    let suited = suits (kind_of all name) l u in
+    both_so (is_mps_name name) ((is_lower_side l && (is_upper_side u && is_at_most l u)) && suited) h
+    (both_so (is_lower_side l && (is_upper_side u && is_at_most l u)) suited
+    (both_so (is_lower_side l) (is_upper_side u && is_at_most l u) (lower_or (at_name all.lowers name) (found_all (λ l. is_given l && not (is_plus_infinite l)) name all.lowers g.lowers))
+    (both_so (is_upper_side u) (is_at_most l u)
+    (upper_or (at_name all.uppers name) (has_name all.binaries name || (has_name all.marked name && has_no_side all name)) (found_all (λ l. is_given l && not (is_minus_infinite l)) name all.uppers g.uppers))
+    (straight (is_at_most l u) k))) (straight suited s))
+
+abbrev column_tests : Draft → List ℕ → Bool
+column_tests all name = is_mps_name name && (not (has_crossed_bounds all name) && not (has_semi_bounds all name))
+
+tested_column : (all : Draft) (name : List ℕ) → IsGood all all → column_tests all name ≡ true → is_sound_column (name, column_of all name) ≡ true
+tested_column all name g h =
+    let crossed = not (has_crossed_bounds all name) in
+    let semi = not (has_semi_bounds all name) in
+    let rest = second_so (is_mps_name name) (crossed && semi) h in
+    sound_column all name g (first_so (is_mps_name name) (crossed && semi) h) (first_so crossed semi rest) (second_so crossed semi rest)
+
+some_columns : {X Y : Type 0} (f : X → Y) (xs : List X) → is_nonempty xs ≡ true → 0 < length (map f xs)
+some_columns f [] h = absurd cc
+some_columns f (x ∷ xs) h = omega arith
+
+-- ---- no fault, so the model is meant
+
+-- A well formed draft without a fault of the whole means its model.
+pub meant-from_no_fault : (all : Draft) → IsWellFormed all → file_fault all ≡ None → DraftMeans all (model_of all)
+meant-from_no_fault all w none =
+    let m = model_of all in
+    let g = w.good in
+    let f = no_fault-from_none all none in
+    let rows = rows_pass all g f in
+    let row_values : List ℕ × RowForm → Row = λ row. unwrap_or (row_limits all row) (plain_limits Free zero_number) in
+    let column_values : List ℕ × Unit {0} → Column = λ column. column_of all column.0 in
+    let rows_are : maps.entries m.rows ≡ map (row_entry all) all.rows = maps.entries-from_sorted bytes_cmp (map (row_entry all) all.rows) (subst T (sym (sorted-mapped row_values all.rows)) g.rows_sorted) in
+    let columns_are : maps.entries m.columns ≡ map (λ column. (column.0, column_of all column.0)) all.columns =
+    maps.entries-from_sorted bytes_cmp (map (λ column. (column.0, column_of all column.0)) all.columns) (subst T (sym (sorted-mapped column_values all.columns)) g.columns_sorted) in
+    let is_kept : CoefficientKey × Number → Bool = λ entry. not (is_zero entry.1) in
+    let kept_are : maps.entries m.coefficients ≡ filter is_kept all.coefficients = maps.entries-from_sorted key_cmp (filter is_kept all.coefficients) (sorted-filtered is_kept all.coefficients g.coefficients_sorted) in
+    let row_names : maps.keys m.rows ≡ names_in all.rows = ap names_in rows_are ∙ names-mapped row_values all.rows in
+    let column_names : maps.keys m.columns ≡ names_in all.columns = ap names_in columns_are ∙ names-mapped column_values all.columns in
+    record {
+      finite_rhs_values = f.rhs_values;
+      exact_limits = imp_all (row_tests all) (λ row. is_some (row_limits all row)) all.rows (λ row h. some_limits (row_limits all row) (sound_row all row g.rhs_values h)) rows;
+      model = refl;
+      sound = record {
+        objective = legal_objective all.objective w.named g.objective;
+        objective_is_no_row = ap (λ (names : List (List ℕ)). is_one_of names (objective_name all)) row_names ∙ one_of-names (objective_name all) all.rows ∙ w.apart (objective_name all) (named_objective all.objective w.named);
+        constant = legal_constant all.constant (unwrap_or (at_name all.rhs_values (objective_name all)) zero_number) g.constant (or_zero (at_name all.rhs_values (objective_name all)) (found_all is_decimal (objective_name all) all.rhs_values g.rhs_values));
+        has_column = subst (λ (names : List (List ℕ)). 0 < length names) (sym column_names) (some_columns (λ (e : List ℕ × Unit {0}). e.0) all.columns f.column);
+        rows = ap (list_all is_sound_row) rows_are ∙ sym (map_all (row_entry all) is_sound_row all.rows)
+            ∙ imp_all (row_tests all) (λ row. is_sound_row (row_entry all row)) all.rows (λ row h. sound_entry row.0 (row_limits all row) (name_of all row h) (sound_row all row g.rhs_values h)) rows;
+        columns = ap (list_all is_sound_column) columns_are ∙ sym (map_all (λ (column : List ℕ × Unit {0}). (column.0, column_of all column.0)) is_sound_column all.columns)
+            ∙ imp_all (λ column. column_tests all column.0) (λ column. is_sound_column (column.0, column_of all column.0)) all.columns (λ column h. tested_column all column.0 g h)
+            (and_all (λ column. is_mps_name column.0) (λ column. not (has_crossed_bounds all column.0) && not (has_semi_bounds all column.0)) all.columns g.columns
+            (and_all (λ column. not (has_crossed_bounds all column.0)) (λ column. not (has_semi_bounds all column.0)) all.columns
+            (map_all (λ (e : List ℕ × Unit {0}). e.0) (λ name. not (has_crossed_bounds all name)) all.columns ∙ f.bounds)
+            (map_all (λ (e : List ℕ × Unit {0}). e.0) (λ name. not (has_semi_bounds all name)) all.columns ∙ f.semi)));
+        coefficients = ap (list_all (is_sound_coefficient m)) kept_are
+            ∙ imp_all (λ e. (is_decimal e.1 && (has_row all e.0.row && has_column all e.0.column)) && not (is_zero e.1)) (is_sound_coefficient m) (filter is_kept all.coefficients)
+            (λ e h. sound_coefficient all m e row_names column_names refl h) (filter_all is_kept (λ e. is_decimal e.1 && (has_row all e.0.row && has_column all e.0.column)) all.coefficients g.coefficients);
+      };
+      no_negative_upper = f.no_negative_upper;
+      binary_within = f.binary;
+    }
+  where
+    name_of : (all : Draft) (row : List ℕ × RowForm) → row_tests all row ≡ true → is_mps_name row.0 ≡ true
+    name_of all row h = first_so (is_mps_name row.0) _ (first_so (is_mps_name row.0 && (are_given row.1 && not (have_infinite_side row.1))) _ h)
+
+    sound_coefficient : (all : Draft) (m : LinearModel) (e : CoefficientKey × Number) → maps.keys m.rows ≡ names_in all.rows → maps.keys m.columns ≡ names_in all.columns → m.objective ≡ objective_name all
+        → ((is_decimal e.1 && (has_row all e.0.row && has_column all e.0.column)) && not (is_zero e.1)) ≡ true → is_sound_coefficient m e ≡ true
+    sound_coefficient all m e rows columns objective h =
+        let key = e.0 in
+        let known = has_row all key.row && has_column all key.column in
+        let a = first_so (is_decimal e.1 && known) (not (is_zero e.1)) h in
+        let k = second_so (is_decimal e.1) known a in
+        let column : is_one_of (maps.keys m.columns) key.column ≡ true = ap (λ (names : List (List ℕ)). is_one_of names key.column) columns ∙ one_of-names key.column all.columns ∙ second_so (has_row all key.row) (has_column all key.column) k in
+        let row : is_one_of (m.objective ∷ maps.keys m.rows) key.row ≡ true =
+        (λ i. is_one_of (objective i ∷ rows i) key.row) ∙ named_row all.objective key.row (is_one_of (names_in all.rows) key.row) (has_name all.rows key.row) (one_of-names key.row all.rows) (first_so (has_row all key.row) (has_column all key.column) k) in
+        both_so (is_decimal e.1) (not (is_zero e.1) && (is_one_of (maps.keys m.columns) key.column && is_one_of (m.objective ∷ maps.keys m.rows) key.row))
+        (first_so (is_decimal e.1) known a)
+        (both_so (not (is_zero e.1)) (is_one_of (maps.keys m.columns) key.column && is_one_of (m.objective ∷ maps.keys m.rows) key.row)
+        (second_so (is_decimal e.1 && known) (not (is_zero e.1)) h)
+        (both_so (is_one_of (maps.keys m.columns) key.column) (is_one_of (m.objective ∷ maps.keys m.rows) key.row) column row))
+
+-- Consistent declarations with legal names and values, without a fault of the whole, mean the model of their draft.
+pub means-from_no_fault : (declarations : Declarations) → AreConsistent declarations → list_all is_legal declarations ≡ true → file_fault (draft_of declarations) ≡ None → Means declarations (model_of (draft_of declarations))
+means-from_no_fault declarations c legal none = record {
+  consistent = c;
+  meant = meant-from_no_fault (draft_of declarations) (well_formed-from_consistent declarations c legal) none;
+}

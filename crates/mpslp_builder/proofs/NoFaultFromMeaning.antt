@@ -1,0 +1,194 @@
+-- What means a model has no fault of the whole file.
+use Rattle.std.proofs.Common.{◌≡◌, ◌<◌, refl, sym, ap, subst, ◌∙◌, ℕ, List, [], ◌∷◌, length, Bool, true, false, not, cond, map, arith}
+use Rattle.std.specs.Prelude.{◌&&◌, ◌||◌, Option, Some, None, is_some, is_none, unwrap_or}
+use Rattle.std.specs.List.{list_all}
+use Rattle.std.specs.Option.{option_map_or}
+use Rattle.std.specs.Cmp.{first_so, second_so}
+use Rattle.std.proofs.Math.Dec.{T}
+use Rattle.std.specs.FinMap as maps
+use Rattle.mpslp_decimal.specs.Decimal.{Number, zero_number, is_decimal, is_negative, is_infinite_size, size_of, sum_of, difference_of}
+use Rattle.mpslp_types.specs.Name.{is_mps_name, bytes_cmp}
+use Rattle.mpslp_core.specs.Model.{LinearModel, Row, Column, IsSound, is_sound_row, is_sound_column, suits}
+use Rattle.mpslp_types.specs.Sides.{are_sides, is_at_most, is_lower_side, is_upper_side, has_bounded_distance, is_bounded_decimal, limit_of}
+use Rattle.mpslp_builder.specs.Declaration.{RowForm, by_type, by_limits, Declarations, Draft, draft_of, at_name, names_in}
+use Rattle.mpslp_core.specs.Limits.{sides, plain_limits, limits_of, has_infinite_rhs, is_inexact, is_too_large, is_large_limit, is_crossed}
+use Rattle.mpslp_builder.specs.Bounds.{lower_bound, upper_bound, kind_of, column_of, has_crossed_bounds, has_semi_bounds}
+use Rattle.mpslp_builder.specs.Made.{is_legal}
+use Rattle.mpslp_core.specs.Lists.{is_nonempty}
+use Rattle.mpslp_builder.specs.Meaning.{rhs_or_zero, row_limits, row_entry, model_of, file_fault, DraftMeans, Means}
+use Rattle.mpslp_types.specs.declared.kinds.Limit.{Limit}
+use Rattle.mpslp_types.specs.declared.kinds.Limit.TheVariants.{MinusInf, Finite, PlusInf}
+use Rattle.mpslp_types.specs.declared.kinds.RowType.TheVariants.{Free, AtMost, AtLeast, Equal}
+use Rattle.mpslp_types.proofs.BoolLemmas.{not_so, so_not, both_false}
+use Rattle.mpslp_builder.proofs.WellFormed.{IsWellFormed, well_formed-from_consistent}
+use Rattle.mpslp_types.proofs.EachLemmas.{imp_all, and_all, map_all}
+use Rattle.mpslp_builder.proofs.FileFaultLemmas.{none-from_no_fault}
+use Rattle.mpslp_builder.proofs.MeaningFromNoFault.{sorted-mapped, names-mapped}
+
+abbrev sides_hold : Option Row → Bool
+sides_hold None = false
+sides_hold (Some row) = are_sides row.lower row.upper
+
+no_inf_upper : (inf neg : Bool) (b : Number) → is_upper_side (cond inf (cond neg MinusInf PlusInf) (Finite b)) ≡ true → (inf && neg) ≡ false
+no_inf_upper true true b h = sym h
+no_inf_upper true false b h = refl
+no_inf_upper false neg b h = refl
+
+no_inf_lower : (inf neg : Bool) (b : Number) → is_lower_side (cond inf (cond neg MinusInf PlusInf) (Finite b)) ≡ true → (inf && not neg) ≡ false
+no_inf_lower true true b h = refl
+no_inf_lower true false b h = sym h
+no_inf_lower false neg b h = refl
+
+no_inf : (inf neg : Bool) (b : Number) → is_lower_side (cond inf (cond neg MinusInf PlusInf) (Finite b)) ≡ true → is_upper_side (cond inf (cond neg MinusInf PlusInf) (Finite b)) ≡ true → inf ≡ false
+no_inf true true b h k = sym k
+no_inf true false b h k = sym h
+no_inf false neg b h k = refl
+
+finite_size : (b : Number) → is_bounded_decimal b ≡ true → is_infinite_size b ≡ false
+finite_size b h = not_so (is_infinite_size b) (second_so (is_decimal b) (not (is_infinite_size b)) h)
+
+and_false : (a b : Bool) → a ≡ false → (a && b) ≡ false
+and_false true b h = cc
+and_false false b h = refl
+
+lower_of : (l u : Limit) → are_sides l u ≡ true → is_lower_side l ≡ true
+lower_of l u h = first_so (is_lower_side l) (is_upper_side u && is_at_most l u) h
+
+upper_of : (l u : Limit) → are_sides l u ≡ true → is_upper_side u ≡ true
+upper_of l u h = first_so (is_upper_side u) (is_at_most l u) (second_so (is_lower_side l) (is_upper_side u && is_at_most l u) h)
+
+straight_of : (l u : Limit) → are_sides l u ≡ true → is_at_most l u ≡ true
+straight_of l u h = second_so (is_upper_side u) (is_at_most l u) (second_so (is_lower_side l) (is_upper_side u && is_at_most l u) h)
+
+finite_above : (o : Option Number) (b : Number) → sides_hold (sides o (Some b)) ≡ true → is_infinite_size b ≡ false
+finite_above None b h = cc
+finite_above (Some a) b h = finite_size b (upper_of (Finite a) (Finite b) h)
+
+finite_below : (o : Option Number) (b : Number) → sides_hold (sides (Some b) o) ≡ true → is_infinite_size b ≡ false
+finite_below None b h = cc
+finite_below (Some a) b h = finite_size b (lower_of (Finite b) (Finite a) h)
+
+no_infinite_side : (form : RowForm) (b : Number) (r : Option Number) → sides_hold (limits_of form b r) ≡ true → has_infinite_rhs form b r ≡ false
+no_infinite_side (by_limits l u) b r h = refl
+no_infinite_side (by_type Free) b r h = refl
+no_infinite_side (by_type AtMost) b None h = no_inf_upper (is_infinite_size b) (is_negative b) b (upper_of MinusInf (limit_of b) h)
+no_infinite_side (by_type AtLeast) b None h = no_inf_lower (is_infinite_size b) (is_negative b) b (lower_of (limit_of b) PlusInf h)
+no_infinite_side (by_type Equal) b None h = no_inf (is_infinite_size b) (is_negative b) b (lower_of (limit_of b) (limit_of b) h) (upper_of (limit_of b) (limit_of b) h)
+no_infinite_side (by_type AtMost) b (Some r) h = and_false (is_infinite_size b) true (finite_above (difference_of b (size_of r)) b h)
+no_infinite_side (by_type AtLeast) b (Some r) h = and_false (is_infinite_size b) true (finite_below (sum_of b (size_of r)) b h)
+no_infinite_side (by_type Equal) b (Some r) h =
+    elim (is_negative r) as (λ (n : Bool). sides_hold (cond n (sides (difference_of b (size_of r)) (Some b)) (sides (Some b) (sum_of b (size_of r)))) ≡ true → is_infinite_size b ≡ false) [
+      | true ↦ finite_above (difference_of b (size_of r)) b
+      | false ↦ finite_below (sum_of b (size_of r)) b
+    ] h
+
+small_lower : (l : Limit) → is_lower_side l ≡ true → is_large_limit l ≡ false
+small_lower MinusInf h = refl
+small_lower (Finite a) h = finite_size a h
+small_lower PlusInf h = refl
+
+small_upper : (l : Limit) → is_upper_side l ≡ true → is_large_limit l ≡ false
+small_upper MinusInf h = refl
+small_upper (Finite a) h = finite_size a h
+small_upper PlusInf h = refl
+
+exact_distance : (o : Option Number) → option_map_or is_bounded_decimal o false ≡ true → (is_none o ≡ false) × (option_map_or is_infinite_size o false ≡ false)
+exact_distance None h = absurd cc
+exact_distance (Some d) h = (refl, finite_size d h)
+
+near : (l u : Limit) → is_lower_side l ≡ true → is_upper_side u ≡ true → has_bounded_distance l u ≡ true → (is_inexact (Some (record { lower = l; upper = u })) ≡ false) × (is_too_large (Some (record { lower = l; upper = u })) ≡ false)
+near (Finite a) (Finite b) h k d =
+    let e = exact_distance (difference_of b a) d in (
+      e.0,
+      both_false (is_infinite_size a) (is_infinite_size b || option_map_or is_infinite_size (difference_of b a) false) (finite_size a h)
+          (both_false (is_infinite_size b) (option_map_or is_infinite_size (difference_of b a) false) (finite_size b k) e.1),
+    )
+near (Finite a) MinusInf h k d = absurd cc
+near (Finite a) PlusInf h k d = (refl, both_false (is_infinite_size a) false (finite_size a h) refl)
+near MinusInf MinusInf h k d = (refl, refl)
+near MinusInf (Finite b) h k d = (refl, both_false (is_infinite_size b) false (finite_size b k) refl)
+near MinusInf PlusInf h k d = (refl, refl)
+near PlusInf u h k d = absurd cc
+
+-- a row that has no fault
+pub record PassesTests (form : RowForm) (b : Number) (r : Option Number) : Type 0 where
+  pub finite : not (has_infinite_rhs form b r) ≡ true
+  pub exact : not (is_inexact (limits_of form b r)) ≡ true
+  pub small : not (is_too_large (limits_of form b r)) ≡ true
+  pub straight : not (is_crossed (limits_of form b r)) ≡ true
+
+tests_of : (form : RowForm) (b : Number) (r : Option Number) (name : List ℕ) (o : Option Row) → limits_of form b r ≡ o → is_some o ≡ true → is_sound_row (name, unwrap_or o (plain_limits Free zero_number)) ≡ true → PassesTests form b r
+tests_of form b r name None is there h = absurd cc
+tests_of form b r name (Some row) is there h =
+    let rest = second_so (is_mps_name name) (are_sides row.lower row.upper && has_bounded_distance row.lower row.upper) h in
+    let s = first_so (are_sides row.lower row.upper) (has_bounded_distance row.lower row.upper) rest in
+    let n = near row.lower row.upper (lower_of row.lower row.upper s) (upper_of row.lower row.upper s) (second_so (are_sides row.lower row.upper) (has_bounded_distance row.lower row.upper) rest) in
+    record {
+      finite = so_not (has_infinite_rhs form b r) (no_infinite_side form b r (ap sides_hold is ∙ s));
+      exact = so_not (is_inexact (limits_of form b r)) (ap is_inexact is ∙ n.0);
+      small = so_not (is_too_large (limits_of form b r)) (ap is_too_large is ∙ n.1);
+      straight = so_not (is_crossed (limits_of form b r)) (ap is_crossed is ∙ ap not (straight_of row.lower row.upper s));
+    }
+
+row_tested : (all : Draft) (row : List ℕ × RowForm) → (is_sound_row (row_entry all row) && is_some (row_limits all row)) ≡ true → PassesTests row.1 (rhs_or_zero all row.0) (at_name all.ranges row.0)
+row_tested all row h =
+    tests_of row.1 (rhs_or_zero all row.0) (at_name all.ranges row.0) row.0 (row_limits all row) refl
+    (second_so (is_sound_row (row_entry all row)) (is_some (row_limits all row)) h) (first_so (is_sound_row (row_entry all row)) (is_some (row_limits all row)) h)
+
+not_not : (b : Bool) → b ≡ true → not (not b) ≡ true
+not_not true h = refl
+not_not false h = h
+
+column_straight : (all : Draft) (name : List ℕ) → is_sound_column (name, column_of all name) ≡ true → not (has_crossed_bounds all name) ≡ true
+column_straight all name h =
+    let l = lower_bound all name in
+    let u = upper_bound all name in
+    let suited = suits (kind_of all name) l u in
+    not_not (is_at_most l u) (straight_of l u (first_so (are_sides l u) suited (second_so (is_mps_name name) (are_sides l u && suited) h)))
+
+column_suited : (all : Draft) (name : List ℕ) → is_sound_column (name, column_of all name) ≡ true → not (has_semi_bounds all name) ≡ true
+column_suited all name h =
+    let sides = are_sides (lower_bound all name) (upper_bound all name) in
+    let suited = suits (kind_of all name) (lower_bound all name) (upper_bound all name) in
+    not_not suited (second_so sides suited (second_so (is_mps_name name) (sides && suited) h))
+
+has_columns : {X Y : Type 0} (f : X → Y) (xs : List X) → 0 < length (map f xs) → is_nonempty xs ≡ true
+has_columns f [] h = absurd (omega arith)
+has_columns f (x ∷ xs) h = refl
+
+-- A well formed draft that means a model has no fault of the whole.
+pub no_fault-from_meant : (all : Draft) (m : LinearModel) → IsWellFormed all → DraftMeans all m → file_fault all ≡ None
+no_fault-from_meant all m w meant =
+    let n = model_of all in
+    let sound : IsSound n = subst IsSound meant.model meant.sound in
+    let g = w.good in
+    let row_values : List ℕ × RowForm → Row = λ row. unwrap_or (row_limits all row) (plain_limits Free zero_number) in
+    let column_values : List ℕ × Unit {0} → Column = λ column. column_of all column.0 in
+    let rows_are : maps.entries n.rows ≡ map (row_entry all) all.rows = maps.entries-from_sorted bytes_cmp (map (row_entry all) all.rows) (subst T (sym (sorted-mapped row_values all.rows)) g.rows_sorted) in
+    let columns_are : maps.entries n.columns ≡ map (λ column. (column.0, column_of all column.0)) all.columns =
+    maps.entries-from_sorted bytes_cmp (map (λ column. (column.0, column_of all column.0)) all.columns) (subst T (sym (sorted-mapped column_values all.columns)) g.columns_sorted) in
+    let column_names : maps.keys n.columns ≡ names_in all.columns = ap names_in columns_are ∙ names-mapped column_values all.columns in
+    let rows : list_all (λ row. is_sound_row (row_entry all row) && is_some (row_limits all row)) all.rows ≡ true =
+    and_all (λ row. is_sound_row (row_entry all row)) (λ row. is_some (row_limits all row)) all.rows
+    (map_all (row_entry all) is_sound_row all.rows ∙ ap (list_all is_sound_row) (sym rows_are) ∙ sound.rows) meant.exact_limits in
+    let columns : list_all (λ column. is_sound_column (column.0, column_of all column.0)) all.columns ≡ true =
+    map_all (λ (column : List ℕ × Unit {0}). (column.0, column_of all column.0)) is_sound_column all.columns ∙ ap (list_all is_sound_column) (sym columns_are) ∙ sound.columns in
+    let tested : List ℕ × RowForm → Bool = λ row. is_sound_row (row_entry all row) && is_some (row_limits all row) in
+    none-from_no_fault all (record {
+      column = has_columns (λ (e : List ℕ × Unit {0}). e.0) all.columns (subst (λ (names : List (List ℕ)). 0 < length names) column_names sound.has_column);
+      rhs_values = meant.finite_rhs_values;
+      exact = imp_all tested (λ row. not (is_inexact (limits_of row.1 (rhs_or_zero all row.0) (at_name all.ranges row.0)))) all.rows (λ row h. let p = row_tested all row h in p.exact) rows;
+      small = imp_all tested (λ row. not (is_too_large (limits_of row.1 (rhs_or_zero all row.0) (at_name all.ranges row.0)))) all.rows (λ row h. let p = row_tested all row h in p.small) rows;
+      straight = imp_all tested (λ row. not (is_crossed (limits_of row.1 (rhs_or_zero all row.0) (at_name all.ranges row.0)))) all.rows (λ row h. let p = row_tested all row h in p.straight) rows;
+      no_negative_upper = meant.no_negative_upper;
+      bounds = sym (map_all (λ (e : List ℕ × Unit {0}). e.0) (λ name. not (has_crossed_bounds all name)) all.columns)
+          ∙ imp_all (λ column. is_sound_column (column.0, column_of all column.0)) (λ column. not (has_crossed_bounds all column.0)) all.columns (λ column h. column_straight all column.0 h) columns;
+      binary = meant.binary_within;
+      semi = sym (map_all (λ (e : List ℕ × Unit {0}). e.0) (λ name. not (has_semi_bounds all name)) all.columns)
+          ∙ imp_all (λ column. is_sound_column (column.0, column_of all column.0)) (λ column. not (has_semi_bounds all column.0)) all.columns (λ column h. column_suited all column.0 h) columns;
+    })
+
+-- Legal declarations that mean a model have no fault of the whole.
+pub no_fault-from_means : (declarations : Declarations) (m : LinearModel) → Means declarations m → list_all is_legal declarations ≡ true → file_fault (draft_of declarations) ≡ None
+no_fault-from_means declarations m means legal =
+    no_fault-from_meant (draft_of declarations) m (well_formed-from_consistent declarations means.consistent legal) means.meant

@@ -1,0 +1,222 @@
+-- Slots that are filled, one declaration after another, are filled once.
+use Rattle.std.proofs.Common.{◌≡◌, refl, sym, ap, ◌∙◌, ℕ, List, [], ◌∷◌, ◌++◌, Bool, true, false, not, cond}
+use Rattle.std.proofs.Math.Bool.{and_comm}
+use Rattle.std.specs.Prelude.{◌&&◌, ◌||◌, Option, Some, None, is_some}
+use Rattle.std.specs.Option.{option_map_or}
+use Rattle.std.specs.List.{list_any, list_all}
+use Rattle.std.specs.Ordering.{eq_by_cmp}
+use Rattle.std.specs.Cmp.{first_so, both_tied}
+use Rattle.std.specs.Cmp.Lexicographic.{texts_ties, nat_list_cmp_total, same_text}
+use Rattle.std.specs.FinMap.{find, put}
+use Rattle.std.specs.FinMap.Entries.{find-put}
+use Rattle.std.proofs.lemmas.List.Folds.{list_any-append, list_all-append}
+use Rattle.mpslp_types.specs.Name.{same_bytes, bytes_cmp}
+use Rattle.mpslp_core.specs.Model.{CoefficientKey, key_cmp, key_total}
+use Rattle.mpslp_builder.specs.Declaration.{RowForm, by_type, by_limits, Declaration, declare_sense, declare_objective, declare_constant, declare_row, declare_rhs, declare_range, declare_column, declare_coefficient, declare_lower, declare_upper, declare_marked, declare_integer, declare_binary, declare_semi, Declarations, Draft, adding, at_name, has_name, has_row, is_objective, has_entry, is_limits_form, is_row_by_limits}
+use Rattle.mpslp_core.specs.Lists.{are_distinct}
+use Rattle.mpslp_builder.specs.Consistency.{Slot, sense_slot, objective_slot, constant_slot, row_slot, rhs_slot, range_slot, coefficient_slot, lower_slot, upper_slot, same_slot, slots_of, all_slots}
+use Rattle.mpslp_types.proofs.BoolLemmas.{or_end, all_true, mixed, mixed_more}
+
+-- ---- one entry more
+
+pub at-put : {X : Type 0} (q k : List ℕ) (v : X) (es : List (List ℕ × X)) → at_name (put bytes_cmp k v es) q ≡ cond (same_bytes q k) (Some v) (at_name es q)
+at-put {X} q k v es = find-put bytes_cmp nat_list_cmp_total q k v es ∙ ap (λ (b : Bool). cond b (Some v) (find bytes_cmp q es)) (sym (texts_ties q k))
+
+is_some-cond : {X : Type 0} (b : Bool) (v : X) (o : Option X) → is_some (cond b (Some v) o) ≡ (b || is_some o)
+is_some-cond true v o = refl
+is_some-cond false v o = refl
+
+pub has-put : {X : Type 0} (q k : List ℕ) (v : X) (es : List (List ℕ × X)) → has_name (put bytes_cmp k v es) q ≡ (same_bytes q k || has_name es q)
+has-put q k v es = ap is_some (at-put q k v es) ∙ is_some-cond (same_bytes q k) v (at_name es q)
+
+pub key_ties : (a b : CoefficientKey) → (same_bytes a.row b.row && same_bytes a.column b.column) ≡ eq_by_cmp key_cmp a b
+key_ties a b =
+    and_comm (same_bytes a.row b.row) (same_bytes a.column b.column)
+    ∙ both_tied _ _ (bytes_cmp a.column b.column) (bytes_cmp a.row b.row) (texts_ties a.column b.column) (texts_ties a.row b.row)
+
+pub has-put_key : {X : Type 0} (q k : CoefficientKey) (v : X) (es : List (CoefficientKey × X))
+    → is_some (find key_cmp q (put key_cmp k v es)) ≡ ((same_bytes q.row k.row && same_bytes q.column k.column) || is_some (find key_cmp q es))
+has-put_key q k v es =
+    ap is_some (find-put key_cmp key_total q k v es)
+    ∙ is_some-cond (eq_by_cmp key_cmp q k) v (find key_cmp q es) ∙ ap (λ (b : Bool). b || is_some (find key_cmp q es)) (sym (key_ties q k))
+
+-- ---- filled slots
+
+abbrev pub is_filled : Draft → Slot → Bool
+is_filled all sense_slot = is_some all.sense
+is_filled all objective_slot = is_some all.objective
+is_filled all constant_slot = is_some all.constant
+is_filled all (row_slot name) = has_row all name
+is_filled all (rhs_slot name) = has_name all.rhs_values name || is_row_by_limits all name
+is_filled all (range_slot name) = has_name all.ranges name || is_row_by_limits all name
+is_filled all (coefficient_slot key) = has_entry all key
+is_filled all (lower_slot name) = has_name all.lowers name
+is_filled all (upper_slot name) = has_name all.uppers name
+
+abbrev pub are_fresh : Draft → List Slot → Bool
+are_fresh all slots = list_all (λ slot. not (is_filled all slot)) slots
+
+abbrev pub fills : Declaration → Slot → Bool
+fills d slot = list_any (same_slot slot) (slots_of d)
+
+-- the objective was none
+row_by_objective : (o : Option (List ℕ)) (name n : List ℕ) (r : Bool) → (not (is_some o)) ≡ true
+    → (same_bytes n name || r) ≡ ((same_bytes n name || false) || (option_map_or (same_bytes n) o false || r))
+row_by_objective None name n r h = or_end (same_bytes n name) r
+row_by_objective (Some o) name n r h = cc
+
+in_row : (a o r : Bool) (rest : Bool) → rest ≡ false → (o || (a || r)) ≡ ((a || rest) || (o || r))
+in_row true true r rest h = refl
+in_row true false r rest h = refl
+in_row false o r rest h = ap (λ (b : Bool). b || (o || r)) (sym h)
+
+after_or : (s a r l : Bool) → ((s || r) || l) ≡ ((s || false) || (r || l))
+after_or true a r l = refl
+after_or false a r l = refl
+
+limits_of_cond : (b : Bool) (form : RowForm) (o : Option RowForm) → option_map_or is_limits_form (cond b (Some form) o) false ≡ cond b (is_limits_form form) (option_map_or is_limits_form o false)
+limits_of_cond true form o = refl
+limits_of_cond false form o = refl
+
+pub limits_need_row : (o : Option RowForm) → is_some o ≡ false → option_map_or is_limits_form o false ≡ false
+limits_need_row None h = refl
+limits_need_row (Some form) h = cc
+
+pub fresh_row : (a b : Bool) (rest : Bool) → (not (a || b) && rest) ≡ true → b ≡ false
+fresh_row true b rest h = cc
+fresh_row false true rest h = cc
+fresh_row false false rest h = refl
+
+-- a slot of a row by limits, after a row more: `here` says that the row is of this name
+by_type_after : (here r was : Bool) → (here ≡ true → was ≡ false) → (r || cond here false was) ≡ (r || was)
+by_type_after true true was h = refl
+by_type_after true false was h = sym (h refl)
+by_type_after false r was h = refl
+
+by_limits_after : (here r was : Bool) → (r || cond here true was) ≡ ((here || false) || (r || was))
+by_limits_after true true was = refl
+by_limits_after true false was = refl
+by_limits_after false r was = refl
+
+by_limits_second : (here r was : Bool) → (r || cond here true was) ≡ ((here || false) || (r || was))
+by_limits_second = by_limits_after
+
+limits_at : (all : Draft) (n name : List ℕ) (form : RowForm) → is_row_by_limits (adding all (declare_row name form)) n ≡ cond (same_bytes n name) (is_limits_form form) (is_row_by_limits all n)
+limits_at all n name form = ap (λ (o : Option RowForm). option_map_or is_limits_form o false) (at-put n name form all.rows) ∙ limits_of_cond (same_bytes n name) form (at_name all.rows n)
+
+pub same_name : (a b : List ℕ) → same_bytes a b ≡ true → a ≡ b
+same_name a b h = same_text a b (sym h)
+
+was_no_limits : (all : Draft) (n name : List ℕ) (rest : Bool) → (not (has_row all name) && rest) ≡ true → same_bytes n name ≡ true → is_row_by_limits all n ≡ false
+was_no_limits all n name rest h same =
+    limits_need_row (at_name all.rows n)
+    (ap (λ (k : List ℕ). has_name all.rows k) (same_name n name same) ∙ fresh_row (is_objective all name) (has_name all.rows name) rest h)
+
+-- A declaration whose slots were free fills these and no more.
+pub filled-adding : (all : Draft) (d : Declaration) (slot : Slot) → are_fresh all (slots_of d) ≡ true
+    → is_filled (adding all d) slot ≡ (fills d slot || is_filled all slot)
+filled-adding all (declare_objective name) (row_slot n) h =
+    row_by_objective all.objective name n (has_name all.rows n) (first_so (not (is_some all.objective)) (not (has_row all name) && true) h)
+filled-adding all (declare_row name (by_type type)) (row_slot n) h =
+    ap (λ (b : Bool). is_objective all n || b) (has-put n name (by_type type) all.rows) ∙ in_row (same_bytes n name) (is_objective all n) (has_name all.rows n) false refl
+filled-adding all (declare_row name (by_limits l u)) (row_slot n) h =
+    ap (λ (b : Bool). is_objective all n || b) (has-put n name (by_limits l u) all.rows) ∙ in_row (same_bytes n name) (is_objective all n) (has_name all.rows n) false refl
+filled-adding all (declare_row name (by_type type)) (rhs_slot n) h =
+    ap (λ (b : Bool). has_name all.rhs_values n || b) (limits_at all n name (by_type type))
+    ∙ by_type_after (same_bytes n name) (has_name all.rhs_values n) (is_row_by_limits all n) (was_no_limits all n name _ h)
+filled-adding all (declare_row name (by_type type)) (range_slot n) h =
+    ap (λ (b : Bool). has_name all.ranges n || b) (limits_at all n name (by_type type))
+    ∙ by_type_after (same_bytes n name) (has_name all.ranges n) (is_row_by_limits all n) (was_no_limits all n name _ h)
+filled-adding all (declare_row name (by_limits l u)) (rhs_slot n) h =
+    ap (λ (b : Bool). has_name all.rhs_values n || b) (limits_at all n name (by_limits l u))
+    ∙ by_limits_after (same_bytes n name) (has_name all.rhs_values n) (is_row_by_limits all n)
+filled-adding all (declare_row name (by_limits l u)) (range_slot n) h =
+    ap (λ (b : Bool). has_name all.ranges n || b) (limits_at all n name (by_limits l u))
+    ∙ by_limits_after (same_bytes n name) (has_name all.ranges n) (is_row_by_limits all n)
+filled-adding all (declare_row name (by_type type)) _ h = refl
+filled-adding all (declare_row name (by_limits l u)) _ h = refl
+filled-adding all (declare_rhs row v) (rhs_slot n) h =
+    ap (λ (b : Bool). b || is_row_by_limits all n) (has-put n row v all.rhs_values) ∙ after_or (same_bytes n row) true (has_name all.rhs_values n) (is_row_by_limits all n)
+filled-adding all (declare_range row v) (range_slot n) h =
+    ap (λ (b : Bool). b || is_row_by_limits all n) (has-put n row v all.ranges) ∙ after_or (same_bytes n row) true (has_name all.ranges n) (is_row_by_limits all n)
+filled-adding all (declare_coefficient key v) (coefficient_slot p) h = has-put_key p key v all.coefficients ∙ or_end (same_bytes p.row key.row && same_bytes p.column key.column) (has_entry all p)
+filled-adding all (declare_lower name v) (lower_slot n) h = has-put n name v all.lowers ∙ or_end (same_bytes n name) (has_name all.lowers n)
+filled-adding all (declare_upper name v) (upper_slot n) h = has-put n name v all.uppers ∙ or_end (same_bytes n name) (has_name all.uppers n)
+filled-adding all (declare_sense x) sense_slot h = refl
+filled-adding all (declare_constant x) sense_slot h = refl
+filled-adding all (declare_column x) sense_slot h = refl
+filled-adding all (declare_marked x) sense_slot h = refl
+filled-adding all (declare_integer x) sense_slot h = refl
+filled-adding all (declare_binary x) sense_slot h = refl
+filled-adding all (declare_semi x) sense_slot h = refl
+filled-adding all _ _ h = refl
+
+-- ---- distinct slots
+
+-- none of the later slots is one of the earlier
+abbrev pub are_apart : List Slot → List Slot → Bool
+are_apart earlier later = list_all (λ slot. not (list_any (same_slot slot) earlier)) later
+
+pub apart-cons : (x : Slot) (xs later : List Slot) → are_apart (x ∷ xs) later ≡ (not (list_any (λ slot. same_slot slot x) later) && are_apart xs later)
+apart-cons x xs [] = refl
+apart-cons x xs (y ∷ later) =
+    ap (λ (b : Bool). not (same_slot y x || list_any (same_slot y) xs) && b) (apart-cons x xs later)
+    ∙ mixed' (same_slot y x) (list_any (same_slot y) xs) (list_any (λ slot. same_slot slot x) later) (are_apart xs later)
+  where
+    mixed' : (a b c d : Bool) → (not (a || b) && (not c && d)) ≡ (not (a || c) && (not b && d))
+    mixed' true b c d = refl
+    mixed' false true true d = refl
+    mixed' false true false d = refl
+    mixed' false false true d = refl
+    mixed' false false false d = refl
+
+pub are_distinct-append : (earlier later : List Slot) → are_distinct same_slot (earlier ++ later) ≡ (are_distinct same_slot earlier && (are_apart earlier later && are_distinct same_slot later))
+are_distinct-append [] later = ap (λ (b : Bool). b && are_distinct same_slot later) (sym (all_true later))
+are_distinct-append (x ∷ xs) later =
+    ap (λ (b : Bool). not b && are_distinct same_slot (xs ++ later)) (list_any-append (λ slot. same_slot slot x) xs later)
+    ∙ ap (λ (b : Bool). not (list_any (λ slot. same_slot slot x) xs || list_any (λ slot. same_slot slot x) later) && b) (are_distinct-append xs later)
+    ∙ mixed_more (list_any (λ slot. same_slot slot x) xs) (list_any (λ slot. same_slot slot x) later) (are_distinct same_slot xs) (are_apart xs later) (are_distinct same_slot later)
+    ∙ ap (λ (b : Bool). (not (list_any (λ slot. same_slot slot x) xs) && are_distinct same_slot xs) && (b && are_distinct same_slot later)) (sym (apart-cons x xs later))
+
+distinct_own : (d : Declaration) → are_distinct same_slot (slots_of d) ≡ true
+distinct_own (declare_row name (by_type type)) = refl
+distinct_own (declare_row name (by_limits l u)) = refl
+distinct_own _ = refl
+
+fresh-adding : (all : Draft) (d : Declaration) (later : List Slot) → are_fresh all (slots_of d) ≡ true
+    → are_fresh (adding all d) later ≡ (are_apart (slots_of d) later && are_fresh all later)
+fresh-adding all d [] h = refl
+fresh-adding all d (slot ∷ later) h =
+    ap (λ (b : Bool). not b && are_fresh (adding all d) later) (filled-adding all d slot h)
+    ∙ ap (λ (b : Bool). not (fills d slot || is_filled all slot) && b) (fresh-adding all d later h)
+    ∙ mixed (fills d slot) (is_filled all slot) (are_apart (slots_of d) later) (are_fresh all later)
+
+-- ---- in turn
+
+-- each declaration's slots are free when it comes
+abbrev pub are_fresh_in_turn : Draft → Declarations → Bool
+are_fresh_in_turn before [] = true
+are_fresh_in_turn before (d ∷ more) = are_fresh before (slots_of d) && are_fresh_in_turn (adding before d) more
+
+-- That is: no slot was filled before, and none is filled twice, in whatever order.
+pub fresh_in_turn-is : (declarations : Declarations) (before : Draft)
+    → are_fresh_in_turn before declarations ≡ (are_fresh before (all_slots declarations) && are_distinct same_slot (all_slots declarations))
+fresh_in_turn-is [] before = refl
+fresh_in_turn-is (d ∷ more) before =
+    let mine = slots_of d in
+    let rest = all_slots more in
+    elim (are_fresh before mine) as (λ b. are_fresh before mine ≡ b → (b && are_fresh_in_turn (adding before d) more) ≡ ((b && are_fresh before rest) && are_distinct same_slot (mine ++ rest))) [
+      | false ↦ λ h. refl
+      | true ↦ λ h. fresh_in_turn-is more (adding before d)
+          ∙ ap (λ (b : Bool). b && are_distinct same_slot rest) (fresh-adding before d rest h)
+          ∙ swapped (are_apart mine rest) (are_fresh before rest) (are_distinct same_slot rest)
+          ∙ ap (λ (b : Bool). are_fresh before rest && (b && (are_apart mine rest && are_distinct same_slot rest))) (sym (distinct_own d))
+          ∙ ap (λ (b : Bool). are_fresh before rest && b) (sym (are_distinct-append mine rest))
+    ] refl
+    ∙ ap (λ (b : Bool). b && are_distinct same_slot (mine ++ rest)) (sym (list_all-append (λ slot. not (is_filled before slot)) mine rest))
+  where
+    swapped : (a b c : Bool) → ((a && b) && c) ≡ (b && (a && c))
+    swapped true true c = refl
+    swapped true false c = refl
+    swapped false true c = refl
+    swapped false false c = refl

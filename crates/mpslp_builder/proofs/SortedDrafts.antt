@@ -1,0 +1,57 @@
+-- Each map of a draft holds its entries in the order of their keys.
+use Rattle.std.proofs.Common.{◌≡◌, sym, subst, ℕ, List}
+use Rattle.std.specs.List.{flat_map}
+use Rattle.std.specs.Cmp.{IsTotalOrder}
+use Rattle.std.specs.Cmp.Lexicographic.{nat_list_cmp_total}
+use Rattle.std.specs.FinMap.{is_sorted, slice_cmp-IsAntisymmetric, nat_cmp-IsAntisymmetric}
+use Rattle.std.specs.declared.cmp.Ordering.TheVariants.{Equal}
+use Rattle.std.proofs.Math.Dec.{T}
+use Rattle.mpslp_decimal.specs.Decimal.{Number}
+use Rattle.mpslp_core.specs.Model.{CoefficientKey, key_cmp}
+use Rattle.mpslp_types.specs.Name.{bytes_cmp}
+pub use Rattle.mpslp_core.proofs.KeyLemmas.{bytes_total, tied_names, key_total}
+use Rattle.mpslp_builder.specs.Declaration.{RowForm, Declarations, Draft, empty_draft, adding_all, draft_of}
+use Rattle.mpslp_builder.specs.Made.{IsMade}
+use Rattle.mpslp_types.specs.declared.kinds.Limit.{Limit}
+use Rattle.mpslp_builder.proofs.DraftEntries.{same_key}
+use Rattle.mpslp_builder.proofs.DraftLemmas.{row_part, rows-all, rhs_part, rhs_values-all, range_part, ranges-all, column_part, columns-all, coefficient_part, coefficients-all, lower_part, lowers-all, upper_part, uppers-all, marked_part, marked-all, integer_part, integers-all, binary_part, binaries-all, semi_part, semis-all}
+use Rattle.mpslp_core.proofs.PutsLemmas.{is_sorted-puts}
+
+-- ---- sorted maps
+
+pub record IsSortedDraft (all : Draft) : Type 0 where
+  pub rows : T (is_sorted bytes_cmp all.rows)
+  pub rhs_values : T (is_sorted bytes_cmp all.rhs_values)
+  pub ranges : T (is_sorted bytes_cmp all.ranges)
+  pub columns : T (is_sorted bytes_cmp all.columns)
+  pub coefficients : T (is_sorted key_cmp all.coefficients)
+  pub lowers : T (is_sorted bytes_cmp all.lowers)
+  pub uppers : T (is_sorted bytes_cmp all.uppers)
+  pub marked : T (is_sorted bytes_cmp all.marked)
+  pub integers : T (is_sorted bytes_cmp all.integers)
+  pub binaries : T (is_sorted bytes_cmp all.binaries)
+  pub semis : T (is_sorted bytes_cmp all.semis)
+
+pub empty_sorted : IsSortedDraft empty_draft
+empty_sorted = record { rows = tt; rhs_values = tt; ranges = tt; columns = tt; coefficients = tt; lowers = tt; uppers = tt; marked = tt; integers = tt; binaries = tt; semis = tt }
+
+pub sorted-adding_all : (ds : Declarations) (all : Draft) → IsSortedDraft all → IsSortedDraft (adding_all all ds)
+sorted-adding_all ds all s = record {
+  rows = subst (λ (es : List (List ℕ × RowForm)). T (is_sorted bytes_cmp es)) (sym (rows-all ds all)) (is_sorted-puts bytes_cmp bytes_total tied_names (flat_map row_part ds) all.rows s.rows);
+  rhs_values = subst (λ (es : List (List ℕ × Number)). T (is_sorted bytes_cmp es)) (sym (rhs_values-all ds all)) (is_sorted-puts bytes_cmp bytes_total tied_names (flat_map rhs_part ds) all.rhs_values s.rhs_values);
+  ranges = subst (λ (es : List (List ℕ × Number)). T (is_sorted bytes_cmp es)) (sym (ranges-all ds all)) (is_sorted-puts bytes_cmp bytes_total tied_names (flat_map range_part ds) all.ranges s.ranges);
+  columns = subst (λ (es : List (List ℕ × Unit {0})). T (is_sorted bytes_cmp es)) (sym (columns-all ds all)) (is_sorted-puts bytes_cmp bytes_total tied_names (flat_map column_part ds) all.columns s.columns);
+  coefficients = subst (λ (es : List (CoefficientKey × Number)). T (is_sorted key_cmp es)) (sym (coefficients-all ds all)) (is_sorted-puts key_cmp key_total same_key (flat_map coefficient_part ds) all.coefficients s.coefficients);
+  lowers = subst (λ (es : List (List ℕ × Limit)). T (is_sorted bytes_cmp es)) (sym (lowers-all ds all)) (is_sorted-puts bytes_cmp bytes_total tied_names (flat_map lower_part ds) all.lowers s.lowers);
+  uppers = subst (λ (es : List (List ℕ × Limit)). T (is_sorted bytes_cmp es)) (sym (uppers-all ds all)) (is_sorted-puts bytes_cmp bytes_total tied_names (flat_map upper_part ds) all.uppers s.uppers);
+  marked = subst (λ (es : List (List ℕ × Unit {0})). T (is_sorted bytes_cmp es)) (sym (marked-all ds all)) (is_sorted-puts bytes_cmp bytes_total tied_names (flat_map marked_part ds) all.marked s.marked);
+  integers = subst (λ (es : List (List ℕ × Unit {0})). T (is_sorted bytes_cmp es)) (sym (integers-all ds all)) (is_sorted-puts bytes_cmp bytes_total tied_names (flat_map integer_part ds) all.integers s.integers);
+  binaries = subst (λ (es : List (List ℕ × Unit {0})). T (is_sorted bytes_cmp es)) (sym (binaries-all ds all)) (is_sorted-puts bytes_cmp bytes_total tied_names (flat_map binary_part ds) all.binaries s.binaries);
+  semis = subst (λ (es : List (List ℕ × Unit {0})). T (is_sorted bytes_cmp es)) (sym (semis-all ds all)) (is_sorted-puts bytes_cmp bytes_total tied_names (flat_map semi_part ds) all.semis s.semis);
+}
+
+pub sorted-draft_of : (ds : Declarations) → IsSortedDraft (draft_of ds)
+sorted-draft_of ds = sorted-adding_all ds empty_draft empty_sorted
+
+pub sorted-from_made : (all : Draft) → IsMade all → IsSortedDraft all
+sorted-from_made all made = subst IsSortedDraft (sym made.draft) (sorted-draft_of made.declarations)

@@ -1,0 +1,277 @@
+-- Worked declarations, the calls of a builder and the models that they mean, by computation.
+use Rattle.std.proofs.Common.{◌≡◌, refl, cond}
+use Rattle.std.specs.Prelude.{ℕ, pos, negsuc, Option, Some, None, List, [], ◌∷◌, codes}
+use Rattle.std.specs.FinMap as maps
+use Rattle.mpslp_decimal.specs.Decimal.{Number, trailing_zeros}
+use Rattle.mpslp_core.specs.Model.{CoefficientKey, key_cmp}
+use Rattle.mpslp_types.specs.Name.{bytes_cmp}
+use Rattle.mpslp_types.specs.Sides.{limit_of}
+use Rattle.mpslp_builder.specs.Declaration.{by_type, by_limits, Declaration, declare_sense, declare_objective, declare_constant, declare_row, declare_rhs, declare_range, declare_column, declare_coefficient, declare_lower, declare_upper, declare_marked, declare_integer, declare_binary, declare_semi, Declarations, Draft, empty_draft, adding, adding_all, draft_of, rhs_declared, bounds_declared}
+use Rattle.mpslp_builder.specs.Bounds.{zero_limit, one_limit, column_of}
+use Rattle.mpslp_core.specs.Lists.{is_nonempty, head_of}
+use Rattle.mpslp_builder.specs.Refusal.{refusals, refusals_in_turn, bounds_refusals}
+use Rattle.mpslp_builder.specs.Meaning.{whole_fault, file_fault, model_of}
+use Rattle.mpslp_types.specs.declared.kinds.Sense.TheVariants.{Maximize}
+use Rattle.mpslp_types.specs.declared.kinds.Kind.TheVariants.{Continuous, Integer, Semi}
+use Rattle.mpslp_types.specs.declared.kinds.Limit.{Limit}
+use Rattle.mpslp_types.specs.declared.kinds.Limit.TheVariants.{MinusInf, Finite, PlusInf}
+use Rattle.mpslp_types.specs.declared.kinds.RowType.TheVariants.{Free, AtMost, AtLeast}
+use Rattle.mpslp_types.specs.declared.faults.BuildFault.{BuildFault}
+use Rattle.mpslp_types.specs.declared.faults.BuildFault.TheVariants as builds
+use Rattle.mpslp_types.specs.declared.faults.FaultKind.TheVariants as kinds
+use Rattle.mpslp_builder.proofs.WorkedRows.{number, whole}
+
+-- what each call answers, one after another: nothing, or its first refusal, and then nothing is declared
+abbrev answers : Draft → Declarations → List (Option BuildFault)
+answers before [] = []
+answers before (d ∷ more) = head_of (refusals before d) ∷ answers (cond (is_nonempty (refusals before d)) before (adding before d)) more
+
+-- what stands after these calls
+abbrev after : Draft → Declarations → Draft
+after before [] = before
+after before (d ∷ more) = after (cond (is_nonempty (refusals before d)) before (adding before d)) more
+
+abbrev f : List ℕ
+f = codes "f"
+
+abbrev r : List ℕ
+r = codes "r"
+
+abbrev s : List ℕ
+s = codes "s"
+
+abbrev x : List ℕ
+x = codes "x"
+
+abbrev y : List ℕ
+y = codes "y"
+
+abbrev at : List ℕ → List ℕ → CoefficientKey
+at row column = record { row = row; column = column }
+
+abbrev one : Number
+one = whole (pos 1)
+
+-- ---- a builder's calls, in order
+
+abbrev first_calls : Declarations
+first_calls =
+    declare_objective f ∷ declare_objective (codes "g") ∷ declare_row f (by_type AtMost) ∷ declare_row r (by_type AtMost)
+    ∷ declare_row s (by_limits one_limit one_limit) ∷ declare_rhs s one ∷ declare_column x ∷ declare_column x
+    ∷ declare_coefficient (at (codes "q") x) one ∷ declare_coefficient (at r y) one ∷ declare_coefficient (at r x) one ∷ declare_coefficient (at r x) one
+    ∷ declare_rhs r (whole (pos 4)) ∷ declare_rhs r (whole (pos 4)) ∷ declare_range f one ∷ declare_range r (number (pos 1) (pos 20))
+    ∷ declare_range r (whole (negsuc 1)) ∷ declare_range r (whole (negsuc 1)) ∷ []
+
+first_answers : answers empty_draft first_calls
+    ≡ None ∷ Some builds.SecondObjective ∷ Some builds.DuplicateRow ∷ None
+    ∷ None ∷ Some builds.DuplicateRhs ∷ None ∷ None
+    ∷ Some builds.UnknownRow ∷ Some builds.UnknownColumn ∷ None ∷ Some builds.DuplicateEntry
+    ∷ None ∷ Some builds.DuplicateRhs ∷ Some builds.RangeOnFree ∷ Some builds.InfiniteValue
+    ∷ None ∷ Some builds.DuplicateRange ∷ []
+first_answers = refl
+
+abbrev ranged : Draft
+ranged = after empty_draft first_calls
+
+one_side : bounds_refusals ranged x (Some MinusInf) None ≡ []
+one_side = refl
+
+abbrev bounded : Draft
+bounded = adding_all ranged (bounds_declared x (Some MinusInf) None)
+
+a_side_again : bounds_refusals bounded x (Some zero_limit) (Some one_limit) ≡ builds.DuplicateBound ∷ []
+a_side_again = refl
+
+-- no side is given: the column is looked for all the same
+no_side : bounds_refusals bounded x None None ≡ []
+no_side = refl
+
+no_side_of_no_column : bounds_refusals bounded y None None ≡ builds.UnknownColumn ∷ []
+no_side_of_no_column = refl
+
+-- the refusals of a call are tried over both sides: the second side's duplicate comes before the first one's infinity
+both_sides : bounds_refusals (adding ranged (declare_upper x one_limit)) x (Some PlusInf) (Some one_limit) ≡ builds.DuplicateBound ∷ builds.InfiniteValue ∷ []
+both_sides = refl
+
+abbrev last_calls : Declarations
+last_calls =
+    declare_marked x ∷ declare_integer x ∷ declare_binary y ∷ declare_constant (whole (pos 5)) ∷ declare_rhs f one
+    ∷ declare_sense Maximize ∷ declare_sense Maximize ∷ []
+
+last_answers : answers bounded last_calls
+    ≡ None ∷ None ∷ Some builds.UnknownColumn ∷ None ∷ Some builds.DuplicateRhs ∷ None ∷ Some builds.DuplicateSense ∷ []
+last_answers = refl
+
+abbrev finished : Draft
+finished = after bounded last_calls
+
+no_fault : file_fault finished ≡ None
+unfolding trailing_zeros
+no_fault = refl
+
+its_rows : maps.entries (model_of finished).rows
+    ≡ (r, record { lower = Finite (whole (pos 2)); upper = Finite (whole (pos 4)) }) ∷ (s, record { lower = one_limit; upper = one_limit }) ∷ []
+unfolding trailing_zeros
+its_rows = maps.entries-from_sorted bytes_cmp _ tt
+
+its_columns : maps.entries (model_of finished).columns ≡ (x, record { kind = Integer; lower = MinusInf; upper = PlusInf }) ∷ []
+its_columns = maps.entries-from_sorted bytes_cmp _ tt
+
+its_coefficients : maps.entries (model_of finished).coefficients ≡ (at r x, one) ∷ []
+its_coefficients = maps.entries-from_sorted key_cmp _ tt
+
+its_constant : (model_of finished).constant ≡ whole (pos 5)
+its_constant = refl
+
+its_sense : (model_of finished).sense ≡ Maximize
+its_sense = refl
+
+-- a right side of the objective is the negative of its constant
+constant_by_rhs : answers empty_draft (declare_objective f ∷ declare_rhs f (whole (negsuc 4)) ∷ declare_rhs f (whole (negsuc 4)) ∷ declare_constant one ∷ [])
+    ≡ None ∷ None ∷ Some builds.DuplicateRhs ∷ Some builds.DuplicateRhs ∷ []
+constant_by_rhs = refl
+
+negated_constant : (model_of (draft_of (declare_objective f ∷ declare_rhs f (whole (negsuc 4)) ∷ []))).constant ≡ whole (pos 5)
+negated_constant = refl
+
+-- of a row of type N a right side declares nothing, and no range may be given
+abbrev with_free_row : Draft
+with_free_row = draft_of (declare_objective f ∷ declare_row r (by_type Free) ∷ [])
+
+rhs_of_free_row : rhs_declared with_free_row r one ≡ []
+rhs_of_free_row = refl
+
+range_of_free_row : refusals with_free_row (declare_range r one) ≡ builds.RangeOnFree ∷ []
+range_of_free_row = refl
+
+-- a second range of a row is a duplicate, also where the first is refused
+ranges_in_turn : refusals_in_turn with_free_row (declare_range r one ∷ declare_range r one ∷ [])
+    ≡ builds.RangeOnFree ∷ builds.DuplicateRange ∷ builds.RangeOnFree ∷ []
+ranges_in_turn = refl
+
+-- ---- bounds
+
+abbrev bounded_by : Declarations → Draft
+bounded_by bounds = draft_of (declare_objective f ∷ declare_column x ∷ bounds)
+
+abbrev minus_one : Limit
+minus_one = Finite (whole (negsuc 0))
+
+no_bounds : column_of (bounded_by []) x ≡ record { kind = Continuous; lower = zero_limit; upper = PlusInf }
+no_bounds = refl
+
+marked_alone : column_of (bounded_by (declare_marked x ∷ [])) x ≡ record { kind = Integer; lower = zero_limit; upper = one_limit }
+marked_alone = refl
+
+marked_with_side : column_of (bounded_by (declare_marked x ∷ declare_lower x one_limit ∷ [])) x ≡ record { kind = Integer; lower = one_limit; upper = PlusInf }
+marked_with_side = refl
+
+binary_with_side : column_of (bounded_by (declare_binary x ∷ declare_lower x one_limit ∷ [])) x ≡ record { kind = Integer; lower = one_limit; upper = one_limit }
+binary_with_side = refl
+
+upper_zero : file_fault (bounded_by (declare_upper x zero_limit ∷ [])) ≡ None
+upper_zero = refl
+
+below_zero : file_fault (bounded_by (declare_upper x minus_one ∷ [])) ≡ Some (whole_fault kinds.NegativeUpper (Some x))
+below_zero = refl
+
+below_zero_with_lower : file_fault (bounded_by (declare_upper x minus_one ∷ declare_lower x MinusInf ∷ [])) ≡ None
+below_zero_with_lower = refl
+
+crossed_bounds : file_fault (bounded_by (declare_upper x minus_one ∷ declare_lower x zero_limit ∷ [])) ≡ Some (whole_fault kinds.BoundsCrossed (Some x))
+crossed_bounds = refl
+
+free_by_size : column_of (bounded_by (declare_lower x (limit_of (number (negsuc 0) (pos 30))) ∷ declare_upper x (limit_of (number (pos 1) (pos 30))) ∷ [])) x
+    ≡ record { kind = Continuous; lower = MinusInf; upper = PlusInf }
+free_by_size = refl
+
+fixed_binary : file_fault (bounded_by (declare_lower x one_limit ∷ declare_upper x one_limit ∷ declare_binary x ∷ [])) ≡ None
+fixed_binary = refl
+
+binary_to_five : file_fault (bounded_by (declare_upper x (Finite (whole (pos 5))) ∷ declare_binary x ∷ [])) ≡ Some (whole_fault kinds.BinaryBounds (Some x))
+binary_to_five = refl
+
+binary_below_zero : file_fault (bounded_by (declare_upper x minus_one ∷ declare_binary x ∷ [])) ≡ Some (whole_fault kinds.NegativeUpper (Some x))
+binary_below_zero = refl
+
+binary_from_two : file_fault (bounded_by (declare_lower x (Finite (whole (pos 2))) ∷ declare_binary x ∷ [])) ≡ Some (whole_fault kinds.BoundsCrossed (Some x))
+binary_from_two = refl
+
+-- ---- semi-continuous columns
+
+semi_calls : answers (bounded_by []) (declare_semi y ∷ declare_semi x ∷ declare_semi x ∷ declare_integer x ∷ declare_marked x ∷ declare_binary x ∷ [])
+    ≡ Some builds.UnknownColumn ∷ None ∷ None ∷ Some builds.SemiContinuous ∷ Some builds.SemiContinuous ∷ Some builds.SemiContinuous ∷ []
+semi_calls = refl
+
+semi_after_integer : answers (bounded_by (declare_integer x ∷ [])) (declare_semi x ∷ []) ≡ Some builds.SemiContinuous ∷ []
+semi_after_integer = refl
+
+semi_after_marked : answers (bounded_by (declare_marked x ∷ [])) (declare_semi x ∷ []) ≡ Some builds.SemiContinuous ∷ []
+semi_after_marked = refl
+
+semi_after_binary : answers (bounded_by (declare_binary x ∷ [])) (declare_semi x ∷ []) ≡ Some builds.SemiContinuous ∷ []
+semi_after_binary = refl
+
+abbrev four : Limit
+four = Finite (whole (pos 4))
+
+-- the bounds are declared before or after, and the lower one is 0 where none is declared
+semi_column : column_of (bounded_by (declare_semi x ∷ declare_upper x four ∷ [])) x ≡ record { kind = Semi; lower = zero_limit; upper = four }
+semi_column = refl
+
+semi_with_both_sides : column_of (bounded_by (declare_upper x four ∷ declare_lower x one_limit ∷ declare_semi x ∷ [])) x ≡ record { kind = Semi; lower = one_limit; upper = four }
+semi_with_both_sides = refl
+
+semi_from_zero : file_fault (bounded_by (declare_semi x ∷ declare_upper x four ∷ [])) ≡ None
+semi_from_zero = refl
+
+semi_at_one_value : file_fault (bounded_by (declare_semi x ∷ declare_upper x four ∷ declare_lower x four ∷ [])) ≡ None
+semi_at_one_value = refl
+
+semi_without_upper : file_fault (bounded_by (declare_semi x ∷ [])) ≡ Some (whole_fault kinds.SemiBounds (Some x))
+semi_without_upper = refl
+
+semi_to_infinity : file_fault (bounded_by (declare_semi x ∷ declare_upper x (limit_of (number (pos 1) (pos 20))) ∷ [])) ≡ Some (whole_fault kinds.SemiBounds (Some x))
+semi_to_infinity = refl
+
+semi_to_zero : file_fault (bounded_by (declare_semi x ∷ declare_upper x zero_limit ∷ [])) ≡ Some (whole_fault kinds.SemiBounds (Some x))
+semi_to_zero = refl
+
+semi_below_zero : file_fault (bounded_by (declare_semi x ∷ declare_upper x minus_one ∷ [])) ≡ Some (whole_fault kinds.NegativeUpper (Some x))
+semi_below_zero = refl
+
+semi_from_below_zero : file_fault (bounded_by (declare_semi x ∷ declare_upper x four ∷ declare_lower x minus_one ∷ [])) ≡ Some (whole_fault kinds.SemiBounds (Some x))
+semi_from_below_zero = refl
+
+semi_from_minus_infinity : file_fault (bounded_by (declare_semi x ∷ declare_upper x four ∷ declare_lower x MinusInf ∷ [])) ≡ Some (whole_fault kinds.SemiBounds (Some x))
+semi_from_minus_infinity = refl
+
+semi_crossed : file_fault (bounded_by (declare_semi x ∷ declare_upper x one_limit ∷ declare_lower x four ∷ [])) ≡ Some (whole_fault kinds.BoundsCrossed (Some x))
+semi_crossed = refl
+
+-- a kind that comes before is told of whichever column has it
+semi_and_binary : file_fault (bounded_by (declare_semi x ∷ declare_column y ∷ declare_upper y (Finite (whole (pos 5))) ∷ declare_binary y ∷ []))
+    ≡ Some (whole_fault kinds.BinaryBounds (Some y))
+semi_and_binary = refl
+
+-- ---- faults of the whole file
+
+nothing : file_fault empty_draft ≡ Some (whole_fault kinds.NoColumns None)
+nothing = refl
+
+objective_alone : file_fault (draft_of (declare_objective f ∷ [])) ≡ Some (whole_fault kinds.NoColumns None)
+objective_alone = refl
+
+-- the first kind, and its least name in byte order: a row's fault comes before a column's
+abbrev crossed : List ℕ → Declaration
+crossed name = declare_row name (by_limits one_limit zero_limit)
+
+least_name : file_fault (bounded_by (declare_upper x minus_one ∷ crossed (codes "b") ∷ crossed (codes "B") ∷ crossed (codes "ab") ∷ [])) ≡ Some (whole_fault kinds.LimitsCrossed (Some (codes "B")))
+unfolding trailing_zeros
+least_name = refl
+
+-- an infinite right side comes before the range that is no decimal beside it
+least_of_two : file_fault (bounded_by (declare_row r (by_type AtLeast) ∷ declare_rhs r (number (pos 1) (pos 30)) ∷ declare_range r one ∷ []))
+    ≡ Some (whole_fault kinds.InfiniteLimit (Some r))
+unfolding trailing_zeros
+least_of_two = refl

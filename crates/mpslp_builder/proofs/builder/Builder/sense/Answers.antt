@@ -1,0 +1,11 @@
+use Rattle.std.proofs.Common.{refl}
+use Rattle.mpslp_builder.specs.Declaration.{declare_sense}
+use Rattle.mpslp_builder.specs.Refusal.{refusals}
+use Rattle.mpslp_builder.proofs.AnswerLemmas.{none_refused, made_next}
+use Rattle.mpslp_builder.proofs.builder.Builder.sense.Goals as goal
+
+pub invariant_of-self : goal.invariant_of-self
+invariant_of-self c =
+    let d = declare_sense c.args.sense in
+    made_next d c.self.view_is c.self.invariant refl
+    (none_refused (refusals c.args.self.now d) c.in_ok-check_sense.ensures)

@@ -1,0 +1,5 @@
+use Rattle.mpslp_builder.proofs.OrderOfDeclarations.{means-permutation}
+use Rattle.mpslp_builder.proofs.laws.order_is_of_no_account.Goals as goal
+
+pub returns : goal.returns
+returns c = means-permutation

@@ -1,0 +1,139 @@
+-- What the parts of a file, or the calls of a builder, declare.
+use Rattle.std.specs.Prelude.{ℕ, Bool, true, false, ◌||◌, List, [], ◌∷◌, ◌++◌, map, Option, Some, None, is_some, if◌then◌else◌}
+use Rattle.std.specs.Option.{option_map_or}
+use Rattle.std.specs.FinMap.{find, put}
+use Rattle.mpslp_decimal.specs.Decimal.{Number}
+use Rattle.mpslp_types.specs.Name.{same_bytes, bytes_cmp}
+use Rattle.mpslp_core.specs.Model.{CoefficientKey, key_cmp}
+pub use Rattle.mpslp_core.specs.Limits.{RowForm, by_type, by_limits, is_free_form, is_limits_form, have_infinite_side}
+use Rattle.mpslp_types.specs.declared.kinds.Sense.{Sense}
+use Rattle.mpslp_types.specs.declared.kinds.Limit.{Limit}
+
+-- A right side of the objective is the negative of its constant. `marked` is said of a column in an integer part of
+-- an MPS file, `semi` of a semi-continuous one: it is 0 or lies within its bounds.
+pub data Declaration : Type 0 where
+  declare_sense : Sense → Declaration
+  declare_objective : List ℕ → Declaration
+  declare_constant : Number → Declaration
+  declare_row : List ℕ → RowForm → Declaration
+  declare_rhs : List ℕ → Number → Declaration
+  declare_range : List ℕ → Number → Declaration
+  declare_column : List ℕ → Declaration
+  declare_coefficient : CoefficientKey → Number → Declaration
+  declare_lower : List ℕ → Limit → Declaration
+  declare_upper : List ℕ → Limit → Declaration
+  declare_marked : List ℕ → Declaration
+  declare_integer : List ℕ → Declaration
+  declare_binary : List ℕ → Declaration
+  declare_semi : List ℕ → Declaration
+
+-- One that is made twice stands twice.
+abbrev pub Declarations : Type 0
+Declarations = List Declaration
+
+-- What has been declared, in whatever order: each map by its entries in the order of its keys.
+pub record Draft : Type 0 where
+  pub sense : Option Sense
+  pub objective : Option (List ℕ)
+  pub constant : Option Number
+  pub rows : List (List ℕ × RowForm)
+  pub rhs_values : List (List ℕ × Number)
+  pub ranges : List (List ℕ × Number)
+  pub columns : List (List ℕ × Unit {0})
+  pub coefficients : List (CoefficientKey × Number)
+  pub lowers : List (List ℕ × Limit)
+  pub uppers : List (List ℕ × Limit)
+  pub marked : List (List ℕ × Unit {0})
+  pub integers : List (List ℕ × Unit {0})
+  pub binaries : List (List ℕ × Unit {0})
+  pub semis : List (List ℕ × Unit {0})
+
+abbrev pub empty_draft : Draft
+empty_draft = record {
+  sense = None;
+  objective = None;
+  constant = None;
+  rows = [];
+  rhs_values = [];
+  ranges = [];
+  columns = [];
+  coefficients = [];
+  lowers = [];
+  uppers = [];
+  marked = [];
+  integers = [];
+  binaries = [];
+  semis = [];
+}
+
+-- the draft with one more declaration; of two at one key the later one stays, but no two are consistent
+abbrev pub adding : Draft → Declaration → Draft
+adding all (declare_sense sense) = record all { sense = Some sense }
+adding all (declare_objective name) = record all { objective = Some name }
+adding all (declare_constant value) = record all { constant = Some value }
+adding all (declare_row name form) = record all { rows = put bytes_cmp name form all.rows }
+adding all (declare_rhs row value) = record all { rhs_values = put bytes_cmp row value all.rhs_values }
+adding all (declare_range row value) = record all { ranges = put bytes_cmp row value all.ranges }
+adding all (declare_column name) = record all { columns = put bytes_cmp name tt all.columns }
+adding all (declare_coefficient key value) = record all { coefficients = put key_cmp key value all.coefficients }
+adding all (declare_lower column limit) = record all { lowers = put bytes_cmp column limit all.lowers }
+adding all (declare_upper column limit) = record all { uppers = put bytes_cmp column limit all.uppers }
+adding all (declare_marked column) = record all { marked = put bytes_cmp column tt all.marked }
+adding all (declare_integer column) = record all { integers = put bytes_cmp column tt all.integers }
+adding all (declare_binary column) = record all { binaries = put bytes_cmp column tt all.binaries }
+adding all (declare_semi column) = record all { semis = put bytes_cmp column tt all.semis }
+
+abbrev pub adding_all : Draft → Declarations → Draft
+adding_all all [] = all
+adding_all all (declaration ∷ more) = adding_all (adding all declaration) more
+
+abbrev pub draft_of : Declarations → Draft
+draft_of declarations = adding_all empty_draft declarations
+
+-- ---- what a draft says of a name
+
+abbrev pub at_name : {X : Type 0} → List (List ℕ × X) → List ℕ → Option X
+at_name entries name = find bytes_cmp name entries
+
+abbrev pub has_name : {X : Type 0} → List (List ℕ × X) → List ℕ → Bool
+has_name entries name = is_some (at_name entries name)
+
+abbrev pub names_in : {X : Type 0} → List (List ℕ × X) → List (List ℕ)
+names_in entries = map (λ entry. entry.0) entries
+
+abbrev pub is_objective : Draft → List ℕ → Bool
+is_objective all name = option_map_or (same_bytes name) all.objective false
+
+-- whether a row of this name is declared; the objective is one
+abbrev pub has_row : Draft → List ℕ → Bool
+has_row all name = is_objective all name || has_name all.rows name
+
+abbrev pub has_column : Draft → List ℕ → Bool
+has_column all name = has_name all.columns name
+
+-- whether a coefficient is declared there, 0 or not
+abbrev pub has_entry : Draft → CoefficientKey → Bool
+has_entry all key = is_some (find key_cmp key all.coefficients)
+
+abbrev pub is_integer : Draft → List ℕ → Bool
+is_integer all name = has_name all.marked name || (has_name all.integers name || has_name all.binaries name)
+
+abbrev pub is_semi : Draft → List ℕ → Bool
+is_semi all name = has_name all.semis name
+
+abbrev pub is_free_row : Draft → List ℕ → Bool
+is_free_row all name = option_map_or is_free_form (at_name all.rows name) false
+
+abbrev pub is_row_by_limits : Draft → List ℕ → Bool
+is_row_by_limits all name = option_map_or is_limits_form (at_name all.rows name) false
+
+-- ---- what declares by cases
+
+-- a right side: of a row of type N nothing, however often it is given
+abbrev pub rhs_declared : Draft → List ℕ → Number → Declarations
+rhs_declared all row value = if is_free_row all row then [] else declare_rhs row value ∷ []
+
+-- the sides of a column that are given, both, one or none
+abbrev pub bounds_declared : List ℕ → Option Limit → Option Limit → Declarations
+bounds_declared column lower upper =
+    option_map_or (λ side. declare_lower column side ∷ []) lower [] ++ option_map_or (λ side. declare_upper column side ∷ []) upper []

@@ -1,0 +1,11 @@
+pub mod Declaration
+pub mod Bounds
+pub mod Consistency
+pub mod Refusal
+pub mod Made
+pub mod Meaning
+pub mod Laws
+pub mod Answer
+pub mod Tables
+pub mod FaultFound
+pub mod Finish

@@ -1,0 +1,108 @@
+-- What tables of numbered names say: the draft that they stand for.
+use Rattle.std.specs.Prelude.{◌≡◌, ◌<◌, ℕ, Bool, true, List, [], ◌∷◌, ◌++◌, Option, None, Some, length, if◌then◌else◌}
+use Rattle.std.specs.Option.{option_map, option_map_or}
+use Rattle.std.specs.Global.{Vec}
+use Rattle.mpslp_decimal.specs.Decimal.{Number}
+use Rattle.mpslp_types.specs.Name.{bytes_cmp}
+use Rattle.mpslp_types.specs.declared.kinds.Sense.{Sense}
+use Rattle.mpslp_types.specs.declared.kinds.Limit.{Limit}
+use Rattle.mpslp_core.specs.Model.{key_cmp}
+use Rattle.mpslp_core.specs.Limits.{RowForm}
+use Rattle.mpslp_core.specs.Numbered.{sorted_of, each_part, given_parts, name_of, all_cells, all_named, TellsApart}
+use Rattle.mpslp_builder.specs.Declaration.{Draft}
+use Rattle.mpslp_builder.specs.declared.tables.ObjectiveParts.{ObjectiveParts}
+use Rattle.mpslp_builder.specs.declared.tables.RowParts.{RowParts}
+use Rattle.mpslp_builder.specs.declared.tables.ColumnParts.{ColumnParts}
+use Rattle.mpslp_builder.specs.declared.tables.Tables.{Tables}
+
+-- a name's bytes
+abbrev pub bytes : Vec ℕ → List ℕ
+bytes v = v.items
+
+-- ---- what is declared of a row or of a column
+
+abbrev pub form_of : RowParts → RowForm
+form_of row = row.form
+
+abbrev pub rhs_of : RowParts → Option Number
+rhs_of row = row.rhs
+
+abbrev pub range_of : RowParts → Option Number
+range_of row = row.range
+
+abbrev pub no_part : ColumnParts → Unit {0}
+no_part column = tt
+
+abbrev pub cells_of : ColumnParts → List (ℕ × Number)
+cells_of column = column.cells
+
+abbrev pub lower_of : ColumnParts → Option Limit
+lower_of column = column.lower
+
+abbrev pub upper_of : ColumnParts → Option Limit
+upper_of column = column.upper
+
+-- whether it is so, as a part that is there or not
+abbrev pub as_part : Bool → Option (Unit {0})
+as_part b = if b then Some tt else None
+
+abbrev pub mark_of : ColumnParts → Option (Unit {0})
+mark_of column = as_part column.marked
+
+abbrev pub integer_of : ColumnParts → Option (Unit {0})
+integer_of column = as_part column.integer
+
+abbrev pub binary_of : ColumnParts → Option (Unit {0})
+binary_of column = as_part column.binary
+
+abbrev pub semi_of : ColumnParts → Option (Unit {0})
+semi_of column = as_part column.semi
+
+-- ---- the draft
+
+abbrev pub objective_name : Option ObjectiveParts → Option (List ℕ)
+objective_name objective = option_map (λ o. o.name) objective
+
+-- the right side of the objective, which stands in front of those of rows
+abbrev pub objective_rhs : Option ObjectiveParts → List (List ℕ × Number)
+objective_rhs objective = option_map_or (λ o. option_map_or (λ value. (o.name, value) ∷ []) o.rhs []) objective []
+
+-- the name of the row of a number
+abbrev pub number_name : Option ObjectiveParts → List (Vec ℕ × RowParts) → ℕ → Option (List ℕ)
+number_name objective rows = name_of bytes (objective_name objective) rows
+
+abbrev pub cells_by_name : List (Vec ℕ × ColumnParts) → List (List ℕ × List (ℕ × Number))
+cells_by_name columns = each_part bytes cells_of columns
+
+-- what has been declared
+abbrev pub draft_from : Option Sense → Option Number → Option ObjectiveParts → List (Vec ℕ × RowParts) → List (Vec ℕ × ColumnParts) → Draft
+draft_from sense constant objective rows columns = record {
+  sense = sense;
+  objective = objective_name objective;
+  constant = constant;
+  rows = sorted_of bytes_cmp (each_part bytes form_of rows);
+  rhs_values = sorted_of bytes_cmp (objective_rhs objective ++ given_parts bytes rhs_of rows);
+  ranges = sorted_of bytes_cmp (given_parts bytes range_of rows);
+  columns = sorted_of bytes_cmp (each_part bytes no_part columns);
+  coefficients = sorted_of key_cmp (all_cells (number_name objective rows) (cells_by_name columns));
+  lowers = sorted_of bytes_cmp (given_parts bytes lower_of columns);
+  uppers = sorted_of bytes_cmp (given_parts bytes upper_of columns);
+  marked = sorted_of bytes_cmp (given_parts bytes mark_of columns);
+  integers = sorted_of bytes_cmp (given_parts bytes integer_of columns);
+  binaries = sorted_of bytes_cmp (given_parts bytes binary_of columns);
+  semis = sorted_of bytes_cmp (given_parts bytes semi_of columns);
+}
+
+abbrev pub draft : Option Sense → Option Number → Tables → Draft
+draft sense constant t = draft_from sense constant t.objective t.rows.entries t.columns.entries
+
+-- ---- what is known of all tables of a builder
+
+-- Rows are few enough for numbers of 32 bits, no two numbers have one name, and the number of each coefficient has one.
+pub record AreNumbered (objective : Option ObjectiveParts) (rows : List (Vec ℕ × RowParts)) (columns : List (Vec ℕ × ColumnParts)) : Type 0 where
+  pub few : length rows < 4294967295
+  pub apart : TellsApart (number_name objective rows)
+  pub named : all_named (number_name objective rows) (cells_by_name columns) ≡ true
+
+abbrev pub IsNumbered : Tables → Type 0
+IsNumbered t = AreNumbered t.objective t.rows.entries t.columns.entries

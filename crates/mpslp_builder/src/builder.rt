@@ -1,0 +1,351 @@
+//! A builder, to which the parts of a model are declared in any order.
+
+ghost use Rattle.std.specs.Prelude.{◌≡◌, IsTrue, IfOk};
+ghost use Rattle.std.specs.Option.{ForSome, option_map};
+ghost use Rattle.mpslp_types.specs.Name.{IsMpsName};
+ghost use Rattle.mpslp_builder.specs.Declaration.{empty_draft, adding, adding_all, declare_sense, declare_objective, declare_row, by_type, declare_range, declare_column, declare_coefficient, declare_rhs, declare_marked, declare_integer, declare_semi, rhs_declared, bounds_declared, is_free_form, is_limits_form};
+ghost use Rattle.mpslp_builder.specs.Refusal.{refusals, bounds_refusals};
+ghost use Rattle.mpslp_types.specs.Sides.{is_given};
+ghost use Rattle.mpslp_builder.specs.Answer.{Answers, IsNotOutOfMemory};
+
+use crate::keys::OwnedKey;
+use mpslp_decimal::Decimal;
+use mpslp_decimal::laws::each_value_is_a_decimal;
+use mpslp_maps::{SortedMap, put_both};
+use mpslp_types::{BuildFault, Limit, Name, RowType, Sense};
+use std::alloc::{AllocError, Global};
+use std::marker::Model;
+
+/// How a row was declared. Contracts see it as a `RowForm`.
+#[derive(Debug, Drop)]
+pub(crate) struct Form {
+    pub(crate) kind: FormKind,
+}
+
+/// What a row is declared by.
+#[derive(Clone, Copy, Debug)]
+pub(crate) enum FormKind {
+    /// Its type.
+    ByType(RowType),
+    /// Its lower and its upper limit.
+    ByLimits(Limit, Limit),
+}
+
+impl Model for Form {
+    ghost use Rattle.mpslp_builder.specs.Declaration.{RowForm};
+
+    ghost Value = { RowForm };
+
+    ghost use Rattle.mpslp_builder.specs.BuilderDraft.{row_form};
+
+    ghost view = { λ f. row_form f.kind };
+}
+
+impl Form {
+    /// Whether the row is of type N.
+    pub(crate) fn is_free(&self) -> bool
+        ensures { result ≡ is_free_form self.now }
+    {
+        match self.kind {
+            FormKind::ByType(RowType::Free) => true,
+            _ => false,
+        }
+    }
+
+    /// Whether the row is declared by its limits.
+    pub(crate) fn has_limits(&self) -> bool
+        ensures { result ≡ is_limits_form self.now }
+    {
+        match self.kind {
+            FormKind::ByType(_) => false,
+            FormKind::ByLimits(_, _) => true,
+        }
+    }
+}
+
+/// The parts of a model, declared one by one and in any order in which each row and column is there before it is
+/// named. Contracts see what has been declared.
+///
+/// A call that is refused answers the first of its refusals, in the order in which they are listed at the call, and
+/// the builder stays as it was. Only a call that has no refusal may answer
+/// [`OutOfMemory`](BuildFault::OutOfMemory), and then too the builder stays as it was.
+///
+/// Each call that has refusals has a question, as [`check_rhs`](Self::check_rhs) of [`rhs`](Self::rhs): it tells the first
+/// of them, takes no memory, and changes nothing.
+#[derive(Debug, Drop)]
+pub struct Builder {
+    pub(crate) alloc: Global,
+    pub(crate) sense: Option<Sense>,
+    pub(crate) objective: Option<Name>,
+    pub(crate) constant: Option<Decimal>,
+    pub(crate) rows: SortedMap<Name, Form>,
+    pub(crate) rhs_values: SortedMap<Name, Decimal>,
+    pub(crate) ranges: SortedMap<Name, Decimal>,
+    pub(crate) columns: SortedMap<Name, ()>,
+    pub(crate) coefficients: SortedMap<OwnedKey, Decimal>,
+    pub(crate) lowers: SortedMap<Name, Limit>,
+    pub(crate) uppers: SortedMap<Name, Limit>,
+    pub(crate) marked: SortedMap<Name, ()>,
+    pub(crate) integers: SortedMap<Name, ()>,
+    pub(crate) binaries: SortedMap<Name, ()>,
+    pub(crate) semis: SortedMap<Name, ()>,
+}
+
+impl Model for Builder {
+    ghost use Rattle.mpslp_builder.specs.Declaration.{Draft};
+
+    ghost Value = { Draft };
+
+    ghost use Rattle.mpslp_builder.specs.Made.{IsMade};
+    ghost use Rattle.mpslp_builder.specs.BuilderDraft.{draft};
+
+    ghost view = { draft };
+
+    ghost invariant = { λ b. IsMade (draft b) };
+}
+
+/// A copy of a name that is there.
+fn copied(alloc: Global, name: &[u8]) -> Result<Name, AllocError>
+    requires { IsMpsName name.now }
+    ensures { IfOk result (λ copy. copy ≡ name.now) }
+{
+    match Name::new(alloc, name) {
+        Ok(copy) => Ok(copy),
+        Err(_) => Err(AllocError),
+    }
+}
+
+/// A side that is given, with a copy of its column's name.
+fn side_entry(
+    alloc: Global,
+    column: &[u8],
+    side: Option<Limit>,
+) -> Result<Option<(Name, Limit)>, AllocError>
+    requires { IsMpsName column.now }
+    ensures { IfOk result (λ entry. entry ≡ option_map (λ limit. (column.now, limit)) side) }
+{
+    match side {
+        Some(limit) => Ok(Some((copied(alloc, column)?, limit))),
+        None => Ok(None),
+    }
+}
+
+impl Builder {
+    /// A builder to which nothing is declared.
+    pub fn new(alloc: Global) -> Builder
+        ensures { result ≡ empty_draft }
+    {
+        Builder {
+            alloc,
+            sense: None,
+            objective: None,
+            constant: None,
+            rows: SortedMap::new(alloc),
+            rhs_values: SortedMap::new(alloc),
+            ranges: SortedMap::new(alloc),
+            columns: SortedMap::new(alloc),
+            coefficients: SortedMap::new(alloc),
+            lowers: SortedMap::new(alloc),
+            uppers: SortedMap::new(alloc),
+            marked: SortedMap::new(alloc),
+            integers: SortedMap::new(alloc),
+            binaries: SortedMap::new(alloc),
+            semis: SortedMap::new(alloc),
+        }
+    }
+
+    /// Declares the sense. If it is never declared, the objective is minimized.
+    ///
+    /// # Errors
+    ///
+    /// `DuplicateSense` where the sense is declared already. This call takes no memory.
+    pub fn sense(&mut self, sense: Sense) -> Result<(), BuildFault>
+        ensures answers { Answers (refusals self.old (declare_sense sense)) result (self.new ≡ adding self.old (declare_sense sense)) (self.new ≡ self.old) }
+        ensures memory { IsNotOutOfMemory result }
+    {
+        self.check_sense()?;
+        self.sense = Some(sense);
+        Ok(())
+    }
+
+    /// Names the objective. No row has its name.
+    ///
+    /// # Errors
+    ///
+    /// `SecondObjective` where the objective has a name, `DuplicateRow` where a row has this one. The name is dropped then. This call takes no memory.
+    pub fn objective(&mut self, name: Name) -> Result<(), BuildFault>
+        ensures answers { Answers (refusals self.old (declare_objective name)) result (self.new ≡ adding self.old (declare_objective name)) (self.new ≡ self.old) }
+        ensures memory { IsNotOutOfMemory result }
+    {
+        self.check_objective(name.as_bytes())?;
+        self.objective = Some(name);
+        Ok(())
+    }
+
+    /// Declares a row by its type. Its right side is 0 if none is declared.
+    ///
+    /// # Errors
+    ///
+    /// `DuplicateRow` where a row or the objective has the name, `OutOfMemory`. The name is dropped then.
+    pub fn row(&mut self, name: Name, row_type: RowType) -> Result<(), BuildFault>
+        ensures { Answers (refusals self.old (declare_row name (by_type row_type))) result (self.new ≡ adding self.old (declare_row name (by_type row_type))) (self.new ≡ self.old) }
+    {
+        self.check_row(name.as_bytes())?;
+        let kind = FormKind::ByType(row_type);
+        self.rows.put(name, Form { kind })?;
+        Ok(())
+    }
+
+    /// Declares the right side of a row. On the objective it is the negative of the constant; on a row of type
+    /// [`Free`](RowType::Free) it declares nothing, however often it is given.
+    ///
+    /// # Errors
+    ///
+    /// `UnknownRow` where neither a row nor the objective has the name, `DuplicateRhs` where the right side is declared already, `OutOfMemory`.
+    pub fn rhs(&mut self, row: &[u8], value: Decimal) -> Result<(), BuildFault>
+        ensures { Answers (refusals self.old (declare_rhs row.now value)) result (self.new ≡ adding_all self.old (rhs_declared self.old row.now value)) (self.new ≡ self.old) }
+    {
+        self.check_rhs(row)?;
+        if self.is_free_row(row) {
+            return Ok(());
+        }
+        let name = copied(self.alloc, row)?;
+        each_value_is_a_decimal(value);
+        self.rhs_values.put(name, value)?;
+        Ok(())
+    }
+
+    /// Declares the range value of a row: the row's other side lies so far from its right side. Which side, and in
+    /// which direction, hangs on the row's type and, on a row of type [`Equal`](RowType::Equal), on the sign.
+    ///
+    /// # Errors
+    ///
+    /// `UnknownRow` where neither a row nor the objective has the name, `DuplicateRange` where the range is declared already, `RangeOnFree` on the objective or a row of type [`Free`](RowType::Free), `InfiniteValue` where
+    /// the size is 10^20 or more, `OutOfMemory`.
+    pub fn range(&mut self, row: &[u8], value: Decimal) -> Result<(), BuildFault>
+        ensures { Answers (refusals self.old (declare_range row.now value)) result (self.new ≡ adding self.old (declare_range row.now value)) (self.new ≡ self.old) }
+    {
+        self.check_range(row, value)?;
+        let name = copied(self.alloc, row)?;
+        each_value_is_a_decimal(value);
+        self.ranges.put(name, value)?;
+        Ok(())
+    }
+
+    /// Declares a column. One that is declared already stays as it is.
+    ///
+    /// # Errors
+    ///
+    /// `OutOfMemory` alone. The name is dropped then.
+    pub fn column(&mut self, name: Name) -> Result<(), BuildFault>
+        ensures { Answers (refusals self.old (declare_column name)) result (self.new ≡ adding self.old (declare_column name)) (self.new ≡ self.old) }
+    {
+        if self.has_column(name.as_bytes()) {
+            return Ok(());
+        }
+        self.columns.put(name, ())?;
+        Ok(())
+    }
+
+    /// Declares a coefficient of a row, or of the objective. Zero is declared like any other number, and is no element of
+    /// the model.
+    ///
+    /// # Errors
+    ///
+    /// `UnknownRow` where neither a row nor the objective has the name, `UnknownColumn` where no column has the other name, `DuplicateEntry` where a coefficient is declared there, `OutOfMemory`.
+    pub fn coefficient(
+        &mut self,
+        row: &[u8],
+        column: &[u8],
+        value: Decimal,
+    ) -> Result<(), BuildFault>
+        ensures { let declared = declare_coefficient (record { row = row.now; column = column.now }) value in Answers (refusals self.old declared) result (self.new ≡ adding self.old declared) (self.new ≡ self.old) }
+    {
+        self.check_coefficient(row, column)?;
+        let row_name = copied(self.alloc, row)?;
+        let column_name = copied(self.alloc, column)?;
+        each_value_is_a_decimal(value);
+        self.coefficients
+            .put(OwnedKey::new(row_name, column_name), value)?;
+        Ok(())
+    }
+
+    /// Declares the sides of a column that are given: both, one or none. A number among them is of size below 10^20.
+    ///
+    /// If none is ever declared, the lower bound is 0. The upper one is then plus infinity, but 1 of a column that is
+    /// [marked](Self::marked) and has no side declared.
+    ///
+    /// # Errors
+    ///
+    /// Over both sides: `UnknownColumn` where no column has the name, `DuplicateBound` where a side that is given is declared already, `InfiniteValue` for a lower side of plus infinity or an upper one of minus infinity, `OutOfMemory`.
+    pub fn bounds(
+        &mut self,
+        column: &[u8],
+        lower: Option<Limit>,
+        upper: Option<Limit>,
+    ) -> Result<(), BuildFault>
+        requires lower { ForSome lower (λ side. IsTrue (is_given side)) }
+        requires upper { ForSome upper (λ side. IsTrue (is_given side)) }
+        ensures { Answers (bounds_refusals self.old column.now lower upper) result (self.new ≡ adding_all self.old (bounds_declared column.now lower upper)) (self.new ≡ self.old) }
+    {
+        self.check_bounds(column, &lower, &upper)?;
+        let lower = side_entry(self.alloc, column, lower)?;
+        let upper = side_entry(self.alloc, column, upper)?;
+        put_both(&mut self.lowers, lower, &mut self.uppers, upper)?;
+        Ok(())
+    }
+
+    /// Declares that a column stands in an integer part of an MPS file. It takes whole numbers alone, and its upper
+    /// bound is 1 if no side is declared. It may be declared again.
+    ///
+    /// # Errors
+    ///
+    /// `UnknownColumn` where no column has the name, `SemiContinuous` where the column is semi-continuous, `OutOfMemory`.
+    pub fn marked(&mut self, column: &[u8]) -> Result<(), BuildFault>
+        ensures { Answers (refusals self.old (declare_marked column.now)) result (self.new ≡ adding self.old (declare_marked column.now)) (self.new ≡ self.old) }
+    {
+        self.check_marked(column)?;
+        if self.marked.has(&column) {
+            return Ok(());
+        }
+        let name = copied(self.alloc, column)?;
+        self.marked.put(name, ())?;
+        Ok(())
+    }
+
+    /// Declares that a column takes whole numbers alone. It may be declared again.
+    ///
+    /// # Errors
+    ///
+    /// `UnknownColumn` where no column has the name, `SemiContinuous` where the column is semi-continuous, `OutOfMemory`.
+    pub fn integer(&mut self, column: &[u8]) -> Result<(), BuildFault>
+        ensures { Answers (refusals self.old (declare_integer column.now)) result (self.new ≡ adding self.old (declare_integer column.now)) (self.new ≡ self.old) }
+    {
+        self.check_integer(column)?;
+        if self.integers.has(&column) {
+            return Ok(());
+        }
+        let name = copied(self.alloc, column)?;
+        self.integers.put(name, ())?;
+        Ok(())
+    }
+
+    /// Declares that a column is semi-continuous: it is 0 or lies within its bounds. Its upper bound has to be declared, finite
+    /// and above 0, in whatever order; its lower one is at least 0. It may be declared again.
+    ///
+    /// # Errors
+    ///
+    /// `UnknownColumn` where no column has the name, `SemiContinuous` where the column is [marked](Self::marked) or
+    /// [integer](Self::integer), `OutOfMemory`.
+    pub fn semi(&mut self, column: &[u8]) -> Result<(), BuildFault>
+        ensures { Answers (refusals self.old (declare_semi column.now)) result (self.new ≡ adding self.old (declare_semi column.now)) (self.new ≡ self.old) }
+    {
+        self.check_semi(column)?;
+        if self.semis.has(&column) {
+            return Ok(());
+        }
+        let name = copied(self.alloc, column)?;
+        self.semis.put(name, ())?;
+        Ok(())
+    }
+}

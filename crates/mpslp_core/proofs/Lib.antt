@@ -1,0 +1,9 @@
+pub mod KeyLemmas
+pub mod PutsLemmas
+pub mod SortedLemmas
+pub mod CellLemmas
+pub mod RunLemmas
+pub mod RenumberLemmas
+pub mod ElementLemmas
+pub mod ViewLemmas
+pub mod SameModels

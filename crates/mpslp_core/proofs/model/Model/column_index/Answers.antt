@@ -1,0 +1,11 @@
+use Rattle.std.proofs.Common.{sym, ap, ◌∙◌, ℕ, List}
+use Rattle.mpslp_core.specs.Model.{Column}
+use Rattle.std.specs.Prelude.{position}
+use Rattle.mpslp_types.specs.Name.{same_bytes}
+use Rattle.mpslp_core.proofs.ViewLemmas.{columns_seen, position-map}
+use Rattle.mpslp_core.proofs.model.Model.column_index.Goals as goal
+
+pub returns : goal.returns
+returns c =
+    c.index_of.ensures ∙ ap (λ (es : List (List ℕ × Column)). position (λ e. same_bytes c.args.name.now e.0) es) (c.deref.ensures.value ∙ sym (columns_seen c.self.view_is c.self.invariant))
+    ∙ sym (position-map (same_bytes c.args.name.now) (λ (e : List ℕ × Column). e.0) _)

@@ -1,0 +1,446 @@
+//! Models, and what is asked of them.
+
+ghost use Rattle.std.specs.Prelude.{◌≡◌, ◌<◌, not, IsTrue, Some, length, position, filter, slice_get, unwrap_or, if◌then◌else◌};
+ghost use Rattle.std.specs.Option.{option_map};
+ghost use Rattle.mpslp_decimal.specs.Decimal.{negated, zero_number, decimal_cmp, difference_of};
+ghost use Rattle.std.specs.Bool.{Decides};
+ghost use Rattle.std.specs.Ordering.{is_eq};
+ghost use Rattle.std.specs.FinMap.{is_sorted};
+ghost use Rattle.mpslp_types.specs.Name.{same_bytes, bytes_cmp};
+ghost use Rattle.mpslp_core.specs.Same.{same_number, same_limit, same_kind, IsSameObjective};
+ghost use Rattle.mpslp_core.specs.ModelParts.{linear_model, AreModelParts};
+ghost use Rattle.mpslp_core.specs.Views.{row_names, column_names, rows_of, columns_of, num_rows, num_columns, num_elements, row_name, column_name, row_index, column_index, row_sense, right_hand_side, row_range, is_integer_column, coefficient_at, column_elements, numbered_elements};
+
+use crate::elements::{count_elements_of, element_at};
+use crate::keys::{BorrowedKey, OwnedKey};
+use crate::sides::{ColumnBounds, RowLimits};
+use crate::packed::{PackedColumn, PackedRow};
+use mpslp_decimal::{Decimal, PackedDecimal};
+use mpslp_decimal::laws::each_value_is_a_decimal;
+use mpslp_maps::{entry_at, find_entry, index_of_entry};
+use mpslp_types::{Kind, Limit, Name, Sense};
+use std::cmp::Ordering;
+use std::marker;
+
+/// Whether the rows are the same.
+fn same_rows(a: &[(Name, RowLimits)], b: &[(Name, RowLimits)]) -> bool
+    ensures { Decides result (a.now ≡ b.now) }
+{
+    a == b
+}
+
+/// Whether the columns are the same.
+fn same_columns(a: &[(Name, ColumnBounds)], b: &[(Name, ColumnBounds)]) -> bool
+    ensures { Decides result (a.now ≡ b.now) }
+{
+    a == b
+}
+
+/// Whether the coefficients are the same.
+fn same_coefficients(a: &[(OwnedKey, Decimal)], b: &[(OwnedKey, Decimal)]) -> bool
+    ensures { Decides result (a.now ≡ b.now) }
+{
+    a == b
+}
+
+/// A column of a model: its kind and bounds, and its coefficients by the numbers of rows, in their order. The objective has
+/// the number 0, and the row of number `i` has `i + 1` here.
+#[derive(Debug, Drop)]
+pub struct ModelColumn {
+    /// Its kind and bounds.
+    pub bounds: PackedColumn,
+    /// Its coefficients, none of which is 0.
+    pub cells: Vec<(u32, PackedDecimal)>,
+}
+
+/// What a [`Model`] is made of.
+#[derive(Debug, Drop)]
+pub struct ModelParts {
+    /// Whether the least or the greatest value is wanted.
+    pub sense: Sense,
+    /// The name of the objective.
+    pub objective: Name,
+    /// The constant of the objective.
+    pub constant: Decimal,
+    /// The rows in byte order of their names.
+    pub rows: Vec<(Name, PackedRow)>,
+    /// The columns in byte order of their names.
+    pub columns: Vec<(Name, ModelColumn)>,
+}
+
+/// A linear or mixed-integer model. Contracts see it as the value that it is, and it is always sound: sides that values
+/// meet, bounds that suit a column's kind, a column at least, and each coefficient not 0 and of a row, or the objective, and
+/// a column that are there.
+///
+/// Rows and columns are numbered from 0, in byte order of their names. The objective is no row.
+#[derive(Debug, Drop)]
+pub struct Model {
+    parts: ModelParts,
+}
+
+impl marker::Model for Model {
+    ghost use Rattle.mpslp_core.specs.Model.{LinearModel};
+    ghost use Rattle.mpslp_core.specs.ModelCode.{linear_model_code};
+
+    ghost Value = { LinearModel };
+
+    ghost coded = { linear_model_code };
+
+    ghost use Rattle.mpslp_core.specs.ModelParts.{linear_model, AreModelParts};
+
+    ghost view = { λ m. linear_model m.parts };
+
+    ghost invariant = { λ m. AreModelParts m.parts };
+}
+
+/// The number of the entry of this name. Entries stand in the order of their names.
+fn index_of<X>(entries: &[(Name, X)], name: &[u8]) -> Option<usize>
+    requires { IsTrue (is_sorted bytes_cmp entries.now) }
+    ensures { result ≡ position (λ entry. same_bytes name.now entry.0) entries.now }
+{
+    index_of_entry(entries, &name)
+}
+
+/// Whether the coefficient is a row's, where the objective has this name.
+fn is_element(objective: &[u8], coefficient: &(OwnedKey, Decimal)) -> bool
+    ensures { result ≡ not (same_bytes objective.now coefficient.now.0.row) }
+{
+    objective != coefficient.0.row().as_bytes()
+}
+
+/// How many coefficients are a row's.
+fn count_elements(objective: &[u8], coefficients: &[(OwnedKey, Decimal)]) -> usize
+    ensures { result ≡ length (filter (λ e. not (same_bytes objective.now e.0.row)) coefficients.now) }
+{
+    let mut count = 0;
+    for coefficient in coefficients {
+        if is_element(objective, coefficient) {
+            count += 1;
+        }
+    }
+    count
+}
+
+/// The letter of a row whose limits are both finite.
+fn letter_between(lower: &Decimal, upper: &Decimal) -> u8
+    ensures { result ≡ (if is_eq (decimal_cmp lower.now upper.now) then 69 else 82) }
+{
+    each_value_is_a_decimal(*lower);
+    each_value_is_a_decimal(*upper);
+    match lower.cmp(upper) {
+        Ordering::Less => b'R',
+        Ordering::Equal => b'E',
+        Ordering::Greater => b'R',
+    }
+}
+
+/// The letter of a row.
+fn sense_letter(row: RowLimits) -> u8
+    ensures { result ≡ row_sense row }
+{
+    match &row.lower {
+        Limit::MinusInf => match &row.upper {
+            Limit::Finite(_) => b'L',
+            _ => b'N',
+        },
+        Limit::Finite(lower) => match &row.upper {
+            Limit::Finite(upper) => letter_between(lower, upper),
+            Limit::PlusInf => b'G',
+            Limit::MinusInf => b'N',
+        },
+        Limit::PlusInf => b'N',
+    }
+}
+
+/// The upper limit of a row, or else the lower one, or else 0.
+fn rhs_of(row: RowLimits) -> Decimal
+    ensures { result ≡ right_hand_side row }
+{
+    match (row.lower, row.upper) {
+        (_, Limit::Finite(upper)) => upper,
+        (Limit::Finite(lower), _) => lower,
+        _ => Decimal::zero(),
+    }
+}
+
+/// Upper minus lower.
+fn distance(lower: &Decimal, upper: &Decimal) -> Decimal
+    ensures { result ≡ unwrap_or (difference_of upper.now lower.now) zero_number }
+{
+    match upper.checked_sub(*lower) {
+        Some(distance) => distance,
+        None => Decimal::zero(),
+    }
+}
+
+/// Upper minus lower where both are finite, and else 0.
+fn range_between(row: RowLimits) -> Decimal
+    ensures { result ≡ row_range row }
+{
+    match &row.lower {
+        Limit::Finite(lower) => match &row.upper {
+            Limit::Finite(upper) => distance(lower, upper),
+            _ => Decimal::zero(),
+        },
+        _ => Decimal::zero(),
+    }
+}
+
+impl Model {
+    /// The model of these parts.
+    pub fn of_parts(parts: ModelParts) -> Model
+        requires { AreModelParts parts }
+        ensures { result ≡ linear_model parts }
+    {
+        Model { parts }
+    }
+
+    /// How many rows there are; the objective is none.
+    pub fn num_rows(&self) -> usize
+        ensures { result ≡ num_rows self.now }
+    {
+        self.parts.rows.as_slice().len()
+    }
+
+    /// How many columns there are.
+    pub fn num_cols(&self) -> usize
+        ensures { result ≡ num_columns self.now }
+    {
+        self.parts.columns.as_slice().len()
+    }
+
+    /// How many coefficients of rows are not 0; the objective's are not counted.
+    pub fn num_elements(&self) -> u128
+        ensures { result ≡ num_elements self.now }
+    {
+        count_elements(self.parts.objective.as_bytes(), &self.coefficients) as u128
+    }
+
+    /// The name of the objective.
+    pub fn objective_name(&self) -> &Name
+        ensures { result.now ≡ self.now.objective }
+    {
+        &self.parts.objective
+    }
+
+    /// Whether the least or the greatest value is wanted.
+    pub fn objective_sense(&self) -> Sense
+        ensures { result ≡ self.now.sense }
+    {
+        self.parts.sense
+    }
+
+    /// The constant of the objective.
+    pub fn objective_constant(&self) -> Decimal
+        ensures { result ≡ self.now.constant }
+    {
+        self.parts.constant
+    }
+
+    /// The negative of the constant.
+    pub fn objective_offset(&self) -> Decimal
+        ensures { result ≡ negated self.now.constant }
+    {
+        self.parts.constant.negate()
+    }
+
+    /// The name of the row of number `i`.
+    pub fn row_name(&self, i: usize) -> &Name
+        requires { i < num_rows self.now }
+        ensures { slice_get (row_names self.now) i ≡ Some result.now }
+    {
+        &entry_at(&self.parts.rows, i).0
+    }
+
+    /// The name of the column of number `j`.
+    pub fn column_name(&self, j: usize) -> &Name
+        requires { j < num_columns self.now }
+        ensures { slice_get (column_names self.now) j ≡ Some result.now }
+    {
+        &entry_at(&self.parts.columns, j).0
+    }
+
+    /// The number of the row of this name. The objective has none.
+    pub fn row_index(&self, name: &[u8]) -> Option<usize>
+        ensures { result ≡ row_index self.now name.now }
+    {
+        index_of(&self.parts.rows, name)
+    }
+
+    /// The number of the column of this name.
+    pub fn column_index(&self, name: &[u8]) -> Option<usize>
+        ensures { result ≡ column_index self.now name.now }
+    {
+        index_of(&self.parts.columns, name)
+    }
+
+    /// The limits of the row of number `i`.
+    fn row_limits(&self, i: usize) -> RowLimits
+        requires { i < num_rows self.now }
+        ensures { slice_get (rows_of self.now) i ≡ Some result }
+    {
+        entry_at(&self.parts.rows, i).1
+    }
+
+    /// The kind and bounds of the column of number `j`.
+    fn column_bounds(&self, j: usize) -> ColumnBounds
+        requires { j < num_columns self.now }
+        ensures { slice_get (columns_of self.now) j ≡ Some result }
+    {
+        entry_at(&self.parts.columns, j).1
+    }
+
+    /// The lower limit of the row of number `i`.
+    pub fn row_lower(&self, i: usize) -> Limit
+        requires { i < num_rows self.now }
+        ensures { option_map (λ row. row.lower) (slice_get (rows_of self.now) i) ≡ Some result }
+    {
+        self.row_limits(i).lower
+    }
+
+    /// The upper limit of the row of number `i`.
+    pub fn row_upper(&self, i: usize) -> Limit
+        requires { i < num_rows self.now }
+        ensures { option_map (λ row. row.upper) (slice_get (rows_of self.now) i) ≡ Some result }
+    {
+        self.row_limits(i).upper
+    }
+
+    /// How the row of number `i` is limited, by a letter: `N` not at all, `L` from above, `G` from below, `E` to one value,
+    /// `R` to the values between two.
+    pub fn row_sense(&self, i: usize) -> u8
+        requires { i < num_rows self.now }
+        ensures { option_map row_sense (slice_get (rows_of self.now) i) ≡ Some result }
+    {
+        sense_letter(self.row_limits(i))
+    }
+
+    /// The upper limit of the row of number `i` if it is finite, or else the lower one, or else 0.
+    pub fn right_hand_side(&self, i: usize) -> Decimal
+        requires { i < num_rows self.now }
+        ensures { option_map right_hand_side (slice_get (rows_of self.now) i) ≡ Some result }
+    {
+        rhs_of(self.row_limits(i))
+    }
+
+    /// How far the limits of the row of number `i` lie apart, and 0 where not both are finite.
+    pub fn row_range(&self, i: usize) -> Decimal
+        requires { i < num_rows self.now }
+        ensures { option_map row_range (slice_get (rows_of self.now) i) ≡ Some result }
+    {
+        range_between(self.row_limits(i))
+    }
+
+    /// The lower bound of the column of number `j`.
+    pub fn col_lower(&self, j: usize) -> Limit
+        requires { j < num_columns self.now }
+        ensures { option_map (λ column. column.lower) (slice_get (columns_of self.now) j) ≡ Some result }
+    {
+        self.column_bounds(j).lower
+    }
+
+    /// The upper bound of the column of number `j`.
+    pub fn col_upper(&self, j: usize) -> Limit
+        requires { j < num_columns self.now }
+        ensures { option_map (λ column. column.upper) (slice_get (columns_of self.now) j) ≡ Some result }
+    {
+        self.column_bounds(j).upper
+    }
+
+    /// Which values the column of number `j` may take within its bounds.
+    pub fn column_kind(&self, j: usize) -> Kind
+        requires { j < num_columns self.now }
+        ensures { option_map (λ column. column.kind) (slice_get (columns_of self.now) j) ≡ Some result }
+    {
+        self.column_bounds(j).kind
+    }
+
+    /// Whether the column of number `j` takes whole numbers alone.
+    pub fn is_integer(&self, j: usize) -> bool
+        requires { j < num_columns self.now }
+        ensures { option_map is_integer_column (slice_get (columns_of self.now) j) ≡ Some result }
+    {
+        match self.column_bounds(j).kind {
+            Kind::Integer => true,
+            Kind::Continuous | Kind::Semi => false,
+        }
+    }
+
+    /// The coefficient of these names, and 0 where none is.
+    fn coefficient_at(&self, row: &[u8], column: &[u8]) -> Decimal
+        ensures { result ≡ coefficient_at self.now row.now column.now }
+    {
+        match find_entry(&self.coefficients, &BorrowedKey { row, column }) {
+            Some(value) => *value,
+            None => Decimal::zero(),
+        }
+    }
+
+    /// The coefficient of the objective in the column of number `j`.
+    pub fn objective_coefficient(&self, j: usize) -> Decimal
+        requires { j < num_columns self.now }
+        ensures { result ≡ coefficient_at self.now self.now.objective (column_name self.now j) }
+    {
+        self.coefficient_at(self.parts.objective.as_bytes(), self.column_name(j).as_bytes())
+    }
+
+    /// The coefficient of the row of number `i` in the column of number `j`.
+    pub fn coefficient(&self, i: usize, j: usize) -> Decimal
+        requires row { i < num_rows self.now }
+        requires column { j < num_columns self.now }
+        ensures { result ≡ coefficient_at self.now (row_name self.now i) (column_name self.now j) }
+    {
+        self.coefficient_at(self.row_name(i).as_bytes(), self.column_name(j).as_bytes())
+    }
+
+    /// Whether the parts beside rows, columns and coefficients are the same.
+    fn has_same_objective(&self, other: &Model) -> bool
+        ensures { Decides result (IsSameObjective self.now other.now) }
+    {
+        self.sense == other.sense
+            && self.objective == other.objective
+            && self.parts.constant == other.constant
+    }
+
+    /// Whether this is the same model: its sense, the objective's name and constant, the names of rows and columns, their
+    /// limits, bounds and kinds, and each coefficient. Numbers are compared by value.
+    pub fn same(&self, other: &Model) -> bool
+        ensures { Decides result (self.now ≡ other.now) }
+    {
+        self.has_same_objective(other)
+            && (same_rows(&self.parts.rows, &other.rows)
+                && (same_columns(&self.parts.columns, &other.columns)
+                    && same_coefficients(&self.coefficients, &other.coefficients)))
+    }
+
+    /// How many coefficients of rows in the column of number `j` are not 0. They are found by halves, without memory.
+    pub fn column_len(&self, j: usize) -> usize
+        requires { j < num_columns self.now }
+        ensures { result ≡ length (column_elements self.now (column_name self.now j)) }
+    {
+        count_elements_of(
+            self.parts.objective.as_bytes(),
+            self.column_name(j).as_bytes(),
+            &self.coefficients,
+        )
+    }
+
+    /// The coefficient of number `k` among those of rows that are not 0 in the column of number `j`, in the order of rows: the
+    /// row's number, and the value. It is found by halves, without memory.
+    pub fn entry(&self, j: usize, k: usize) -> (usize, Decimal)
+        requires column { j < num_columns self.now }
+        requires entry { k < length (column_elements self.now (column_name self.now j)) }
+        ensures { slice_get (numbered_elements self.now (column_name self.now j)) k ≡ Some (Some result.0, result.1) }
+    {
+        let coefficient = element_at(
+            self.parts.objective.as_bytes(),
+            self.column_name(j).as_bytes(),
+            &self.coefficients,
+            k,
+        );
+        match self.row_index(coefficient.0.row().as_bytes()) {
+            Some(i) => (i, coefficient.1),
+            None => (0, coefficient.1),
+        }
+    }
+}
