@@ -6,7 +6,7 @@ ghost use Rattle.mpslp_model.specs.Formats.{IsAnswerTo, IsWritten};
 ghost use Rattle.mpslp_types.specs.declared.faults.Fault.{Fault};
 ghost use Rattle.mpslp_types.specs.declared.faults.NameAt.{NameAt};
 
-use crate::model::Model;
+use mpslp_core::Model;
 use mpslp_io::Sink;
 use mpslp_types::{ReadFault, WriteFault};
 use std::alloc::Global;
