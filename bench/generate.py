@@ -407,14 +407,48 @@ def write_hostile(out, row_names, columns):
     out.write("RHS\nENDATA\n")
 
 
-def write_one_column(out, options):
+def write_one_column(out, options, ordered):
     """A reader that keeps a column in order, and puts each row in place, moves all rows each time."""
     source = random.Random(options.seed)
     name = "row_{:08d}".format
     a_row = hostile_row_line(name(0)) + pair_lines("X", [(name(0), "-12.5")], 1)
     names = [name(number) for number in range(max(1, options.size // len(a_row)))]
-    pairs = [(OBJECTIVE, "1")] + [(row, literal(source)) for row in reversed(names)]
+    pairs = [(OBJECTIVE, "1")] + [(row, literal(source)) for row in ordered(source, names)]
     write_hostile(out, names, [("X", pairs)])
+
+
+def rising(source, names):
+    return names
+
+
+def falling(source, names):
+    return reversed(names)
+
+
+def in_random_order(source, names):
+    return source.sample(names, len(names))
+
+
+def write_rising(out, options):
+    write_one_column(out, options, rising)
+
+
+def write_falling(out, options):
+    write_one_column(out, options, falling)
+
+
+def write_random(out, options):
+    write_one_column(out, options, in_random_order)
+
+
+def write_tiny_columns(out, options):
+    """What is kept of each column weighs more than its coefficients."""
+    source = random.Random(options.seed)
+    name = "c{:07d}".format
+    a_column = pair_lines(name(0), [("LIMIT", "1")], 1)
+    names = [name(number) for number in range(max(1, options.size // len(a_column)))]
+    source.shuffle(names)
+    write_hostile(out, ["LIMIT"], ((column, [("LIMIT", "1")]) for column in names))
 
 
 def write_many_names(out, options):
@@ -430,7 +464,13 @@ def write_many_names(out, options):
     write_hostile(out, names, pairs)
 
 
-HOSTILE = {"one-column": write_one_column, "many-names": write_many_names}
+HOSTILE = {
+    "one-column-rising": write_rising,
+    "one-column-falling": write_falling,
+    "one-column-random": write_random,
+    "tiny-columns": write_tiny_columns,
+    "many-names": write_many_names,
+}
 
 
 def arguments():
@@ -449,7 +489,8 @@ def arguments():
                         help="the rows of each column in the order of ROWS")
     parser.add_argument("--hostile", choices=sorted(HOSTILE),
                         help="in place of all this, but with size and seed: one column that has "
-                        "very many rows in falling order, or names with long common fronts")
+                        "very many rows in some order, very many columns of one coefficient, or "
+                        "names with long common fronts")
     return parser.parse_args()
 
 

@@ -2,8 +2,12 @@
 """Compare mpslp with other programs that read and write MPS files.
 
 Each program reads a generated file and writes the same model as MPS again,
-without solving it; with --read it only reads the file. The table has the least wall time of some runs and the
-largest resident memory of any. Files are kept in bench/data/.
+without solving it; with --read it only reads the file. The table has the least
+wall time of some runs, how many times as fast mpslp is as each other program,
+and the largest resident memory of any run, also by the size of the file. The
+runs of a file's programs take turns, so that what else the machine does falls on
+all. Below it stands for each file of several sizes whether the time of mpslp
+grows as the file does. Files are kept in bench/data/.
 """
 
 import argparse
@@ -37,6 +41,11 @@ KINDS = {
 }
 
 
+OURS = "mpslp"
+# The time of mpslp grows at most so many times as the file grows ten times: more misses the caches.
+MOST_GROWTH = 14
+
+
 class Program:
     """A program, and its words for reading the input and writing OUTPUT."""
 
@@ -61,7 +70,7 @@ class Program:
 def programs(path_of_ours):
     output = str(OUTPUT)
     return [
-        Program("mpslp", found(path_of_ours), ("canon", "mps", "mps", "-"), by_streams=True),
+        Program(OURS, found(path_of_ours), ("canon", "mps", "mps", "-"), by_streams=True),
         Program("glpsol", found("glpsol"), ("--freemps", "INPUT", "--check", "--wfreemps", output)),
         # Without "presolve off" clp writes the presolved model. Its format 4
         # keeps all digits of a double; its usual one keeps fewer.
@@ -72,7 +81,7 @@ def programs(path_of_ours):
 
 def readers(path_of_ours):
     return [
-        Program("mpslp", found(path_of_ours), (), by_streams=True),
+        Program(OURS, found(path_of_ours), (), by_streams=True),
         Program("glpsol", found("glpsol"), ("--freemps", "INPUT", "--check"), by_streams=True),
         Program("clp", found("clp"), ("INPUT", "-quit"), by_streams=True),
     ]
@@ -118,13 +127,20 @@ def failure_of(code):
     return None
 
 
-def best_of(program, source, runs, limit):
-    results = []
+def best_of(candidates, source, runs, limit):
+    """The result of each program: its least time and its most memory, or its first failure."""
+    results = {program.name: [] for program in candidates}
     for _ in range(runs):
-        result = run_once(program, source, limit)
-        if result.failure:
-            return result
-        results.append(result)
+        for program in candidates:
+            own = results[program.name]
+            if not (own and own[-1].failure):
+                own.append(run_once(program, source, limit))
+    return {name: together(own) for name, own in results.items()}
+
+
+def together(results):
+    if results[-1].failure:
+        return results[-1]
     least = min(result.seconds for result in results)
     most = max(result.memory_bytes for result in results)
     return Result(least, most, None)
@@ -155,15 +171,23 @@ def read_once(path):
             pass
 
 
-def table_line(source, program, result):
+def table_line(source, program, result, ours):
     size = source.stat().st_size
     fields = [source.stem, f"{size / 1e6:.1f}", program.name]
     if result.failure:
-        fields += [result.failure, "", ""]
+        fields += [result.failure, "", "", "", ""]
     else:
         fields += [f"{result.seconds:.2f}", f"{size / 1e6 / result.seconds:.1f}",
-                   memory_text(result.memory_bytes)]
+                   ratio_text(result, ours), memory_text(result.memory_bytes),
+                   f"{result.memory_bytes / size:.1f}"]
     return "| " + " | ".join(fields) + " |"
+
+
+def ratio_text(result, ours):
+    """How many times as fast mpslp is."""
+    if ours is None or ours.failure or ours is result:
+        return ""
+    return f"{result.seconds / ours.seconds:.1f}"
 
 
 def memory_text(size):
@@ -174,14 +198,30 @@ def memory_text(size):
 
 
 def compare(sources, candidates, runs, limit):
-    print("| file | MB | program | seconds | MB/s | peak memory, MB |")
-    print("|---|---|---|---|---|---|")
-    for name, words in sources:
-        source = generated(name, words)
+    """Prints the table, and answers the seconds of mpslp by shape and size."""
+    print("| file | MB | program | seconds | MB/s | mpslp is faster by | peak memory, MB | by the file's size |")
+    print("|---|---|---|---|---|---|---|---|")
+    seconds = {}
+    for shape, size, words in sources:
+        source = generated(f"{shape}-{size}-seed-{words[-1]}", words)
         read_once(source)
+        results = best_of(candidates, source, runs, limit)
+        ours = results.get(OURS)
         for program in candidates:
-            print(table_line(source, program, best_of(program, source, runs, limit)), flush=True)
+            print(table_line(source, program, results[program.name], ours), flush=True)
+        if ours and not ours.failure:
+            seconds.setdefault(shape, []).append((source.stat().st_size, ours.seconds))
     OUTPUT.unlink(missing_ok=True)
+    return seconds
+
+
+def print_growth(seconds):
+    """Whether ten times the file takes at most MOST_GROWTH times the time."""
+    for shape, measured in seconds.items():
+        for (small, before), (large, after) in zip(measured, measured[1:]):
+            times, growth = large / small, after / before
+            word = "linear" if growth <= times * MOST_GROWTH / 10 else "not linear"
+            print(f"{shape}: {times:.1f} times the bytes take {growth:.1f} times the time: {word}")
 
 
 def present(candidates):
@@ -192,12 +232,12 @@ def present(candidates):
 
 
 def wanted_files(options):
-    """Names of files, and the generator's words for them."""
+    """Shapes and sizes of files, and the generator's words for them."""
     hostile = {name: ("--hostile", name) for name in sorted(HOSTILE)}
     shapes = hostile if options.hostile else {kind: KINDS[kind] for kind in options.kinds}
     return [
-        (f"{name}-{size}-seed-{options.seed}", words + ("--size", size, "--seed", str(options.seed)))
-        for size in options.sizes for name, words in shapes.items()
+        (name, size, words + ("--size", size, "--seed", str(options.seed)))
+        for name, words in shapes.items() for size in sorted(options.sizes, key=size_in_bytes)
     ]
 
 
@@ -209,12 +249,12 @@ def arguments():
     parser = argparse.ArgumentParser(
         description=__doc__, formatter_class=argparse.RawDescriptionHelpFormatter)
     parser.add_argument("--sizes", type=listed, default=["10M"], help="as 10M,100M; default 10M")
-    parser.add_argument("--kinds", type=listed, default=["thin", "full"],
-                        help="some of " + ",".join(KINDS) + "; default thin,full")
+    parser.add_argument("--kinds", type=listed, default=["thin", "full", "thin-shuffled"],
+                        help="some of " + ", ".join(KINDS) + "; default thin,full,thin-shuffled")
     parser.add_argument("--hostile", action="store_true",
                         help="the hostile files in place of the kinds")
     parser.add_argument("--seed", type=int, default=1)
-    parser.add_argument("--runs", type=int, default=3)
+    parser.add_argument("--runs", type=int, default=5)
     parser.add_argument("--limit", type=int, default=600, help="seconds after which a run is stopped")
     parser.add_argument("--read", action="store_true", help="read files, and write none")
     parser.add_argument("--program", default=DEFAULT_PROGRAM, help="the path of mpslp")
@@ -240,7 +280,7 @@ def check(parser, options):
 def main():
     options = arguments()
     candidates = readers(options.reader) if options.read else programs(options.program)
-    compare(wanted_files(options), present(candidates), options.runs, options.limit)
+    print_growth(compare(wanted_files(options), present(candidates), options.runs, options.limit))
 
 
 if __name__ == "__main__":
