@@ -53,7 +53,7 @@ fn has_rows(builder: &Builder, values: &RowValues<'_>) -> bool
 fn is_split(context: &LineContext, builder: &Builder, column: &[u8]) -> bool
     ensures { result ≡ is_split context.now builder.now column.now }
 {
-    builder.has_column(column) && !context.is_last_column(column)
+    !context.is_last_column(column) && builder.has_column(column)
 }
 
 /// Whether the rows are declared, and the column's lines stand together.
@@ -174,7 +174,7 @@ fn read_values(
     if has_column_clash(context, builder, fields) {
         return Err(LineError::Fault(FaultKind::SemiContinuous));
     }
-    let (column, values) = check_column(fields)?;
+    let (column, values) = check_column(context, builder, fields)?;
     check_place(context, builder, column, &values)?;
     if has_double(builder, column, &values) {
         return Err(LineError::Fault(FaultKind::DuplicateEntry));

@@ -2,7 +2,8 @@
 
 ghost use Rattle.std.specs.Prelude.{◌≡◌, [], ◌∷◌, ◌++◌, map, not, Some, None, is_some, MatchResult};
 ghost use Rattle.std.specs.Option.{option_map, option_map_or};
-ghost use Rattle.mpslp_types.specs.Name.{same_bytes};
+ghost use Rattle.std.specs.Result.{result_err};
+ghost use Rattle.mpslp_types.specs.Name.{name_refusal, same_bytes};
 ghost use Rattle.mpslp_builder.specs.Declaration.{Draft, declare_sense};
 ghost use Rattle.mpslp_mps.specs.DataLine.{word_shape, row_shape, column_shape, marker_shape, opening_word, vector_shape};
 ghost use Rattle.mpslp_mps.specs.BoundLine.{bound_type, bound_shape};
@@ -26,7 +27,8 @@ use crate::shapes::{
 use crate::values::{RowValues, is_second_set, values_of};
 use crate::words::{bound_type, is_due_word, is_opening_word, is_sos_word, row_type, sense_of};
 use mpslp_decimal::Decimal;
-use mpslp_model::{FaultKind, Name, RowType, Sense};
+use mpslp_model::laws::each_builder_is_made;
+use mpslp_model::{Builder, FaultKind, Name, NameFault, RowType, Sense};
 use mpslp_reading::{LineError, value_of};
 use std::alloc::Global;
 
@@ -122,9 +124,28 @@ pub(crate) fn check_vector<'a>(
     Ok((set, values))
 }
 
+/// What is wrong with the name of a column. That of the column of the line before was judged there.
+fn check_column_name(
+    context: &LineContext,
+    builder: &Builder,
+    column: &[u8],
+) -> Result<(), NameFault>
+    ensures { result_err result ≡ name_refusal column.now }
+{
+    if context.is_last_column(column) && builder.has_column(column) {
+        each_builder_is_made(builder);
+        return Ok(());
+    }
+    Name::check(column)
+}
+
 /// The column and the values of a line of COLUMNS that is no marker line, but for whether the column's lines stand
 /// together.
-pub(crate) fn check_column<'a>(fields: &[&'a [u8]]) -> Result<(&'a [u8], RowValues<'a>), LineError>
+pub(crate) fn check_column<'a>(
+    context: &LineContext,
+    builder: &Builder,
+    fields: &[&'a [u8]],
+) -> Result<(&'a [u8], RowValues<'a>), LineError>
     ensures { let parts = column_shape (map (λ field. field.now) fields.now) in
         let first_fault = first_held (judged_by (λ line. name_tests line.name ++ number_tests (literals_of line.pairs)) parts) in
         MatchResult result (λ line. (first_fault ≡ None) × (option_map named_values parts ≡ Some (line.0.now, line.1))) (IsErrorOf first_fault) }
@@ -136,7 +157,7 @@ pub(crate) fn check_column<'a>(fields: &[&'a [u8]]) -> Result<(&'a [u8], RowValu
         name: column,
         pairs,
     } = line;
-    Name::check(column)?;
+    check_column_name(context, builder, column)?;
     let values = values_of(pairs)?;
     Ok((column, values))
 }
