@@ -18,17 +18,9 @@ use Rattle.mpslp_core.proofs.PutsLemmas.{equal_from}
 use Rattle.mpslp_core.proofs.KeyLemmas.{same_key}
 use Rattle.mpslp_core.proofs.KeyLemmas.{bytes_total, key_total, tied_names}
 use Rattle.mpslp_core.specs.Numbered.{sorted_of, column_cells, all_cells, TellsApart, IsOnce}
+use Rattle.mpslp_core.specs.Columned.{row_cells}
 use Rattle.mpslp_core.proofs.SortedLemmas.{find-sorted_of, is_sorted-sorted_of}
 use Rattle.mpslp_core.proofs.CellLemmas.{at, or_else, find-two, find-other_column}
-
--- the number of a row, and not that of the objective
-abbrev pub is_row_number : ℕ → Bool
-is_row_number zero = false
-is_row_number (suc n) = true
-
--- the cells of rows
-abbrev pub row_cells : List (ℕ × Number) → List (ℕ × Number)
-row_cells es = filter (λ e. is_row_number e.0) es
 
 -- what is asked of a place in the model's view of a column
 abbrev pub is_element_of : List ℕ → List ℕ → CoefficientKey → Bool

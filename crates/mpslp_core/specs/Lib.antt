@@ -5,6 +5,7 @@ pub mod Columns
 pub mod WrongParts
 pub mod Views
 pub mod ModelCode
+pub mod Columned
 pub mod ModelParts
 pub mod Same
 pub mod SameLaws

@@ -1,7 +1,10 @@
 -- When two sides, rows, columns or objectives are the same.
-use Rattle.std.specs.Prelude.{◌≡◌, Bool, true, false, ◌&&◌}
+use Rattle.std.specs.Prelude.{◌≡◌, ℕ, Bool, true, false, ◌&&◌, List}
 use Rattle.std.specs.Ordering.{int_eq}
+use Rattle.std.specs.Bool.{nat_eq}
+use Rattle.std.specs.Cmp.Lexicographic.{pointwise}
 use Rattle.mpslp_decimal.specs.Decimal.{Number}
+use Rattle.mpslp_types.specs.Name.{same_bytes}
 use Rattle.mpslp_core.specs.Model.{Row, Column, LinearModel}
 use Rattle.mpslp_types.specs.declared.kinds.Kind.{Kind}
 use Rattle.mpslp_types.specs.declared.kinds.Kind.TheVariants.{Continuous, Integer, Semi}
@@ -38,6 +41,17 @@ same_row a b = same_limit a.lower b.lower && same_limit a.upper b.upper
 
 abbrev pub same_column : Column → Column → Bool
 same_column a b = same_kind a.kind b.kind && (same_limit a.lower b.lower && same_limit a.upper b.upper)
+
+-- a coefficient by its number and its value
+abbrev pub same_cell : ℕ × Number → ℕ × Number → Bool
+same_cell a b = nat_eq a.0 b.0 && same_number a.1 b.1
+
+-- a column, with its name and its coefficients
+abbrev pub same_column_with : Column × List (ℕ × Number) → Column × List (ℕ × Number) → Bool
+same_column_with a b = same_column a.0 b.0 && pointwise same_cell a.1 b.1
+
+abbrev pub same_named_column : List ℕ × (Column × List (ℕ × Number)) → List ℕ × (Column × List (ℕ × Number)) → Bool
+same_named_column a b = same_bytes a.0 b.0 && same_column_with a.1 b.1
 
 -- the parts of two models beside rows, columns and coefficients are the same
 abbrev pub IsSameObjective : LinearModel → LinearModel → Type 0

@@ -3,8 +3,7 @@
 
 mod bounds;
 mod cells;
-mod elements;
-mod keys;
+mod columns;
 pub mod laws;
 mod limits;
 mod model;

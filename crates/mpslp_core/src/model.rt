@@ -1,43 +1,28 @@
 //! Models, and what is asked of them.
 
-ghost use Rattle.std.specs.Prelude.{◌≡◌, ◌<◌, not, IsTrue, Some, length, position, filter, slice_get, unwrap_or, if◌then◌else◌};
+ghost use Rattle.std.specs.Prelude.{◌≡◌, ◌<◌, IsTrue, Some, length, position, slice_get, unwrap_or, if◌then◌else◌};
 ghost use Rattle.std.specs.Option.{option_map};
 ghost use Rattle.mpslp_decimal.specs.Decimal.{negated, zero_number, decimal_cmp, difference_of};
 ghost use Rattle.std.specs.Bool.{Decides};
 ghost use Rattle.std.specs.Ordering.{is_eq};
 ghost use Rattle.std.specs.FinMap.{is_sorted};
 ghost use Rattle.mpslp_types.specs.Name.{same_bytes, bytes_cmp};
-ghost use Rattle.mpslp_core.specs.Same.{same_number, same_limit, same_kind, IsSameObjective};
+ghost use Rattle.mpslp_core.specs.Same.{IsSameObjective};
 ghost use Rattle.mpslp_core.specs.ModelParts.{linear_model, AreModelParts};
 ghost use Rattle.mpslp_core.specs.Views.{row_names, column_names, rows_of, columns_of, num_rows, num_columns, num_elements, row_name, column_name, row_index, column_index, row_sense, right_hand_side, row_range, is_integer_column, coefficient_at, column_elements, numbered_elements};
 
-use crate::elements::{count_elements_of, element_at};
-use crate::keys::{BorrowedKey, OwnedKey};
-use crate::sides::{ColumnBounds, RowLimits};
+use crate::columns::{cells_at, count_elements, first_value, row_cells, row_of, same_columns, value_at};
 use crate::packed::{PackedColumn, PackedRow};
+use crate::sides::{ColumnBounds, RowLimits};
 use mpslp_decimal::{Decimal, PackedDecimal};
 use mpslp_decimal::laws::each_value_is_a_decimal;
-use mpslp_maps::{entry_at, find_entry, index_of_entry};
+use mpslp_maps::{entry_at, index_of_entry};
 use mpslp_types::{Kind, Limit, Name, Sense};
 use std::cmp::Ordering;
 use std::marker;
 
 /// Whether the rows are the same.
-fn same_rows(a: &[(Name, RowLimits)], b: &[(Name, RowLimits)]) -> bool
-    ensures { Decides result (a.now ≡ b.now) }
-{
-    a == b
-}
-
-/// Whether the columns are the same.
-fn same_columns(a: &[(Name, ColumnBounds)], b: &[(Name, ColumnBounds)]) -> bool
-    ensures { Decides result (a.now ≡ b.now) }
-{
-    a == b
-}
-
-/// Whether the coefficients are the same.
-fn same_coefficients(a: &[(OwnedKey, Decimal)], b: &[(OwnedKey, Decimal)]) -> bool
+fn same_rows(a: &[(Name, PackedRow)], b: &[(Name, PackedRow)]) -> bool
     ensures { Decides result (a.now ≡ b.now) }
 {
     a == b
@@ -99,26 +84,6 @@ fn index_of<X>(entries: &[(Name, X)], name: &[u8]) -> Option<usize>
     ensures { result ≡ position (λ entry. same_bytes name.now entry.0) entries.now }
 {
     index_of_entry(entries, &name)
-}
-
-/// Whether the coefficient is a row's, where the objective has this name.
-fn is_element(objective: &[u8], coefficient: &(OwnedKey, Decimal)) -> bool
-    ensures { result ≡ not (same_bytes objective.now coefficient.now.0.row) }
-{
-    objective != coefficient.0.row().as_bytes()
-}
-
-/// How many coefficients are a row's.
-fn count_elements(objective: &[u8], coefficients: &[(OwnedKey, Decimal)]) -> usize
-    ensures { result ≡ length (filter (λ e. not (same_bytes objective.now e.0.row)) coefficients.now) }
-{
-    let mut count = 0;
-    for coefficient in coefficients {
-        if is_element(objective, coefficient) {
-            count += 1;
-        }
-    }
-    count
 }
 
 /// The letter of a row whose limits are both finite.
@@ -213,7 +178,7 @@ impl Model {
     pub fn num_elements(&self) -> u128
         ensures { result ≡ num_elements self.now }
     {
-        count_elements(self.parts.objective.as_bytes(), &self.coefficients) as u128
+        count_elements(&self.parts.columns)
     }
 
     /// The name of the objective.
@@ -279,7 +244,7 @@ impl Model {
         requires { i < num_rows self.now }
         ensures { slice_get (rows_of self.now) i ≡ Some result }
     {
-        entry_at(&self.parts.rows, i).1
+        entry_at(&self.parts.rows, i).1.limits()
     }
 
     /// The kind and bounds of the column of number `j`.
@@ -287,7 +252,7 @@ impl Model {
         requires { j < num_columns self.now }
         ensures { slice_get (columns_of self.now) j ≡ Some result }
     {
-        entry_at(&self.parts.columns, j).1
+        entry_at(&self.parts.columns, j).1.bounds.bounds()
     }
 
     /// The lower limit of the row of number `i`.
@@ -366,22 +331,12 @@ impl Model {
         }
     }
 
-    /// The coefficient of these names, and 0 where none is.
-    fn coefficient_at(&self, row: &[u8], column: &[u8]) -> Decimal
-        ensures { result ≡ coefficient_at self.now row.now column.now }
-    {
-        match find_entry(&self.coefficients, &BorrowedKey { row, column }) {
-            Some(value) => *value,
-            None => Decimal::zero(),
-        }
-    }
-
     /// The coefficient of the objective in the column of number `j`.
     pub fn objective_coefficient(&self, j: usize) -> Decimal
         requires { j < num_columns self.now }
         ensures { result ≡ coefficient_at self.now self.now.objective (column_name self.now j) }
     {
-        self.coefficient_at(self.parts.objective.as_bytes(), self.column_name(j).as_bytes())
+        first_value(cells_at(&self.parts.columns, j))
     }
 
     /// The coefficient of the row of number `i` in the column of number `j`.
@@ -390,16 +345,16 @@ impl Model {
         requires column { j < num_columns self.now }
         ensures { result ≡ coefficient_at self.now (row_name self.now i) (column_name self.now j) }
     {
-        self.coefficient_at(self.row_name(i).as_bytes(), self.column_name(j).as_bytes())
+        value_at(cells_at(&self.parts.columns, j), i + 1)
     }
 
     /// Whether the parts beside rows, columns and coefficients are the same.
     fn has_same_objective(&self, other: &Model) -> bool
         ensures { Decides result (IsSameObjective self.now other.now) }
     {
-        self.sense == other.sense
-            && self.objective == other.objective
-            && self.parts.constant == other.constant
+        self.parts.sense == other.parts.sense
+            && self.parts.objective == other.parts.objective
+            && self.parts.constant == other.parts.constant
     }
 
     /// Whether this is the same model: its sense, the objective's name and constant, the names of rows and columns, their
@@ -408,39 +363,26 @@ impl Model {
         ensures { Decides result (self.now ≡ other.now) }
     {
         self.has_same_objective(other)
-            && (same_rows(&self.parts.rows, &other.rows)
-                && (same_columns(&self.parts.columns, &other.columns)
-                    && same_coefficients(&self.coefficients, &other.coefficients)))
+            && (same_rows(&self.parts.rows, &other.parts.rows)
+                && same_columns(&self.parts.columns, &other.parts.columns))
     }
 
-    /// How many coefficients of rows in the column of number `j` are not 0. They are found by halves, without memory.
+    /// How many coefficients of rows in the column of number `j` are not 0. It takes constant time and no memory.
     pub fn column_len(&self, j: usize) -> usize
         requires { j < num_columns self.now }
         ensures { result ≡ length (column_elements self.now (column_name self.now j)) }
     {
-        count_elements_of(
-            self.parts.objective.as_bytes(),
-            self.column_name(j).as_bytes(),
-            &self.coefficients,
-        )
+        row_cells(cells_at(&self.parts.columns, j)).len()
     }
 
     /// The coefficient of number `k` among those of rows that are not 0 in the column of number `j`, in the order of rows: the
-    /// row's number, and the value. It is found by halves, without memory.
+    /// row's number, and the value. It takes constant time and no memory.
     pub fn entry(&self, j: usize, k: usize) -> (usize, Decimal)
         requires column { j < num_columns self.now }
         requires entry { k < length (column_elements self.now (column_name self.now j)) }
         ensures { slice_get (numbered_elements self.now (column_name self.now j)) k ≡ Some (Some result.0, result.1) }
     {
-        let coefficient = element_at(
-            self.parts.objective.as_bytes(),
-            self.column_name(j).as_bytes(),
-            &self.coefficients,
-            k,
-        );
-        match self.row_index(coefficient.0.row().as_bytes()) {
-            Some(i) => (i, coefficient.1),
-            None => (0, coefficient.1),
-        }
+        let cell = entry_at(row_cells(cells_at(&self.parts.columns, j)), k);
+        (row_of(cell.0), cell.1.value())
     }
 }

@@ -136,3 +136,16 @@ impl PackedColumn {
         }
     }
 }
+
+impl PartialEq for PackedRow {
+    ghost use Rattle.mpslp_core.specs.Same.{same_row};
+    ghost use Rattle.mpslp_core.specs.SameLaws.{lawful, tells-row};
+
+    ghost eq = { same_row };
+
+    ghost laws = { lawful same_row tells-row };
+
+    fn eq(&self, other: &PackedRow) -> bool {
+        self.limits() == other.limits()
+    }
+}

@@ -70,7 +70,7 @@ impl PartialEq for ColumnBounds {
 }
 
 /// Whether the numbers are the same.
-fn is_same_number(a: Decimal, b: Decimal) -> bool
+pub(crate) fn is_same_number(a: Decimal, b: Decimal) -> bool
     ensures { result ≡ same_number a b }
 {
     a == b
