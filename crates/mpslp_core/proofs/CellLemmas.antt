@@ -34,7 +34,7 @@ number_tied n m e = ap (λ (x : ℕ). eq_by_cmp nat_cmp n x) (sym e) ∙ ap is_e
 number_same : (n m : ℕ) → eq_by_cmp nat_cmp n m ≡ true → n ≡ m
 number_same n m e = nat_cmp-IsAntisymmetric n m (equal_from (nat_cmp n m) e)
 
-name_same : (a b : List ℕ) → eq_by_cmp bytes_cmp a b ≡ true → a ≡ b
+pub name_same : (a b : List ℕ) → eq_by_cmp bytes_cmp a b ≡ true → a ≡ b
 name_same a b e = tied_names a b (equal_from (bytes_cmp a b) e)
 
 then_eq : (a b : Ordering) → is_eq a ≡ true → is_eq (ordering_then a b) ≡ is_eq b

@@ -4,6 +4,8 @@ pub mod SortedLemmas
 pub mod CellLemmas
 pub mod RunLemmas
 pub mod RenumberLemmas
+pub mod CellListLemmas
 pub mod ElementLemmas
+pub mod NumberLemmas
 pub mod ViewLemmas
 pub mod SameModels

@@ -4,7 +4,6 @@
 //! the number `i + 1` here.
 
 ghost use Rattle.std.specs.Prelude.{◌≡◌, ◌<◌, ◌&&◌, ◌+◌, IsTrue, Some, length, unwrap_or, slice_get};
-ghost use Rattle.std.specs.Bool.{Decides};
 ghost use Rattle.std.specs.List.{list_all};
 ghost use Rattle.std.specs.Option.{option_copied, option_map};
 ghost use Rattle.std.specs.Ordering.{nat_cmp};
@@ -49,7 +48,7 @@ pub(crate) fn row_cells(cells: &[(u32, PackedDecimal)]) -> &[(u32, PackedDecimal
     ensures { result.now ≡ row_cells cells.now }
 {
     match cells {
-        [(0, _), rows @ ..] => rows,
+        [first, rows @ ..] if first.0 == 0 => rows,
         _ => cells,
     }
 }
@@ -60,8 +59,9 @@ pub(crate) fn first_value(cells: &[(u32, PackedDecimal)]) -> Decimal
     ensures { result ≡ unwrap_or (find nat_cmp 0 cells.now) zero_number }
 {
     match cells {
-        [(0, value), ..] => value.value(),
-        _ => Decimal::zero(),
+        [] => Decimal::zero(),
+        [first, ..] if first.0 == 0 => first.1.value(),
+        [..] => Decimal::zero(),
     }
 }
 
@@ -99,7 +99,12 @@ fn is_same_cell(own: &(u32, PackedDecimal), other: &(u32, PackedDecimal)) -> boo
 fn are_same_cells(own: &[(u32, PackedDecimal)], other: &[(u32, PackedDecimal)]) -> bool
     ensures { result ≡ pointwise same_cell own.now other.now }
 {
-    own.len() == other.len() && own.iter().zip(other).all(|pair| is_same_cell(pair.0, pair.1))
+    for (cell, counterpart) in own.iter().zip(other) {
+        if !is_same_cell(cell, counterpart) {
+            return false;
+        }
+    }
+    own.len() == other.len()
 }
 
 /// Whether two columns have the same name, kind, bounds and coefficients.
@@ -112,9 +117,14 @@ fn is_same_column(own: &(Name, ModelColumn), other: &(Name, ModelColumn)) -> boo
 
 /// Whether the columns are the same.
 pub(crate) fn same_columns(own: &[(Name, ModelColumn)], other: &[(Name, ModelColumn)]) -> bool
-    ensures { Decides result (columns_told own.now ≡ columns_told other.now) }
+    ensures { result ≡ pointwise same_named_column (columns_told own.now) (columns_told other.now) }
 {
-    own.len() == other.len() && own.iter().zip(other).all(|pair| is_same_column(pair.0, pair.1))
+    for (column, counterpart) in own.iter().zip(other) {
+        if !is_same_column(column, counterpart) {
+            return false;
+        }
+    }
+    own.len() == other.len()
 }
 
 /// The number of the row that a coefficient's number stands for.
