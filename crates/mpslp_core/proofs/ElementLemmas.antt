@@ -50,7 +50,7 @@ module _ (name : ℕ → Option (List ℕ)) (apart : TellsApart name) (rise : Ri
             rest
       ] refl
 
-  sorted_cells : (es : List (ℕ × Number)) → is_sorted nat_cmp es ≡ true → is_sorted key_cmp (column_cells name c (row_cells es)) ≡ true
+  pub sorted_cells : (es : List (ℕ × Number)) → is_sorted nat_cmp es ≡ true → is_sorted key_cmp (column_cells name c (row_cells es)) ≡ true
   sorted_cells [] h = refl
   sorted_cells ((zero, x) ∷ es) h = sorted_cells es (second_so (below_all nat_cmp zero es) (is_sorted nat_cmp es) h)
   sorted_cells ((suc m, x) ∷ es) h =
@@ -84,7 +84,7 @@ module _ (name : ℕ → Option (List ℕ)) (apart : TellsApart name) (rise : Ri
         ] refl in
         ap (is_element_of objective c) same ∙ (λ i. not (other i) && own i)
 
-    find-row_cells : (q : CoefficientKey) (es : List (ℕ × Number)) → find key_cmp q (column_cells name c (row_cells es)) ≡ cond (is_element_of objective c q) (find key_cmp q (column_cells name c es)) None
+    pub find-row_cells : (q : CoefficientKey) (es : List (ℕ × Number)) → find key_cmp q (column_cells name c (row_cells es)) ≡ cond (is_element_of objective c q) (find key_cmp q (column_cells name c es)) None
     find-row_cells q [] = elim (is_element_of objective c q) as (λ b. ◌≡◌ {A = Option Number} None (cond b None None)) [ true ↦ refl | false ↦ refl ]
     find-row_cells q ((zero, x) ∷ es) =
         let cells = column_cells name c es in

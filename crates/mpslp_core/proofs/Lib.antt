@@ -7,5 +7,6 @@ pub mod RenumberLemmas
 pub mod CellListLemmas
 pub mod ElementLemmas
 pub mod NumberLemmas
+pub mod CountLemmas
 pub mod ViewLemmas
 pub mod SameModels

@@ -5,7 +5,7 @@ use Rattle.std.specs.Option.{option_map}
 use Rattle.std.specs.List.{list_any, list_all}
 use Rattle.std.specs.Ordering.{is_eq, is_lt, eq_by_cmp, nat_cmp, MatchOrdering}
 use Rattle.std.specs.Cmp.{IsTotalOrder, first_so, second_so, tied_itself, ranks}
-use Rattle.std.specs.Cmp.Lexicographic.{nat_list_eq_equiv}
+use Rattle.std.specs.Cmp.Lexicographic.{nat_list_eq_equiv, bytes_decides}
 use Rattle.std.specs.declared.cmp.Ordering.{Ordering}
 use Rattle.std.specs.declared.cmp.Ordering.TheVariants.{Less, Equal, Greater}
 use Rattle.std.specs.FinMap.{find, is_sorted}
@@ -24,7 +24,7 @@ less_from Equal h = cc
 less_from Greater h = cc
 
 -- a later entry lies above
-above_at : {X : Type 0} (k : List ℕ) (es : List (List ℕ × X)) (i : ℕ) (e : List ℕ × X) → below_all bytes_cmp k es ≡ true → slice_get es i ≡ Some e → bytes_cmp k e.0 ≡ Less
+pub above_at : {X : Type 0} (k : List ℕ) (es : List (List ℕ × X)) (i : ℕ) (e : List ℕ × X) → below_all bytes_cmp k es ≡ true → slice_get es i ≡ Some e → bytes_cmp k e.0 ≡ Less
 above_at k [] i e h at = cc
 above_at {X} k (d ∷ es) zero e h at =
     let same : ◌≡◌ {A = List ℕ × X} d e = cc in
@@ -43,6 +43,13 @@ never_below_itself : (a b : List ℕ) → a ≡ b → bytes_cmp a b ≡ Less →
 never_below_itself a b same less =
     let no : Equal ≡ Less = sym (tied_itself bytes_total a) ∙ ap (bytes_cmp a) same ∙ less in
     cc
+
+pub apart_names : (a b : List ℕ) → bytes_cmp a b ≡ Less → same_bytes b a ≡ false
+apart_names a b less =
+    elim (same_bytes b a) as (λ t. same_bytes b a ≡ t → t ≡ false) [
+      | true ↦ λ tie. absurd (never_below_itself a b (sym ((bytes_decides b a).0 tie)) less)
+      | false ↦ λ _. refl
+    ] refl
 
 -- of a name that is there
 pub named_entry : {X : Type 0} (es : List (List ℕ × X)) (i : ℕ) (r : List ℕ) → option_map (λ (e : List ℕ × X). own e.0) (slice_get es i) ≡ Some r → (e : List ℕ × X) × (slice_get es i ≡ Some e) × (e.0 ≡ r)
@@ -94,8 +101,8 @@ module _ {X : Type 0} (objective : List ℕ) (es : List (List ℕ × X)) (sorted
     -- no two numbers are of one row
     pub tells_apart : TellsApart (name_of own (Some objective) es)
     tells_apart zero zero r p q = refl
-    tells_apart zero (suc m) r p q = absurd (not_objective m r cc q)
-    tells_apart (suc n) zero r p q = absurd (not_objective n r cc p)
+    tells_apart zero (suc m) r p q = absurd (not_objective m r (cc) q)
+    tells_apart (suc n) zero r p q = absurd (not_objective n r (cc) p)
     tells_apart (suc n) (suc m) r p q = ap (λ (k : ℕ). suc k) (one_number n m r p q)
 
 -- ---- parts of sorted entries

@@ -1,39 +1,65 @@
 -- What is asked of a model, read off its parts.
 use Rattle.std.proofs.Common.{◌≡◌, refl, sym, ap, subst, ◌∙◌, ℕ, zero, suc, ◌<◌, ◌+◌, List, [], ◌∷◌, length, map, Bool, true, false, cond, not, arith}
-use Rattle.std.specs.Prelude.{Option, Some, None, slice_get, position, nat_lt, ◌||◌, ◌&&◌, is_some, filter}
-use Rattle.std.specs.Option.{option_map}
-use Rattle.std.specs.List.{position_or_len, list_any, list_all}
+use Rattle.std.specs.Prelude.{Option, Some, None, slice_get, position, nat_lt, ◌&&◌, is_some, unwrap_or, filter}
+use Rattle.std.specs.Option.{option_map, option_map_or, option_and_then}
+use Rattle.std.specs.List.{position_or_len, list_all}
+use Rattle.std.specs.Ordering.{nat_cmp}
 use Rattle.std.specs.FinMap as maps
+use Rattle.std.specs.FinMap.{find, is_sorted}
+use Rattle.std.specs.FinMap.Entries.{below_all}
 use Rattle.std.specs.Cmp.{first_so, second_so}
-use Rattle.std.specs.Cmp.Lexicographic.{nat_list_eq_equiv}
+use Rattle.std.specs.Cmp.Lexicographic.{nat_list_eq_equiv, bytes_decides}
 use Rattle.std.proofs.lemmas.Bool.{lt-ltb}
-use Rattle.std.proofs.lemmas.List.{length-map}
+use Rattle.std.proofs.lemmas.List.{length-map, length-append}
+use Rattle.std.proofs.lemmas.Option.{slice_get-map, slice_get_within, get_or_from_slice_get}
 use Rattle.mpslp_types.specs.Name.{same_bytes, is_one_of, bytes_cmp}
-use Rattle.mpslp_core.specs.Views.{row_names, row_index, is_element, column_elements}
-use Rattle.mpslp_types.proofs.BoolLemmas.{both_so, not_so, T_from}
-use Rattle.std.proofs.lemmas.Option.{slice_get-map}
-use Rattle.mpslp_decimal.specs.Decimal.{Number, is_decimal, is_zero}
-use Rattle.mpslp_core.specs.Model.{CoefficientKey, LinearModel, key_cmp, IsSound, is_sound_coefficient}
-use Rattle.mpslp_core.specs.ModelParts.{linear_model, AreModelParts}
-use Rattle.mpslp_core.specs.declared.model.Model.TheInside.{Inside}
+use Rattle.mpslp_types.proofs.BoolLemmas.{T_from, true_from}
+use Rattle.mpslp_decimal.specs.Decimal.{Number, zero_number}
+use Rattle.mpslp_core.specs.Views.{row_names, row_name, row_index, column_names, column_name, coefficient_at, is_element, num_elements, column_elements, numbered_elements}
+use Rattle.mpslp_core.specs.Model.{CoefficientKey, Column, Row, LinearModel, key_cmp}
+use Rattle.mpslp_core.specs.Numbered.{sorted_of, each_part, name_of, column_cells, all_cells, TellsApart, IsOnce}
+use Rattle.mpslp_core.specs.Columned.{row_cells, count_row_cells}
+use Rattle.mpslp_core.specs.ModelParts.{linear_model, AreModelParts, own, bounds_in, cells_in, columns_in, cells_by_name, number_name}
+use Rattle.mpslp_core.specs.declared.model.ModelColumn.{ModelColumn}
+use Rattle.mpslp_core.specs.declared.model.ModelParts.{ModelParts}
+use Rattle.mpslp_core.proofs.KeyLemmas.{key_total}
+use Rattle.mpslp_core.proofs.SortedLemmas.{find-sorted_of, is_sorted-sorted_of}
+use Rattle.mpslp_core.proofs.CellLemmas.{at, find-all_cells}
+use Rattle.mpslp_core.proofs.ElementLemmas.{RiseByName, elements_are_cells}
+use Rattle.mpslp_core.proofs.CountLemmas.{rows_alone, elements_are_rows, length-named, rows_named}
+use Rattle.mpslp_core.proofs.NumberLemmas.{rise_by_name, tells_apart, named_entry, above_at, apart_names, is_sorted-part, slice_get-part, names-part, once_sorted, found_at, all_at}
 
-pub rows_seen : {m : Inside} {v : LinearModel} → linear_model m ≡ v → AreModelParts m → maps.entries v.rows ≡ m.rows.items
+pub rows_seen : {m : ModelParts} {v : LinearModel} → linear_model m ≡ v → AreModelParts m → maps.entries v.rows ≡ m.rows.items
 rows_seen {m} {v} seen parts = ap (λ (w : LinearModel). maps.entries w.rows) (sym seen) ∙ maps.entries-from_sorted bytes_cmp m.rows.items (T_from _ parts.rows)
 
-pub columns_seen : {m : Inside} {v : LinearModel} → linear_model m ≡ v → AreModelParts m → maps.entries v.columns ≡ m.columns.items
-columns_seen {m} {v} seen parts = ap (λ (w : LinearModel). maps.entries w.columns) (sym seen) ∙ maps.entries-from_sorted bytes_cmp m.columns.items (T_from _ parts.columns)
+pub columns_seen : {m : ModelParts} {v : LinearModel} → linear_model m ≡ v → AreModelParts m → maps.entries v.columns ≡ columns_in m
+columns_seen {m} {v} seen parts = ap (λ (w : LinearModel). maps.entries w.columns) (sym seen) ∙ maps.entries-from_sorted bytes_cmp (columns_in m) (T_from _ parts.columns)
 
-pub coefficients_seen : {m : Inside} {v : LinearModel} → linear_model m ≡ v → AreModelParts m → maps.entries v.coefficients ≡ m.coefficients.items
-coefficients_seen {m} {v} seen parts = ap (λ (w : LinearModel). maps.entries w.coefficients) (sym seen) ∙ maps.entries-from_sorted key_cmp m.coefficients.items (T_from _ parts.coefficients)
+pub coefficients_seen : (m : ModelParts) {v : LinearModel} → linear_model m ≡ v → maps.entries v.coefficients ≡ sorted_of key_cmp (all_cells (number_name m) (cells_by_name m))
+coefficients_seen m {v} seen =
+    ap (λ (w : LinearModel). maps.entries w.coefficients) (sym seen)
+    ∙ maps.entries-from_sorted key_cmp (sorted_of key_cmp (all_cells (number_name m) (cells_by_name m))) (is_sorted-sorted_of key_cmp key_total (all_cells (number_name m) (cells_by_name m)))
 
 -- as many names as entries
 pub count_seen : {X : Type 0} {es items : List (List ℕ × X)} → es ≡ items → length items ≡ length (map (λ e. e.0) es)
 count_seen {X} {es} {items} same = ap length (sym same) ∙ sym (length-map es (λ (e : List ℕ × X). e.0))
 
+-- names of columns are those of their entries
+pub column_names_seen : {m : ModelParts} {v : LinearModel} → linear_model m ≡ v → AreModelParts m → column_names v ≡ map (λ (e : List ℕ × ModelColumn). e.0) m.columns.items
+column_names_seen {m} seen parts = ap (map (λ (e : List ℕ × Column). e.0)) (columns_seen seen parts) ∙ names-part bounds_in m.columns.items
+
+pub count_columns : {m : ModelParts} {v : LinearModel} → linear_model m ≡ v → AreModelParts m → length m.columns.items ≡ length (column_names v)
+count_columns {m} seen parts = sym (ap length (column_names_seen seen parts) ∙ length-map m.columns.items (λ (e : List ℕ × ModelColumn). e.0))
+
 -- the entry of a number, seen through a function
 pub entry_seen : {X Y : Type 0} {es items : List (List ℕ × X)} (f : List ℕ × X → Y) (i : ℕ) {e : List ℕ × X} → es ≡ items → slice_get items i ≡ Some e
     → slice_get (map f es) i ≡ Some (f e)
 entry_seen {X} {Y} {es} {items} f i same at = slice_get-map f es i ∙ ap (option_map f) (ap (λ (xs : List (List ℕ × X)). slice_get xs i) same ∙ at)
+
+pub column_seen : {Y : Type 0} {m : ModelParts} {v : LinearModel} (f : List ℕ × Column → Y) (j : ℕ) {e : List ℕ × ModelColumn} → linear_model m ≡ v → AreModelParts m → slice_get m.columns.items j ≡ Some e
+    → slice_get (map f (maps.entries v.columns)) j ≡ Some (f (e.0, e.1.bounds))
+column_seen {Y} {m} f j seen parts at =
+    entry_seen f j (columns_seen seen parts) (slice_get-part bounds_in m.columns.items j ∙ ap (option_map (λ (e : List ℕ × ModelColumn). (e.0, bounds_in e.1))) at)
 
 position_or_len-map : {X Y : Type 0} (p : Y → Bool) (f : X → Y) (xs : List X) → position_or_len p (map f xs) ≡ position_or_len (λ x. p (f x)) xs
 position_or_len-map p f [] = refl
@@ -45,48 +71,146 @@ position-map {X} {Y} p f xs =
     let at : ℕ → ℕ → Option ℕ = λ i n. cond (nat_lt i n) (Some i) None in
     ap (λ (i : ℕ). at i (length (map f xs))) (position_or_len-map p f xs) ∙ ap (at (position_or_len (λ x. p (f x)) xs)) (length-map xs f)
 
--- ---- each element of a column is of a row that is there
+-- the first entry of a name is the only one
+number_of_name : {X : Type 0} (es : List (List ℕ × X)) (i : ℕ) (e : List ℕ × X) → is_sorted bytes_cmp es ≡ true → slice_get es i ≡ Some e → position_or_len (λ (d : List ℕ × X). same_bytes e.0 d.0) es ≡ i
+number_of_name [] i e h at = absurd cc
+number_of_name {X} (d ∷ es) zero e h at =
+    let same : ◌≡◌ {A = List ℕ × X} d e = cc in
+    let found : same_bytes e.0 d.0 ≡ true = ap (λ (x : List ℕ × X). same_bytes e.0 x.0) same ∙ nat_list_eq_equiv.refl e.0 in
+    ap (λ (b : Bool). cond (not b) (1 + position_or_len (λ (x : List ℕ × X). same_bytes e.0 x.0) es) 0) found
+number_of_name {X} (d ∷ es) (suc i) e h at =
+    let other : same_bytes e.0 d.0 ≡ false = apart_names d.0 e.0 (above_at d.0 es i e (first_so (below_all bytes_cmp d.0 es) (is_sorted bytes_cmp es) h) at) in
+    let later = number_of_name es i e (second_so (below_all bytes_cmp d.0 es) (is_sorted bytes_cmp es) h) at in
+    ap (λ (b : Bool). cond (not b) (1 + position_or_len (λ (x : List ℕ × X). same_bytes e.0 x.0) es) 0) other ∙ ap (λ (n : ℕ). 1 + n) later ∙ one_more i
+  where
+    one_more : (i : ℕ) → 1 + i ≡ suc i
+    one_more i = omega arith
 
-any_below : {X : Type 0} (p : X → Bool) (xs : List X) → list_any p xs ≡ true → position_or_len p xs < length xs
-any_below p [] h = absurd cc
-any_below p (x ∷ xs) h =
-    elim (p x) as (λ b. (b || list_any p xs) ≡ true → cond (not b) (1 + position_or_len p xs) 0 < length (x ∷ xs)) [
-      | true ↦ λ _. omega arith
-      | false ↦ λ there. let rest = any_below p xs there in omega arith
-    ] h
+pub number_seen : {m : ModelParts} {v : LinearModel} → linear_model m ≡ v → AreModelParts m → (n : ℕ) (r : List ℕ) → number_name m (suc n) ≡ Some r → row_index v r ≡ Some n
+number_seen {m} {v} seen parts n r named =
+    let e = named_entry m.rows.items n r named in
+    let first = number_of_name m.rows.items n e.0 parts.rows e.1 in
+    ap (λ (es : List (List ℕ × Row)). position (same_bytes r) (map (λ (d : List ℕ × Row). d.0) es)) (rows_seen seen parts)
+    ∙ position-map (same_bytes r) (λ (d : List ℕ × Row). d.0) m.rows.items
+    ∙ ap (λ (name : List ℕ). position (λ (d : List ℕ × Row). same_bytes name d.0) m.rows.items) (sym e.2)
+    ∙ ap (λ (i : ℕ). cond (nat_lt i (length m.rows.items)) (Some i) None) first
+    ∙ ap (λ (b : Bool). cond b (Some n) None) (lt-ltb n (length m.rows.items) (slice_get_within m.rows.items n e.0 e.1))
 
-some_at : {X : Type 0} (p : X → Bool) (xs : List X) → list_any p xs ≡ true → is_some (position p xs) ≡ true
-some_at p xs h =
-    ap (λ (b : Bool). is_some (cond b (Some (position_or_len p xs)) None)) (lt-ltb (position_or_len p xs) (length xs) (any_below p xs h))
+-- an element by the number of its row
+abbrev pub numbered_in : LinearModel → CoefficientKey × Number → Option ℕ × Number
+numbered_in v coefficient = (row_index v coefficient.0.row, coefficient.1)
 
-first_or : {X : Type 0} (p : X → Bool) (x e : X) (xs : List X) (k : ℕ) → p x ≡ true → slice_get (x ∷ xs) k ≡ Some e
-    → ((n : ℕ) → slice_get xs n ≡ Some e → p e ≡ true) → p e ≡ true
-first_or p x e xs zero h here more = let same : x ≡ e = cc in subst (λ y. p y ≡ true) same h
-first_or p x e xs (suc n) h here more = more n here
+-- ---- what holds of the parts
 
--- an element among those that pass a test passes it, and what holds of all holds of it
-kth_so : {X : Type 0} (p q : X → Bool) (xs : List X) (k : ℕ) (e : X) → list_all q xs ≡ true → slice_get (filter p xs) k ≡ Some e → (p e && q e) ≡ true
-kth_so p q [] k e all at = absurd cc
-kth_so {X} p q (x ∷ xs) k e all at =
-    elim (p x) as (λ b. p x ≡ b → slice_get (cond b (x ∷ filter p xs) (filter p xs)) k ≡ Some e → (p e && q e) ≡ true) [
-      | true ↦ λ passes here. first_or (λ y. p y && q y) x e (filter p xs) k (both_so (p x) (q x) passes (first_so (q x) (list_all q xs) all)) here (λ n later. kth_so p q xs n e (second_so (q x) (list_all q xs) all) later)
-      | false ↦ λ _ later. kth_so p q xs k e (second_so (q x) (list_all q xs) all) later
-    ] refl at
+module _ (m : ModelParts) (parts : AreModelParts m) where
+  pub apart_in : TellsApart (number_name m)
+  apart_in =
+      tells_apart m.objective m.rows.items parts.rows
+      (ap (λ (es : List (List ℕ × Row)). is_one_of (map (λ (e : List ℕ × Row). e.0) es) m.objective) (sym (rows_seen refl parts)) ∙ parts.sound.objective_is_no_row)
 
-else_later : (a b : Bool) → a ≡ false → (a || b) ≡ true → b ≡ true
-else_later true b none h = cc
-else_later false b none h = h
+  pub rise_in : RiseByName (number_name m)
+  rise_in = rise_by_name m.objective m.rows.items parts.rows
 
-pub row_is_there : (m : LinearModel) (column : List ℕ) (k : ℕ) (e : CoefficientKey × Number) → IsSound m → slice_get (column_elements m column) k ≡ Some e
-    → is_some (row_index m e.0.row) ≡ true
-row_is_there m column k e sound at =
-    let row = e.0.row in
-    let rows = is_one_of (m.objective ∷ row_names m) row in
-    let columns = is_one_of (maps.keys m.columns) e.0.column in
-    let h = kth_so (λ (c : CoefficientKey × Number). is_element m c && same_bytes column c.0.column) (is_sound_coefficient m) (maps.entries m.coefficients) k e sound.coefficients at in
-    let element = is_element m e in
-    let counted : element ≡ true = first_so element (same_bytes column e.0.column) (first_so (element && same_bytes column e.0.column) (is_sound_coefficient m e) h) in
-    let placed : (columns && rows) ≡ true =
-    second_so (not (is_zero e.1)) (columns && rows) (second_so (is_decimal e.1) (not (is_zero e.1) && (columns && rows)) (second_so (element && same_bytes column e.0.column) (is_sound_coefficient m e) h)) in
-    let other : same_bytes row m.objective ≡ false = nat_list_eq_equiv.symm row m.objective ∙ not_so (same_bytes m.objective row) counted in
-    some_at (same_bytes row) (row_names m) (else_later (same_bytes row m.objective) (is_one_of (row_names m) row) other (second_so columns rows placed))
+  pub columns_rise : is_sorted bytes_cmp m.columns.items ≡ true
+  columns_rise = sym (is_sorted-part bounds_in m.columns.items) ∙ parts.columns
+
+  pub cells_rise : is_sorted bytes_cmp (cells_by_name m) ≡ true
+  cells_rise = is_sorted-part cells_in m.columns.items ∙ columns_rise
+
+  pub once_in : IsOnce (cells_by_name m)
+  once_in = once_sorted (cells_by_name m) cells_rise
+
+  -- the coefficients of the column of a number
+  pub record AreCellsAt (v : LinearModel) (j : ℕ) (cells : List (ℕ × Number)) : Type 0 where
+    pub found : find bytes_cmp (column_name v j) (cells_by_name m) ≡ Some cells
+    pub sorted : is_sorted nat_cmp cells ≡ true
+    pub named : list_all (λ e. is_some (number_name m e.0)) cells ≡ true
+
+  pub cells_seen : (v : LinearModel) → linear_model m ≡ v → (j : ℕ) (cells : List (ℕ × Number)) → option_map (λ (column : List ℕ × ModelColumn). column.1.cells.items) (slice_get m.columns.items j) ≡ Some cells → AreCellsAt v j cells
+  cells_seen v seen j cells at =
+      elim (slice_get m.columns.items j) as (λ o. slice_get m.columns.items j ≡ o → option_map (λ (column : List ℕ × ModelColumn). column.1.cells.items) o ≡ Some cells → AreCellsAt v j cells) [
+        | None ↦ λ _ no. absurd cc
+        | Some e ↦ λ here is.
+            let own_cells : e.1.cells.items ≡ cells = cc in
+            let entry : slice_get (cells_by_name m) j ≡ Some (e.0, cells) = slice_get-part cells_in m.columns.items j ∙ ap (option_map (λ (d : List ℕ × ModelColumn). (d.0, cells_in d.1))) here ∙ ap (λ (es : List (ℕ × Number)). Some (e.0, es)) own_cells in
+            let name : column_name v j ≡ e.0 = get_or_from_slice_get (column_names v) j e.0 [] (column_seen (λ (d : List ℕ × Column). d.0) j seen parts here) in
+            record {
+              found = ap (λ (n : List ℕ). find bytes_cmp n (cells_by_name m)) name ∙ found_at (cells_by_name m) j (e.0, cells) once_in entry;
+              sorted = all_at (λ c. is_sorted nat_cmp c.1) (cells_by_name m) j (e.0, cells) parts.cells entry;
+              named = all_at (λ c. list_all (λ d. is_some (number_name m d.0)) c.1) (cells_by_name m) j (e.0, cells) parts.named entry;
+            }
+      ] refl at
+
+  -- a coefficient by the number of its row
+  pub value_seen : (v : LinearModel) → linear_model m ≡ v → (j : ℕ) (cells : List (ℕ × Number)) → AreCellsAt v j cells → (n : ℕ) (r : List ℕ) → number_name m n ≡ Some r
+      → unwrap_or (find nat_cmp n cells) zero_number ≡ coefficient_at v r (column_name v j)
+  value_seen v seen j cells are n r named =
+      let all = all_cells (number_name m) (cells_by_name m) in
+      ap (λ (o : Option Number). unwrap_or o zero_number)
+      (sym (
+        ap (find key_cmp (at r (column_name v j))) (coefficients_seen m seen)
+        ∙ find-sorted_of key_cmp key_total (at r (column_name v j)) all
+        ∙ find-all_cells (number_name m) apart_in n r (column_name v j) (cells_by_name m) named once_in
+        ∙ ap (option_and_then (find nat_cmp n)) are.found
+      ))
+
+  -- the elements of a column
+  pub elements_seen : (v : LinearModel) → linear_model m ≡ v → (j : ℕ) (cells : List (ℕ × Number)) → AreCellsAt v j cells
+      → column_elements v (column_name v j) ≡ column_cells (number_name m) (column_name v j) (row_cells cells)
+  elements_seen v seen j cells are =
+      let column = column_name v j in
+      (λ i. filter (λ (e : CoefficientKey × Number). not (same_bytes (sym (ap (λ (w : LinearModel). w.objective) seen) i) e.0.row) && same_bytes column e.0.column) (coefficients_seen m seen i))
+      ∙ elements_are_cells (number_name m) apart_in rise_in column m.objective refl cells (cells_by_name m) once_in are.found are.sorted
+
+  -- each by its number
+  numbered : (v : LinearModel) → linear_model m ≡ v → (c : List ℕ) (es : List (ℕ × Number)) (k : ℕ) (e : ℕ × Number) → list_all (λ d. is_some (number_name m d.0)) es ≡ true → slice_get (row_cells es) k ≡ Some e
+      → (n : ℕ) → n + 1 ≡ e.0 → slice_get (map (numbered_in v) (column_cells (number_name m) c (row_cells es))) k ≡ Some (Some n, e.1)
+  numbered v seen c [] k e named here n is = absurd cc
+  numbered v seen c ((zero, x) ∷ es) k e named here n is = numbered v seen c es k e (second_so (is_some (number_name m zero)) (list_all (λ d. is_some (number_name m d.0)) es) named) here n is
+  numbered v seen c ((suc i, x) ∷ es) k e named here n is =
+      let cells = column_cells (number_name m) c (row_cells es) in
+      elim (number_name m (suc i)) as (λ o. number_name m (suc i) ≡ o → is_some o ≡ true → slice_get (map (numbered_in v) (option_map_or (λ row. (at row c, x) ∷ cells) o cells)) k ≡ Some (Some n, e.1)) [
+        | None ↦ λ _ no. absurd cc
+        | Some r ↦ λ row _.
+            elim k as (λ k. slice_get {X = ℕ × Number} ((suc i, x) ∷ row_cells es) k ≡ Some e → slice_get (map (numbered_in v) ((at r c, x) ∷ cells)) k ≡ Some (Some n, e.1)) [
+              | zero ↦ λ first.
+                  let same : ◌≡◌ {A = ℕ × Number} (suc i, x) e = cc in
+                  let own_number : i ≡ n = (let one : suc i ≡ e.0 = ap (λ (d : ℕ × Number). d.0) same in omega arith) in
+                  (λ t. Some (number_seen seen parts i r row t, (ap (λ (d : ℕ × Number). d.1) same) t)) ∙ ap (λ (a : ℕ). Some (Some a, e.1)) own_number
+              | suc h ↦ λ later. numbered v seen c es h e (second_so (is_some (number_name m (suc i))) (list_all (λ d. is_some (number_name m d.0)) es) named) later n is
+            ] here
+      ] refl (first_so (is_some (number_name m (suc i))) (list_all (λ d. is_some (number_name m d.0)) es) named)
+
+  pub entry_numbered : (v : LinearModel) → linear_model m ≡ v → (j : ℕ) (cells : List (ℕ × Number)) → AreCellsAt v j cells → (k : ℕ) (e : ℕ × Number) → slice_get (row_cells cells) k ≡ Some e
+      → (n : ℕ) → n + 1 ≡ e.0 → slice_get (numbered_elements v (column_name v j)) k ≡ Some (Some n, e.1)
+  entry_numbered v seen j cells are k e here n is =
+      ap (λ (es : List (CoefficientKey × Number)). slice_get (map (numbered_in v) es) k) (elements_seen v seen j cells are)
+      ∙ numbered v seen (column_name v j) cells k e are.named here n is
+
+  pub length_seen : (v : LinearModel) → linear_model m ≡ v → (j : ℕ) (cells : List (ℕ × Number)) → AreCellsAt v j cells → length (row_cells cells) ≡ length (column_elements v (column_name v j))
+  length_seen v seen j cells are =
+      sym (ap length (elements_seen v seen j cells are) ∙ length-named (number_name m) (column_name v j) (row_cells cells) (rows_named (number_name m) cells are.named))
+
+  -- how many there are in all columns
+  count_named : (columns : List (List ℕ × ModelColumn)) → list_all (λ c. list_all (λ e. is_some (number_name m e.0)) c.1) (each_part own cells_in columns) ≡ true
+      → length (all_cells (number_name m) (rows_alone (each_part own cells_in columns))) ≡ count_row_cells columns
+  count_named [] h = refl
+  count_named (c ∷ cs) h =
+      let cells = c.1.cells.items in
+      let one = list_all (λ e. is_some (number_name m e.0)) cells in
+      let more = list_all (λ d. list_all (λ e. is_some (number_name m e.0)) d.1) (each_part own cells_in cs) in
+      length-append (column_cells (number_name m) c.0 (row_cells cells)) (all_cells (number_name m) (rows_alone (each_part own cells_in cs)))
+      ∙ (λ i. length-named (number_name m) c.0 (row_cells cells) (rows_named (number_name m) cells (first_so one more h)) i + count_named cs (second_so one more h) i)
+
+  pub elements_counted : (v : LinearModel) → linear_model m ≡ v → count_row_cells m.columns.items ≡ num_elements v
+  elements_counted v seen =
+      sym (
+        (λ i. length (filter (λ (e : CoefficientKey × Number). not (same_bytes (sym (ap (λ (w : LinearModel). w.objective) seen) i) e.0.row)) (coefficients_seen m seen i)))
+        ∙ ap length (elements_are_rows (number_name m) apart_in rise_in m.objective refl (cells_by_name m) cells_rise parts.cells)
+        ∙ count_named m.columns.items parts.named
+      )
+
+-- each column's coefficients stand in the order of numbers
+pub all_sorted : (columns : List (List ℕ × ModelColumn)) → list_all (λ c. is_sorted nat_cmp c.1) (each_part own cells_in columns) ≡ true → list_all (λ (column : List ℕ × ModelColumn). is_sorted nat_cmp column.1.cells.items) columns ≡ true
+all_sorted [] h = refl
+all_sorted (c ∷ cs) h = λ i. first_so (is_sorted nat_cmp c.1.cells.items) (list_all (λ d. is_sorted nat_cmp d.1) (each_part own cells_in cs)) h i && all_sorted cs (second_so (is_sorted nat_cmp c.1.cells.items) (list_all (λ d. is_sorted nat_cmp d.1) (each_part own cells_in cs)) h) i
