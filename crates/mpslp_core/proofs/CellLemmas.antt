@@ -31,7 +31,7 @@ name_tied a b e = ap (λ (x : List ℕ). eq_by_cmp bytes_cmp a x) (sym e) ∙ ap
 number_tied : (n m : ℕ) → n ≡ m → eq_by_cmp nat_cmp n m ≡ true
 number_tied n m e = ap (λ (x : ℕ). eq_by_cmp nat_cmp n x) (sym e) ∙ ap is_eq (tied_itself nat_cmp_total n)
 
-number_same : (n m : ℕ) → eq_by_cmp nat_cmp n m ≡ true → n ≡ m
+pub number_same : (n m : ℕ) → eq_by_cmp nat_cmp n m ≡ true → n ≡ m
 number_same n m e = nat_cmp-IsAntisymmetric n m (equal_from (nat_cmp n m) e)
 
 pub name_same : (a b : List ℕ) → eq_by_cmp bytes_cmp a b ≡ true → a ≡ b

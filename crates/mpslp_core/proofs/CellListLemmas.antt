@@ -1,6 +1,6 @@
 -- The coefficients of a column in the order of their numbers: the first is the objective's, or the objective has none.
 use Rattle.std.proofs.Common.{◌≡◌, refl, sym, ap, ◌∙◌, ℕ, zero, suc, ◌≤◌, ◌<◌, ◌-◌, List, [], ◌∷◌, length, take, drop, true, cond, arith}
-use Rattle.std.specs.Prelude.{Some, None}
+use Rattle.std.specs.Prelude.{Some, None, slice_get}
 use Rattle.std.specs.Prelude.{get_or}
 use Rattle.std.proofs.lemmas.List.{take_all}
 use Rattle.std.specs.Ordering.{is_eq, is_lt, nat_cmp, MatchOrdering}
@@ -55,3 +55,10 @@ pub none_first : (cells : List (ℕ × Number)) (first : ℕ × Number) → is_s
 none_first [] first h some is other = refl
 none_first ((zero, x) ∷ es) first h some is other = absurd (other (ap (λ (e : ℕ × Number). e.0) is))
 none_first ((suc m, x) ∷ es) first h some is other = row_first m x es ∙ none_above (suc m) es (first_so (below_all nat_cmp (suc m) es) (is_sorted nat_cmp es) h)
+
+-- the coefficient of a row has a number above 0
+pub above_zero : (cells : List (ℕ × Number)) (k : ℕ) (e : ℕ × Number) → slice_get (row_cells cells) k ≡ Some e → 0 < e.0
+above_zero [] k e at = absurd cc
+above_zero ((zero, x) ∷ es) k e at = above_zero es k e at
+above_zero ((suc n, x) ∷ es) zero e at = let same : suc n ≡ e.0 = cc in omega arith
+above_zero ((suc n, x) ∷ es) (suc k) e at = above_zero es k e at

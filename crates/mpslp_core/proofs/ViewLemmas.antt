@@ -11,11 +11,11 @@ use Rattle.std.specs.Cmp.{first_so, second_so}
 use Rattle.std.specs.Cmp.Lexicographic.{nat_list_eq_equiv, bytes_decides}
 use Rattle.std.proofs.lemmas.Bool.{lt-ltb}
 use Rattle.std.proofs.lemmas.List.{length-map, length-append}
-use Rattle.std.proofs.lemmas.Option.{slice_get-map, slice_get_within, get_or_from_slice_get}
+use Rattle.std.proofs.lemmas.Option.{slice_get-map, slice_get_within, get_or_from_slice_get, slice_get-get_or}
 use Rattle.mpslp_types.specs.Name.{same_bytes, is_one_of, bytes_cmp}
 use Rattle.mpslp_types.proofs.BoolLemmas.{T_from, true_from}
 use Rattle.mpslp_decimal.specs.Decimal.{Number, zero_number}
-use Rattle.mpslp_core.specs.Views.{row_names, row_name, row_index, column_names, column_name, coefficient_at, is_element, num_elements, column_elements, numbered_elements}
+use Rattle.mpslp_core.specs.Views.{num_rows, row_names, row_name, row_index, column_names, column_name, coefficient_at, is_element, num_elements, column_elements, numbered_elements}
 use Rattle.mpslp_core.specs.Model.{CoefficientKey, Column, Row, LinearModel, key_cmp}
 use Rattle.mpslp_core.specs.Numbered.{sorted_of, each_part, name_of, column_cells, all_cells, TellsApart, IsOnce}
 use Rattle.mpslp_core.specs.Columned.{row_cells, count_row_cells}
@@ -39,6 +39,10 @@ pub coefficients_seen : (m : ModelParts) {v : LinearModel} → linear_model m �
 coefficients_seen m {v} seen =
     ap (λ (w : LinearModel). maps.entries w.coefficients) (sym seen)
     ∙ maps.entries-from_sorted key_cmp (sorted_of key_cmp (all_cells (number_name m) (cells_by_name m))) (is_sorted-sorted_of key_cmp key_total (all_cells (number_name m) (cells_by_name m)))
+
+-- the entry of a number, in a list that is the same
+pub at_index : {X : Type 0} {xs ys : List X} (i : ℕ) {e : X} → xs ≡ ys → slice_get ys i ≡ Some e → slice_get xs i ≡ Some e
+at_index {X} i same at = ap (λ (es : List X). slice_get es i) same ∙ at
 
 -- as many names as entries
 pub count_seen : {X : Type 0} {es items : List (List ℕ × X)} → es ≡ items → length items ≡ length (map (λ e. e.0) es)
@@ -96,6 +100,13 @@ number_seen {m} {v} seen parts n r named =
     ∙ ap (λ (i : ℕ). cond (nat_lt i (length m.rows.items)) (Some i) None) first
     ∙ ap (λ (b : Bool). cond b (Some n) None) (lt-ltb n (length m.rows.items) (slice_get_within m.rows.items n e.0 e.1))
 
+-- the name of the row of a number
+pub row_numbered : {m : ModelParts} {v : LinearModel} → linear_model m ≡ v → AreModelParts m → (i : ℕ) → i < num_rows v → number_name m (suc i) ≡ Some (row_name v i)
+row_numbered {m} {v} seen parts i below =
+    sym (slice_get-map (λ (e : List ℕ × Row). e.0) m.rows.items i)
+    ∙ ap (λ (es : List (List ℕ × Row)). slice_get (map (λ (e : List ℕ × Row). e.0) es) i) (sym (rows_seen seen parts))
+    ∙ slice_get-get_or (row_names v) i [] below
+
 -- an element by the number of its row
 abbrev pub numbered_in : LinearModel → CoefficientKey × Number → Option ℕ × Number
 numbered_in v coefficient = (row_index v coefficient.0.row, coefficient.1)
@@ -140,6 +151,12 @@ module _ (m : ModelParts) (parts : AreModelParts m) where
               named = all_at (λ c. list_all (λ d. is_some (number_name m d.0)) c.1) (cells_by_name m) j (e.0, cells) parts.named entry;
             }
       ] refl at
+
+  -- the same of a slice of the columns
+  pub cells_here : (v : LinearModel) → linear_model m ≡ v → (j : ℕ) (columns : List (List ℕ × ModelColumn)) (cells : List (ℕ × Number)) → columns ≡ m.columns.items
+      → option_map (λ (column : List ℕ × ModelColumn). column.1.cells.items) (slice_get columns j) ≡ Some cells → AreCellsAt v j cells
+  cells_here v seen j columns cells same at =
+      cells_seen v seen j cells (ap (λ (cs : List (List ℕ × ModelColumn)). option_map (λ (column : List ℕ × ModelColumn). column.1.cells.items) (slice_get cs j)) (sym same) ∙ at)
 
   -- a coefficient by the number of its row
   pub value_seen : (v : LinearModel) → linear_model m ≡ v → (j : ℕ) (cells : List (ℕ × Number)) → AreCellsAt v j cells → (n : ℕ) (r : List ℕ) → number_name m n ≡ Some r

@@ -1,6 +1,8 @@
 -- The tests of sameness tell whether two things are the same.
 use Rattle.std.proofs.Common.{◌≡◌, refl, sym, ap, ◌∙◌, List, Bool}
 use Rattle.std.specs.Prelude.{◌&&◌, ℕ}
+use Rattle.std.specs.Bool.{nat_eq}
+use Rattle.std.proofs.lemmas.Bool.Decides.{Decides-eqb}
 use Rattle.std.specs.Ordering.{int_eq}
 use Rattle.std.specs.Bool.{Decides, one_answer}
 use Rattle.std.specs.Cmp.{signed_Decides, IsPartialEquivalence}
@@ -9,7 +11,7 @@ use Rattle.std.specs.Cmp.Lexicographic.{pointwise, pointwise_decides, same_text,
 use Rattle.mpslp_decimal.specs.Decimal.{Number}
 use Rattle.mpslp_types.specs.Name.{same_bytes}
 use Rattle.mpslp_core.specs.Model.{Row, Column}
-use Rattle.mpslp_core.specs.Same.{same_number, same_limit, same_kind, same_row, same_column}
+use Rattle.mpslp_core.specs.Same.{same_number, same_limit, same_kind, same_row, same_column, same_cell, same_column_with, same_named_column}
 use Rattle.mpslp_types.specs.declared.kinds.Kind.TheVariants.{Continuous, Integer, Semi}
 use Rattle.mpslp_types.specs.declared.kinds.Limit.{Limit}
 use Rattle.mpslp_types.specs.declared.kinds.Limit.TheVariants.{MinusInf, Finite, PlusInf}
@@ -83,3 +85,18 @@ tells-named test tells a b =
     let names : Decides (same_bytes a.0 b.0) (a.0 ≡ b.0) = ((λ h. same_text a.0 b.0 (sym h)), (λ e. ap (same_bytes a.0) (sym e) ∙ nat_list_eq_equiv.refl a.0)) in
     let both = Decides-and (same_bytes a.0 b.0) (test a.1 b.1) names (tells a.1 b.1) in
     ((λ h. let e = both.0 h in λ i. (e.0 i, e.1 i)), (λ e. both.1 (ap (λ (p : List ℕ × _). p.0) e, ap (λ (p : List ℕ × _). p.1) e)))
+
+-- ---- columns with their coefficients
+
+tells-cell : Tells same_cell
+tells-cell a b =
+    let both = Decides-and (nat_eq a.0 b.0) (same_number a.1 b.1) (Decides-eqb a.0 b.0) (tells-number a.1 b.1) in
+    ((λ h. let e = both.0 h in λ i. (e.0 i, e.1 i)), (λ e. both.1 (ap (λ (p : ℕ × Number). p.0) e, ap (λ (p : ℕ × Number). p.1) e)))
+
+tells-column-with : Tells same_column_with
+tells-column-with a b =
+    let both = Decides-and (same_column a.0 b.0) (pointwise same_cell a.1 b.1) (tells-column a.0 b.0) (tells-lists same_cell tells-cell a.1 b.1) in
+    ((λ h. let e = both.0 h in λ i. (e.0 i, e.1 i)), (λ e. both.1 (ap (λ (p : Column × List (ℕ × Number)). p.0) e, ap (λ (p : Column × List (ℕ × Number)). p.1) e)))
+
+pub tells-named-column : Tells same_named_column
+tells-named-column = tells-named same_column_with tells-column-with

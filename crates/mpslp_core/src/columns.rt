@@ -3,7 +3,7 @@
 //! The objective has the number 0, so its coefficient, where a column has one, is the first. The row of number `i` has
 //! the number `i + 1` here.
 
-ghost use Rattle.std.specs.Prelude.{◌≡◌, ◌<◌, ◌&&◌, ◌+◌, IsTrue, Some, length, unwrap_or, slice_get};
+ghost use Rattle.std.specs.Prelude.{◌≡◌, ◌<◌, ◌&&◌, ◌+◌, IsTrue, Some, length, suc, unwrap_or, slice_get};
 ghost use Rattle.std.specs.List.{list_all};
 ghost use Rattle.std.specs.Option.{option_copied, option_map};
 ghost use Rattle.std.specs.Ordering.{nat_cmp};
@@ -20,17 +20,17 @@ use mpslp_maps::{Query, entry_at, find_entry};
 use mpslp_types::Name;
 use std::cmp::Ordering;
 
-/// The number of a row, which may be greater than those that coefficients have.
+/// The number of a row in the model, which may be greater than those that coefficients have.
 #[derive(Clone, Copy)]
-struct RowNumber {
-    number: usize,
+struct RowIndex {
+    row: usize,
 }
 
-impl Query<u32> for RowNumber {
-    ghost key = { λ row. row.number };
+impl Query<u32> for RowIndex {
+    ghost key = { λ index. suc index.row };
 
     fn compare(&self, other: &u32) -> Ordering {
-        self.number.cmp(&(*other as usize))
+        (self.row as u128 + 1).cmp(&(*other as u128))
     }
 }
 
@@ -65,12 +65,12 @@ pub(crate) fn first_value(cells: &[(u32, PackedDecimal)]) -> Decimal
     }
 }
 
-/// The coefficient at this number, and 0 where there is none.
-pub(crate) fn value_at(cells: &[(u32, PackedDecimal)], number: usize) -> Decimal
+/// The coefficient of the row of this number in the model, and 0 where there is none.
+pub(crate) fn value_at(cells: &[(u32, PackedDecimal)], row: usize) -> Decimal
     requires { IsTrue (is_sorted nat_cmp cells.now) }
-    ensures { result ≡ unwrap_or (find nat_cmp number cells.now) zero_number }
+    ensures { result ≡ unwrap_or (find nat_cmp (suc row) cells.now) zero_number }
 {
-    match find_entry(cells, &RowNumber { number }) {
+    match find_entry(cells, &RowIndex { row }) {
         Some(value) => value.value(),
         None => Decimal::zero(),
     }

@@ -9,5 +9,5 @@ use crate::model::Model;
 pub fn each_model_is_sound(model: &Model)
     ensures { IsSound model.now }
 {
-    let _sense = model.objective_sense();
+    let _sense = model.parts.sense;
 }

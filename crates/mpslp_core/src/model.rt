@@ -60,7 +60,7 @@ pub struct ModelParts {
 /// Rows and columns are numbered from 0, in byte order of their names. The objective is no row.
 #[derive(Debug, Drop)]
 pub struct Model {
-    parts: ModelParts,
+    pub(crate) parts: ModelParts,
 }
 
 impl marker::Model for Model {
@@ -345,7 +345,7 @@ impl Model {
         requires column { j < num_columns self.now }
         ensures { result ≡ coefficient_at self.now (row_name self.now i) (column_name self.now j) }
     {
-        value_at(cells_at(&self.parts.columns, j), i + 1)
+        value_at(cells_at(&self.parts.columns, j), i)
     }
 
     /// Whether the parts beside rows, columns and coefficients are the same.

@@ -1,12 +1,15 @@
-use Rattle.std.proofs.Common.{◌≡◌, sym, ap, ◌∙◌, length, not}
-use Rattle.std.specs.Prelude.{filter}
-use Rattle.mpslp_types.specs.Name.{same_bytes}
-use Rattle.mpslp_core.specs.Model.{LinearModel}
-use Rattle.mpslp_core.proofs.ViewLemmas.{coefficients_seen}
+use Rattle.std.proofs.Common.{subst, sym, ap, ◌≡◌, ◌∙◌, List, ℕ, true}
+use Rattle.std.specs.List.{list_all}
+use Rattle.std.specs.Ordering.{nat_cmp}
+use Rattle.std.specs.FinMap.{is_sorted}
+use Rattle.mpslp_core.specs.Columned.{count_row_cells}
+use Rattle.mpslp_core.specs.declared.model.ModelColumn.{ModelColumn}
+use Rattle.mpslp_core.proofs.ViewLemmas.{all_sorted, elements_counted}
 use Rattle.mpslp_core.proofs.model.Model.num_elements.Goals as goal
 
+pub count_elements-requires : goal.count_elements-requires
+count_elements-requires c =
+    subst (λ (columns : List (List ℕ × ModelColumn)). list_all (λ column. is_sorted nat_cmp column.1.cells.items) columns ≡ true) (sym c.deref.ensures.value) (all_sorted c.self.inside.parts.columns.items c.self.invariant.cells)
+
 pub returns : goal.returns
-returns c =
-    let objective : c.as_bytes.result.now ≡ c.args.self.now.objective = c.as_bytes.ensures ∙ ap (λ (m : LinearModel). m.objective) c.self.view_is in
-    let all : c.deref.result.now ≡ _ = c.deref.ensures.value ∙ sym (coefficients_seen c.self.view_is c.self.invariant) in
-    c.count_elements.ensures ∙ (λ i. length (filter (λ e. not (same_bytes (objective i) e.0.row)) (all i)))
+returns c = c.count_elements.ensures ∙ ap count_row_cells c.deref.ensures.value ∙ elements_counted c.self.inside.parts c.self.invariant c.args.self.now c.self.view_is

@@ -1,4 +1,5 @@
 use Rattle.std.proofs.Common.{sym, ap, subst, ◌∙◌, ℕ, ◌<◌, List, length}
+use Rattle.std.specs.Prelude.{Some}
 use Rattle.mpslp_core.specs.Model.{Row}
 use Rattle.mpslp_core.proofs.ViewLemmas.{rows_seen, count_seen, entry_seen}
 use Rattle.mpslp_core.proofs.model.Model.row_limits.Goals as goal
@@ -8,4 +9,6 @@ entry_at-requires c =
     subst (λ (n : ℕ). c.args.i < n) (sym (ap length c.deref.ensures.value ∙ count_seen (rows_seen c.self.view_is c.self.invariant))) c.requires
 
 pub returns : goal.returns
-returns c = entry_seen (λ (e : List ℕ × Row). e.1) c.args.i (rows_seen c.self.view_is c.self.invariant ∙ sym c.deref.ensures.value) c.entry_at.ensures
+returns c =
+    entry_seen (λ (e : List ℕ × Row). e.1) c.args.i (rows_seen c.self.view_is c.self.invariant ∙ sym c.deref.ensures.value) c.entry_at.ensures
+    ∙ ap (λ (row : Row). Some row) (sym c.limits.ensures)
