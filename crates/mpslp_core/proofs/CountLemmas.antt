@@ -1,5 +1,5 @@
 -- The coefficients of rows in all columns are the cells of all columns without number 0.
-use Rattle.std.proofs.Common.{◌≡◌, refl, sym, ap, ◌∙◌, ℕ, zero, suc, ◌+◌, List, [], ◌∷◌, ◌++◌, length, Bool, true, false, cond, not, filter, arith}
+use Rattle.std.proofs.Common.{◌≡◌, refl, sym, ap, ◌∙◌, ℕ, zero, suc, List, [], ◌∷◌, ◌++◌, length, Bool, true, false, cond, not, filter}
 use Rattle.std.specs.Prelude.{Option, Some, None, is_some, ◌&&◌}
 use Rattle.std.specs.Option.{option_map_or}
 use Rattle.std.specs.List.{list_all}
@@ -10,7 +10,6 @@ use Rattle.std.specs.declared.cmp.Ordering.{Ordering}
 use Rattle.std.specs.declared.cmp.Ordering.TheVariants.{Less, Equal, Greater}
 use Rattle.std.specs.FinMap.{find, is_sorted}
 use Rattle.std.specs.FinMap.Entries.{below_all, same_entries, is_sorted-where_key, find-where_key}
-use Rattle.std.proofs.lemmas.List.{length-append}
 use Rattle.mpslp_decimal.specs.Decimal.{Number}
 use Rattle.mpslp_types.specs.Name.{same_bytes, bytes_cmp}
 use Rattle.mpslp_types.proofs.BoolLemmas.{both_so, T_from}
@@ -20,7 +19,7 @@ use Rattle.mpslp_core.specs.Numbered.{sorted_of, column_cells, all_cells, TellsA
 use Rattle.mpslp_core.proofs.KeyLemmas.{same_key, key_total}
 use Rattle.mpslp_core.proofs.SortedLemmas.{find-sorted_of, is_sorted-sorted_of}
 use Rattle.mpslp_core.proofs.CellLemmas.{at, or_else, find-two, find-other_column, name_same}
-use Rattle.mpslp_core.proofs.ElementLemmas.{RiseByName, is_element_of, sorted_cells, find-row_cells}
+use Rattle.mpslp_core.proofs.ElementLemmas.{RiseByName, sorted_cells, find-row_cells}
 
 -- each column with its coefficients of rows
 abbrev pub rows_alone : List (List ℕ × List (ℕ × Number)) → List (List ℕ × List (ℕ × Number))

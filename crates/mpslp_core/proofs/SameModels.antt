@@ -1,5 +1,5 @@
 -- Models are the same where their parts are.
-use Rattle.std.proofs.Common.{◌≡◌, refl, sym, ap, ◌∙◌, ℕ, List, [], ◌∷◌, map, Bool, true, false, cond}
+use Rattle.std.proofs.Common.{◌≡◌, refl, sym, ap, ◌∙◌, ℕ, List, [], ◌∷◌, map, true, false, cond}
 use Rattle.std.specs.Prelude.{Option, Some, None, is_some}
 use Rattle.std.specs.Option.{option_and_then}
 use Rattle.std.specs.List.{list_all}
@@ -12,7 +12,7 @@ use Rattle.std.specs.FinMap.Entries.{same_entries}
 use Rattle.mpslp_decimal.specs.Decimal.{Number}
 use Rattle.mpslp_types.specs.Name.{bytes_cmp}
 use Rattle.mpslp_types.proofs.BoolLemmas.{T_from}
-use Rattle.mpslp_core.specs.Model.{CoefficientKey, Column, Row, LinearModel, key_cmp}
+use Rattle.mpslp_core.specs.Model.{Column, LinearModel, key_cmp}
 use Rattle.mpslp_core.specs.Columned.{columns_told}
 use Rattle.mpslp_core.specs.ModelParts.{linear_model, AreModelParts, own, bounds_in, cells_in, columns_in, cells_by_name, number_name}
 use Rattle.mpslp_core.specs.Numbered.{sorted_of, each_part, name_of, all_cells, all_named, IsOnce}

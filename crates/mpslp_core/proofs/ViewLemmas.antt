@@ -1,5 +1,5 @@
 -- What is asked of a model, read off its parts.
-use Rattle.std.proofs.Common.{◌≡◌, refl, sym, ap, subst, ◌∙◌, ℕ, zero, suc, ◌<◌, ◌+◌, List, [], ◌∷◌, length, map, Bool, true, false, cond, not, arith}
+use Rattle.std.proofs.Common.{◌≡◌, refl, sym, ap, ◌∙◌, ℕ, zero, suc, ◌<◌, ◌+◌, List, [], ◌∷◌, length, map, Bool, true, false, cond, not, arith}
 use Rattle.std.specs.Prelude.{Option, Some, None, slice_get, position, nat_lt, ◌&&◌, is_some, unwrap_or, filter}
 use Rattle.std.specs.Option.{option_map, option_map_or, option_and_then}
 use Rattle.std.specs.List.{position_or_len, list_all}
@@ -8,16 +8,16 @@ use Rattle.std.specs.FinMap as maps
 use Rattle.std.specs.FinMap.{find, is_sorted}
 use Rattle.std.specs.FinMap.Entries.{below_all}
 use Rattle.std.specs.Cmp.{first_so, second_so}
-use Rattle.std.specs.Cmp.Lexicographic.{nat_list_eq_equiv, bytes_decides}
+use Rattle.std.specs.Cmp.Lexicographic.{nat_list_eq_equiv}
 use Rattle.std.proofs.lemmas.Bool.{lt-ltb}
 use Rattle.std.proofs.lemmas.List.{length-map, length-append}
 use Rattle.std.proofs.lemmas.Option.{slice_get-map, slice_get_within, get_or_from_slice_get, slice_get-get_or}
 use Rattle.mpslp_types.specs.Name.{same_bytes, is_one_of, bytes_cmp}
-use Rattle.mpslp_types.proofs.BoolLemmas.{T_from, true_from}
+use Rattle.mpslp_types.proofs.BoolLemmas.{T_from}
 use Rattle.mpslp_decimal.specs.Decimal.{Number, zero_number}
-use Rattle.mpslp_core.specs.Views.{num_rows, row_names, row_name, row_index, column_names, column_name, coefficient_at, is_element, num_elements, column_elements, numbered_elements}
+use Rattle.mpslp_core.specs.Views.{num_rows, row_names, row_name, row_index, column_names, column_name, coefficient_at, num_elements, column_elements, numbered_elements}
 use Rattle.mpslp_core.specs.Model.{CoefficientKey, Column, Row, LinearModel, key_cmp}
-use Rattle.mpslp_core.specs.Numbered.{sorted_of, each_part, name_of, column_cells, all_cells, TellsApart, IsOnce}
+use Rattle.mpslp_core.specs.Numbered.{sorted_of, each_part, column_cells, all_cells, TellsApart, IsOnce}
 use Rattle.mpslp_core.specs.Columned.{row_cells, count_row_cells}
 use Rattle.mpslp_core.specs.ModelParts.{linear_model, AreModelParts, own, bounds_in, cells_in, columns_in, cells_by_name, number_name}
 use Rattle.mpslp_core.specs.declared.model.ModelColumn.{ModelColumn}
@@ -165,10 +165,10 @@ module _ (m : ModelParts) (parts : AreModelParts m) where
       let all = all_cells (number_name m) (cells_by_name m) in
       ap (λ (o : Option Number). unwrap_or o zero_number)
       (sym (
-        ap (find key_cmp (at r (column_name v j))) (coefficients_seen m seen)
-        ∙ find-sorted_of key_cmp key_total (at r (column_name v j)) all
-        ∙ find-all_cells (number_name m) apart_in n r (column_name v j) (cells_by_name m) named once_in
-        ∙ ap (option_and_then (find nat_cmp n)) are.found
+      ap (find key_cmp (at r (column_name v j))) (coefficients_seen m seen)
+      ∙ find-sorted_of key_cmp key_total (at r (column_name v j)) all
+      ∙ find-all_cells (number_name m) apart_in n r (column_name v j) (cells_by_name m) named once_in
+      ∙ ap (option_and_then (find nat_cmp n)) are.found
       ))
 
   -- the elements of a column
@@ -222,9 +222,9 @@ module _ (m : ModelParts) (parts : AreModelParts m) where
   pub elements_counted : (v : LinearModel) → linear_model m ≡ v → count_row_cells m.columns.items ≡ num_elements v
   elements_counted v seen =
       sym (
-        (λ i. length (filter (λ (e : CoefficientKey × Number). not (same_bytes (sym (ap (λ (w : LinearModel). w.objective) seen) i) e.0.row)) (coefficients_seen m seen i)))
-        ∙ ap length (elements_are_rows (number_name m) apart_in rise_in m.objective refl (cells_by_name m) cells_rise parts.cells)
-        ∙ count_named m.columns.items parts.named
+      (λ i. length (filter (λ (e : CoefficientKey × Number). not (same_bytes (sym (ap (λ (w : LinearModel). w.objective) seen) i) e.0.row)) (coefficients_seen m seen i)))
+      ∙ ap length (elements_are_rows (number_name m) apart_in rise_in m.objective refl (cells_by_name m) cells_rise parts.cells)
+      ∙ count_named m.columns.items parts.named
       )
 
 -- each column's coefficients stand in the order of numbers

@@ -1,6 +1,6 @@
 -- A model from its parts, and what holds of these. Rows are numbered in byte order of their names, from 1 on; the
 -- objective has the number 0.
-use Rattle.std.specs.Prelude.{◌≡◌, ℕ, Bool, true, IsTrue, List, Option, Some}
+use Rattle.std.specs.Prelude.{◌≡◌, ℕ, true, IsTrue, List, Option, Some}
 use Rattle.std.specs.Ordering.{nat_cmp}
 use Rattle.std.specs.FinMap as maps
 use Rattle.std.specs.List.{list_all}

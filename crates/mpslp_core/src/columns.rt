@@ -48,8 +48,9 @@ pub(crate) fn row_cells(cells: &[(u32, PackedDecimal)]) -> &[(u32, PackedDecimal
     ensures { result.now ≡ row_cells cells.now }
 {
     match cells {
+        [] => cells,
         [first, rows @ ..] if first.0 == 0 => rows,
-        _ => cells,
+        [..] => cells,
     }
 }
 
@@ -112,7 +113,8 @@ fn is_same_column(own: &(Name, ModelColumn), other: &(Name, ModelColumn)) -> boo
     ensures { result ≡ same_named_column (column_told own.now) (column_told other.now) }
 {
     own.0 == other.0
-        && (own.1.bounds.bounds() == other.1.bounds.bounds() && are_same_cells(&own.1.cells, &other.1.cells))
+        && (own.1.bounds.bounds() == other.1.bounds.bounds()
+            && are_same_cells(&own.1.cells, &other.1.cells))
 }
 
 /// Whether the columns are the same.

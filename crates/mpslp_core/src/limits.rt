@@ -210,12 +210,7 @@ pub fn is_faulty_row(form: &FormKind, rhs: Decimal, range: &Option<Decimal>) -> 
 }
 
 /// Whether this is wrong with a row of this form, right side and range.
-pub fn row_has(
-    fault: RowFault,
-    form: &FormKind,
-    rhs: Decimal,
-    range: &Option<Decimal>,
-) -> bool
+pub fn row_has(fault: RowFault, form: &FormKind, rhs: Decimal, range: &Option<Decimal>) -> bool
     ensures { result ≡ row_test fault (row_form form.now) rhs range.now }
 {
     match fault {

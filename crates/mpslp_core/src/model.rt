@@ -11,11 +11,13 @@ ghost use Rattle.mpslp_core.specs.Same.{IsSameObjective};
 ghost use Rattle.mpslp_core.specs.ModelParts.{linear_model, AreModelParts};
 ghost use Rattle.mpslp_core.specs.Views.{row_names, column_names, rows_of, columns_of, num_rows, num_columns, num_elements, row_name, column_name, row_index, column_index, row_sense, right_hand_side, row_range, is_integer_column, coefficient_at, column_elements, numbered_elements};
 
-use crate::columns::{cells_at, count_elements, first_value, row_cells, row_of, same_columns, value_at};
+use crate::columns::{
+    cells_at, count_elements, first_value, row_cells, row_of, same_columns, value_at,
+};
 use crate::packed::{PackedColumn, PackedRow};
 use crate::sides::{ColumnBounds, RowLimits};
-use mpslp_decimal::{Decimal, PackedDecimal};
 use mpslp_decimal::laws::each_value_is_a_decimal;
+use mpslp_decimal::{Decimal, PackedDecimal};
 use mpslp_maps::{entry_at, index_of_entry};
 use mpslp_types::{Kind, Limit, Name, Sense};
 use std::cmp::Ordering;

@@ -15,9 +15,9 @@ pub entry_at-cell-requires : goal.entry_at-cell-requires
 entry_at-cell-requires c =
     subst (λ (n : ℕ). c.args.k < n)
     (sym (
-      ap length c.row_cells.ensures
-      ∙ length_seen c.self.inside.parts c.self.invariant c.args.self.now c.self.view_is c.args.j c.cells_at.result.now
-      (cells_here c.self.inside.parts c.self.invariant c.args.self.now c.self.view_is c.args.j c.deref.result.now c.cells_at.result.now c.deref.ensures.value c.cells_at.ensures)
+    ap length c.row_cells.ensures
+    ∙ length_seen c.self.inside.parts c.self.invariant c.args.self.now c.self.view_is c.args.j c.cells_at.result.now
+    (cells_here c.self.inside.parts c.self.invariant c.args.self.now c.self.view_is c.args.j c.deref.result.now c.cells_at.result.now c.deref.ensures.value c.cells_at.ensures)
     ))
     c.requires.entry
 

@@ -1,10 +1,8 @@
-use Rattle.std.proofs.Common.{◌≡◌, sym, ap, ◌∙◌, true, false, List, ℕ}
-use Rattle.std.specs.Bool.{Decides}
+use Rattle.std.proofs.Common.{◌≡◌, sym, ◌∙◌, true}
 use Rattle.std.specs.Cmp.Lexicographic.{pointwise}
 use Rattle.mpslp_core.specs.Same.{same_named_column}
 use Rattle.mpslp_core.specs.Columned.{columns_told}
 use Rattle.mpslp_core.specs.SameLaws.{tells-lists, tells-named-column}
-use Rattle.mpslp_core.specs.declared.model.ModelColumn.{ModelColumn}
 use Rattle.mpslp_core.proofs.SameModels.{parts-same, same-parts}
 use Rattle.mpslp_core.proofs.model.Model.same.Goals as goal
 
