@@ -1,4 +1,11 @@
 //! Models, what limits their rows and columns, and what is asked of them.
+//!
+//! A [`Model`] is made of [`ModelParts`]: rows and columns in byte order of their names, and in each column the
+//! coefficients in the order of their rows' numbers. So what is asked by numbers is an index, and what is asked by a
+//! name is a search by halves. Sides and numbers are packed ([`PackedLimit`]), since a model has many.
+//!
+//! What a row or a column is declared by ([`FormKind`], [`DeclaredColumn`]) is told here too, with the limits and
+//! bounds that it means, and with what may be wrong with them.
 #![tactic(auto)]
 
 mod bounds;
@@ -18,3 +25,6 @@ pub use limits::{
 pub use model::{Model, ModelColumn, ModelParts};
 pub use packed::{PackedColumn, PackedLimit, PackedRow};
 pub use sides::{ColumnBounds, RowLimits};
+
+#[cfg(test)]
+mod tests;
