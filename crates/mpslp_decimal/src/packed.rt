@@ -8,7 +8,8 @@ use std::marker::Model;
 
 /// A decimal as it is kept where there are many. Contracts see the number.
 ///
-/// The 128 bits of its mantissa stand as bytes, which may lie at any address: so it takes 20 bytes, 24 together with a
+/// A mantissa of [`MAX_DIGITS`](crate::MAX_DIGITS) digits has 120 bits beside its sign, so the exponent needs room of
+/// its own. The 128 bits of the mantissa stand as bytes, which may lie at any address: so it takes 20 bytes, 24 together with a
 /// number of 32 bits, where a [`Decimal`] takes 32 and 48.
 #[derive(Debug, Drop)]
 pub struct PackedDecimal {

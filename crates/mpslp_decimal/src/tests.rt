@@ -1,6 +1,6 @@
 //! Worked literals, texts and questions, through the public calls.
 
-use crate::{Decimal, DecimalText, NumberFault, laws};
+use crate::{Decimal, DecimalText, NumberFault, PackedDecimal, laws};
 use std::test::Fail;
 
 /// A literal, and its canonical text.
@@ -207,6 +207,23 @@ fn orders_by_value(rt: HostRuntime) -> Result<(), Fail> {
                 "at {literal} and {other_literal}"
             );
         }
+    }
+    Ok(())
+}
+
+#[test]
+fn packs_decimals(rt: HostRuntime) -> Result<(), Fail> {
+    let literals = [
+        "0",
+        "-1",
+        "0.1",
+        "999999999999999999999999999999999999e464",
+        "-999999999999999999999999999999999999e-500",
+        "1e500",
+    ];
+    for literal in literals {
+        let value = Decimal::parse(literal.as_bytes())?;
+        assert!(rt; PackedDecimal::of(value).value() == value, "{literal}");
     }
     Ok(())
 }

@@ -309,6 +309,18 @@ mod tests {
     }
 
     #[test]
+    fn numbers_stand_in_their_order(rt: HostRuntime) -> Result<(), Fail> {
+        let mut map: SortedMap<u32, u8> = SortedMap::new(rt.alloc());
+        assert!(rt; map.ends_below(&0));
+        map.put(10, 1)?;
+        map.put(2, 2)?;
+        assert_eq!(rt; map.len(), 2);
+        assert!(rt; map.ends_below(&11) && !map.ends_below(&10));
+        assert_eq!(rt; index_of_entry(map.as_slice(), &10), Some(1));
+        Ok(())
+    }
+
+    #[test]
     fn puts_into_two_maps(rt: HostRuntime) -> Result<(), Fail> {
         let alloc = rt.alloc();
         let mut first: SortedMap<Name, u8> = SortedMap::new(alloc);
