@@ -13,8 +13,8 @@ mod sums;
 mod text;
 
 pub use literal::{MAX_LITERAL_LEN, NumberFault};
-pub use packed::PackedDecimal;
 pub use number::{Decimal, MAX_DIGITS, MAX_EXPONENT, MIN_EXPONENT};
+pub use packed::PackedDecimal;
 pub use text::DecimalText;
 
 #[cfg(test)]

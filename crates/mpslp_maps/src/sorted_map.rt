@@ -1,7 +1,7 @@
 //! Maps, each kept as a vector of its entries in the order of their keys.
 
 ghost use Rattle.std.specs.Prelude.{◌≡◌, ◌<◌, ◌-◌, ◌↔◌, [], None, IsOk, IsTrue, OnOk, OnErr, Some, length, is_some, true, position, slice_get, vec_len, vec_capacity};
-ghost use Rattle.std.specs.Option.{ForSome, option_copied, option_map_or};
+ghost use Rattle.std.specs.Option.{option_copied, option_map_or};
 ghost use Rattle.std.specs.Ordering.{is_eq, is_gt, is_le, nat_cmp};
 ghost use Rattle.std.specs.Cmp.{IsTotalOrder, nat_cmp_total};
 ghost use Rattle.std.specs.declared.cmp.Ordering.{Ordering};
@@ -230,43 +230,6 @@ impl<K: Key + Drop, V: Drop> SortedMap<K, V> {
     }
 }
 
-/// Puts an entry that is given. There is none at its key, and there is room for it.
-fn put_given<K: Key + Drop, V: Drop>(entries: &mut Vec<(K, V)>, entry: Option<(K, V)>)
-    requires sorted { IsTrue (is_sorted K.cmp entries.old.items) }
-    requires absent { ForSome entry (λ e. find K.cmp e.0 entries.old.items ≡ None) }
-    requires room { vec_len entries.old < vec_capacity entries.old }
-    ensures sorted { IsTrue (is_sorted K.cmp entries.new.items) }
-    ensures given { entries.new.items ≡ option_map_or (λ e. put K.cmp e.0 e.1 entries.old.items) entry entries.old.items }
-{
-    if let Some((key, value)) = entry {
-        let _room = put_entry(entries, key, value);
-    }
-}
-
-/// Puts into each of two maps the entry that is given for it. There is none at its key.
-///
-/// # Errors
-///
-/// [`AllocError`] where there is no memory for both entries. Both maps are as they were then.
-pub fn put_both<K: Key + Drop, V: Drop>(
-    first: &mut SortedMap<K, V>,
-    first_entry: Option<(K, V)>,
-    second: &mut SortedMap<K, V>,
-    second_entry: Option<(K, V)>,
-) -> Result<(), AllocError>
-    requires first_absent { ForSome first_entry (λ e. find K.cmp e.0 first.old ≡ None) }
-    requires second_absent { ForSome second_entry (λ e. find K.cmp e.0 second.old ≡ None) }
-    ensures first { OnOk result (first.new ≡ option_map_or (λ e. put K.cmp e.0 e.1 first.old) first_entry first.old) }
-    ensures second { OnOk result (second.new ≡ option_map_or (λ e. put K.cmp e.0 e.1 second.old) second_entry second.old) }
-    ensures err { OnErr result ((first.new ≡ first.old) × (second.new ≡ second.old)) }
-{
-    first.entries.reserve(1)?;
-    second.entries.reserve(1)?;
-    put_given(&mut first.entries, first_entry);
-    put_given(&mut second.entries, second_entry);
-    Ok(())
-}
-
 #[cfg(test)]
 mod tests {
     use super::*;
@@ -317,18 +280,6 @@ mod tests {
         assert_eq!(rt; map.len(), 2);
         assert!(rt; map.ends_below(&11) && !map.ends_below(&10));
         assert_eq!(rt; index_of_entry(map.as_slice(), &10), Some(1));
-        Ok(())
-    }
-
-    #[test]
-    fn puts_into_two_maps(rt: HostRuntime) -> Result<(), Fail> {
-        let alloc = rt.alloc();
-        let mut first: SortedMap<Name, u8> = SortedMap::new(alloc);
-        let mut second: SortedMap<Name, u8> = SortedMap::new(alloc);
-        let entry = (Name::new(alloc, b"x".as_slice())?, 1);
-        put_both(&mut first, None, &mut second, Some(entry))?;
-        assert!(rt; first.is_empty());
-        assert_eq!(rt; second.find(&b"x".as_slice()).copied(), Some(1));
         Ok(())
     }
 }
