@@ -6,6 +6,4 @@ pub mod Made
 pub mod Meaning
 pub mod Laws
 pub mod Answer
-pub mod Tables
-pub mod FaultFound
-pub mod Finish
+pub mod Forms

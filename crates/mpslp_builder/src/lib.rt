@@ -1,0 +1,4 @@
+//! A builder of models: what is declared, by names, and when that is refused.
+#![tactic(auto)]
+
+mod forms;
