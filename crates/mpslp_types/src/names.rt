@@ -162,6 +162,13 @@ impl Name {
     {
         &self.bytes
     }
+
+    /// The bytes of the name, without a copy.
+    pub fn into_bytes(self) -> Vec<u8>
+        ensures { result.items ≡ self }
+    {
+        self.bytes
+    }
 }
 
 #[cfg(test)]
@@ -173,6 +180,7 @@ mod tests {
     fn takes_names(rt: HostRuntime) -> Result<(), Fail> {
         let name = Name::new(rt.alloc(), b"LIM1".as_slice())?;
         assert_eq!(rt; name.as_bytes(), b"LIM1".as_slice());
+        assert_eq!(rt; name.into_bytes().as_slice(), b"LIM1".as_slice());
         let longest = Name::new(rt.alloc(), [b'a'; 255].as_slice())?;
         assert_eq!(rt; longest.as_bytes().len(), 255);
         Ok(())
