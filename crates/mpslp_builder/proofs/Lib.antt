@@ -22,5 +22,8 @@ pub mod PermutationLemmas
 pub mod SortedDrafts
 pub mod OrderOfDeclarations
 pub mod PartLemmas
+pub mod NameLemmas
+pub mod ReadingLemmas
+pub mod ColumnDrafts
 mod WorkedRows
 mod WorkedModels

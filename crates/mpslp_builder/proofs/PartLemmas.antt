@@ -1,6 +1,6 @@
 -- What entries of a map say of their names, and what of it changes as an entry is added or written.
 use Rattle.std.proofs.Common.{◌≡◌, refl, sym, ap, ◌∙◌, ℕ, zero, suc, List, [], ◌∷◌, ◌++◌, Bool, true, false, cond}
-use Rattle.std.specs.Prelude.{Option, Some, None, is_some, slice_get, ◌||◌, Result, Ok, Err, OnErr}
+use Rattle.std.specs.Prelude.{Option, Some, None, is_some, slice_get, ◌||◌, Result, Ok, Err, OnOk, OnErr}
 use Rattle.std.specs.Option.{option_map, option_map_or}
 use Rattle.std.specs.Ordering.{is_eq, eq_by_cmp, nat_cmp}
 use Rattle.std.specs.Cmp.{tied_itself}
@@ -14,7 +14,7 @@ use Rattle.mpslp_types.specs.Name.{same_bytes, bytes_cmp}
 use Rattle.mpslp_core.specs.Model.{CoefficientKey, key_cmp}
 use Rattle.mpslp_core.proofs.PutsLemmas.{equal_from}
 use Rattle.mpslp_core.proofs.KeyLemmas.{bytes_total, key_total, tied_names}
-use Rattle.mpslp_builder.specs.Declaration.{has_name}
+use Rattle.mpslp_builder.specs.Declaration.{at_name, has_name}
 use Rattle.mpslp_core.proofs.SortedLemmas.{find-sorted_of}
 use Rattle.mpslp_core.specs.Numbered.{sorted_of, each_part, given_parts, column_cells, all_cells, TellsApart, IsOnce}
 use Rattle.mpslp_core.proofs.CellLemmas.{at, or_else, find-two, first_none, find-put_cell, swapped, clear}
@@ -32,6 +32,10 @@ module _ {K V X : Type 0} (key : K → List ℕ) (f : V → X) where
         | true ↦ refl
         | false ↦ find-each_part q es
       ]
+
+  -- what is found at a key is the part at its name
+  pub at_name-each_part : (q : List ℕ) (es : List (K × V)) (o : Option V) → o ≡ lookup (λ k. same_bytes q (key k)) es → option_map f o ≡ at_name (sorted_of bytes_cmp (each_part key f es)) q
+  at_name-each_part q es o h = ap (option_map f) h ∙ sym (find-sorted_of bytes_cmp bytes_total q (each_part key f es) ∙ find-each_part q es)
 
   some_mapped : (o : Option V) → is_some (option_map f o) ≡ is_some o
   some_mapped None = refl
@@ -177,6 +181,10 @@ set_same {K} {X} (e ∷ es) (suc i) k x y at same = ap (λ (more : List (K × X)
 pub on_err : {A E P Q : Type 0} (r : Result A E) → (P → Q) → OnErr r P → OnErr r Q
 on_err (Ok a) f h = tt
 on_err (Err e) f h = f h
+
+pub on_ok : {A E P Q : Type 0} (r : Result A E) → (P → Q) → OnOk r P → OnOk r Q
+on_ok (Ok a) f h = f h
+on_ok (Err e) f h = tt
 
 pub or_right : (a b r : Bool) → false ≡ a → r ≡ b → r ≡ (a || b)
 or_right true b r h e = cc

@@ -7,3 +7,5 @@ pub mod Meaning
 pub mod Laws
 pub mod Answer
 pub mod Forms
+pub mod Tables
+pub mod Calls

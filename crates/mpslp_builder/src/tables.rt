@@ -1,9 +1,21 @@
 //! Rows and columns by numbers, in the order in which they were declared, with the coefficients of each column.
 
+ghost use Rattle.std.specs.Prelude.{◌≡◌, ◌<◌, ◌||◌, IsTrue, IfSome, OnOk, OnErr, Some, None, true, false, is_some};
+ghost use Rattle.std.specs.Option.{option_map_or};
+ghost use Rattle.std.specs.Ordering.{nat_cmp};
+ghost use Rattle.std.specs.FinMap.{find};
+ghost use Rattle.indexmap.specs.IndexMap.{index_map_len};
+ghost use Rattle.mpslp_types.specs.Name.{same_bytes};
+ghost use Rattle.mpslp_builder.specs.Declaration.{has_row, has_column, has_name, is_objective, is_free_row, is_free_form, is_limits_form};
+ghost use Rattle.mpslp_builder.specs.Tables.{draft};
+ghost use Rattle.mpslp_builder.specs.Calls.{number_of, row_name, column_name, row_tells, column_tells, cells_at, new_column, with_cell, put_side, with_sides, IsOnceEach, IsEmptyTables, IsSameTables, HasObjective, HasRowAdded, HasRowChanged, HasColumnAdded, HasColumnChanged, HasRhsPut};
+
+use crate::forms::StoredForm;
 use indexmap::IndexMap;
 use mpslp_core::{Cells, PackedLimit};
-use mpslp_decimal::PackedDecimal;
-use mpslp_types::Name;
+use mpslp_decimal::{Decimal, PackedDecimal};
+use mpslp_types::{Limit, Name};
+use std::alloc::{AllocError, Global};
 
 /// The objective, and its right side if one is declared.
 #[derive(Debug, Drop)]
@@ -40,4 +52,395 @@ pub(crate) struct Tables {
     pub(crate) columns: IndexMap<Vec<u8>, ColumnParts>,
     /// The number of the column that was named last, as a guess: any number serves.
     pub(crate) recent: usize,
+}
+
+/// Where something that is named like a row stands.
+#[derive(Clone, Copy, Debug)]
+pub(crate) enum RowPlace {
+    /// It is the objective.
+    Objective,
+    /// It is the row of this index.
+    Row(usize),
+}
+
+impl RowPlace {
+    /// The number by which coefficients name it.
+    pub(crate) fn number(self) -> u32
+        requires { number_of self < 4294967296 }
+        ensures { result ≡ number_of self }
+    {
+        match self {
+            RowPlace::Objective => 0,
+            RowPlace::Row(index) => index as u32 + 1,
+        }
+    }
+}
+
+impl ColumnParts {
+    /// A column of which nothing is declared but its name.
+    fn new(alloc: Global) -> ColumnParts
+        ensures { result ≡ new_column }
+    {
+        ColumnParts {
+            cells: Cells::new(alloc),
+            lower: None,
+            upper: None,
+            marked: false,
+            integer: false,
+            binary: false,
+            semi: false,
+        }
+    }
+
+    /// Puts the sides that are given.
+    fn put_sides(&mut self, lower: Option<Limit>, upper: Option<Limit>)
+        ensures { self.new ≡ with_sides lower upper self.old }
+    {
+        put_side(&mut self.lower, lower);
+        put_side(&mut self.upper, upper);
+    }
+}
+
+/// Puts a side if it is given.
+fn put_side(kept: &mut Option<PackedLimit>, side: Option<Limit>)
+    ensures { kept.new ≡ put_side side kept.old }
+{
+    if let Some(limit) = side {
+        *kept = Some(PackedLimit::of(limit));
+    }
+}
+
+/// Whether the names have the same bytes.
+fn is_same(a: &[u8], b: &[u8]) -> bool
+    ensures { result ≡ same_bytes a.now b.now }
+{
+    a == b
+}
+
+impl Tables {
+    /// Tables to which nothing is declared.
+    pub(crate) fn new(alloc: Global) -> Tables
+        ensures { IsEmptyTables result }
+    {
+        Tables {
+            objective: None,
+            rows: IndexMap::new(alloc),
+            columns: IndexMap::new(alloc),
+            recent: 0,
+        }
+    }
+
+    /// No name stands twice in a map. That is known of every map, so it needs no test.
+    pub(crate) fn each_name_stands_once(&self)
+        ensures { IsOnceEach self.now }
+    {
+        let _rows = self.rows.len();
+        let _columns = self.columns.len();
+    }
+
+    /// Whether the objective has its name.
+    pub(crate) fn has_objective(&self) -> bool
+        ensures { result ≡ is_some self.now.objective }
+    {
+        self.objective.is_some()
+    }
+
+    /// Whether the objective has this name.
+    fn is_objective(&self, name: &[u8]) -> bool
+        ensures { result ≡ is_objective (draft None None self.now) name.now }
+    {
+        match &self.objective {
+            Some(objective) => is_same(name, objective.name.as_bytes()),
+            None => false,
+        }
+    }
+
+    /// Whether a row of this name is declared; the objective does not count.
+    fn is_row(&self, name: &[u8]) -> bool
+        ensures { result ≡ has_name (draft None None self.now).rows name.now }
+    {
+        self.rows.contains_key(name)
+    }
+
+    /// Whether a row of this name is declared; the objective counts.
+    pub(crate) fn has_row(&self, name: &[u8]) -> bool
+        ensures { result ≡ has_row (draft None None self.now) name.now }
+    {
+        self.is_objective(name) || self.is_row(name)
+    }
+
+    /// Whether a row of this name is declared by type N. The objective is not.
+    pub(crate) fn is_free_row(&self, name: &[u8]) -> bool
+        ensures { result ≡ is_free_row (draft None None self.now) name.now }
+    {
+        match self.rows.get(name) {
+            Some(row) => row.form.is_free(),
+            None => false,
+        }
+    }
+
+    /// Whether a column of this name is declared.
+    pub(crate) fn has_column(&self, name: &[u8]) -> bool
+        ensures { result ≡ has_column (draft None None self.now) name.now }
+    {
+        self.column_number(name).is_some()
+    }
+
+    /// Where the row of this name stands, or the objective.
+    pub(crate) fn row_place(&self, name: &[u8]) -> Option<RowPlace>
+        ensures place { IfSome result (λ place. row_name self.now (number_of place) ≡ Some name.now) }
+        ensures found { is_some result ≡ has_row (draft None None self.now) name.now }
+    {
+        if self.is_objective(name) {
+            return Some(RowPlace::Objective);
+        }
+        match self.rows.get_full(name) {
+            Some((index, _key, _row)) => Some(RowPlace::Row(index)),
+            None => None,
+        }
+    }
+
+    /// Whether the column of a number has this name.
+    fn is_column(&self, column: usize, name: &[u8]) -> bool
+        ensures { IsTrue result → column_name self.now column ≡ Some name.now }
+    {
+        match self.columns.get_index(column) {
+            Some((key, _parts)) => is_same(key, name),
+            None => false,
+        }
+    }
+
+    /// The number of the column of this name. The one that was named last is tried first, without a look-up.
+    pub(crate) fn column_number(&self, name: &[u8]) -> Option<usize>
+        ensures number { IfSome result (λ i. column_name self.now i ≡ Some name.now) }
+        ensures found { is_some result ≡ has_column (draft None None self.now) name.now }
+    {
+        if self.is_column(self.recent, name) {
+            return Some(self.recent);
+        }
+        match self.columns.get_full(name) {
+            Some((i, _key, _column)) => Some(i),
+            None => None,
+        }
+    }
+
+    /// Whether the right side is declared, as such, by the limits of the row or by the constant of the objective.
+    pub(crate) fn has_rhs(&self, place: RowPlace, has_constant: bool) -> bool
+        ensures { result ≡ row_tells self.now place (λ objective. is_some objective.rhs || has_constant) (λ row. is_some row.rhs || is_limits_form row.form) }
+    {
+        match place {
+            RowPlace::Objective => match &self.objective {
+                Some(objective) => objective.rhs.is_some() || has_constant,
+                None => false,
+            },
+            RowPlace::Row(index) => match self.rows.get_index(index) {
+                Some((_key, row)) => row.rhs.is_some() || row.form.has_limits(),
+                None => false,
+            },
+        }
+    }
+
+    /// Whether the range is declared, as such or by the limits of the row.
+    pub(crate) fn has_range(&self, place: RowPlace) -> bool
+        ensures { result ≡ row_tells self.now place (λ objective. false) (λ row. is_some row.range || is_limits_form row.form) }
+    {
+        match place {
+            RowPlace::Objective => false,
+            RowPlace::Row(index) => match self.rows.get_index(index) {
+                Some((_key, row)) => row.range.is_some() || row.form.has_limits(),
+                None => false,
+            },
+        }
+    }
+
+    /// Whether this is a row of type N. The objective is not.
+    pub(crate) fn is_free(&self, place: RowPlace) -> bool
+        ensures { result ≡ row_tells self.now place (λ objective. false) (λ row. is_free_form row.form) }
+    {
+        match place {
+            RowPlace::Objective => false,
+            RowPlace::Row(index) => match self.rows.get_index(index) {
+                Some((_key, row)) => row.form.is_free(),
+                None => false,
+            },
+        }
+    }
+
+    /// Whether the column of a number has a coefficient of the row of a number.
+    pub(crate) fn has_cell(&self, column: usize, row: u32) -> bool
+        ensures { result ≡ is_some (find nat_cmp row (cells_at self.now column)) }
+    {
+        match self.columns.get_index(column) {
+            Some((_key, parts)) => parts.cells.has(row),
+            None => false,
+        }
+    }
+
+    /// Whether the lower side of the column of a number is declared.
+    pub(crate) fn has_lower(&self, column: usize) -> bool
+        ensures { result ≡ column_tells self.now column (λ parts. is_some parts.lower) }
+    {
+        match self.columns.get_index(column) {
+            Some((_key, parts)) => parts.lower.is_some(),
+            None => false,
+        }
+    }
+
+    /// Whether the upper side of the column of a number is declared.
+    pub(crate) fn has_upper(&self, column: usize) -> bool
+        ensures { result ≡ column_tells self.now column (λ parts. is_some parts.upper) }
+    {
+        match self.columns.get_index(column) {
+            Some((_key, parts)) => parts.upper.is_some(),
+            None => false,
+        }
+    }
+
+    /// Whether the column of a number is declared to be marked, integer or binary.
+    pub(crate) fn is_integer(&self, column: usize) -> bool
+        ensures { result ≡ column_tells self.now column (λ parts. parts.marked || (parts.integer || parts.binary)) }
+    {
+        match self.columns.get_index(column) {
+            Some((_key, parts)) => parts.marked || (parts.integer || parts.binary),
+            None => false,
+        }
+    }
+
+    /// Whether the column of a number is declared to be semi-continuous.
+    pub(crate) fn is_semi(&self, column: usize) -> bool
+        ensures { result ≡ column_tells self.now column (λ parts. parts.semi) }
+    {
+        match self.columns.get_index(column) {
+            Some((_key, parts)) => parts.semi,
+            None => false,
+        }
+    }
+
+    /// Names the objective.
+    pub(crate) fn name_objective(&mut self, name: Name)
+        ensures { HasObjective self.old (record { name = name; rhs = None }) self.new }
+    {
+        self.objective = Some(ObjectiveParts { name, rhs: None });
+    }
+
+    /// Whether another row has a number.
+    pub(crate) fn has_room(&self) -> bool
+        ensures { IsTrue result → index_map_len self.now.rows < 4294967294 }
+    {
+        self.rows.len() < 4294967294
+    }
+
+    /// Adds a row without a right side and a range. None has its name.
+    pub(crate) fn add_row(&mut self, name: Vec<u8>, form: StoredForm) -> Result<(), AllocError>
+        requires { has_name (draft None None self.old).rows name.items ≡ false }
+        ensures ok { OnOk result (HasRowAdded self.old name (record { form = form; rhs = None; range = None }) self.new) }
+        ensures err { OnErr result (IsSameTables self.old self.new) }
+    {
+        self.rows.insert(
+            name,
+            RowParts {
+                form,
+                rhs: None,
+                range: None,
+            },
+        )?;
+        Ok(())
+    }
+
+    /// Adds a column without coefficients. None has its name.
+    pub(crate) fn add_column(&mut self, alloc: Global, name: Vec<u8>) -> Result<(), AllocError>
+        requires { has_name (draft None None self.old).columns name.items ≡ false }
+        ensures ok { OnOk result (HasColumnAdded self.old name new_column self.new) }
+        ensures err { OnErr result (IsSameTables self.old self.new) }
+    {
+        let parts = ColumnParts::new(alloc);
+        self.recent = self.columns.len();
+        self.columns.insert(name, parts)?;
+        Ok(())
+    }
+
+    /// Puts a coefficient where there is none.
+    pub(crate) fn put_cell(
+        &mut self,
+        column: usize,
+        row: u32,
+        value: Decimal,
+    ) -> Result<(), AllocError>
+        requires column { column < index_map_len self.old.columns }
+        requires absent { find nat_cmp row (cells_at self.old column) ≡ None }
+        ensures ok { OnOk result (HasColumnChanged self.old column (with_cell row value) self.new) }
+        ensures err { OnErr result (IsSameTables self.old self.new) }
+    {
+        self.recent = column;
+        let (_key, parts) = self.columns.pair_mut(column);
+        parts.cells.put(row, value)
+    }
+
+    /// Puts the right side of the row of an index.
+    fn put_row_rhs(&mut self, index: usize, value: Decimal)
+        requires { index < index_map_len self.old.rows }
+        ensures { HasRowChanged self.old index (λ row. record row { rhs = Some value }) self.new }
+    {
+        let (_key, row) = self.rows.pair_mut(index);
+        row.rhs = Some(PackedDecimal::of(value));
+    }
+
+    /// Puts the right side of the objective.
+    fn put_objective_rhs(&mut self, value: Decimal)
+        requires { is_some self.old.objective ≡ true }
+        ensures { HasRhsPut self.old RowPlace.Objective value self.new }
+    {
+        if let Some(objective) = &mut self.objective {
+            objective.rhs = Some(PackedDecimal::of(value));
+        }
+    }
+
+    /// Puts the range of the row of an index.
+    pub(crate) fn put_range(&mut self, index: usize, value: Decimal)
+        requires { index < index_map_len self.old.rows }
+        ensures { HasRowChanged self.old index (λ row. record row { range = Some value }) self.new }
+    {
+        let (_key, row) = self.rows.pair_mut(index);
+        row.range = Some(PackedDecimal::of(value));
+    }
+
+    /// Marks a column.
+    pub(crate) fn put_mark(&mut self, column: usize)
+        requires { column < index_map_len self.old.columns }
+        ensures { HasColumnChanged self.old column (λ parts. record parts { marked = true }) self.new }
+    {
+        self.recent = column;
+        let (_key, parts) = self.columns.pair_mut(column);
+        parts.marked = true;
+    }
+
+    /// Makes a column integer.
+    pub(crate) fn put_integer(&mut self, column: usize)
+        requires { column < index_map_len self.old.columns }
+        ensures { HasColumnChanged self.old column (λ parts. record parts { integer = true }) self.new }
+    {
+        self.recent = column;
+        let (_key, parts) = self.columns.pair_mut(column);
+        parts.integer = true;
+    }
+
+    /// Makes a column semi-continuous.
+    pub(crate) fn put_semi(&mut self, column: usize)
+        requires { column < index_map_len self.old.columns }
+        ensures { HasColumnChanged self.old column (λ parts. record parts { semi = true }) self.new }
+    {
+        self.recent = column;
+        let (_key, parts) = self.columns.pair_mut(column);
+        parts.semi = true;
+    }
+
+    /// Puts the sides of a column that are given.
+    pub(crate) fn put_sides(&mut self, column: usize, lower: Option<Limit>, upper: Option<Limit>)
+        requires { column < index_map_len self.old.columns }
+        ensures { HasColumnChanged self.old column (with_sides lower upper) self.new }
+    {
+        self.recent = column;
+        let (_key, parts) = self.columns.pair_mut(column);
+        parts.put_sides(lower, upper);
+    }
 }

@@ -1,0 +1,258 @@
+-- How the draft of tables changes with a column that is added or written.
+use Rattle.std.proofs.Common.{◌≡◌, refl, sym, ap, ◌∙◌, ℕ, zero, suc, List, [], ◌∷◌, ◌++◌, Bool, true, false}
+use Rattle.std.specs.Prelude.{Option, Some, None, is_some, slice_get}
+use Rattle.std.specs.List.{list_all}
+use Rattle.std.specs.Option.{option_map_or, option_and_then}
+use Rattle.std.specs.Ordering.{nat_cmp}
+use Rattle.std.specs.Cmp.{first_so, second_so}
+use Rattle.std.specs.declared.cmp.Ordering.{Ordering}
+use Rattle.std.specs.declared.cmp.Ordering.TheVariants.{Less, Equal, Greater}
+use Rattle.std.specs.FinMap.{find, put, nat_cmp-IsAntisymmetric}
+use Rattle.std.specs.FinMap.Entries.{by_order}
+use Rattle.std.specs.Global.{Vec}
+use Rattle.indexmap.specs.IndexMap.{set_value_at}
+use Rattle.mpslp_decimal.specs.Decimal.{Number}
+use Rattle.mpslp_types.specs.Name.{bytes_cmp}
+use Rattle.mpslp_types.specs.declared.kinds.Limit.{Limit}
+use Rattle.mpslp_types.specs.declared.kinds.Sense.{Sense}
+use Rattle.mpslp_types.proofs.BoolLemmas.{both_so}
+use Rattle.mpslp_core.specs.Model.{CoefficientKey, key_cmp}
+use Rattle.mpslp_core.specs.Numbered.{sorted_of, each_part, given_parts, column_cells, all_cells, all_named, IsOnce}
+use Rattle.mpslp_core.proofs.KeyLemmas.{bytes_total, key_total, tied_names, same_key}
+use Rattle.mpslp_core.proofs.SortedLemmas.{find-sorted_of, sorted_of-put, sorted_of-append}
+use Rattle.mpslp_core.proofs.CellLemmas.{at, find-all_cells}
+use Rattle.mpslp_builder.specs.Declaration.{Draft, adding, adding_all, declare_column, declare_coefficient, declare_marked, declare_integer, declare_semi, bounds_declared, has_column, has_entry}
+use Rattle.mpslp_builder.specs.Tables.{bytes, no_part, cells_of, lower_of, upper_of, mark_of, integer_of, binary_of, semi_of, number_name, cells_by_name, draft_from, AreNumbered}
+use Rattle.mpslp_builder.specs.Calls.{new_column, with_cell, with_sides, put_side}
+use Rattle.mpslp_builder.specs.declared.tables.ObjectiveParts.{ObjectiveParts}
+use Rattle.mpslp_builder.specs.declared.tables.RowParts.{RowParts}
+use Rattle.mpslp_builder.specs.declared.tables.ColumnParts.{ColumnParts}
+use Rattle.mpslp_builder.proofs.NameLemmas.{find_own, once_too}
+use Rattle.mpslp_builder.proofs.PartLemmas.{each_part-append, each_part-kept, given_parts-without, given_parts-kept, find-given_any, absent-each_part, find-put_in_column, none_there}
+
+cells-empty : (name : ℕ → Option (List ℕ)) (c : List ℕ) (cols : List (List ℕ × List (ℕ × Number))) → all_cells name (cols ++ (c, []) ∷ []) ≡ all_cells name cols
+cells-empty name c [] = refl
+cells-empty name c (col ∷ cols) = ap (λ (more : List (CoefficientKey × Number)). column_cells name col.0 col.1 ++ more) (cells-empty name c cols)
+
+named-empty : (name : ℕ → Option (List ℕ)) (c : List ℕ) (cols : List (List ℕ × List (ℕ × Number))) → all_named name cols ≡ true → all_named name (cols ++ (c, []) ∷ []) ≡ true
+named-empty name c [] h = refl
+named-empty name c (col ∷ cols) h =
+    let test : ℕ × Number → Bool = λ e. is_some (name e.0) in
+    both_so (list_all test col.1) (all_named name (cols ++ (c, []) ∷ [])) (first_so (list_all test col.1) (all_named name cols) h) (named-empty name c cols (second_so (list_all test col.1) (all_named name cols) h))
+
+-- what holds of all, and of what is put
+put_all : {X : Type 0} (R : ℕ → ℕ → Ordering) (p : ℕ × X → Bool) (k : ℕ) (v : X) (es : List (ℕ × X)) → ((j : ℕ) → R k j ≡ Equal → p (j, v) ≡ true) → p (k, v) ≡ true
+    → list_all p es ≡ true → list_all p (put R k v es) ≡ true
+put_all R p k v [] tied h all = both_so (p (k, v)) true h refl
+put_all {X} R p k v (e ∷ es) tied h all =
+    elim (R k e.0) as (λ r. R k e.0 ≡ r → list_all p (by_order r ((k, v) ∷ e ∷ es) ((e.0, v) ∷ es) (e ∷ put R k v es)) ≡ true) [
+      | Less ↦ λ _. both_so (p (k, v)) (list_all p (e ∷ es)) h all
+      | Equal ↦ λ is. both_so (p (e.0, v)) (list_all p es) (tied e.0 is) (second_so (p e) (list_all p es) all)
+      | Greater ↦ λ _. both_so (p e) (list_all p (put R k v es)) (first_so (p e) (list_all p es) all) (put_all R p k v es tied h (second_so (p e) (list_all p es) all))
+    ] refl
+
+module _ (sense : Option Sense) (constant : Option Number) (objective : Option ObjectiveParts) (rows : List (Vec ℕ × RowParts)) (columns : List (Vec ℕ × ColumnParts)) where
+  -- ---- a column
+
+  module _ (k : Vec ℕ) where
+    -- nothing is given of a new column
+    none_more : {X : Type 0} (f : ColumnParts → Option X) → f new_column ≡ None
+        → sorted_of bytes_cmp (given_parts bytes f (columns ++ (k, new_column) ∷ [])) ≡ sorted_of bytes_cmp (given_parts bytes f columns)
+    none_more f none = ap (sorted_of bytes_cmp) (given_parts-without bytes f columns k new_column none)
+
+    pub column_draft : has_column (draft_from sense constant objective rows columns) (bytes k) ≡ false
+        → draft_from sense constant objective rows (columns ++ (k, new_column) ∷ []) ≡ adding (draft_from sense constant objective rows columns) (declare_column (bytes k))
+    column_draft absent =
+        let names : sorted_of bytes_cmp (each_part bytes no_part (columns ++ (k, new_column) ∷ [])) ≡ put bytes_cmp (bytes k) tt (sorted_of bytes_cmp (each_part bytes no_part columns)) =
+        ap (sorted_of bytes_cmp) (each_part-append bytes no_part columns k new_column)
+        ∙ sorted_of-append bytes_cmp bytes_total tied_names (bytes k) tt (each_part bytes no_part columns) (absent-each_part bytes no_part (bytes k) columns absent) in
+        let name = number_name objective rows in
+        let cells : all_cells name (cells_by_name (columns ++ (k, new_column) ∷ [])) ≡ all_cells name (cells_by_name columns) =
+        ap (all_cells name) (each_part-append bytes cells_of columns k new_column) ∙ cells-empty name (bytes k) (cells_by_name columns) in
+        λ i. record (draft_from sense constant objective rows columns) {
+          columns = names i;
+          coefficients = sorted_of key_cmp (cells i);
+          lowers = none_more lower_of refl i;
+          uppers = none_more upper_of refl i;
+          marked = none_more mark_of refl i;
+          integers = none_more integer_of refl i;
+          binaries = none_more binary_of refl i;
+          semis = none_more semi_of refl i;
+        }
+
+    pub column_numbered : AreNumbered objective rows columns → AreNumbered objective rows (columns ++ (k, new_column) ∷ [])
+    column_numbered numbered = record {
+      few = numbered.few;
+      apart = numbered.apart;
+      named = ap (all_named (number_name objective rows)) (each_part-append bytes cells_of columns k new_column) ∙ named-empty (number_name objective rows) (bytes k) (cells_by_name columns) numbered.named;
+    }
+
+  -- ---- a column that is written
+
+  module _ (i : ℕ) (k : Vec ℕ) (v : ColumnParts) (column : slice_get columns i ≡ Some (k, v)) where
+    -- a part that is kept
+    kept : {X : Type 0} (f : ColumnParts → Option X) (w : ColumnParts) → f w ≡ f v
+        → sorted_of bytes_cmp (given_parts bytes f (set_value_at columns i w)) ≡ sorted_of bytes_cmp (given_parts bytes f columns)
+    kept f w same = ap (sorted_of bytes_cmp) (given_parts-kept bytes f columns i k v w column same)
+
+    -- a part that is given
+    given : {X : Type 0} (f : ColumnParts → Option X) (w : ColumnParts) (x : X) → IsOnce (cells_by_name columns) → f w ≡ Some x
+        → sorted_of bytes_cmp (given_parts bytes f (set_value_at columns i w)) ≡ put bytes_cmp (bytes k) x (sorted_of bytes_cmp (given_parts bytes f columns))
+    given f w x once is =
+        sorted_of-put bytes_cmp bytes_total tied_names (bytes k) x (given_parts bytes f (set_value_at columns i w)) (given_parts bytes f columns)
+        (λ q. find-given_any bytes f q x columns i k v w column is (once_too bytes cells_of (λ (y : ColumnParts). y) columns once))
+
+    names : (w : ColumnParts) → sorted_of bytes_cmp (each_part bytes no_part (set_value_at columns i w)) ≡ sorted_of bytes_cmp (each_part bytes no_part columns)
+    names w = ap (sorted_of bytes_cmp) (each_part-kept bytes no_part columns i k v w column refl)
+
+    same_cells : (w : ColumnParts) → cells_of w ≡ cells_of v → cells_by_name (set_value_at columns i w) ≡ cells_by_name columns
+    same_cells w cells = each_part-kept bytes cells_of columns i k v w column cells
+
+    coefficients : (w : ColumnParts) → cells_of w ≡ cells_of v
+        → sorted_of key_cmp (all_cells (number_name objective rows) (cells_by_name (set_value_at columns i w))) ≡ sorted_of key_cmp (all_cells (number_name objective rows) (cells_by_name columns))
+    coefficients w cells = ap (λ (cols : List (List ℕ × List (ℕ × Number))). sorted_of key_cmp (all_cells (number_name objective rows) cols)) (same_cells w cells)
+
+    pub kept_numbered : (w : ColumnParts) → cells_of w ≡ cells_of v → AreNumbered objective rows columns → AreNumbered objective rows (set_value_at columns i w)
+    kept_numbered w cells numbered = record {
+      few = numbered.few;
+      apart = numbered.apart;
+      named = ap (all_named (number_name objective rows)) (same_cells w cells) ∙ numbered.named;
+    }
+
+    pub mark_draft : IsOnce (cells_by_name columns)
+        → draft_from sense constant objective rows (set_value_at columns i (record v { marked = true })) ≡ adding (draft_from sense constant objective rows columns) (declare_marked (bytes k))
+    mark_draft once =
+        let w : ColumnParts = record v { marked = true } in
+        λ j. record (draft_from sense constant objective rows columns) {
+          columns = names w j;
+          coefficients = coefficients w refl j;
+          lowers = kept lower_of w refl j;
+          uppers = kept upper_of w refl j;
+          marked = given mark_of w tt once refl j;
+          integers = kept integer_of w refl j;
+          binaries = kept binary_of w refl j;
+          semis = kept semi_of w refl j;
+        }
+
+    pub integer_draft : IsOnce (cells_by_name columns)
+        → draft_from sense constant objective rows (set_value_at columns i (record v { integer = true })) ≡ adding (draft_from sense constant objective rows columns) (declare_integer (bytes k))
+    integer_draft once =
+        let w : ColumnParts = record v { integer = true } in
+        λ j. record (draft_from sense constant objective rows columns) {
+          columns = names w j;
+          coefficients = coefficients w refl j;
+          lowers = kept lower_of w refl j;
+          uppers = kept upper_of w refl j;
+          marked = kept mark_of w refl j;
+          integers = given integer_of w tt once refl j;
+          binaries = kept binary_of w refl j;
+          semis = kept semi_of w refl j;
+        }
+
+    pub semi_draft : IsOnce (cells_by_name columns)
+        → draft_from sense constant objective rows (set_value_at columns i (record v { semi = true })) ≡ adding (draft_from sense constant objective rows columns) (declare_semi (bytes k))
+    semi_draft once =
+        let w : ColumnParts = record v { semi = true } in
+        λ j. record (draft_from sense constant objective rows columns) {
+          columns = names w j;
+          coefficients = coefficients w refl j;
+          lowers = kept lower_of w refl j;
+          uppers = kept upper_of w refl j;
+          marked = kept mark_of w refl j;
+          integers = kept integer_of w refl j;
+          binaries = kept binary_of w refl j;
+          semis = given semi_of w tt once refl j;
+        }
+
+    -- ---- sides
+
+    -- the sides of a kind, with one more where it is given
+    abbrev side_put : Option Limit → List (List ℕ × Limit) → List (List ℕ × Limit)
+    side_put side sides = option_map_or (λ limit. put bytes_cmp (bytes k) limit sides) side sides
+
+    side : (f : ColumnParts → Option Limit) (w : ColumnParts) (given_side : Option Limit) → IsOnce (cells_by_name columns) → f w ≡ put_side given_side (f v)
+        → sorted_of bytes_cmp (given_parts bytes f (set_value_at columns i w)) ≡ side_put given_side (sorted_of bytes_cmp (given_parts bytes f columns))
+    side f w None once is = kept f w is
+    side f w (Some limit) once is = given f w limit once is
+
+    sides-adding : (before : Draft) (lower upper : Option Limit)
+        → adding_all before (bounds_declared (bytes k) lower upper) ≡ record before { lowers = side_put lower before.lowers; uppers = side_put upper before.uppers }
+    sides-adding before None None = refl
+    sides-adding before (Some l) None = refl
+    sides-adding before None (Some u) = refl
+    sides-adding before (Some l) (Some u) = refl
+
+    pub sides_draft : (lower upper : Option Limit) → IsOnce (cells_by_name columns)
+        → draft_from sense constant objective rows (set_value_at columns i (with_sides lower upper v)) ≡ adding_all (draft_from sense constant objective rows columns) (bounds_declared (bytes k) lower upper)
+    sides_draft lower upper once =
+        let w : ColumnParts = with_sides lower upper v in
+        let before : Draft = draft_from sense constant objective rows columns in
+        let written : draft_from sense constant objective rows (set_value_at columns i w) ≡ record before { lowers = side_put lower before.lowers; uppers = side_put upper before.uppers } =
+        λ j. record before {
+          columns = names w j;
+          coefficients = coefficients w refl j;
+          lowers = side lower_of w lower once refl j;
+          uppers = side upper_of w upper once refl j;
+          marked = kept mark_of w refl j;
+          integers = kept integer_of w refl j;
+          binaries = kept binary_of w refl j;
+          semis = kept semi_of w refl j;
+        } in
+        written ∙ sym (sides-adding before lower upper)
+
+    -- ---- a coefficient
+
+    module _ (numbered : AreNumbered objective rows columns) (n : ℕ) (r : List ℕ) (row : number_name objective rows n ≡ Some r) where
+      -- it is declared exactly if its column has it
+      pub cell_found : IsOnce (cells_by_name columns) → is_some (find nat_cmp n (cells_of v)) ≡ has_entry (draft_from sense constant objective rows columns) (at r (bytes k))
+      cell_found once =
+          sym (ap is_some (find-sorted_of key_cmp key_total (at r (bytes k)) (all_cells (number_name objective rows) (cells_by_name columns))
+          ∙ find-all_cells (number_name objective rows) numbered.apart n r (bytes k) (cells_by_name columns) row once
+          ∙ ap (option_and_then (find nat_cmp n)) (find_own bytes cells_of columns i k v once column)))
+
+      pub cell_draft : (x : Number) → has_entry (draft_from sense constant objective rows columns) (at r (bytes k)) ≡ false
+          → draft_from sense constant objective rows (set_value_at columns i (with_cell n x v)) ≡ adding (draft_from sense constant objective rows columns) (declare_coefficient (at r (bytes k)) x)
+      cell_draft x absent =
+          let w : ColumnParts = with_cell n x v in
+          let name = number_name objective rows in
+          let every = all_cells name (cells_by_name columns) in
+          let missing : find key_cmp (at r (bytes k)) every ≡ None =
+          sym (find-sorted_of key_cmp key_total (at r (bytes k)) every) ∙ none_there (find key_cmp (at r (bytes k)) (sorted_of key_cmp every)) absent in
+          let added : sorted_of key_cmp (all_cells name (cells_by_name (set_value_at columns i w))) ≡ put key_cmp (at r (bytes k)) x (sorted_of key_cmp every) =
+          sorted_of-put key_cmp key_total same_key (at r (bytes k)) x (all_cells name (cells_by_name (set_value_at columns i w))) every
+          (λ q. find-put_in_column bytes cells_of name numbered.apart q n x r columns i k v w row column refl missing) in
+          λ j. record (draft_from sense constant objective rows columns) {
+            columns = names w j;
+            coefficients = added j;
+            lowers = kept lower_of w refl j;
+            uppers = kept upper_of w refl j;
+            marked = kept mark_of w refl j;
+            integers = kept integer_of w refl j;
+            binaries = kept binary_of w refl j;
+            semis = kept semi_of w refl j;
+          }
+
+      pub cell_numbered : (x : Number) → AreNumbered objective rows (set_value_at columns i (with_cell n x v))
+      cell_numbered x = record {
+        few = numbered.few;
+        apart = numbered.apart;
+        named = named-set columns i column numbered.named;
+      }
+        where
+          test : ℕ × Number → Bool
+          test e = is_some (number_name objective rows e.0)
+
+          named-set : (cols : List (Vec ℕ × ColumnParts)) (i : ℕ) → slice_get cols i ≡ Some (k, v)
+              → all_named (number_name objective rows) (cells_by_name cols) ≡ true → all_named (number_name objective rows) (cells_by_name (set_value_at cols i (with_cell n x v))) ≡ true
+          named-set [] i is h = cc
+          named-set (c ∷ cols) zero is h =
+              let here : ◌≡◌ {A = Vec ℕ × ColumnParts} c (k, v) = cc in
+              let own : list_all test (cells_of v) ≡ true =
+              ap (λ (y : Vec ℕ × ColumnParts). list_all test (cells_of y.1)) (sym here) ∙ first_so (list_all test (cells_of c.1)) (all_named (number_name objective rows) (cells_by_name cols)) h in
+              both_so (list_all test (put nat_cmp n x (cells_of v))) (all_named (number_name objective rows) (cells_by_name cols))
+              (put_all nat_cmp test n x (cells_of v) (λ j tie. ap (λ (m : ℕ). is_some (number_name objective rows m)) (sym (nat_cmp-IsAntisymmetric n j tie)) ∙ ap is_some row) (ap is_some row) own)
+              (second_so (list_all test (cells_of c.1)) (all_named (number_name objective rows) (cells_by_name cols)) h)
+          named-set (c ∷ cols) (suc i) is h =
+              both_so (list_all test (cells_of c.1)) (all_named (number_name objective rows) (cells_by_name (set_value_at cols i (with_cell n x v))))
+              (first_so (list_all test (cells_of c.1)) (all_named (number_name objective rows) (cells_by_name cols)) h)
+              (named-set cols i is (second_so (list_all test (cells_of c.1)) (all_named (number_name objective rows) (cells_by_name cols)) h))

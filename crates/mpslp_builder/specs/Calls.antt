@@ -1,0 +1,138 @@
+-- What tables tell by numbers, and what a call leaves of them.
+use Rattle.std.specs.Prelude.{◌≡◌, ℕ, zero, suc, Bool, true, false, List, [], ◌∷◌, ◌++◌, Option, None, Some, slice_get, Result, Ok, Err}
+use Rattle.std.specs.Option.{option_map, option_map_or}
+use Rattle.std.specs.Global.{Vec}
+use Rattle.std.specs.Ordering.{nat_cmp}
+use Rattle.std.specs.FinMap.{put}
+use Rattle.indexmap.specs.IndexMap.{set_value_at}
+use Rattle.mpslp_decimal.specs.Decimal.{Number}
+use Rattle.mpslp_types.specs.declared.kinds.Limit.{Limit}
+use Rattle.mpslp_types.specs.declared.faults.BuildFault.{BuildFault}
+use Rattle.mpslp_core.specs.Numbered.{IsOnce, each_part}
+use Rattle.mpslp_builder.specs.Answer.{Answer}
+use Rattle.mpslp_builder.specs.Tables.{bytes, form_of, cells_of, objective_name, number_name, cells_by_name}
+use Rattle.mpslp_builder.specs.declared.tables.ObjectiveParts.{ObjectiveParts}
+use Rattle.mpslp_builder.specs.declared.tables.RowParts.{RowParts}
+use Rattle.mpslp_builder.specs.declared.tables.ColumnParts.{ColumnParts}
+use Rattle.mpslp_builder.specs.declared.tables.RowPlace.{RowPlace}
+use Rattle.mpslp_builder.specs.declared.tables.RowPlace.TheVariants.{Objective, Row}
+use Rattle.mpslp_builder.specs.declared.tables.Tables.{Tables}
+
+-- ---- what stands at a number
+
+abbrev pub number_of : RowPlace → ℕ
+number_of Objective = zero
+number_of (Row i) = suc i
+
+abbrev pub row_name : Tables → ℕ → Option (List ℕ)
+row_name t = number_name t.objective t.rows.entries
+
+abbrev pub column_name : Tables → ℕ → Option (List ℕ)
+column_name t i = option_map (λ e. bytes e.0) (slice_get t.columns.entries i)
+
+-- what the objective tells, or the row of an index
+abbrev pub row_tells : Tables → RowPlace → (ObjectiveParts → Bool) → (RowParts → Bool) → Bool
+row_tells t Objective of_objective of_row = option_map_or of_objective t.objective false
+row_tells t (Row i) of_objective of_row = option_map_or (λ e. of_row e.1) (slice_get t.rows.entries i) false
+
+-- what the column of a number tells
+abbrev pub column_tells : Tables → ℕ → (ColumnParts → Bool) → Bool
+column_tells t i test = option_map_or (λ e. test e.1) (slice_get t.columns.entries i) false
+
+-- the coefficients of the column of a number
+abbrev pub cells_at : Tables → ℕ → List (ℕ × Number)
+cells_at t i = option_map_or (λ e. cells_of e.1) (slice_get t.columns.entries i) []
+
+-- what is answered where something is found or refused
+abbrev pub answer_of : {X : Type 0} → Result X BuildFault → Answer
+answer_of (Ok found) = Ok tt
+answer_of (Err fault) = Err fault
+
+-- ---- what is known of all tables
+
+-- no name of a row stands twice, and none of a column
+pub record IsOnceEach (t : Tables) : Type 0 where
+  pub rows : IsOnce (each_part bytes form_of t.rows.entries)
+  pub columns : IsOnce (cells_by_name t.columns.entries)
+
+pub record IsEmptyTables (t : Tables) : Type 0 where
+  pub objective : t.objective ≡ None
+  pub rows : t.rows.entries ≡ []
+  pub columns : t.columns.entries ≡ []
+
+-- ---- what a call leaves
+
+-- nothing that is declared has changed
+pub record IsSameTables (old new : Tables) : Type 0 where
+  pub objective : new.objective ≡ old.objective
+  pub rows : new.rows.entries ≡ old.rows.entries
+  pub columns : new.columns.entries ≡ old.columns.entries
+
+-- the objective is this
+pub record HasObjective (old : Tables) (parts : ObjectiveParts) (new : Tables) : Type 0 where
+  pub objective : new.objective ≡ Some parts
+  pub rows : new.rows.entries ≡ old.rows.entries
+  pub columns : new.columns.entries ≡ old.columns.entries
+
+-- one row more
+pub record HasRowAdded (old : Tables) (name : Vec ℕ) (parts : RowParts) (new : Tables) : Type 0 where
+  pub objective : new.objective ≡ old.objective
+  pub rows : new.rows.entries ≡ old.rows.entries ++ (name, parts) ∷ []
+  pub columns : new.columns.entries ≡ old.columns.entries
+
+-- the row of an index is this
+pub record HasRowWritten (old : Tables) (i : ℕ) (parts : RowParts) (new : Tables) : Type 0 where
+  pub objective : new.objective ≡ old.objective
+  pub rows : new.rows.entries ≡ set_value_at old.rows.entries i parts
+  pub columns : new.columns.entries ≡ old.columns.entries
+
+-- one column more
+pub record HasColumnAdded (old : Tables) (name : Vec ℕ) (parts : ColumnParts) (new : Tables) : Type 0 where
+  pub objective : new.objective ≡ old.objective
+  pub rows : new.rows.entries ≡ old.rows.entries
+  pub columns : new.columns.entries ≡ old.columns.entries ++ (name, parts) ∷ []
+
+-- the column of a number is this
+pub record HasColumnWritten (old : Tables) (i : ℕ) (parts : ColumnParts) (new : Tables) : Type 0 where
+  pub objective : new.objective ≡ old.objective
+  pub rows : new.rows.entries ≡ old.rows.entries
+  pub columns : new.columns.entries ≡ set_value_at old.columns.entries i parts
+
+abbrev pub new_column : ColumnParts
+new_column = record { cells = []; lower = None; upper = None; marked = false; integer = false; binary = false; semi = false }
+
+-- the column of a number, changed so
+pub record HasColumnChanged (old : Tables) (i : ℕ) (change : ColumnParts → ColumnParts) (new : Tables) : Type 0 where
+  pub key : Vec ℕ
+  pub parts : ColumnParts
+  pub was : slice_get old.columns.entries i ≡ Some (key, parts)
+  pub written : HasColumnWritten old i (change parts) new
+
+-- the row of an index, changed so
+pub record HasRowChanged (old : Tables) (i : ℕ) (change : RowParts → RowParts) (new : Tables) : Type 0 where
+  pub key : Vec ℕ
+  pub parts : RowParts
+  pub was : slice_get old.rows.entries i ≡ Some (key, parts)
+  pub written : HasRowWritten old i (change parts) new
+
+-- the objective, changed so
+pub record HasObjectiveChanged (old : Tables) (change : ObjectiveParts → ObjectiveParts) (new : Tables) : Type 0 where
+  pub parts : ObjectiveParts
+  pub was : old.objective ≡ Some parts
+  pub written : HasObjective old (change parts) new
+
+-- a right side is put
+abbrev pub HasRhsPut : Tables → RowPlace → Number → Tables → Type 0
+HasRhsPut old Objective value new = HasObjectiveChanged old (λ o. record o { rhs = Some value }) new
+HasRhsPut old (Row i) value new = HasRowChanged old i (λ row. record row { rhs = Some value }) new
+
+-- the sides that are given are put
+abbrev pub put_side : Option Limit → Option Limit → Option Limit
+put_side None old = old
+put_side (Some side) old = Some side
+
+abbrev pub with_sides : Option Limit → Option Limit → ColumnParts → ColumnParts
+with_sides lower upper column = record column { lower = put_side lower column.lower; upper = put_side upper column.upper }
+
+abbrev pub with_cell : ℕ → Number → ColumnParts → ColumnParts
+with_cell row value column = record column { cells = put nat_cmp row value column.cells }
