@@ -25,5 +25,6 @@ pub mod PartLemmas
 pub mod NameLemmas
 pub mod ReadingLemmas
 pub mod ColumnDrafts
+pub mod RowDrafts
 mod WorkedRows
 mod WorkedModels

@@ -1,0 +1,281 @@
+-- How the draft of tables changes with the objective, and with a row that is added or written.
+use Rattle.std.proofs.Common.{◌≡◌, refl, sym, ap, ◌∙◌, ℕ, zero, suc, List, [], ◌∷◌, ◌++◌, Bool, true, false, cond}
+use Rattle.std.proofs.Common.{inl, inr, ◌<◌, arith, length-append}
+use Rattle.std.specs.Prelude.{Option, Some, None, is_some, slice_get, length, ◌||◌, ◌⊎◌}
+use Rattle.std.specs.List.{list_all}
+use Rattle.std.specs.Option.{option_map, option_map_or}
+use Rattle.std.specs.Ordering.{eq_by_cmp}
+use Rattle.std.specs.Cmp.{first_so, second_so}
+use Rattle.std.specs.Cmp.Lexicographic.{nat_list_eq_equiv}
+use Rattle.std.specs.FinMap.{find, put}
+use Rattle.std.specs.Global.{Vec}
+use Rattle.indexmap.specs.IndexMap.{set_value_at}
+use Rattle.mpslp_decimal.specs.Decimal.{Number}
+use Rattle.mpslp_types.specs.Name.{same_bytes, bytes_cmp}
+use Rattle.mpslp_types.specs.declared.kinds.Sense.{Sense}
+use Rattle.mpslp_types.proofs.BoolLemmas.{both_so}
+use Rattle.mpslp_core.specs.Model.{CoefficientKey, key_cmp}
+use Rattle.mpslp_core.specs.Limits.{RowForm}
+use Rattle.mpslp_core.specs.Numbered.{sorted_of, each_part, given_parts, column_cells, all_cells, all_named, IsOnce}
+use Rattle.mpslp_core.proofs.KeyLemmas.{bytes_total, tied_names}
+use Rattle.mpslp_core.proofs.SortedLemmas.{sorted_of-put, sorted_of-append}
+use Rattle.mpslp_core.proofs.PutsLemmas.{equal_from}
+use Rattle.mpslp_core.proofs.CellLemmas.{or_else, find-two}
+use Rattle.mpslp_builder.specs.Declaration.{Draft, adding, declare_objective, declare_row, declare_rhs, declare_range, is_objective, has_name, has_row}
+use Rattle.mpslp_builder.specs.Tables.{bytes, form_of, rhs_of, range_of, objective_name, objective_rhs, number_name, cells_by_name, draft_from, AreNumbered}
+use Rattle.mpslp_builder.specs.declared.tables.ObjectiveParts.{ObjectiveParts}
+use Rattle.mpslp_builder.specs.declared.tables.RowParts.{RowParts}
+use Rattle.mpslp_builder.specs.declared.tables.ColumnParts.{ColumnParts}
+use Rattle.mpslp_builder.proofs.NameLemmas.{there_found, once_too, names-more, old_or_last, find_own}
+use Rattle.mpslp_builder.proofs.PartLemmas.{each_part-append, each_part-kept, given_parts-without, given_parts-kept, find-given_any, absent-each_part}
+
+-- ---- numbers that name at least what they named
+
+module _ (name later : ℕ → Option (List ℕ)) (more : (n : ℕ) (r : List ℕ) → name n ≡ Some r → later n ≡ Some r) where
+  named_later : (n : ℕ) → is_some (name n) ≡ true → later n ≡ name n
+  named_later n h = elim (name n) as (λ o. name n ≡ o → is_some o ≡ true → later n ≡ o) [ None ↦ λ _ no. cc | Some r ↦ λ is _. more n r is ] refl h
+
+  column_cells-more : (c : List ℕ) (es : List (ℕ × Number)) → list_all (λ e. is_some (name e.0)) es ≡ true → column_cells later c es ≡ column_cells name c es
+  column_cells-more c [] h = refl
+  column_cells-more c (e ∷ es) h =
+      let rest = column_cells-more c es (second_so (is_some (name e.0)) (list_all (λ (e : ℕ × Number). is_some (name e.0)) es) h) in
+      let own = named_later e.0 (first_so (is_some (name e.0)) (list_all (λ (e : ℕ × Number). is_some (name e.0)) es) h) in
+      λ i. option_map_or (λ row. (record { row = row; column = c }, e.1) ∷ rest i) (own i) (rest i)
+
+  pub all_cells-more : (cols : List (List ℕ × List (ℕ × Number))) → all_named name cols ≡ true → all_cells later cols ≡ all_cells name cols
+  all_cells-more [] h = refl
+  all_cells-more (c ∷ cols) h =
+      let own = column_cells-more c.0 c.1 (first_so (list_all (λ (e : ℕ × Number). is_some (name e.0)) c.1) (all_named name cols) h) in
+      let rest = all_cells-more cols (second_so (list_all (λ (e : ℕ × Number). is_some (name e.0)) c.1) (all_named name cols) h) in
+      λ i. own i ++ rest i
+
+  cells_named-more : (es : List (ℕ × Number)) → list_all (λ e. is_some (name e.0)) es ≡ true → list_all (λ e. is_some (later e.0)) es ≡ true
+  cells_named-more [] h = refl
+  cells_named-more (e ∷ es) h =
+      let first = first_so (is_some (name e.0)) (list_all (λ (e : ℕ × Number). is_some (name e.0)) es) h in
+      both_so (is_some (later e.0)) (list_all (λ (e : ℕ × Number). is_some (later e.0)) es) (ap is_some (named_later e.0 first) ∙ first)
+      (cells_named-more es (second_so (is_some (name e.0)) (list_all (λ (e : ℕ × Number). is_some (name e.0)) es) h))
+
+  pub all_named-more : (cols : List (List ℕ × List (ℕ × Number))) → all_named name cols ≡ true → all_named later cols ≡ true
+  all_named-more [] h = refl
+  all_named-more (c ∷ cols) h =
+      both_so (list_all (λ (e : ℕ × Number). is_some (later e.0)) c.1) (all_named later cols)
+      (cells_named-more c.1 (first_so (list_all (λ (e : ℕ × Number). is_some (name e.0)) c.1) (all_named name cols) h))
+      (all_named-more cols (second_so (list_all (λ (e : ℕ × Number). is_some (name e.0)) c.1) (all_named name cols) h))
+
+left_false : (a b : Bool) → (a || b) ≡ false → a ≡ false
+left_false true b h = cc
+left_false false b h = refl
+
+right_false : (a b : Bool) → (a || b) ≡ false → b ≡ false
+right_false true b h = cc
+right_false false b h = h
+
+-- an entry more in front of others
+pub find-behind : {X : Type 0} (q k : List ℕ) (x : X) (front back more : List (List ℕ × X)) → find bytes_cmp k front ≡ None
+    → find bytes_cmp q more ≡ cond (eq_by_cmp bytes_cmp q k) (Some x) (find bytes_cmp q back)
+    → find bytes_cmp q (front ++ more) ≡ cond (eq_by_cmp bytes_cmp q k) (Some x) (find bytes_cmp q (front ++ back))
+find-behind {X} q k x front back more absent put_there =
+    find-two bytes_cmp q front more
+    ∙ ap (or_else (find bytes_cmp q front)) put_there
+    ∙ elim (eq_by_cmp bytes_cmp q k) as (λ b. eq_by_cmp bytes_cmp q k ≡ b → or_else (find bytes_cmp q front) (cond b (Some x) (find bytes_cmp q back)) ≡ cond b (Some x) (or_else (find bytes_cmp q front) (find bytes_cmp q back))) [
+      | true ↦ λ tie.
+          let same : q ≡ k = tied_names q k (equal_from (bytes_cmp q k) tie) in
+          ap (λ (o : Option X). or_else o (Some x)) (ap (λ (n : List ℕ). find bytes_cmp n front) same ∙ absent)
+      | false ↦ λ _. refl
+    ] refl
+    ∙ ap (cond (eq_by_cmp bytes_cmp q k) (Some x)) (sym (find-two bytes_cmp q front back))
+
+module _ (sense : Option Sense) (constant : Option Number) (objective : Option ObjectiveParts) (rows : List (Vec ℕ × RowParts)) (columns : List (Vec ℕ × ColumnParts)) where
+  -- ---- a row
+
+  module _ (k : Vec ℕ) (form : RowForm) where
+    abbrev added : List (Vec ℕ × RowParts)
+    added = rows ++ (k, record { form = form; rhs = None; range = None }) ∷ []
+
+    kept_name : (n : ℕ) (r : List ℕ) → number_name objective rows n ≡ Some r → number_name objective added n ≡ Some r
+    kept_name zero r h = h
+    kept_name (suc i) r h = names-more bytes rows ((k, record { form = form; rhs = None; range = None }) ∷ []) i r h
+
+    missing : has_row (draft_from sense constant objective rows columns) (bytes k) ≡ false → find bytes_cmp (bytes k) (each_part bytes form_of rows) ≡ None
+    missing absent =
+        let all : Draft = draft_from sense constant objective rows columns in
+        absent-each_part bytes form_of (bytes k) rows (right_false (is_objective all (bytes k)) (has_name all.rows (bytes k)) absent)
+
+    pub row_draft : AreNumbered objective rows columns → has_row (draft_from sense constant objective rows columns) (bytes k) ≡ false
+        → draft_from sense constant objective added columns ≡ adding (draft_from sense constant objective rows columns) (declare_row (bytes k) form)
+    row_draft numbered absent =
+        let parts : RowParts = record { form = form; rhs = None; range = None } in
+        let forms : sorted_of bytes_cmp (each_part bytes form_of added) ≡ put bytes_cmp (bytes k) form (sorted_of bytes_cmp (each_part bytes form_of rows)) =
+        ap (sorted_of bytes_cmp) (each_part-append bytes form_of rows k parts) ∙ sorted_of-append bytes_cmp bytes_total tied_names (bytes k) form (each_part bytes form_of rows) (missing absent) in
+        let cells = all_cells-more (number_name objective rows) (number_name objective added) kept_name (cells_by_name columns) numbered.named in
+        let rhs_values = given_parts-without bytes rhs_of rows k parts refl in
+        let ranges = given_parts-without bytes range_of rows k parts refl in
+        λ i. record (draft_from sense constant objective rows columns) {
+          rows = forms i;
+          rhs_values = sorted_of bytes_cmp (objective_rhs objective ++ rhs_values i);
+          ranges = sorted_of bytes_cmp (ranges i);
+          coefficients = sorted_of key_cmp (cells i);
+        }
+
+    old_or_new : (n : ℕ) (r : List ℕ) → number_name objective added n ≡ Some r → (number_name objective rows n ≡ Some r) ⊎ ((n ≡ suc (length rows)) × (bytes k ≡ r))
+    old_or_new zero r h = inl h
+    old_or_new (suc i) r h =
+        elim (old_or_last bytes rows k (record { form = form; rhs = None; range = None }) i r h) [
+          | inl old ↦ inl old
+          | inr last ↦ inr (ap suc last.0, last.1)
+        ]
+
+    not_new : has_row (draft_from sense constant objective rows columns) (bytes k) ≡ false → (n : ℕ) → number_name objective rows n ≡ Some (bytes k) → ⊥
+    not_new absent zero h =
+        let all : Draft = draft_from sense constant objective rows columns in
+        let none = left_false (is_objective all (bytes k)) (has_name all.rows (bytes k)) absent in
+        let own : same_bytes (bytes k) (bytes k) ≡ false = sym (ap (λ (o : Option (List ℕ)). option_map_or (same_bytes (bytes k)) o false) h) ∙ none in
+        let so : same_bytes (bytes k) (bytes k) ≡ true = nat_list_eq_equiv.refl (bytes k) in
+        cc
+    not_new absent (suc i) h = there_found bytes form_of rows i (bytes k) h (missing absent)
+
+    pub row_numbered : AreNumbered objective rows columns → length rows < 4294967294 → has_row (draft_from sense constant objective rows columns) (bytes k) ≡ false → AreNumbered objective added columns
+    row_numbered numbered few absent = record {
+      few = simp length-append (omega arith);
+      apart = λ n m r p q.
+          elim (old_or_new n r p) [
+            | inl a ↦ elim (old_or_new m r q) [
+              | inl b ↦ numbered.apart n m r a b
+              | inr b ↦ absurd (not_new absent n (a ∙ ap Some (sym b.1)))
+            ]
+            | inr a ↦ elim (old_or_new m r q) [
+              | inl b ↦ absurd (not_new absent m (b ∙ ap Some (sym a.1)))
+              | inr b ↦ a.0 ∙ sym b.0
+            ]
+          ];
+      named = all_named-more (number_name objective rows) (number_name objective added) kept_name (cells_by_name columns) numbered.named;
+    }
+
+  -- ---- a row that is written
+
+  module _ (i : ℕ) (k : Vec ℕ) (v w : RowParts) (row : slice_get rows i ≡ Some (k, v)) where
+    same_names : (rows : List (Vec ℕ × RowParts)) (i j : ℕ) → option_map (λ (e : Vec ℕ × RowParts). bytes e.0) (slice_get (set_value_at rows i w) j) ≡ option_map (λ e. bytes e.0) (slice_get rows j)
+    same_names [] i j = refl
+    same_names (e ∷ es) zero zero = refl
+    same_names (e ∷ es) zero (suc j) = refl
+    same_names (e ∷ es) (suc i) zero = refl
+    same_names (e ∷ es) (suc i) (suc j) = same_names es i j
+
+    same_name_at : (n : ℕ) → number_name objective (set_value_at rows i w) n ≡ number_name objective rows n
+    same_name_at zero = refl
+    same_name_at (suc j) = same_names rows i j
+
+    same_length : (rows : List (Vec ℕ × RowParts)) (i : ℕ) → length (set_value_at rows i w) ≡ length rows
+    same_length [] i = refl
+    same_length (e ∷ es) zero = refl
+    same_length (e ∷ es) (suc i) = ap suc (same_length es i)
+
+    still : (n : ℕ) (r : List ℕ) → number_name objective rows n ≡ Some r → number_name objective (set_value_at rows i w) n ≡ Some r
+    still n r h = same_name_at n ∙ h
+
+    pub written_numbered : AreNumbered objective rows columns → AreNumbered objective (set_value_at rows i w) columns
+    written_numbered numbered = record {
+      few = rw (same_length rows i) numbered.few;
+      apart = λ n m r p q. numbered.apart n m r (sym (same_name_at n) ∙ p) (sym (same_name_at m) ∙ q);
+      named = all_named-more (number_name objective rows) (number_name objective (set_value_at rows i w)) still (cells_by_name columns) numbered.named;
+    }
+
+    same_cells : AreNumbered objective rows columns → sorted_of key_cmp (all_cells (number_name objective (set_value_at rows i w)) (cells_by_name columns)) ≡ sorted_of key_cmp (all_cells (number_name objective rows) (cells_by_name columns))
+    same_cells numbered = ap (sorted_of key_cmp) (all_cells-more (number_name objective rows) (number_name objective (set_value_at rows i w)) still (cells_by_name columns) numbered.named)
+
+    same_forms : form_of w ≡ form_of v → sorted_of bytes_cmp (each_part bytes form_of (set_value_at rows i w)) ≡ sorted_of bytes_cmp (each_part bytes form_of rows)
+    same_forms same = ap (sorted_of bytes_cmp) (each_part-kept bytes form_of rows i k v w row same)
+
+    pub range_draft : (x : Number) → AreNumbered objective rows columns → IsOnce (each_part bytes form_of rows) → w ≡ record v { range = Some x }
+        → draft_from sense constant objective (set_value_at rows i w) columns ≡ adding (draft_from sense constant objective rows columns) (declare_range (bytes k) x)
+    range_draft x numbered once is =
+        let rhs_values = given_parts-kept bytes rhs_of rows i k v w row (ap rhs_of is) in
+        let ranges : sorted_of bytes_cmp (given_parts bytes range_of (set_value_at rows i w)) ≡ put bytes_cmp (bytes k) x (sorted_of bytes_cmp (given_parts bytes range_of rows)) =
+        sorted_of-put bytes_cmp bytes_total tied_names (bytes k) x (given_parts bytes range_of (set_value_at rows i w)) (given_parts bytes range_of rows)
+        (λ q. find-given_any bytes range_of q x rows i k v w row (ap range_of is) (once_too bytes form_of (λ (y : RowParts). y) rows once)) in
+        λ j. record (draft_from sense constant objective rows columns) {
+          rows = same_forms (ap form_of is) j;
+          rhs_values = sorted_of bytes_cmp (objective_rhs objective ++ rhs_values j);
+          ranges = ranges j;
+          coefficients = same_cells numbered j;
+        }
+
+    -- the objective has another name than its rows
+    other_rhs : AreNumbered objective rows columns → find bytes_cmp (bytes k) (objective_rhs objective) ≡ None
+    other_rhs numbered =
+        elim objective as (λ o. objective ≡ o → find bytes_cmp (bytes k) (objective_rhs o) ≡ None) [
+          | None ↦ λ _. refl
+          | Some parts ↦ λ there.
+              elim parts.rhs as (λ value. find bytes_cmp (bytes k) (option_map_or (λ x. (parts.name, x) ∷ []) value []) ≡ None) [
+                | None ↦ refl
+                | Some x ↦ elim (eq_by_cmp bytes_cmp (bytes k) parts.name) as (λ b. eq_by_cmp bytes_cmp (bytes k) parts.name ≡ b → cond b (Some x) None ≡ None) [
+                  | true ↦ λ tie.
+                      let same : bytes k ≡ parts.name = tied_names (bytes k) parts.name (equal_from (bytes_cmp (bytes k) parts.name) tie) in
+                      let no : zero ≡ suc i = numbered.apart zero (suc i) (bytes k) (ap objective_name there ∙ ap Some (sym same)) (ap (option_map (λ (e : Vec ℕ × RowParts). bytes e.0)) row) in
+                      cc
+                  | false ↦ λ _. refl
+                ] refl
+              ]
+        ] refl
+
+    pub rhs_draft : (x : Number) → AreNumbered objective rows columns → IsOnce (each_part bytes form_of rows) → w ≡ record v { rhs = Some x }
+        → draft_from sense constant objective (set_value_at rows i w) columns ≡ adding (draft_from sense constant objective rows columns) (declare_rhs (bytes k) x)
+    rhs_draft x numbered once is =
+        let ranges = given_parts-kept bytes range_of rows i k v w row (ap range_of is) in
+        let front = objective_rhs objective in
+        let rhs_values : sorted_of bytes_cmp (front ++ given_parts bytes rhs_of (set_value_at rows i w)) ≡ put bytes_cmp (bytes k) x (sorted_of bytes_cmp (front ++ given_parts bytes rhs_of rows)) =
+        sorted_of-put bytes_cmp bytes_total tied_names (bytes k) x (front ++ given_parts bytes rhs_of (set_value_at rows i w)) (front ++ given_parts bytes rhs_of rows)
+        (λ q. find-behind q (bytes k) x front (given_parts bytes rhs_of rows) (given_parts bytes rhs_of (set_value_at rows i w)) (other_rhs numbered)
+        (find-given_any bytes rhs_of q x rows i k v w row (ap rhs_of is) (once_too bytes form_of (λ (y : RowParts). y) rows once))) in
+        λ j. record (draft_from sense constant objective rows columns) {
+          rows = same_forms (ap form_of is) j;
+          rhs_values = rhs_values j;
+          ranges = sorted_of bytes_cmp (ranges j);
+          coefficients = same_cells numbered j;
+        }
+
+-- ---- the objective
+
+module _ (sense : Option Sense) (constant : Option Number) (name : List ℕ) (rows : List (Vec ℕ × RowParts)) (columns : List (Vec ℕ × ColumnParts)) where
+  abbrev named : Option ObjectiveParts
+  named = Some (record { name = name; rhs = None })
+
+  module _ (numbered : AreNumbered None rows columns) where
+    still_named : (n : ℕ) (r : List ℕ) → number_name None rows n ≡ Some r → number_name named rows n ≡ Some r
+    still_named zero r h = cc
+    still_named (suc i) r h = h
+
+    pub objective_draft : draft_from sense constant named rows columns ≡ adding (draft_from sense constant None rows columns) (declare_objective name)
+    objective_draft =
+        let cells = all_cells-more (number_name None rows) (number_name named rows) still_named (cells_by_name columns) numbered.named in
+        λ i. record (draft_from sense constant None rows columns) { objective = Some name; coefficients = sorted_of key_cmp (cells i) }
+
+    no_row : has_row (draft_from sense constant None rows columns) name ≡ false → (i : ℕ) (r : List ℕ) → option_map (λ e. bytes e.0) (slice_get rows i) ≡ Some r → Some name ≡ Some r → ⊥
+    no_row absent i r h is =
+        let same : ◌≡◌ {A = List ℕ} r name = cc in
+        there_found bytes form_of rows i name (h ∙ ap Some same) (absent-each_part bytes form_of name rows absent)
+
+    pub objective_numbered : has_row (draft_from sense constant None rows columns) name ≡ false → AreNumbered named rows columns
+    objective_numbered absent = record {
+      few = numbered.few;
+      apart = apart;
+      named = all_named-more (number_name None rows) (number_name named rows) still_named (cells_by_name columns) numbered.named;
+    }
+      where
+        apart : (n m : ℕ) (r : List ℕ) → number_name named rows n ≡ Some r → number_name named rows m ≡ Some r → n ≡ m
+        apart zero zero r p q = refl
+        apart zero (suc j) r p q = absurd (no_row absent j r q p)
+        apart (suc i) zero r p q = absurd (no_row absent i r p q)
+        apart (suc i) (suc j) r p q = numbered.apart (suc i) (suc j) r p q
+
+-- the right side of the objective
+module _ (sense : Option Sense) (constant : Option Number) (o : ObjectiveParts) (none : o.rhs ≡ None) (x : Number) (rows : List (Vec ℕ × RowParts)) (columns : List (Vec ℕ × ColumnParts)) where
+  pub objective_rhs_draft : draft_from sense constant (Some (record o { rhs = Some x })) rows columns ≡ adding (draft_from sense constant (Some o) rows columns) (declare_rhs o.name x)
+  objective_rhs_draft =
+      ap (λ (value : Option Number). record (draft_from sense constant (Some o) rows columns) {
+        rhs_values = put bytes_cmp o.name x (sorted_of bytes_cmp (option_map_or (λ v. (o.name, v) ∷ []) value [] ++ given_parts bytes rhs_of rows)) })
+      (sym none)
+
+  pub objective_rhs_numbered : AreNumbered (Some o) rows columns → AreNumbered (Some (record o { rhs = Some x })) rows columns
+  objective_rhs_numbered numbered = record { few = numbered.few; apart = numbered.apart; named = numbered.named }
