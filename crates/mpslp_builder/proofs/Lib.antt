@@ -26,5 +26,6 @@ pub mod NameLemmas
 pub mod ReadingLemmas
 pub mod ColumnDrafts
 pub mod RowDrafts
+pub mod TestLemmas
 mod WorkedRows
 mod WorkedModels

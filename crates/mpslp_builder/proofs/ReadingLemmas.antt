@@ -1,15 +1,35 @@
 -- What tables tell at a number is what their draft says of the name.
-use Rattle.std.proofs.Common.{◌≡◌, refl, ℕ, List, true, false}
-use Rattle.std.specs.Prelude.{Some, slice_get}
-use Rattle.std.specs.Option.{option_map}
+use Rattle.std.proofs.Common.{◌≡◌, refl, sym, ap, ◌∙◌, ℕ, zero, suc, List, [], ◌∷◌, ◌++◌, Bool, true, false, cond}
+use Rattle.std.proofs.Common.{◌<◌, arith}
+use Rattle.std.proofs.lemmas.Option.{slice_get_within}
+use Rattle.std.specs.Prelude.{Option, Some, None, is_some, slice_get, length, ◌||◌, ◌&&◌}
+use Rattle.std.specs.Option.{option_map, option_map_or}
 use Rattle.std.specs.Global.{Vec}
-use Rattle.mpslp_types.specs.Name.{bytes_cmp}
-use Rattle.mpslp_core.specs.Numbered.{sorted_of, each_part}
-use Rattle.mpslp_builder.specs.Declaration.{has_name}
-use Rattle.mpslp_builder.specs.Tables.{bytes, no_part}
+use Rattle.std.specs.Ordering.{eq_by_cmp, nat_cmp}
+use Rattle.std.specs.Cmp.Lexicographic.{nat_list_eq_equiv, bytes_decides, texts_ties}
+use Rattle.std.specs.FinMap.{find}
+use Rattle.mpslp_decimal.specs.Decimal.{Number}
+use Rattle.mpslp_types.specs.Name.{same_bytes, bytes_cmp}
+use Rattle.mpslp_types.specs.declared.kinds.Sense.{Sense}
+use Rattle.mpslp_core.specs.Limits.{RowForm, is_free_form, is_limits_form}
+use Rattle.mpslp_core.specs.Numbered.{sorted_of, each_part, given_parts}
+use Rattle.mpslp_core.proofs.KeyLemmas.{bytes_total, tied_names}
+use Rattle.mpslp_core.proofs.SortedLemmas.{find-sorted_of}
+use Rattle.mpslp_core.proofs.PutsLemmas.{equal_from}
+use Rattle.mpslp_core.proofs.CellLemmas.{at, or_else, find-two}
+use Rattle.mpslp_builder.specs.Declaration.{Draft, at_name, has_name, has_entry, is_objective, is_free_row, is_row_by_limits, is_integer}
+use Rattle.mpslp_builder.specs.Tables.{bytes, form_of, rhs_of, range_of, no_part, cells_of, as_part, objective_name, objective_rhs, draft, IsNumbered}
+use Rattle.mpslp_builder.specs.Calls.{number_of, row_name, column_name, row_tells, column_tells, cells_at, is_objective_place, IsOnceEach}
+use Rattle.mpslp_builder.specs.declared.tables.ObjectiveParts.{ObjectiveParts}
+use Rattle.mpslp_builder.specs.declared.tables.RowParts.{RowParts}
 use Rattle.mpslp_builder.specs.declared.tables.ColumnParts.{ColumnParts}
-use Rattle.mpslp_builder.proofs.PartLemmas.{absent-each_part}
-use Rattle.mpslp_builder.proofs.NameLemmas.{there_found}
+use Rattle.mpslp_builder.specs.declared.tables.RowPlace.{RowPlace}
+use Rattle.mpslp_builder.specs.declared.tables.RowPlace.TheVariants.{Objective, Row}
+use Rattle.mpslp_builder.specs.declared.tables.Tables.{Tables}
+use Rattle.mpslp_builder.proofs.PartLemmas.{absent-each_part, none_there}
+use Rattle.mpslp_builder.proofs.NameLemmas.{there_found, found_there, find_own, find_given_own, none_given}
+use Rattle.mpslp_builder.proofs.ColumnDrafts.{cell_found}
+use Rattle.mpslp_builder.proofs.RowDrafts.{other_rhs}
 
 -- a column that has a number is declared
 pub column_there : (columns : List (Vec ℕ × ColumnParts)) (i : ℕ) (name : List ℕ) → option_map (λ e. bytes e.0) (slice_get columns i) ≡ Some name
@@ -19,3 +39,223 @@ column_there columns i name is =
       | true ↦ λ _. refl
       | false ↦ λ absent. absurd (there_found bytes no_part columns i name is (absent-each_part bytes no_part name columns absent))
     ] refl
+
+-- ---- the entry of a number
+
+-- the entry at a number has this name
+pub record Stands {V : Type 0} (es : List (Vec ℕ × V)) (i : ℕ) (wanted : List ℕ) : Type 0 where
+  pub key : Vec ℕ
+  pub parts : V
+  pub at : slice_get es i ≡ Some (key, parts)
+  pub named : bytes key ≡ wanted
+
+pub stands : {V : Type 0} (es : List (Vec ℕ × V)) (i : ℕ) (name : List ℕ) → option_map (λ e. bytes e.0) (slice_get es i) ≡ Some name → Stands es i name
+stands [] i name h = cc
+stands (e ∷ es) zero name h = record { key = e.0; parts = e.1; at = refl; named = cc }
+stands (e ∷ es) (suc i) name h =
+    let s = stands es i name h in
+    record { key = s.key; parts = s.parts; at = s.at; named = s.named }
+
+-- it is one of the map's
+pub within : {V : Type 0} (es : List (Vec ℕ × V)) (i : ℕ) (name : List ℕ) → Stands es i name → i < length es
+within es i name s = slice_get_within es i (s.key, s.parts) s.at
+
+-- the entry that is there
+pub own_parts : {V : Type 0} (es : List (Vec ℕ × V)) (i : ℕ) (name : List ℕ) (s : Stands es i name) (key : Vec ℕ) (parts : V) → slice_get es i ≡ Some (key, parts) → (bytes key ≡ name) × (parts ≡ s.parts)
+own_parts {V} es i name s key parts is =
+    let same : ◌≡◌ {A = Vec ℕ × V} (key, parts) (s.key, s.parts) = let both : ◌≡◌ {A = Option (Vec ℕ × V)} (Some (key, parts)) (Some (s.key, s.parts)) = sym is ∙ s.at in cc in
+    (ap (λ (e : Vec ℕ × V). bytes e.0) same ∙ s.named, ap (λ (e : Vec ℕ × V). e.1) same)
+
+or_nothing : (a b : Bool) → (a || (b || false)) ≡ (a || b)
+or_nothing true b = refl
+or_nothing false true = refl
+or_nothing false false = refl
+
+part_there : (b : Bool) → is_some (as_part b) ≡ b
+part_there true = refl
+part_there false = refl
+
+found_first : {X : Type 0} (o : Option X) → or_else o None ≡ o
+found_first None = refl
+found_first (Some x) = refl
+
+module _ (sense : Option Sense) (constant : Option Number) (t : Tables) (once : IsOnceEach t) where
+  -- ---- columns
+
+  module _ (i : ℕ) (c : List ℕ) (s : Stands t.columns.entries i c) where
+    -- a part of the column is what is found by its name
+    pub given_at : {X : Type 0} (f : ColumnParts → Option X) → at_name (sorted_of bytes_cmp (given_parts bytes f t.columns.entries)) c ≡ f s.parts
+    given_at f =
+        find-sorted_of bytes_cmp bytes_total c (given_parts bytes f t.columns.entries)
+        ∙ ap (λ (name : List ℕ). find bytes_cmp name (given_parts bytes f t.columns.entries)) (sym s.named)
+        ∙ find_given_own bytes cells_of f t.columns.entries i s.key s.parts once.columns s.at
+
+    pub told_at : (f : ColumnParts → Bool) → column_tells t i f ≡ f s.parts
+    told_at f = ap (λ (o : Option (Vec ℕ × ColumnParts)). option_map_or (λ e. f e.1) o false) s.at
+
+    -- whether a part is there
+    pub part_at : {X : Type 0} (f : ColumnParts → Option X) → has_name (sorted_of bytes_cmp (given_parts bytes f t.columns.entries)) c ≡ column_tells t i (λ parts. is_some (f parts))
+    part_at f = ap is_some (given_at f) ∙ sym (told_at (λ parts. is_some (f parts)))
+
+    -- whether it is so
+    pub flag_at : (f : ColumnParts → Bool) → has_name (sorted_of bytes_cmp (given_parts bytes (λ parts. as_part (f parts)) t.columns.entries)) c ≡ column_tells t i f
+    flag_at f = ap is_some (given_at (λ parts. as_part (f parts))) ∙ part_there (f s.parts) ∙ sym (told_at f)
+
+    pub integer_at : is_integer (draft sense constant t) c ≡ column_tells t i (λ parts. parts.marked || (parts.integer || parts.binary))
+    integer_at =
+        (λ j. (flag_at (λ parts. parts.marked) ∙ told_at (λ parts. parts.marked)) j
+        || ((flag_at (λ parts. parts.integer) ∙ told_at (λ parts. parts.integer)) j || (flag_at (λ parts. parts.binary) ∙ told_at (λ parts. parts.binary)) j))
+        ∙ sym (told_at (λ parts. parts.marked || (parts.integer || parts.binary)))
+
+    pub own_cells : cells_at t i ≡ cells_of s.parts
+    own_cells = ap (λ (o : Option (Vec ℕ × ColumnParts)). option_map_or (λ e. cells_of e.1) o []) s.at
+
+    -- whether a coefficient is there
+    pub cell_at : (n : ℕ) (r : List ℕ) → IsNumbered t → row_name t n ≡ Some r → has_entry (draft sense constant t) (at r c) ≡ is_some (find nat_cmp n (cells_at t i))
+    cell_at n r numbered row =
+        sym (ap (λ (es : List (ℕ × Number)). is_some (find nat_cmp n es)) own_cells
+        ∙ cell_found sense constant t.objective t.rows.entries t.columns.entries i s.key s.parts s.at numbered n r row once.columns
+        ∙ ap (λ (name : List ℕ). has_entry (draft sense constant t) (at r name)) s.named)
+
+  -- ---- rows
+
+  module _ (numbered : IsNumbered t) where
+    module _ (i : ℕ) (r : List ℕ) (s : Stands t.rows.entries i r) where
+      row_told : (f : RowParts → Bool) → option_map_or (λ (e : Vec ℕ × RowParts). f e.1) (slice_get t.rows.entries i) false ≡ f s.parts
+      row_told f = ap (λ (o : Option (Vec ℕ × RowParts)). option_map_or (λ e. f e.1) o false) s.at
+
+      form_at : at_name (draft sense constant t).rows r ≡ Some (form_of s.parts)
+      form_at =
+          find-sorted_of bytes_cmp bytes_total r (each_part bytes form_of t.rows.entries)
+          ∙ ap (λ (name : List ℕ). find bytes_cmp name (each_part bytes form_of t.rows.entries)) (sym s.named)
+          ∙ find_own bytes form_of t.rows.entries i s.key s.parts once.rows s.at
+
+      range_at : at_name (draft sense constant t).ranges r ≡ range_of s.parts
+      range_at =
+          find-sorted_of bytes_cmp bytes_total r (given_parts bytes range_of t.rows.entries)
+          ∙ ap (λ (name : List ℕ). find bytes_cmp name (given_parts bytes range_of t.rows.entries)) (sym s.named)
+          ∙ find_given_own bytes form_of range_of t.rows.entries i s.key s.parts once.rows s.at
+
+      rhs_at : at_name (draft sense constant t).rhs_values r ≡ rhs_of s.parts
+      rhs_at =
+          find-sorted_of bytes_cmp bytes_total r (objective_rhs t.objective ++ given_parts bytes rhs_of t.rows.entries)
+          ∙ ap (λ (name : List ℕ). find bytes_cmp name (objective_rhs t.objective ++ given_parts bytes rhs_of t.rows.entries)) (sym s.named)
+          ∙ find-two bytes_cmp (bytes s.key) (objective_rhs t.objective) (given_parts bytes rhs_of t.rows.entries)
+          ∙ ap (λ (o : Option Number). or_else o (find bytes_cmp (bytes s.key) (given_parts bytes rhs_of t.rows.entries)))
+          (other_rhs sense constant t.objective t.rows.entries t.columns.entries i s.key s.parts s.parts s.at numbered)
+          ∙ find_given_own bytes form_of rhs_of t.rows.entries i s.key s.parts once.rows s.at
+
+      no_objective : is_objective (draft sense constant t) r ≡ false
+      no_objective =
+          elim (objective_name t.objective) as (λ o. objective_name t.objective ≡ o → option_map_or (same_bytes r) o false ≡ false) [
+            | None ↦ λ _. refl
+            | Some name ↦ λ there.
+                elim (same_bytes r name) as (λ b. same_bytes r name ≡ b → b ≡ false) [
+                  | true ↦ λ tie.
+                      let same : r ≡ name = (bytes_decides r name).0 tie in
+                      let here : row_name t (suc i) ≡ Some r = ap (option_map (λ (e : Vec ℕ × RowParts). bytes e.0)) s.at ∙ ap Some s.named in
+                      let no : zero ≡ suc i = numbered.apart zero (suc i) r (there ∙ ap Some (sym same)) here in
+                      cc
+                  | false ↦ λ _. refl
+                ] refl
+          ] refl
+
+    module _ (o : ObjectiveParts) (there : t.objective ≡ Some o) where
+      no_such_row : {X : Type 0} (f : RowParts → X) → find bytes_cmp o.name (each_part bytes f t.rows.entries) ≡ None
+      no_such_row {X} f =
+          elim (is_some (find bytes_cmp o.name (each_part bytes f t.rows.entries))) as (λ b. is_some (find bytes_cmp o.name (each_part bytes f t.rows.entries)) ≡ b → find bytes_cmp o.name (each_part bytes f t.rows.entries) ≡ None) [
+            | true ↦ λ is.
+                let row = found_there bytes f t.rows.entries o.name is in
+                let no : zero ≡ suc row.0 = numbered.apart zero (suc row.0) o.name (ap objective_name there) row.1 in
+                absurd (zero_apart row.0 no)
+            | false ↦ λ none. none_there (find bytes_cmp o.name (each_part bytes f t.rows.entries)) none
+          ] refl
+        where
+          zero_apart : (n : ℕ) → zero ≡ suc n → ⊥
+          zero_apart n h = cc
+
+      no_form : at_name (draft sense constant t).rows o.name ≡ None
+      no_form = find-sorted_of bytes_cmp bytes_total o.name (each_part bytes form_of t.rows.entries) ∙ no_such_row form_of
+
+      no_range : at_name (draft sense constant t).ranges o.name ≡ None
+      no_range = find-sorted_of bytes_cmp bytes_total o.name (given_parts bytes range_of t.rows.entries) ∙ none_given bytes form_of range_of o.name t.rows.entries (no_such_row form_of)
+
+      own_rhs : (value : Option Number) → find bytes_cmp o.name (option_map_or (λ x. (o.name, x) ∷ []) value []) ≡ value
+      own_rhs None = refl
+      own_rhs (Some x) = ap (λ (b : Bool). cond b (Some x) None) (own_tie o.name)
+        where
+          own_tie : (name : List ℕ) → eq_by_cmp bytes_cmp name name ≡ true
+          own_tie name = sym (texts_ties name name) ∙ nat_list_eq_equiv.refl name
+
+      objective_rhs_at : at_name (draft sense constant t).rhs_values o.name ≡ o.rhs
+      objective_rhs_at =
+          find-sorted_of bytes_cmp bytes_total o.name (objective_rhs t.objective ++ given_parts bytes rhs_of t.rows.entries)
+          ∙ ap (λ (parts : Option ObjectiveParts). find bytes_cmp o.name (objective_rhs parts ++ given_parts bytes rhs_of t.rows.entries)) there
+          ∙ find-two bytes_cmp o.name (objective_rhs (Some o)) (given_parts bytes rhs_of t.rows.entries)
+          ∙ (λ j. or_else (own_rhs o.rhs j) (none_given bytes form_of rhs_of o.name t.rows.entries (no_such_row form_of) j))
+          ∙ found_first o.rhs
+
+      own_name : is_objective (draft sense constant t) o.name ≡ true
+      own_name = ap (λ (parts : Option ObjectiveParts). option_map_or (same_bytes o.name) (objective_name parts) false) there ∙ nat_list_eq_equiv.refl o.name
+
+    -- ---- at a place
+
+    objective_there : (parts : Option ObjectiveParts) (r : List ℕ) → objective_name parts ≡ Some r → (o : ObjectiveParts) × ((parts ≡ Some o) × (o.name ≡ r))
+    objective_there None r h = cc
+    objective_there (Some o) r h = (o, (refl, cc))
+
+    -- the objective has parts, with the name
+    objective_told : (o : ObjectiveParts) → t.objective ≡ Some o → (f : ObjectiveParts → Bool) → option_map_or f t.objective false ≡ f o
+    objective_told o there f = ap (λ (parts : Option ObjectiveParts). option_map_or f parts false) there
+
+    pub free_at : (p : RowPlace) (r : List ℕ) → row_name t (number_of p) ≡ Some r → is_free_row (draft sense constant t) r ≡ row_tells t p (λ o. false) (λ row. is_free_form row.form)
+    free_at Objective r is =
+        let o = objective_there t.objective r is in
+        ap (λ (name : List ℕ). is_free_row (draft sense constant t) name) (sym o.1.1)
+        ∙ ap (λ (form : Option RowForm). option_map_or is_free_form form false) (no_form o.0 o.1.0)
+        ∙ sym (objective_told o.0 o.1.0 (λ o. false))
+    free_at (Row i) r is =
+        let s = stands t.rows.entries i r is in
+        ap (λ (form : Option RowForm). option_map_or is_free_form form false) (form_at i r s) ∙ sym (row_told i r s (λ row. is_free_form row.form))
+
+    pub objective_at : (p : RowPlace) (r : List ℕ) → row_name t (number_of p) ≡ Some r → is_objective (draft sense constant t) r ≡ is_objective_place p
+    objective_at Objective r is =
+        let o = objective_there t.objective r is in
+        ap (λ (name : List ℕ). is_objective (draft sense constant t) name) (sym o.1.1) ∙ own_name o.0 o.1.0
+    objective_at (Row i) r is = no_objective i r (stands t.rows.entries i r is)
+
+    pub has_range_at : (p : RowPlace) (r : List ℕ) → row_name t (number_of p) ≡ Some r
+        → (has_name (draft sense constant t).ranges r || is_row_by_limits (draft sense constant t) r) ≡ row_tells t p (λ o. false) (λ row. is_some row.range || is_limits_form row.form)
+    has_range_at Objective r is =
+        let o = objective_there t.objective r is in
+        ap (λ (name : List ℕ). has_name (draft sense constant t).ranges name || is_row_by_limits (draft sense constant t) name) (sym o.1.1)
+        ∙ (λ j. is_some (no_range o.0 o.1.0 j) || option_map_or is_limits_form (no_form o.0 o.1.0 j) false)
+        ∙ sym (objective_told o.0 o.1.0 (λ o. false))
+    has_range_at (Row i) r is =
+        let s = stands t.rows.entries i r is in
+        (λ j. is_some (range_at i r s j) || option_map_or is_limits_form (form_at i r s j) false)
+        ∙ sym (row_told i r s (λ row. is_some row.range || is_limits_form row.form))
+
+    pub has_rhs_at : (b : Bool) (p : RowPlace) (r : List ℕ) → row_name t (number_of p) ≡ Some r
+        → (has_name (draft sense constant t).rhs_values r || (is_row_by_limits (draft sense constant t) r || (is_objective (draft sense constant t) r && b)))
+        ≡ row_tells t p (λ o. is_some o.rhs || b) (λ row. is_some row.rhs || is_limits_form row.form)
+    has_rhs_at b Objective r is =
+        let o = objective_there t.objective r is in
+        ap (λ (name : List ℕ). has_name (draft sense constant t).rhs_values name || (is_row_by_limits (draft sense constant t) name || (is_objective (draft sense constant t) name && b))) (sym o.1.1)
+        ∙ (λ j. is_some (objective_rhs_at o.0 o.1.0 j) || (option_map_or is_limits_form (no_form o.0 o.1.0 j) false || (own_name o.0 o.1.0 j && b)))
+        ∙ sym (objective_told o.0 o.1.0 (λ o. is_some o.rhs || b))
+    has_rhs_at b (Row i) r is =
+        let s = stands t.rows.entries i r is in
+        (λ j. is_some (rhs_at i r s j) || (option_map_or is_limits_form (form_at i r s j) false || (no_objective i r s j && b)))
+        ∙ or_nothing (is_some (rhs_of s.parts)) (is_limits_form (form_of s.parts))
+        ∙ sym (row_told i r s (λ row. is_some row.rhs || is_limits_form row.form))
+
+    -- ---- numbers
+
+    -- the number of a row fits 32 bits
+    pub number_fits : (p : RowPlace) (r : List ℕ) → row_name t (number_of p) ≡ Some r → number_of p < 4294967296
+    number_fits Objective r is = omega arith
+    number_fits (Row i) r is =
+        let below : i < length t.rows.entries = within t.rows.entries i r (stands t.rows.entries i r is) in
+        let few : length t.rows.entries < 4294967295 = numbered.few in
+        omega arith

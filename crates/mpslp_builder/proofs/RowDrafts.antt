@@ -202,7 +202,7 @@ module _ (sense : Option Sense) (constant : Option Number) (objective : Option O
         }
 
     -- the objective has another name than its rows
-    other_rhs : AreNumbered objective rows columns → find bytes_cmp (bytes k) (objective_rhs objective) ≡ None
+    pub other_rhs : AreNumbered objective rows columns → find bytes_cmp (bytes k) (objective_rhs objective) ≡ None
     other_rhs numbered =
         elim objective as (λ o. objective ≡ o → find bytes_cmp (bytes k) (objective_rhs o) ≡ None) [
           | None ↦ λ _. refl

@@ -24,6 +24,10 @@ abbrev pub number_of : RowPlace → ℕ
 number_of Objective = zero
 number_of (Row i) = suc i
 
+abbrev pub is_objective_place : RowPlace → Bool
+is_objective_place Objective = true
+is_objective_place (Row i) = false
+
 abbrev pub row_name : Tables → ℕ → Option (List ℕ)
 row_name t = number_name t.objective t.rows.entries
 

@@ -2,4 +2,5 @@
 #![tactic(auto)]
 
 mod forms;
+mod refusals;
 mod tables;

@@ -1,0 +1,71 @@
+-- What a question of tables answers is the first refusal of the declaration.
+use Rattle.std.proofs.Common.{◌≡◌, refl, sym, ap, ◌∙◌, ℕ, suc, List, [], ◌∷◌, Bool, true, false, not}
+use Rattle.std.specs.Prelude.{Option, Some, None, is_some, ◌||◌, ◌&&◌}
+use Rattle.std.specs.Option.{option_map_or}
+use Rattle.std.specs.Ordering.{nat_cmp}
+use Rattle.std.specs.FinMap.{find}
+use Rattle.mpslp_decimal.specs.Decimal.{Number, is_infinite_size}
+use Rattle.mpslp_types.specs.Sides.{is_plus_infinite, is_minus_infinite}
+use Rattle.mpslp_types.specs.declared.kinds.Limit.{Limit}
+use Rattle.mpslp_types.specs.declared.faults.BuildFault.TheVariants.{UnknownRow, UnknownColumn, DuplicateRhs, DuplicateRange, RangeOnFree, InfiniteValue, DuplicateEntry, DuplicateBound, SemiContinuous}
+use Rattle.mpslp_core.specs.Lists.{those_of}
+use Rattle.mpslp_core.specs.Limits.{is_free_form, is_limits_form}
+use Rattle.mpslp_core.proofs.CellLemmas.{at}
+use Rattle.mpslp_builder.specs.Declaration.{declare_range, has_row, has_column}
+use Rattle.mpslp_builder.specs.Refusal.{rhs_tests, coefficient_tests, integer_tests, semi_tests, refusals, bounds_refusals}
+use Rattle.mpslp_builder.specs.Tables.{draft, lower_of, upper_of, IsNumbered}
+use Rattle.mpslp_builder.specs.Calls.{number_of, row_name, column_name, row_tells, column_tells, cells_at, is_objective_place, IsOnceEach}
+use Rattle.mpslp_builder.specs.declared.tables.RowPlace.{RowPlace}
+use Rattle.mpslp_builder.specs.declared.tables.Tables.{Tables}
+use Rattle.mpslp_builder.proofs.ReadingLemmas.{stands, part_at, flag_at, integer_at, cell_at, objective_at, free_at, has_range_at, has_rhs_at}
+
+module _ (constant : Option Number) (t : Tables) (once : IsOnceEach t) where
+  -- ---- columns
+
+  module _ (i : ℕ) (c : List ℕ) (is : column_name t i ≡ Some c) (there : true ≡ has_column (draft None constant t) c) where
+    pub integer_told : (b : Bool) → b ≡ column_tells t i (λ parts. parts.semi)
+        → those_of (integer_tests (draft None constant t) c) ≡ those_of ((b, SemiContinuous) ∷ [])
+    integer_told b told =
+        let s = stands t.columns.entries i c is in
+        let semi = flag_at None constant t once i c s (λ parts. parts.semi) ∙ sym told in
+        λ j. those_of ((not (sym there j), UnknownColumn) ∷ (semi j, SemiContinuous) ∷ [])
+
+    pub semi_told : (b : Bool) → b ≡ column_tells t i (λ parts. parts.marked || (parts.integer || parts.binary))
+        → those_of (semi_tests (draft None constant t) c) ≡ those_of ((b, SemiContinuous) ∷ [])
+    semi_told b told =
+        let integer = integer_at None constant t once i c (stands t.columns.entries i c is) ∙ sym told in
+        λ j. those_of ((not (sym there j), UnknownColumn) ∷ (integer j, SemiContinuous) ∷ [])
+
+    pub sides_told : (lower upper : Option Limit) (b infinite : Bool)
+        → b ≡ ((is_some lower && column_tells t i (λ parts. is_some parts.lower)) || (is_some upper && column_tells t i (λ parts. is_some parts.upper)))
+        → infinite ≡ (option_map_or is_plus_infinite lower false || option_map_or is_minus_infinite upper false)
+        → bounds_refusals (draft None constant t) c lower upper ≡ those_of ((b, DuplicateBound) ∷ (infinite, InfiniteValue) ∷ [])
+    sides_told lower upper b infinite told end =
+        let s = stands t.columns.entries i c is in
+        let lowers = part_at None constant t once i c s lower_of in
+        let uppers = part_at None constant t once i c s upper_of in
+        (λ j. those_of ((not (sym there j), UnknownColumn) ∷ ((is_some lower && lowers j) || (is_some upper && uppers j), DuplicateBound) ∷ (sym end j, InfiniteValue) ∷ []))
+        ∙ ap (λ (duplicate : Bool). those_of ((duplicate, DuplicateBound) ∷ (infinite, InfiniteValue) ∷ [])) (sym told)
+
+    pub cell_told : (n : ℕ) (r : List ℕ) (b : Bool) → IsNumbered t → row_name t n ≡ Some r → true ≡ has_row (draft None constant t) r → b ≡ is_some (find nat_cmp n (cells_at t i))
+        → those_of (coefficient_tests (draft None constant t) (at r c)) ≡ those_of ((b, DuplicateEntry) ∷ [])
+    cell_told n r b numbered row row_there told =
+        let entry = cell_at None constant t once i c (stands t.columns.entries i c is) n r numbered row ∙ sym told in
+        λ j. those_of ((not (sym row_there j), UnknownRow) ∷ (not (sym there j), UnknownColumn) ∷ (entry j, DuplicateEntry) ∷ [])
+
+  -- ---- rows
+
+  module _ (numbered : IsNumbered t) (p : RowPlace) (r : List ℕ) (is : row_name t (number_of p) ≡ Some r) (there : true ≡ has_row (draft None constant t) r) where
+    pub rhs_told : (b : Bool) → b ≡ row_tells t p (λ o. is_some o.rhs || is_some constant) (λ row. is_some row.rhs || is_limits_form row.form)
+        → those_of (rhs_tests (draft None constant t) r) ≡ those_of ((b, DuplicateRhs) ∷ [])
+    rhs_told b told =
+        let duplicate = has_rhs_at None constant t once numbered (is_some constant) p r is ∙ sym told in
+        λ j. those_of ((not (sym there j), UnknownRow) ∷ (duplicate j, DuplicateRhs) ∷ [])
+
+    pub range_told : (value : Number) (b free : Bool) → b ≡ row_tells t p (λ o. false) (λ row. is_some row.range || is_limits_form row.form)
+        → (is_objective_place p || row_tells t p (λ o. false) (λ row. is_free_form row.form)) ≡ free
+        → refusals (draft None constant t) (declare_range r value) ≡ those_of ((b, DuplicateRange) ∷ (free, RangeOnFree) ∷ (is_infinite_size value, InfiniteValue) ∷ [])
+    range_told value b free told is_free =
+        let duplicate = has_range_at None constant t once numbered p r is ∙ sym told in
+        let no_sides = (λ j. objective_at None constant t once numbered p r is j || free_at None constant t once numbered p r is j) ∙ is_free in
+        λ j. those_of ((not (sym there j), UnknownRow) ∷ (duplicate j, DuplicateRange) ∷ (no_sides j, RangeOnFree) ∷ (is_infinite_size value, InfiniteValue) ∷ [])
