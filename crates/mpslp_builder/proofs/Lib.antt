@@ -27,5 +27,6 @@ pub mod ReadingLemmas
 pub mod ColumnDrafts
 pub mod RowDrafts
 pub mod TestLemmas
+pub mod CallLemmas
 mod WorkedRows
 mod WorkedModels

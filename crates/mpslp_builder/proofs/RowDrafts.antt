@@ -270,9 +270,9 @@ module _ (sense : Option Sense) (constant : Option Number) (name : List ℕ) (ro
         apart (suc i) (suc j) r p q = numbered.apart (suc i) (suc j) r p q
 
 -- the right side of the objective
-module _ (sense : Option Sense) (constant : Option Number) (o : ObjectiveParts) (none : o.rhs ≡ None) (x : Number) (rows : List (Vec ℕ × RowParts)) (columns : List (Vec ℕ × ColumnParts)) where
-  pub objective_rhs_draft : draft_from sense constant (Some (record o { rhs = Some x })) rows columns ≡ adding (draft_from sense constant (Some o) rows columns) (declare_rhs o.name x)
-  objective_rhs_draft =
+module _ (sense : Option Sense) (constant : Option Number) (o : ObjectiveParts) (x : Number) (rows : List (Vec ℕ × RowParts)) (columns : List (Vec ℕ × ColumnParts)) where
+  pub objective_rhs_draft : o.rhs ≡ None → draft_from sense constant (Some (record o { rhs = Some x })) rows columns ≡ adding (draft_from sense constant (Some o) rows columns) (declare_rhs o.name x)
+  objective_rhs_draft none =
       ap (λ (value : Option Number). record (draft_from sense constant (Some o) rows columns) {
         rhs_values = put bytes_cmp o.name x (sorted_of bytes_cmp (option_map_or (λ v. (o.name, v) ∷ []) value [] ++ given_parts bytes rhs_of rows)) })
       (sym none)

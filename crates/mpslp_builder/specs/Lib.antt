@@ -6,6 +6,7 @@ pub mod Made
 pub mod Meaning
 pub mod Laws
 pub mod Answer
+pub mod Finish
 pub mod Forms
 pub mod Tables
 pub mod Calls

@@ -7,11 +7,11 @@ ghost use Rattle.std.specs.Prelude.{◌≡◌, ◌&&◌, ◌||◌, IfOk, Some, N
 ghost use Rattle.std.specs.Option.{option_map_or};
 ghost use Rattle.mpslp_types.specs.Sides.{is_plus_infinite, is_minus_infinite};
 ghost use Rattle.mpslp_core.specs.Lists.{those_of};
-ghost use Rattle.mpslp_builder.specs.Declaration.{declare_range};
+ghost use Rattle.mpslp_builder.specs.Declaration.{declare_range, is_limits_form};
 ghost use Rattle.mpslp_builder.specs.Refusal.{rhs_tests, integer_tests, semi_tests, coefficient_tests, refusals, bounds_refusals};
 ghost use Rattle.mpslp_builder.specs.Answer.{first_refusal};
 ghost use Rattle.mpslp_builder.specs.Tables.{draft, IsNumbered};
-ghost use Rattle.mpslp_builder.specs.Calls.{number_of, row_name, column_name, column_tells, answer_of};
+ghost use Rattle.mpslp_builder.specs.Calls.{number_of, row_name, column_name, row_tells, column_tells, answer_of};
 
 use crate::tables::{RowPlace, Tables};
 use mpslp_decimal::Decimal;
@@ -43,6 +43,7 @@ impl Tables {
     ) -> Result<RowPlace, BuildFault>
         requires { IsNumbered self.now }
         ensures place { IfOk result (λ place. row_name self.now (number_of place) ≡ Some row.now) }
+        ensures absent { IfOk result (λ place. row_tells self.now place (λ objective. is_some objective.rhs || is_some constant.now) (λ row. is_some row.rhs || is_limits_form row.form) ≡ false) }
         ensures answer { answer_of result ≡ first_refusal (those_of (rhs_tests (draft None constant.now self.now) row.now)) }
     {
         self.each_name_stands_once();

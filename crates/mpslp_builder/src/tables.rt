@@ -395,6 +395,17 @@ impl Tables {
         }
     }
 
+    /// Puts the right side of a row or of the objective.
+    pub(crate) fn put_rhs(&mut self, place: RowPlace, value: Decimal)
+        requires { is_some (row_name self.old (number_of place)) ≡ true }
+        ensures { HasRhsPut self.old place value self.new }
+    {
+        match place {
+            RowPlace::Objective => self.put_objective_rhs(value),
+            RowPlace::Row(index) => self.put_row_rhs(index, value),
+        }
+    }
+
     /// Puts the range of the row of an index.
     pub(crate) fn put_range(&mut self, index: usize, value: Decimal)
         requires { index < index_map_len self.old.rows }

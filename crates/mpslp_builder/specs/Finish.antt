@@ -1,0 +1,14 @@
+-- What the end of a builder answers.
+use Rattle.std.specs.Prelude.{◌≡◌, Some, None, Result, Ok, Err}
+use Rattle.mpslp_core.specs.Model.{LinearModel}
+use Rattle.mpslp_builder.specs.Declaration.{Draft}
+use Rattle.mpslp_builder.specs.Meaning.{file_fault, DraftMeans}
+use Rattle.mpslp_types.specs.declared.faults.ReadFault.{ReadFault}
+use Rattle.mpslp_types.specs.declared.faults.ReadFault.TheVariants.{File, Failed, OutOfMemory}
+
+-- The first fault of the whole, if there is one. Else the model that is meant, or there was no memory for it.
+abbrev pub Finishes : Draft → Result LinearModel ReadFault → Type 0
+Finishes all (Ok m) = (file_fault all ≡ None) × DraftMeans all m
+Finishes all (Err (File fault)) = file_fault all ≡ Some fault
+Finishes all (Err Failed) = ⊥
+Finishes all (Err OutOfMemory) = file_fault all ≡ None
