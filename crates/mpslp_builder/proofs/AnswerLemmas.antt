@@ -9,7 +9,12 @@ use Rattle.std.specs.Cmp.{first_so, second_so}
 use Rattle.std.specs.Cmp.Lexicographic.{texts_ties}
 use Rattle.std.specs.FinMap.{find, put, is_sorted}
 use Rattle.std.proofs.Math.Dec.{T}
+use Rattle.mpslp_decimal.specs.Decimal.{Number, is_decimal}
 use Rattle.mpslp_types.specs.Name.{is_mps_name, bytes_cmp}
+use Rattle.mpslp_core.specs.Model.{CoefficientKey, key_cmp}
+use Rattle.mpslp_core.proofs.KeyLemmas.{same_key}
+use Rattle.mpslp_core.proofs.PutsLemmas.{equal_from}
+use Rattle.mpslp_builder.specs.Calls.{CoefficientsAreKnown}
 use Rattle.mpslp_builder.specs.Declaration.{Declaration, Draft, adding, has_name, is_objective, has_row, has_column, adding_all, bounds_declared}
 use Rattle.mpslp_core.specs.Lists.{those_of}
 use Rattle.mpslp_builder.specs.Refusal.{refusals, bounds_refusals}
@@ -63,6 +68,15 @@ want_of_memory faults (Err e) P Q told none q = subst (λ (t : BuildFault). Answ
 -- one more declaration is made
 pub made_next : {inner all : Draft} (d : Declaration) → inner ≡ all → IsMade inner → is_legal d ≡ true → refusals all d ≡ [] → IsMade (adding inner d)
 made_next {inner} {all} d seen made legal none = made-adding inner d made legal (ap (λ (before : Draft). refusals before d) seen ∙ none)
+
+-- a draft that is one with one more declaration is made too
+pub made_after : {inner later : Draft} (d : Declaration) → later ≡ adding inner d → IsMade inner → is_legal d ≡ true → refusals inner d ≡ [] → IsMade later
+made_after d after made legal none = subst IsMade (sym after) (made_next d refl made legal none)
+
+-- and that is what is answered for
+pub answered : {inner all later : Draft} (d : Declaration) → inner ≡ all → later ≡ adding inner d → refusals inner d ≡ [] → Answers (refusals all d) (Ok tt) (later ≡ adding all d) (later ≡ all)
+answered {inner} {all} {later} d seen after none =
+    declared (refusals all d) (later ≡ adding all d) (later ≡ all) (ap (λ (before : Draft). refusals before d) (sym seen) ∙ none) (after ∙ ap (λ (before : Draft). adding before d) seen)
 
 -- what holds of each name holds of one that is there
 named_so : {X : Type 0} (p : List ℕ → Bool) (name : List ℕ) (es : List (List ℕ × X)) → list_all (λ e. p e.0) es ≡ true → has_name es name ≡ true → p name ≡ true
@@ -125,37 +139,29 @@ no_side all column lower upper h =
     nor (is_some lower && has_name all.lowers column) (is_some upper && has_name all.uppers column)
     (first_none declared DuplicateBound last (rest_none (not (has_column all column)) UnknownColumn rest h))
 
--- a side that is given, with its column's name
-abbrev pub entry_of : List ℕ → Option Limit → Option (List ℕ × Limit)
-entry_of column side = option_map (λ limit. (column, limit)) side
-
-pub side_absent : (column : List ℕ) (side : Option Limit) (sides : List (List ℕ × Limit)) (e : List ℕ × Limit) → (is_some side && has_name sides column) ≡ false
-    → entry_of column side ≡ Some e → find bytes_cmp e.0 sides ≡ None
-side_absent column None sides e h is = cc
-side_absent column (Some limit) sides e h is =
-    let same : ◌≡◌ {A = List ℕ × Limit} (column, limit) e = cc in
-    subst (λ (x : List ℕ × Limit). find bytes_cmp x.0 sides ≡ None) same (none_there (find bytes_cmp column sides) h)
-
--- a side that is given is put
-abbrev pub put_in : Option (List ℕ × Limit) → List (List ℕ × Limit) → List (List ℕ × Limit)
-put_in entry sides = option_map_or (λ e. put bytes_cmp e.0 e.1 sides) entry sides
-
-abbrev pub with_sides : Draft → List ℕ → Option Limit → Option Limit → Draft
-with_sides all column lower upper = record all { lowers = put_in (entry_of column lower) all.lowers; uppers = put_in (entry_of column upper) all.uppers }
-
-pub sides-added : (all : Draft) (column : List ℕ) (lower upper : Option Limit) → adding_all all (bounds_declared column lower upper) ≡ with_sides all column lower upper
-sides-added all column None None = refl
-sides-added all column (Some l) None = refl
-sides-added all column None (Some u) = refl
-sides-added all column (Some l) (Some u) = refl
-
 given : (side : Option Limit) → ForSome side (λ s. IsTrue (is_given s)) → option_map_or is_given side true ≡ true
 given None h = refl
 given (Some limit) h = h limit refl
 
 -- the sides that one call gives are declared
 pub made_sides : {inner all : Draft} (column : List ℕ) (lower upper : Option Limit) → inner ≡ all → IsMade inner → ForSome lower (λ s. IsTrue (is_given s))
-    → ForSome upper (λ s. IsTrue (is_given s)) → bounds_refusals all column lower upper ≡ [] → IsMade (with_sides inner column lower upper)
+    → ForSome upper (λ s. IsTrue (is_given s)) → bounds_refusals all column lower upper ≡ [] → IsMade (adding_all inner (bounds_declared column lower upper))
 made_sides {inner} {all} column lower upper seen made l u none =
-    subst IsMade (sides-added inner column lower upper)
-    (made-bounds inner column lower upper made (given lower l) (given upper u) (ap (λ (before : Draft). bounds_refusals before column lower upper) seen ∙ none))
+    made-bounds inner column lower upper made (given lower l) (given upper u) (ap (λ (before : Draft). bounds_refusals before column lower upper) seen ∙ none)
+
+-- ---- coefficients
+
+-- what holds of each key holds of one that is there
+keyed_so : (p : CoefficientKey → Bool) (key : CoefficientKey) (es : List (CoefficientKey × Number)) → list_all (λ e. p e.0) es ≡ true → is_some (find key_cmp key es) ≡ true → p key ≡ true
+keyed_so p key [] all h = cc
+keyed_so p key (e ∷ es) all h =
+    elim (eq_by_cmp key_cmp key e.0) as (λ b. eq_by_cmp key_cmp key e.0 ≡ b → is_some (cond b (Some e.1) (find key_cmp key es)) ≡ true → p key ≡ true) [
+      | true ↦ λ same _. ap p (same_key key e.0 (equal_from (key_cmp key e.0) same)) ∙ first_so (p e.0) (list_all (λ (e : CoefficientKey × Number). p e.0) es) all
+      | false ↦ λ _ there. keyed_so p key es (second_so (p e.0) (list_all (λ (e : CoefficientKey × Number). p e.0) es) all) there
+    ] refl h
+
+-- a coefficient that is declared is of a row, or the objective, and a column that are declared
+pub coefficients_known : (all : Draft) → IsMade all → CoefficientsAreKnown all
+coefficients_known all made key there =
+    keyed_so (λ key. has_row all key.row && has_column all key.column) key all.coefficients
+    (imp_all _ (λ e. has_row all e.0.row && has_column all e.0.column) all.coefficients (λ e h. second_so (is_decimal e.1) _ h) (good-from_made all made).coefficients) there

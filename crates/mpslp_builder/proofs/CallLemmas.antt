@@ -43,6 +43,10 @@ pub same_numbered : (t u : Tables) → IsSameTables t u → IsNumbered t → IsN
 same_numbered t u h =
     numbered_as (u.objective, u.rows.entries, u.columns.entries) (t.objective, t.rows.entries, t.columns.entries) (λ i. (h.objective i, h.rows i, h.columns i))
 
+pub objective_absent : (o : Option ObjectiveParts) → is_some (objective_name o) ≡ false → o ≡ None
+objective_absent None h = refl
+objective_absent (Some parts) h = cc
+
 module _ (sense : Option Sense) (constant : Option Number) (t u : Tables) where
   -- ---- a row
 

@@ -1,5 +1,5 @@
 -- What tables tell by numbers, and what a call leaves of them.
-use Rattle.std.specs.Prelude.{◌≡◌, ℕ, zero, suc, Bool, true, false, List, [], ◌∷◌, ◌++◌, Option, None, Some, slice_get, Result, Ok, Err}
+use Rattle.std.specs.Prelude.{◌≡◌, ℕ, zero, suc, Bool, true, false, ◌&&◌, List, [], ◌∷◌, ◌++◌, Option, None, Some, slice_get, Result, Ok, Err}
 use Rattle.std.specs.Option.{option_map, option_map_or}
 use Rattle.std.specs.Global.{Vec}
 use Rattle.std.specs.Ordering.{nat_cmp}
@@ -9,7 +9,9 @@ use Rattle.mpslp_decimal.specs.Decimal.{Number}
 use Rattle.mpslp_types.specs.declared.kinds.Limit.{Limit}
 use Rattle.mpslp_types.specs.declared.faults.BuildFault.{BuildFault}
 use Rattle.mpslp_core.specs.Numbered.{IsOnce, each_part}
+use Rattle.mpslp_core.specs.Model.{CoefficientKey}
 use Rattle.mpslp_builder.specs.Answer.{Answer}
+use Rattle.mpslp_builder.specs.Declaration.{Draft, has_row, has_column, has_entry}
 use Rattle.mpslp_builder.specs.Tables.{bytes, form_of, cells_of, objective_name, number_name, cells_by_name}
 use Rattle.mpslp_builder.specs.declared.tables.ObjectiveParts.{ObjectiveParts}
 use Rattle.mpslp_builder.specs.declared.tables.RowParts.{RowParts}
@@ -140,3 +142,7 @@ with_sides lower upper column = record column { lower = put_side lower column.lo
 
 abbrev pub with_cell : ℕ → Number → ColumnParts → ColumnParts
 with_cell row value column = record column { cells = put nat_cmp row value column.cells }
+
+-- each coefficient is of a row, or the objective, and a column that are declared
+abbrev pub CoefficientsAreKnown : Draft → Type 0
+CoefficientsAreKnown all = (key : CoefficientKey) → has_entry all key ≡ true → (has_row all key.row && has_column all key.column) ≡ true

@@ -1,67 +1,19 @@
 //! A builder, to which the parts of a model are declared in any order.
 
-ghost use Rattle.std.specs.Prelude.{◌≡◌, IsTrue, IfOk};
-ghost use Rattle.std.specs.Option.{ForSome, option_map};
-ghost use Rattle.mpslp_types.specs.Name.{IsMpsName};
-ghost use Rattle.mpslp_builder.specs.Declaration.{empty_draft, adding, adding_all, declare_sense, declare_objective, declare_row, by_type, declare_range, declare_column, declare_coefficient, declare_rhs, declare_marked, declare_integer, declare_semi, rhs_declared, bounds_declared, is_free_form, is_limits_form};
-ghost use Rattle.mpslp_builder.specs.Refusal.{refusals, bounds_refusals};
+ghost use Rattle.std.specs.Prelude.{◌≡◌, IsTrue};
+ghost use Rattle.std.specs.Option.{ForSome};
 ghost use Rattle.mpslp_types.specs.Sides.{is_given};
+ghost use Rattle.mpslp_builder.specs.Declaration.{empty_draft, adding, adding_all, declare_sense, declare_objective, declare_row, by_type, declare_rhs, declare_range, declare_column, declare_coefficient, declare_marked, declare_integer, declare_semi, rhs_declared, bounds_declared};
+ghost use Rattle.mpslp_builder.specs.Refusal.{refusals, bounds_refusals};
 ghost use Rattle.mpslp_builder.specs.Answer.{Answers, IsNotOutOfMemory};
 
-use crate::keys::OwnedKey;
+use crate::forms::StoredForm;
+use crate::tables::Tables;
 use mpslp_decimal::Decimal;
 use mpslp_decimal::laws::each_value_is_a_decimal;
-use mpslp_maps::{SortedMap, put_both};
 use mpslp_types::{BuildFault, Limit, Name, RowType, Sense};
-use std::alloc::{AllocError, Global};
+use std::alloc::Global;
 use std::marker::Model;
-
-/// How a row was declared. Contracts see it as a `RowForm`.
-#[derive(Debug, Drop)]
-pub(crate) struct Form {
-    pub(crate) kind: FormKind,
-}
-
-/// What a row is declared by.
-#[derive(Clone, Copy, Debug)]
-pub(crate) enum FormKind {
-    /// Its type.
-    ByType(RowType),
-    /// Its lower and its upper limit.
-    ByLimits(Limit, Limit),
-}
-
-impl Model for Form {
-    ghost use Rattle.mpslp_builder.specs.Declaration.{RowForm};
-
-    ghost Value = { RowForm };
-
-    ghost use Rattle.mpslp_builder.specs.BuilderDraft.{row_form};
-
-    ghost view = { λ f. row_form f.kind };
-}
-
-impl Form {
-    /// Whether the row is of type N.
-    pub(crate) fn is_free(&self) -> bool
-        ensures { result ≡ is_free_form self.now }
-    {
-        match self.kind {
-            FormKind::ByType(RowType::Free) => true,
-            _ => false,
-        }
-    }
-
-    /// Whether the row is declared by its limits.
-    pub(crate) fn has_limits(&self) -> bool
-        ensures { result ≡ is_limits_form self.now }
-    {
-        match self.kind {
-            FormKind::ByType(_) => false,
-            FormKind::ByLimits(_, _) => true,
-        }
-    }
-}
 
 /// The parts of a model, declared one by one and in any order in which each row and column is there before it is
 /// named. Contracts see what has been declared.
@@ -76,19 +28,8 @@ impl Form {
 pub struct Builder {
     pub(crate) alloc: Global,
     pub(crate) sense: Option<Sense>,
-    pub(crate) objective: Option<Name>,
     pub(crate) constant: Option<Decimal>,
-    pub(crate) rows: SortedMap<Name, Form>,
-    pub(crate) rhs_values: SortedMap<Name, Decimal>,
-    pub(crate) ranges: SortedMap<Name, Decimal>,
-    pub(crate) columns: SortedMap<Name, ()>,
-    pub(crate) coefficients: SortedMap<OwnedKey, Decimal>,
-    pub(crate) lowers: SortedMap<Name, Limit>,
-    pub(crate) uppers: SortedMap<Name, Limit>,
-    pub(crate) marked: SortedMap<Name, ()>,
-    pub(crate) integers: SortedMap<Name, ()>,
-    pub(crate) binaries: SortedMap<Name, ()>,
-    pub(crate) semis: SortedMap<Name, ()>,
+    pub(crate) tables: Tables,
 }
 
 impl Model for Builder {
@@ -97,37 +38,11 @@ impl Model for Builder {
     ghost Value = { Draft };
 
     ghost use Rattle.mpslp_builder.specs.Made.{IsMade};
-    ghost use Rattle.mpslp_builder.specs.BuilderDraft.{draft};
+    ghost use Rattle.mpslp_builder.specs.Tables.{draft, IsNumbered};
 
-    ghost view = { draft };
+    ghost view = { λ b. draft b.sense b.constant b.tables };
 
-    ghost invariant = { λ b. IsMade (draft b) };
-}
-
-/// A copy of a name that is there.
-fn copied(alloc: Global, name: &[u8]) -> Result<Name, AllocError>
-    requires { IsMpsName name.now }
-    ensures { IfOk result (λ copy. copy ≡ name.now) }
-{
-    match Name::new(alloc, name) {
-        Ok(copy) => Ok(copy),
-        Err(_) => Err(AllocError),
-    }
-}
-
-/// A side that is given, with a copy of its column's name.
-fn side_entry(
-    alloc: Global,
-    column: &[u8],
-    side: Option<Limit>,
-) -> Result<Option<(Name, Limit)>, AllocError>
-    requires { IsMpsName column.now }
-    ensures { IfOk result (λ entry. entry ≡ option_map (λ limit. (column.now, limit)) side) }
-{
-    match side {
-        Some(limit) => Ok(Some((copied(alloc, column)?, limit))),
-        None => Ok(None),
-    }
+    ghost invariant = { λ b. IsMade (draft b.sense b.constant b.tables) × IsNumbered b.tables };
 }
 
 impl Builder {
@@ -138,19 +53,8 @@ impl Builder {
         Builder {
             alloc,
             sense: None,
-            objective: None,
             constant: None,
-            rows: SortedMap::new(alloc),
-            rhs_values: SortedMap::new(alloc),
-            ranges: SortedMap::new(alloc),
-            columns: SortedMap::new(alloc),
-            coefficients: SortedMap::new(alloc),
-            lowers: SortedMap::new(alloc),
-            uppers: SortedMap::new(alloc),
-            marked: SortedMap::new(alloc),
-            integers: SortedMap::new(alloc),
-            binaries: SortedMap::new(alloc),
-            semis: SortedMap::new(alloc),
+            tables: Tables::new(alloc),
         }
     }
 
@@ -178,7 +82,7 @@ impl Builder {
         ensures memory { IsNotOutOfMemory result }
     {
         self.check_objective(name.as_bytes())?;
-        self.objective = Some(name);
+        self.tables.name_objective(name);
         Ok(())
     }
 
@@ -191,8 +95,11 @@ impl Builder {
         ensures { Answers (refusals self.old (declare_row name (by_type row_type))) result (self.new ≡ adding self.old (declare_row name (by_type row_type))) (self.new ≡ self.old) }
     {
         self.check_row(name.as_bytes())?;
-        let kind = FormKind::ByType(row_type);
-        self.rows.put(name, Form { kind })?;
+        if !self.tables.has_room() {
+            return Err(BuildFault::OutOfMemory);
+        }
+        self.tables
+            .add_row(name.into_bytes(), StoredForm::of_type(row_type))?;
         Ok(())
     }
 
@@ -205,13 +112,12 @@ impl Builder {
     pub fn rhs(&mut self, row: &[u8], value: Decimal) -> Result<(), BuildFault>
         ensures { Answers (refusals self.old (declare_rhs row.now value)) result (self.new ≡ adding_all self.old (rhs_declared self.old row.now value)) (self.new ≡ self.old) }
     {
-        self.check_rhs(row)?;
-        if self.is_free_row(row) {
+        let place = self.tables.rhs_place(row, &self.constant)?;
+        if self.tables.is_free(place) {
             return Ok(());
         }
-        let name = copied(self.alloc, row)?;
         each_value_is_a_decimal(value);
-        self.rhs_values.put(name, value)?;
+        self.tables.put_rhs(place, value);
         Ok(())
     }
 
@@ -225,10 +131,9 @@ impl Builder {
     pub fn range(&mut self, row: &[u8], value: Decimal) -> Result<(), BuildFault>
         ensures { Answers (refusals self.old (declare_range row.now value)) result (self.new ≡ adding self.old (declare_range row.now value)) (self.new ≡ self.old) }
     {
-        self.check_range(row, value)?;
-        let name = copied(self.alloc, row)?;
+        let index = self.tables.range_index(row, value)?;
         each_value_is_a_decimal(value);
-        self.ranges.put(name, value)?;
+        self.tables.put_range(index, value);
         Ok(())
     }
 
@@ -243,7 +148,7 @@ impl Builder {
         if self.has_column(name.as_bytes()) {
             return Ok(());
         }
-        self.columns.put(name, ())?;
+        self.tables.add_column(self.alloc, name.into_bytes())?;
         Ok(())
     }
 
@@ -261,12 +166,9 @@ impl Builder {
     ) -> Result<(), BuildFault>
         ensures { let declared = declare_coefficient (record { row = row.now; column = column.now }) value in Answers (refusals self.old declared) result (self.new ≡ adding self.old declared) (self.new ≡ self.old) }
     {
-        self.check_coefficient(row, column)?;
-        let row_name = copied(self.alloc, row)?;
-        let column_name = copied(self.alloc, column)?;
+        let place = self.tables.cell_place(row, column)?;
         each_value_is_a_decimal(value);
-        self.coefficients
-            .put(OwnedKey::new(row_name, column_name), value)?;
+        self.tables.put_cell(place.column, place.row, value)?;
         Ok(())
     }
 
@@ -288,10 +190,8 @@ impl Builder {
         requires upper { ForSome upper (λ side. IsTrue (is_given side)) }
         ensures { Answers (bounds_refusals self.old column.now lower upper) result (self.new ≡ adding_all self.old (bounds_declared column.now lower upper)) (self.new ≡ self.old) }
     {
-        self.check_bounds(column, &lower, &upper)?;
-        let lower = side_entry(self.alloc, column, lower)?;
-        let upper = side_entry(self.alloc, column, upper)?;
-        put_both(&mut self.lowers, lower, &mut self.uppers, upper)?;
+        let number = self.tables.sides_column(column, &lower, &upper)?;
+        self.tables.put_sides(number, lower, upper);
         Ok(())
     }
 
@@ -304,12 +204,8 @@ impl Builder {
     pub fn marked(&mut self, column: &[u8]) -> Result<(), BuildFault>
         ensures { Answers (refusals self.old (declare_marked column.now)) result (self.new ≡ adding self.old (declare_marked column.now)) (self.new ≡ self.old) }
     {
-        self.check_marked(column)?;
-        if self.marked.has(&column) {
-            return Ok(());
-        }
-        let name = copied(self.alloc, column)?;
-        self.marked.put(name, ())?;
+        let number = self.tables.integer_column(column)?;
+        self.tables.put_mark(number);
         Ok(())
     }
 
@@ -321,12 +217,8 @@ impl Builder {
     pub fn integer(&mut self, column: &[u8]) -> Result<(), BuildFault>
         ensures { Answers (refusals self.old (declare_integer column.now)) result (self.new ≡ adding self.old (declare_integer column.now)) (self.new ≡ self.old) }
     {
-        self.check_integer(column)?;
-        if self.integers.has(&column) {
-            return Ok(());
-        }
-        let name = copied(self.alloc, column)?;
-        self.integers.put(name, ())?;
+        let number = self.tables.integer_column(column)?;
+        self.tables.put_integer(number);
         Ok(())
     }
 
@@ -340,12 +232,8 @@ impl Builder {
     pub fn semi(&mut self, column: &[u8]) -> Result<(), BuildFault>
         ensures { Answers (refusals self.old (declare_semi column.now)) result (self.new ≡ adding self.old (declare_semi column.now)) (self.new ≡ self.old) }
     {
-        self.check_semi(column)?;
-        if self.semis.has(&column) {
-            return Ok(());
-        }
-        let name = copied(self.alloc, column)?;
-        self.semis.put(name, ())?;
+        let number = self.tables.semi_column(column)?;
+        self.tables.put_semi(number);
         Ok(())
     }
 }

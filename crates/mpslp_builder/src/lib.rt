@@ -1,6 +1,9 @@
 //! A builder of models: what is declared, by names, and when that is refused.
 #![tactic(auto)]
 
+mod builder;
 mod forms;
 mod refusals;
 mod tables;
+
+pub use builder::Builder;

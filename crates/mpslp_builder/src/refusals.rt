@@ -5,17 +5,32 @@
 
 ghost use Rattle.std.specs.Prelude.{◌≡◌, ◌&&◌, ◌||◌, IfOk, Some, None, false, suc, is_some};
 ghost use Rattle.std.specs.Option.{option_map_or};
+ghost use Rattle.std.specs.Ordering.{nat_cmp};
+ghost use Rattle.std.specs.FinMap.{find};
 ghost use Rattle.mpslp_types.specs.Sides.{is_plus_infinite, is_minus_infinite};
 ghost use Rattle.mpslp_core.specs.Lists.{those_of};
-ghost use Rattle.mpslp_builder.specs.Declaration.{declare_range, is_limits_form};
-ghost use Rattle.mpslp_builder.specs.Refusal.{rhs_tests, integer_tests, semi_tests, coefficient_tests, refusals, bounds_refusals};
+ghost use Rattle.mpslp_builder.specs.Declaration.{declare_objective, declare_range, declare_marked, declare_integer, declare_semi, has_row, has_column, has_entry, is_free_row, is_limits_form};
+ghost use Rattle.mpslp_builder.specs.Refusal.{sense_tests, row_tests, rhs_tests, integer_tests, semi_tests, coefficient_tests, refusals, bounds_refusals};
 ghost use Rattle.mpslp_builder.specs.Answer.{first_refusal};
 ghost use Rattle.mpslp_builder.specs.Tables.{draft, IsNumbered};
-ghost use Rattle.mpslp_builder.specs.Calls.{number_of, row_name, column_name, row_tells, column_tells, answer_of};
+ghost use Rattle.mpslp_builder.specs.Calls.{CoefficientsAreKnown, number_of, row_name, column_name, row_tells, column_tells, cells_at, answer_of, IsOnceEach};
 
+use crate::builder::Builder;
 use crate::tables::{RowPlace, Tables};
 use mpslp_decimal::Decimal;
 use mpslp_types::{BuildFault, Limit};
+
+/// Answers the first fault whose test holds, if there is one.
+fn refuse(tests: &[(bool, BuildFault)]) -> Result<(), BuildFault>
+    ensures { result ≡ first_refusal (those_of tests.now) }
+{
+    for (holds, fault) in tests {
+        if *holds {
+            return Err(*fault);
+        }
+    }
+    Ok(())
+}
 
 /// Whether the lower side is plus infinity, or the upper one minus infinity.
 fn have_infinite_side(lower: &Option<Limit>, upper: &Option<Limit>) -> bool
@@ -29,6 +44,7 @@ fn have_infinite_side(lower: &Option<Limit>, upper: &Option<Limit>) -> bool
 }
 
 /// Where a coefficient stands, by numbers.
+#[derive(Clone, Copy)]
 pub(crate) struct CellPlace {
     pub(crate) row: u32,
     pub(crate) column: usize,
@@ -44,6 +60,7 @@ impl Tables {
         requires { IsNumbered self.now }
         ensures place { IfOk result (λ place. row_name self.now (number_of place) ≡ Some row.now) }
         ensures absent { IfOk result (λ place. row_tells self.now place (λ objective. is_some objective.rhs || is_some constant.now) (λ row. is_some row.rhs || is_limits_form row.form) ≡ false) }
+        ensures once { IsOnceEach self.now }
         ensures answer { answer_of result ≡ first_refusal (those_of (rhs_tests (draft None constant.now self.now) row.now)) }
     {
         self.each_name_stands_once();
@@ -60,6 +77,7 @@ impl Tables {
     pub(crate) fn range_index(&self, row: &[u8], value: Decimal) -> Result<usize, BuildFault>
         requires { IsNumbered self.now }
         ensures place { IfOk result (λ i. row_name self.now (suc i) ≡ Some row.now) }
+        ensures once { IsOnceEach self.now }
         ensures answer { answer_of result ≡ first_refusal (refusals (draft None None self.now) (declare_range row.now value)) }
     {
         self.each_name_stands_once();
@@ -81,11 +99,29 @@ impl Tables {
         Ok(index)
     }
 
+    /// Whether a coefficient of this row, or of the objective, is declared in this column.
+    fn has_coefficient(&self, row: &[u8], column: &[u8]) -> bool
+        requires numbered { IsNumbered self.now }
+        requires known { CoefficientsAreKnown (draft None None self.now) }
+        ensures { result ≡ has_entry (draft None None self.now) (record { row = row.now; column = column.now }) }
+    {
+        self.each_name_stands_once();
+        let Some(place) = self.row_place(row) else {
+            return false;
+        };
+        let Some(number) = self.column_number(column) else {
+            return false;
+        };
+        self.has_cell(number, place.number())
+    }
+
     /// Where this coefficient may be put.
     pub(crate) fn cell_place(&self, row: &[u8], column: &[u8]) -> Result<CellPlace, BuildFault>
         requires { IsNumbered self.now }
         ensures row { IfOk result (λ place. row_name self.now place.row ≡ Some row.now) }
         ensures column { IfOk result (λ place. column_name self.now place.column ≡ Some column.now) }
+        ensures absent { IfOk result (λ place. find nat_cmp place.row (cells_at self.now place.column) ≡ None) }
+        ensures once { IsOnceEach self.now }
         ensures answer { answer_of result ≡ first_refusal (those_of (coefficient_tests (draft None None self.now) (record { row = row.now; column = column.now }))) }
     {
         self.each_name_stands_once();
@@ -117,6 +153,7 @@ impl Tables {
         upper: &Option<Limit>,
     ) -> Result<usize, BuildFault>
         ensures number { IfOk result (λ i. column_name self.now i ≡ Some column.now) }
+        ensures once { IsOnceEach self.now }
         ensures answer { answer_of result ≡ first_refusal (bounds_refusals (draft None None self.now) column.now lower.now upper.now) }
     {
         self.each_name_stands_once();
@@ -135,6 +172,7 @@ impl Tables {
     /// The number of the column that may be declared to be marked or integer.
     pub(crate) fn integer_column(&self, column: &[u8]) -> Result<usize, BuildFault>
         ensures number { IfOk result (λ i. column_name self.now i ≡ Some column.now) }
+        ensures once { IsOnceEach self.now }
         ensures answer { answer_of result ≡ first_refusal (those_of (integer_tests (draft None None self.now) column.now)) }
     {
         self.each_name_stands_once();
@@ -150,6 +188,7 @@ impl Tables {
     /// The number of the column that may be declared to be semi-continuous.
     pub(crate) fn semi_column(&self, column: &[u8]) -> Result<usize, BuildFault>
         ensures number { IfOk result (λ i. column_name self.now i ≡ Some column.now) }
+        ensures once { IsOnceEach self.now }
         ensures answer { answer_of result ≡ first_refusal (those_of (semi_tests (draft None None self.now) column.now)) }
     {
         self.each_name_stands_once();
@@ -160,5 +199,167 @@ impl Tables {
             return Err(BuildFault::SemiContinuous);
         }
         Ok(number)
+    }
+}
+
+impl Builder {
+    /// Whether the objective has its name.
+    pub fn has_objective(&self) -> bool
+        ensures { result ≡ is_some self.now.objective }
+    {
+        self.tables.has_objective()
+    }
+
+    /// Whether a row of this name is declared; the objective counts.
+    pub fn has_row(&self, name: &[u8]) -> bool
+        ensures { result ≡ has_row self.now name.now }
+    {
+        self.tables.has_row(name)
+    }
+
+    /// Whether a column of this name is declared.
+    pub fn has_column(&self, name: &[u8]) -> bool
+        ensures { result ≡ has_column self.now name.now }
+    {
+        self.tables.has_column(name)
+    }
+
+    /// Whether a row of this name is declared by type N. The objective is not.
+    pub fn is_free_row(&self, name: &[u8]) -> bool
+        ensures { result ≡ is_free_row self.now name.now }
+    {
+        self.tables.is_free_row(name)
+    }
+
+    /// Whether a coefficient of this row, or of the objective, is declared in this column.
+    pub fn has_coefficient(&self, row: &[u8], column: &[u8]) -> bool
+        ensures { result ≡ has_entry self.now (record { row = row.now; column = column.now }) }
+    {
+        self.tables.has_coefficient(row, column)
+    }
+
+    /// The refusal that [`sense`](Self::sense) would have now.
+    ///
+    /// # Errors
+    ///
+    /// `DuplicateSense`. No question here takes memory or answers `OutOfMemory`.
+    pub fn check_sense(&self) -> Result<(), BuildFault>
+        ensures { result ≡ first_refusal (those_of (sense_tests self.now)) }
+    {
+        refuse(&[(self.sense.is_some(), BuildFault::DuplicateSense)])
+    }
+
+    /// The refusal that [`objective`](Self::objective) would have now.
+    ///
+    /// # Errors
+    ///
+    /// `SecondObjective`, `DuplicateRow`, as of the call.
+    pub fn check_objective(&self, name: &[u8]) -> Result<(), BuildFault>
+        ensures { result ≡ first_refusal (refusals self.now (declare_objective name.now)) }
+    {
+        refuse(&[
+            (self.has_objective(), BuildFault::SecondObjective),
+            (self.has_row(name), BuildFault::DuplicateRow),
+        ])
+    }
+
+    /// The refusal that [`row`](Self::row) would have now, of whatever type the row is.
+    ///
+    /// # Errors
+    ///
+    /// `DuplicateRow`, as of the call.
+    pub fn check_row(&self, name: &[u8]) -> Result<(), BuildFault>
+        ensures { result ≡ first_refusal (those_of (row_tests self.now name.now)) }
+    {
+        refuse(&[(self.has_row(name), BuildFault::DuplicateRow)])
+    }
+
+    /// The refusal that [`rhs`](Self::rhs) would have now, of whatever value.
+    ///
+    /// # Errors
+    ///
+    /// `UnknownRow`, `DuplicateRhs`, as of the call.
+    pub fn check_rhs(&self, row: &[u8]) -> Result<(), BuildFault>
+        ensures { result ≡ first_refusal (those_of (rhs_tests self.now row.now)) }
+    {
+        self.tables.rhs_place(row, &self.constant)?;
+        Ok(())
+    }
+
+    /// The refusal that [`range`](Self::range) would have now.
+    ///
+    /// # Errors
+    ///
+    /// `UnknownRow`, `DuplicateRange`, `RangeOnFree`, `InfiniteValue`, as of the call.
+    pub fn check_range(&self, row: &[u8], value: Decimal) -> Result<(), BuildFault>
+        ensures { result ≡ first_refusal (refusals self.now (declare_range row.now value)) }
+    {
+        self.tables.range_index(row, value)?;
+        Ok(())
+    }
+
+    /// The refusal that [`coefficient`](Self::coefficient) would have now, of whatever value.
+    ///
+    /// # Errors
+    ///
+    /// `UnknownRow`, `UnknownColumn`, `DuplicateEntry`, as of the call.
+    pub fn check_coefficient(&self, row: &[u8], column: &[u8]) -> Result<(), BuildFault>
+        ensures { result ≡ first_refusal (those_of (coefficient_tests self.now (record { row = row.now; column = column.now }))) }
+    {
+        self.tables.cell_place(row, column)?;
+        Ok(())
+    }
+
+    /// The refusal that [`bounds`](Self::bounds) would have now.
+    ///
+    /// # Errors
+    ///
+    /// `UnknownColumn`, `DuplicateBound`, `InfiniteValue`, as of the call.
+    pub fn check_bounds(
+        &self,
+        column: &[u8],
+        lower: &Option<Limit>,
+        upper: &Option<Limit>,
+    ) -> Result<(), BuildFault>
+        ensures { result ≡ first_refusal (bounds_refusals self.now column.now lower.now upper.now) }
+    {
+        self.tables.sides_column(column, lower, upper)?;
+        Ok(())
+    }
+
+    /// The refusal that [`marked`](Self::marked) would have now.
+    ///
+    /// # Errors
+    ///
+    /// `UnknownColumn`, `SemiContinuous`, as of the call.
+    pub fn check_marked(&self, column: &[u8]) -> Result<(), BuildFault>
+        ensures { result ≡ first_refusal (refusals self.now (declare_marked column.now)) }
+    {
+        self.tables.integer_column(column)?;
+        Ok(())
+    }
+
+    /// The refusal that [`integer`](Self::integer) would have now.
+    ///
+    /// # Errors
+    ///
+    /// `UnknownColumn`, `SemiContinuous`, as of the call.
+    pub fn check_integer(&self, column: &[u8]) -> Result<(), BuildFault>
+        ensures { result ≡ first_refusal (refusals self.now (declare_integer column.now)) }
+    {
+        self.tables.integer_column(column)?;
+        Ok(())
+    }
+
+    /// The refusal that [`semi`](Self::semi) would have now.
+    ///
+    /// # Errors
+    ///
+    /// `UnknownColumn`, `SemiContinuous`, as of the call.
+    pub fn check_semi(&self, column: &[u8]) -> Result<(), BuildFault>
+        ensures { result ≡ first_refusal (refusals self.now (declare_semi column.now)) }
+    {
+        self.tables.semi_column(column)?;
+        Ok(())
     }
 }

@@ -1,6 +1,6 @@
 //! Rows and columns by numbers, in the order in which they were declared, with the coefficients of each column.
 
-ghost use Rattle.std.specs.Prelude.{◌≡◌, ◌<◌, ◌||◌, IsTrue, IfSome, OnOk, OnErr, Some, None, true, false, is_some};
+ghost use Rattle.std.specs.Prelude.{◌≡◌, ◌<◌, ◌||◌, IsTrue, IfSome, OnOk, OnErr, Some, None, true, false, suc, is_some};
 ghost use Rattle.std.specs.Option.{option_map_or};
 ghost use Rattle.std.specs.Ordering.{nat_cmp};
 ghost use Rattle.std.specs.FinMap.{find};
@@ -366,7 +366,7 @@ impl Tables {
         row: u32,
         value: Decimal,
     ) -> Result<(), AllocError>
-        requires column { column < index_map_len self.old.columns }
+        requires column { is_some (column_name self.old column) ≡ true }
         requires absent { find nat_cmp row (cells_at self.old column) ≡ None }
         ensures ok { OnOk result (HasColumnChanged self.old column (with_cell row value) self.new) }
         ensures err { OnErr result (IsSameTables self.old self.new) }
@@ -378,7 +378,7 @@ impl Tables {
 
     /// Puts the right side of the row of an index.
     fn put_row_rhs(&mut self, index: usize, value: Decimal)
-        requires { index < index_map_len self.old.rows }
+        requires { is_some (row_name self.old (suc index)) ≡ true }
         ensures { HasRowChanged self.old index (λ row. record row { rhs = Some value }) self.new }
     {
         let (_key, row) = self.rows.pair_mut(index);
@@ -408,7 +408,7 @@ impl Tables {
 
     /// Puts the range of the row of an index.
     pub(crate) fn put_range(&mut self, index: usize, value: Decimal)
-        requires { index < index_map_len self.old.rows }
+        requires { is_some (row_name self.old (suc index)) ≡ true }
         ensures { HasRowChanged self.old index (λ row. record row { range = Some value }) self.new }
     {
         let (_key, row) = self.rows.pair_mut(index);
@@ -417,7 +417,7 @@ impl Tables {
 
     /// Marks a column.
     pub(crate) fn put_mark(&mut self, column: usize)
-        requires { column < index_map_len self.old.columns }
+        requires { is_some (column_name self.old column) ≡ true }
         ensures { HasColumnChanged self.old column (λ parts. record parts { marked = true }) self.new }
     {
         self.recent = column;
@@ -427,7 +427,7 @@ impl Tables {
 
     /// Makes a column integer.
     pub(crate) fn put_integer(&mut self, column: usize)
-        requires { column < index_map_len self.old.columns }
+        requires { is_some (column_name self.old column) ≡ true }
         ensures { HasColumnChanged self.old column (λ parts. record parts { integer = true }) self.new }
     {
         self.recent = column;
@@ -437,7 +437,7 @@ impl Tables {
 
     /// Makes a column semi-continuous.
     pub(crate) fn put_semi(&mut self, column: usize)
-        requires { column < index_map_len self.old.columns }
+        requires { is_some (column_name self.old column) ≡ true }
         ensures { HasColumnChanged self.old column (λ parts. record parts { semi = true }) self.new }
     {
         self.recent = column;
@@ -447,7 +447,7 @@ impl Tables {
 
     /// Puts the sides of a column that are given.
     pub(crate) fn put_sides(&mut self, column: usize, lower: Option<Limit>, upper: Option<Limit>)
-        requires { column < index_map_len self.old.columns }
+        requires { is_some (column_name self.old column) ≡ true }
         ensures { HasColumnChanged self.old column (with_sides lower upper) self.new }
     {
         self.recent = column;

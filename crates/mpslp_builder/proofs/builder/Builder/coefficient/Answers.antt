@@ -1,42 +1,55 @@
-use Rattle.std.proofs.Common.{◌≡◌, sym, ap, subst, ◌∙◌, List, [], ◌∷◌, not, Bool}
-use Rattle.std.specs.FinMap.{put}
-use Rattle.mpslp_decimal.specs.Decimal.{Number}
-use Rattle.mpslp_core.specs.Model.{CoefficientKey, key_cmp}
-use Rattle.mpslp_builder.specs.Declaration.{declare_coefficient, has_row, has_column, has_entry}
+use Rattle.std.proofs.Common.{◌≡◌, refl, ap, ◌∙◌, false}
+use Rattle.std.specs.Prelude.{is_some}
+use Rattle.mpslp_core.proofs.CellLemmas.{at}
+use Rattle.mpslp_builder.specs.Answer.{first_refusal}
+use Rattle.mpslp_builder.specs.Declaration.{Draft, declare_coefficient, has_entry}
 use Rattle.mpslp_builder.specs.Refusal.{refusals}
-use Rattle.mpslp_builder.specs.Made.{IsMade}
-use Rattle.mpslp_builder.specs.BuilderDraft.{draft}
-use Rattle.mpslp_types.specs.declared.faults.BuildFault.{BuildFault}
-use Rattle.mpslp_types.specs.declared.faults.BuildFault.TheVariants.{UnknownRow, UnknownColumn, DuplicateEntry}
-use Rattle.mpslp_builder.proofs.AnswerLemmas.{none_refused, made_next, made_now, known_row, known_column, row_is_legal, column_is_legal}
-use Rattle.mpslp_builder.proofs.RefusalLemmas.{rest_none}
+use Rattle.mpslp_builder.specs.Tables.{draft}
+use Rattle.mpslp_builder.proofs.AnswerLemmas.{none_refused, made_after, answered, handed_on, want_of_memory}
+use Rattle.mpslp_builder.proofs.CallLemmas.{same_tables, cell_added, cell_added_numbered}
+use Rattle.mpslp_builder.proofs.ReadingLemmas.{stands, cell_at}
 use Rattle.mpslp_builder.proofs.builder.Builder.coefficient.Goals as goal
 
-pub copied-requires : goal.copied-requires
-copied-requires c =
-    let all = c.args.self.now in
-    let d = declare_coefficient (record { row = c.args.row.now; column = c.args.column.now }) c.args.value in
-    let none = none_refused (refusals all d) c.in_ok-check_coefficient.ensures in
-    let last : List (Bool × BuildFault) = (has_entry all (record { row = c.args.row.now; column = c.args.column.now }), DuplicateEntry) ∷ [] in
-    let more : List (Bool × BuildFault) = (not (has_column all c.args.column.now), UnknownColumn) ∷ last in
-    row_is_legal all c.args.row.now (made_now c.self.view_is c.self.invariant) (known_row all c.args.row.now more none)
+pub returns-in_err-place : goal.returns-in_err-place
+returns-in_err-place c =
+    let d = declare_coefficient (at c.args.row.now c.args.column.now) c.args.value in
+    let refused = c.in_err-place.ensures.answer ∙ ap (λ (all : Draft). first_refusal (refusals all d)) c.self.view_is in
+    handed_on (refusals c.args.self.now d) c.from_residual.result c.in_err-place.field-0.0 _ _ c.from_residual.ensures.1 refused refl
 
-pub copied-requires-2 : goal.copied-requires-2
-copied-requires-2 c =
-    let all = c.args.self.now in
-    let d = declare_coefficient (record { row = c.args.row.now; column = c.args.column.now }) c.args.value in
-    let none = none_refused (refusals all d) c.in_ok-check_coefficient.ensures in
-    let last : List (Bool × BuildFault) = (has_entry all (record { row = c.args.row.now; column = c.args.column.now }), DuplicateEntry) ∷ [] in
-    let more : List (Bool × BuildFault) = (not (has_column all c.args.column.now), UnknownColumn) ∷ last in
-    column_is_legal all c.args.column.now (made_now c.self.view_is c.self.invariant)
-    (known_column all c.args.column.now last (rest_none (not (has_row all c.args.row.now)) UnknownRow more none))
+pub returns-in_err-put_cell : goal.returns-in_err-put_cell
+returns-in_err-put_cell c =
+    let b = c.self.inside in
+    let d = declare_coefficient (at c.args.row.now c.args.column.now) c.args.value in
+    let none = none_refused (refusals c.args.self.now d) (c.in_ok-place.ensures.answer ∙ ap (λ (all : Draft). first_refusal (refusals all d)) c.self.view_is) in
+    want_of_memory (refusals c.args.self.now d) c.from_residual-in_err-put_cell.result _ _ c.from_residual-in_err-put_cell.ensures.1 none
+    (same_tables b.sense b.constant b.tables c.put_cell.new.self c.in_err-put_cell.ensures.err ∙ c.self.view_is)
 
 pub invariant_of-self-2 : goal.invariant_of-self-2
 invariant_of-self-2 c =
-    let d = declare_coefficient (record { row = c.args.row.now; column = c.args.column.now }) c.args.value in
-    let none = none_refused (refusals c.args.self.now d) c.in_ok-check_coefficient.ensures in
-    let key : ◌≡◌ {A = CoefficientKey} c.new.result (record { row = c.args.row.now; column = c.args.column.now }) =
-    c.new.ensures ∙ (λ i. record { row = c.in_ok-row_name.ensures i; column = c.in_ok-column_name.ensures i }) in
-    subst (λ (coefficients : List (CoefficientKey × Number)). IsMade (record (draft c.self.inside) { coefficients = coefficients }))
-    (sym (c.in_ok-put.ensures.ok ∙ ap (λ (p : CoefficientKey). put key_cmp p c.args.value c.self.inside.coefficients) key))
-    (made_next d c.self.view_is c.self.invariant c.each_value_is_a_decimal.ensures none)
+    let b = c.self.inside in
+    let place = c.in_ok-place.ensures in
+    let at_row = c.in_ok-place.place.row in
+    let at_column = c.in_ok-place.place.column in
+    let d = declare_coefficient (at c.args.row.now c.args.column.now) c.args.value in
+    let none = none_refused (refusals (draft b.sense b.constant b.tables) d) place.answer in
+    let s = stands b.tables.columns.entries at_column c.args.column.now place.column in
+    let absent : has_entry (draft b.sense b.constant b.tables) (at c.args.row.now c.args.column.now) ≡ false =
+    cell_at b.sense b.constant b.tables place.once at_column c.args.column.now s at_row c.args.row.now c.self.invariant.1 place.row ∙ ap is_some place.absent in
+    let after = cell_added b.sense b.constant b.tables c.put_cell.new.self place.once at_column c.args.column.now place.column c.self.invariant.1 at_row c.args.row.now place.row c.args.value c.in_ok-put_cell.ensures.ok absent in (
+      made_after d after c.self.invariant.0 c.each_value_is_a_decimal.ensures none,
+      cell_added_numbered b.sense b.constant b.tables c.put_cell.new.self place.once at_column c.args.column.now place.column c.self.invariant.1 at_row c.args.row.now place.row c.args.value c.in_ok-put_cell.ensures.ok,
+    )
+
+pub returns : goal.returns
+returns c =
+    let b = c.self.inside in
+    let place = c.in_ok-place.ensures in
+    let at_row = c.in_ok-place.place.row in
+    let at_column = c.in_ok-place.place.column in
+    let d = declare_coefficient (at c.args.row.now c.args.column.now) c.args.value in
+    let none = none_refused (refusals (draft b.sense b.constant b.tables) d) place.answer in
+    let s = stands b.tables.columns.entries at_column c.args.column.now place.column in
+    let absent : has_entry (draft b.sense b.constant b.tables) (at c.args.row.now c.args.column.now) ≡ false =
+    cell_at b.sense b.constant b.tables place.once at_column c.args.column.now s at_row c.args.row.now c.self.invariant.1 place.row ∙ ap is_some place.absent in
+    let after = cell_added b.sense b.constant b.tables c.put_cell.new.self place.once at_column c.args.column.now place.column c.self.invariant.1 at_row c.args.row.now place.row c.args.value c.in_ok-put_cell.ensures.ok absent in
+    answered d c.self.view_is after none

@@ -1,34 +1,25 @@
-use Rattle.std.proofs.Common.{refl, sym, ap, subst, ◌∙◌, ℕ, List, [], ◌∷◌}
-use Rattle.std.specs.FinMap.{put}
-use Rattle.mpslp_types.specs.Name.{bytes_cmp}
-use Rattle.mpslp_builder.specs.Declaration.{Draft, declare_integer, has_name, is_semi}
+use Rattle.std.proofs.Common.{refl, true}
+use Rattle.mpslp_builder.specs.Declaration.{declare_integer}
 use Rattle.mpslp_builder.specs.Refusal.{refusals}
-use Rattle.mpslp_builder.specs.Made.{IsMade}
-use Rattle.mpslp_builder.specs.BuilderDraft.{draft}
-use Rattle.mpslp_types.specs.declared.faults.BuildFault.TheVariants.{SemiContinuous}
-use Rattle.mpslp_builder.proofs.AnswerLemmas.{none_refused, made_next, made_now, declared, known_column, column_is_legal, put_again}
-use Rattle.mpslp_builder.proofs.SortedDrafts.{sorted-from_made}
+use Rattle.mpslp_builder.specs.Tables.{draft}
+use Rattle.mpslp_builder.proofs.AnswerLemmas.{none_refused, made_after, answered}
+use Rattle.mpslp_builder.proofs.CallLemmas.{integer_added, column_changed_numbered}
 use Rattle.mpslp_builder.proofs.builder.Builder.integer.Goals as goal
 
-pub returns-then-has : goal.returns-then-has
-returns-then-has c =
+pub invariant_of-self : goal.invariant_of-self
+invariant_of-self c =
+    let b = c.self.inside in
     let d = declare_integer c.args.column.now in
-    let all = c.args.self.now in
-    let there = ap (λ (d : Draft). has_name d.integers c.args.column.now) (sym c.self.view_is) ∙ sym c.has.ensures ∙ c.if-has.true in
-    declared (refusals all d) _ _ (none_refused (refusals all d) c.in_ok-check_integer.ensures)
-    (ap (λ (names : List (List ℕ × Unit {0})). record all { integers = names }) (put_again c.args.column.now all.integers (sorted-from_made all (made_now c.self.view_is c.self.invariant)).integers there))
+    let none = none_refused (refusals (draft b.sense b.constant b.tables) d) c.in_ok-number.ensures.answer in
+    let after = integer_added b.sense b.constant b.tables c.put_integer.new.self c.in_ok-number.ensures.once c.in_ok-number.number c.args.column.now c.in_ok-number.ensures.number c.put_integer.ensures in (
+      made_after d after c.self.invariant.0 refl none,
+      column_changed_numbered b.sense b.constant b.tables c.put_integer.new.self (λ parts. record parts { integer = true }) c.in_ok-number.number c.put_integer.ensures refl c.self.invariant.1,
+    )
 
-pub copied-requires : goal.copied-requires
-copied-requires c =
+pub returns : goal.returns
+returns c =
+    let b = c.self.inside in
     let d = declare_integer c.args.column.now in
-    let all = c.args.self.now in
-    let none = none_refused (refusals all d) c.in_ok-check_integer.ensures in
-    column_is_legal all c.args.column.now (made_now c.self.view_is c.self.invariant) (known_column all c.args.column.now ((is_semi all c.args.column.now, SemiContinuous) ∷ []) none)
-
-pub invariant_of-self-2 : goal.invariant_of-self-2
-invariant_of-self-2 c =
-    let d = declare_integer c.args.column.now in
-    let none = none_refused (refusals c.args.self.now d) c.in_ok-check_integer.ensures in
-    subst (λ (names : List (List ℕ × Unit {0})). IsMade (record (draft c.self.inside) { integers = names }))
-    (sym (c.in_ok-put.ensures.ok ∙ ap (λ (n : List ℕ). put bytes_cmp n tt c.self.inside.integers) c.in_ok-name.ensures))
-    (made_next d c.self.view_is c.self.invariant refl none)
+    let none = none_refused (refusals (draft b.sense b.constant b.tables) d) c.in_ok-number.ensures.answer in
+    let after = integer_added b.sense b.constant b.tables c.put_integer.new.self c.in_ok-number.ensures.once c.in_ok-number.number c.args.column.now c.in_ok-number.ensures.number c.put_integer.ensures in
+    answered d c.self.view_is after none

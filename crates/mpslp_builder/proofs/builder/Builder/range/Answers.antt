@@ -1,36 +1,33 @@
-use Rattle.std.proofs.Common.{refl, sym, ap, subst, ◌∙◌, ℕ, List, [], ◌∷◌, Bool}
-use Rattle.std.specs.Prelude.{◌||◌}
-use Rattle.std.specs.FinMap.{put}
-use Rattle.mpslp_decimal.specs.Decimal.{Number, is_infinite_size}
-use Rattle.mpslp_types.specs.Name.{bytes_cmp}
-use Rattle.mpslp_builder.specs.Declaration.{declare_range, has_name, is_objective, is_row_by_limits, is_free_row}
+use Rattle.std.proofs.Common.{refl, ap, ◌∙◌}
+use Rattle.std.specs.Prelude.{Some}
+use Rattle.mpslp_builder.specs.Declaration.{Draft, declare_range}
 use Rattle.mpslp_builder.specs.Refusal.{refusals}
-use Rattle.mpslp_builder.specs.Made.{IsMade}
-use Rattle.mpslp_builder.specs.BuilderDraft.{draft}
-use Rattle.mpslp_types.specs.declared.faults.BuildFault.{BuildFault}
-use Rattle.mpslp_types.specs.declared.faults.BuildFault.TheVariants.{DuplicateRange, RangeOnFree, InfiniteValue}
-use Rattle.mpslp_builder.proofs.AnswerLemmas.{handed_on, none_refused, made_next, made_now, known_row, row_is_legal}
+use Rattle.mpslp_builder.specs.Answer.{first_refusal}
+use Rattle.mpslp_builder.specs.Tables.{draft}
+use Rattle.mpslp_builder.proofs.AnswerLemmas.{none_refused, made_after, answered, handed_on}
+use Rattle.mpslp_builder.proofs.CallLemmas.{range_added, row_changed_numbered}
 use Rattle.mpslp_builder.proofs.builder.Builder.range.Goals as goal
 
-pub copied-requires : goal.copied-requires
-copied-requires c =
-    let all = c.args.self.now in
+pub returns-in_err-index : goal.returns-in_err-index
+returns-in_err-index c =
     let d = declare_range c.args.row.now c.args.value in
-    let none = none_refused (refusals all d) c.in_ok-check_range.ensures in
-    let row = c.args.row.now in
-    let more : List (Bool × BuildFault) =
-    (has_name all.ranges row || is_row_by_limits all row, DuplicateRange) ∷ (is_objective all row || is_free_row all row, RangeOnFree) ∷ (is_infinite_size c.args.value, InfiniteValue) ∷ [] in
-    row_is_legal all c.args.row.now (made_now c.self.view_is c.self.invariant) (known_row all c.args.row.now more none)
+    let refused = c.in_err-index.ensures.answer ∙ ap (λ (all : Draft). first_refusal (refusals all d)) c.self.view_is in
+    handed_on (refusals c.args.self.now d) c.from_residual.result c.in_err-index.field-0.0 _ _ c.from_residual.ensures.1 refused refl
 
-pub invariant_of-self-2 : goal.invariant_of-self-2
-invariant_of-self-2 c =
+pub invariant_of-self : goal.invariant_of-self
+invariant_of-self c =
+    let b = c.self.inside in
     let d = declare_range c.args.row.now c.args.value in
-    subst (λ (ranges : List (List ℕ × Number)). IsMade (record (draft c.self.inside) { ranges = ranges }))
-    (sym (c.in_ok-put.ensures.ok ∙ ap (λ (n : List ℕ). put bytes_cmp n c.args.value c.self.inside.ranges) c.in_ok-name.ensures))
-    (made_next d c.self.view_is c.self.invariant c.each_value_is_a_decimal.ensures
-    (none_refused (refusals c.args.self.now d) c.in_ok-check_range.ensures))
+    let none = none_refused (refusals (draft b.sense b.constant b.tables) d) c.in_ok-index.ensures.answer in
+    let after = range_added b.sense b.constant b.tables c.put_range.new.self c.self.invariant.1 c.in_ok-index.ensures.once c.in_ok-index.index c.args.row.now c.in_ok-index.ensures.place c.args.value c.put_range.ensures in (
+      made_after d after c.self.invariant.0 c.each_value_is_a_decimal.ensures none,
+      row_changed_numbered b.sense b.constant b.tables c.put_range.new.self (λ row. record row { range = Some c.args.value }) c.in_ok-index.index c.put_range.ensures c.self.invariant.1,
+    )
 
-pub returns-in_err-check_range : goal.returns-in_err-check_range
-returns-in_err-check_range c =
+pub returns : goal.returns
+returns c =
+    let b = c.self.inside in
     let d = declare_range c.args.row.now c.args.value in
-    handed_on (refusals c.args.self.now d) c.from_residual.result c.in_err-check_range.field-0.0 _ _ c.from_residual.ensures.1 c.in_err-check_range.ensures refl
+    let none = none_refused (refusals (draft b.sense b.constant b.tables) d) c.in_ok-index.ensures.answer in
+    let after = range_added b.sense b.constant b.tables c.put_range.new.self c.self.invariant.1 c.in_ok-index.ensures.once c.in_ok-index.index c.args.row.now c.in_ok-index.ensures.place c.args.value c.put_range.ensures in
+    answered d c.self.view_is after none

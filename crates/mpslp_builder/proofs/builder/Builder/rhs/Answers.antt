@@ -1,36 +1,51 @@
-use Rattle.std.proofs.Common.{refl, sym, ap, subst, ◌∙◌, ℕ, List, [], ◌∷◌, Bool}
-use Rattle.std.specs.Prelude.{◌||◌, ◌&&◌, is_some}
-use Rattle.std.specs.FinMap.{put}
-use Rattle.mpslp_decimal.specs.Decimal.{Number}
-use Rattle.mpslp_types.specs.Name.{bytes_cmp}
-use Rattle.mpslp_builder.specs.Declaration.{declare_rhs, has_name, is_objective, is_row_by_limits}
+use Rattle.std.proofs.Common.{◌≡◌, refl, sym, ap, ◌∙◌, true, false, Bool, [], ◌∷◌, cond}
+use Rattle.std.specs.Prelude.{is_some, if◌then◌else◌}
+use Rattle.mpslp_builder.specs.Answer.{first_refusal}
+use Rattle.mpslp_builder.specs.Declaration.{Draft, Declaration, declare_rhs, adding_all, rhs_declared, is_free_row}
 use Rattle.mpslp_builder.specs.Refusal.{refusals}
-use Rattle.mpslp_builder.specs.Made.{IsMade}
-use Rattle.mpslp_builder.specs.BuilderDraft.{draft}
-use Rattle.mpslp_types.specs.declared.faults.BuildFault.{BuildFault}
-use Rattle.mpslp_types.specs.declared.faults.BuildFault.TheVariants.{DuplicateRhs}
-use Rattle.mpslp_builder.proofs.AnswerLemmas.{handed_on, none_refused, made_next, made_now, known_row, row_is_legal}
+use Rattle.mpslp_builder.specs.Tables.{draft}
+use Rattle.mpslp_builder.proofs.AnswerLemmas.{none_refused, made_after, declared, handed_on}
+use Rattle.mpslp_builder.proofs.CallLemmas.{rhs_added, rhs_added_numbered}
+use Rattle.mpslp_builder.proofs.ReadingLemmas.{free_at}
 use Rattle.mpslp_builder.proofs.builder.Builder.rhs.Goals as goal
 
-pub copied-requires : goal.copied-requires
-copied-requires c =
+pub returns-in_err-place : goal.returns-in_err-place
+returns-in_err-place c =
+    let d = declare_rhs c.args.row.now c.args.value in
+    let refused = c.in_err-place.ensures.answer ∙ ap (λ (all : Draft). first_refusal (refusals all d)) c.self.view_is in
+    handed_on (refusals c.args.self.now d) c.from_residual.result c.in_err-place.field-0.0 _ _ c.from_residual.ensures.1 refused refl
+
+pub returns-then-is_free : goal.returns-then-is_free
+returns-then-is_free c =
+    let b = c.self.inside in
     let all = c.args.self.now in
+    let place = c.in_ok-place.ensures in
     let d = declare_rhs c.args.row.now c.args.value in
-    let none = none_refused (refusals all d) c.in_ok-check_rhs.ensures in
-    let row = c.args.row.now in
-    let more : List (Bool × BuildFault) =
-    (has_name all.rhs_values row || (is_row_by_limits all row || (is_objective all row && is_some all.constant)), DuplicateRhs) ∷ [] in
-    row_is_legal all c.args.row.now (made_now c.self.view_is c.self.invariant) (known_row all c.args.row.now more none)
+    let none = none_refused (refusals all d) (place.answer ∙ ap (λ (all : Draft). first_refusal (refusals all d)) c.self.view_is) in
+    let free : is_free_row all c.args.row.now ≡ true =
+    ap (λ (all : Draft). is_free_row all c.args.row.now) (sym c.self.view_is) ∙ free_at b.sense b.constant b.tables place.once c.self.invariant.1 c.in_ok-place.place c.args.row.now place.place ∙ sym c.if-is_free.ensures in
+    declared (refusals all d) _ _ none (sym (ap (λ (free : Bool). adding_all all (if free then [] else d ∷ [])) free))
 
-pub invariant_of-self-2 : goal.invariant_of-self-2
-invariant_of-self-2 c =
+pub invariant_of-self : goal.invariant_of-self
+invariant_of-self c =
+    let b = c.self.inside in
+    let place = c.in_ok-place.ensures in
     let d = declare_rhs c.args.row.now c.args.value in
-    subst (λ (rhs_values : List (List ℕ × Number)). IsMade (record (draft c.self.inside) { rhs_values = rhs_values }))
-    (sym (c.in_ok-put.ensures.ok ∙ ap (λ (n : List ℕ). put bytes_cmp n c.args.value c.self.inside.rhs_values) c.in_ok-name.ensures))
-    (made_next d c.self.view_is c.self.invariant c.each_value_is_a_decimal.ensures
-    (none_refused (refusals c.args.self.now d) c.in_ok-check_rhs.ensures))
+    let none = none_refused (refusals (draft b.sense b.constant b.tables) d) place.answer in
+    let after = rhs_added b.sense b.constant b.tables c.put_rhs.new.self c.self.invariant.1 place.once c.in_ok-place.place c.args.row.now c.args.value (is_some b.constant) place.place place.absent c.put_rhs.ensures in (
+      made_after d after c.self.invariant.0 c.each_value_is_a_decimal.ensures none,
+      rhs_added_numbered b.sense b.constant b.tables c.put_rhs.new.self c.in_ok-place.place c.args.value c.self.invariant.1 c.put_rhs.ensures,
+    )
 
-pub returns-in_err-check_rhs : goal.returns-in_err-check_rhs
-returns-in_err-check_rhs c =
+pub returns : goal.returns
+returns c =
+    let b = c.self.inside in
+    let all = c.args.self.now in
+    let place = c.in_ok-place.ensures in
     let d = declare_rhs c.args.row.now c.args.value in
-    handed_on (refusals c.args.self.now d) c.from_residual.result c.in_err-check_rhs.field-0.0 _ _ c.from_residual.ensures.1 c.in_err-check_rhs.ensures refl
+    let none = none_refused (refusals all d) (place.answer ∙ ap (λ (all : Draft). first_refusal (refusals all d)) c.self.view_is) in
+    let free : is_free_row all c.args.row.now ≡ false =
+    ap (λ (all : Draft). is_free_row all c.args.row.now) (sym c.self.view_is) ∙ free_at b.sense b.constant b.tables place.once c.self.invariant.1 c.in_ok-place.place c.args.row.now place.place ∙ sym c.if-is_free.ensures in
+    let after = rhs_added b.sense b.constant b.tables c.put_rhs.new.self c.self.invariant.1 place.once c.in_ok-place.place c.args.row.now c.args.value (is_some b.constant) place.place place.absent c.put_rhs.ensures in
+    declared (refusals all d) _ _ none
+    (after ∙ ap (λ (before : Draft). adding_all before (d ∷ [])) c.self.view_is ∙ sym (ap (λ (free : Bool). adding_all all (if free then [] else d ∷ [])) free))
