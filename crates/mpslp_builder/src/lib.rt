@@ -3,6 +3,7 @@
 
 mod builder;
 mod forms;
+pub mod laws;
 mod refusals;
 mod tables;
 
