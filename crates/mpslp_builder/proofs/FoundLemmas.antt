@@ -1,126 +1,247 @@
--- The fault that is found first is the one that is told.
-use Rattle.std.proofs.Common.{◌≡◌, refl, sym, ap, ◌∙◌, ℕ, suc, drop, ◌<◌, ◌+◌, List, [], ◌∷◌, length, map, Bool, true, false, cond, not, arith}
-use Rattle.std.specs.Prelude.{◌||◌, Option, Some, None, position, filter, filter_map, slice_get, slice_index_or, nat_lt}
-use Rattle.std.specs.Option.{option_map}
-use Rattle.std.specs.List.{list_any, position_or_len, cons_option}
-use Rattle.std.proofs.lemmas.List.{length-map, drop_more}
-use Rattle.std.proofs.lemmas.Option.{slice_get-get_or, slice_get_past}
-use Rattle.std.proofs.lemmas.Bool.Decides.{nat_tests}
-use Rattle.mpslp_decimal.specs.Decimal.{Number}
-use Rattle.mpslp_builder.specs.Declaration.{RowForm, Draft}
-use Rattle.mpslp_core.specs.Limits.{limits_of, has_infinite_rhs, is_inexact, is_too_large, is_crossed}
-use Rattle.mpslp_core.specs.Lists.{head_of}
-use Rattle.mpslp_builder.specs.Meaning.{whole_fault, row_passes}
-use Rattle.mpslp_builder.specs.FaultFound.{columns_alone, is_faulty_row, row_test, column_test, kind_of_row_fault, kind_of_column_fault, named, fault_found, IsThere}
-use Rattle.mpslp_types.specs.declared.faults.Fault.{Fault}
-use Rattle.mpslp_types.specs.declared.faults.FaultKind.{FaultKind}
+-- The fault that is found first is the one that is told: of a kind, the least name that has it.
+use Rattle.std.proofs.Common.{◌≡◌, refl, sym, ap, ◌∙◌, ℕ, zero, suc, drop, ◌<◌, ◌+◌, ◌-◌, List, [], ◌∷◌, length, map, Bool, true, false, cond, not, arith}
+use Rattle.std.specs.Prelude.{◌||◌, ◌&&◌, Option, Some, None, is_some, filter, filter_map, slice_get, slice_index_or, unwrap_or}
+use Rattle.std.specs.Option.{option_map, option_and_then}
+use Rattle.std.specs.List.{list_any, cons_option}
+use Rattle.std.specs.Global.{Vec}
+use Rattle.std.specs.Cmp.{first_so, second_so}
+use Rattle.std.specs.Ordering.{is_lt, is_eq}
+use Rattle.std.specs.declared.cmp.Ordering.{Ordering}
+use Rattle.std.specs.declared.cmp.Ordering.TheVariants.{Less, Equal, Greater}
+use Rattle.std.specs.FinMap.{find, put, is_sorted}
+use Rattle.std.specs.FinMap.Entries.{by_order, below_all}
+use Rattle.std.proofs.Math.Dec.{T}
+use Rattle.std.proofs.lemmas.List.{drop_more}
+use Rattle.mpslp_decimal.specs.Decimal.{Number, zero_number}
+use Rattle.mpslp_types.specs.Name.{bytes_cmp}
+use Rattle.mpslp_types.proofs.BoolLemmas.{both_so, nor, true_from, T_from}
+use Rattle.mpslp_core.specs.Limits.{RowForm, limits_of, has_infinite_rhs, is_inexact, is_too_large, is_crossed}
+use Rattle.mpslp_core.specs.Columns.{is_negative_upper, are_crossed_bounds, are_no_binary_bounds, are_no_semi_bounds}
+use Rattle.mpslp_core.specs.Lists.{head_of, is_nonempty}
+use Rattle.mpslp_core.specs.Numbered.{sorted_of, each_part, IsOnce}
 use Rattle.mpslp_core.specs.declared.limits.RowFault.{RowFault}
 use Rattle.mpslp_core.specs.declared.limits.RowFault.TheVariants as rows
 use Rattle.mpslp_core.specs.declared.bounds.ColumnFault.{ColumnFault}
 use Rattle.mpslp_core.specs.declared.bounds.ColumnFault.TheVariants as columns
+use Rattle.mpslp_core.specs.declared.bounds.DeclaredColumn.{DeclaredColumn}
+use Rattle.mpslp_core.proofs.KeyLemmas.{bytes_total, tied_names}
+use Rattle.mpslp_core.proofs.SortedLemmas.{find-sorted_of, is_sorted-sorted_of}
+use Rattle.mpslp_builder.specs.Declaration.{Draft, names_in, at_name}
+use Rattle.mpslp_builder.specs.Bounds.{declared_of}
+use Rattle.mpslp_builder.specs.Meaning.{whole_fault, row_passes, named_faults, file_fault}
+use Rattle.mpslp_builder.specs.Tables.{bytes, form_of, no_part, cells_of, draft, IsNumbered}
+use Rattle.mpslp_builder.specs.Calls.{IsOnceEach}
+use Rattle.mpslp_builder.specs.FaultFound.{row_test, bounds_test, kind_of_row_fault, kind_of_column_fault, row_fails, column_fails, is_wrong_row, is_wrong_column, declared_in, lesser, is_below, least_name, entry_name, named, fault_found, IsThere}
+use Rattle.mpslp_builder.specs.declared.tables.RowParts.{RowParts}
+use Rattle.mpslp_builder.specs.declared.tables.ColumnParts.{ColumnParts}
+use Rattle.mpslp_builder.specs.declared.tables.Tables.{Tables}
 use Rattle.mpslp_builder.specs.declared.file_faults.FoundFault.TheVariants as found
-use Rattle.mpslp_types.proofs.BoolLemmas.{nor}
+use Rattle.mpslp_types.specs.declared.faults.Fault.{Fault}
+use Rattle.mpslp_types.specs.declared.faults.FaultKind.{FaultKind}
+use Rattle.mpslp_types.specs.declared.faults.FaultKind.TheVariants as kinds
+use Rattle.mpslp_core.proofs.CellLemmas.{or_else}
+use Rattle.mpslp_builder.proofs.NameLemmas.{once_too}
+use Rattle.mpslp_builder.proofs.OwnParts.{row_parts_at, column_parts_at}
 
--- the first of those that pass a test is the one that passes it first
-first_passing : {X Y : Type 0} (p : X → Bool) (f : X → Y) (xs : List X) → head_of (map f (filter p xs)) ≡ slice_get (map f xs) (position_or_len p xs)
-first_passing p f [] = refl
-first_passing p f (x ∷ xs) =
-    let e : suc (position_or_len p xs) ≡ 1 + position_or_len p xs = omega arith in
-    elim (p x) as (λ b. head_of (map f (cond b (x ∷ filter p xs) (filter p xs))) ≡ slice_get (map f (x ∷ xs)) (cond (not b) (1 + position_or_len p xs) 0)) [
-      | true ↦ refl
-      | false ↦ first_passing p f xs ∙ ap (λ (n : ℕ). slice_get (map f (x ∷ xs)) n) e
-    ]
+-- ---- the first name of a sorted map that passes a test
 
-within : (n len i : ℕ) → cond (nat_lt n len) (Some n) None ≡ Some i → (n ≡ i) × (n < len)
-within n len i h = by (nat_lt n len) refl h
-  where
-    by : (b : Bool) → nat_lt n len ≡ b → cond b (Some n) None ≡ Some i → (n ≡ i) × (n < len)
-    by true e k = (cc, grind (arith, nat_tests, e))
-    by false e k = absurd cc
+-- the first name of those that pass
+abbrev first_of : {X : Type 0} → (List ℕ × X → Bool) → List (List ℕ × X) → Option (List ℕ)
+first_of p es = head_of (names_in (filter p es))
 
-past : (n len : ℕ) → cond (nat_lt n len) (Some n) None ≡ None → nat_lt n len ≡ false
-past n len h = by (nat_lt n len) refl h
-  where
-    by : (b : Bool) → nat_lt n len ≡ b → cond b (Some n) None ≡ None → nat_lt n len ≡ false
-    by true e k = absurd cc
-    by false e k = e
+module _ {X : Type 0} (p : List ℕ × X → Bool) where
+  -- a name below all is the lesser one
+  below_first : (k : List ℕ) (es : List (List ℕ × X)) → below_all bytes_cmp k es ≡ true → lesser k (first_of p es) ≡ k
+  below_first k [] h = refl
+  below_first k (e ∷ es) h =
+      elim (p e) as (λ b. lesser k (head_of (names_in (cond b (e ∷ filter p es) (filter p es)))) ≡ k) [
+        | true ↦ ap (λ (b : Bool). cond b k e.0) (first_so (is_lt (bytes_cmp k e.0)) (below_all bytes_cmp k es) h)
+        | false ↦ below_first k es (second_so (is_lt (bytes_cmp k e.0)) (below_all bytes_cmp k es) h)
+      ]
 
-found_at : {X : Type 0} (p : X → Bool) (f : X → List ℕ) (kind : FaultKind) (xs : List X) (i : ℕ) → position p xs ≡ Some i
-    → (option_map (λ name. whole_fault kind (Some name)) (head_of (map f (filter p xs))) ≡ Some (whole_fault kind (slice_get (map f xs) i))) × (i < length xs)
-found_at {X} p f kind xs i h =
-    let n = position_or_len p xs in
-    let at = within n (length xs) i h in
-    let here : i < length xs = omega (arith, at.0, at.1) in
-    let there : i < length (map f xs) = omega (arith, here, length-map xs f) in
-    let name = slice_get-get_or (map f xs) i [] there in
-    let first = first_passing p f xs ∙ ap (λ (k : ℕ). slice_get (map f xs) k) at.0 in
-    (ap (option_map (λ (name : List ℕ). whole_fault kind (Some name))) (first ∙ name) ∙ ap (λ (o : Option (List ℕ)). Some (whole_fault kind o)) (sym name), here)
+  less_from : (w : Ordering) → is_lt w ≡ true → w ≡ Less
+  less_from Less h = refl
+  less_from Equal h = cc
+  less_from Greater h = cc
 
-found_none : {X Y : Type 0} (p : X → Bool) (f : X → Y) (xs : List X) → position p xs ≡ None → head_of (map f (filter p xs)) ≡ None
-found_none {X} p f xs h =
-    let n = position_or_len p xs in
-    let beyond : nat_lt n (length xs) ≡ false = past n (length xs) h in
-    first_passing p f xs ∙ slice_get_past (map f xs) n (grind (arith, nat_tests, length-map xs f, beyond))
+  -- what lies below one name lies below all that this one lies below
+  below_through : (k m : List ℕ) (es : List (List ℕ × X)) → bytes_cmp k m ≡ Less → below_all bytes_cmp m es ≡ true → below_all bytes_cmp k es ≡ true
+  below_through k m [] less h = refl
+  below_through k m (e ∷ es) less h =
+      let here = less_from (bytes_cmp m e.0) (first_so (is_lt (bytes_cmp m e.0)) (below_all bytes_cmp m es) h) in
+      let rest = below_through k m es less (second_so (is_lt (bytes_cmp m e.0)) (below_all bytes_cmp m es) h) in
+      both_so (is_lt (bytes_cmp k e.0)) (below_all bytes_cmp k es) (ap is_lt (bytes_total.trans k m e.0 less here)) rest
+
+  greater_no : (a b : List ℕ) → bytes_cmp a b ≡ Greater → is_lt (bytes_cmp a b) ≡ false
+  greater_no a b h = ap is_lt h
+
+  -- an entry that is put
+  first_put : (k : List ℕ) (v : X) (es : List (List ℕ × X)) → T (is_sorted bytes_cmp es) → find bytes_cmp k es ≡ None
+      → first_of p (put bytes_cmp k v es) ≡ cond (p (k, v)) (Some (lesser k (first_of p es))) (first_of p es)
+  first_put k v [] sorted none =
+      elim (p (k, v)) as (λ b. head_of (names_in (cond b ((k, v) ∷ []) [])) ≡ cond b (Some k) None) [
+        | true ↦ refl
+        | false ↦ refl
+      ]
+  first_put k v (e ∷ es) sorted none =
+      elim (bytes_cmp k e.0) as (λ w. bytes_cmp k e.0 ≡ w → cond (is_eq w) (Some e.1) (find bytes_cmp k es) ≡ None
+      → first_of p (by_order w ((k, v) ∷ e ∷ es) ((e.0, v) ∷ es) (e ∷ put bytes_cmp k v es)) ≡ cond (p (k, v)) (Some (lesser k (first_of p (e ∷ es)))) (first_of p (e ∷ es))) [
+        | Less ↦ λ less _.
+            let all : below_all bytes_cmp k (e ∷ es) ≡ true = both_so (is_lt (bytes_cmp k e.0)) (below_all bytes_cmp k es) (ap is_lt less) (below_through k e.0 es less (first_so (below_all bytes_cmp e.0 es) (is_sorted bytes_cmp es) (true_from _ sorted))) in
+            elim (p (k, v)) as (λ b. head_of (names_in (cond b ((k, v) ∷ filter p (e ∷ es)) (filter p (e ∷ es)))) ≡ cond b (Some (lesser k (first_of p (e ∷ es)))) (first_of p (e ∷ es))) [
+              | true ↦ ap Some (sym (below_first k (e ∷ es) all))
+              | false ↦ refl
+            ]
+        | Equal ↦ λ _ found. cc
+        | Greater ↦ λ greater later.
+            let rest = first_put k v es (T_from _ (second_so (below_all bytes_cmp e.0 es) (is_sorted bytes_cmp es) (true_from _ sorted))) later in
+            elim (p e) as (λ b. head_of (names_in (cond b (e ∷ filter p (put bytes_cmp k v es)) (filter p (put bytes_cmp k v es)))) ≡ cond (p (k, v)) (Some (lesser k (head_of (names_in (cond b (e ∷ filter p es) (filter p es)))))) (head_of (names_in (cond b (e ∷ filter p es) (filter p es))))) [
+              | true ↦ elim (p (k, v)) as (λ d. Some e.0 ≡ cond d (Some (lesser k (Some e.0))) (Some e.0)) [
+                | true ↦ ap (λ (b : Bool). Some (cond b k e.0)) (sym (greater_no k e.0 greater))
+                | false ↦ refl
+              ]
+              | false ↦ rest
+            ]
+      ] refl none
+
+-- The least of entries that stand once is the first of their map.
+module _ {V X : Type 0} (f : V → X) (p : List ℕ × X → Bool) (test : V → Bool) where
+  pub least_is_first : (es : List (Vec ℕ × V)) → IsOnce (each_part bytes f es) → ((i : ℕ) (k : Vec ℕ) (v : V) → slice_get es i ≡ Some (k, v) → p (bytes k, f v) ≡ test v)
+      → head_of (names_in (filter p (sorted_of bytes_cmp (each_part bytes f es)))) ≡ least_name test es
+  least_is_first [] once own = refl
+  least_is_first (e ∷ es) once own =
+      let rest = each_part bytes f es in
+      let more = least_is_first es once.1 (λ i k v is. own (suc i) k v is) in
+      first_put p (bytes e.0) (f e.1) (sorted_of bytes_cmp rest) (is_sorted-sorted_of bytes_cmp bytes_total rest) (find-sorted_of bytes_cmp bytes_total (bytes e.0) rest ∙ once.0)
+      ∙ (λ i. cond (own zero e.0 e.1 refl i) (Some (lesser (bytes e.0) (more i))) (more i))
+
+-- ---- the loop
+
+module _ {V : Type 0} (test : V → Bool) where
+  -- the entries from an index on
+  pub drop_at : (es : List (Vec ℕ × V)) (i : ℕ) (e : Vec ℕ × V) → slice_get es i ≡ Some e → drop i es ≡ e ∷ drop (suc i) es
+  drop_at [] i e is = cc
+  drop_at (x ∷ es) zero e is = let same : ◌≡◌ {A = Vec ℕ × V} x e = cc in ap (λ (y : Vec ℕ × V). y ∷ es) same
+  drop_at (x ∷ es) (suc i) e is = drop_at es i e is
+
+  -- where none passes, none is the least
+  pub none_least : (wrong : V → Bool) → ((v : V) → wrong v ≡ false → test v ≡ false) → (es : List (Vec ℕ × V)) → list_any (λ e. wrong e.1) es ≡ false → least_name test es ≡ None
+  none_least wrong harder [] h = refl
+  none_least wrong harder (e ∷ es) h =
+      let both = nor (wrong e.1) (list_any (λ e. wrong e.1) es) h in
+      (λ i. cond (harder e.1 both.0 i) (Some (lesser (bytes e.0) (least_name test es))) (least_name test es)) ∙ none_least wrong harder es both.1
+
+-- ---- whether any entry passes, from the last one to the first
+
+module _ {X : Type 0} (p : X → Bool) where
+  pub any_at : (es : List X) (i : ℕ) (e : X) → slice_get es i ≡ Some e → p e ≡ true → true ≡ list_any p es
+  any_at [] i e is passes = cc
+  any_at (x ∷ es) zero e is passes = let same : x ≡ e = cc in ap (λ (b : Bool). b || list_any p es) (sym (ap p same ∙ passes))
+  any_at (x ∷ es) (suc i) e is passes =
+      elim (p x) as (λ b. true ≡ (b || list_any p es)) [
+        | true ↦ refl
+        | false ↦ any_at es i e is passes
+      ]
+
+  pub drop_all : (es : List X) → list_any p (drop (length es) es) ≡ false
+  drop_all [] = refl
+  drop_all (x ∷ es) = drop_all es
+
+  pub none_from : (es : List X) (i : ℕ) (e : X) → slice_get es i ≡ Some e → p e ≡ false → list_any p (drop (suc i) es) ≡ false → list_any p (drop i es) ≡ false
+  none_from [] i e is fails rest = cc
+  none_from (x ∷ es) zero e is fails rest = let same : x ≡ e = cc in (λ i. (ap p same ∙ fails) i || rest i)
+  none_from (x ∷ es) (suc i) e is fails rest = none_from es i e is fails rest
+
+-- an index below the length has an entry
+pub there : {X : Type 0} (es : List X) (i : ℕ) → i < length es → slice_get es i ≡ None → ⊥
+there [] i h none = omega (arith, h)
+there (e ∷ es) zero h none = cc
+there (e ∷ es) (suc i) h none = there es i (omega (arith, h)) none
+
+-- the index before
+pub before : (n : ℕ) → 0 < n → n ≡ suc (n - 1)
+before n h = omega (arith, h)
+
+-- a name below the least so far is the least
+pub new_least : (name : List ℕ) (o : Option (List ℕ)) → is_below name o ≡ true → lesser name o ≡ name
+new_least name None h = refl
+new_least name (Some other) h = ap (λ (b : Bool). cond b name other) h
+
+pub old_least : (name : List ℕ) (o : Option (List ℕ)) → is_below name o ≡ false → Some (lesser name o) ≡ o
+old_least name None h = cc
+old_least name (Some other) h = ap (λ (b : Bool). Some (cond b name other)) h
+
+module _ {V : Type 0} (test : V → Bool) (es : List (Vec ℕ × V)) (i : ℕ) (k : Vec ℕ) (v : V) (is : slice_get es i ≡ Some (k, v)) (o : Option (List ℕ)) (so_far : o ≡ least_name test (drop (suc i) es)) where
+  with_entry : least_name test (drop i es) ≡ cond (test v) (Some (lesser (bytes k) o)) o
+  with_entry = ap (least_name test) (drop_at test es i (k, v) is) ∙ ap (λ (m : Option (List ℕ)). cond (test v) (Some (lesser (bytes k) m)) m) (sym so_far)
+
+  -- an entry that passes and lies below is the least
+  pub least_put : test v ≡ true → is_below (bytes k) o ≡ true → entry_name es i ≡ least_name test (drop i es)
+  least_put passes below =
+      ap (option_map (λ (e : Vec ℕ × V). bytes e.0)) is
+      ∙ ap Some (sym (new_least (bytes k) o below))
+      ∙ sym (with_entry ∙ ap (λ (b : Bool). cond b (Some (lesser (bytes k) o)) o) passes)
+
+  -- one that does not pass, or does not lie below, leaves the least as it is
+  pub least_failing : test v ≡ false → o ≡ least_name test (drop i es)
+  least_failing fails = sym (with_entry ∙ ap (λ (b : Bool). cond b (Some (lesser (bytes k) o)) o) fails)
+
+  pub least_above : test v ≡ true → is_below (bytes k) o ≡ false → o ≡ least_name test (drop i es)
+  least_above passes above = sym (with_entry ∙ ap (λ (b : Bool). cond b (Some (lesser (bytes k) o)) o) passes ∙ old_least (bytes k) o above)
 
 -- ---- rows
 
+-- a row with which nothing is wrong
+pub faultless_row : (fault : RowFault) (row : RowParts) → is_wrong_row row ≡ false → row_fails fault row ≡ false
+faultless_row fault row h = faultless fault row.form (unwrap_or row.rhs zero_number) row.range h
+  where
+    faultless : (fault : RowFault) (form : RowForm) (b : Number) (r : Option Number) → (has_infinite_rhs form b r || (is_inexact (limits_of form b r) || (is_too_large (limits_of form b r) || is_crossed (limits_of form b r)))) ≡ false → row_test fault form b r ≡ false
+    faultless fault form b r h =
+        let limits = limits_of form b r in
+        let first = nor (has_infinite_rhs form b r) (is_inexact limits || (is_too_large limits || is_crossed limits)) h in
+        let second = nor (is_inexact limits) (is_too_large limits || is_crossed limits) first.1 in
+        let third = nor (is_too_large limits) (is_crossed limits) second.1 in
+        by fault first.0 second.0 third.0 third.1
+      where
+        by : (f : RowFault) → has_infinite_rhs form b r ≡ false → is_inexact (limits_of form b r) ≡ false → is_too_large (limits_of form b r) ≡ false
+            → is_crossed (limits_of form b r) ≡ false → row_test f form b r ≡ false
+        by rows.InfiniteLimit i e t x = i
+        by rows.RangeInexact i e t x = e
+        by rows.LimitTooLarge i e t x = t
+        by rows.LimitsCrossed i e t x = x
+
 of_row : (all : Draft) (fault : RowFault) → named all (kind_of_row_fault fault)
-    ≡ option_map (λ name. whole_fault (kind_of_row_fault fault) (Some name)) (head_of (map (λ row. row.0) (filter (row_passes all (row_test fault)) all.rows)))
+    ≡ option_map (λ name. whole_fault (kind_of_row_fault fault) (Some name)) (head_of (names_in (filter (row_passes all (row_test fault)) all.rows)))
 of_row all rows.InfiniteLimit = refl
 of_row all rows.RangeInexact = refl
 of_row all rows.LimitTooLarge = refl
 of_row all rows.LimitsCrossed = refl
 
-pub row_found : (all : Draft) (fault : RowFault) (i : ℕ) → position (row_passes all (row_test fault)) all.rows ≡ Some i
-    → (named all (kind_of_row_fault fault) ≡ Some (fault_found all (found.Row fault i))) × IsThere all (found.Row fault i)
-row_found all fault i h =
-    let at = found_at (row_passes all (row_test fault)) (λ row. row.0) (kind_of_row_fault fault) all.rows i h in
-    (of_row all fault ∙ at.0, at.1)
-
-pub no_row_found : (all : Draft) (fault : RowFault) → position (row_passes all (row_test fault)) all.rows ≡ None → named all (kind_of_row_fault fault) ≡ None
-no_row_found all fault h =
-    of_row all fault ∙ ap (option_map (λ (name : List ℕ). whole_fault (kind_of_row_fault fault) (Some name))) (found_none (row_passes all (row_test fault)) (λ row. row.0) all.rows h)
-
--- a row with which nothing is wrong
-faultless : (fault : RowFault) (form : RowForm) (b : Number) (r : Option Number) → is_faulty_row form b r ≡ false → row_test fault form b r ≡ false
-faultless fault form b r h =
-    let limits = limits_of form b r in
-    let first = nor (has_infinite_rhs form b r) (is_inexact limits || (is_too_large limits || is_crossed limits)) h in
-    let second = nor (is_inexact limits) (is_too_large limits || is_crossed limits) first.1 in
-    let third = nor (is_too_large limits) (is_crossed limits) second.1 in
-    by fault first.0 second.0 third.0 third.1
-  where
-    by : (f : RowFault) → has_infinite_rhs form b r ≡ false → is_inexact (limits_of form b r) ≡ false → is_too_large (limits_of form b r) ≡ false
-        → is_crossed (limits_of form b r) ≡ false → row_test f form b r ≡ false
-    by rows.InfiniteLimit i e t x = i
-    by rows.RangeInexact i e t x = e
-    by rows.LimitTooLarge i e t x = t
-    by rows.LimitsCrossed i e t x = x
-
--- where nothing passes a test, nothing passes one that is harder to pass
-none_passing : {X : Type 0} (easy hard : X → Bool) → ((x : X) → easy x ≡ false → hard x ≡ false) → (xs : List X) → list_any easy xs ≡ false → position_or_len hard xs ≡ length xs
-none_passing easy hard f [] h = refl
-none_passing easy hard f (x ∷ xs) h =
-    let both = nor (easy x) (list_any easy xs) h in
-    let rest : position_or_len hard xs ≡ length xs = none_passing easy hard f xs both.1 in
-    ap (λ (b : Bool). cond (not b) (1 + position_or_len hard xs) 0) (f x both.0) ∙ omega (arith, rest)
-
-nowhere : {X : Type 0} (easy hard : X → Bool) → ((x : X) → easy x ≡ false → hard x ≡ false) → (xs : List X) → list_any easy xs ≡ false → position hard xs ≡ None
-nowhere easy hard f xs h = by (position_or_len hard xs) (length xs) (none_passing easy hard f xs h)
-  where
-    by : (n len : ℕ) → n ≡ len → cond (nat_lt n len) (Some n) None ≡ None
-    by n len e = let t : nat_lt n len ≡ false = grind (arith, nat_tests, e) in ap (λ (b : Bool). cond b (Some n) None) t
-
--- no row is faulty, so no fault of a row is there
-pub no_faulty_row : (all : Draft) (faults : List RowFault) → list_any (row_passes all is_faulty_row) all.rows ≡ false
-    → head_of (filter_map (λ fault. named all (kind_of_row_fault fault)) faults) ≡ None
-no_faulty_row all [] h = refl
-no_faulty_row all (fault ∷ faults) h =
-    ap (λ (o : Option Fault). head_of (cons_option o (filter_map (λ fault. named all (kind_of_row_fault fault)) faults)))
-    (no_row_found all fault (nowhere (row_passes all is_faulty_row) (row_passes all (row_test fault)) (λ row. faultless fault row.1 _ _) all.rows h))
-    ∙ no_faulty_row all faults h
+pub row_named : (t : Tables) → IsNumbered t → IsOnceEach t → (fault : RowFault) → named (draft None None t) (kind_of_row_fault fault)
+    ≡ option_map (λ name. whole_fault (kind_of_row_fault fault) (Some name)) (least_name (row_fails fault) t.rows.entries)
+row_named t numbered once fault =
+    let all = draft None None t in
+    of_row all fault
+    ∙ ap (option_map (λ (name : List ℕ). whole_fault (kind_of_row_fault fault) (Some name)))
+    (least_is_first form_of (row_passes all (row_test fault)) (row_fails fault) t.rows.entries once.rows
+    (λ i k row is. row_parts_at None None t once numbered i k row is (λ form rhs range. row_test fault form (unwrap_or rhs zero_number) range)))
 
 -- ---- columns
+
+pub faultless_column : (fault : ColumnFault) (column : ColumnParts) → is_wrong_column column ≡ false → column_fails fault column ≡ false
+faultless_column fault column h =
+    let d = declared_in column in
+    let first = nor (is_negative_upper d) (are_crossed_bounds d || (are_no_binary_bounds d || are_no_semi_bounds d)) h in
+    let second = nor (are_crossed_bounds d) (are_no_binary_bounds d || are_no_semi_bounds d) first.1 in
+    let third = nor (are_no_binary_bounds d) (are_no_semi_bounds d) second.1 in
+    by fault first.0 second.0 third.0 third.1
+  where
+    by : (f : ColumnFault) → is_negative_upper (declared_in column) ≡ false → are_crossed_bounds (declared_in column) ≡ false → are_no_binary_bounds (declared_in column) ≡ false
+        → are_no_semi_bounds (declared_in column) ≡ false → column_fails f column ≡ false
+    by columns.NegativeUpper n c b s = n
+    by columns.BoundsCrossed n c b s = c
+    by columns.BinaryBounds n c b s = b
+    by columns.SemiBounds n c b s = s
 
 filter-map : {X Y : Type 0} (p : Y → Bool) (f : X → Y) (xs : List X) → filter p (map f xs) ≡ map f (filter (λ x. p (f x)) xs)
 filter-map p f [] = refl
@@ -131,29 +252,23 @@ filter-map p f (x ∷ xs) =
     ]
 
 of_column : (all : Draft) (fault : ColumnFault) → named all (kind_of_column_fault fault)
-    ≡ option_map (λ name. whole_fault (kind_of_column_fault fault) (Some name)) (head_of (map (λ column. column.0) (filter (λ column. column_test fault all column.0) all.columns)))
-of_column all columns.NegativeUpper = ap (λ (names : List (List ℕ)). option_map (λ name. whole_fault (kind_of_column_fault columns.NegativeUpper) (Some name)) (head_of names)) (filter-map (column_test columns.NegativeUpper all) (λ column. column.0) all.columns)
-of_column all columns.BoundsCrossed = ap (λ (names : List (List ℕ)). option_map (λ name. whole_fault (kind_of_column_fault columns.BoundsCrossed) (Some name)) (head_of names)) (filter-map (column_test columns.BoundsCrossed all) (λ column. column.0) all.columns)
-of_column all columns.BinaryBounds = ap (λ (names : List (List ℕ)). option_map (λ name. whole_fault (kind_of_column_fault columns.BinaryBounds) (Some name)) (head_of names)) (filter-map (column_test columns.BinaryBounds all) (λ column. column.0) all.columns)
-of_column all columns.SemiBounds = ap (λ (names : List (List ℕ)). option_map (λ name. whole_fault (kind_of_column_fault columns.SemiBounds) (Some name)) (head_of names)) (filter-map (column_test columns.SemiBounds all) (λ column. column.0) all.columns)
+    ≡ option_map (λ name. whole_fault (kind_of_column_fault fault) (Some name)) (head_of (names_in (filter (λ column. bounds_test fault (declared_of all column.0)) all.columns)))
+of_column all columns.NegativeUpper = ap (λ (names : List (List ℕ)). option_map (λ name. whole_fault (kind_of_column_fault columns.NegativeUpper) (Some name)) (head_of names)) (filter-map (λ name. bounds_test columns.NegativeUpper (declared_of all name)) (λ column. column.0) all.columns)
+of_column all columns.BoundsCrossed = ap (λ (names : List (List ℕ)). option_map (λ name. whole_fault (kind_of_column_fault columns.BoundsCrossed) (Some name)) (head_of names)) (filter-map (λ name. bounds_test columns.BoundsCrossed (declared_of all name)) (λ column. column.0) all.columns)
+of_column all columns.BinaryBounds = ap (λ (names : List (List ℕ)). option_map (λ name. whole_fault (kind_of_column_fault columns.BinaryBounds) (Some name)) (head_of names)) (filter-map (λ name. bounds_test columns.BinaryBounds (declared_of all name)) (λ column. column.0) all.columns)
+of_column all columns.SemiBounds = ap (λ (names : List (List ℕ)). option_map (λ name. whole_fault (kind_of_column_fault columns.SemiBounds) (Some name)) (head_of names)) (filter-map (λ name. bounds_test columns.SemiBounds (declared_of all name)) (λ column. column.0) all.columns)
 
--- what is declared of columns alone says all that is asked
-pub columns_suffice : (all : Draft) (fault : ColumnFault) → column_test fault (columns_alone all) ≡ column_test fault all
-columns_suffice all columns.NegativeUpper = refl
-columns_suffice all columns.BoundsCrossed = refl
-columns_suffice all columns.BinaryBounds = refl
-columns_suffice all columns.SemiBounds = refl
-
-pub column_found : (all : Draft) (fault : ColumnFault) (j : ℕ) → position (λ column. column_test fault all column.0) all.columns ≡ Some j
-    → (named all (kind_of_column_fault fault) ≡ Some (fault_found all (found.Column fault j))) × IsThere all (found.Column fault j)
-column_found all fault j h =
-    let at = found_at (λ column. column_test fault all column.0) (λ column. column.0) (kind_of_column_fault fault) all.columns j h in
-    (of_column all fault ∙ at.0, at.1)
-
-pub no_column_found : (all : Draft) (fault : ColumnFault) → position (λ column. column_test fault all column.0) all.columns ≡ None → named all (kind_of_column_fault fault) ≡ None
-no_column_found all fault h =
+pub column_named : (t : Tables) → IsOnceEach t → (fault : ColumnFault) → named (draft None None t) (kind_of_column_fault fault)
+    ≡ option_map (λ name. whole_fault (kind_of_column_fault fault) (Some name)) (least_name (column_fails fault) t.columns.entries)
+column_named t once fault =
+    let all = draft None None t in
     of_column all fault
-    ∙ ap (option_map (λ (name : List ℕ). whole_fault (kind_of_column_fault fault) (Some name))) (found_none (λ column. column_test fault all column.0) (λ column. column.0) all.columns h)
+    ∙ ap (option_map (λ (name : List ℕ). whole_fault (kind_of_column_fault fault) (Some name)))
+    (least_is_first no_part (λ column. bounds_test fault (declared_of all column.0)) (column_fails fault) t.columns.entries (column_once t once)
+    (λ i k column is. ap (bounds_test fault) (column_parts_at None None t once i k column is)))
+  where
+    column_once : (t : Tables) → IsOnceEach t → IsOnce (each_part bytes no_part t.columns.entries)
+    column_once t once = once_too bytes cells_of no_part t.columns.entries once.columns
 
 -- ---- the first of several that there is
 
@@ -164,3 +279,71 @@ first_left {Y = Y} f xs i d y l h =
 pub next_left : {X Y : Type 0} (f : X → Option Y) (xs : List X) (i : ℕ) (d : X) → i < length xs → f (slice_index_or xs i d) ≡ None → head_of (filter_map f (drop (i + 1) xs)) ≡ head_of (filter_map f (drop i xs))
 next_left {Y = Y} f xs i d l h =
     sym (ap (λ (left : List _). head_of (filter_map f left)) (drop_more xs i d l) ∙ ap (λ (o : Option Y). head_of (cons_option o (filter_map f (drop (i + 1) xs)))) h)
+
+-- none of several is there
+pub none_left : {X Y : Type 0} (f : X → Option Y) → ((x : X) → f x ≡ None) → (xs : List X) → head_of (filter_map f xs) ≡ None
+none_left f none [] = refl
+none_left {Y = Y} f none (x ∷ xs) = ap (λ (o : Option Y). head_of (cons_option o (filter_map f xs))) (none x) ∙ none_left f none xs
+
+-- the name at an index, and the fault that is told of it
+pub told : (kind : FaultKind) (name : Option (List ℕ)) (least : Option (List ℕ)) → name ≡ least → is_some name ≡ true → option_map (λ n. whole_fault kind (Some n)) least ≡ Some (whole_fault kind name)
+told kind None least same h = cc
+told kind (Some n) least same h = ap (option_map (λ (n : List ℕ). whole_fault kind (Some n))) (sym same)
+
+pub entry_named : {V : Type 0} (es : List (Vec ℕ × V)) (i : ℕ) → i < length es → is_some (entry_name es i) ≡ true
+entry_named [] i h = absurd (omega (arith, h))
+entry_named (e ∷ es) zero h = refl
+entry_named (e ∷ es) (suc i) h = entry_named es i (omega (arith, h))
+
+-- ---- the whole
+
+nonempty_put : {K X : Type 0} (R : K → K → Ordering) (k : K) (v : X) (es : List (K × X)) → is_nonempty (put R k v es) ≡ true
+nonempty_put R k v [] = refl
+nonempty_put R k v (e ∷ es) =
+    elim (R k e.0) as (λ w. is_nonempty (by_order w ((k, v) ∷ e ∷ es) ((e.0, v) ∷ es) (e ∷ put R k v es)) ≡ true) [
+      | Less ↦ refl
+      | Equal ↦ refl
+      | Greater ↦ refl
+    ]
+
+-- whether there are columns
+pub some_column : (es : List (Vec ℕ × ColumnParts)) → is_nonempty (sorted_of bytes_cmp (each_part bytes no_part es)) ≡ is_nonempty es
+some_column [] = refl
+some_column (e ∷ es) = nonempty_put bytes_cmp (bytes e.0) tt (sorted_of bytes_cmp (each_part bytes no_part es))
+
+pub nonempty_from : {X : Type 0} (es : List X) → (length es ≡ 0 → ⊥) → is_nonempty es ≡ true
+nonempty_from [] h = absurd (h refl)
+nonempty_from (e ∷ es) h = refl
+
+pub empty_from : {X : Type 0} (es : List X) → length es ≡ 0 → is_nonempty es ≡ false
+empty_from [] h = refl
+empty_from (e ∷ es) h = absurd (omega (arith, h))
+
+-- four that may be there, in front of others
+pub in_front : {X : Type 0} (a b c d : Option X) (rest : List X)
+    → head_of (cons_option a (cons_option b (cons_option c (cons_option d rest)))) ≡ or_else (head_of (cons_option a (cons_option b (cons_option c (cons_option d []))))) (head_of rest)
+in_front (Some x) b c d rest = refl
+in_front None (Some x) c d rest = refl
+in_front None None (Some x) d rest = refl
+in_front None None None (Some x) rest = refl
+in_front None None None None rest = refl
+
+pub of_the_whole : (all : Draft) → is_nonempty all.columns ≡ true
+    → file_fault all ≡ or_else (head_of (filter_map (λ fault. named all (kind_of_row_fault fault)) (rows.InfiniteLimit ∷ rows.RangeInexact ∷ rows.LimitTooLarge ∷ rows.LimitsCrossed ∷ [])))
+    (head_of (filter_map (λ fault. named all (kind_of_column_fault fault)) (columns.NegativeUpper ∷ columns.BoundsCrossed ∷ columns.BinaryBounds ∷ columns.SemiBounds ∷ [])))
+of_the_whole all some =
+    ap (λ (b : Bool). cond b (head_of (named_faults all)) (Some (whole_fault kinds.NoColumns None))) some
+    ∙ in_front (named all kinds.InfiniteLimit) (named all kinds.RangeInexact) (named all kinds.LimitTooLarge) (named all kinds.LimitsCrossed)
+    (filter_map (λ fault. named all (kind_of_column_fault fault)) (columns.NegativeUpper ∷ columns.BoundsCrossed ∷ columns.BinaryBounds ∷ columns.SemiBounds ∷ []))
+
+pub of_none : (all : Draft) → is_nonempty all.columns ≡ false → file_fault all ≡ Some (whole_fault kinds.NoColumns None)
+of_none all none = ap (λ (b : Bool). cond b (head_of (named_faults all)) (Some (whole_fault kinds.NoColumns None))) none
+
+-- the first is there, and decides; or it is not, and what follows decides
+pub first_decides : {X Y : Type 0} (f : X → Y) (o : Option X) (a b : Option Y) → option_map f o ≡ a → true ≡ is_some o → option_map f o ≡ or_else a b
+first_decides f None a b same h = cc
+first_decides f (Some x) a b same h = ap (λ (z : Option _). or_else z b) same
+
+pub later_decides : {X Y : Type 0} (f : X → Y) (o : Option X) (a b : Option Y) → option_map f o ≡ a → false ≡ is_some o → b ≡ or_else a b
+later_decides f None a b same h = ap (λ (z : Option _). or_else z b) same
+later_decides f (Some x) a b same h = cc

@@ -130,13 +130,13 @@ module _ (sense : Option Sense) (constant : Option Number) (t : Tables) (once : 
           ∙ ap (λ (name : List ℕ). find bytes_cmp name (each_part bytes form_of t.rows.entries)) (sym s.named)
           ∙ find_own bytes form_of t.rows.entries i s.key s.parts once.rows s.at
 
-      range_at : at_name (draft sense constant t).ranges r ≡ range_of s.parts
+      pub range_at : at_name (draft sense constant t).ranges r ≡ range_of s.parts
       range_at =
           find-sorted_of bytes_cmp bytes_total r (given_parts bytes range_of t.rows.entries)
           ∙ ap (λ (name : List ℕ). find bytes_cmp name (given_parts bytes range_of t.rows.entries)) (sym s.named)
           ∙ find_given_own bytes form_of range_of t.rows.entries i s.key s.parts once.rows s.at
 
-      rhs_at : at_name (draft sense constant t).rhs_values r ≡ rhs_of s.parts
+      pub rhs_at : at_name (draft sense constant t).rhs_values r ≡ rhs_of s.parts
       rhs_at =
           find-sorted_of bytes_cmp bytes_total r (objective_rhs t.objective ++ given_parts bytes rhs_of t.rows.entries)
           ∙ ap (λ (name : List ℕ). find bytes_cmp name (objective_rhs t.objective ++ given_parts bytes rhs_of t.rows.entries)) (sym s.named)

@@ -1,34 +1,85 @@
--- What is found wrong with a draft as a whole: what it is, and where.
-use Rattle.std.specs.Prelude.{ℕ, ◌<◌, Bool, List, length, Option, Some, None, slice_get}
+-- What is found wrong with tables as a whole: what it is, and where.
+use Rattle.std.specs.Prelude.{◌≡◌, ℕ, ◌<◌, Bool, true, List, [], ◌∷◌, length, Option, Some, None, slice_get, unwrap_or, if◌then◌else◌}
 use Rattle.std.specs.Option.{option_map}
-use Rattle.mpslp_builder.specs.Declaration.{Draft, names_in}
-use Rattle.mpslp_builder.specs.Bounds.{declared_of}
-pub use Rattle.mpslp_core.specs.WrongParts.{is_faulty_row, row_test, kind_of_row_fault, kind_of_column_fault}
-use Rattle.mpslp_core.specs.WrongParts.{bounds_test}
+use Rattle.std.specs.Global.{Vec}
+use Rattle.std.specs.Ordering.{is_lt}
+use Rattle.mpslp_decimal.specs.Decimal.{zero_number}
+use Rattle.mpslp_types.specs.Name.{bytes_cmp}
+use Rattle.mpslp_builder.specs.Declaration.{Draft}
+pub use Rattle.mpslp_core.specs.WrongParts.{is_faulty_row, row_test, bounds_test, are_faulty_bounds, kind_of_row_fault, kind_of_column_fault}
 use Rattle.mpslp_core.specs.Lists.{head_of}
+use Rattle.mpslp_core.specs.declared.limits.RowFault.{RowFault}
+use Rattle.mpslp_core.specs.declared.bounds.ColumnFault.{ColumnFault}
+use Rattle.mpslp_core.specs.declared.bounds.DeclaredColumn.{DeclaredColumn}
 use Rattle.mpslp_builder.specs.Meaning.{names_with, whole_fault}
+use Rattle.mpslp_builder.specs.Tables.{bytes, form_of, rhs_of, range_of, lower_of, upper_of}
 use Rattle.mpslp_types.specs.declared.faults.Fault.{Fault}
 use Rattle.mpslp_types.specs.declared.faults.FaultKind.{FaultKind}
 use Rattle.mpslp_types.specs.declared.faults.FaultKind.TheVariants as kinds
-use Rattle.mpslp_core.specs.declared.bounds.ColumnFault.{ColumnFault}
+use Rattle.mpslp_builder.specs.declared.tables.RowParts.{RowParts}
+use Rattle.mpslp_builder.specs.declared.tables.ColumnParts.{ColumnParts}
+use Rattle.mpslp_builder.specs.declared.tables.Tables.{Tables}
 use Rattle.mpslp_builder.specs.declared.file_faults.FoundFault.{FoundFault}
 use Rattle.mpslp_builder.specs.declared.file_faults.FoundFault.TheVariants as found
 
--- what is wrong with a column of a draft
-abbrev pub column_test : ColumnFault → Draft → List ℕ → Bool
-column_test fault all column = bounds_test fault (declared_of all column)
+-- ---- what is wrong with a row, or a column, by what is declared of it
+
+abbrev pub row_fails : RowFault → RowParts → Bool
+row_fails fault row = row_test fault (form_of row) (unwrap_or (rhs_of row) zero_number) (range_of row)
+
+abbrev pub is_wrong_row : RowParts → Bool
+is_wrong_row row = is_faulty_row (form_of row) (unwrap_or (rhs_of row) zero_number) (range_of row)
+
+abbrev pub declared_in : ColumnParts → DeclaredColumn
+declared_in column = record {
+  lower = lower_of column;
+  upper = upper_of column;
+  marked = column.marked;
+  integer = column.integer;
+  binary = column.binary;
+  semi = column.semi;
+}
+
+abbrev pub column_fails : ColumnFault → ColumnParts → Bool
+column_fails fault column = bounds_test fault (declared_in column)
+
+abbrev pub is_wrong_column : ColumnParts → Bool
+is_wrong_column column = are_faulty_bounds (declared_in column)
+
+-- ---- the least name
+
+-- the lesser of two names, where the second may be missing
+abbrev pub lesser : List ℕ → Option (List ℕ) → List ℕ
+lesser name None = name
+lesser name (Some other) = if is_lt (bytes_cmp name other) then name else other
+
+-- whether it is the first of them
+abbrev pub is_below : List ℕ → Option (List ℕ) → Bool
+is_below name None = true
+is_below name (Some other) = is_lt (bytes_cmp name other)
+
+-- the least name of the entries that pass a test, in whatever order they stand
+abbrev pub least_name : {V : Type 0} → (V → Bool) → List (Vec ℕ × V) → Option (List ℕ)
+least_name test [] = None
+least_name test (e ∷ es) = if test e.1 then Some (lesser (bytes e.0) (least_name test es)) else least_name test es
+
+-- the name at an index
+abbrev pub entry_name : {V : Type 0} → List (Vec ℕ × V) → ℕ → Option (List ℕ)
+entry_name es i = option_map (λ e. bytes e.0) (slice_get es i)
+
+-- ---- what is found
 
 -- a kind of fault, told of its least name
 abbrev pub named : Draft → FaultKind → Option Fault
 named all kind = option_map (λ name. whole_fault kind (Some name)) (head_of (names_with all kind))
 
-abbrev pub fault_found : Draft → FoundFault → Fault
-fault_found all found.NoColumns = whole_fault kinds.NoColumns None
-fault_found all (found.Row fault i) = whole_fault (kind_of_row_fault fault) (slice_get (names_in all.rows) i)
-fault_found all (found.Column fault j) = whole_fault (kind_of_column_fault fault) (slice_get (names_in all.columns) j)
+abbrev pub fault_found : Tables → FoundFault → Fault
+fault_found t found.NoColumns = whole_fault kinds.NoColumns None
+fault_found t (found.Row fault i) = whole_fault (kind_of_row_fault fault) (entry_name t.rows.entries i)
+fault_found t (found.Column fault j) = whole_fault (kind_of_column_fault fault) (entry_name t.columns.entries j)
 
--- the row or the column of this number is there
-abbrev pub IsThere : Draft → FoundFault → Type 0
-IsThere all found.NoColumns = Unit {0}
-IsThere all (found.Row fault i) = i < length all.rows
-IsThere all (found.Column fault j) = j < length all.columns
+-- the row or the column of this index is there
+abbrev pub IsThere : Tables → FoundFault → Type 0
+IsThere t found.NoColumns = Unit {0}
+IsThere t (found.Row fault i) = i < length t.rows.entries
+IsThere t (found.Column fault j) = j < length t.columns.entries

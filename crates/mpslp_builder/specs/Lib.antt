@@ -10,3 +10,4 @@ pub mod Finish
 pub mod Forms
 pub mod Tables
 pub mod Calls
+pub mod FaultFound

@@ -1,86 +1,167 @@
 //! What is wrong with a builder's declarations as a whole.
+//!
+//! Rows and columns stand in the order in which they were declared, and a fault is told of the least name that has it. So
+//! the least name so far is kept, which takes no memory.
 
-ghost use Rattle.std.specs.Prelude.{◌≡◌, ◌<◌, Some, None, position, length, filter_map, unwrap_or};
+ghost use Rattle.std.specs.Prelude.{◌≡◌, ◌<◌, Bool, length, filter_map, unwrap_or};
 ghost use Rattle.std.specs.List.{list_any};
-ghost use Rattle.std.specs.Option.{option_map, ForSome};
+ghost use Rattle.std.specs.Option.{option_and_then, option_map, ForSome};
 ghost use Rattle.mpslp_decimal.specs.Decimal.{zero_number};
-ghost use Rattle.mpslp_builder.specs.Declaration.{at_name};
 ghost use Rattle.mpslp_core.specs.Lists.{head_of};
 ghost use Rattle.mpslp_builder.specs.Meaning.{file_fault};
-ghost use Rattle.mpslp_builder.specs.FaultFound.{columns_alone, is_faulty_row, row_test, column_test, kind_of_row_fault, kind_of_column_fault, named, fault_found, IsThere};
+ghost use Rattle.mpslp_builder.specs.Tables.{rhs_of, range_of, draft, IsNumbered};
+ghost use Rattle.mpslp_builder.specs.FaultFound.{row_fails, column_fails, declared_in, is_wrong_row, is_wrong_column, is_below, least_name, entry_name, kind_of_row_fault, kind_of_column_fault, named, fault_found, IsThere};
 
-use crate::bounds::{ColumnFault, ColumnParts};
-use crate::builder::{Builder, Form};
-use crate::limits::{RowFault, is_faulty_row, row_has};
+use crate::tables::{ColumnParts, RowParts, Tables};
+use indexmap::IndexMap;
+use mpslp_core::{ColumnFault, DeclaredColumn, PackedLimit, RowFault, is_faulty_row, row_has};
 use mpslp_decimal::Decimal;
-use mpslp_maps::SortedMap;
-use mpslp_types::Name;
+use mpslp_types::Limit;
 
-/// The right side of this name, and 0 where none is declared.
-pub(crate) fn rhs_of(rhs_values: &SortedMap<Name, Decimal>, row: &[u8]) -> Decimal
-    ensures { result ≡ unwrap_or (at_name rhs_values.now row.now) zero_number }
-{
-    match rhs_values.find(&row) {
-        Some(value) => *value,
-        None => Decimal::zero(),
+/// What may have a fault.
+pub(crate) trait Faulty<F> {
+    ghost fails: { F → Self → Bool };
+
+    ghost is_wrong: { Self → Bool };
+
+    /// Whether it has this fault.
+    fn has_fault(&self, fault: F) -> bool
+        ensures { result ≡ fails fault self.now };
+
+    /// Whether it has any.
+    fn is_faulty(&self) -> bool
+        ensures { result ≡ is_wrong self.now };
+}
+
+impl RowParts {
+    /// The right side, and 0 where none is declared.
+    pub(crate) fn rhs_or_zero(&self) -> Decimal
+        ensures { result ≡ unwrap_or (rhs_of self.now) zero_number }
+    {
+        match &self.rhs {
+            Some(value) => value.value(),
+            None => Decimal::zero(),
+        }
+    }
+
+    /// The range, if one is declared.
+    pub(crate) fn range_value(&self) -> Option<Decimal>
+        ensures { result ≡ range_of self.now }
+    {
+        match &self.range {
+            Some(value) => Some(value.value()),
+            None => None,
+        }
     }
 }
 
-/// The range of this name.
-pub(crate) fn range_of(ranges: &SortedMap<Name, Decimal>, row: &[u8]) -> Option<Decimal>
-    ensures { result ≡ at_name ranges.now row.now }
+impl Faulty<RowFault> for RowParts {
+    ghost fails = { row_fails };
+
+    ghost is_wrong = { is_wrong_row };
+
+    fn has_fault(&self, fault: RowFault) -> bool {
+        row_has(
+            fault,
+            &self.form.kind(),
+            self.rhs_or_zero(),
+            &self.range_value(),
+        )
+    }
+
+    fn is_faulty(&self) -> bool {
+        is_faulty_row(&self.form.kind(), self.rhs_or_zero(), &self.range_value())
+    }
+}
+
+/// The side, if one is declared.
+fn side_of(side: &Option<PackedLimit>) -> Option<Limit>
+    ensures { result ≡ side.now }
 {
-    match ranges.find(&row) {
-        Some(value) => Some(*value),
+    match side {
+        Some(side) => Some(side.limit()),
         None => None,
     }
 }
 
-/// Whether anything is wrong with a row. Of most files nothing is, and then no kind of fault is looked for apart.
-fn has_faulty_row(
-    rows: &[(Name, Form)],
-    rhs_values: &SortedMap<Name, Decimal>,
-    ranges: &SortedMap<Name, Decimal>,
-) -> bool
-    ensures { result ≡ list_any (λ row. is_faulty_row row.1 (unwrap_or (at_name rhs_values.now row.0) zero_number) (at_name ranges.now row.0)) rows.now }
-{
-    rows.iter().any(|row| {
-        let name = row.0.as_bytes();
-        is_faulty_row(
-            &row.1.kind,
-            rhs_of(rhs_values, name),
-            &range_of(ranges, name),
-        )
-    })
+impl ColumnParts {
+    /// What is declared of the column beside its coefficients.
+    pub(crate) fn declared(&self) -> DeclaredColumn
+        ensures { result ≡ declared_in self.now }
+    {
+        DeclaredColumn {
+            lower: side_of(&self.lower),
+            upper: side_of(&self.upper),
+            marked: self.marked,
+            integer: self.integer,
+            binary: self.binary,
+            semi: self.semi,
+        }
+    }
 }
 
-/// The index of the first row with which this is wrong.
-fn first_row(
-    fault: RowFault,
-    rows: &[(Name, Form)],
-    rhs_values: &SortedMap<Name, Decimal>,
-    ranges: &SortedMap<Name, Decimal>,
+impl Faulty<ColumnFault> for ColumnParts {
+    ghost fails = { column_fails };
+
+    ghost is_wrong = { is_wrong_column };
+
+    fn has_fault(&self, fault: ColumnFault) -> bool {
+        self.declared().has_fault(fault)
+    }
+
+    fn is_faulty(&self) -> bool {
+        self.declared().is_faulty()
+    }
+}
+
+/// Whether any entry has a fault. Of most files none has, and then no kind of fault is looked for apart.
+fn has_faulty<F, V: Faulty<F>>(entries: &IndexMap<Vec<u8>, V>) -> bool
+    ensures { result ≡ list_any (λ e. V.is_wrong e.1) entries.now.entries }
+{
+    let mut index = entries.len();
+    while index > 0 {
+        index -= 1;
+        if let Some((_name, parts)) = entries.get_index(index) {
+            if parts.is_faulty() {
+                return true;
+            }
+        }
+    }
+    false
+}
+
+/// Whether the name is below that of the entry at an index, where there is one.
+fn is_below<V>(entries: &IndexMap<Vec<u8>, V>, name: &[u8], least: Option<usize>) -> bool
+    ensures { result ≡ is_below name.now (option_and_then (entry_name entries.now.entries) least) }
+{
+    match least {
+        Some(index) => match entries.get_index(index) {
+            Some((other, _parts)) => name.cmp(other.as_slice()).is_lt(),
+            None => true,
+        },
+        None => true,
+    }
+}
+
+/// The index of the entry of the least name that has this fault.
+fn least_faulty<F: Copy, V: Faulty<F>>(
+    entries: &IndexMap<Vec<u8>, V>,
+    fault: F,
 ) -> Option<usize>
-    ensures { result ≡ position (λ row. row_test fault row.1 (unwrap_or (at_name rhs_values.now row.0) zero_number) (at_name ranges.now row.0)) rows.now }
+    ensures name { option_and_then (entry_name entries.now.entries) result ≡ least_name (V.fails fault) entries.now.entries }
+    ensures there { ForSome result (λ i. i < length entries.now.entries) }
 {
-    rows.iter().position(|row| {
-        let name = row.0.as_bytes();
-        row_has(
-            fault,
-            &row.1.kind,
-            rhs_of(rhs_values, name),
-            &range_of(ranges, name),
-        )
-    })
-}
-
-/// The index of the first of these columns with which this is wrong.
-fn first_column(parts: &ColumnParts, fault: ColumnFault, columns: &[(Name, ())]) -> Option<usize>
-    ensures { result ≡ position (λ column. column_test fault parts.now column.0) columns.now }
-{
-    columns
-        .iter()
-        .position(|column| parts.column_has(fault, column.0.as_bytes()))
+    let mut least = None;
+    let mut index = entries.len();
+    while index > 0 {
+        index -= 1;
+        if let Some((name, parts)) = entries.get_index(index) {
+            if parts.has_fault(fault) && is_below(entries, name, least) {
+                least = Some(index);
+            }
+        }
+    }
+    least
 }
 
 /// What is found wrong, and where.
@@ -88,53 +169,42 @@ fn first_column(parts: &ColumnParts, fault: ColumnFault, columns: &[(Name, ())])
 pub(crate) enum FoundFault {
     /// There is no column.
     NoColumns,
-    /// The row at this index has this fault, and none before it.
+    /// The row at this index has this fault, and none of a lesser name.
     Row(RowFault, usize),
-    /// The column at this index has this fault, and none before it.
+    /// The column at this index has this fault, and none of a lesser name.
     Column(ColumnFault, usize),
 }
 
-impl Builder {
-    /// What is declared of columns.
-    fn column_parts(&self) -> ColumnParts<'_>
-        ensures { result ≡ columns_alone self.now }
-    {
-        ColumnParts {
-            lowers: &self.lowers,
-            uppers: &self.uppers,
-            marked: &self.marked,
-            integers: &self.integers,
-            binaries: &self.binaries,
-            semis: &self.semis,
-        }
-    }
-
-    /// The first of these faults that a row has, with the first row that has it.
+impl Tables {
+    /// The first of these faults that a row has, with the row of the least name that has it.
     fn first_fault_of_rows(&self, faults: &[RowFault]) -> Option<FoundFault>
-        ensures fault { option_map (fault_found self.now) result ≡ head_of (filter_map (λ fault. named self.now (kind_of_row_fault fault)) faults.now) }
+        requires { IsNumbered self.now }
+        ensures fault { option_map (fault_found self.now) result ≡ head_of (filter_map (λ fault. named (draft None None self.now) (kind_of_row_fault fault)) faults.now) }
         ensures there { ForSome result (IsThere self.now) }
     {
-        let rows = self.rows.as_slice();
-        if !has_faulty_row(rows, &self.rhs_values, &self.ranges) {
+        self.each_name_stands_once();
+        if !has_faulty(&self.rows) {
             return None;
         }
         for fault in faults {
-            let found = first_row(*fault, rows, &self.rhs_values, &self.ranges);
-            if let Some(at) = found {
+            if let Some(at) = least_faulty(&self.rows, *fault) {
                 return Some(FoundFault::Row(*fault, at));
             }
         }
         None
     }
 
-    /// The first of these faults that a column has, with the first column that has it.
+    /// The first of these faults that a column has, with the column of the least name that has it.
     fn first_fault_of_columns(&self, faults: &[ColumnFault]) -> Option<FoundFault>
-        ensures fault { option_map (fault_found self.now) result ≡ head_of (filter_map (λ fault. named self.now (kind_of_column_fault fault)) faults.now) }
+        ensures fault { option_map (fault_found self.now) result ≡ head_of (filter_map (λ fault. named (draft None None self.now) (kind_of_column_fault fault)) faults.now) }
         ensures there { ForSome result (IsThere self.now) }
     {
-        let parts = self.column_parts();
+        self.each_name_stands_once();
+        if !has_faulty(&self.columns) {
+            return None;
+        }
         for fault in faults {
-            if let Some(at) = first_column(&parts, *fault, self.columns.as_slice()) {
+            if let Some(at) = least_faulty(&self.columns, *fault) {
                 return Some(FoundFault::Column(*fault, at));
             }
         }
@@ -143,7 +213,8 @@ impl Builder {
 
     /// The first fault of the whole.
     pub(crate) fn first_fault(&self) -> Option<FoundFault>
-        ensures fault { option_map (fault_found self.now) result ≡ file_fault self.now }
+        requires { IsNumbered self.now }
+        ensures fault { option_map (fault_found self.now) result ≡ file_fault (draft None None self.now) }
         ensures there { ForSome result (IsThere self.now) }
     {
         if self.columns.is_empty() {
