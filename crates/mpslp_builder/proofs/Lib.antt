@@ -24,6 +24,8 @@ pub mod OrderOfDeclarations
 pub mod PartLemmas
 pub mod NameLemmas
 pub mod ReadingLemmas
+pub mod OwnParts
+pub mod FoundLemmas
 pub mod ColumnDrafts
 pub mod RowDrafts
 pub mod TestLemmas

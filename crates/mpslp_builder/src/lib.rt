@@ -2,6 +2,7 @@
 #![tactic(auto)]
 
 mod builder;
+mod file_faults;
 mod forms;
 pub mod laws;
 mod refusals;
