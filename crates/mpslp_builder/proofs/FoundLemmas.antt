@@ -26,12 +26,12 @@ use Rattle.mpslp_core.specs.declared.bounds.ColumnFault.TheVariants as columns
 use Rattle.mpslp_core.specs.declared.bounds.DeclaredColumn.{DeclaredColumn}
 use Rattle.mpslp_core.proofs.KeyLemmas.{bytes_total, tied_names}
 use Rattle.mpslp_core.proofs.SortedLemmas.{find-sorted_of, is_sorted-sorted_of}
-use Rattle.mpslp_builder.specs.Declaration.{Draft, names_in, at_name}
+use Rattle.mpslp_builder.specs.Declaration.{Draft, names_in, at_name, has_name, is_objective}
 use Rattle.mpslp_builder.specs.Bounds.{declared_of}
 use Rattle.mpslp_builder.specs.Meaning.{whole_fault, row_passes, named_faults, file_fault}
 use Rattle.mpslp_builder.specs.Tables.{bytes, form_of, no_part, cells_of, draft, IsNumbered}
 use Rattle.mpslp_builder.specs.Calls.{IsOnceEach}
-use Rattle.mpslp_builder.specs.FaultFound.{row_test, bounds_test, kind_of_row_fault, kind_of_column_fault, row_fails, column_fails, is_wrong_row, is_wrong_column, declared_in, lesser, is_below, least_name, entry_name, named, fault_found, IsThere}
+use Rattle.mpslp_builder.specs.FaultFound.{row_test, bounds_test, kind_of_row_fault, kind_of_column_fault, row_fails, column_fails, is_wrong_row, is_wrong_column, declared_in, lesser, is_below, least_name, entry_name, named, fault_found, IsThere, HaveLegalNames}
 use Rattle.mpslp_builder.specs.declared.tables.RowParts.{RowParts}
 use Rattle.mpslp_builder.specs.declared.tables.ColumnParts.{ColumnParts}
 use Rattle.mpslp_builder.specs.declared.tables.Tables.{Tables}
@@ -40,7 +40,11 @@ use Rattle.mpslp_types.specs.declared.faults.Fault.{Fault}
 use Rattle.mpslp_types.specs.declared.faults.FaultKind.{FaultKind}
 use Rattle.mpslp_types.specs.declared.faults.FaultKind.TheVariants as kinds
 use Rattle.mpslp_core.proofs.CellLemmas.{or_else}
-use Rattle.mpslp_builder.proofs.NameLemmas.{once_too}
+use Rattle.mpslp_types.specs.declared.kinds.Sense.{Sense}
+use Rattle.mpslp_builder.specs.Made.{IsMade}
+use Rattle.mpslp_builder.proofs.AnswerLemmas.{row_is_legal, column_is_legal}
+use Rattle.mpslp_builder.proofs.PartLemmas.{absent-each_part}
+use Rattle.mpslp_builder.proofs.NameLemmas.{once_too, there_found}
 use Rattle.mpslp_builder.proofs.OwnParts.{row_parts_at, column_parts_at}
 
 -- ---- the first name of a sorted map that passes a test
@@ -347,3 +351,24 @@ first_decides f (Some x) a b same h = ap (λ (z : Option _). or_else z b) same
 pub later_decides : {X Y : Type 0} (f : X → Y) (o : Option X) (a b : Option Y) → option_map f o ≡ a → false ≡ is_some o → b ≡ or_else a b
 later_decides f None a b same h = ap (λ (z : Option _). or_else z b) same
 later_decides f (Some x) a b same h = cc
+
+-- ---- names
+
+module _ {V X : Type 0} (f : V → X) where
+  -- a name that stands at an index is one of the map's
+  pub name_there : (es : List (Vec ℕ × V)) (i : ℕ) (name : List ℕ) → entry_name es i ≡ Some name → has_name (sorted_of bytes_cmp (each_part bytes f es)) name ≡ true
+  name_there es i name is =
+      elim (has_name (sorted_of bytes_cmp (each_part bytes f es)) name) as (λ b. has_name (sorted_of bytes_cmp (each_part bytes f es)) name ≡ b → b ≡ true) [
+        | true ↦ λ _. refl
+        | false ↦ λ absent. absurd (there_found bytes f es i name is (absent-each_part bytes f name es absent))
+      ] refl
+
+or_so : (a b : Bool) → b ≡ true → (a || b) ≡ true
+or_so true b h = refl
+or_so false b h = h
+
+pub legal_names : (sense : Option Sense) (constant : Option Number) (t : Tables) → IsMade (draft sense constant t) → HaveLegalNames t
+legal_names sense constant t made = record {
+  rows = λ i name is. (row_is_legal (draft sense constant t) name made (or_so (is_objective (draft sense constant t) name) _ (name_there form_of t.rows.entries i name is)));
+  columns = λ i name is. (column_is_legal (draft sense constant t) name made (name_there no_part t.columns.entries i name is));
+}

@@ -18,7 +18,6 @@ pub mod NoFaultFromMeaning
 pub mod Acceptance
 pub mod MadeDrafts
 pub mod PutOrderLemmas
-pub mod PermutationLemmas
 pub mod SortedDrafts
 pub mod OrderOfDeclarations
 pub mod PartLemmas
@@ -30,5 +29,11 @@ pub mod ColumnDrafts
 pub mod RowDrafts
 pub mod TestLemmas
 pub mod CallLemmas
+pub mod PassLemmas
+pub mod OrderedParts
+pub mod TableParts
+pub mod ModelOfTables
+pub mod FinishLemmas
+pub mod EndLemmas
 mod WorkedRows
 mod WorkedModels

@@ -15,7 +15,7 @@ use Rattle.mpslp_builder.specs.Meaning.{DraftMeans, Means}
 use Rattle.mpslp_types.proofs.BoolLemmas.{all_true, not_so, nor}
 use Rattle.mpslp_builder.proofs.SlotLemmas.{are_apart, apart-cons, are_distinct-append, key_ties, same_name}
 use Rattle.mpslp_builder.proofs.PutOrderLemmas.{put-put}
-use Rattle.mpslp_builder.proofs.PermutationLemmas.{along_permutation}
+use Rattle.mpslp_core.proofs.PermutationLemmas.{along_permutation}
 
 -- ---- two entries of one map
 

@@ -4,7 +4,7 @@ use Rattle.std.specs.Option.{option_map}
 use Rattle.std.specs.Global.{Vec}
 use Rattle.std.specs.Ordering.{is_lt}
 use Rattle.mpslp_decimal.specs.Decimal.{zero_number}
-use Rattle.mpslp_types.specs.Name.{bytes_cmp}
+use Rattle.mpslp_types.specs.Name.{IsMpsName, bytes_cmp}
 use Rattle.mpslp_builder.specs.Declaration.{Draft}
 pub use Rattle.mpslp_core.specs.WrongParts.{is_faulty_row, row_test, bounds_test, are_faulty_bounds, kind_of_row_fault, kind_of_column_fault}
 use Rattle.mpslp_core.specs.Lists.{head_of}
@@ -83,3 +83,8 @@ abbrev pub IsThere : Tables → FoundFault → Type 0
 IsThere t found.NoColumns = Unit {0}
 IsThere t (found.Row fault i) = i < length t.rows.entries
 IsThere t (found.Column fault j) = j < length t.columns.entries
+
+-- what stands at an index has a legal name
+pub record HaveLegalNames (t : Tables) : Type 0 where
+  pub rows : (i : ℕ) (name : List ℕ) → entry_name t.rows.entries i ≡ Some name → IsMpsName name
+  pub columns : (i : ℕ) (name : List ℕ) → entry_name t.columns.entries i ≡ Some name → IsMpsName name

@@ -11,3 +11,4 @@ pub mod Forms
 pub mod Tables
 pub mod Calls
 pub mod FaultFound
+pub mod MovedParts

@@ -3,8 +3,10 @@
 
 mod builder;
 mod file_faults;
+mod finish;
 mod forms;
 pub mod laws;
+mod parts;
 mod refusals;
 mod tables;
 

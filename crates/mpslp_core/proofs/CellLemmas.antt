@@ -25,10 +25,10 @@ abbrev pub or_else : {X : Type 0} → Option X → Option X → Option X
 or_else None b = b
 or_else (Some x) b = Some x
 
-name_tied : (a b : List ℕ) → a ≡ b → eq_by_cmp bytes_cmp a b ≡ true
+pub name_tied : (a b : List ℕ) → a ≡ b → eq_by_cmp bytes_cmp a b ≡ true
 name_tied a b e = ap (λ (x : List ℕ). eq_by_cmp bytes_cmp a x) (sym e) ∙ ap is_eq (tied_itself bytes_total a)
 
-number_tied : (n m : ℕ) → n ≡ m → eq_by_cmp nat_cmp n m ≡ true
+pub number_tied : (n m : ℕ) → n ≡ m → eq_by_cmp nat_cmp n m ≡ true
 number_tied n m e = ap (λ (x : ℕ). eq_by_cmp nat_cmp n x) (sym e) ∙ ap is_eq (tied_itself nat_cmp_total n)
 
 pub number_same : (n m : ℕ) → eq_by_cmp nat_cmp n m ≡ true → n ≡ m

@@ -2,6 +2,9 @@ pub mod KeyLemmas
 pub mod PutsLemmas
 pub mod SortedLemmas
 pub mod CellLemmas
+pub mod PermutationLemmas
+pub mod OnceLemmas
+pub mod MovingLemmas
 pub mod RunLemmas
 pub mod RenumberLemmas
 pub mod CellListLemmas

@@ -1,18 +1,22 @@
--- Rows that get other numbers, and columns that are put into order, have the same coefficients.
+-- Rows that get other numbers, and columns that are put into order, have the same coefficients, without those of value 0.
 use Rattle.std.proofs.Common.{◌≡◌, refl, sym, ap, ◌∙◌, ℕ, List, [], ◌∷◌, true, false, cond}
 use Rattle.std.proofs.Common.{inl, inr}
-use Rattle.std.specs.Prelude.{Option, Some, None, ◌⊎◌}
+use Rattle.std.specs.Prelude.{Option, Some, None, ◌⊎◌, filter, not}
 use Rattle.std.specs.Option.{option_map_or, option_and_then}
 use Rattle.std.specs.Ordering.{eq_by_cmp, nat_cmp}
-use Rattle.std.specs.FinMap.{find}
-use Rattle.mpslp_decimal.specs.Decimal.{Number}
+use Rattle.std.specs.FinMap.{find, is_sorted}
+use Rattle.std.specs.FinMap.Entries.{same_entries}
+use Rattle.mpslp_decimal.specs.Decimal.{Number, is_zero}
 use Rattle.mpslp_types.specs.Name.{bytes_cmp}
 use Rattle.mpslp_core.specs.Model.{CoefficientKey, key_cmp}
 use Rattle.mpslp_core.proofs.KeyLemmas.{same_key}
 use Rattle.mpslp_core.proofs.PutsLemmas.{equal_from}
 use Rattle.mpslp_core.proofs.KeyLemmas.{key_total}
-use Rattle.mpslp_core.specs.Numbered.{sorted_of, column_cells, all_cells, TellsApart, IsOnce}
-use Rattle.mpslp_core.proofs.SortedLemmas.{sorted_of-alike}
+use Rattle.mpslp_core.specs.Numbered.{sorted_of, is_kept, column_cells, all_cells, TellsApart, IsOnce}
+use Rattle.mpslp_types.proofs.BoolLemmas.{T_from, true_from}
+use Rattle.mpslp_core.proofs.SortedLemmas.{find-sorted_of, is_sorted-sorted_of}
+use Rattle.mpslp_core.proofs.OnceLemmas.{find-filter, once-sorted, is_sorted-filter}
+use Rattle.mpslp_core.proofs.MovingLemmas.{unless_zero}
 use Rattle.mpslp_core.proofs.CellLemmas.{at, or_else, find-two, find-all_cells}
 
 -- a row that no number names has no coefficient
@@ -47,18 +51,26 @@ pub record AreRenumbered (name later : ℕ → Option (List ℕ)) (rank : ℕ �
   pub adds_none : (m : ℕ) (r : List ℕ) → later m ≡ Some r → (n : ℕ) × (name n ≡ Some r)
   pub once : IsOnce cols
   pub once_later : IsOnce moved
-  pub cells : (n : ℕ) (r c : List ℕ) → name n ≡ Some r → option_and_then (find nat_cmp (rank n)) (find bytes_cmp c moved) ≡ option_and_then (find nat_cmp n) (find bytes_cmp c cols)
+  pub cells : (n : ℕ) (r c : List ℕ) → name n ≡ Some r → option_and_then (find nat_cmp (rank n)) (find bytes_cmp c moved) ≡ unless_zero (option_and_then (find nat_cmp n) (find bytes_cmp c cols))
 
 pub renumbered : (name later : ℕ → Option (List ℕ)) (rank : ℕ → ℕ) (cols moved : List (List ℕ × List (ℕ × Number))) → AreRenumbered name later rank cols moved
-    → sorted_of key_cmp (all_cells later moved) ≡ sorted_of key_cmp (all_cells name cols)
+    → sorted_of key_cmp (all_cells later moved) ≡ filter is_kept (sorted_of key_cmp (all_cells name cols))
 renumbered name later rank cols moved a =
-    sorted_of-alike key_cmp key_total same_key (all_cells later moved) (all_cells name cols)
-    (λ q. elim (a.named q.row) [
+    let old = all_cells name cols in
+    let new = all_cells later moved in
+    let old_sorted = true_from (is_sorted key_cmp (sorted_of key_cmp old)) (is_sorted-sorted_of key_cmp key_total old) in
+    let kept = filter is_kept (sorted_of key_cmp old) in
+    same_entries key_cmp key_total same_key (sorted_of key_cmp new) kept
+    (is_sorted-sorted_of key_cmp key_total new) (T_from (is_sorted key_cmp kept) (is_sorted-filter key_cmp key_total is_kept (sorted_of key_cmp old) old_sorted))
+    (λ q.
+    find-sorted_of key_cmp key_total q new
+    ∙ elim (a.named q.row) as (λ _. find key_cmp q new ≡ unless_zero (find key_cmp q old)) [
       | inl n ↦
           find-all_cells later a.apart_later (rank n.0) q.row q.column moved (a.keeps n.0 q.row n.1) a.once_later
           ∙ a.cells n.0 q.row q.column n.1
-          ∙ sym (find-all_cells name a.apart n.0 q.row q.column cols n.1 a.once)
+          ∙ ap unless_zero (sym (find-all_cells name a.apart n.0 q.row q.column cols n.1 a.once))
       | inr nameless ↦
           none_in_all later q.row (λ m is. let old = a.adds_none m q.row is in nameless old.0 old.1) q.column moved
-          ∙ sym (none_in_all name q.row nameless q.column cols)
-    ])
+          ∙ ap unless_zero (sym (none_in_all name q.row nameless q.column cols))
+    ]
+    ∙ sym (find-filter key_cmp key_total (λ (v : Number). not (is_zero v)) q (sorted_of key_cmp old) (once-sorted key_cmp key_total (sorted_of key_cmp old) old_sorted) ∙ ap unless_zero (find-sorted_of key_cmp key_total q old)))

@@ -1,10 +1,11 @@
 -- Rows and columns by numbers, in whatever order they stand, and the coefficients of each column by the numbers of rows.
-use Rattle.std.specs.Prelude.{◌≡◌, ℕ, zero, suc, Bool, List, [], ◌∷◌, ◌++◌, Option, Some, None, is_some, slice_get}
+use Rattle.std.specs.Prelude.{◌≡◌, ℕ, zero, suc, Bool, List, [], ◌∷◌, ◌++◌, Option, Some, None, is_some, slice_get, slice_index, map, filter, not}
 use Rattle.std.specs.List.{list_all}
 use Rattle.std.specs.Option.{option_map, option_map_or}
+use Rattle.std.specs.Ordering.{nat_cmp}
 use Rattle.std.specs.FinMap.{find, put}
 use Rattle.std.specs.declared.cmp.Ordering.{Ordering}
-use Rattle.mpslp_decimal.specs.Decimal.{Number}
+use Rattle.mpslp_decimal.specs.Decimal.{Number, is_zero}
 use Rattle.mpslp_types.specs.Name.{bytes_cmp}
 use Rattle.mpslp_core.specs.Model.{CoefficientKey}
 
@@ -37,12 +38,24 @@ name_of key objective rows (suc i) = option_map (λ e. key e.0) (slice_get rows 
 abbrev pub TellsApart : (ℕ → Option (List ℕ)) → Type 0
 TellsApart name = (n m : ℕ) (r : List ℕ) → name n ≡ Some r → name m ≡ Some r → n ≡ m
 
+-- no key stands again
+abbrev pub IsOnceBy : {K X : Type 0} → (K → K → Ordering) → List (K × X) → Type 0
+IsOnceBy R [] = Unit {0}
+IsOnceBy R (e ∷ es) = (find R e.0 es ≡ None) × IsOnceBy R es
+
 -- no name stands again
 abbrev pub IsOnce : {X : Type 0} → List (List ℕ × X) → Type 0
-IsOnce [] = Unit {0}
-IsOnce (e ∷ es) = (find bytes_cmp e.0 es ≡ None) × IsOnce es
+IsOnce es = IsOnceBy bytes_cmp es
 
 -- ---- coefficients by the numbers of rows
+
+-- whether it is no zero
+abbrev pub is_kept : {K : Type 0} → K × Number → Bool
+is_kept e = not (is_zero e.1)
+
+-- The coefficients of a column under the later numbers of their rows, in the order of these; those of value 0 are left out.
+abbrev pub moved_cells : List ℕ → List (ℕ × Number) → List (ℕ × Number)
+moved_cells ranks cells = filter is_kept (sorted_of nat_cmp (map (λ e. (slice_index ranks e.0, e.1)) cells))
 
 -- the coefficients of a column, those whose row has a name
 abbrev pub column_cells : (ℕ → Option (List ℕ)) → List ℕ → List (ℕ × Number) → List (CoefficientKey × Number)

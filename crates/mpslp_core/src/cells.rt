@@ -1,9 +1,12 @@
 //! The coefficients of a column by the numbers of rows.
 
-ghost use Rattle.std.specs.Prelude.{◌≡◌, [], OnOk, OnErr, None, is_some};
+ghost use Rattle.std.specs.Prelude.{◌≡◌, ◌<◌, ℕ, [], IfOk, OnOk, OnErr, None, is_some, length, slice_index};
+ghost use Rattle.std.specs.List.{All};
 ghost use Rattle.std.specs.Ordering.{nat_cmp};
 ghost use Rattle.std.specs.FinMap.{find, put};
+ghost use Rattle.mpslp_core.specs.Numbered.{moved_cells};
 
+use crate::moving::{in_order_of_numbers, joined, renumbered, without_zeros};
 use mpslp_decimal::{Decimal, PackedDecimal};
 use mpslp_maps::SortedMap;
 use std::alloc::{AllocError, Global};
@@ -27,11 +30,13 @@ impl Model for Cells {
     ghost use Rattle.std.specs.Prelude.{ℕ, List, ◌++◌};
     ghost use Rattle.std.specs.Ordering.{nat_cmp};
     ghost use Rattle.mpslp_decimal.specs.Decimal.{Number};
-    ghost use Rattle.mpslp_core.specs.Numbered.{sorted_of};
+    ghost use Rattle.mpslp_core.specs.Numbered.{sorted_of, IsOnceBy};
 
     ghost Value = { List (ℕ × Number) };
 
     ghost view = { λ c. sorted_of nat_cmp (c.near ++ c.far.entries) };
+
+    ghost invariant = { λ c. IsOnceBy nat_cmp (c.near ++ c.far.entries) };
 }
 
 impl Cells {
@@ -73,5 +78,20 @@ impl Cells {
             self.far.insert(row, PackedDecimal::of(value))?;
         }
         Ok(())
+    }
+
+    /// The coefficients under the later numbers of their rows, in the order of these, without those of value 0.
+    ///
+    /// # Errors
+    ///
+    /// [`AllocError`] where there is no memory to put all into one vector. It takes none where all are in one.
+    pub fn into_moved(self, ranks: &[u32]) -> Result<Vec<(u32, PackedDecimal)>, AllocError>
+        requires within { All (λ cell. cell.0 < length ranks.now) self }
+        requires apart { (n m : ℕ) → n < length ranks.now → m < length ranks.now → slice_index ranks.now n ≡ slice_index ranks.now m → n ≡ m }
+        ensures { IfOk result (λ cells. cells.items ≡ moved_cells ranks.now self) }
+    {
+        let Cells { near, far } = self;
+        let cells = without_zeros(joined(near.into_entries(), far)?);
+        Ok(in_order_of_numbers(renumbered(cells, ranks)))
     }
 }

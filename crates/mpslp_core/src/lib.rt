@@ -14,6 +14,7 @@ mod columns;
 pub mod laws;
 mod limits;
 mod model;
+mod moving;
 mod packed;
 mod sides;
 

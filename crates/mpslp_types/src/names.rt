@@ -156,6 +156,14 @@ impl Name {
         }
     }
 
+    /// The name of bytes that are known to be one. They are moved, and not looked at.
+    pub fn from_legal(bytes: Vec<u8>) -> Name
+        requires { IsMpsName bytes.items }
+        ensures { result ≡ bytes.items }
+    {
+        Name { bytes }
+    }
+
     /// The bytes of the name.
     pub fn as_bytes(&self) -> &[u8]
         ensures { result.now ≡ self.now }
@@ -183,6 +191,13 @@ mod tests {
         assert_eq!(rt; name.into_bytes().as_slice(), b"LIM1".as_slice());
         let longest = Name::new(rt.alloc(), [b'a'; 255].as_slice())?;
         assert_eq!(rt; longest.as_bytes().len(), 255);
+        Ok(())
+    }
+
+    #[test]
+    fn moves_the_bytes_of_a_legal_name(rt: HostRuntime) -> Result<(), Fail> {
+        let name = Name::from_legal(b"LIM1".to_vec(rt.alloc())?);
+        assert_eq!(rt; name.as_bytes(), b"LIM1".as_slice());
         Ok(())
     }
 

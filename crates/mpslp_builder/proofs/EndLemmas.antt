@@ -1,0 +1,120 @@
+-- What the end of tables asks of its steps.
+use Rattle.std.proofs.Common.{◌≡◌, refl, sym, ap, subst, ◌∙◌, ℕ, zero, suc, ◌+◌, ◌<◌, List, [], ◌∷◌, ◌++◌, length, get_or, arith, Bool, true, false, cond, IsPermutation}
+use Rattle.std.specs.Prelude.{◌≢◌, Option, Some, None, is_some, ◌&&◌, unwrap_or, slice_get, slice_index}
+use Rattle.std.specs.Option.{option_map, option_map_or}
+use Rattle.std.specs.Ordering.{is_eq, is_lt, eq_by_cmp}
+use Rattle.std.specs.Cmp.{first_so, second_so}
+use Rattle.std.specs.FinMap.{find}
+use Rattle.std.specs.Global.{Vec}
+use Rattle.std.specs.List.{All, list_all, range_with_len}
+use Rattle.std.specs.List.Sorted.{IsSortedBy}
+use Rattle.mpslp_decimal.specs.Decimal.{Number, negated, zero_number}
+use Rattle.mpslp_types.specs.Name.{bytes_cmp, is_mps_name, IsMpsName}
+use Rattle.mpslp_types.specs.declared.kinds.Sense.{Sense}
+use Rattle.mpslp_types.proofs.EachLemmas.{Each, Each-weaker}
+use Rattle.mpslp_core.specs.Numbered.{sorted_of, each_part, given_parts, all_named, IsOnce, TellsApart}
+use Rattle.mpslp_core.proofs.KeyLemmas.{bytes_total}
+use Rattle.mpslp_core.proofs.SortedLemmas.{find-sorted_of}
+use Rattle.mpslp_core.proofs.CellLemmas.{or_else, find-two, name_same, name_tied}
+use Rattle.mpslp_core.proofs.MovingLemmas.{all-from_each}
+use Rattle.mpslp_builder.specs.Declaration.{Draft, at_name}
+use Rattle.mpslp_builder.specs.Made.{IsMade}
+use Rattle.mpslp_builder.specs.Meaning.{constant_of}
+use Rattle.mpslp_builder.specs.Tables.{bytes, objective_name, form_of, rhs_of, cells_of, no_part, objective_rhs, number_name, cells_by_name, draft_from, AreNumbered}
+use Rattle.mpslp_order.specs.Ordered.{name_at, taken}
+use Rattle.mpslp_builder.specs.MovedParts.{rhs_in}
+use Rattle.mpslp_builder.specs.declared.tables.ObjectiveParts.{ObjectiveParts}
+use Rattle.mpslp_builder.specs.declared.tables.RowParts.{RowParts}
+use Rattle.mpslp_builder.specs.declared.tables.ColumnParts.{ColumnParts}
+use Rattle.mpslp_builder.proofs.MadeDrafts.{good-from_made}
+use Rattle.mpslp_builder.proofs.OrderedParts.{ordered_parts, each-ordered, once-part, no_part-found}
+use Rattle.mpslp_order.proofs.RankLemmas.{order_length, order_within, order_apart}
+use Rattle.mpslp_builder.proofs.ModelOfTables.{within-all}
+
+-- entries, their indices in the order of their names, and they in that order
+pub record AreOrdered {V : Type 0} (entries : List (Vec ℕ × V)) (order : List ℕ) (ordered : List (Vec ℕ × V)) : Type 0 where
+  pub permuted : IsPermutation (range_with_len 0 (length entries)) order
+  pub sorted : IsSortedBy (λ n k. is_lt (bytes_cmp (name_at entries n) (name_at entries k))) order
+  pub are : ordered ≡ taken entries order
+
+-- ---- legal names
+
+legal-each : {V X : Type 0} (f : V → X) (test : List ℕ × X → Bool) (es : List (Vec ℕ × V)) → ((e : List ℕ × X) → test e ≡ true → is_mps_name e.0 ≡ true) → list_all test (each_part bytes f es) ≡ true → Each (λ e. IsMpsName e.0.items) es
+legal-each f test [] t h = tt
+legal-each f test (e ∷ es) t h =
+    (t (e.0.items, f e.1) (first_so (test (e.0.items, f e.1)) (list_all test (each_part bytes f es)) h), legal-each f test es t (second_so (test (e.0.items, f e.1)) (list_all test (each_part bytes f es)) h))
+
+module _ (sense : Option Sense) (constant : Option Number) (objective : Option ObjectiveParts) (rows : List (Vec ℕ × RowParts)) (columns : List (Vec ℕ × ColumnParts))
+    (made : IsMade (draft_from sense constant objective rows columns)) where
+  pub legal_rows : (order : List ℕ) (ordered : List (Vec ℕ × RowParts)) → IsOnce (each_part bytes form_of rows) → AreOrdered rows order ordered → All (λ row. IsMpsName row.0.items) ordered
+  legal_rows order ordered once o =
+      let good = good-from_made (draft_from sense constant objective rows columns) made in
+      subst (All (λ row. IsMpsName row.0.items)) (sym o.are)
+      (all-from_each (λ row. IsMpsName row.0.items) (taken rows order)
+      (legal-each form_of _ (taken rows order) (λ e h. first_so (is_mps_name e.0) _ h)
+      (ap (list_all _) (ordered_parts form_of rows order once o.permuted o.sorted) ∙ good.rows)))
+
+  pub legal_columns : (order : List ℕ) (ordered : List (Vec ℕ × ColumnParts)) → IsOnce (each_part bytes no_part columns) → AreOrdered columns order ordered → All (λ column. IsMpsName column.0.items) ordered
+  legal_columns order ordered once o =
+      let good = good-from_made (draft_from sense constant objective rows columns) made in
+      subst (All (λ column. IsMpsName column.0.items)) (sym o.are)
+      (all-from_each (λ column. IsMpsName column.0.items) (taken columns order)
+      (legal-each no_part (λ e. is_mps_name e.0) (taken columns order) (λ e h. h)
+      (ap (list_all (λ e. is_mps_name e.0)) (ordered_parts no_part columns order once o.permuted o.sorted) ∙ good.columns)))
+
+-- ---- numbers of cells
+
+pub cells_within : (objective : Option ObjectiveParts) (rows : List (Vec ℕ × RowParts)) (columns : List (Vec ℕ × ColumnParts)) (bound : ℕ) (order : List ℕ) (ordered : List (Vec ℕ × ColumnParts))
+    → AreNumbered objective rows columns → bound ≡ length rows + 1 → AreOrdered columns order ordered → All (λ column. All (λ cell. cell.0 < bound) column.1.cells) ordered
+cells_within objective rows columns bound order ordered n is o =
+    let within = Each-weaker (λ e. Each (λ cell. cell.0 < length rows + 1) (cells_of e.1)) (λ column. All (λ cell. cell.0 < bound) column.1.cells)
+    (λ e h. all-from_each (λ cell. cell.0 < bound) (cells_of e.1) (subst (λ (bound : ℕ). Each (λ cell. cell.0 < bound) (cells_of e.1)) (sym is) h)) columns (within-all objective rows columns n.named) in
+    subst (All (λ column. All (λ cell. cell.0 < bound) column.1.cells)) (sym o.are)
+    (all-from_each (λ column. All (λ cell. cell.0 < bound) column.1.cells) (taken columns order) (each-ordered (λ column. All (λ cell. cell.0 < bound) column.1.cells) columns order o.permuted within))
+
+-- ---- the right side of the objective
+
+apart_rows : (o : ObjectiveParts) (rows : List (Vec ℕ × RowParts)) → ((i : ℕ) (e : Vec ℕ × RowParts) → slice_get rows i ≡ Some e → e.0.items ≡ o.name → ⊥) → Each (λ e. eq_by_cmp bytes_cmp e.0.items o.name ≡ false) rows
+apart_rows o [] h = tt
+apart_rows o (e ∷ rows) h =
+    (elim (eq_by_cmp bytes_cmp e.0.items o.name) as (λ b. eq_by_cmp bytes_cmp e.0.items o.name ≡ b → b ≡ false) [
+      | true ↦ λ tie. absurd (h zero e refl (name_same e.0.items o.name tie))
+      | false ↦ λ _. refl
+    ] refl, apart_rows o rows (λ i d is same. h (suc i) d is same))
+
+pub objective_says : (o : ObjectiveParts) (rows : List (Vec ℕ × RowParts)) → TellsApart (number_name (Some o) rows) → at_name (sorted_of bytes_cmp (objective_rhs (Some o) ++ given_parts bytes rhs_of rows)) o.name ≡ o.rhs
+objective_says o rows apart =
+    let given = given_parts bytes rhs_of rows in
+    let none : find bytes_cmp o.name given ≡ None = no_part-found rhs_of o.name rows
+        (apart_rows o rows (λ i e is same. let zero_is : zero ≡ suc i = apart zero (suc i) o.name refl (ap (option_map (λ (e : Vec ℕ × RowParts). e.0.items)) is ∙ ap Some same) in absurd cc)) in
+    find-sorted_of bytes_cmp bytes_total o.name (objective_rhs (Some o) ++ given) ∙ find-two bytes_cmp o.name (objective_rhs (Some o)) given
+    ∙ elim (o.rhs) as (λ r. or_else (find bytes_cmp o.name (option_map_or (λ value. (o.name, value) ∷ []) r [])) (find bytes_cmp o.name given) ≡ r) [
+      | None ↦ none
+      | Some value ↦ ap (λ (b : Bool). or_else (cond b (Some value) None) (find bytes_cmp o.name given)) (name_tied o.name o.name refl)
+    ]
+
+pub constant_is : (sense : Option Sense) (constant : Option Number) (objective : Option ObjectiveParts) (rows : List (Vec ℕ × RowParts)) (columns : List (Vec ℕ × ColumnParts)) → is_some objective ≡ true → TellsApart (number_name objective rows)
+    → unwrap_or constant (negated (unwrap_or (rhs_in objective) zero_number)) ≡ constant_of (draft_from sense constant objective rows columns)
+constant_is sense constant None rows columns there apart = cc
+constant_is sense constant (Some o) rows columns there apart = ap (λ (r : Option Number). unwrap_or constant (negated (unwrap_or r zero_number))) (sym (objective_says o rows apart))
+
+-- ---- the order of entries, as it is told
+
+pub ordered_from : {V : Type 0} (told entries : List (Vec ℕ × V)) (order : List ℕ) (ordered : List (Vec ℕ × V)) → told ≡ entries → IsPermutation (range_with_len 0 (length told)) order
+    → IsSortedBy (λ n k. is_lt (bytes_cmp (name_at told n) (name_at told k))) order → ordered ≡ taken told order → AreOrdered entries order ordered
+ordered_from told entries order ordered is permuted sorted are = subst (λ (es : List (Vec ℕ × _)). AreOrdered es order ordered) is (record { permuted = permuted; sorted = sorted; are = are })
+
+module _ (rows : List (Vec ℕ × RowParts)) (order : List ℕ) (ordered : List (Vec ℕ × RowParts)) (o : AreOrdered rows order ordered) where
+  pub few_of : length rows < 4294967295 → length order < 4294967295
+  few_of few = omega (arith, few, order_length (length rows) order o.permuted)
+
+  pub within_of : (p : ℕ) → p < length order → slice_index order p < length order
+  within_of p h = let under = order_within (length rows) order o.permuted p h in omega (arith, under, order_length (length rows) order o.permuted)
+
+  pub apart_of : (p q : ℕ) → p < q → q < length order → slice_index order p ≢ slice_index order q
+  apart_of = order_apart (length rows) order o.permuted
+
+-- an objective that is there has a name
+pub named_there : (objective : Option ObjectiveParts) → is_some objective ≡ true → is_some (objective_name objective) ≡ true
+named_there None h = cc
+named_there (Some o) h = refl

@@ -1,0 +1,27 @@
+use Rattle.std.proofs.Common.{◌≡◌, sym, ap, subst, ◌∙◌}
+use Rattle.std.specs.Prelude.{Option, Some, None}
+use Rattle.std.specs.Option.{option_map}
+use Rattle.mpslp_builder.specs.Declaration.{Draft}
+use Rattle.mpslp_builder.specs.Meaning.{file_fault, DraftMeans}
+use Rattle.mpslp_builder.specs.FaultFound.{fault_found}
+use Rattle.mpslp_builder.specs.declared.file_faults.FoundFault.{FoundFault}
+use Rattle.mpslp_builder.proofs.FoundLemmas.{legal_names}
+use Rattle.mpslp_builder.proofs.builder.Builder.finish.Goals as goal
+
+pub into_fault-requires : goal.into_fault-requires
+into_fault-requires c = legal_names c.self.inside.sense c.self.inside.constant c.self.inside.tables c.self.invariant.0
+
+pub returns-in-Some : goal.returns-in-Some
+returns-in-Some c =
+    ap file_fault (sym c.self.view_is)
+    ∙ sym c.first_fault.ensures.fault
+    ∙ ap (option_map (fault_found c.self.inside.tables)) c.in-Some.is
+    ∙ ap Some (sym c.into_fault.ensures)
+
+pub returns-in-Ok : goal.returns-in-Ok
+returns-in-Ok c =
+    let none = sym c.first_fault.ensures.fault ∙ ap (option_map (fault_found c.self.inside.tables)) c.in-None.is in
+    (ap file_fault (sym c.self.view_is) ∙ none, subst (λ (d : Draft). DraftMeans d c.in-Ok.model) c.self.view_is c.in-Ok.ensures)
+
+pub returns-in-Err : goal.returns-in-Err
+returns-in-Err c = ap file_fault (sym c.self.view_is) ∙ sym c.first_fault.ensures.fault ∙ ap (option_map (fault_found c.self.inside.tables)) c.in-None.is

@@ -1,0 +1,129 @@
+//! The rows and the columns of a model, from those of tables that stand in the order of their names.
+
+ghost use Rattle.std.specs.Prelude.{◌≡◌, ◌<◌, ℕ, IfOk, length, slice_index, unwrap_or};
+ghost use Rattle.std.specs.List.{All};
+ghost use Rattle.mpslp_decimal.specs.Decimal.{zero_number};
+ghost use Rattle.mpslp_types.specs.Name.{IsMpsName};
+ghost use Rattle.mpslp_types.specs.declared.kinds.RowType.TheVariants as types;
+ghost use Rattle.mpslp_core.specs.Limits.{limits_of, plain_limits, row_form};
+ghost use Rattle.mpslp_core.specs.ModelParts.{own, bounds_in, cells_in};
+ghost use Rattle.mpslp_core.specs.Numbered.{each_part};
+ghost use Rattle.mpslp_builder.specs.MovedParts.{limits_in, declared_in, bounds_of, moved_in};
+ghost use Rattle.mpslp_builder.specs.Tables.{bytes};
+
+use crate::tables::{ColumnParts, RowParts};
+use mpslp_core::{
+    DeclaredColumn, FormKind, ModelColumn, PackedColumn, PackedLimit, PackedRow, RowLimits,
+    limits_of, plain_limits,
+};
+use mpslp_decimal::{Decimal, PackedDecimal};
+use mpslp_types::{Limit, Name, RowType};
+use std::alloc::{AllocError, Global};
+
+/// The number, if there is one.
+pub(crate) fn value_of(value: &Option<PackedDecimal>) -> Option<Decimal>
+    ensures { result ≡ value.now }
+{
+    match value {
+        Some(value) => Some(value.value()),
+        None => None,
+    }
+}
+
+/// The side, if there is one.
+fn side_of(side: &Option<PackedLimit>) -> Option<Limit>
+    ensures { result ≡ side.now }
+{
+    match side {
+        Some(side) => Some(side.limit()),
+        None => None,
+    }
+}
+
+/// The number, and 0 where there is none.
+pub(crate) fn or_zero(value: Option<Decimal>) -> Decimal
+    ensures { result ≡ unwrap_or value zero_number }
+{
+    match value {
+        Some(value) => value,
+        None => Decimal::zero(),
+    }
+}
+
+/// The limits of a row; where they are no decimals, those of a row without limits.
+fn limits_or_none(form: &FormKind, rhs: Decimal, range: &Option<Decimal>) -> RowLimits
+    ensures { result ≡ unwrap_or (limits_of (row_form form.now) rhs range.now) (plain_limits types.Free zero_number) }
+{
+    match limits_of(form, rhs, range) {
+        Some(limits) => limits,
+        None => plain_limits(RowType::Free, Decimal::zero()),
+    }
+}
+
+/// The limits of a row.
+fn limits_in(row: &RowParts) -> RowLimits
+    ensures { result ≡ limits_in row.now }
+{
+    let rhs = or_zero(value_of(&row.rhs));
+    limits_or_none(&row.form.kind(), rhs, &value_of(&row.range))
+}
+
+/// What is declared of a column.
+fn declared_in(column: &ColumnParts) -> DeclaredColumn
+    ensures { result ≡ declared_in column.now }
+{
+    DeclaredColumn {
+        lower: side_of(&column.lower),
+        upper: side_of(&column.upper),
+        marked: column.marked,
+        integer: column.integer,
+        binary: column.binary,
+        semi: column.semi,
+    }
+}
+
+/// The rows of a model.
+pub(crate) fn rows_of(
+    alloc: Global,
+    rows: Vec<(Vec<u8>, RowParts)>,
+) -> Result<Vec<(Name, PackedRow)>, AllocError>
+    requires { All (λ row. IsMpsName row.0.items) rows.items }
+    ensures { IfOk result (λ made. made.items ≡ each_part bytes limits_in rows.items) }
+{
+    let mut made = Vec::with_capacity(alloc, rows.len())?;
+    for (name, parts) in rows {
+        made.push((Name::from_legal(name), PackedRow::of(limits_in(&parts))))?;
+    }
+    Ok(made)
+}
+
+/// A column of a model, with the later numbers of rows.
+fn column_of(column: ColumnParts, ranks: &[u32]) -> Result<ModelColumn, AllocError>
+    requires within { All (λ cell. cell.0 < length ranks.now) column.cells }
+    requires apart { (n m : ℕ) → n < length ranks.now → m < length ranks.now → slice_index ranks.now n ≡ slice_index ranks.now m → n ≡ m }
+    ensures bounds { IfOk result (λ made. made.bounds ≡ bounds_of column) }
+    ensures cells { IfOk result (λ made. made.cells.items ≡ moved_in ranks.now column) }
+{
+    let bounds = PackedColumn::of(declared_in(&column).bounds());
+    let cells = column.cells.into_moved(ranks)?;
+    Ok(ModelColumn { bounds, cells })
+}
+
+/// The columns of a model, with the later numbers of rows.
+pub(crate) fn columns_of(
+    alloc: Global,
+    columns: Vec<(Vec<u8>, ColumnParts)>,
+    ranks: &[u32],
+) -> Result<Vec<(Name, ModelColumn)>, AllocError>
+    requires names { All (λ column. IsMpsName column.0.items) columns.items }
+    requires within { All (λ column. All (λ cell. cell.0 < length ranks.now) column.1.cells) columns.items }
+    requires apart { (n m : ℕ) → n < length ranks.now → m < length ranks.now → slice_index ranks.now n ≡ slice_index ranks.now m → n ≡ m }
+    ensures bounds { IfOk result (λ made. each_part own bounds_in made.items ≡ each_part bytes bounds_of columns.items) }
+    ensures cells { IfOk result (λ made. each_part own cells_in made.items ≡ each_part bytes (moved_in ranks.now) columns.items) }
+{
+    let mut made = Vec::with_capacity(alloc, columns.len())?;
+    for (name, parts) in columns {
+        made.push((Name::from_legal(name), column_of(parts, ranks)?))?;
+    }
+    Ok(made)
+}
