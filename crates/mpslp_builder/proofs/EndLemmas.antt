@@ -21,14 +21,14 @@ use Rattle.mpslp_builder.specs.Declaration.{Draft, at_name}
 use Rattle.mpslp_builder.specs.Made.{IsMade}
 use Rattle.mpslp_builder.specs.Meaning.{constant_of}
 use Rattle.mpslp_builder.specs.Tables.{bytes, objective_name, form_of, rhs_of, cells_of, no_part, objective_rhs, number_name, cells_by_name, draft_from, AreNumbered}
-use Rattle.mpslp_order.specs.Ordered.{name_at, taken}
+use Rattle.mpslp_numbered.specs.Ordered.{name_at, taken}
 use Rattle.mpslp_builder.specs.MovedParts.{rhs_in}
 use Rattle.mpslp_builder.specs.declared.tables.ObjectiveParts.{ObjectiveParts}
 use Rattle.mpslp_builder.specs.declared.tables.RowParts.{RowParts}
 use Rattle.mpslp_builder.specs.declared.tables.ColumnParts.{ColumnParts}
 use Rattle.mpslp_builder.proofs.MadeDrafts.{good-from_made}
 use Rattle.mpslp_builder.proofs.OrderedParts.{ordered_parts, each-ordered, once-part, no_part-found}
-use Rattle.mpslp_order.proofs.RankLemmas.{order_length, order_within, order_apart}
+use Rattle.mpslp_numbered.proofs.RankLemmas.{order_length, order_within, order_apart}
 use Rattle.mpslp_builder.proofs.ModelOfTables.{within-all}
 
 -- entries, their indices in the order of their names, and they in that order
@@ -76,17 +76,19 @@ cells_within objective rows columns bound order ordered n is o =
 
 apart_rows : (o : ObjectiveParts) (rows : List (Vec ℕ × RowParts)) → ((i : ℕ) (e : Vec ℕ × RowParts) → slice_get rows i ≡ Some e → e.0.items ≡ o.name → ⊥) → Each (λ e. eq_by_cmp bytes_cmp e.0.items o.name ≡ false) rows
 apart_rows o [] h = tt
-apart_rows o (e ∷ rows) h =
-    (elim (eq_by_cmp bytes_cmp e.0.items o.name) as (λ b. eq_by_cmp bytes_cmp e.0.items o.name ≡ b → b ≡ false) [
-      | true ↦ λ tie. absurd (h zero e refl (name_same e.0.items o.name tie))
-      | false ↦ λ _. refl
-    ] refl, apart_rows o rows (λ i d is same. h (suc i) d is same))
+apart_rows o (e ∷ rows) h = (
+  elim (eq_by_cmp bytes_cmp e.0.items o.name) as (λ b. eq_by_cmp bytes_cmp e.0.items o.name ≡ b → b ≡ false) [
+    | true ↦ λ tie. absurd (h zero e refl (name_same e.0.items o.name tie))
+    | false ↦ λ _. refl
+  ] refl,
+  apart_rows o rows (λ i d is same. h (suc i) d is same),
+)
 
 pub objective_says : (o : ObjectiveParts) (rows : List (Vec ℕ × RowParts)) → TellsApart (number_name (Some o) rows) → at_name (sorted_of bytes_cmp (objective_rhs (Some o) ++ given_parts bytes rhs_of rows)) o.name ≡ o.rhs
 objective_says o rows apart =
     let given = given_parts bytes rhs_of rows in
     let none : find bytes_cmp o.name given ≡ None = no_part-found rhs_of o.name rows
-        (apart_rows o rows (λ i e is same. let zero_is : zero ≡ suc i = apart zero (suc i) o.name refl (ap (option_map (λ (e : Vec ℕ × RowParts). e.0.items)) is ∙ ap Some same) in absurd cc)) in
+    (apart_rows o rows (λ i e is same. let zero_is : zero ≡ suc i = apart zero (suc i) o.name refl (ap (option_map (λ (e : Vec ℕ × RowParts). e.0.items)) is ∙ ap Some same) in absurd cc)) in
     find-sorted_of bytes_cmp bytes_total o.name (objective_rhs (Some o) ++ given) ∙ find-two bytes_cmp o.name (objective_rhs (Some o)) given
     ∙ elim (o.rhs) as (λ r. or_else (find bytes_cmp o.name (option_map_or (λ value. (o.name, value) ∷ []) r [])) (find bytes_cmp o.name given) ≡ r) [
       | None ↦ none

@@ -30,7 +30,7 @@ use Rattle.mpslp_builder.specs.Made.{IsMade}
 use Rattle.mpslp_builder.specs.Bounds.{column_of}
 use Rattle.mpslp_builder.specs.Meaning.{objective_name, constant_of, row_limits, row_entry, model_of, file_fault, DraftMeans}
 use Rattle.mpslp_builder.specs.Tables.{bytes, form_of, cells_of, no_part, number_name, cells_by_name, draft_from, AreNumbered}
-use Rattle.mpslp_order.specs.Ordered.{taken}
+use Rattle.mpslp_numbered.specs.Ordered.{taken}
 use Rattle.mpslp_builder.specs.MovedParts.{moved_in}
 use Rattle.mpslp_builder.specs.declared.tables.ObjectiveParts.{ObjectiveParts}
 use Rattle.mpslp_builder.specs.declared.tables.RowParts.{RowParts}

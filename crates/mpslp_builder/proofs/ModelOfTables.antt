@@ -26,14 +26,14 @@ use Rattle.mpslp_core.proofs.OnceLemmas.{find-permutation, once-permutation}
 use Rattle.mpslp_core.proofs.MovingLemmas.{unless_zero, find-moved}
 use Rattle.mpslp_core.proofs.RenumberLemmas.{AreRenumbered, renumbered}
 use Rattle.mpslp_builder.specs.Tables.{bytes, form_of, cells_of, no_part, objective_name, number_name, cells_by_name, AreNumbered}
-use Rattle.mpslp_order.specs.Ordered.{name_at, taken}
+use Rattle.mpslp_numbered.specs.Ordered.{name_at, taken}
 use Rattle.mpslp_builder.specs.MovedParts.{limits_in, bounds_of, moved_in}
 use Rattle.mpslp_builder.specs.declared.tables.ObjectiveParts.{ObjectiveParts}
 use Rattle.mpslp_builder.specs.declared.tables.RowParts.{RowParts}
 use Rattle.mpslp_builder.specs.declared.tables.ColumnParts.{ColumnParts}
 use Rattle.mpslp_builder.proofs.PartLemmas.{find-each_part}
 use Rattle.mpslp_builder.proofs.OrderedParts.{taken-permutation, parts-permutation, once-part}
-use Rattle.mpslp_order.proofs.RankLemmas.{order_length, order_within, AreRanks, rank_at, ranks_length, ranks_apart, get-taken, place_below, length-taken}
+use Rattle.mpslp_numbered.proofs.RankLemmas.{order_length, order_within, AreRanks, rank_at, ranks_length, ranks_apart, get-taken, place_below, length-taken}
 
 -- ---- which rows there are
 
@@ -180,8 +180,8 @@ module _ (objective : Option ObjectiveParts) (rows : List (Vec ℕ × RowParts))
         let moved_once = once-part (moved_in f.ranks) no_part columns once in
         let permuted = parts-permutation (moved_in f.ranks) columns (taken columns f.column_order) (taken-permutation columns f.column_order f.columns_permuted) in
         let moved = ap (find bytes_cmp c) f.cells_are
-            ∙ sym (find-permutation bytes_cmp bytes_total (each_part bytes (moved_in f.ranks) columns) (each_part bytes (moved_in f.ranks) (taken columns f.column_order)) permuted moved_once c)
-            ∙ find-each_part bytes (moved_in f.ranks) c columns in
+        ∙ sym (find-permutation bytes_cmp bytes_total (each_part bytes (moved_in f.ranks) columns) (each_part bytes (moved_in f.ranks) (taken columns f.column_order)) permuted moved_once c)
+        ∙ find-each_part bytes (moved_in f.ranks) c columns in
         ap (option_and_then (find nat_cmp (slice_index f.ranks k))) moved
         ∙ elim (lookup (λ k. same_bytes c (bytes k)) columns) as (λ o. lookup (λ k. same_bytes c (bytes k)) columns ≡ o → option_and_then (find nat_cmp (slice_index f.ranks k)) (option_map (moved_in f.ranks) o) ≡ unless_zero (option_and_then (find nat_cmp k) (option_map cells_of o))) [
           | None ↦ λ _. refl

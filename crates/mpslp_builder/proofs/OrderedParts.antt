@@ -19,7 +19,7 @@ use Rattle.mpslp_core.proofs.PermutationLemmas.{along_permutation}
 use Rattle.mpslp_core.proofs.OnceLemmas.{NeverFalls, never_falls-from_sort, permuted-is_map, two_heads}
 use Rattle.mpslp_core.proofs.MovingLemmas.{each-from_all, all-from_each}
 use Rattle.mpslp_builder.specs.Tables.{bytes}
-use Rattle.mpslp_order.specs.Ordered.{name_at, taken}
+use Rattle.mpslp_numbered.specs.Ordered.{name_at, taken}
 
 -- ---- the items of numbers in another order
 
@@ -76,7 +76,7 @@ never_falls-taken {V} entries (n ∷ ns) h =
       | None ↦ λ _. never_falls-taken entries ns h.1
       | Some e ↦ λ is. (
         taken-each entries (λ m. is_lt (bytes_cmp (name_at entries m) (name_at entries n)) ≡ false) (λ d. is_lt (bytes_cmp d.0.items e.0.items) ≡ false)
-        (λ m d at below. let there = name_at-get entries m d at in let here = name_at-get entries n e is in sym (λ i. is_lt (bytes_cmp (there i) (here i))) ∙ below) ns h.0,
+            (λ m d at below. let there = name_at-get entries m d at in let here = name_at-get entries n e is in sym (λ i. is_lt (bytes_cmp (there i) (here i))) ∙ below) ns h.0,
         never_falls-taken entries ns h.1,
       )
     ] refl
@@ -150,7 +150,7 @@ module _ {V X : Type 0} (f : V → Option X) where
         | Some x ↦ λ is. (
           ap (λ (b : Bool). cond b (Some x) (find bytes_cmp e.0.items rest)) tie ∙ sym is,
           Each-both (λ d. eq_by_cmp bytes_cmp d.0.items e.0.items ≡ false) (λ d. find bytes_cmp d.0.items rest ≡ f d.1) (λ d. cond (eq_by_cmp bytes_cmp d.0.items e.0.items) (Some x) (find bytes_cmp d.0.items rest) ≡ f d.1)
-          (λ d apart own. ap (λ (b : Bool). cond b (Some x) (find bytes_cmp d.0.items rest)) apart ∙ own) es others (own_parts g es h.1),
+              (λ d apart own. ap (λ (b : Bool). cond b (Some x) (find bytes_cmp d.0.items rest)) apart ∙ own) es others (own_parts g es h.1),
         )
       ] refl
 

@@ -274,7 +274,8 @@ module _ (sense : Option Sense) (constant : Option Number) (o : ObjectiveParts) 
   pub objective_rhs_draft : o.rhs ≡ None → draft_from sense constant (Some (record o { rhs = Some x })) rows columns ≡ adding (draft_from sense constant (Some o) rows columns) (declare_rhs o.name x)
   objective_rhs_draft none =
       ap (λ (value : Option Number). record (draft_from sense constant (Some o) rows columns) {
-        rhs_values = put bytes_cmp o.name x (sorted_of bytes_cmp (option_map_or (λ v. (o.name, v) ∷ []) value [] ++ given_parts bytes rhs_of rows)) })
+        rhs_values = put bytes_cmp o.name x (sorted_of bytes_cmp (option_map_or (λ v. (o.name, v) ∷ []) value [] ++ given_parts bytes rhs_of rows));
+      })
       (sym none)
 
   pub objective_rhs_numbered : AreNumbered (Some o) rows columns → AreNumbered (Some (record o { rhs = Some x })) rows columns

@@ -22,7 +22,8 @@ use Rattle.mpslp_builder.specs.Declaration.{Draft, at_name}
 use Rattle.mpslp_builder.specs.Bounds.{declared_of, column_of}
 use Rattle.mpslp_builder.specs.Meaning.{row_entry}
 use Rattle.mpslp_builder.specs.Tables.{bytes, form_of, rhs_of, range_of, no_part, lower_of, upper_of, as_part, mark_of, integer_of, binary_of, semi_of, objective_rhs, number_name, draft_from}
-use Rattle.mpslp_builder.specs.MovedParts.{limits_in, declared_in, bounds_of}
+use Rattle.mpslp_builder.specs.FaultFound.{declared_in}
+use Rattle.mpslp_builder.specs.MovedParts.{limits_in, bounds_of}
 use Rattle.mpslp_builder.specs.declared.tables.ObjectiveParts.{ObjectiveParts}
 use Rattle.mpslp_builder.specs.declared.tables.RowParts.{RowParts}
 use Rattle.mpslp_builder.specs.declared.tables.ColumnParts.{ColumnParts}
@@ -106,12 +107,12 @@ module _ (columns : List (Vec ℕ × ColumnParts)) (once : IsOnce (each_part byt
       (λ e. ((mark_of e.1 ≡ at_name d.marked e.0.items) × (integer_of e.1 ≡ at_name d.integers e.0.items)) × ((binary_of e.1 ≡ at_name d.binaries e.0.items) × (semi_of e.1 ≡ at_name d.semis e.0.items)))
       (SaysColumn d)
       (λ e s f i. record {
-      lower = s.0 i;
-      upper = s.1 i;
-      marked = (sym (is_part e.1.marked) ∙ ap is_some f.0.0) i;
-      integer = (sym (is_part e.1.integer) ∙ ap is_some f.0.1) i;
-      binary = (sym (is_part e.1.binary) ∙ ap is_some f.1.0) i;
-      semi = (sym (is_part e.1.semi) ∙ ap is_some f.1.1) i;
+        lower = s.0 i;
+        upper = s.1 i;
+        marked = (sym (is_part e.1.marked) ∙ ap is_some f.0.0) i;
+        integer = (sym (is_part e.1.integer) ∙ ap is_some f.0.1) i;
+        binary = (sym (is_part e.1.binary) ∙ ap is_some f.1.0) i;
+        semi = (sym (is_part e.1.semi) ∙ ap is_some f.1.1) i;
       }) columns sides flags
 
 pub columns_meant : (d : Draft) (columns : List (Vec ℕ × ColumnParts)) → Each (SaysColumn d) columns → each_part bytes bounds_of columns ≡ map (λ column. (column.0, column_of d column.0)) (each_part bytes no_part columns)

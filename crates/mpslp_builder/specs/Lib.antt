@@ -7,7 +7,6 @@ pub mod Meaning
 pub mod Laws
 pub mod Answer
 pub mod Finish
-pub mod Forms
 pub mod Tables
 pub mod Calls
 pub mod FaultFound

@@ -6,7 +6,7 @@ use Rattle.mpslp_core.specs.Model.{Row, Column}
 use Rattle.mpslp_core.specs.Limits.{limits_of, plain_limits}
 use Rattle.mpslp_core.specs.Columns.{declared_column}
 use Rattle.mpslp_core.specs.Numbered.{moved_cells}
-use Rattle.mpslp_core.specs.declared.bounds.DeclaredColumn.{DeclaredColumn}
+use Rattle.mpslp_builder.specs.FaultFound.{declared_in}
 use Rattle.mpslp_builder.specs.declared.tables.ObjectiveParts.{ObjectiveParts}
 use Rattle.mpslp_builder.specs.declared.tables.RowParts.{RowParts}
 use Rattle.mpslp_builder.specs.declared.tables.ColumnParts.{ColumnParts}
@@ -14,17 +14,6 @@ use Rattle.mpslp_builder.specs.declared.tables.ColumnParts.{ColumnParts}
 -- the limits of a row; where they are no decimals, those of a row without limits
 abbrev pub limits_in : RowParts → Row
 limits_in row = unwrap_or (limits_of row.form (unwrap_or row.rhs zero_number) row.range) (plain_limits Free zero_number)
-
--- what is declared of a column
-abbrev pub declared_in : ColumnParts → DeclaredColumn
-declared_in column = record {
-  lower = column.lower;
-  upper = column.upper;
-  marked = column.marked;
-  integer = column.integer;
-  binary = column.binary;
-  semi = column.semi;
-}
 
 abbrev pub bounds_of : ColumnParts → Column
 bounds_of column = declared_column (declared_in column)

@@ -7,8 +7,8 @@ ghost use Rattle.mpslp_builder.specs.Declaration.{empty_draft, adding, adding_al
 ghost use Rattle.mpslp_builder.specs.Refusal.{refusals, bounds_refusals};
 ghost use Rattle.mpslp_builder.specs.Answer.{Answers, IsNotOutOfMemory};
 
-use crate::forms::StoredForm;
 use crate::tables::Tables;
+use mpslp_core::StoredForm;
 use mpslp_decimal::Decimal;
 use mpslp_decimal::laws::each_value_is_a_decimal;
 use mpslp_types::{BuildFault, Limit, Name, RowType, Sense};

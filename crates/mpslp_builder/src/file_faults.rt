@@ -3,20 +3,17 @@
 //! Rows and columns stand in the order in which they were declared, and a fault is told of the least name that has it. So
 //! the least name so far is kept, which takes no memory.
 
-ghost use Rattle.std.specs.Prelude.{◌≡◌, ◌<◌, Bool, length, filter_map, unwrap_or};
+ghost use Rattle.std.specs.Prelude.{◌≡◌, ◌<◌, Bool, length, filter_map};
 ghost use Rattle.std.specs.List.{list_any};
 ghost use Rattle.std.specs.Option.{option_and_then, option_map, ForSome};
-ghost use Rattle.mpslp_decimal.specs.Decimal.{zero_number};
 ghost use Rattle.mpslp_core.specs.Lists.{head_of};
 ghost use Rattle.mpslp_builder.specs.Meaning.{file_fault};
-ghost use Rattle.mpslp_builder.specs.Tables.{rhs_of, range_of, draft, IsNumbered};
-ghost use Rattle.mpslp_builder.specs.FaultFound.{row_fails, column_fails, declared_in, is_wrong_row, is_wrong_column, is_below, least_name, entry_name, kind_of_row_fault, kind_of_column_fault, named, fault_found, IsThere};
+ghost use Rattle.mpslp_builder.specs.Tables.{draft, IsNumbered};
+ghost use Rattle.mpslp_builder.specs.FaultFound.{row_fails, column_fails, is_wrong_row, is_wrong_column, is_below, least_name, entry_name, kind_of_row_fault, kind_of_column_fault, named, fault_found, IsThere};
 
 use crate::tables::{ColumnParts, RowParts, Tables};
 use indexmap::IndexMap;
-use mpslp_core::{ColumnFault, DeclaredColumn, PackedLimit, RowFault, is_faulty_row, row_has};
-use mpslp_decimal::Decimal;
-use mpslp_types::Limit;
+use mpslp_core::{ColumnFault, RowFault, is_faulty_row, row_has};
 
 /// What may have a fault.
 pub(crate) trait Faulty<F> {
@@ -31,28 +28,6 @@ pub(crate) trait Faulty<F> {
     /// Whether it has any.
     fn is_faulty(&self) -> bool
         ensures { result ≡ is_wrong self.now };
-}
-
-impl RowParts {
-    /// The right side, and 0 where none is declared.
-    pub(crate) fn rhs_or_zero(&self) -> Decimal
-        ensures { result ≡ unwrap_or (rhs_of self.now) zero_number }
-    {
-        match &self.rhs {
-            Some(value) => value.value(),
-            None => Decimal::zero(),
-        }
-    }
-
-    /// The range, if one is declared.
-    pub(crate) fn range_value(&self) -> Option<Decimal>
-        ensures { result ≡ range_of self.now }
-    {
-        match &self.range {
-            Some(value) => Some(value.value()),
-            None => None,
-        }
-    }
 }
 
 impl Faulty<RowFault> for RowParts {
@@ -71,32 +46,6 @@ impl Faulty<RowFault> for RowParts {
 
     fn is_faulty(&self) -> bool {
         is_faulty_row(&self.form.kind(), self.rhs_or_zero(), &self.range_value())
-    }
-}
-
-/// The side, if one is declared.
-fn side_of(side: &Option<PackedLimit>) -> Option<Limit>
-    ensures { result ≡ side.now }
-{
-    match side {
-        Some(side) => Some(side.limit()),
-        None => None,
-    }
-}
-
-impl ColumnParts {
-    /// What is declared of the column beside its coefficients.
-    pub(crate) fn declared(&self) -> DeclaredColumn
-        ensures { result ≡ declared_in self.now }
-    {
-        DeclaredColumn {
-            lower: side_of(&self.lower),
-            upper: side_of(&self.upper),
-            marked: self.marked,
-            integer: self.integer,
-            binary: self.binary,
-            semi: self.semi,
-        }
     }
 }
 
@@ -144,10 +93,7 @@ fn is_below<V>(entries: &IndexMap<Vec<u8>, V>, name: &[u8], least: Option<usize>
 }
 
 /// The index of the entry of the least name that has this fault.
-fn least_faulty<F: Copy, V: Faulty<F>>(
-    entries: &IndexMap<Vec<u8>, V>,
-    fault: F,
-) -> Option<usize>
+fn least_faulty<F: Copy, V: Faulty<F>>(entries: &IndexMap<Vec<u8>, V>, fault: F) -> Option<usize>
     ensures name { option_and_then (entry_name entries.now.entries) result ≡ least_name (V.fails fault) entries.now.entries }
     ensures there { ForSome result (λ i. i < length entries.now.entries) }
 {

@@ -5,26 +5,25 @@ ghost use Rattle.std.specs.List.{range_with_len};
 ghost use Rattle.std.specs.List.Sorted.{IsPermutation, IsSortedByKey};
 ghost use Rattle.mpslp_decimal.specs.Decimal.{negated, zero_number};
 ghost use Rattle.mpslp_types.specs.Name.{IsMpsName, bytes_cmp};
-ghost use Rattle.mpslp_core.specs.Numbered.{each_part, IsOnce};
 ghost use Rattle.mpslp_builder.specs.Made.{IsMade};
 ghost use Rattle.mpslp_builder.specs.Meaning.{file_fault, DraftMeans};
 ghost use Rattle.mpslp_builder.specs.FaultFound.{HaveLegalNames, entry_name, fault_found};
 ghost use Rattle.mpslp_builder.specs.Finish.{Finishes};
-ghost use Rattle.mpslp_order.specs.Ordered.{name_at, taken};
+ghost use Rattle.mpslp_numbered.specs.Ordered.{name_at, taken};
 ghost use Rattle.mpslp_builder.specs.MovedParts.{rhs_in};
 ghost use Rattle.mpslp_types.specs.declared.kinds.Sense.TheVariants.{Minimize};
 ghost use Rattle.mpslp_builder.specs.Tables.{bytes, objective_name, draft, IsNumbered};
 
 use crate::builder::Builder;
 use crate::file_faults::FoundFault;
-use crate::parts::{columns_of, or_zero, rows_of, value_of};
+use crate::parts::{columns_of, rows_of};
 use crate::tables::{ObjectiveParts, Tables};
 use indexmap::IndexMap;
 use mpslp_core::{
     Model, ModelColumn, ModelParts, PackedRow, kind_of_column_fault, kind_of_row_fault,
 };
 use mpslp_decimal::{Decimal, PackedDecimal};
-use mpslp_order::{in_order, order_of, ranks_of};
+use mpslp_numbered::{in_order, order_of, ranks_of};
 use mpslp_types::{Fault, FaultKind, Name, ReadFault, Sense};
 use std::alloc::{AllocError, Global};
 
@@ -36,13 +35,6 @@ fn entries_of<V: Drop>(
     ensures { IfOk result (λ entries. entries.items ≡ map.entries) }
 {
     map.into_iter().collect(alloc)
-}
-
-/// That no name stands twice in a map.
-fn has_each_name_once<V>(map: &IndexMap<Vec<u8>, V>)
-    ensures { IsOnce (each_part bytes (λ v. v) map.now.entries) }
-{
-    let _count = map.len();
 }
 
 /// The entries in the byte order of their names, behind their indices in that order.
@@ -63,12 +55,12 @@ fn ordered<V: Drop>(
 fn constant_of(constant: Option<Decimal>, rhs: &Option<PackedDecimal>) -> Decimal
     ensures { result ≡ unwrap_or constant (negated (unwrap_or rhs.now zero_number)) }
 {
-    match constant {
-        Some(constant) => constant,
-        None => or_zero(value_of(rhs)).negate(),
+    match (constant, rhs) {
+        (Some(constant), _) => constant,
+        (None, Some(value)) => value.value().negate(),
+        (None, None) => Decimal::zero().negate(),
     }
 }
-
 
 /// The parts of a model. The objective is named.
 fn parts_of(
@@ -108,31 +100,19 @@ pub(crate) fn into_model(
     requires fault { file_fault (draft sense constant tables) ≡ None }
     ensures { IfOk result (DraftMeans (draft sense constant tables)) }
 {
+    tables.each_name_stands_once();
     let Tables {
         objective,
         rows,
         columns,
         recent: _,
     } = tables;
-    has_each_name_once(&rows);
-    has_each_name_once(&columns);
     let (row_order, rows) = ordered(alloc, entries_of(alloc, rows)?)?;
     let (_column_order, columns) = ordered(alloc, entries_of(alloc, columns)?)?;
     let ranks = ranks_of(alloc, &row_order)?;
     let rows = rows_of(alloc, rows)?;
     let columns = columns_of(alloc, columns, &ranks)?;
     Ok(Model::of_parts(parts_of(sense, constant, objective, rows, columns)))
-}
-
-/// A fault of the whole.
-fn whole_fault(kind: FaultKind, name: Option<Name>) -> Fault
-    ensures { result ≡ record { kind = kind; line = 0; name = name } }
-{
-    Fault {
-        kind,
-        line: 0,
-        name,
-    }
 }
 
 /// The name at an index, taken out and not copied.
@@ -151,14 +131,22 @@ fn into_fault(tables: Tables, found: FoundFault) -> Fault
     requires { HaveLegalNames tables }
     ensures { result ≡ fault_found tables found }
 {
-    match found {
-        FoundFault::NoColumns => whole_fault(FaultKind::NoColumns, None),
+    let (kind, name) = match found {
+        FoundFault::NoColumns => (FaultKind::NoColumns, None),
         FoundFault::Row(fault, index) => {
-            whole_fault(kind_of_row_fault(fault), name_out_of(tables.rows, index))
+            (kind_of_row_fault(fault), name_out_of(tables.rows, index))
         }
         FoundFault::Column(fault, index) => {
-            whole_fault(kind_of_column_fault(fault), name_out_of(tables.columns, index))
+            (
+                kind_of_column_fault(fault),
+                name_out_of(tables.columns, index),
+            )
         }
+    };
+    Fault {
+        kind,
+        line: 0,
+        name,
     }
 }
 

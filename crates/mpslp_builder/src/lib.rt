@@ -4,10 +4,12 @@
 mod builder;
 mod file_faults;
 mod finish;
-mod forms;
 pub mod laws;
 mod parts;
 mod refusals;
 mod tables;
 
 pub use builder::Builder;
+
+#[cfg(test)]
+mod tests;

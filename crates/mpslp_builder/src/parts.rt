@@ -8,29 +8,42 @@ ghost use Rattle.mpslp_types.specs.declared.kinds.RowType.TheVariants as types;
 ghost use Rattle.mpslp_core.specs.Limits.{limits_of, plain_limits, row_form};
 ghost use Rattle.mpslp_core.specs.ModelParts.{own, bounds_in, cells_in};
 ghost use Rattle.mpslp_core.specs.Numbered.{each_part};
-ghost use Rattle.mpslp_builder.specs.MovedParts.{limits_in, declared_in, bounds_of, moved_in};
-ghost use Rattle.mpslp_builder.specs.Tables.{bytes};
+ghost use Rattle.mpslp_builder.specs.FaultFound.{declared_in};
+ghost use Rattle.mpslp_builder.specs.MovedParts.{limits_in, bounds_of, moved_in};
+ghost use Rattle.mpslp_builder.specs.Tables.{bytes, rhs_of, range_of};
 
 use crate::tables::{ColumnParts, RowParts};
 use mpslp_core::{
     DeclaredColumn, FormKind, ModelColumn, PackedColumn, PackedLimit, PackedRow, RowLimits,
     limits_of, plain_limits,
 };
-use mpslp_decimal::{Decimal, PackedDecimal};
+use mpslp_decimal::Decimal;
 use mpslp_types::{Limit, Name, RowType};
 use std::alloc::{AllocError, Global};
 
-/// The number, if there is one.
-pub(crate) fn value_of(value: &Option<PackedDecimal>) -> Option<Decimal>
-    ensures { result ≡ value.now }
-{
-    match value {
-        Some(value) => Some(value.value()),
-        None => None,
+impl RowParts {
+    /// The right side, and 0 where none is declared.
+    pub(crate) fn rhs_or_zero(&self) -> Decimal
+        ensures { result ≡ unwrap_or (rhs_of self.now) zero_number }
+    {
+        match &self.rhs {
+            Some(value) => value.value(),
+            None => Decimal::zero(),
+        }
+    }
+
+    /// The range, if one is declared.
+    pub(crate) fn range_value(&self) -> Option<Decimal>
+        ensures { result ≡ range_of self.now }
+    {
+        match &self.range {
+            Some(value) => Some(value.value()),
+            None => None,
+        }
     }
 }
 
-/// The side, if there is one.
+/// The side, if one is declared.
 fn side_of(side: &Option<PackedLimit>) -> Option<Limit>
     ensures { result ≡ side.now }
 {
@@ -40,13 +53,19 @@ fn side_of(side: &Option<PackedLimit>) -> Option<Limit>
     }
 }
 
-/// The number, and 0 where there is none.
-pub(crate) fn or_zero(value: Option<Decimal>) -> Decimal
-    ensures { result ≡ unwrap_or value zero_number }
-{
-    match value {
-        Some(value) => value,
-        None => Decimal::zero(),
+impl ColumnParts {
+    /// What is declared of the column beside its coefficients.
+    pub(crate) fn declared(&self) -> DeclaredColumn
+        ensures { result ≡ declared_in self.now }
+    {
+        DeclaredColumn {
+            lower: side_of(&self.lower),
+            upper: side_of(&self.upper),
+            marked: self.marked,
+            integer: self.integer,
+            binary: self.binary,
+            semi: self.semi,
+        }
     }
 }
 
@@ -64,22 +83,7 @@ fn limits_or_none(form: &FormKind, rhs: Decimal, range: &Option<Decimal>) -> Row
 fn limits_in(row: &RowParts) -> RowLimits
     ensures { result ≡ limits_in row.now }
 {
-    let rhs = or_zero(value_of(&row.rhs));
-    limits_or_none(&row.form.kind(), rhs, &value_of(&row.range))
-}
-
-/// What is declared of a column.
-fn declared_in(column: &ColumnParts) -> DeclaredColumn
-    ensures { result ≡ declared_in column.now }
-{
-    DeclaredColumn {
-        lower: side_of(&column.lower),
-        upper: side_of(&column.upper),
-        marked: column.marked,
-        integer: column.integer,
-        binary: column.binary,
-        semi: column.semi,
-    }
+    limits_or_none(&row.form.kind(), row.rhs_or_zero(), &row.range_value())
 }
 
 /// The rows of a model.
@@ -104,7 +108,7 @@ fn column_of(column: ColumnParts, ranks: &[u32]) -> Result<ModelColumn, AllocErr
     ensures bounds { IfOk result (λ made. made.bounds ≡ bounds_of column) }
     ensures cells { IfOk result (λ made. made.cells.items ≡ moved_in ranks.now column) }
 {
-    let bounds = PackedColumn::of(declared_in(&column).bounds());
+    let bounds = PackedColumn::of(column.declared().bounds());
     let cells = column.cells.into_moved(ranks)?;
     Ok(ModelColumn { bounds, cells })
 }

@@ -10,10 +10,10 @@ ghost use Rattle.mpslp_builder.specs.Declaration.{has_row, has_column, has_name,
 ghost use Rattle.mpslp_builder.specs.Tables.{draft};
 ghost use Rattle.mpslp_builder.specs.Calls.{number_of, row_name, column_name, row_tells, column_tells, cells_at, new_column, with_cell, put_side, with_sides, IsOnceEach, IsEmptyTables, IsSameTables, HasObjective, HasRowAdded, HasRowChanged, HasColumnAdded, HasColumnChanged, HasRhsPut};
 
-use crate::forms::StoredForm;
 use indexmap::IndexMap;
-use mpslp_core::{Cells, PackedLimit};
+use mpslp_core::{PackedLimit, StoredForm};
 use mpslp_decimal::{Decimal, PackedDecimal};
+use mpslp_numbered::Cells;
 use mpslp_types::{Limit, Name};
 use std::alloc::{AllocError, Global};
 
@@ -55,7 +55,7 @@ pub(crate) struct Tables {
 }
 
 /// Where something that is named like a row stands.
-#[derive(Clone, Copy, Debug)]
+#[derive(Clone, Copy)]
 pub(crate) enum RowPlace {
     /// It is the objective.
     Objective,
@@ -110,13 +110,6 @@ fn put_side(kept: &mut Option<PackedLimit>, side: Option<Limit>)
     }
 }
 
-/// Whether the names have the same bytes.
-fn is_same(a: &[u8], b: &[u8]) -> bool
-    ensures { result ≡ same_bytes a.now b.now }
-{
-    a == b
-}
-
 impl Tables {
     /// Tables to which nothing is declared.
     pub(crate) fn new(alloc: Global) -> Tables
@@ -150,7 +143,7 @@ impl Tables {
         ensures { result ≡ is_objective (draft None None self.now) name.now }
     {
         match &self.objective {
-            Some(objective) => is_same(name, objective.name.as_bytes()),
+            Some(objective) => name == objective.name.as_bytes(),
             None => false,
         }
     }
@@ -205,7 +198,7 @@ impl Tables {
         ensures { IsTrue result → column_name self.now column ≡ Some name.now }
     {
         match self.columns.get_index(column) {
-            Some((key, _parts)) => is_same(key, name),
+            Some((key, _parts)) => key.as_slice() == name,
             None => false,
         }
     }

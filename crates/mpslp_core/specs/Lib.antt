@@ -11,3 +11,4 @@ pub mod Same
 pub mod SameLaws
 pub mod Numbered
 pub mod Packed
+pub mod Forms

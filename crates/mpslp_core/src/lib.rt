@@ -9,17 +9,16 @@
 #![tactic(auto)]
 
 mod bounds;
-mod cells;
 mod columns;
+mod forms;
 pub mod laws;
 mod limits;
 mod model;
-mod moving;
 mod packed;
 mod sides;
 
 pub use bounds::{ColumnFault, DeclaredColumn, kind_of_column_fault};
-pub use cells::Cells;
+pub use forms::StoredForm;
 pub use limits::{
     FormKind, RowFault, is_faulty_row, kind_of_row_fault, limits_of, plain_limits, row_has,
 };

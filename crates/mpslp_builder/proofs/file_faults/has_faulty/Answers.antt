@@ -22,7 +22,7 @@ loop-index-preserved-else-is_faulty g c =
     let step : c.loop-index.index ≡ suc (c.loop-index.index - 1) = before c.loop-index.index c.loop-index-test.true in
     record {
       none = none_from (λ e. g.V.Faulty.is_wrong e.1) c.args.entries.now.entries (c.loop-index.index - 1) (c.in-Some._name.now, c.in-Some.parts.now) (sym c.in-Some.ensures.entry) (sym c.if-is_faulty.ensures)
-      (ap (λ (n : ℕ). list_any (λ e. g.V.Faulty.is_wrong e.1) (drop n c.args.entries.now.entries)) (sym step) ∙ c.loop-index.invariant.none);
+          (ap (λ (n : ℕ). list_any (λ e. g.V.Faulty.is_wrong e.1) (drop n c.args.entries.now.entries)) (sym step) ∙ c.loop-index.invariant.none);
       within = omega (arith, c.loop-index.invariant.within);
     }
 

@@ -6,12 +6,12 @@ use Rattle.mpslp_core.specs.Numbered.{each_part, IsOnce}
 use Rattle.mpslp_core.specs.ModelParts.{own, bounds_in, cells_in}
 use Rattle.mpslp_builder.specs.Declaration.{Draft}
 use Rattle.mpslp_builder.specs.Meaning.{DraftMeans}
-use Rattle.mpslp_builder.specs.Tables.{bytes, form_of, no_part, draft}
+use Rattle.mpslp_builder.specs.Tables.{bytes, form_of, no_part, cells_of, draft}
 use Rattle.mpslp_builder.specs.MovedParts.{limits_in, bounds_of, moved_in}
 use Rattle.mpslp_builder.specs.declared.tables.RowParts.{RowParts}
 use Rattle.mpslp_builder.specs.declared.tables.ColumnParts.{ColumnParts}
 use Rattle.mpslp_builder.proofs.OrderedParts.{once-part}
-use Rattle.mpslp_order.proofs.RankLemmas.{AreRanks, order_length, order_within, order_apart, ranks_length, ranks_apart}
+use Rattle.mpslp_numbered.proofs.RankLemmas.{AreRanks, order_length, order_within, order_apart, ranks_length, ranks_apart}
 use Rattle.mpslp_builder.proofs.ModelOfTables.{AreFinished}
 use Rattle.mpslp_builder.proofs.FinishLemmas.{meant_parts, meant_draft, finished_parts, finished_cells}
 use Rattle.mpslp_builder.proofs.EndLemmas.{AreOrdered, legal_rows, legal_columns, cells_within, constant_is, ordered_from, few_of, within_of, apart_of, named_there}
@@ -46,14 +46,14 @@ rows_of-requires c =
     let in_rows : AreOrdered c.args.tables.rows.entries c.in_ok-row_order.row_order.items c.in_ok-row_order.rows.items = ordered_from c.in_ok-entries_of.field-0.items c.args.tables.rows.entries c.in_ok-row_order.row_order.items c.in_ok-row_order.rows.items c.in_ok-entries_of.ensures
     c.in_ok-row_order.ensures.permutation c.in_ok-row_order.ensures.sorted c.in_ok-row_order.ensures.taken in
     legal_rows c.args.sense c.args.constant c.args.tables.objective c.args.tables.rows.entries c.args.tables.columns.entries c.requires.made c.in_ok-row_order.row_order.items c.in_ok-row_order.rows.items
-    (once-part form_of (λ v. v) c.args.tables.rows.entries c.has_each_name_once.ensures) in_rows
+    c.each_name_stands_once.ensures.rows in_rows
 
 pub columns_of-requires-clause-names : goal.columns_of-requires-clause-names
 columns_of-requires-clause-names c =
     let in_columns : AreOrdered c.args.tables.columns.entries c.in_ok-_column_order._column_order.items c.in_ok-_column_order.columns.items = ordered_from c.in_ok-entries_of-2.field-0.items c.args.tables.columns.entries c.in_ok-_column_order._column_order.items c.in_ok-_column_order.columns.items c.in_ok-entries_of-2.ensures
     c.in_ok-_column_order.ensures.permutation c.in_ok-_column_order.ensures.sorted c.in_ok-_column_order.ensures.taken in
     legal_columns c.args.sense c.args.constant c.args.tables.objective c.args.tables.rows.entries c.args.tables.columns.entries c.requires.made c.in_ok-_column_order._column_order.items c.in_ok-_column_order.columns.items
-    (once-part no_part (λ v. v) c.args.tables.columns.entries c.has_each_name_once-2.ensures) in_columns
+    (once-part no_part cells_of c.args.tables.columns.entries c.each_name_stands_once.ensures.columns) in_columns
 
 pub columns_of-requires-clause-within : goal.columns_of-requires-clause-within
 columns_of-requires-clause-within c =
@@ -63,7 +63,7 @@ columns_of-requires-clause-within c =
     c.in_ok-_column_order.ensures.permutation c.in_ok-_column_order.ensures.sorted c.in_ok-_column_order.ensures.taken in
     let order = c.in_ok-row_order.row_order.items in
     let ranked : AreRanks order c.in_ok-ranks.ranks.items = subst (λ (order : List ℕ). AreRanks order c.in_ok-ranks.ranks.items) c.deref.ensures.value
-        (record { objective = c.in_ok-ranks.ensures.objective; places = c.in_ok-ranks.ensures.ranks; len = c.in_ok-ranks.ensures.len }) in
+    (record { objective = c.in_ok-ranks.ensures.objective; places = c.in_ok-ranks.ensures.ranks; len = c.in_ok-ranks.ensures.len }) in
     cells_within c.args.tables.objective c.args.tables.rows.entries c.args.tables.columns.entries (length c.deref-2.result.now) c.in_ok-_column_order._column_order.items c.in_ok-_column_order.columns.items c.requires.numbered
     (ap length c.deref-2.ensures.value ∙ ranks_length (length c.args.tables.rows.entries) order c.in_ok-ranks.ranks.items in_rows.permuted ranked) in_columns
 
@@ -73,7 +73,7 @@ columns_of-requires-clause-apart c =
     c.in_ok-row_order.ensures.permutation c.in_ok-row_order.ensures.sorted c.in_ok-row_order.ensures.taken in
     let order = c.in_ok-row_order.row_order.items in
     let ranked : AreRanks order c.in_ok-ranks.ranks.items = subst (λ (order : List ℕ). AreRanks order c.in_ok-ranks.ranks.items) c.deref.ensures.value
-        (record { objective = c.in_ok-ranks.ensures.objective; places = c.in_ok-ranks.ensures.ranks; len = c.in_ok-ranks.ensures.len }) in
+    (record { objective = c.in_ok-ranks.ensures.objective; places = c.in_ok-ranks.ensures.ranks; len = c.in_ok-ranks.ensures.len }) in
     subst (λ (ranks : List ℕ). (n m : ℕ) → n < length ranks → m < length ranks → slice_index ranks n ≡ slice_index ranks m → n ≡ m) (sym c.deref-2.ensures.value)
     (ranks_apart (length c.args.tables.rows.entries) order c.in_ok-ranks.ranks.items in_rows.permuted ranked)
 
@@ -85,7 +85,7 @@ of_parts-requires c =
     c.in_ok-_column_order.ensures.permutation c.in_ok-_column_order.ensures.sorted c.in_ok-_column_order.ensures.taken in
     let order = c.in_ok-row_order.row_order.items in
     let ranked : AreRanks order c.in_ok-ranks.ranks.items = subst (λ (order : List ℕ). AreRanks order c.in_ok-ranks.ranks.items) c.deref.ensures.value
-        (record { objective = c.in_ok-ranks.ensures.objective; places = c.in_ok-ranks.ensures.ranks; len = c.in_ok-ranks.ensures.len }) in
+    (record { objective = c.in_ok-ranks.ensures.objective; places = c.in_ok-ranks.ensures.ranks; len = c.in_ok-ranks.ensures.len }) in
     let m = c.parts_of.result in
     let objective = c.args.tables.objective in
     let rows = c.args.tables.rows.entries in
@@ -106,8 +106,8 @@ of_parts-requires c =
           ∙ (λ i. each_part bytes (moved_in (c.deref-2.ensures.value i)) (in_columns.are i));
     } in
     let meant = finished_parts objective rows columns m finished c.args.sense c.args.constant c.requires.numbered
-        (once-part form_of (λ v. v) rows c.has_each_name_once.ensures) (once-part no_part (λ v. v) columns c.has_each_name_once-2.ensures)
-        c.parts_of.ensures.sense (c.parts_of.ensures.constant ∙ constant_is c.args.sense c.args.constant objective rows columns c.requires.objective c.requires.numbered.apart) in
+    c.each_name_stands_once.ensures.rows (once-part no_part cells_of columns c.each_name_stands_once.ensures.columns)
+    c.parts_of.ensures.sense (c.parts_of.ensures.constant ∙ constant_is c.args.sense c.args.constant objective rows columns c.requires.objective c.requires.numbered.apart) in
     meant_parts (draft c.args.sense c.args.constant c.args.tables) m c.requires.made (named_there objective c.requires.objective) c.requires.fault meant
     (finished_cells objective rows columns m finished c.requires.numbered)
 
@@ -119,7 +119,7 @@ returns c =
     c.in_ok-_column_order.ensures.permutation c.in_ok-_column_order.ensures.sorted c.in_ok-_column_order.ensures.taken in
     let order = c.in_ok-row_order.row_order.items in
     let ranked : AreRanks order c.in_ok-ranks.ranks.items = subst (λ (order : List ℕ). AreRanks order c.in_ok-ranks.ranks.items) c.deref.ensures.value
-        (record { objective = c.in_ok-ranks.ensures.objective; places = c.in_ok-ranks.ensures.ranks; len = c.in_ok-ranks.ensures.len }) in
+    (record { objective = c.in_ok-ranks.ensures.objective; places = c.in_ok-ranks.ensures.ranks; len = c.in_ok-ranks.ensures.len }) in
     let m = c.parts_of.result in
     let objective = c.args.tables.objective in
     let rows = c.args.tables.rows.entries in
@@ -140,7 +140,7 @@ returns c =
           ∙ (λ i. each_part bytes (moved_in (c.deref-2.ensures.value i)) (in_columns.are i));
     } in
     let meant = finished_parts objective rows columns m finished c.args.sense c.args.constant c.requires.numbered
-        (once-part form_of (λ v. v) rows c.has_each_name_once.ensures) (once-part no_part (λ v. v) columns c.has_each_name_once-2.ensures)
-        c.parts_of.ensures.sense (c.parts_of.ensures.constant ∙ constant_is c.args.sense c.args.constant objective rows columns c.requires.objective c.requires.numbered.apart) in
+    c.each_name_stands_once.ensures.rows (once-part no_part cells_of columns c.each_name_stands_once.ensures.columns)
+    c.parts_of.ensures.sense (c.parts_of.ensures.constant ∙ constant_is c.args.sense c.args.constant objective rows columns c.requires.objective c.requires.numbered.apart) in
     subst (DraftMeans (draft c.args.sense c.args.constant c.args.tables)) (sym c.of_parts.ensures)
     (meant_draft (draft c.args.sense c.args.constant c.args.tables) m c.requires.made (named_there objective c.requires.objective) c.requires.fault meant)

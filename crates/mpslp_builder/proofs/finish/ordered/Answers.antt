@@ -1,7 +1,7 @@
 use Rattle.std.proofs.Common.{◌≡◌, sym, ap, subst, ◌∙◌, ℕ, List, length, IsPermutation}
 use Rattle.std.specs.List.{range_with_len}
-use Rattle.mpslp_order.specs.Ordered.{taken}
-use Rattle.mpslp_order.proofs.RankLemmas.{order_within, order_apart}
+use Rattle.mpslp_numbered.specs.Ordered.{taken}
+use Rattle.mpslp_numbered.proofs.RankLemmas.{order_within, order_apart}
 use Rattle.mpslp_builder.proofs.finish.ordered.Goals as goal
 
 pub in_order-requires-clause-within : goal.in_order-requires-clause-within

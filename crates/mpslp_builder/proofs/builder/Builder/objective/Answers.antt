@@ -23,8 +23,7 @@ invariant_of-self c =
     let tests : List (Bool × BuildFault) = (has_row inner c.args.name, DuplicateRow) ∷ [] in
     let unnamed = objective_absent b.tables.objective (first_none (is_some inner.objective) SecondObjective tests none) in
     let absent : has_row inner c.args.name ≡ false = first_none (has_row inner c.args.name) DuplicateRow [] (rest_none (is_some inner.objective) SecondObjective tests none) in
-    let after = objective_named b.sense b.constant b.tables c.name_objective.new.self c.args.name c.self.invariant.1 unnamed c.name_objective.ensures in
-    (
+    let after = objective_named b.sense b.constant b.tables c.name_objective.new.self c.args.name c.self.invariant.1 unnamed c.name_objective.ensures in (
       made_after d after c.self.invariant.0 (ap is_mps_name (sym c.name.view_is) ∙ c.name.invariant) none,
       objective_named_numbered b.sense b.constant b.tables c.name_objective.new.self c.args.name c.self.invariant.1 unnamed c.name_objective.ensures absent,
     )

@@ -1,0 +1,711 @@
+//! Each public call with ample memory, on worked examples.
+
+ghost use Rattle.std.specs.Prelude.{IsTrue};
+ghost use Rattle.mpslp_types.specs.Sides.{is_given};
+
+use crate::Builder;
+use mpslp_core::Model;
+use mpslp_decimal::{Decimal, DecimalText};
+use mpslp_types::{BuildFault, FaultKind, Kind, Limit, Name, ReadFault, RowType, Sense};
+use std::alloc::{AllocError, Global};
+use std::cmp::Ordering;
+use std::test::Fail;
+
+/// The decimal that a text spells.
+fn number(text: &str) -> Decimal {
+    match Decimal::parse(text.as_bytes()) {
+        Ok(value) => value,
+        Err(_) => Decimal::zero(),
+    }
+}
+
+/// The side that a text spells.
+fn side(text: &str) -> Limit
+    ensures { IsTrue (is_given result) }
+{
+    Limit::of(number(text))
+}
+
+/// A name that is one.
+fn named(alloc: Global, text: &str) -> Result<Name, BuildFault> {
+    match Name::new(alloc, text.as_bytes()) {
+        Ok(name) => Ok(name),
+        Err(_) => Err(BuildFault::OutOfMemory),
+    }
+}
+
+/// A call of the builder, with names and numbers by their texts.
+#[derive(Clone, Copy)]
+enum Call<'a> {
+    Sense(Sense),
+    Objective(&'a str),
+    Row(&'a str, RowType),
+    Rhs(&'a str, &'a str),
+    Range(&'a str, &'a str),
+    Column(&'a str),
+    Coefficient(&'a str, &'a str, &'a str),
+    NoBounds(&'a str),
+    Lower(&'a str, &'a str),
+    Upper(&'a str, &'a str),
+    Bounds(&'a str, &'a str, &'a str),
+    Marked(&'a str),
+    Integer(&'a str),
+    Semi(&'a str),
+}
+
+/// Makes a call that names a row.
+fn call_of_row(builder: &mut Builder, alloc: Global, call: Call<'_>) -> Result<(), BuildFault> {
+    match call {
+        Call::Objective(name) => builder.objective(named(alloc, name)?),
+        Call::Row(name, row_type) => builder.row(named(alloc, name)?, row_type),
+        Call::Rhs(row, value) => builder.rhs(row.as_bytes(), number(value)),
+        Call::Range(row, value) => builder.range(row.as_bytes(), number(value)),
+        Call::Coefficient(row, column, value) => {
+            builder.coefficient(row.as_bytes(), column.as_bytes(), number(value))
+        }
+        _ => Ok(()),
+    }
+}
+
+/// Makes a call of bounds.
+fn call_of_bounds(builder: &mut Builder, call: Call<'_>) -> Result<(), BuildFault> {
+    match call {
+        Call::NoBounds(column) => builder.bounds(column.as_bytes(), None, None),
+        Call::Lower(column, value) => builder.bounds(column.as_bytes(), Some(side(value)), None),
+        Call::Upper(column, value) => builder.bounds(column.as_bytes(), None, Some(side(value))),
+        Call::Bounds(column, lower, upper) => {
+            builder.bounds(column.as_bytes(), Some(side(lower)), Some(side(upper)))
+        }
+        _ => Ok(()),
+    }
+}
+
+/// Makes a call.
+fn call_of(builder: &mut Builder, alloc: Global, call: Call<'_>) -> Result<(), BuildFault> {
+    match call {
+        Call::Sense(sense) => builder.sense(sense),
+        Call::Column(name) => builder.column(named(alloc, name)?),
+        Call::Marked(column) => builder.marked(column.as_bytes()),
+        Call::Integer(column) => builder.integer(column.as_bytes()),
+        Call::Semi(column) => builder.semi(column.as_bytes()),
+        Call::NoBounds(_) | Call::Lower(..) | Call::Upper(..) | Call::Bounds(..) => {
+            call_of_bounds(builder, call)
+        }
+        _ => call_of_row(builder, alloc, call),
+    }
+}
+
+/// The refusal that a call would have.
+fn check_of(builder: &Builder, call: Call<'_>) -> Result<(), BuildFault> {
+    match call {
+        Call::Sense(_) => builder.check_sense(),
+        Call::Objective(name) => builder.check_objective(name.as_bytes()),
+        Call::Row(name, _) => builder.check_row(name.as_bytes()),
+        Call::Rhs(row, _) => builder.check_rhs(row.as_bytes()),
+        Call::Range(row, value) => builder.check_range(row.as_bytes(), number(value)),
+        Call::Column(_) => Ok(()),
+        Call::Coefficient(row, column, _) => {
+            builder.check_coefficient(row.as_bytes(), column.as_bytes())
+        }
+        Call::NoBounds(column) => builder.check_bounds(column.as_bytes(), &None, &None),
+        Call::Lower(column, value) => {
+            builder.check_bounds(column.as_bytes(), &Some(side(value)), &None)
+        }
+        Call::Upper(column, value) => {
+            builder.check_bounds(column.as_bytes(), &None, &Some(side(value)))
+        }
+        Call::Bounds(column, lower, upper) => builder.check_bounds(
+            column.as_bytes(),
+            &Some(side(lower)),
+            &Some(side(upper)),
+        ),
+        Call::Marked(column) => builder.check_marked(column.as_bytes()),
+        Call::Integer(column) => builder.check_integer(column.as_bytes()),
+        Call::Semi(column) => builder.check_semi(column.as_bytes()),
+    }
+}
+
+/// The builder after these calls, of which none is refused.
+fn built(alloc: Global, calls: &[Call<'_>]) -> Result<Builder, BuildFault> {
+    let mut builder = Builder::new(alloc);
+    for call in calls {
+        call_of(&mut builder, alloc, *call)?;
+    }
+    Ok(builder)
+}
+
+/// What a builder answers at its end.
+fn finished(builder: Builder) -> Option<Result<Model, ReadFault>> {
+    if builder.has_objective() {
+        Some(builder.finish())
+    } else {
+        None
+    }
+}
+
+/// The model of these calls.
+fn model_of(alloc: Global, calls: &[Call<'_>]) -> Result<Option<Model>, BuildFault> {
+    match finished(built(alloc, calls)?) {
+        Some(Ok(model)) => Ok(Some(model)),
+        _ => Ok(None),
+    }
+}
+
+/// The views of a model as lines of words.
+#[derive(Drop)]
+struct Shown {
+    text: Vec<u8>,
+    number: DecimalText,
+}
+
+impl Shown {
+    fn put(&mut self, words: &[u8]) -> Result<(), AllocError> {
+        self.text.extend_from_slice(words)
+    }
+
+    fn put_number(&mut self, value: Decimal) -> Result<(), AllocError> {
+        self.text.extend_from_slice(self.number.put(value))
+    }
+
+    fn put_limit(&mut self, limit: Limit) -> Result<(), AllocError> {
+        match limit {
+            Limit::MinusInf => self.put(b" -inf".as_slice()),
+            Limit::Finite(value) => {
+                self.put(b" ".as_slice())?;
+                self.put_number(value)
+            }
+            Limit::PlusInf => self.put(b" inf".as_slice()),
+        }
+    }
+
+    fn put_row(&mut self, model: &Model, i: usize) -> Result<(), AllocError> {
+        if i >= model.num_rows() {
+            return Ok(());
+        }
+        self.put(b"row ".as_slice())?;
+        self.put(model.row_name(i).as_bytes())?;
+        self.put(b" ".as_slice())?;
+        self.put([model.row_sense(i)].as_slice())?;
+        self.put_limit(model.row_lower(i))?;
+        self.put_limit(model.row_upper(i))?;
+        self.put(b" rhs ".as_slice())?;
+        self.put_number(model.right_hand_side(i))?;
+        self.put(b" range ".as_slice())?;
+        self.put_number(model.row_range(i))?;
+        self.put(b"\n".as_slice())
+    }
+
+    fn put_column(&mut self, model: &Model, j: usize) -> Result<(), AllocError> {
+        if j >= model.num_cols() {
+            return Ok(());
+        }
+        self.put(b"column ".as_slice())?;
+        self.put(model.column_name(j).as_bytes())?;
+        let kind: &[u8] = match model.column_kind(j) {
+            Kind::Continuous => b" continuous",
+            Kind::Integer => b" integer",
+            Kind::Semi => b" semi",
+        };
+        self.put(kind)?;
+        self.put_limit(model.col_lower(j))?;
+        self.put_limit(model.col_upper(j))?;
+        self.put(b" objective ".as_slice())?;
+        self.put_number(model.objective_coefficient(j))?;
+        self.put(b"\n".as_slice())?;
+        for k in 0..model.column_len(j) {
+            let (i, value) = model.entry(j, k);
+            if i < model.num_rows() {
+                self.put(b"entry ".as_slice())?;
+                self.put(model.row_name(i).as_bytes())?;
+                self.put(b" ".as_slice())?;
+                self.put_number(value)?;
+                self.put(b" ".as_slice())?;
+                self.put_number(model.coefficient(i, j))?;
+                self.put(b"\n".as_slice())?;
+            }
+        }
+        Ok(())
+    }
+}
+
+/// The views of a model as lines of words: the objective, then rows, then columns with their coefficients.
+fn views_of(alloc: Global, model: &Model) -> Result<Vec<u8>, AllocError> {
+    let mut shown = Shown {
+        text: Vec::new(alloc),
+        number: DecimalText::new(),
+    };
+    let sense: &[u8] = match model.objective_sense() {
+        Sense::Minimize => b"minimize ",
+        Sense::Maximize => b"maximize ",
+    };
+    shown.put(sense)?;
+    shown.put(model.objective_name().as_bytes())?;
+    shown.put(b" constant ".as_slice())?;
+    shown.put_number(model.objective_constant())?;
+    shown.put(b" offset ".as_slice())?;
+    shown.put_number(model.objective_offset())?;
+    shown.put(b"\n".as_slice())?;
+    for i in 0..model.num_rows() {
+        shown.put_row(model, i)?;
+    }
+    for j in 0..model.num_cols() {
+        shown.put_column(model, j)?;
+    }
+    Ok(shown.text)
+}
+
+/// The views of the model of these calls; of calls without one the name of the fault, and the name that it is told of.
+fn outcome(alloc: Global, calls: &[Call<'_>]) -> Result<Vec<u8>, BuildFault> {
+    match finished(built(alloc, calls)?) {
+        Some(Ok(model)) => Ok(views_of(alloc, &model)?),
+        Some(Err(ReadFault::File(fault))) => {
+            let mut text = fault.kind.text().as_bytes().to_vec(alloc)?;
+            if let Some(name) = &fault.name {
+                text.extend_from_slice(b" ".as_slice())?;
+                text.extend_from_slice(name.as_bytes())?;
+            }
+            Ok(text)
+        }
+        _ => Ok(Vec::new(alloc)),
+    }
+}
+
+/// Whether this is one of the lines of the text.
+fn tells(text: &[u8], line: &str) -> bool {
+    text.split(|byte| *byte == b'\n')
+        .any(|own| own == line.as_bytes())
+}
+
+/// Calls of one builder, one after another, and what each answers.
+const ANSWERS: [(Call<'static>, Result<(), BuildFault>); 34] = [
+    (Call::Objective("f"), Ok(())),
+    (Call::Objective("g"), Err(BuildFault::SecondObjective)),
+    (
+        Call::Row("f", RowType::AtMost),
+        Err(BuildFault::DuplicateRow),
+    ),
+    (Call::Row("r", RowType::AtMost), Ok(())),
+    (Call::Column("x"), Ok(())),
+    (Call::Column("x"), Ok(())),
+    (
+        Call::Coefficient("q", "x", "1"),
+        Err(BuildFault::UnknownRow),
+    ),
+    (
+        Call::Coefficient("r", "y", "1"),
+        Err(BuildFault::UnknownColumn),
+    ),
+    (Call::Coefficient("r", "x", "1"), Ok(())),
+    (
+        Call::Coefficient("r", "x", "1"),
+        Err(BuildFault::DuplicateEntry),
+    ),
+    (Call::Rhs("q", "4"), Err(BuildFault::UnknownRow)),
+    (Call::Rhs("r", "4"), Ok(())),
+    (Call::Rhs("r", "4"), Err(BuildFault::DuplicateRhs)),
+    (Call::Rhs("f", "-5"), Ok(())),
+    (Call::Rhs("f", "-5"), Err(BuildFault::DuplicateRhs)),
+    (Call::Range("f", "1"), Err(BuildFault::RangeOnFree)),
+    (Call::Range("r", "1e20"), Err(BuildFault::InfiniteValue)),
+    (Call::Range("r", "-2"), Ok(())),
+    (Call::Range("r", "-2"), Err(BuildFault::DuplicateRange)),
+    (Call::Lower("x", "-1e20"), Ok(())),
+    (Call::Bounds("x", "0", "1"), Err(BuildFault::DuplicateBound)),
+    (Call::NoBounds("x"), Ok(())),
+    (Call::NoBounds("y"), Err(BuildFault::UnknownColumn)),
+    (Call::Upper("x", "-1e20"), Err(BuildFault::InfiniteValue)),
+    (Call::Marked("x"), Ok(())),
+    (Call::Marked("x"), Ok(())),
+    (Call::Integer("x"), Ok(())),
+    (Call::Integer("y"), Err(BuildFault::UnknownColumn)),
+    (Call::Sense(Sense::Maximize), Ok(())),
+    (
+        Call::Sense(Sense::Maximize),
+        Err(BuildFault::DuplicateSense),
+    ),
+    (Call::Row("n", RowType::Free), Ok(())),
+    (Call::Rhs("n", "1"), Ok(())),
+    (Call::Rhs("n", "1"), Ok(())),
+    (Call::Range("n", "1"), Err(BuildFault::RangeOnFree)),
+];
+
+/// Calls of kinds of columns, one after another, and what each answers.
+const KINDS: [(Call<'static>, Result<(), BuildFault>); 11] = [
+    (Call::Column("x"), Ok(())),
+    (Call::Semi("y"), Err(BuildFault::UnknownColumn)),
+    (Call::Semi("x"), Ok(())),
+    (Call::Semi("x"), Ok(())),
+    (Call::Integer("x"), Err(BuildFault::SemiContinuous)),
+    (Call::Marked("x"), Err(BuildFault::SemiContinuous)),
+    (Call::Column("y"), Ok(())),
+    (Call::Integer("y"), Ok(())),
+    (Call::Semi("y"), Err(BuildFault::SemiContinuous)),
+    (Call::Column("z"), Ok(())),
+    (Call::Marked("z"), Ok(())),
+];
+
+/// The first of these calls that is not answered so, or whose question is not, counted from 0.
+fn first_other_answer(
+    builder: &mut Builder,
+    alloc: Global,
+    calls: &[(Call<'static>, Result<(), BuildFault>)],
+) -> Option<usize> {
+    for (i, (call, answer)) in calls.iter().enumerate() {
+        if check_of(builder, *call) != *answer || call_of(builder, alloc, *call) != *answer {
+            return Some(i);
+        }
+    }
+    None
+}
+
+/// Whether the builder knows the names of these calls, and no others.
+fn knows_its_names(builder: &Builder) -> bool {
+    let has = builder.has_row(b"r") && builder.has_row(b"f") && builder.has_column(b"x");
+    let has_others = builder.has_row(b"x") || builder.has_column(b"r");
+    builder.has_objective() && has && !has_others
+}
+
+#[test]
+fn answers_in_order(rt: HostRuntime) {
+    let mut builder = Builder::new(rt.alloc());
+    let had_objective = builder.has_objective();
+    let other_answer = first_other_answer(&mut builder, rt.alloc(), &ANSWERS);
+    let knows = knows_its_names(&builder);
+    assert!(rt; !had_objective && knows);
+    assert_eq!(rt; other_answer, None);
+}
+
+#[test]
+fn refuses_a_second_kind(rt: HostRuntime) {
+    let mut builder = Builder::new(rt.alloc());
+    let other_answer = first_other_answer(&mut builder, rt.alloc(), &KINDS);
+    assert_eq!(rt; other_answer, None);
+}
+
+#[test]
+fn orders_names_and_sides(rt: HostRuntime) -> Result<(), Fail> {
+    let alloc = rt.alloc();
+    let short = Name::new(alloc, b"x1".as_slice())?;
+    let long = Name::new(alloc, b"x10".as_slice())?;
+    assert_eq!(rt; short.cmp(&long), Ordering::Less);
+    assert_eq!(rt; short == long, false);
+    assert_eq!(rt; Limit::MinusInf < side("-5"), true);
+    assert_eq!(rt; side("-5") < side("3e-2"), true);
+    assert_eq!(rt; side("7") < Limit::PlusInf, true);
+    assert_eq!(rt; side("-1e20"), Limit::MinusInf);
+    assert_eq!(rt; side("1e20"), Limit::PlusInf);
+    Ok(())
+}
+
+#[test]
+fn tells_kinds_by_name(rt: HostRuntime) {
+    assert_eq!(rt; FaultKind::LineTooLong.text(), "LineTooLong");
+    assert_eq!(rt; FaultKind::BinaryBounds.text(), "BinaryBounds");
+    assert_eq!(rt; FaultKind::SemiBounds.text(), "SemiBounds");
+}
+
+/// Cost, a limit and a demand.
+const SMALL: [Call<'static>; 11] = [
+    Call::Objective("COST"),
+    Call::Row("LIM1", RowType::AtMost),
+    Call::Row("MYG", RowType::AtLeast),
+    Call::Column("X"),
+    Call::Coefficient("COST", "X", "1.0"),
+    Call::Coefficient("LIM1", "X", "1"),
+    Call::Column("Y"),
+    Call::Coefficient("COST", "Y", "2"),
+    Call::Coefficient("MYG", "Y", "1.50"),
+    Call::Rhs("LIM1", "4"),
+    Call::Rhs("MYG", "1"),
+];
+
+/// The same in another order, with other spellings and a zero.
+const TURNED: [Call<'static>; 13] = [
+    Call::Column("Y"),
+    Call::Column("X"),
+    Call::Row("MYG", RowType::AtLeast),
+    Call::Row("LIM1", RowType::AtMost),
+    Call::Rhs("MYG", "1"),
+    Call::Rhs("LIM1", "4.0"),
+    Call::Objective("COST"),
+    Call::Coefficient("MYG", "Y", "15e-1"),
+    Call::Coefficient("LIM1", "Y", "0"),
+    Call::Coefficient("LIM1", "X", "1"),
+    Call::Coefficient("COST", "Y", "2"),
+    Call::Coefficient("COST", "X", "1"),
+    Call::Sense(Sense::Minimize),
+];
+
+#[test]
+fn shows_a_model_built_by_calls(rt: HostRuntime) -> Result<(), Fail> {
+    let alloc = rt.alloc();
+    let Some(model) = model_of(alloc, &SMALL)? else {
+        assert!(rt; false);
+        return Ok(());
+    };
+    let expected = b"minimize COST constant 0 offset 0
+row LIM1 L -inf 4 rhs 4 range 0
+row MYG G 1 inf rhs 1 range 0
+column X continuous 0 inf objective 1
+entry LIM1 1 1
+column Y continuous 0 inf objective 2
+entry MYG 1.5 1.5
+";
+    assert_eq!(rt; views_of(alloc, &model)?.as_slice(), expected.as_slice());
+    assert_eq!(rt; model.num_elements(), 2);
+    assert_eq!(rt; model.row_index(b"MYG"), Some(1));
+    assert_eq!(rt; model.row_index(b"COST"), None);
+    assert_eq!(rt; model.column_index(b"Y"), Some(1));
+    assert_eq!(rt; model.column_index(b"MYG"), None);
+    Ok(())
+}
+
+#[test]
+fn a_model_is_the_same_in_any_order(rt: HostRuntime) -> Result<(), Fail> {
+    let alloc = rt.alloc();
+    let (Some(model), Some(other)) = (model_of(alloc, &SMALL)?, model_of(alloc, &TURNED)?) else {
+        assert!(rt; false);
+        return Ok(());
+    };
+    assert!(rt; model.same(&other));
+    assert_eq!(rt; other.num_elements(), 2);
+    Ok(())
+}
+
+#[test]
+fn models_of_two_senses_differ(rt: HostRuntime) -> Result<(), Fail> {
+    let alloc = rt.alloc();
+    let least = [Call::Objective("C"), Call::Column("X")];
+    let greatest = [
+        Call::Objective("C"),
+        Call::Column("X"),
+        Call::Sense(Sense::Maximize),
+    ];
+    let (Some(one), Some(other)) = (model_of(alloc, &least)?, model_of(alloc, &greatest)?) else {
+        assert!(rt; false);
+        return Ok(());
+    };
+    assert!(rt; !one.same(&other));
+    Ok(())
+}
+
+/// The views of a model with the row R of this type, right side and range, the range declared first.
+fn of_row<'a>(
+    alloc: Global,
+    row_type: RowType,
+    right_side: &'a str,
+    range: Option<&'a str>,
+) -> Result<Vec<u8>, BuildFault> {
+    let range = match range {
+        Some(range) => Call::Range("R", range),
+        None => Call::NoBounds("X"),
+    };
+    let calls = [
+        Call::Objective("C"),
+        Call::Row("R", row_type),
+        Call::Column("X"),
+        range,
+        Call::Rhs("R", right_side),
+    ];
+    outcome(alloc, &calls)
+}
+
+/// Rows by type, right side and range, and what their views tell.
+const ROWS: [(RowType, &str, Option<&str>, &str); 13] = [
+    (
+        RowType::Equal,
+        "10",
+        Some("3"),
+        "row R R 10 13 rhs 13 range 3",
+    ),
+    (
+        RowType::Equal,
+        "10",
+        Some("-3"),
+        "row R R 7 10 rhs 10 range 3",
+    ),
+    (
+        RowType::Equal,
+        "10",
+        Some("0"),
+        "row R E 10 10 rhs 10 range 0",
+    ),
+    (
+        RowType::AtLeast,
+        "10",
+        Some("-2"),
+        "row R R 10 12 rhs 12 range 2",
+    ),
+    (
+        RowType::AtMost,
+        "10",
+        Some("-2"),
+        "row R R 8 10 rhs 10 range 2",
+    ),
+    (
+        RowType::AtMost,
+        "1e20",
+        None,
+        "row R N -inf inf rhs 0 range 0",
+    ),
+    (RowType::Free, "1", None, "row R N -inf inf rhs 0 range 0"),
+    (RowType::AtMost, "-1e20", None, "InfiniteLimit R"),
+    (RowType::AtLeast, "1e20", None, "InfiniteLimit R"),
+    (RowType::Equal, "1e20", None, "InfiniteLimit R"),
+    (RowType::AtLeast, "9e19", Some("9e19"), "LimitTooLarge R"),
+    (RowType::AtLeast, "1e19", Some("1e-20"), "RangeInexact R"),
+    (
+        RowType::AtLeast,
+        "1e19",
+        Some("1e-10"),
+        "row R R 1e19 10000000000000000000.0000000001 rhs 10000000000000000000.0000000001 range 0.0000000001",
+    ),
+];
+
+#[test]
+fn limits_rows_by_type_right_side_and_range(rt: HostRuntime) -> Result<(), Fail> {
+    for (row_type, right_side, range, expected) in ROWS {
+        let answer = of_row(rt.alloc(), row_type, right_side, range)?;
+        assert!(rt; tells(&answer, expected), "at {right_side} {expected}");
+    }
+    Ok(())
+}
+
+/// Two calls of the bounds or the kind of a column, and what its views tell.
+const COLUMNS: [(Call<'static>, Call<'static>, &str); 14] = [
+    (
+        Call::NoBounds("X"),
+        Call::NoBounds("X"),
+        "column X continuous 0 inf objective 0",
+    ),
+    (
+        Call::Upper("X", "-1"),
+        Call::NoBounds("X"),
+        "NegativeUpper X",
+    ),
+    (
+        Call::Upper("X", "-1"),
+        Call::Lower("X", "-1e20"),
+        "column X continuous -inf -1 objective 0",
+    ),
+    (
+        Call::Upper("X", "-1"),
+        Call::Lower("X", "0"),
+        "BoundsCrossed X",
+    ),
+    (
+        Call::Upper("X", "0"),
+        Call::NoBounds("X"),
+        "column X continuous 0 0 objective 0",
+    ),
+    (
+        Call::Bounds("X", "2", "2.50"),
+        Call::NoBounds("X"),
+        "column X continuous 2 2.5 objective 0",
+    ),
+    (
+        Call::Marked("X"),
+        Call::NoBounds("X"),
+        "column X integer 0 1 objective 0",
+    ),
+    (
+        Call::Marked("X"),
+        Call::Lower("X", "0"),
+        "column X integer 0 inf objective 0",
+    ),
+    (
+        Call::Integer("X"),
+        Call::NoBounds("X"),
+        "column X integer 0 inf objective 0",
+    ),
+    (
+        Call::Semi("X"),
+        Call::Upper("X", "4"),
+        "column X semi 0 4 objective 0",
+    ),
+    (
+        Call::Bounds("X", "4", "4"),
+        Call::Semi("X"),
+        "column X semi 4 4 objective 0",
+    ),
+    (Call::Semi("X"), Call::NoBounds("X"), "SemiBounds X"),
+    (Call::Semi("X"), Call::Upper("X", "0"), "SemiBounds X"),
+    (
+        Call::Semi("X"),
+        Call::Bounds("X", "-1", "4"),
+        "SemiBounds X",
+    ),
+];
+
+#[test]
+fn bounds_columns_by_their_sides(rt: HostRuntime) -> Result<(), Fail> {
+    for (first, second, expected) in COLUMNS {
+        let calls = [Call::Objective("C"), Call::Column("X"), first, second];
+        let answer = outcome(rt.alloc(), &calls)?;
+        assert!(rt; tells(&answer, expected), "at {expected}");
+    }
+    Ok(())
+}
+
+/// Two rows with infinite right sides, and a column with a negative upper bound.
+const FAULTY: [Call<'static>; 7] = [
+    Call::Objective("C"),
+    Call::Row("R2", RowType::Equal),
+    Call::Row("R10", RowType::Equal),
+    Call::Rhs("R2", "1e20"),
+    Call::Rhs("R10", "1e20"),
+    Call::Column("X"),
+    Call::Upper("X", "-1"),
+];
+
+#[test]
+fn tells_the_first_fault_of_the_whole(rt: HostRuntime) -> Result<(), Fail> {
+    assert_eq!(rt;
+        outcome(rt.alloc(), &FAULTY)?.as_slice(),
+        b"InfiniteLimit R10".as_slice()
+    );
+    assert_eq!(rt;
+        outcome(rt.alloc(), &FAULTY[..5])?.as_slice(),
+        b"NoColumns".as_slice()
+    );
+    assert_eq!(rt;
+        outcome(rt.alloc(), &FAULTY[..1])?.as_slice(),
+        b"NoColumns".as_slice()
+    );
+    Ok(())
+}
+
+/// A whole model; the last four calls change defaults.
+const WHOLE: [Call<'static>; 11] = [
+    Call::Objective("f"),
+    Call::Row("r", RowType::AtMost),
+    Call::Column("x"),
+    Call::Coefficient("r", "x", "1"),
+    Call::Rhs("r", "4"),
+    Call::Rhs("f", "-5"),
+    Call::Sense(Sense::Maximize),
+    Call::Range("r", "-2"),
+    Call::Lower("x", "-1e20"),
+    Call::Marked("x"),
+    Call::Integer("x"),
+];
+
+#[test]
+fn ends_in_the_model_of_its_calls(rt: HostRuntime) -> Result<(), Fail> {
+    let bounded = b"maximize f constant 5 offset -5
+row r R 2 4 rhs 4 range 2
+column x integer -inf inf objective 0
+entry r 1 1
+";
+    let plain = b"maximize f constant 5 offset -5
+row r L -inf 4 rhs 4 range 0
+column x continuous 0 inf objective 0
+entry r 1 1
+";
+    assert_eq!(rt; outcome(rt.alloc(), &WHOLE)?.as_slice(), bounded.as_slice());
+    assert_eq!(rt;
+        outcome(rt.alloc(), &WHOLE[..7])?.as_slice(),
+        plain.as_slice()
+    );
+    Ok(())
+}

@@ -1,0 +1,79 @@
+//! How a row was declared, kept small.
+
+ghost use Rattle.std.specs.Prelude.{◌≡◌};
+ghost use Rattle.mpslp_core.specs.Limits.{row_form, by_type, is_free_form, is_limits_form};
+
+use crate::limits::FormKind;
+use crate::packed::PackedRow;
+use mpslp_types::RowType;
+use std::marker::Model;
+
+/// How a row was declared. Contracts see it as a `RowForm`.
+#[derive(Debug, Drop)]
+pub struct StoredForm {
+    stored: StoredKind,
+}
+
+/// What a row is declared by. Its limits stand apart, since most rows have a type.
+#[derive(Debug, Drop)]
+enum StoredKind {
+    /// Its type.
+    ByType(RowType),
+    /// Its limits.
+    ByLimits(Box<PackedRow>),
+}
+
+const _: () = prove!(size_of::<StoredForm>() <= 16);
+
+impl Model for StoredForm {
+    ghost use Rattle.mpslp_core.specs.Limits.{RowForm};
+    ghost use Rattle.mpslp_core.specs.Forms.{form_of_stored};
+
+    ghost Value = { RowForm };
+
+    ghost view = { λ form. form_of_stored form.stored };
+}
+
+impl StoredForm {
+    /// A row that is declared by its type.
+    pub fn of_type(row_type: RowType) -> StoredForm
+        ensures { result ≡ by_type row_type }
+    {
+        StoredForm {
+            stored: StoredKind::ByType(row_type),
+        }
+    }
+
+    /// How the row was declared.
+    pub fn kind(&self) -> FormKind
+        ensures { row_form result ≡ self.now }
+    {
+        match &self.stored {
+            StoredKind::ByType(row_type) => FormKind::ByType(*row_type),
+            StoredKind::ByLimits(limits) => {
+                let limits = limits.limits();
+                FormKind::ByLimits(limits.lower, limits.upper)
+            }
+        }
+    }
+
+    /// Whether the row is of type N.
+    pub fn is_free(&self) -> bool
+        ensures { result ≡ is_free_form self.now }
+    {
+        match &self.stored {
+            StoredKind::ByType(RowType::Free) => true,
+            _ => false,
+        }
+    }
+
+    /// Whether the row is declared by its limits.
+    pub fn has_limits(&self) -> bool
+        ensures { result ≡ is_limits_form self.now }
+    {
+        match &self.stored {
+            StoredKind::ByType(_) => false,
+            StoredKind::ByLimits(_) => true,
+        }
+    }
+}
