@@ -216,6 +216,18 @@ impl<K: Key, V> SortedMap<K, V> {
 }
 
 impl<K: Key + Drop, V: Drop> SortedMap<K, V> {
+    /// Makes room for so many more entries, and for no further ones where it takes memory.
+    ///
+    /// # Errors
+    ///
+    /// [`AllocError`] where there is no memory for them. The map is as it was in any case.
+    pub fn reserve_exact(&mut self, additional: usize) -> Result<(), AllocError>
+        ensures { self.new ≡ self.old }
+    {
+        let entries = &mut self.entries;
+        entries.reserve_exact(additional)
+    }
+
     /// Puts an entry where its key belongs. There is none at its key; those behind it are moved.
     ///
     /// # Errors
@@ -258,7 +270,8 @@ mod tests {
 
     #[test]
     fn entries_stand_in_byte_order(rt: HostRuntime) -> Result<(), Fail> {
-        let map = three_names(rt.alloc())?;
+        let mut map = three_names(rt.alloc())?;
+        map.reserve_exact(5)?;
         assert_eq!(rt; map.as_slice().len(), 3);
         assert_eq!(rt; index_of_entry(map.as_slice(), &b"x10".as_slice()), Some(0));
         assert_eq!(rt; index_of_entry(map.as_slice(), &b"x3".as_slice()), Some(2));

@@ -2,7 +2,8 @@
 use Rattle.std.specs.Prelude.{◌≡◌, ℕ, List}
 use Rattle.mpslp_core.specs.Model.{LinearModel}
 use Rattle.mpslp_types.specs.declared.faults.Fault.{Fault}
-use Rattle.mpslp_mps.specs.MpsText.{DeclaresMps}
+use Rattle.mpslp_mps.specs.MpsText.{is_mps_text, DeclaresMps}
+use Rattle.mpslp_mps.specs.TextInWords.{is_text_in_words}
 use Rattle.mpslp_mps.specs.FirstFault.{IsFirstMpsFault}
 
 -- Two models that the same bytes declare are one.
@@ -20,3 +21,7 @@ DeclareOrFail = (bytes : List ℕ) (m : LinearModel) (fault : Fault) → Declare
 -- Bytes that have no first fault declare a model.
 abbrev pub DeclareUnlessFaulty : Type 0
 DeclareUnlessFaulty = (bytes : List ℕ) → ((fault : Fault) → IsFirstMpsFault bytes fault → ⊥) → (m : LinearModel) × DeclaresMps bytes m
+
+-- MPS text, and nothing else, is text in the words of the format.
+abbrev pub TextIsInWords : Type 0
+TextIsInWords = (bytes : List ℕ) → is_mps_text bytes ≡ is_text_in_words bytes

@@ -12,6 +12,7 @@ pub mod HeaderFault
 pub mod DataFault
 pub mod LineFault
 pub mod MpsText
+pub mod TextInWords
 pub mod FirstFault
 pub mod Reading
 pub mod Laws

@@ -39,6 +39,23 @@ impl Model for Cells {
     ghost invariant = { λ c. IsOnceBy nat_cmp (c.near ++ c.far.entries) };
 }
 
+/// Puts a coefficient into the vector. There is none of its row. Many columns have one coefficient alone, so the first
+/// takes no more room than it needs.
+fn put_near(
+    near: &mut SortedMap<u32, PackedDecimal>,
+    row: u32,
+    value: PackedDecimal,
+) -> Result<(), AllocError>
+    requires { find nat_cmp row near.old ≡ None }
+    ensures ok { OnOk result (near.new ≡ put nat_cmp row value near.old) }
+    ensures err { OnErr result (near.new ≡ near.old) }
+{
+    if near.is_empty() {
+        near.reserve_exact(1)?;
+    }
+    near.put(row, value)
+}
+
 impl Cells {
     /// No coefficients. It takes no memory.
     pub fn new(alloc: Global) -> Cells
@@ -73,7 +90,7 @@ impl Cells {
         ensures err { OnErr result (self.new ≡ self.old) }
     {
         if self.is_near(row) {
-            self.near.put(row, PackedDecimal::of(value))?;
+            put_near(&mut self.near, row, PackedDecimal::of(value))?;
         } else {
             self.far.insert(row, PackedDecimal::of(value))?;
         }

@@ -9,15 +9,15 @@ use Rattle.mpslp_core.proofs.RunLemmas.{absent_first, put_first, put_second}
 use Rattle.mpslp_core.proofs.OnceLemmas.{once-from_rising, once-put_first, once-put_second}
 use Rattle.mpslp_numbered.proofs.cells.Cells.put.Goals as goal
 
-pub put-requires : goal.put-requires
-put-requires c =
+pub put_near-requires : goal.put_near-requires
+put_near-requires c =
     absent_first nat_cmp nat_cmp_total c.args.row c.self.inside.near c.self.inside.far.entries
     (ap (λ (cells : List (ℕ × Number)). find nat_cmp c.args.row cells) c.self.view_is ∙ c.requires)
 
-pub returns-in_ok-put-clause-ok : goal.returns-in_ok-put-clause-ok
-returns-in_ok-put-clause-ok c =
-    put_first nat_cmp nat_cmp_total nat_cmp-IsAntisymmetric c.args.row c.args.value c.self.inside.near c.put.new.self c.self.inside.far.entries
-    (c.in_ok-put.ensures.ok ∙ ap (λ (v : Number). put nat_cmp c.args.row v c.self.inside.near) c.of.ensures)
+pub returns-in_ok-put_near-clause-ok : goal.returns-in_ok-put_near-clause-ok
+returns-in_ok-put_near-clause-ok c =
+    put_first nat_cmp nat_cmp_total nat_cmp-IsAntisymmetric c.args.row c.args.value c.self.inside.near c.put_near.new.near c.self.inside.far.entries
+    (c.in_ok-put_near.ensures.ok ∙ ap (λ (v : Number). put nat_cmp c.args.row v c.self.inside.near) c.of.ensures)
     ∙ ap (put nat_cmp c.args.row c.args.value) c.self.view_is
 
 pub returns-in_ok-insert-clause-ok : goal.returns-in_ok-insert-clause-ok
@@ -29,8 +29,8 @@ returns-in_ok-insert-clause-ok c =
 
 pub invariant_of-self : goal.invariant_of-self
 invariant_of-self c =
-    once-put_first nat_cmp nat_cmp_total c.args.row c.args.value c.self.inside.near c.put.new.self c.self.inside.far.entries
-    (c.in_ok-put.ensures.ok ∙ ap (λ (v : Number). put nat_cmp c.args.row v c.self.inside.near) c.of.ensures)
+    once-put_first nat_cmp nat_cmp_total c.args.row c.args.value c.self.inside.near c.put_near.new.near c.self.inside.far.entries
+    (c.in_ok-put_near.ensures.ok ∙ ap (λ (v : Number). put nat_cmp c.args.row v c.self.inside.near) c.of.ensures)
     (ap (λ (cells : List (ℕ × Number)). find nat_cmp c.args.row cells) c.self.view_is ∙ c.requires) c.self.invariant
 
 pub invariant_of-self-in_ok-insert : goal.invariant_of-self-in_ok-insert

@@ -1,0 +1,107 @@
+-- Text in the words of the format is MPS text.
+use Rattle.std.proofs.Common.{◌≡◌, refl, sym, ap, subst, List, [], ◌∷◌, ◌++◌, append_assoc, ℕ, Bool, true, false, map}
+use Rattle.std.specs.Prelude.{not, ◌&&◌}
+use Rattle.std.specs.List.{list_all}
+use Rattle.mpslp_types.proofs.BoolLemmas.{both_so}
+use Rattle.mpslp_builder.specs.Declaration.{Draft, empty_draft, adding_all}
+use Rattle.mpslp_core.specs.Lists.{is_nonempty}
+use Rattle.mpslp_mps.specs.Line.{Item, skipped, header, data_line, item_of}
+use Rattle.mpslp_mps.specs.Context.{context_of}
+use Rattle.mpslp_mps.specs.LineMeaning.{declared}
+use Rattle.mpslp_mps.specs.MpsText.{is_mps_text, read_lines, has_end, has_good_form, placed_lines}
+use Rattle.mpslp_mps.specs.TextInWords.{is_text_in_words}
+use Rattle.mpslp_mps.proofs.OrderLemmas.{IsGood}
+use Rattle.mpslp_mps.proofs.PlacedLemmas.{form_faults, have_good_form, lines-good}
+use Rattle.mpslp_mps.specs.Laws.{TextIsInWords}
+use Rattle.mpslp_mps.proofs.WordsOfText.{AreInWords, none-yet, one-more, text-in_words}
+use Rattle.mpslp_mps.proofs.ColumnsOfWords.{HaveLines, lines-push}
+use Rattle.mpslp_mps.proofs.ObjNameOfWords.{IsDeclared, declared-kept}
+use Rattle.mpslp_mps.proofs.OneWordOfWords.{IsWantedThere, wanted_there-kept}
+use Rattle.mpslp_mps.proofs.DataOfWords.{AreGoodLines, data-good}
+use Rattle.mpslp_mps.proofs.KeywordsOfWords.{AreGoodHeaders, keyword-good}
+
+both : (a b : Bool) → (a && b) ≡ true → (a ≡ true) × (b ≡ true)
+both true b h = (refl, h)
+both false b h = absurd cc
+
+-- what the lines before tell of the next one
+pub record Known (before : List Item) (earlier : Draft) : Type 0 where
+  pub words : AreInWords before earlier
+  pub lines : HaveLines before earlier
+  pub declares : IsDeclared before earlier
+  pub there : IsWantedThere before
+
+all-good : (items before : List Item) (earlier : Draft) → Known before earlier → AreGoodLines (before ++ items) → AreGoodHeaders (before ++ items) → have_good_form before earlier items ≡ true
+all-good [] before earlier known lines headers = refl
+all-good (item ∷ items) before earlier known lines headers =
+    let next = adding_all earlier (declared (context_of before) earlier item) in
+    let good = here item lines headers in
+    both_so (not (is_nonempty (form_faults (context_of before) earlier item))) (have_good_form (before ++ item ∷ []) next items)
+    (ap (λ faults. not (is_nonempty faults)) good)
+    (all-good items (before ++ item ∷ []) next
+    (record {
+      words = one-more before earlier item good known.words;
+      lines = lines-push before earlier item known.lines;
+      declares = declared-kept before earlier item good known.words.early known.declares;
+      there = wanted_there-kept before item known.there;
+    })
+    (subst AreGoodLines (sym (append_assoc before (item ∷ []) items)) lines) (subst AreGoodHeaders (sym (append_assoc before (item ∷ []) items)) headers))
+  where
+    here : (x : Item) → AreGoodLines (before ++ x ∷ items) → AreGoodHeaders (before ++ x ∷ items) → IsGood before earlier x
+    here skipped l h = refl
+    here (header keyword more) l h = keyword-good before earlier keyword more items known.words.sense known.words.name known.there known.declares h
+    here (data_line fields) l h = data-good before earlier fields items known.words.sense known.words.name known.lines l
+
+none-known : Known [] empty_draft
+none-known = record { words = none-yet; lines = λ name h. cc; declares = λ told name row. cc; there = λ h. cc }
+
+text-of_words : (bytes : List ℕ) → is_text_in_words bytes ≡ true → is_mps_text bytes ≡ true
+text-of_words bytes h =
+    let items = map item_of (read_lines bytes) in
+    let (ended, rest) = both _ _ h in
+    let (legal, together) = both _ _ rest in
+    let (heads, more) = both _ _ together in
+    let (each, more1) = both _ _ heads in
+    let (sections, more2) = both _ _ more1 in
+    let (rows, columns) = both _ _ more2 in
+    let (stray, more3) = both _ _ more in
+    let (words, more4) = both _ _ more3 in
+    let (sense, name) = both _ _ words in
+    let (named, more5) = both _ _ more4 in
+    let (fields, more6) = both _ _ more5 in
+    let (row_lines, f1) = both _ _ fields in
+    let (column_lines, f2) = both _ _ f1 in
+    let (sides, f3) = both _ _ f2 in
+    let (ranges, bounds) = both _ _ f3 in
+    let (markers, more7) = both _ _ more6 in
+    let (whole, sets) = both _ _ more7 in
+    let (side_set, s1) = both _ _ sets in
+    let (range_set, bound_sets) = both _ _ s1 in
+    both_so (has_end bytes) (list_all has_good_form (placed_lines bytes)) ended
+    (lines-good [] empty_draft (read_lines bytes) legal
+    (all-good items [] empty_draft
+    none-known
+    (record {
+      strays = stray;
+      sense = sense;
+      name = name;
+      rows = row_lines;
+      columns = column_lines;
+      right_sides = sides;
+      ranges = ranges;
+      bounds = bounds;
+      markers = markers;
+      together = whole;
+      right_side_set = side_set;
+      range_set = range_set;
+      bound_sets = bound_sets;
+    })
+    (record { each = each; sections = sections; rows = rows; columns = columns; sense = sense; name = name; named = named })))
+
+same-answers : (a b : Bool) → (a ≡ true → b ≡ true) → (b ≡ true → a ≡ true) → a ≡ b
+same-answers true b f g = sym (f refl)
+same-answers false true f g = g refl
+same-answers false false f g = refl
+
+pub text-is_in_words : TextIsInWords
+text-is_in_words bytes = same-answers (is_mps_text bytes) (is_text_in_words bytes) (text-in_words bytes) (text-of_words bytes)

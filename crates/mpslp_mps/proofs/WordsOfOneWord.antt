@@ -1,0 +1,230 @@
+-- In lines of a good form OBJSENSE and OBJNAME each have one word: on the header, or on the one data line behind it.
+use Rattle.std.proofs.Common.{◌≡◌, refl, sym, ap, ◌∙◌, subst, List, [], ◌∷◌, ◌++◌, ℕ, Bool, true, false, cond}
+use Rattle.std.specs.Prelude.{Option, Some, None, is_some, is_none, not, ◌||◌}
+use Rattle.std.specs.Option.{option_map_or, option_or}
+use Rattle.std.proofs.lemmas.List.{append-nil}
+use Rattle.mpslp_types.specs.declared.faults.FaultKind.TheVariants as kinds
+use Rattle.mpslp_types.proofs.BoolLemmas.{nor, or_right}
+use Rattle.mpslp_builder.specs.Declaration.{Draft}
+use Rattle.mpslp_core.specs.Lists.{those_of, is_nonempty, when}
+use Rattle.mpslp_reading.specs.Tests.{judged_by}
+use Rattle.mpslp_reading.proofs.HeldLemmas.{first_test, later_tests}
+use Rattle.mpslp_mps.specs.Line.{Fields, Item, skipped, header, data_line}
+use Rattle.mpslp_mps.specs.Section.{has, section_named, section_begun, begins, is_section}
+use Rattle.mpslp_mps.specs.DataLine.{sense_of, word_shape}
+use Rattle.mpslp_mps.specs.Context.{Context, context_of, sections_begun, has_section, current_section, is_read, takes_word, word_wanted, wanting, wanted}
+use Rattle.mpslp_mps.specs.HeaderFault.{word_tests, may_begin, may_follow, section_tests, header_tests}
+use Rattle.mpslp_mps.specs.DataFault.{data_tests}
+use Rattle.mpslp_mps.specs.TextInWords.{word_fields, words_in, is_one_word, has_word_at_most, is_sense}
+use Rattle.mpslp_mps.specs.declared.sections.Section.{Section}
+use Rattle.mpslp_mps.specs.declared.sections.Section.TheVariants.{ObjSense, ObjName}
+use Rattle.mpslp_mps.proofs.OrderLemmas.{IsGood, never, header-ordered, header-fresh}
+use Rattle.mpslp_mps.proofs.SectionLemmas.{has_section-push, current_section-push, said_after-push}
+use Rattle.mpslp_mps.proofs.ContextLemmas.{wanted-push}
+use Rattle.mpslp_mps.proofs.WordsOfFields.{section-is}
+use Rattle.mpslp_mps.proofs.WordsOfHeaders.{header-follows}
+
+-- ---- a section of one word, and the test of its word
+
+-- one word that passes, or none
+abbrev pub fits_word : (List ℕ → Bool) → Fields → Bool
+fits_word test [] = true
+fits_word test (word ∷ []) = test word
+fits_word test _ = false
+
+abbrev pub is_single : (List ℕ → Bool) → Fields → Bool
+is_single test (word ∷ []) = test word
+is_single test _ = false
+
+pub record IsOfOneWord (section : Section) (test : List ℕ → Bool) : Type 0 where
+  pub takes : takes_word section ≡ true
+  pub on_header : (context : Context) (earlier : Draft) (keyword : List ℕ) (more : Fields) → those_of (header_tests context earlier keyword more (Some section)) ≡ [] → fits_word test more ≡ true
+  pub on_line : (context : Context) (earlier : Draft) (fields : Fields) → those_of (data_tests context earlier fields (Some section)) ≡ [] → (is_some context.wanted ≡ true) × (is_single test fields ≡ true)
+  pub itself : is_section section (Some section) ≡ true
+
+something : {X : Type 0} (o : Option X) → is_none o ≡ false → is_some o ≡ true
+something None k = sym k
+something (Some x) k = refl
+
+wanted-there : (b : Bool) → not b ≡ false → b ≡ true
+wanted-there true e = refl
+wanted-there false e = sym e
+
+pub sense-word : IsOfOneWord ObjSense is_sense
+sense-word = record {
+  takes = refl;
+  on_header = λ context earlier keyword more h. on_header context earlier more (header-follows context earlier keyword more ObjSense h);
+  on_line = λ context earlier fields h. on_line context earlier fields h;
+  itself = refl;
+}
+  where
+    on_header : (context : Context) (earlier : Draft) (more : Fields) → (may_follow ObjSense more ≡ true) × (those_of (section_tests context earlier ObjSense more) ≡ []) → fits_word is_sense more ≡ true
+    on_header context earlier [] h = refl
+    on_header context earlier (word ∷ []) (f, g) = something (sense_of word) (first_test (is_none (sense_of word)) kinds.BadType [] g)
+    on_header context earlier (word ∷ other ∷ more) (f, g) = cc
+
+    on_line : (context : Context) (earlier : Draft) (fields : Fields) → those_of (data_tests context earlier fields (Some ObjSense)) ≡ [] → (is_some context.wanted ≡ true) × (is_single is_sense fields ≡ true)
+    on_line context earlier fields h = (
+      wanted-there (is_some context.wanted) (first_test (not (is_some context.wanted)) kinds.SectionOrder (judged_by word_tests (word_shape fields)) h),
+      of fields (later_tests (not (is_some context.wanted)) kinds.SectionOrder (judged_by word_tests (word_shape fields)) h),
+    )
+      where
+        of : (fs : Fields) → those_of (judged_by word_tests (word_shape fs)) ≡ [] → is_single is_sense fs ≡ true
+        of [] k = cc
+        of (word ∷ []) k = something (sense_of word) (first_test (is_none (sense_of word)) kinds.BadType [] k)
+        of (word ∷ other ∷ more) k = cc
+
+pub name-word : IsOfOneWord ObjName (λ _. true)
+name-word = record {
+  takes = refl;
+  on_header = λ context earlier keyword more h. on_header more (header-follows context earlier keyword more ObjName h).0;
+  on_line = λ context earlier fields h. on_line context earlier fields h;
+  itself = refl;
+}
+  where
+    on_header : (more : Fields) → may_follow ObjName more ≡ true → fits_word (λ _. true) more ≡ true
+    on_header [] h = refl
+    on_header (word ∷ []) h = refl
+    on_header (word ∷ other ∷ more) h = cc
+
+    on_line : (context : Context) (earlier : Draft) (fields : Fields) → those_of (data_tests context earlier fields (Some ObjName)) ≡ [] → (is_some context.wanted ≡ true) × (is_single (λ _. true) fields ≡ true)
+    on_line context earlier fields h = (
+      wanted-there (is_some context.wanted) (first_test (not (is_some context.wanted)) kinds.SectionOrder (judged_by (λ _. []) (word_shape fields)) h),
+      of fields (later_tests (not (is_some context.wanted)) kinds.SectionOrder (judged_by (λ _. []) (word_shape fields)) h),
+    )
+      where
+        of : (fs : Fields) → those_of (judged_by (λ _. []) (word_shape fs)) ≡ [] → is_single (λ _. true) fs ≡ true
+        of [] k = cc
+        of (word ∷ []) k = refl
+        of (word ∷ other ∷ more) k = cc
+
+-- ---- how far the section is
+
+pub data Stage : Type 0 where
+  missing : Stage
+  without_word : Stage
+  with_word : Stage
+
+-- what the lines say of the section: its words, whether it has begun, which one goes on, and whose word is to come
+abbrev pub IsAt : Section → (List ℕ → Bool) → Stage → List Fields → Bool → Option Section → Option Section → Type 0
+IsAt section test missing words begun current awaited = (words ≡ []) × (begun ≡ false) × (is_section section current ≡ false)
+IsAt section test without_word words begun current awaited = (words ≡ [] ∷ []) × (begun ≡ true) × (is_section section current ≡ true) × (is_some awaited ≡ true)
+IsAt section test with_word words begun current awaited = (is_one_word test words ≡ true) × (begun ≡ true) × (is_section section current ≡ true → is_some awaited ≡ false)
+
+-- at one of the three stages
+abbrev pub IsSome : Section → (List ℕ → Bool) → List Fields → Bool → Option Section → Option Section → Type 0
+IsSome section test words begun current awaited = (stage : Stage) × IsAt section test stage words begun current awaited
+
+abbrev pub IsUnderway : Section → (List ℕ → Bool) → List Item → Type 0
+IsUnderway section test before = IsSome section test (words_in section before) (has_section before section) (current_section before) (wanted before)
+
+-- the parts in place of equal ones
+carried : (section : Section) (test : List ℕ → Bool) (words words2 : List Fields) (begun begun2 : Bool) (current current2 awaited wanted2 : Option Section)
+    → words2 ≡ words → begun2 ≡ begun → current2 ≡ current → wanted2 ≡ awaited → IsSome section test words begun current awaited → IsSome section test words2 begun2 current2 wanted2
+carried section test words words2 begun begun2 current current2 awaited wanted2 p q r s h =
+    subst (λ w. IsSome section test words2 begun2 current2 w) (sym s)
+    (subst (λ c. IsSome section test words2 begun2 c awaited) (sym r)
+    (subst (λ b. IsSome section test words2 b current awaited) (sym q)
+    (subst (λ w. IsSome section test w begun current awaited) (sym p) h)))
+
+-- ---- one line more
+
+or_false : (b : Bool) → (b || false) ≡ b
+or_false true = refl
+or_false false = refl
+
+-- a line that says nothing of the section, and stands where over word is to come
+passed : (section : Section) (test : List ℕ → Bool) (words : List Fields) (begun : Bool) (current awaited next later : Option Section) → IsSome section test words begun current awaited
+    → is_some awaited ≡ false → is_section section next ≡ false → IsSome section test (words ++ []) (begun || false) next later
+passed section test words begun current awaited next later (missing, (a, b, c)) over out = (missing, (ap (λ (w : List Fields). w ++ []) a, ap (λ (x : Bool). x || false) b, out))
+passed section test words begun current awaited next later (without_word, (a, b, c, d)) over out = absurd (never (is_some awaited) d over)
+passed section test words begun current awaited next later (with_word, (a, b, c)) over out =
+    (with_word, (ap (is_one_word test) (append-nil words) ∙ a, ap (λ (x : Bool). x || false) b, λ h. absurd (never (is_section section next) h out)))
+
+-- the header of the section
+begun-now : (section : Section) (test : List ℕ → Bool) → IsOfOneWord section test → (words : List Fields) (begun : Bool) (current awaited : Option Section) (more : Fields)
+    → IsSome section test words begun current awaited → begun ≡ false → fits_word test more ≡ true
+    → IsSome section test (words ++ more ∷ []) (begun || true) (Some section) (word_wanted section more)
+begun-now section test one words begun current awaited more (without_word, (a, b, c, d)) over fits = absurd (never begun b over)
+begun-now section test one words begun current awaited more (with_word, (a, b, c)) over fits = absurd (never begun b over)
+begun-now section test one words begun current awaited more (missing, (a, b, c)) over fits = by more fits
+  where
+    all : (fields : Fields) → words ++ fields ∷ [] ≡ fields ∷ []
+    all fields = ap (λ (w : List Fields). w ++ fields ∷ []) a
+
+    by : (fields : Fields) → fits_word test fields ≡ true → IsSome section test (words ++ fields ∷ []) (begun || true) (Some section) (word_wanted section fields)
+    by [] f = (without_word, (all [], or_right begun true refl, one.itself, ap (λ (b : Bool). is_some (cond b (Some section) None)) one.takes))
+    by (word ∷ []) f = (with_word, (ap (is_one_word test) (all (word ∷ [])) ∙ f, or_right begun true refl, λ _. refl))
+    by (word ∷ other ∷ rest) f = cc
+
+-- the data line with the word
+word-now : (section : Section) (test : List ℕ → Bool) (words : List Fields) (begun : Bool) (current awaited : Option Section) (fields : Fields)
+    → IsSome section test words begun current awaited → is_section section current ≡ true → is_some awaited ≡ true → is_single test fields ≡ true
+    → IsSome section test (words ++ fields ∷ []) (begun || false) current None
+word-now section test words begun current awaited fields (missing, (a, b, c)) here there fits = absurd (never (is_section section current) here c)
+word-now section test words begun current awaited fields (with_word, (a, b, c)) here there fits = absurd (never (is_some awaited) there (c here))
+word-now section test words begun current awaited fields (without_word, (a, b, c, d)) here there fits = by fields fits
+  where
+    by : (fs : Fields) → is_single test fs ≡ true → IsSome section test (words ++ fs ∷ []) (begun || false) current None
+    by [] f = cc
+    by (word ∷ []) f = (with_word, (ap (λ (w : List Fields). is_one_word test (w ++ (word ∷ []) ∷ [])) a ∙ f, ap (λ (x : Bool). x || false) b, λ _. refl))
+    by (word ∷ other ∷ rest) f = cc
+
+-- a data line of another section
+elsewhere : (section : Section) (test : List ℕ → Bool) (words : List Fields) (begun : Bool) (current awaited : Option Section)
+    → IsSome section test words begun current awaited → is_section section current ≡ false → IsSome section test (words ++ []) (begun || false) current None
+elsewhere section test words begun current awaited (missing, (a, b, c)) out = (missing, (ap (λ (w : List Fields). w ++ []) a, ap (λ (x : Bool). x || false) b, out))
+elsewhere section test words begun current awaited (without_word, (a, b, c, d)) out = absurd (never (is_section section current) c out)
+elsewhere section test words begun current awaited (with_word, (a, b, c)) out = (with_word, (ap (is_one_word test) (append-nil words) ∙ a, ap (λ (x : Bool). x || false) b, λ _. refl))
+
+pub word-kept : (section : Section) (test : List ℕ → Bool) → IsOfOneWord section test → (before : List Item) (earlier : Draft) (item : Item) → IsGood before earlier item
+    → IsUnderway section test before → IsUnderway section test (before ++ item ∷ [])
+word-kept section test one before earlier item good h =
+    carried section test (words ++ word_fields section current item) (words_in section (before ++ item ∷ [])) (begun || begins section item) (has_section (before ++ item ∷ []) section)
+    (option_or (section_begun item) current) (current_section (before ++ item ∷ [])) (cond (is_read item) (wanting item) (wanted before)) (wanted (before ++ item ∷ []))
+    (said_after-push (word_fields section) None before item) (has_section-push section before item) (current_section-push before item) (wanted-push before item) (by item good)
+  where
+    words : List Fields
+    words = words_in section before
+
+    begun : Bool
+    begun = has_section before section
+
+    current : Option Section
+    current = current_section before
+
+    -- a header of this section, or of another
+    of_header : (keyword : List ℕ) (more : Fields) (s : Option Section) → those_of (header_tests (context_of before) earlier keyword more s) ≡ [] → (b : Bool) → is_section section s ≡ b
+        → IsSome section test (words ++ when b more) (begun || b) (option_or s current) (option_map_or (λ (t : Section). word_wanted t more) s None)
+    of_header keyword more None g b e = cc
+    of_header keyword more (Some t) g true e =
+        let g2 = subst (λ o. those_of (header_tests (context_of before) earlier keyword more o) ≡ []) (section-is section (Some t) e) g in
+        subst (λ o. IsSome section test (words ++ more ∷ []) (begun || true) (option_or o current) (option_map_or (λ (u : Section). word_wanted u more) o None)) (sym (section-is section (Some t) e))
+        (begun-now section test one words begun current (wanted before) more h (header-fresh (context_of before) earlier keyword more section g2) (one.on_header (context_of before) earlier keyword more g2))
+    of_header keyword more (Some t) g false e =
+        passed section test words begun current (wanted before) (Some t) (word_wanted t more) h
+        (nor (is_some (wanted before)) (not (has (sections_begun before) t || may_begin (context_of before) t)) (header-ordered (context_of before) earlier keyword more t g)).0 e
+
+    of_data : (fields : Fields) → those_of (data_tests (context_of before) earlier fields current) ≡ [] → (b : Bool) → is_section section current ≡ b
+        → IsSome section test (words ++ when b fields) (begun || false) current None
+    of_data fields g true e =
+        let line = one.on_line (context_of before) earlier fields (subst (λ o. those_of (data_tests (context_of before) earlier fields o) ≡ []) (section-is section current e) g) in
+        word-now section test words begun current (wanted before) fields h e line.0 line.1
+    of_data fields g false e = elsewhere section test words begun current (wanted before) h e
+
+    by : (x : Item) → IsGood before earlier x
+        → IsSome section test (words ++ word_fields section current x) (begun || begins section x) (option_or (section_begun x) current) (cond (is_read x) (wanting x) (wanted before))
+    by skipped g =
+        subst (λ w. IsSome section test w (begun || false) current (wanted before)) (sym (append-nil words))
+        (subst (λ b. IsSome section test words b current (wanted before)) (sym (or_false begun)) h)
+    by (header keyword more) g = of_header keyword more (section_named keyword) g (is_section section (section_named keyword)) refl
+    by (data_line fields) g = of_data fields g (is_section section current) refl
+
+-- ---- at the end
+
+-- where the section does not go on, it is missing or has its word
+pub word-at_end : (section : Section) (test : List ℕ → Bool) (before : List Item) → IsUnderway section test before → is_section section (current_section before) ≡ false
+    → has_word_at_most test (words_in section before) ≡ true
+word-at_end section test before (missing, (a, b, c)) out = ap (has_word_at_most test) a
+word-at_end section test before (without_word, (a, b, c, d)) out = absurd (never (is_section section (current_section before)) c out)
+word-at_end section test before (with_word, (a, b, c)) out = or_right (not (is_nonempty (words_in section before))) (is_one_word test (words_in section before)) a
