@@ -2,7 +2,7 @@
 
 PREFIX ?= /usr/local
 
-.PHONY: run test install bench
+.PHONY: run test install bench refused
 
 # Builds the program, proved, and prints the canonical text of an example.
 run:
@@ -17,7 +17,13 @@ install: run
 	install -d $(DESTDIR)$(PREFIX)/bin
 	install crates/mpslp/out/mpslp $(DESTDIR)$(PREFIX)/bin/mpslp
 
+# The speed of numbers, of whole programs, and of files made to be slow; the program has to be built.
 bench:
 	sh bench/numbers.sh
-	python3 bench/run.py
-	python3 bench/run.py --hostile
+	python3 bench/run.py --sizes 10M,100M
+	python3 bench/run.py --sizes 10M,100M --hostile
+
+# Refuses each request for memory in turn.
+refused: run
+	cd crates/bench_memory && rt run > /dev/null
+	python3 bench/refused.py

@@ -1,4 +1,5 @@
-//! A file of some megabytes, with everything that a file may have, is converted like a small one.
+//! A file of some megabytes, with everything that a file may have, is converted like a small one, and the order of names is of
+//! no account.
 //!
 //! Its names, set names and literals have up to 255 bytes. The file and its canonical text are put together
 //! apart, each by the rules of the format: no number is longer than one digit where it is written shortest.
@@ -394,5 +395,63 @@ fn a_large_file_is_run(rt: HostRuntime) -> Result<(), Fail> {
     let output = told(alloc, MUCH, &text)?;
     let expected = canonical_text(alloc)?;
     assert!(rt; output.as_slice() == expected.as_slice());
+    Ok(())
+}
+
+/// The number at a place, where numbers rise or fall.
+fn number_at(place: u32, is_falling: bool) -> u32 {
+    if is_falling {
+        (COUNT - 1).saturating_sub(place)
+    } else {
+        place
+    }
+}
+
+/// A column's coefficient in a row, on a line of its own.
+fn put_coefficient(text: &mut Text, column: u32, row: u32) -> Result<(), AllocError> {
+    text.put("    ")?;
+    text.put_name("c", column)?;
+    text.put_row(row)?;
+    text.put("  ")?;
+    text.put_digit(value_of(row))?;
+    text.put("\n")
+}
+
+/// A file whose rows, columns, and rows within columns all come in rising or all in falling byte order.
+fn ordered_file(alloc: Global, is_falling: bool) -> Result<Vec<u8>, AllocError> {
+    let mut text = Text::new(alloc);
+    text.put("ROWS\n N  cost\n")?;
+    for place in 0..COUNT {
+        text.put(" G")?;
+        text.put_row(number_at(place, is_falling))?;
+        text.put("\n")?;
+    }
+    text.put("COLUMNS\n")?;
+    for place in 0..COUNT {
+        let column = number_at(place, is_falling);
+        let other = number_at(column, true);
+        let (first, second) = if (other < column) == is_falling {
+            (column, other)
+        } else {
+            (other, column)
+        };
+        put_coefficient(&mut text, column, first)?;
+        put_coefficient(&mut text, column, second)?;
+    }
+    text.put("ENDATA\n")?;
+    Ok(text.bytes)
+}
+
+#[test]
+fn falling_names_give_the_text_of_rising_ones(rt: HostRuntime) -> Result<(), Fail> {
+    let alloc = rt.alloc();
+    let rising = canonical::<Mps, Mps>(alloc, &ordered_file(alloc, false)?);
+    let falling = canonical::<Mps, Mps>(alloc, &ordered_file(alloc, true)?);
+    let (Ok(rising), Ok(falling)) = (rising, falling) else {
+        assert!(rt; false, "no text");
+        return Ok(());
+    };
+    assert!(rt; rising.len() > 500_000);
+    assert!(rt; rising.as_slice() == falling.as_slice());
     Ok(())
 }
