@@ -1,9 +1,9 @@
 //! Public calls with ample memory, on worked examples. Models are made by the builder, whose crate tests their views.
 
 use crate::{
-    Cells, ColumnBounds, ColumnFault, DeclaredColumn, FormKind, PackedColumn, PackedLimit,
-    PackedRow, RowFault, RowLimits, is_faulty_row, kind_of_column_fault, kind_of_row_fault,
-    limits_of, plain_limits, row_has,
+    ColumnBounds, ColumnFault, DeclaredColumn, FormKind, PackedColumn, PackedLimit, PackedRow,
+    RowFault, RowLimits, is_faulty_row, kind_of_column_fault, kind_of_row_fault, limits_of,
+    plain_limits, row_has,
 };
 use mpslp_decimal::Decimal;
 use mpslp_types::{FaultKind, Kind, Limit, RowType};
@@ -234,17 +234,4 @@ fn packs_sides_rows_and_columns(rt: HostRuntime) {
         upper: side("1.5"),
     };
     assert!(rt; PackedColumn::of(bounds).bounds() == bounds);
-}
-
-#[test]
-fn keeps_coefficients_in_any_order(rt: HostRuntime) -> Result<(), Fail> {
-    let mut cells = Cells::new(rt.alloc());
-    for row in [7, 3, 9] {
-        if !cells.has(row) {
-            cells.put(row, number("2"))?;
-        }
-    }
-    assert!(rt; cells.has(3) && cells.has(7) && cells.has(9));
-    assert!(rt; !cells.has(0) && !cells.has(8));
-    Ok(())
 }
