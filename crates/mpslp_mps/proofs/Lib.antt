@@ -49,3 +49,5 @@ pub mod ColumnsOfWords
 pub mod DataOfWords
 pub mod KeywordsOfWords
 pub mod TextOfWords
+pub mod FaultedLines
+pub mod FaultsOfWords

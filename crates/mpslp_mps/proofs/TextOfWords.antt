@@ -31,6 +31,17 @@ pub record Known (before : List Item) (earlier : Draft) : Type 0 where
   pub declares : IsDeclared before earlier
   pub there : IsWantedThere before
 
+pub none-known : Known [] empty_draft
+none-known = record { words = none-yet; lines = λ name h. cc; declares = λ told name row. cc; there = λ h. cc }
+
+pub known-kept : (before : List Item) (earlier : Draft) (item : Item) → IsGood before earlier item → Known before earlier → Known (before ++ item ∷ []) (adding_all earlier (declared (context_of before) earlier item))
+known-kept before earlier item good known = record {
+  words = one-more before earlier item good known.words;
+  lines = lines-push before earlier item known.lines;
+  declares = declared-kept before earlier item good known.words.early known.declares;
+  there = wanted_there-kept before item known.there;
+}
+
 all-good : (items before : List Item) (earlier : Draft) → Known before earlier → AreGoodLines (before ++ items) → AreGoodHeaders (before ++ items) → have_good_form before earlier items ≡ true
 all-good [] before earlier known lines headers = refl
 all-good (item ∷ items) before earlier known lines headers =
@@ -38,22 +49,13 @@ all-good (item ∷ items) before earlier known lines headers =
     let good = here item lines headers in
     both_so (not (is_nonempty (form_faults (context_of before) earlier item))) (have_good_form (before ++ item ∷ []) next items)
     (ap (λ faults. not (is_nonempty faults)) good)
-    (all-good items (before ++ item ∷ []) next
-    (record {
-      words = one-more before earlier item good known.words;
-      lines = lines-push before earlier item known.lines;
-      declares = declared-kept before earlier item good known.words.early known.declares;
-      there = wanted_there-kept before item known.there;
-    })
+    (all-good items (before ++ item ∷ []) next (known-kept before earlier item good known)
     (subst AreGoodLines (sym (append_assoc before (item ∷ []) items)) lines) (subst AreGoodHeaders (sym (append_assoc before (item ∷ []) items)) headers))
   where
     here : (x : Item) → AreGoodLines (before ++ x ∷ items) → AreGoodHeaders (before ++ x ∷ items) → IsGood before earlier x
     here skipped l h = refl
     here (header keyword more) l h = keyword-good before earlier keyword more items known.words.sense known.words.name known.there known.declares h
     here (data_line fields) l h = data-good before earlier fields items known.words.sense known.words.name known.lines l
-
-none-known : Known [] empty_draft
-none-known = record { words = none-yet; lines = λ name h. cc; declares = λ told name row. cc; there = λ h. cc }
 
 text-of_words : (bytes : List ℕ) → is_text_in_words bytes ≡ true → is_mps_text bytes ≡ true
 text-of_words bytes h =

@@ -15,6 +15,7 @@ pub mod MpsText
 pub mod TextInWords
 pub mod FirstFault
 pub mod Reading
+pub mod FaultsInWords
 pub mod Laws
 pub mod LineAnswer
 pub mod VectorDeclared

@@ -1,6 +1,8 @@
 //! Laws of MPS text. Each is the contract of a function that does nothing: to call it is to cite the
 //! law.
 
+ghost use Rattle.mpslp_types.specs.declared.faults.FaultKind.{FaultKind};
+ghost use Rattle.mpslp_mps.specs.FaultsInWords.{IsInWords, repeats_section, is_out_of_place, is_wrong_marker, is_of_second_set, splits_column};
 ghost use Rattle.mpslp_mps.specs.Laws.{DeclareOneModel, DeclareOrFail, DeclareUnlessFaulty, HaveOneFirstFault, TextIsInWords};
 
 /// No bytes declare two models.
@@ -27,4 +29,14 @@ pub fn model_without_fault()
 /// what the headers are, and what the lines of each section are together; and nothing else is.
 pub fn text_is_in_words()
     ensures { TextIsInWords }
+{}
+
+/// A first fault of each of these kinds stands on a line that is, beside the lines before it, what the
+/// kind says in the words of the format.
+pub fn faults_are_in_words()
+    ensures section_repeated { IsInWords FaultKind.SectionRepeated repeats_section }
+    ensures section_order { IsInWords FaultKind.SectionOrder is_out_of_place }
+    ensures bad_marker { IsInWords FaultKind.BadMarker is_wrong_marker }
+    ensures second_set { IsInWords FaultKind.SecondSet is_of_second_set }
+    ensures column_split { IsInWords FaultKind.ColumnSplit splits_column }
 {}

@@ -1,0 +1,244 @@
+-- The line of a text's first fault: the lines before it have none, and it is one of its tests that tells the kind, or a refusal of what it declares.
+use Rattle.std.proofs.Common.{◌≡◌, refl, sym, ap, ◌∙◌, subst, List, [], ◌∷◌, ◌++◌, append_assoc, ℕ, suc, ◌+◌, ◌-◌, ◌^◌, Bool, true, false, cond, map, arith}
+use Rattle.std.specs.Prelude.{Option, Some, None, is_none, ◌||◌, ◌==◌, nat_le, nat_lt, not, filter_map, min, length, if◌then◌else◌}
+use Rattle.std.specs.List.{list_any, list_all, cons_option}
+use Rattle.std.specs.Option.{option_map, option_or}
+use Rattle.std.specs.Cmp.{first_so, second_so}
+use Rattle.std.proofs.Math.Dec.{eqb_refl}
+use Rattle.std.proofs.lemmas.List.{append-nil, map-append}
+use Rattle.std.proofs.lemmas.List.Folds.{list_any-append}
+use Rattle.mpslp_types.specs.FaultOrder.{kind_rank, least_kind}
+use Rattle.mpslp_types.specs.declared.faults.BuildFault.{BuildFault}
+use Rattle.mpslp_types.specs.declared.faults.Fault.{Fault}
+use Rattle.mpslp_types.specs.declared.faults.FaultKind.{FaultKind}
+use Rattle.mpslp_types.specs.declared.faults.FaultKind.TheVariants.{LineTooLong, BadByte, MissingEnd, NoColumns}
+use Rattle.mpslp_types.proofs.BoolLemmas.{true_from, or_left, or_right}
+use Rattle.mpslp_core.specs.Lists.{is_nonempty, head_of, those_of}
+use Rattle.mpslp_builder.specs.Declaration.{Declarations, Draft, adding, adding_all, empty_draft, draft_of}
+use Rattle.mpslp_builder.specs.Meaning.{named_kinds, whole_fault, names_with, named_faults, file_fault}
+use Rattle.mpslp_builder.specs.Refusal.{refusal_tests, refusals, refusals_in_turn}
+use Rattle.mpslp_reading.specs.Declaring.{kind_of_refusal, declaring_faults, first_fault}
+use Rattle.mpslp_reading.specs.Field.{is_kind}
+use Rattle.mpslp_reading.specs.LegalLine.{has_legal_length, is_legal_byte}
+use Rattle.mpslp_reading.specs.LineAnswer.{fault_on_line}
+use Rattle.mpslp_reading.specs.Tests.{Tests}
+use Rattle.mpslp_reading.proofs.LeastLemmas.{lesser}
+use Rattle.mpslp_reading.proofs.FirstFaultLemmas.{faultless}
+use Rattle.mpslp_mps.specs.Line.{Item, item_of, outside_comment}
+use Rattle.mpslp_mps.specs.Context.{Context, context_of}
+use Rattle.mpslp_mps.specs.LineMeaning.{declared}
+use Rattle.mpslp_mps.specs.LineFault.{item_tests, line_tests}
+use Rattle.mpslp_mps.specs.MpsText.{Placed, read_lines, has_end, declared_at, tests_at, placed_after, placed_lines, declarations_of}
+use Rattle.mpslp_mps.specs.FirstFault.{line_fault, first_line_fault, whole_mps_fault, first_mps_fault, IsFirstMpsFault}
+use Rattle.mpslp_mps.specs.FaultsInWords.{StandsOn, IsInWords}
+use Rattle.mpslp_mps.proofs.OrderLemmas.{IsGood, never}
+use Rattle.mpslp_mps.proofs.PlacedLemmas.{item-form}
+use Rattle.mpslp_mps.proofs.TextOfWords.{Known, none-known, known-kept}
+
+-- ---- which tests a kind has
+
+-- one of the tests of this kind holds
+abbrev pub holds_of : FaultKind → Tests → Bool
+holds_of kind [] = false
+holds_of kind (test ∷ more) = if is_kind kind test.1 then (test.0 || holds_of kind more) else holds_of kind more
+
+-- one of the refusals that are told by this kind
+abbrev pub refused_as : FaultKind → List (Bool × BuildFault) → Bool
+refused_as kind [] = false
+refused_as kind (test ∷ more) = if is_kind kind (kind_of_refusal test.1) then (test.0 || refused_as kind more) else refused_as kind more
+
+abbrev pub refuses : FaultKind → Draft → Declarations → Bool
+refuses kind earlier [] = false
+refuses kind earlier (d ∷ ds) = refused_as kind (refusal_tests earlier d) || refuses kind (adding earlier d) ds
+
+itself : (kind : FaultKind) → is_kind kind kind ≡ true
+itself kind = true_from (kind_rank kind == kind_rank kind) (eqb_refl (kind_rank kind))
+
+among-least : (kinds : List FaultKind) (kind : FaultKind) → least_kind kinds ≡ Some kind → list_any (is_kind kind) kinds ≡ true
+among-least [] kind h = cc
+among-least (first ∷ kinds) kind h = by (least_kind kinds) (among-least kinds kind) h
+  where
+    here : first ≡ kind → (is_kind kind first || list_any (is_kind kind) kinds) ≡ true
+    here e = or_left (is_kind kind first) (list_any (is_kind kind) kinds) (ap (is_kind kind) e ∙ itself kind)
+
+    one : (a b : FaultKind) → Some a ≡ Some b → a ≡ b
+    one a b e = cc
+
+    of : (other : FaultKind) → (Some other ≡ Some kind → list_any (is_kind kind) kinds ≡ true) → (b : Bool) → Some (cond b other first) ≡ Some kind → (is_kind kind first || list_any (is_kind kind) kinds) ≡ true
+    of other rest true e = or_right (is_kind kind first) (list_any (is_kind kind) kinds) (rest e)
+    of other rest false e = here (one first kind e)
+
+    by : (o : Option FaultKind) → (o ≡ Some kind → list_any (is_kind kind) kinds ≡ true) → Some (lesser first o) ≡ Some kind → (is_kind kind first || list_any (is_kind kind) kinds) ≡ true
+    by None rest e = here (one first kind e)
+    by (Some other) rest e = of other rest (nat_lt (kind_rank other) (kind_rank first)) e
+
+any-held : (kind : FaultKind) (tests : Tests) → list_any (is_kind kind) (those_of tests) ≡ holds_of kind tests
+any-held kind [] = refl
+any-held kind ((held, other) ∷ more) = by (any-held kind more) held (is_kind kind other) refl
+  where
+    by : list_any (is_kind kind) (those_of more) ≡ holds_of kind more → (b c : Bool) → is_kind kind other ≡ c
+        → list_any (is_kind kind) (cond b (other ∷ those_of more) (those_of more)) ≡ cond c (b || holds_of kind more) (holds_of kind more)
+    by rest true true e = ap (λ (x : Bool). x || list_any (is_kind kind) (those_of more)) e
+    by rest true false e = ap (λ (x : Bool). x || list_any (is_kind kind) (those_of more)) e ∙ rest
+    by rest false true e = rest
+    by rest false false e = rest
+
+any-refused : (kind : FaultKind) (tests : List (Bool × BuildFault)) → list_any (is_kind kind) (map kind_of_refusal (those_of tests)) ≡ refused_as kind tests
+any-refused kind [] = refl
+any-refused kind ((held, other) ∷ more) = by (any-refused kind more) held (is_kind kind (kind_of_refusal other)) refl
+  where
+    by : list_any (is_kind kind) (map kind_of_refusal (those_of more)) ≡ refused_as kind more → (b c : Bool) → is_kind kind (kind_of_refusal other) ≡ c
+        → list_any (is_kind kind) (map kind_of_refusal (cond b (other ∷ those_of more) (those_of more))) ≡ cond c (b || refused_as kind more) (refused_as kind more)
+    by rest true true e = ap (λ (x : Bool). x || list_any (is_kind kind) (map kind_of_refusal (those_of more))) e
+    by rest true false e = ap (λ (x : Bool). x || list_any (is_kind kind) (map kind_of_refusal (those_of more))) e ∙ rest
+    by rest false true e = rest
+    by rest false false e = rest
+
+any-declaring : (kind : FaultKind) (earlier : Draft) (ds : Declarations) → list_any (is_kind kind) (declaring_faults earlier ds) ≡ refuses kind earlier ds
+any-declaring kind earlier [] = refl
+any-declaring kind earlier (d ∷ ds) =
+    ap (list_any (is_kind kind)) (map-append kind_of_refusal (refusals earlier d) (refusals_in_turn (adding earlier d) ds))
+    ∙ (list_any-append (is_kind kind) (map kind_of_refusal (refusals earlier d)) (declaring_faults (adding earlier d) ds)
+    ∙ (ap (λ (b : Bool). b || list_any (is_kind kind) (declaring_faults (adding earlier d) ds)) (any-refused kind (refusal_tests earlier d))
+    ∙ ap (λ (b : Bool). refused_as kind (refusal_tests earlier d) || b) (any-declaring kind (adding earlier d) ds)))
+
+-- the kind of a line's first fault is that of a test that holds, or of a refusal
+told-by : (tests : Tests) (earlier : Draft) (ds : Declarations) (kind : FaultKind) → first_fault tests earlier ds ≡ Some kind → (holds_of kind tests || refuses kind earlier ds) ≡ true
+told-by tests earlier ds kind h =
+    sym (list_any-append (is_kind kind) (those_of tests) (declaring_faults earlier ds)
+    ∙ (ap (λ (b : Bool). b || list_any (is_kind kind) (declaring_faults earlier ds)) (any-held kind tests) ∙ ap (λ (b : Bool). holds_of kind tests || b) (any-declaring kind earlier ds)))
+    ∙ among-least (those_of tests ++ declaring_faults earlier ds) kind h
+
+-- ---- the line
+
+-- what is known of the line, and of those before it
+pub record Faulted (ls : List (List ℕ)) (before : List Item) (n : ℕ) (fault : Fault) : Type 0 where
+  pub front : List (List ℕ)
+  pub line : List ℕ
+  pub later : List (List ℕ)
+  pub earlier : Draft
+  pub parted : ls ≡ front ++ line ∷ later
+  pub number : fault.line ≡ min (length front + n) (2 ^ 64 - 1)
+  pub known : Known (before ++ map item_of front) earlier
+  pub told : first_fault (line_tests (context_of (before ++ map item_of front)) earlier line) earlier (declared (context_of (before ++ map item_of front)) earlier (item_of line)) ≡ Some fault.kind
+
+one-less : (m n : ℕ) → m + (n + 1) ≡ suc m + n
+one-less m n = grind (arith)
+
+none-before : (n : ℕ) → n ≡ 0 + n
+none-before n = grind (arith)
+
+find-line : (ls : List (List ℕ)) (before : List Item) (earlier : Draft) (n : ℕ) (fault : Fault) → Known before earlier → first_line_fault n (placed_after before earlier ls) ≡ Some fault → Faulted ls before n fault
+find-line [] before earlier n fault known h = absurd cc
+find-line (line ∷ ls) before earlier n fault known h = by (λ good e. find-line ls (before ++ item_of line ∷ []) next (n + 1) fault (known-kept before earlier (item_of line) good known) e) (line_fault placed) refl h
+  where
+    placed : Placed
+    placed = record { context = context_of before; earlier = earlier; line = line }
+
+    next : Draft
+    next = adding_all earlier (declared_at placed)
+
+    rest : List Placed
+    rest = placed_after (before ++ item_of line ∷ []) next ls
+
+    by : (IsGood before earlier (item_of line) → first_line_fault (n + 1) rest ≡ Some fault → Faulted ls (before ++ item_of line ∷ []) (n + 1) fault)
+        → (o : Option FaultKind) → line_fault placed ≡ o → option_or (option_map (fault_on_line n) o) (first_line_fault (n + 1) rest) ≡ Some fault → Faulted (line ∷ ls) before n fault
+    by find None e k =
+        let fine = faultless (tests_at placed) earlier (declared_at placed) e in
+        let good : IsGood before earlier (item_of line) = item-form (context_of before) earlier line fine.form in
+        let found = find good k in
+        let same : (before ++ item_of line ∷ []) ++ map item_of found.front ≡ before ++ map item_of (line ∷ found.front) = append_assoc before (item_of line ∷ []) (map item_of found.front) in
+        record {
+          front = line ∷ found.front;
+          line = found.line;
+          later = found.later;
+          earlier = found.earlier;
+          parted = ap (λ (more : List (List ℕ)). line ∷ more) found.parted;
+          number = found.number ∙ ap (λ (m : ℕ). min m (2 ^ 64 - 1)) (one-less (length found.front) n);
+          known = subst (λ (items : List Item). Known items found.earlier) same found.known;
+          told = subst (λ (items : List Item). first_fault (line_tests (context_of items) found.earlier found.line) found.earlier (declared (context_of items) found.earlier (item_of found.line)) ≡ Some fault.kind) same found.told;
+        }
+    by find (Some kind) e k =
+        let same : fault_on_line n kind ≡ fault = cc in
+        let none = sym (append-nil before) in
+        record {
+          front = [];
+          line = line;
+          later = ls;
+          earlier = earlier;
+          parted = refl;
+          number = sym (ap (λ (f : Fault). f.line) same) ∙ ap (λ (m : ℕ). min m (2 ^ 64 - 1)) (none-before n);
+          known = subst (λ (items : List Item). Known items earlier) none known;
+          told = subst (λ (items : List Item). first_fault (line_tests (context_of items) earlier line) earlier (declared (context_of items) earlier (item_of line)) ≡ Some fault.kind) none
+              (e ∙ ap (λ (f : Fault). Some f.kind) same);
+        }
+
+-- ---- a fault of the whole has a kind of its own
+
+abbrev is_of_whole : FaultKind → Bool
+is_of_whole kind = nat_le (kind_rank MissingEnd) (kind_rank kind)
+
+named-whole : (all : Draft) (kinds : List FaultKind) (fault : Fault) → list_all is_of_whole kinds ≡ true
+    → head_of (filter_map (λ kind. option_map (λ name. whole_fault kind (Some name)) (head_of (names_with all kind))) kinds) ≡ Some fault → is_of_whole fault.kind ≡ true
+named-whole all [] fault h e = cc
+named-whole all (kind ∷ kinds) fault h e = by (named-whole all kinds fault (second_so (is_of_whole kind) (list_all is_of_whole kinds) h)) (head_of (names_with all kind)) e
+  where
+    more : List Fault
+    more = filter_map (λ kind. option_map (λ name. whole_fault kind (Some name)) (head_of (names_with all kind))) kinds
+
+    by : (head_of more ≡ Some fault → is_of_whole fault.kind ≡ true) → (o : Option (List ℕ)) → head_of (cons_option (option_map (λ (name : List ℕ). whole_fault kind (Some name)) o) more) ≡ Some fault
+        → is_of_whole fault.kind ≡ true
+    by rest None k = rest k
+    by rest (Some name) k =
+        let same : whole_fault kind (Some name) ≡ fault = cc in
+        sym (ap (λ (f : Fault). is_of_whole f.kind) same) ∙ first_so (is_of_whole kind) (list_all is_of_whole kinds) h
+
+of-whole : (bytes : List ℕ) (fault : Fault) → whole_mps_fault bytes ≡ Some fault → is_of_whole fault.kind ≡ true
+of-whole bytes fault h = by (has_end bytes) h
+  where
+    all : Draft
+    all = draft_of (declarations_of bytes)
+
+    simple : (kind : FaultKind) → is_of_whole kind ≡ true → Some (whole_fault kind None) ≡ Some fault → is_of_whole fault.kind ≡ true
+    simple kind k e = let same : whole_fault kind None ≡ fault = cc in sym (ap (λ (f : Fault). is_of_whole f.kind) same) ∙ k
+
+    of : (b : Bool) → cond b (head_of (named_faults all)) (Some (whole_fault NoColumns None)) ≡ Some fault → is_of_whole fault.kind ≡ true
+    of true e = named-whole all named_kinds fault refl e
+    of false e = simple NoColumns refl e
+
+    by : (b : Bool) → cond b (file_fault all) (Some (whole_fault MissingEnd None)) ≡ Some fault → is_of_whole fault.kind ≡ true
+    by true e = of (is_nonempty all.columns) e
+    by false e = simple MissingEnd refl e
+
+-- ---- the law of a kind
+
+-- the tests of a line's length and bytes are of other kinds
+passed : (kind : FaultKind) (first second : Bool) (tests : Tests) → is_kind kind LineTooLong ≡ false → is_kind kind BadByte ≡ false → holds_of kind ((first, LineTooLong) ∷ (second, BadByte) ∷ tests) ≡ holds_of kind tests
+passed kind first second tests short legal = rw (short, legal) refl
+
+-- Where a line with a test or a refusal of this kind is such a line, whatever stands before it, so says the law of the kind.
+pub in-words : (kind : FaultKind) (is_such : List Item → Item → Bool) → is_of_whole kind ≡ false → is_kind kind LineTooLong ≡ false → is_kind kind BadByte ≡ false
+    → ((before : List Item) (earlier : Draft) (item : Item) → Known before earlier
+    → (holds_of kind (item_tests (context_of before) earlier item) || refuses kind earlier (declared (context_of before) earlier item)) ≡ true → is_such before item ≡ true)
+    → IsInWords kind is_such
+in-words kind is_such early short legal such bytes fault first k = by (first_line_fault 1 (placed_lines bytes)) refl first
+  where
+    by : (o : Option Fault) → first_line_fault 1 (placed_lines bytes) ≡ o → option_or o (whole_mps_fault bytes) ≡ Some fault → StandsOn is_such bytes fault
+    by None e h = absurd (never (is_of_whole kind) (ap is_of_whole (sym k) ∙ of-whole bytes fault h) early)
+    by (Some other) e h =
+        let same : other ≡ fault = cc in
+        let found = find-line (read_lines bytes) [] empty_draft 1 fault none-known (e ∙ ap (λ (f : Fault). Some f) same) in
+        let items = map item_of found.front in
+        let ds = declared (context_of items) found.earlier (item_of found.line) in
+        let told = told-by (line_tests (context_of items) found.earlier found.line) found.earlier ds kind (found.told ∙ ap (λ (x : FaultKind). Some x) k) in
+        record {
+          before = found.front;
+          line = found.line;
+          later = found.later;
+          text = found.parted;
+          number = found.number;
+          such = such items found.earlier (item_of found.line) found.known
+              (sym (ap (λ (b : Bool). b || refuses kind found.earlier ds)
+              (passed kind (not (has_legal_length found.line)) (not (list_all is_legal_byte (outside_comment found.line))) (item_tests (context_of items) found.earlier (item_of found.line)) short legal))
+              ∙ told);
+        }

@@ -1,0 +1,551 @@
+-- Each fault that looks beyond its line is what its kind says in the words of the format.
+use Rattle.std.proofs.Common.{◌≡◌, refl, sym, ap, ◌∙◌, subst, List, [], ◌∷◌, ◌++◌, ℕ, Bool, true, false, cond, map}
+use Rattle.std.specs.Prelude.{Option, Some, None, is_none, is_some, not, filter_map, nat_lt, ◌||◌, ◌&&◌, ◌==◌, codes}
+use Rattle.std.specs.List.{list_any, list_all, last_or, flat_map}
+use Rattle.std.specs.Option.{option_map, option_map_or}
+use Rattle.std.specs.Cmp.{first_so, second_so}
+use Rattle.std.proofs.lemmas.Bool.Decides.{Decides-eqb}
+use Rattle.mpslp_types.specs.Name.{same_bytes, is_one_of}
+use Rattle.mpslp_types.specs.FaultOrder.{kind_rank}
+use Rattle.mpslp_types.specs.declared.faults.BuildFault.{BuildFault}
+use Rattle.mpslp_types.specs.declared.faults.BuildFault.TheVariants as builds
+use Rattle.mpslp_types.specs.declared.faults.FaultKind.{FaultKind}
+use Rattle.mpslp_types.specs.declared.faults.FaultKind.TheVariants as kinds
+use Rattle.mpslp_types.proofs.BoolLemmas.{both_so, or_left, or_right, nor, so_not}
+use Rattle.mpslp_core.specs.Lists.{head_of, is_nonempty}
+use Rattle.mpslp_builder.specs.Declaration.{Declaration, Declarations, Draft, adding}
+use Rattle.mpslp_builder.specs.Refusal.{refusal_tests}
+use Rattle.mpslp_reading.specs.Declaring.{kind_of_refusal}
+use Rattle.mpslp_reading.specs.Field.{is_kind, number_tests}
+use Rattle.mpslp_reading.specs.Tests.{Tests, judged_by}
+use Rattle.mpslp_mps.specs.Line.{Fields, Item, skipped, header, data_line}
+use Rattle.mpslp_mps.specs.Section.{has, section_named, is_section}
+use Rattle.mpslp_mps.specs.DataLine.{word_shape, row_shape, ValuesLine, column_shape, is_marker_line, marker_shape, opening_word, closing_word, vector_shape}
+use Rattle.mpslp_mps.specs.BoundLine.{BoundLine, bound_type, bound_shape}
+use Rattle.mpslp_mps.specs.Context.{Context, context_of, current_section, has_section, sections_begun, data_lines, takes_word, wanted, marker_word, line_column, vector_set, bound_set}
+use Rattle.mpslp_mps.specs.FieldFault.{literals_of, set_tests}
+use Rattle.mpslp_mps.specs.HeaderFault.{unknown_section, may_begin, is_out_of_order, may_follow, word_tests, section_tests, header_tests}
+use Rattle.mpslp_mps.specs.DataFault.{row_tests, marker_word_tests, marker_tests, is_sos_marker, is_split, column_tests, vector_tests, bound_tests, typed_bound_tests, bound_line_tests, columns_line_tests, data_tests}
+use Rattle.mpslp_mps.specs.LineFault.{item_tests}
+use Rattle.mpslp_mps.specs.LineMeaning.{declared}
+use Rattle.mpslp_mps.specs.declared.bound_types.BoundType.{BoundType}
+use Rattle.mpslp_mps.specs.declared.sections.Section.{Section}
+use Rattle.mpslp_mps.specs.declared.sections.Section.TheVariants.{Name, ObjSense, ObjName, Rows, Columns, Rhs, Ranges, Bounds, EndData}
+use Rattle.mpslp_mps.specs.TextInWords.{place, is_sense, words_in, is_one_word, alternate, same_column, stand_together}
+use Rattle.mpslp_mps.specs.FaultsInWords.{IsInWords, repeats_section, comes_early, comes_late, has_its_word, is_without_word, is_closed, is_out_of_place, breaks_turn, is_wrong_marker, differs_from, has_second_set, is_of_second_set, splits_column}
+use Rattle.mpslp_mps.proofs.OrderLemmas.{never}
+use Rattle.mpslp_mps.proofs.WordsOfFields.{section-is}
+use Rattle.mpslp_mps.proofs.WordsOfColumns.{columns_of, comes_again}
+use Rattle.mpslp_mps.proofs.WordsOfOneWord.{missing, without_word, with_word, IsUnderway}
+use Rattle.mpslp_mps.proofs.SectionsOfWords.{marker-follows, together-apart}
+use Rattle.mpslp_mps.proofs.ColumnsOfWords.{HaveLines, not-split}
+use Rattle.mpslp_mps.proofs.TextOfWords.{Known}
+use Rattle.mpslp_mps.proofs.FaultedLines.{holds_of, refused_as, refuses, in-words}
+
+-- ---- tests of other kinds
+
+abbrev is_among : List FaultKind → FaultKind → Bool
+is_among kinds kind = list_any (is_kind kind) kinds
+
+alike : (kinds : List FaultKind) (kind other : FaultKind) → is_kind kind other ≡ true → is_among kinds other ≡ is_among kinds kind
+alike kinds kind other h = ap (λ (n : ℕ). list_any (λ (k : FaultKind). n == kind_rank k) kinds) (sym (of (kind_rank kind) (kind_rank other) h))
+  where
+    of : (m n : ℕ) → (m == n) ≡ true → m ≡ n
+    of m n e = (Decides-eqb m n).0 e
+
+-- of tests whose kinds are among these, none is of another kind
+none-holds : (ks : List FaultKind) (kind : FaultKind) (tests : Tests) → list_all (λ test. is_among ks test.1) tests ≡ true → is_among ks kind ≡ false → holds_of kind tests ≡ false
+none-holds ks kind [] h k = refl
+none-holds ks kind ((held, other) ∷ more) h k = by (none-holds ks kind more (second_so (is_among ks other) (list_all (λ test. is_among ks test.1) more) h) k) (is_kind kind other) refl
+  where
+    by : holds_of kind more ≡ false → (b : Bool) → is_kind kind other ≡ b → cond b (held || holds_of kind more) (holds_of kind more) ≡ false
+    by rest true e = absurd (never (is_among ks other) (first_so (is_among ks other) (list_all (λ test. is_among ks test.1) more) h) (alike ks kind other e ∙ k))
+    by rest false e = rest
+
+abbrev refusal_kinds : List FaultKind
+refusal_kinds = kinds.UnknownRow ∷ kinds.UnknownColumn ∷ kinds.DuplicateRow ∷ kinds.DuplicateEntry ∷ kinds.DuplicateRhs ∷ kinds.DuplicateRange ∷ kinds.DuplicateBound ∷ kinds.RangeOnFree ∷ kinds.SemiContinuous ∷ kinds.InfiniteValue ∷ []
+
+refusal-among : (fault : BuildFault) → is_among refusal_kinds (kind_of_refusal fault) ≡ true
+refusal-among builds.DuplicateSense = refl
+refusal-among builds.SecondObjective = refl
+refusal-among builds.UnknownRow = refl
+refusal-among builds.UnknownColumn = refl
+refusal-among builds.DuplicateRow = refl
+refusal-among builds.DuplicateEntry = refl
+refusal-among builds.DuplicateRhs = refl
+refusal-among builds.DuplicateRange = refl
+refusal-among builds.DuplicateBound = refl
+refusal-among builds.RangeOnFree = refl
+refusal-among builds.SemiContinuous = refl
+refusal-among builds.InfiniteValue = refl
+refusal-among builds.OutOfMemory = refl
+
+none-refused : (kind : FaultKind) (tests : List (Bool × BuildFault)) → is_among refusal_kinds kind ≡ false → refused_as kind tests ≡ false
+none-refused kind [] k = refl
+none-refused kind ((held, other) ∷ more) k = by (none-refused kind more k) (is_kind kind (kind_of_refusal other)) refl
+  where
+    by : refused_as kind more ≡ false → (b : Bool) → is_kind kind (kind_of_refusal other) ≡ b → cond b (held || refused_as kind more) (refused_as kind more) ≡ false
+    by rest true e = absurd (never (is_among refusal_kinds (kind_of_refusal other)) (refusal-among other) (alike refusal_kinds kind (kind_of_refusal other) e ∙ k))
+    by rest false e = rest
+
+-- a kind of a line's form alone
+form-alone : (kind : FaultKind) → is_among refusal_kinds kind ≡ false → (ds : Declarations) (earlier : Draft) → refuses kind earlier ds ≡ false
+form-alone kind k [] earlier = refl
+form-alone kind k (d ∷ ds) earlier = ap (λ (b : Bool). b || refuses kind (adding earlier d) ds) (none-refused kind (refusal_tests earlier d) k) ∙ form-alone kind k ds (adding earlier d)
+
+left_alone : (a b : Bool) → b ≡ false → (a || b) ≡ true → a ≡ true
+left_alone true b e h = refl
+left_alone false b e h = absurd (never b h e)
+
+right_alone : (a b : Bool) → a ≡ false → (a || b) ≡ true → b ≡ true
+right_alone false b e h = h
+right_alone true b e h = cc
+
+-- ---- the kinds of each line
+
+abbrev header_kinds : List FaultKind
+header_kinds = kinds.Quadratic ∷ kinds.Sos ∷ kinds.Indicator ∷ kinds.UnknownSection ∷ kinds.SectionOrder ∷ kinds.SectionRepeated ∷ kinds.FieldCount ∷ kinds.BadType ∷ kinds.UnknownRow ∷ []
+
+abbrev number_kinds : List FaultKind
+number_kinds = kinds.FieldCount ∷ kinds.BadType ∷ kinds.BadNumber ∷ kinds.LongNumber ∷ kinds.TooManyDigits ∷ kinds.ExponentRange ∷ kinds.SecondSet ∷ []
+
+abbrev marker_kinds : List FaultKind
+marker_kinds = kinds.Sos ∷ kinds.FieldCount ∷ kinds.BadMarker ∷ []
+
+abbrev column_kinds : List FaultKind
+column_kinds = kinds.FieldCount ∷ kinds.NameLength ∷ kinds.NameByte ∷ kinds.NameMarker ∷ kinds.BadNumber ∷ kinds.LongNumber ∷ kinds.TooManyDigits ∷ kinds.ExponentRange ∷ kinds.ColumnSplit ∷ []
+
+-- of each section but COLUMNS, whose lines are of two forms
+abbrev kinds_in : Option Section → List FaultKind
+kinds_in (Some Rows) = kinds.FieldCount ∷ kinds.BadType ∷ kinds.NameLength ∷ kinds.NameByte ∷ kinds.NameMarker ∷ []
+kinds_in (Some Columns) = kinds.Sos ∷ kinds.BadMarker ∷ column_kinds
+kinds_in (Some Rhs) = number_kinds
+kinds_in (Some Ranges) = number_kinds
+kinds_in (Some Bounds) = number_kinds
+kinds_in _ = kinds.SectionOrder ∷ kinds.FieldCount ∷ kinds.BadType ∷ []
+
+abbrev AreAmong : List FaultKind → Tests → Type 0
+AreAmong ks tests = list_all (λ test. is_among ks test.1) tests ≡ true
+
+judged-among : {X : Type 0} (ks : List FaultKind) (tests : X → Tests) (o : Option X) → is_among ks kinds.FieldCount ≡ true → ((x : X) → AreAmong ks (tests x)) → AreAmong ks (judged_by tests o)
+judged-among ks tests None f h = ap (λ (b : Bool). b && true) f
+judged-among ks tests (Some x) f h = h x
+
+abbrev unknown_kinds : List FaultKind
+unknown_kinds = kinds.Quadratic ∷ kinds.Sos ∷ kinds.Indicator ∷ kinds.UnknownSection ∷ []
+
+unknown-among : (quadratic sos indicator : Bool) → AreAmong unknown_kinds ((true, cond quadratic kinds.Quadratic (cond sos kinds.Sos (cond indicator kinds.Indicator kinds.UnknownSection))) ∷ [])
+unknown-among true sos indicator = refl
+unknown-among false true indicator = refl
+unknown-among false false true = refl
+unknown-among false false false = refl
+
+section-among : (context : Context) (earlier : Draft) (section : Section) (more : Fields) → AreAmong (kinds.BadType ∷ kinds.UnknownRow ∷ []) (section_tests context earlier section more)
+section-among context earlier Name more = refl
+section-among context earlier ObjSense [] = refl
+section-among context earlier ObjSense (word ∷ more) = refl
+section-among context earlier ObjName more = refl
+section-among context earlier Rows more = refl
+section-among context earlier Columns more = refl
+section-among context earlier Rhs more = refl
+section-among context earlier Ranges more = refl
+section-among context earlier Bounds more = refl
+section-among context earlier EndData more = refl
+
+bound-among : (context : Context) (line : BoundLine) → AreAmong number_kinds (bound_tests context line)
+bound-among context line = of line.literal
+  where
+    of : (o : Option (List ℕ)) → AreAmong number_kinds (option_map_or (λ literal. number_tests (literal ∷ [])) o [] ++ set_tests context.bounds_set line.set)
+    of None = refl
+    of (Some literal) = refl
+
+column-among : (context : Context) (earlier : Draft) (fields : Fields) → AreAmong column_kinds (judged_by (column_tests context earlier) (column_shape fields))
+column-among context earlier fields = judged-among column_kinds (column_tests context earlier) (column_shape fields) refl (λ _. refl)
+
+bounds-among : (context : Context) (fields : Fields) → AreAmong number_kinds (bound_line_tests context fields)
+bounds-among context [] = refl
+bounds-among context (letters ∷ more) = of (bound_type letters)
+  where
+    of : (o : Option BoundType) → AreAmong number_kinds (typed_bound_tests context more o)
+    of None = refl
+    of (Some type) = judged-among number_kinds (bound_tests context) (bound_shape type more) refl (bound-among context)
+
+data-among : (context : Context) (earlier : Draft) (fields : Fields) (o : Option Section) → AreAmong (kinds_in o) (data_tests context earlier fields o)
+data-among context earlier fields None = refl
+data-among context earlier fields (Some Name) = refl
+data-among context earlier fields (Some ObjSense) = judged-among (kinds_in (Some ObjSense)) word_tests (word_shape fields) refl (λ _. refl)
+data-among context earlier fields (Some ObjName) = judged-among (kinds_in (Some ObjName)) (λ _. []) (word_shape fields) refl (λ _. refl)
+data-among context earlier fields (Some Rows) = judged-among (kinds_in (Some Rows)) row_tests (row_shape fields) refl (λ _. refl)
+data-among context earlier fields (Some Columns) = by (is_marker_line fields)
+  where
+    marker : (o : Option (List ℕ)) → AreAmong (kinds_in (Some Columns)) (judged_by (marker_word_tests context) o)
+    marker None = refl
+    marker (Some word) = refl
+
+    by : (b : Bool) → AreAmong (kinds_in (Some Columns)) (cond b (marker_tests context fields) (judged_by (column_tests context earlier) (column_shape fields)))
+    by true = marker (marker_shape fields)
+    by false = judged-among (kinds_in (Some Columns)) (column_tests context earlier) (column_shape fields) refl (λ _. refl)
+data-among context earlier fields (Some Rhs) = judged-among number_kinds (vector_tests context.rhs_set) (vector_shape fields) refl (λ _. refl)
+data-among context earlier fields (Some Ranges) = judged-among number_kinds (vector_tests context.ranges_set) (vector_shape fields) refl (λ _. refl)
+data-among context earlier fields (Some Bounds) = bounds-among context fields
+data-among context earlier fields (Some EndData) = refl
+
+unknown-header : (quadratic sos indicator : Bool) → AreAmong header_kinds ((true, cond quadratic kinds.Quadratic (cond sos kinds.Sos (cond indicator kinds.Indicator kinds.UnknownSection))) ∷ [])
+unknown-header true sos indicator = refl
+unknown-header false true indicator = refl
+unknown-header false false true = refl
+unknown-header false false false = refl
+
+header-among : (context : Context) (earlier : Draft) (keyword : List ℕ) (more : Fields) (o : Option Section) → AreAmong header_kinds (header_tests context earlier keyword more o)
+header-among context earlier keyword more None =
+    unknown-header (is_one_of (codes "QSECTION" ∷ codes "QMATRIX" ∷ codes "QUADOBJ" ∷ codes "QCMATRIX" ∷ codes "CSECTION" ∷ []) keyword)
+    (is_one_of (codes "SOS" ∷ codes "SOS1" ∷ codes "SOS2" ∷ []) keyword) (is_one_of (codes "INDICATORS" ∷ []) keyword)
+header-among context earlier keyword more (Some Name) = refl
+header-among context earlier keyword [] (Some ObjSense) = refl
+header-among context earlier keyword (word ∷ more) (Some ObjSense) = refl
+header-among context earlier keyword more (Some ObjName) = refl
+header-among context earlier keyword more (Some Rows) = refl
+header-among context earlier keyword more (Some Columns) = refl
+header-among context earlier keyword more (Some Rhs) = refl
+header-among context earlier keyword more (Some Ranges) = refl
+header-among context earlier keyword more (Some Bounds) = refl
+header-among context earlier keyword more (Some EndData) = refl
+
+-- a kind of none of them
+no-data : {X : Type 0} (kind : FaultKind) (context : Context) (earlier : Draft) (fields : Fields) (o : Option Section) → is_among (kinds_in o) kind ≡ false → holds_of kind (data_tests context earlier fields o) ≡ true → X
+no-data kind context earlier fields o k h = absurd (never (holds_of kind (data_tests context earlier fields o)) h (none-holds (kinds_in o) kind (data_tests context earlier fields o) (data-among context earlier fields o) k))
+
+no-header : {X : Type 0} (kind : FaultKind) (context : Context) (earlier : Draft) (keyword : List ℕ) (more : Fields) (o : Option Section) → is_among header_kinds kind ≡ false
+    → holds_of kind (header_tests context earlier keyword more o) ≡ true → X
+no-header kind context earlier keyword more o k h =
+    absurd (never (holds_of kind (header_tests context earlier keyword more o)) h (none-holds header_kinds kind (header_tests context earlier keyword more o) (header-among context earlier keyword more o) k))
+
+-- what is left of a line's tests, where no declaration is refused by the kind
+by-form : (kind : FaultKind) (is_such : List Item → Item → Bool) → is_among refusal_kinds kind ≡ false
+    → ((before : List Item) (earlier : Draft) (item : Item) → Known before earlier → holds_of kind (item_tests (context_of before) earlier item) ≡ true → is_such before item ≡ true)
+    → (before : List Item) (earlier : Draft) (item : Item) → Known before earlier
+    → (holds_of kind (item_tests (context_of before) earlier item) || refuses kind earlier (declared (context_of before) earlier item)) ≡ true → is_such before item ≡ true
+by-form kind is_such k such before earlier item known h =
+    such before earlier item known
+    (left_alone (holds_of kind (item_tests (context_of before) earlier item)) (refuses kind earlier (declared (context_of before) earlier item))
+    (form-alone kind k (declared (context_of before) earlier item) earlier) h)
+
+-- ---- SectionRepeated
+
+repeated : (before : List Item) (earlier : Draft) (item : Item) → Known before earlier → holds_of kinds.SectionRepeated (item_tests (context_of before) earlier item) ≡ true → repeats_section before item ≡ true
+repeated before earlier skipped known h = cc
+repeated before earlier (header keyword more) known h = by (section_named keyword) h
+  where
+    by : (o : Option Section) → holds_of kinds.SectionRepeated (header_tests (context_of before) earlier keyword more o) ≡ true → option_map_or (has_section before) o false ≡ true
+    by None k =
+        absurd (never (holds_of kinds.SectionRepeated (header_tests (context_of before) earlier keyword more None)) k
+        (none-holds unknown_kinds kinds.SectionRepeated (header_tests (context_of before) earlier keyword more None)
+        (unknown-among (is_one_of (codes "QSECTION" ∷ codes "QMATRIX" ∷ codes "QUADOBJ" ∷ codes "QCMATRIX" ∷ codes "CSECTION" ∷ []) keyword)
+        (is_one_of (codes "SOS" ∷ codes "SOS1" ∷ codes "SOS2" ∷ []) keyword) (is_one_of (codes "INDICATORS" ∷ []) keyword)) refl))
+    by (Some s) k =
+        left_alone (has_section before s) (holds_of kinds.SectionRepeated (section_tests (context_of before) earlier s more))
+        (none-holds (kinds.BadType ∷ kinds.UnknownRow ∷ []) kinds.SectionRepeated (section_tests (context_of before) earlier s more) (section-among (context_of before) earlier s more) refl) k
+repeated before earlier (data_line fields) known h = by (current_section before) h
+  where
+    by : (o : Option Section) → holds_of kinds.SectionRepeated (data_tests (context_of before) earlier fields o) ≡ true → false ≡ true
+    by None k = no-data kinds.SectionRepeated (context_of before) earlier fields None refl k
+    by (Some Name) k = no-data kinds.SectionRepeated (context_of before) earlier fields (Some Name) refl k
+    by (Some ObjSense) k = no-data kinds.SectionRepeated (context_of before) earlier fields (Some ObjSense) refl k
+    by (Some ObjName) k = no-data kinds.SectionRepeated (context_of before) earlier fields (Some ObjName) refl k
+    by (Some Rows) k = no-data kinds.SectionRepeated (context_of before) earlier fields (Some Rows) refl k
+    by (Some Columns) k = no-data kinds.SectionRepeated (context_of before) earlier fields (Some Columns) refl k
+    by (Some Rhs) k = no-data kinds.SectionRepeated (context_of before) earlier fields (Some Rhs) refl k
+    by (Some Ranges) k = no-data kinds.SectionRepeated (context_of before) earlier fields (Some Ranges) refl k
+    by (Some Bounds) k = no-data kinds.SectionRepeated (context_of before) earlier fields (Some Bounds) refl k
+    by (Some EndData) k = no-data kinds.SectionRepeated (context_of before) earlier fields (Some EndData) refl k
+
+pub section-repeated : IsInWords kinds.SectionRepeated repeats_section
+section-repeated = in-words kinds.SectionRepeated repeats_section refl refl refl (by-form kinds.SectionRepeated repeats_section refl repeated)
+
+-- ---- BadMarker
+
+wrong-marker : (before : List Item) (earlier : Draft) (item : Item) → Known before earlier → holds_of kinds.BadMarker (item_tests (context_of before) earlier item) ≡ true → is_wrong_marker before item ≡ true
+wrong-marker before earlier skipped known h = cc
+wrong-marker before earlier (header keyword more) known h = no-header kinds.BadMarker (context_of before) earlier keyword more (section_named keyword) refl h
+wrong-marker before earlier (data_line fields) known h = by (current_section before) h
+  where
+    words : List (List ℕ)
+    words = filter_map marker_word (data_lines Columns before)
+
+    due : List ℕ
+    due = cond (context_of before).in_integer_part closing_word opening_word
+
+    of : (word : List ℕ) → not (same_bytes word due) ≡ true → (b : Bool) → alternate opening_word closing_word (words ++ word ∷ []) ≡ b → not b ≡ true
+    of word k true e = absurd (turn (same_bytes word due) k (marker-follows words None word [] false refl e))
+      where
+        turn : (b : Bool) → not b ≡ true → b ≡ true → ⊥
+        turn true p q = cc
+        turn false p q = cc
+    of word k false e = refl
+
+    line : (b : Bool) → holds_of kinds.BadMarker (cond b (marker_tests (context_of before) fields) (judged_by (column_tests (context_of before) earlier) (column_shape fields))) ≡ true
+        → option_map_or (λ word. not (alternate opening_word closing_word (words ++ word ∷ []))) (cond b (marker_shape fields) None) false ≡ true
+    line true k = marker (marker_shape fields) k
+      where
+        marker : (o : Option (List ℕ)) → holds_of kinds.BadMarker (judged_by (marker_word_tests (context_of before)) o) ≡ true
+            → option_map_or (λ word. not (alternate opening_word closing_word (words ++ word ∷ []))) o false ≡ true
+        marker None e = cc
+        marker (Some word) e = of word (left_alone (not (same_bytes word due)) false refl e) (alternate opening_word closing_word (words ++ word ∷ [])) refl
+    line false k =
+        absurd (never (holds_of kinds.BadMarker (judged_by (column_tests (context_of before) earlier) (column_shape fields))) k
+        (none-holds column_kinds kinds.BadMarker (judged_by (column_tests (context_of before) earlier) (column_shape fields)) (column-among (context_of before) earlier fields) refl))
+
+    by : (o : Option Section) → holds_of kinds.BadMarker (data_tests (context_of before) earlier fields o) ≡ true → (is_section Columns o && breaks_turn before fields) ≡ true
+    by None k = no-data kinds.BadMarker (context_of before) earlier fields None refl k
+    by (Some Name) k = no-data kinds.BadMarker (context_of before) earlier fields (Some Name) refl k
+    by (Some ObjSense) k = no-data kinds.BadMarker (context_of before) earlier fields (Some ObjSense) refl k
+    by (Some ObjName) k = no-data kinds.BadMarker (context_of before) earlier fields (Some ObjName) refl k
+    by (Some Rows) k = no-data kinds.BadMarker (context_of before) earlier fields (Some Rows) refl k
+    by (Some Columns) k = line (is_marker_line fields) k
+    by (Some Rhs) k = no-data kinds.BadMarker (context_of before) earlier fields (Some Rhs) refl k
+    by (Some Ranges) k = no-data kinds.BadMarker (context_of before) earlier fields (Some Ranges) refl k
+    by (Some Bounds) k = no-data kinds.BadMarker (context_of before) earlier fields (Some Bounds) refl k
+    by (Some EndData) k = no-data kinds.BadMarker (context_of before) earlier fields (Some EndData) refl k
+
+pub bad-marker : IsInWords kinds.BadMarker is_wrong_marker
+bad-marker = in-words kinds.BadMarker is_wrong_marker refl refl refl (by-form kinds.BadMarker is_wrong_marker refl wrong-marker)
+
+-- ---- ColumnSplit
+
+split : (before : List Item) (earlier : Draft) (item : Item) → Known before earlier → holds_of kinds.ColumnSplit (item_tests (context_of before) earlier item) ≡ true → splits_column before item ≡ true
+split before earlier skipped known h = cc
+split before earlier (header keyword more) known h = no-header kinds.ColumnSplit (context_of before) earlier keyword more (section_named keyword) refl h
+split before earlier (data_line fields) known h = by (current_section before) h
+  where
+    of : (name : List ℕ) → is_split (context_of before) earlier name ≡ true → (b : Bool) → stand_together (columns_of before ++ Some name ∷ []) ≡ b → not b ≡ true
+    of name k true e = absurd (never (is_split (context_of before) earlier name) k (not-split before earlier name known.lines (together-apart (Some name) (columns_of before) [] e)))
+    of name k false e = refl
+
+    line : (b : Bool) → holds_of kinds.ColumnSplit (cond b (marker_tests (context_of before) fields) (judged_by (column_tests (context_of before) earlier) (column_shape fields))) ≡ true
+        → not (stand_together (columns_of before ++ cond b None (option_map (λ (l : ValuesLine). l.name) (column_shape fields)) ∷ [])) ≡ true
+    line true k = marker (marker_shape fields) k
+      where
+        marker : {X : Type 0} (o : Option (List ℕ)) → holds_of kinds.ColumnSplit (judged_by (marker_word_tests (context_of before)) o) ≡ true → X
+        marker None e = absurd cc
+        marker (Some word) e = absurd cc
+    line false k = column (column_shape fields) k
+      where
+        column : (o : Option ValuesLine) → holds_of kinds.ColumnSplit (judged_by (column_tests (context_of before) earlier) o) ≡ true
+            → not (stand_together (columns_of before ++ option_map (λ (l : ValuesLine). l.name) o ∷ [])) ≡ true
+        column None e = cc
+        column (Some l) e = of l.name (left_alone (is_split (context_of before) earlier l.name) false refl e) (stand_together (columns_of before ++ Some l.name ∷ [])) refl
+
+    by : (o : Option Section) → holds_of kinds.ColumnSplit (data_tests (context_of before) earlier fields o) ≡ true
+        → (is_section Columns o && not (stand_together (map line_column (data_lines Columns before) ++ line_column fields ∷ []))) ≡ true
+    by None k = no-data kinds.ColumnSplit (context_of before) earlier fields None refl k
+    by (Some Name) k = no-data kinds.ColumnSplit (context_of before) earlier fields (Some Name) refl k
+    by (Some ObjSense) k = no-data kinds.ColumnSplit (context_of before) earlier fields (Some ObjSense) refl k
+    by (Some ObjName) k = no-data kinds.ColumnSplit (context_of before) earlier fields (Some ObjName) refl k
+    by (Some Rows) k = no-data kinds.ColumnSplit (context_of before) earlier fields (Some Rows) refl k
+    by (Some Columns) k = line (is_marker_line fields) k
+    by (Some Rhs) k = no-data kinds.ColumnSplit (context_of before) earlier fields (Some Rhs) refl k
+    by (Some Ranges) k = no-data kinds.ColumnSplit (context_of before) earlier fields (Some Ranges) refl k
+    by (Some Bounds) k = no-data kinds.ColumnSplit (context_of before) earlier fields (Some Bounds) refl k
+    by (Some EndData) k = no-data kinds.ColumnSplit (context_of before) earlier fields (Some EndData) refl k
+
+pub column-split : IsInWords kinds.ColumnSplit splits_column
+column-split = in-words kinds.ColumnSplit splits_column refl refl refl (by-form kinds.ColumnSplit splits_column refl split)
+
+-- ---- SecondSet
+
+-- another name than the first one's
+other-first : (sets : List (List ℕ)) (set : List ℕ) → option_map_or (λ name. not (same_bytes name set)) (head_of sets) false ≡ true → differs_from sets set ≡ true
+other-first [] set h = cc
+other-first (first ∷ sets) set h = or_left (not (same_bytes first set)) (differs_from sets set) h
+
+second : (before : List Item) (earlier : Draft) (item : Item) → Known before earlier → holds_of kinds.SecondSet (item_tests (context_of before) earlier item) ≡ true → is_of_second_set before item ≡ true
+second before earlier skipped known h = cc
+second before earlier (header keyword more) known h = no-header kinds.SecondSet (context_of before) earlier keyword more (section_named keyword) refl h
+second before earlier (data_line fields) known h = by (current_section before) h
+  where
+    vector : (sets : List (List ℕ)) (o : Option ValuesLine) → holds_of kinds.SecondSet (judged_by (vector_tests (head_of sets)) o) ≡ true → option_map_or (differs_from sets) (option_map (λ (l : ValuesLine). l.name) o) false ≡ true
+    vector sets None k = cc
+    vector sets (Some line) k = other-first sets line.name (left_alone (option_map_or (λ name. not (same_bytes name line.name)) (head_of sets) false) false refl k)
+
+    sets_before : List (List ℕ)
+    sets_before = filter_map bound_set (data_lines Bounds before)
+
+    literal : (line : BoundLine) (o : Option (List ℕ)) → holds_of kinds.SecondSet (option_map_or (λ literal. number_tests (literal ∷ [])) o [] ++ set_tests (context_of before).bounds_set line.set) ≡ true
+        → differs_from sets_before line.set ≡ true
+    literal line None k = other-first sets_before line.set (left_alone (option_map_or (λ name. not (same_bytes name line.set)) (head_of sets_before) false) false refl k)
+    literal line (Some text) k = other-first sets_before line.set (left_alone (option_map_or (λ name. not (same_bytes name line.set)) (head_of sets_before) false) false refl k)
+
+    shape : (o : Option BoundLine) → holds_of kinds.SecondSet (judged_by (bound_tests (context_of before)) o) ≡ true → option_map_or (differs_from sets_before) (option_map (λ (l : BoundLine). l.set) o) false ≡ true
+    shape None k = cc
+    shape (Some line) k = literal line line.literal k
+
+    bound : (fs : Fields) → holds_of kinds.SecondSet (bound_line_tests (context_of before) fs) ≡ true → option_map_or (differs_from sets_before) (bound_set fs) false ≡ true
+    bound [] k = cc
+    bound (letters ∷ more) k = typed (bound_type letters) k
+      where
+        typed : (o : Option BoundType) → holds_of kinds.SecondSet (typed_bound_tests (context_of before) more o) ≡ true
+            → option_map_or (differs_from sets_before) (option_map_or (λ type. option_map (λ (l : BoundLine). l.set) (bound_shape type more)) o None) false ≡ true
+        typed None e = cc
+        typed (Some type) e = shape (bound_shape type more) e
+
+    by : (o : Option Section) → holds_of kinds.SecondSet (data_tests (context_of before) earlier fields o) ≡ true → has_second_set before fields o ≡ true
+    by None k = no-data kinds.SecondSet (context_of before) earlier fields None refl k
+    by (Some Name) k = no-data kinds.SecondSet (context_of before) earlier fields (Some Name) refl k
+    by (Some ObjSense) k = no-data kinds.SecondSet (context_of before) earlier fields (Some ObjSense) refl k
+    by (Some ObjName) k = no-data kinds.SecondSet (context_of before) earlier fields (Some ObjName) refl k
+    by (Some Rows) k = no-data kinds.SecondSet (context_of before) earlier fields (Some Rows) refl k
+    by (Some Columns) k = no-data kinds.SecondSet (context_of before) earlier fields (Some Columns) refl k
+    by (Some Rhs) k = vector (filter_map vector_set (data_lines Rhs before)) (vector_shape fields) k
+    by (Some Ranges) k = vector (filter_map vector_set (data_lines Ranges before)) (vector_shape fields) k
+    by (Some Bounds) k = bound fields k
+    by (Some EndData) k = no-data kinds.SecondSet (context_of before) earlier fields (Some EndData) refl k
+
+pub second-set : IsInWords kinds.SecondSet is_of_second_set
+second-set = in-words kinds.SecondSet is_of_second_set refl refl refl (by-form kinds.SecondSet is_of_second_set refl second)
+
+-- ---- SectionOrder
+
+-- a word is wanted: the section that goes on has none
+without-word : (section : Section) (test : List ℕ → Bool) (before : List Item) → takes_word section ≡ true → IsUnderway section test before → current_section before ≡ Some section → is_section section (Some section) ≡ true
+    → is_some (wanted before) ≡ true → is_without_word before section ≡ true
+without-word section test before takes (missing, (a, b, c)) here own w = absurd (never (is_section section (current_section before)) (ap (is_section section) here ∙ own) c)
+without-word section test before takes (without_word, (a, b, c, d)) here own w = both_so (takes_word section) (not (has_its_word before section)) takes (ap (λ (words : List Fields). not (is_nonempty (flat_map (λ fields. fields) words))) a)
+without-word section test before takes (with_word, (a, b, c)) here own w = absurd (never (is_some (wanted before)) w (c (ap (is_section section) here ∙ own)))
+
+-- none is wanted: it has its word
+with-its_word : (section : Section) (test : List ℕ → Bool) (before : List Item) → takes_word section ≡ true → IsUnderway section test before → current_section before ≡ Some section → is_section section (Some section) ≡ true
+    → is_some (wanted before) ≡ false → (takes_word section && has_its_word before section) ≡ true
+with-its_word section test before takes (missing, (a, b, c)) here own w = absurd (never (is_section section (current_section before)) (ap (is_section section) here ∙ own) c)
+with-its_word section test before takes (without_word, (a, b, c, d)) here own w = absurd (never (is_some (wanted before)) d w)
+with-its_word section test before takes (with_word, (a, b, c)) here own w = both_so (takes_word section) (has_its_word before section) takes (one (words_in section before) a)
+  where
+    one : (words : List Fields) → is_one_word test words ≡ true → is_nonempty (flat_map (λ (fields : Fields). fields) words) ≡ true
+    one [] h = cc
+    one ((word ∷ []) ∷ []) h = refl
+    one ([] ∷ (word ∷ []) ∷ []) h = refl
+    one ([] ∷ []) h = cc
+    one ([] ∷ [] ∷ more) h = cc
+    one ([] ∷ (word ∷ []) ∷ next ∷ more) h = cc
+    one ([] ∷ (word ∷ other ∷ rest) ∷ more) h = cc
+    one ((word ∷ []) ∷ next ∷ more) h = cc
+    one ((word ∷ other ∷ rest) ∷ more) h = cc
+
+-- a section that has begun has a later place
+later-place : (p q : Section → Bool) (seen : List Section) → ((x : Section) → p x ≡ true → q x ≡ true) → list_any p seen ≡ true → list_any q seen ≡ true
+later-place p q [] h k = k
+later-place p q (x ∷ seen) h k = by (λ e. later-place p q seen h e) (p x) refl k
+  where
+    by : (list_any p seen ≡ true → list_any q seen ≡ true) → (b : Bool) → p x ≡ b → (b || list_any p seen) ≡ true → (q x || list_any q seen) ≡ true
+    by rest true e l = or_left (q x) (list_any q seen) (h x e)
+    by rest false e l = or_right (q x) (list_any q seen) (rest l)
+
+rows-later : (x : Section) → is_section Rows (Some x) ≡ true → nat_lt 1 (place x) ≡ true
+rows-later Name h = cc
+rows-later ObjSense h = cc
+rows-later ObjName h = cc
+rows-later Rows h = refl
+rows-later Columns h = cc
+rows-later Rhs h = cc
+rows-later Ranges h = cc
+rows-later Bounds h = cc
+rows-later EndData h = cc
+
+-- any section that has begun, and is not NAME, has a later place than NAME
+first-later : (seen : List Section) → is_none (last_or None seen) ≡ false → has seen Name ≡ false → list_any (λ other. nat_lt 0 (place other)) seen ≡ true
+first-later [] h k = cc
+first-later (x ∷ seen) h k = or_left (nat_lt 0 (place x)) (list_any (λ other. nat_lt 0 (place other)) seen) (by x (nor (is_section Name (Some x)) (has seen Name) k).0)
+  where
+    by : (s : Section) → is_section Name (Some s) ≡ false → nat_lt 0 (place s) ≡ true
+    by Name e = cc
+    by ObjSense e = refl
+    by ObjName e = refl
+    by Rows e = refl
+    by Columns e = refl
+    by Rhs e = refl
+    by Ranges e = refl
+    by Bounds e = refl
+    by EndData e = refl
+
+turned : (b : Bool) → not b ≡ false → b ≡ true
+turned true h = refl
+turned false h = cc
+
+misplaced : (before : List Item) (s : Section) → has_section before s ≡ false → may_begin (context_of before) s ≡ false → (comes_early before s || comes_late before s) ≡ true
+misplaced before Name f g = first-later (sections_begun before) g f
+misplaced before ObjSense f g = later-place (λ x. is_section Rows (Some x)) (λ other. nat_lt 1 (place other)) (sections_begun before) rows-later (turned (has_section before Rows) g)
+misplaced before ObjName f g = later-place (λ x. is_section Rows (Some x)) (λ other. nat_lt 1 (place other)) (sections_begun before) rows-later (turned (has_section before Rows) g)
+misplaced before Rows f g = cc
+misplaced before Columns f g = or_left (not (has_section before Rows)) (comes_late before Columns) (so_not (has_section before Rows) g)
+misplaced before Rhs f g = or_left (not (has_section before Columns)) (comes_late before Rhs) (so_not (has_section before Columns) g)
+misplaced before Ranges f g = or_left (not (has_section before Columns)) (comes_late before Ranges) (so_not (has_section before Columns) g)
+misplaced before Bounds f g = or_left (not (has_section before Columns)) (comes_late before Bounds) (so_not (has_section before Columns) g)
+misplaced before EndData f g = or_left (not (has_section before Columns)) (comes_late before EndData) (so_not (has_section before Columns) g)
+
+out-of-place : (before : List Item) (earlier : Draft) (item : Item) → Known before earlier → holds_of kinds.SectionOrder (item_tests (context_of before) earlier item) ≡ true → is_out_of_place before item ≡ true
+out-of-place before earlier skipped known h = cc
+out-of-place before earlier (header keyword more) known h = by (section_named keyword) h
+  where
+    wanting : (o : Option Section) → current_section before ≡ o → is_some (wanted before) ≡ true → option_map_or (is_without_word before) o false ≡ true
+    wanting None e w = let no : false ≡ true = sym (ap (λ (o : Option Section). is_section ObjSense o || is_section ObjName o) e) ∙ known.there w in cc
+    wanting (Some ObjSense) e w = without-word ObjSense is_sense before refl known.words.sense e refl w
+    wanting (Some ObjName) e w = without-word ObjName (λ _. true) before refl known.words.name e refl w
+    wanting (Some Name) e w = let no : false ≡ true = sym (ap (λ (o : Option Section). is_section ObjSense o || is_section ObjName o) e) ∙ known.there w in cc
+    wanting (Some Rows) e w = let no : false ≡ true = sym (ap (λ (o : Option Section). is_section ObjSense o || is_section ObjName o) e) ∙ known.there w in cc
+    wanting (Some Columns) e w = let no : false ≡ true = sym (ap (λ (o : Option Section). is_section ObjSense o || is_section ObjName o) e) ∙ known.there w in cc
+    wanting (Some Rhs) e w = let no : false ≡ true = sym (ap (λ (o : Option Section). is_section ObjSense o || is_section ObjName o) e) ∙ known.there w in cc
+    wanting (Some Ranges) e w = let no : false ≡ true = sym (ap (λ (o : Option Section). is_section ObjSense o || is_section ObjName o) e) ∙ known.there w in cc
+    wanting (Some Bounds) e w = let no : false ≡ true = sym (ap (λ (o : Option Section). is_section ObjSense o || is_section ObjName o) e) ∙ known.there w in cc
+    wanting (Some EndData) e w = let no : false ≡ true = sym (ap (λ (o : Option Section). is_section ObjSense o || is_section ObjName o) e) ∙ known.there w in cc
+
+    idle : Bool
+    idle = option_map_or (is_without_word before) (current_section before) false
+
+    of : (s : Section) (w f g : Bool) → is_some (wanted before) ≡ w → has_section before s ≡ f → may_begin (context_of before) s ≡ g → (w || not (f || g)) ≡ true
+        → (idle || (not (has_section before s) && (comes_early before s || comes_late before s))) ≡ true
+    of s true f g p q r k = or_left idle (not (has_section before s) && (comes_early before s || comes_late before s)) (wanting (current_section before) refl p)
+    of s false true g p q r k = cc
+    of s false false true p q r k = cc
+    of s false false false p q r k =
+        or_right idle (not (has_section before s) && (comes_early before s || comes_late before s))
+        (both_so (not (has_section before s)) (comes_early before s || comes_late before s) (so_not (has_section before s) q) (misplaced before s q r))
+
+    by : (o : Option Section) → holds_of kinds.SectionOrder (header_tests (context_of before) earlier keyword more o) ≡ true
+        → (idle || option_map_or (λ section. not (has_section before section) && (comes_early before section || comes_late before section)) o false) ≡ true
+    by None k =
+        absurd (never (holds_of kinds.SectionOrder (header_tests (context_of before) earlier keyword more None)) k
+        (none-holds unknown_kinds kinds.SectionOrder (header_tests (context_of before) earlier keyword more None)
+        (unknown-among (is_one_of (codes "QSECTION" ∷ codes "QMATRIX" ∷ codes "QUADOBJ" ∷ codes "QCMATRIX" ∷ codes "CSECTION" ∷ []) keyword)
+        (is_one_of (codes "SOS" ∷ codes "SOS1" ∷ codes "SOS2" ∷ []) keyword) (is_one_of (codes "INDICATORS" ∷ []) keyword)) refl))
+    by (Some s) k =
+        of s (is_some (wanted before)) (has_section before s) (may_begin (context_of before) s) refl refl refl
+        (left_alone (is_out_of_order (context_of before) s) (holds_of kinds.SectionOrder (section_tests (context_of before) earlier s more))
+        (none-holds (kinds.BadType ∷ kinds.UnknownRow ∷ []) kinds.SectionOrder (section_tests (context_of before) earlier s more) (section-among (context_of before) earlier s more) refl) k)
+out-of-place before earlier (data_line fields) known h = by (current_section before) refl h
+  where
+    stands : (s : Section) → holds_of kinds.SectionOrder (data_tests (context_of before) earlier fields (Some s)) ≡ true → current_section before ≡ Some s → is_closed before s ≡ true
+    stands Name k e = refl
+    stands ObjSense k e = with-its_word ObjSense is_sense before refl known.words.sense e refl (word (is_some (wanted before)) (word_shape fields) k)
+      where
+        word : (b : Bool) (o : Option (List ℕ)) → holds_of kinds.SectionOrder ((not b, kinds.SectionOrder) ∷ judged_by word_tests o) ≡ true → b ≡ false
+        word false o l = refl
+        word true None l = cc
+        word true (Some x) l = cc
+    stands ObjName k e = with-its_word ObjName (λ _. true) before refl known.words.name e refl (word (is_some (wanted before)) (word_shape fields) k)
+      where
+        word : (b : Bool) (o : Option (List ℕ)) → holds_of kinds.SectionOrder ((not b, kinds.SectionOrder) ∷ judged_by (λ _. []) o) ≡ true → b ≡ false
+        word false o l = refl
+        word true None l = cc
+        word true (Some x) l = cc
+    stands Rows k e = no-data kinds.SectionOrder (context_of before) earlier fields (Some Rows) refl k
+    stands Columns k e = no-data kinds.SectionOrder (context_of before) earlier fields (Some Columns) refl k
+    stands Rhs k e = no-data kinds.SectionOrder (context_of before) earlier fields (Some Rhs) refl k
+    stands Ranges k e = no-data kinds.SectionOrder (context_of before) earlier fields (Some Ranges) refl k
+    stands Bounds k e = no-data kinds.SectionOrder (context_of before) earlier fields (Some Bounds) refl k
+    stands EndData k e = refl
+
+    by : (o : Option Section) → current_section before ≡ o → holds_of kinds.SectionOrder (data_tests (context_of before) earlier fields o) ≡ true → option_map_or (is_closed before) o true ≡ true
+    by None e k = refl
+    by (Some s) e k = stands s k e
+
+pub section-order : IsInWords kinds.SectionOrder is_out_of_place
+section-order = in-words kinds.SectionOrder is_out_of_place refl refl refl (by-form kinds.SectionOrder is_out_of_place refl out-of-place)

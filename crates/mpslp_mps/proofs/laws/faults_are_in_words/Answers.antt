@@ -1,0 +1,11 @@
+use Rattle.mpslp_mps.proofs.FaultsOfWords.{section-repeated, section-order, bad-marker, column-split, second-set}
+use Rattle.mpslp_mps.proofs.laws.faults_are_in_words.Goals as goal
+
+pub returns : goal.returns
+returns c = record {
+  section_repeated = section-repeated;
+  section_order = section-order;
+  bad_marker = bad-marker;
+  second_set = second-set;
+  column_split = column-split;
+}
