@@ -22,43 +22,10 @@ use Rattle.mpslp_mps.specs.TextInWords.{same_column}
 use Rattle.mpslp_mps.specs.declared.sections.Section.{Section}
 use Rattle.mpslp_mps.specs.declared.sections.Section.TheVariants.{Name, ObjSense, ObjName, Rows, Columns, Rhs, Ranges, Bounds, EndData}
 use Rattle.mpslp_mps.proofs.OrderLemmas.{declares_column, no_columns, columns-kept, each-declared, each-flat, sense-passes, sides-passes, ranges-passes, bounds-passes, passes-no_columns}
+use Rattle.mpslp_mps.proofs.KnownLemmas.{no-columns-header, no-columns-data}
 use Rattle.mpslp_mps.proofs.SectionLemmas.{data_lines-push}
 use Rattle.mpslp_mps.proofs.WordsOfFields.{section-is}
 use Rattle.mpslp_mps.proofs.WordsOfColumns.{Column, last_of, comes_again, columns_of, last-line}
-
--- ---- lines that declare no column
-
-header-no-columns : (context : Context) (earlier : Draft) (more : Fields) (o : Option Section) → no_columns (header_declared context earlier more o) ≡ true
-header-no-columns context earlier more None = refl
-header-no-columns context earlier more (Some Name) = refl
-header-no-columns context earlier more (Some ObjSense) = sense-passes (λ d. not (declares_column d)) (λ _. refl) more
-header-no-columns context earlier more (Some ObjName) = refl
-header-no-columns context earlier more (Some Rows) = refl
-header-no-columns context earlier more (Some Columns) = elim (is_none earlier.objective && is_none context.objective_name) as (λ b. no_columns (cond b (declare_objective (codes "obj") ∷ []) []) ≡ true) [ true ↦ refl | false ↦ refl ]
-header-no-columns context earlier more (Some Rhs) = refl
-header-no-columns context earlier more (Some Ranges) = refl
-header-no-columns context earlier more (Some Bounds) = refl
-header-no-columns context earlier more (Some EndData) = refl
-
-row-no-columns : (context : Context) (earlier : Draft) (name : List ℕ) (type : RowType) → no_columns (row_of_type context earlier name type) ≡ true
-row-no-columns context earlier name Free = elim (is_new_objective context earlier name) as (λ b. no_columns (cond b (declare_objective name ∷ []) (declare_row name (by_type Free) ∷ [])) ≡ true) [ true ↦ refl | false ↦ refl ]
-row-no-columns context earlier name AtMost = refl
-row-no-columns context earlier name AtLeast = refl
-row-no-columns context earlier name Equal = refl
-
-data-no-columns : (context : Context) (earlier : Draft) (fields : Fields) (o : Option Section) → is_section Columns o ≡ false → no_columns (data_declared context earlier fields o) ≡ true
-data-no-columns context earlier fields None h = refl
-data-no-columns context earlier fields (Some Name) h = refl
-data-no-columns context earlier fields (Some ObjSense) h = sense-passes (λ d. not (declares_column d)) (λ _. refl) fields
-data-no-columns context earlier fields (Some ObjName) h = refl
-data-no-columns context earlier fields (Some Rows) h =
-    each-declared (λ d. not (declares_column d)) (row_declared context earlier) (row_shape fields)
-    (λ line. each-declared (λ d. not (declares_column d)) (row_of_type context earlier line.name) (row_type line.letter) (λ type. row-no-columns context earlier line.name type))
-data-no-columns context earlier fields (Some Columns) h = cc
-data-no-columns context earlier fields (Some Rhs) h = sides-passes (λ d. not (declares_column d)) (λ r v. refl) earlier fields
-data-no-columns context earlier fields (Some Ranges) h = ranges-passes (λ d. not (declares_column d)) (λ r v. refl) fields
-data-no-columns context earlier fields (Some Bounds) h = bounds-passes (λ d. not (declares_column d)) passes-no_columns fields
-data-no-columns context earlier fields (Some EndData) h = refl
 
 -- ---- the columns of a draft
 
@@ -109,12 +76,12 @@ lines-push before earlier item have name h =
         either fields (test (line_column fields)) refl
         (own-or-old (context_of before) earlier fields name
         (subst (λ o. has_column (adding_all earlier (data_declared (context_of before) earlier fields o)) name ≡ true) (section-is Columns (current_section before) e) k))
-    under fields false e k = or_left (list_any test (columns_of before)) false (old (data_line fields) (data-no-columns (context_of before) earlier fields (current_section before) e) k)
+    under fields false e k = or_left (list_any test (columns_of before)) false (old (data_line fields) (no-columns-data (context_of before) earlier fields (current_section before) e) k)
 
     by : (x : Item) → has_column (adding_all earlier (declared (context_of before) earlier x)) name ≡ true
         → (list_any test (columns_of before) || list_any test (map line_column (fields_under Columns (current_section before) x))) ≡ true
     by skipped k = or_left (list_any test (columns_of before)) false (have name k)
-    by (header keyword more) k = or_left (list_any test (columns_of before)) false (old (header keyword more) (header-no-columns (context_of before) earlier more (section_named keyword)) k)
+    by (header keyword more) k = or_left (list_any test (columns_of before)) false (old (header keyword more) (no-columns-header (context_of before) earlier more (section_named keyword)) k)
     by (data_line fields) k = under fields (is_section Columns (current_section before)) refl k
 
 pub not-split : (before : List Item) (earlier : Draft) (name : List ℕ) → HaveLines before earlier → comes_again (Some name) (columns_of before) ≡ false → is_split (context_of before) earlier name ≡ false

@@ -1,9 +1,10 @@
 -- The line of a text's first fault: the lines before it have none, and it is one of its tests that tells the kind, or a refusal of what it declares.
 use Rattle.std.proofs.Common.{◌≡◌, refl, sym, ap, ◌∙◌, subst, List, [], ◌∷◌, ◌++◌, append_assoc, ℕ, suc, ◌+◌, ◌-◌, ◌^◌, Bool, true, false, cond, map, arith}
-use Rattle.std.specs.Prelude.{Option, Some, None, is_none, ◌||◌, ◌==◌, nat_le, nat_lt, not, filter_map, min, length, if◌then◌else◌}
+use Rattle.std.specs.Prelude.{Option, Some, None, is_none, ◌||◌, ◌&&◌, ◌==◌, nat_le, nat_lt, not, filter_map, min, length, if◌then◌else◌}
 use Rattle.std.specs.List.{list_any, list_all, cons_option}
-use Rattle.std.specs.Option.{option_map, option_or}
+use Rattle.std.specs.Option.{option_map, option_map_or, option_or}
 use Rattle.std.specs.Cmp.{first_so, second_so}
+use Rattle.std.proofs.lemmas.Bool.Decides.{nat_tests}
 use Rattle.std.proofs.Math.Dec.{eqb_refl}
 use Rattle.std.proofs.lemmas.List.{append-nil, map-append}
 use Rattle.std.proofs.lemmas.List.Folds.{list_any-append}
@@ -12,7 +13,7 @@ use Rattle.mpslp_types.specs.declared.faults.BuildFault.{BuildFault}
 use Rattle.mpslp_types.specs.declared.faults.Fault.{Fault}
 use Rattle.mpslp_types.specs.declared.faults.FaultKind.{FaultKind}
 use Rattle.mpslp_types.specs.declared.faults.FaultKind.TheVariants.{LineTooLong, BadByte, MissingEnd, NoColumns}
-use Rattle.mpslp_types.proofs.BoolLemmas.{true_from, or_left, or_right}
+use Rattle.mpslp_types.proofs.BoolLemmas.{true_from, both_so, or_left, or_right}
 use Rattle.mpslp_core.specs.Lists.{is_nonempty, head_of, those_of}
 use Rattle.mpslp_builder.specs.Declaration.{Declarations, Draft, adding, adding_all, empty_draft, draft_of}
 use Rattle.mpslp_builder.specs.Meaning.{named_kinds, whole_fault, names_with, named_faults, file_fault}
@@ -22,7 +23,7 @@ use Rattle.mpslp_reading.specs.Field.{is_kind}
 use Rattle.mpslp_reading.specs.LegalLine.{has_legal_length, is_legal_byte}
 use Rattle.mpslp_reading.specs.LineAnswer.{fault_on_line}
 use Rattle.mpslp_reading.specs.Tests.{Tests}
-use Rattle.mpslp_reading.proofs.LeastLemmas.{lesser}
+use Rattle.mpslp_reading.proofs.LeastLemmas.{lesser, earlier_of, least-append, least-none}
 use Rattle.mpslp_reading.proofs.FirstFaultLemmas.{faultless}
 use Rattle.mpslp_mps.specs.Line.{Item, item_of, outside_comment}
 use Rattle.mpslp_mps.specs.Context.{Context, context_of}
@@ -33,7 +34,7 @@ use Rattle.mpslp_mps.specs.FirstFault.{line_fault, first_line_fault, whole_mps_f
 use Rattle.mpslp_mps.specs.FaultsInWords.{StandsOn, IsInWords}
 use Rattle.mpslp_mps.proofs.OrderLemmas.{IsGood, never}
 use Rattle.mpslp_mps.proofs.PlacedLemmas.{item-form}
-use Rattle.mpslp_mps.proofs.TextOfWords.{Known, none-known, known-kept}
+use Rattle.mpslp_mps.proofs.NamesOfWords.{Told, none-told, told-kept}
 
 -- ---- which tests a kind has
 
@@ -109,6 +110,60 @@ told-by tests earlier ds kind h =
     ∙ (ap (λ (b : Bool). b || list_any (is_kind kind) (declaring_faults earlier ds)) (any-held kind tests) ∙ ap (λ (b : Bool). holds_of kind tests || b) (any-declaring kind earlier ds)))
     ∙ among-least (those_of tests ++ declaring_faults earlier ds) kind h
 
+-- ---- kinds that come after those of a line's form
+
+abbrev pub is_below : FaultKind → FaultKind → Bool
+is_below kind other = nat_lt (kind_rank other) (kind_rank kind)
+
+least-passes : (p : FaultKind → Bool) (kinds : List FaultKind) → list_all p kinds ≡ true → option_map_or p (least_kind kinds) true ≡ true
+least-passes p [] h = refl
+least-passes p (kind ∷ kinds) h = by (least_kind kinds) (least-passes p kinds (second_so (p kind) (list_all p kinds) h))
+  where
+    of : (other : FaultKind) → p other ≡ true → (b : Bool) → p (cond b other kind) ≡ true
+    of other e true = e
+    of other e false = first_so (p kind) (list_all p kinds) h
+
+    by : (o : Option FaultKind) → option_map_or p o true ≡ true → p (lesser kind o) ≡ true
+    by None e = first_so (p kind) (list_all p kinds) h
+    by (Some other) e = of other e (nat_lt (kind_rank other) (kind_rank kind))
+
+those-below : (kind : FaultKind) (tests : Tests) → list_all (λ test. is_below kind test.1) tests ≡ true → list_all (is_below kind) (those_of tests) ≡ true
+those-below kind [] h = refl
+those-below kind ((held, other) ∷ more) h = by (those-below kind more (second_so (is_below kind other) (list_all (λ test. is_below kind test.1) more) h)) held
+  where
+    by : list_all (is_below kind) (those_of more) ≡ true → (b : Bool) → list_all (is_below kind) (cond b (other ∷ those_of more) (those_of more)) ≡ true
+    by rest true = both_so (is_below kind other) (list_all (is_below kind) (those_of more)) (first_so (is_below kind other) (list_all (λ test. is_below kind test.1) more) h) rest
+    by rest false = rest
+
+not-below : (kind other : FaultKind) → is_below kind other ≡ true → other ≡ kind → ⊥
+not-below kind other h e = irreflexive (kind_rank kind) (sym (ap (λ (k : FaultKind). nat_lt (kind_rank k) (kind_rank kind)) e) ∙ h)
+  where
+    irreflexive : (n : ℕ) → nat_lt n n ≡ true → ⊥
+    irreflexive n k = grind (arith, nat_tests)
+
+-- where the first fault is of such a kind, no test of the form holds
+pub form-holds : (tests : Tests) (earlier : Draft) (ds : Declarations) (kind : FaultKind) → list_all (λ test. is_below kind test.1) tests ≡ true → first_fault tests earlier ds ≡ Some kind → those_of tests ≡ []
+form-holds tests earlier ds kind below h =
+    by (least_kind (those_of tests)) refl (least-passes (is_below kind) (those_of tests) (those-below kind tests below)) (sym (least-append (those_of tests) (declaring_faults earlier ds)) ∙ h)
+  where
+    one : (a b : FaultKind) → Some a ≡ Some b → a ≡ b
+    one a b e = cc
+
+    lower : (a b c : ℕ) → nat_lt a b ≡ true → nat_lt b c ≡ true → nat_lt a c ≡ true
+    lower a b c e f = grind (arith, nat_tests)
+
+    of : (first : FaultKind) → is_below kind first ≡ true → (p : Option FaultKind) → lesser first p ≡ kind → ⊥
+    of first e None k = not-below kind first e k
+    of first e (Some other) k = either (nat_lt (kind_rank other) (kind_rank first)) refl k
+      where
+        either : (b : Bool) → nat_lt (kind_rank other) (kind_rank first) ≡ b → cond b other first ≡ kind → ⊥
+        either true f l = not-below kind other (lower (kind_rank other) (kind_rank first) (kind_rank kind) f e) l
+        either false f l = not-below kind first e l
+
+    by : (o : Option FaultKind) → least_kind (those_of tests) ≡ o → option_map_or (is_below kind) o true ≡ true → earlier_of o (least_kind (declaring_faults earlier ds)) ≡ Some kind → those_of tests ≡ []
+    by None e f k = least-none (those_of tests) e
+    by (Some first) e f k = absurd (of first f (least_kind (declaring_faults earlier ds)) (one (lesser first (least_kind (declaring_faults earlier ds))) kind k))
+
 -- ---- the line
 
 -- what is known of the line, and of those before it
@@ -119,7 +174,7 @@ pub record Faulted (ls : List (List ℕ)) (before : List Item) (n : ℕ) (fault 
   pub earlier : Draft
   pub parted : ls ≡ front ++ line ∷ later
   pub number : fault.line ≡ min (length front + n) (2 ^ 64 - 1)
-  pub known : Known (before ++ map item_of front) earlier
+  pub known : Told (before ++ map item_of front) earlier
   pub told : first_fault (line_tests (context_of (before ++ map item_of front)) earlier line) earlier (declared (context_of (before ++ map item_of front)) earlier (item_of line)) ≡ Some fault.kind
 
 one-less : (m n : ℕ) → m + (n + 1) ≡ suc m + n
@@ -128,9 +183,9 @@ one-less m n = grind (arith)
 none-before : (n : ℕ) → n ≡ 0 + n
 none-before n = grind (arith)
 
-find-line : (ls : List (List ℕ)) (before : List Item) (earlier : Draft) (n : ℕ) (fault : Fault) → Known before earlier → first_line_fault n (placed_after before earlier ls) ≡ Some fault → Faulted ls before n fault
+find-line : (ls : List (List ℕ)) (before : List Item) (earlier : Draft) (n : ℕ) (fault : Fault) → Told before earlier → first_line_fault n (placed_after before earlier ls) ≡ Some fault → Faulted ls before n fault
 find-line [] before earlier n fault known h = absurd cc
-find-line (line ∷ ls) before earlier n fault known h = by (λ good e. find-line ls (before ++ item_of line ∷ []) next (n + 1) fault (known-kept before earlier (item_of line) good known) e) (line_fault placed) refl h
+find-line (line ∷ ls) before earlier n fault known h = by (λ good e. find-line ls (before ++ item_of line ∷ []) next (n + 1) fault (told-kept before earlier (item_of line) good known) e) (line_fault placed) refl h
   where
     placed : Placed
     placed = record { context = context_of before; earlier = earlier; line = line }
@@ -155,7 +210,7 @@ find-line (line ∷ ls) before earlier n fault known h = by (λ good e. find-lin
           earlier = found.earlier;
           parted = ap (λ (more : List (List ℕ)). line ∷ more) found.parted;
           number = found.number ∙ ap (λ (m : ℕ). min m (2 ^ 64 - 1)) (one-less (length found.front) n);
-          known = subst (λ (items : List Item). Known items found.earlier) same found.known;
+          known = subst (λ (items : List Item). Told items found.earlier) same found.known;
           told = subst (λ (items : List Item). first_fault (line_tests (context_of items) found.earlier found.line) found.earlier (declared (context_of items) found.earlier (item_of found.line)) ≡ Some fault.kind) same found.told;
         }
     by find (Some kind) e k =
@@ -168,7 +223,7 @@ find-line (line ∷ ls) before earlier n fault known h = by (λ good e. find-lin
           earlier = earlier;
           parted = refl;
           number = sym (ap (λ (f : Fault). f.line) same) ∙ ap (λ (m : ℕ). min m (2 ^ 64 - 1)) (none-before n);
-          known = subst (λ (items : List Item). Known items earlier) none known;
+          known = subst (λ (items : List Item). Told items earlier) none known;
           told = subst (λ (items : List Item). first_fault (line_tests (context_of items) earlier line) earlier (declared (context_of items) earlier (item_of line)) ≡ Some fault.kind) none
               (e ∙ ap (λ (f : Fault). Some f.kind) same);
         }
@@ -216,10 +271,14 @@ of-whole bytes fault h = by (has_end bytes) h
 passed : (kind : FaultKind) (first second : Bool) (tests : Tests) → is_kind kind LineTooLong ≡ false → is_kind kind BadByte ≡ false → holds_of kind ((first, LineTooLong) ∷ (second, BadByte) ∷ tests) ≡ holds_of kind tests
 passed kind first second tests short legal = rw (short, legal) refl
 
--- Where a line with a test or a refusal of this kind is such a line, whatever stands before it, so says the law of the kind.
+-- The kind is that of a test of the line's form that holds, or of a refusal of what it declares; the latter alone where it comes after all kinds of its form.
+pub record IsFirst (kind : FaultKind) (before : List Item) (earlier : Draft) (item : Item) : Type 0 where
+  pub told : (holds_of kind (item_tests (context_of before) earlier item) || refuses kind earlier (declared (context_of before) earlier item)) ≡ true
+  pub late : is_below kind LineTooLong ≡ true → is_below kind BadByte ≡ true → list_all (λ test. is_below kind test.1) (item_tests (context_of before) earlier item) ≡ true → IsGood before earlier item
+
+-- Where each line whose first fault is of this kind is such a line, so says the law of the kind.
 pub in-words : (kind : FaultKind) (is_such : List Item → Item → Bool) → is_of_whole kind ≡ false → is_kind kind LineTooLong ≡ false → is_kind kind BadByte ≡ false
-    → ((before : List Item) (earlier : Draft) (item : Item) → Known before earlier
-    → (holds_of kind (item_tests (context_of before) earlier item) || refuses kind earlier (declared (context_of before) earlier item)) ≡ true → is_such before item ≡ true)
+    → ((before : List Item) (earlier : Draft) (item : Item) → Told before earlier → IsFirst kind before earlier item → is_such before item ≡ true)
     → IsInWords kind is_such
 in-words kind is_such early short legal such bytes fault first k = by (first_line_fault 1 (placed_lines bytes)) refl first
   where
@@ -227,10 +286,12 @@ in-words kind is_such early short legal such bytes fault first k = by (first_lin
     by None e h = absurd (never (is_of_whole kind) (ap is_of_whole (sym k) ∙ of-whole bytes fault h) early)
     by (Some other) e h =
         let same : other ≡ fault = cc in
-        let found = find-line (read_lines bytes) [] empty_draft 1 fault none-known (e ∙ ap (λ (f : Fault). Some f) same) in
+        let found = find-line (read_lines bytes) [] empty_draft 1 fault none-told (e ∙ ap (λ (f : Fault). Some f) same) in
         let items = map item_of found.front in
         let ds = declared (context_of items) found.earlier (item_of found.line) in
-        let told = told-by (line_tests (context_of items) found.earlier found.line) found.earlier ds kind (found.told ∙ ap (λ (x : FaultKind). Some x) k) in
+        let tests = item_tests (context_of items) found.earlier (item_of found.line) in
+        let first_is = found.told ∙ ap (λ (x : FaultKind). Some x) k in
+        let told = told-by (line_tests (context_of items) found.earlier found.line) found.earlier ds kind first_is in
         record {
           before = found.front;
           line = found.line;
@@ -238,7 +299,14 @@ in-words kind is_such early short legal such bytes fault first k = by (first_lin
           text = found.parted;
           number = found.number;
           such = such items found.earlier (item_of found.line) found.known
-              (sym (ap (λ (b : Bool). b || refuses kind found.earlier ds)
-              (passed kind (not (has_legal_length found.line)) (not (list_all is_legal_byte (outside_comment found.line))) (item_tests (context_of items) found.earlier (item_of found.line)) short legal))
-              ∙ told);
+              (record {
+                told = sym (ap (λ (b : Bool). b || refuses kind found.earlier ds)
+                    (passed kind (not (has_legal_length found.line)) (not (list_all is_legal_byte (outside_comment found.line))) tests short legal))
+                    ∙ told;
+                late = λ a b c.
+                    item-form (context_of items) found.earlier found.line
+                    (form-holds (line_tests (context_of items) found.earlier found.line) found.earlier ds kind
+                    (both_so (is_below kind LineTooLong) (is_below kind BadByte && list_all (λ test. is_below kind test.1) tests) a
+                    (both_so (is_below kind BadByte) (list_all (λ test. is_below kind test.1) tests) b c)) first_is);
+              });
         }

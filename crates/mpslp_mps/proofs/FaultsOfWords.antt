@@ -39,200 +39,13 @@ use Rattle.mpslp_mps.proofs.WordsOfColumns.{columns_of, comes_again}
 use Rattle.mpslp_mps.proofs.WordsOfOneWord.{missing, without_word, with_word, IsUnderway}
 use Rattle.mpslp_mps.proofs.SectionsOfWords.{marker-follows, together-apart}
 use Rattle.mpslp_mps.proofs.ColumnsOfWords.{HaveLines, not-split}
-use Rattle.mpslp_mps.proofs.TextOfWords.{Known}
-use Rattle.mpslp_mps.proofs.FaultedLines.{holds_of, refused_as, refuses, in-words}
-
--- ---- tests of other kinds
-
-abbrev is_among : List FaultKind → FaultKind → Bool
-is_among kinds kind = list_any (is_kind kind) kinds
-
-alike : (kinds : List FaultKind) (kind other : FaultKind) → is_kind kind other ≡ true → is_among kinds other ≡ is_among kinds kind
-alike kinds kind other h = ap (λ (n : ℕ). list_any (λ (k : FaultKind). n == kind_rank k) kinds) (sym (of (kind_rank kind) (kind_rank other) h))
-  where
-    of : (m n : ℕ) → (m == n) ≡ true → m ≡ n
-    of m n e = (Decides-eqb m n).0 e
-
--- of tests whose kinds are among these, none is of another kind
-none-holds : (ks : List FaultKind) (kind : FaultKind) (tests : Tests) → list_all (λ test. is_among ks test.1) tests ≡ true → is_among ks kind ≡ false → holds_of kind tests ≡ false
-none-holds ks kind [] h k = refl
-none-holds ks kind ((held, other) ∷ more) h k = by (none-holds ks kind more (second_so (is_among ks other) (list_all (λ test. is_among ks test.1) more) h) k) (is_kind kind other) refl
-  where
-    by : holds_of kind more ≡ false → (b : Bool) → is_kind kind other ≡ b → cond b (held || holds_of kind more) (holds_of kind more) ≡ false
-    by rest true e = absurd (never (is_among ks other) (first_so (is_among ks other) (list_all (λ test. is_among ks test.1) more) h) (alike ks kind other e ∙ k))
-    by rest false e = rest
-
-abbrev refusal_kinds : List FaultKind
-refusal_kinds = kinds.UnknownRow ∷ kinds.UnknownColumn ∷ kinds.DuplicateRow ∷ kinds.DuplicateEntry ∷ kinds.DuplicateRhs ∷ kinds.DuplicateRange ∷ kinds.DuplicateBound ∷ kinds.RangeOnFree ∷ kinds.SemiContinuous ∷ kinds.InfiniteValue ∷ []
-
-refusal-among : (fault : BuildFault) → is_among refusal_kinds (kind_of_refusal fault) ≡ true
-refusal-among builds.DuplicateSense = refl
-refusal-among builds.SecondObjective = refl
-refusal-among builds.UnknownRow = refl
-refusal-among builds.UnknownColumn = refl
-refusal-among builds.DuplicateRow = refl
-refusal-among builds.DuplicateEntry = refl
-refusal-among builds.DuplicateRhs = refl
-refusal-among builds.DuplicateRange = refl
-refusal-among builds.DuplicateBound = refl
-refusal-among builds.RangeOnFree = refl
-refusal-among builds.SemiContinuous = refl
-refusal-among builds.InfiniteValue = refl
-refusal-among builds.OutOfMemory = refl
-
-none-refused : (kind : FaultKind) (tests : List (Bool × BuildFault)) → is_among refusal_kinds kind ≡ false → refused_as kind tests ≡ false
-none-refused kind [] k = refl
-none-refused kind ((held, other) ∷ more) k = by (none-refused kind more k) (is_kind kind (kind_of_refusal other)) refl
-  where
-    by : refused_as kind more ≡ false → (b : Bool) → is_kind kind (kind_of_refusal other) ≡ b → cond b (held || refused_as kind more) (refused_as kind more) ≡ false
-    by rest true e = absurd (never (is_among refusal_kinds (kind_of_refusal other)) (refusal-among other) (alike refusal_kinds kind (kind_of_refusal other) e ∙ k))
-    by rest false e = rest
-
--- a kind of a line's form alone
-form-alone : (kind : FaultKind) → is_among refusal_kinds kind ≡ false → (ds : Declarations) (earlier : Draft) → refuses kind earlier ds ≡ false
-form-alone kind k [] earlier = refl
-form-alone kind k (d ∷ ds) earlier = ap (λ (b : Bool). b || refuses kind (adding earlier d) ds) (none-refused kind (refusal_tests earlier d) k) ∙ form-alone kind k ds (adding earlier d)
-
-left_alone : (a b : Bool) → b ≡ false → (a || b) ≡ true → a ≡ true
-left_alone true b e h = refl
-left_alone false b e h = absurd (never b h e)
-
-right_alone : (a b : Bool) → a ≡ false → (a || b) ≡ true → b ≡ true
-right_alone false b e h = h
-right_alone true b e h = cc
-
--- ---- the kinds of each line
-
-abbrev header_kinds : List FaultKind
-header_kinds = kinds.Quadratic ∷ kinds.Sos ∷ kinds.Indicator ∷ kinds.UnknownSection ∷ kinds.SectionOrder ∷ kinds.SectionRepeated ∷ kinds.FieldCount ∷ kinds.BadType ∷ kinds.UnknownRow ∷ []
-
-abbrev number_kinds : List FaultKind
-number_kinds = kinds.FieldCount ∷ kinds.BadType ∷ kinds.BadNumber ∷ kinds.LongNumber ∷ kinds.TooManyDigits ∷ kinds.ExponentRange ∷ kinds.SecondSet ∷ []
-
-abbrev marker_kinds : List FaultKind
-marker_kinds = kinds.Sos ∷ kinds.FieldCount ∷ kinds.BadMarker ∷ []
-
-abbrev column_kinds : List FaultKind
-column_kinds = kinds.FieldCount ∷ kinds.NameLength ∷ kinds.NameByte ∷ kinds.NameMarker ∷ kinds.BadNumber ∷ kinds.LongNumber ∷ kinds.TooManyDigits ∷ kinds.ExponentRange ∷ kinds.ColumnSplit ∷ []
-
--- of each section but COLUMNS, whose lines are of two forms
-abbrev kinds_in : Option Section → List FaultKind
-kinds_in (Some Rows) = kinds.FieldCount ∷ kinds.BadType ∷ kinds.NameLength ∷ kinds.NameByte ∷ kinds.NameMarker ∷ []
-kinds_in (Some Columns) = kinds.Sos ∷ kinds.BadMarker ∷ column_kinds
-kinds_in (Some Rhs) = number_kinds
-kinds_in (Some Ranges) = number_kinds
-kinds_in (Some Bounds) = number_kinds
-kinds_in _ = kinds.SectionOrder ∷ kinds.FieldCount ∷ kinds.BadType ∷ []
-
-abbrev AreAmong : List FaultKind → Tests → Type 0
-AreAmong ks tests = list_all (λ test. is_among ks test.1) tests ≡ true
-
-judged-among : {X : Type 0} (ks : List FaultKind) (tests : X → Tests) (o : Option X) → is_among ks kinds.FieldCount ≡ true → ((x : X) → AreAmong ks (tests x)) → AreAmong ks (judged_by tests o)
-judged-among ks tests None f h = ap (λ (b : Bool). b && true) f
-judged-among ks tests (Some x) f h = h x
-
-abbrev unknown_kinds : List FaultKind
-unknown_kinds = kinds.Quadratic ∷ kinds.Sos ∷ kinds.Indicator ∷ kinds.UnknownSection ∷ []
-
-unknown-among : (quadratic sos indicator : Bool) → AreAmong unknown_kinds ((true, cond quadratic kinds.Quadratic (cond sos kinds.Sos (cond indicator kinds.Indicator kinds.UnknownSection))) ∷ [])
-unknown-among true sos indicator = refl
-unknown-among false true indicator = refl
-unknown-among false false true = refl
-unknown-among false false false = refl
-
-section-among : (context : Context) (earlier : Draft) (section : Section) (more : Fields) → AreAmong (kinds.BadType ∷ kinds.UnknownRow ∷ []) (section_tests context earlier section more)
-section-among context earlier Name more = refl
-section-among context earlier ObjSense [] = refl
-section-among context earlier ObjSense (word ∷ more) = refl
-section-among context earlier ObjName more = refl
-section-among context earlier Rows more = refl
-section-among context earlier Columns more = refl
-section-among context earlier Rhs more = refl
-section-among context earlier Ranges more = refl
-section-among context earlier Bounds more = refl
-section-among context earlier EndData more = refl
-
-bound-among : (context : Context) (line : BoundLine) → AreAmong number_kinds (bound_tests context line)
-bound-among context line = of line.literal
-  where
-    of : (o : Option (List ℕ)) → AreAmong number_kinds (option_map_or (λ literal. number_tests (literal ∷ [])) o [] ++ set_tests context.bounds_set line.set)
-    of None = refl
-    of (Some literal) = refl
-
-column-among : (context : Context) (earlier : Draft) (fields : Fields) → AreAmong column_kinds (judged_by (column_tests context earlier) (column_shape fields))
-column-among context earlier fields = judged-among column_kinds (column_tests context earlier) (column_shape fields) refl (λ _. refl)
-
-bounds-among : (context : Context) (fields : Fields) → AreAmong number_kinds (bound_line_tests context fields)
-bounds-among context [] = refl
-bounds-among context (letters ∷ more) = of (bound_type letters)
-  where
-    of : (o : Option BoundType) → AreAmong number_kinds (typed_bound_tests context more o)
-    of None = refl
-    of (Some type) = judged-among number_kinds (bound_tests context) (bound_shape type more) refl (bound-among context)
-
-data-among : (context : Context) (earlier : Draft) (fields : Fields) (o : Option Section) → AreAmong (kinds_in o) (data_tests context earlier fields o)
-data-among context earlier fields None = refl
-data-among context earlier fields (Some Name) = refl
-data-among context earlier fields (Some ObjSense) = judged-among (kinds_in (Some ObjSense)) word_tests (word_shape fields) refl (λ _. refl)
-data-among context earlier fields (Some ObjName) = judged-among (kinds_in (Some ObjName)) (λ _. []) (word_shape fields) refl (λ _. refl)
-data-among context earlier fields (Some Rows) = judged-among (kinds_in (Some Rows)) row_tests (row_shape fields) refl (λ _. refl)
-data-among context earlier fields (Some Columns) = by (is_marker_line fields)
-  where
-    marker : (o : Option (List ℕ)) → AreAmong (kinds_in (Some Columns)) (judged_by (marker_word_tests context) o)
-    marker None = refl
-    marker (Some word) = refl
-
-    by : (b : Bool) → AreAmong (kinds_in (Some Columns)) (cond b (marker_tests context fields) (judged_by (column_tests context earlier) (column_shape fields)))
-    by true = marker (marker_shape fields)
-    by false = judged-among (kinds_in (Some Columns)) (column_tests context earlier) (column_shape fields) refl (λ _. refl)
-data-among context earlier fields (Some Rhs) = judged-among number_kinds (vector_tests context.rhs_set) (vector_shape fields) refl (λ _. refl)
-data-among context earlier fields (Some Ranges) = judged-among number_kinds (vector_tests context.ranges_set) (vector_shape fields) refl (λ _. refl)
-data-among context earlier fields (Some Bounds) = bounds-among context fields
-data-among context earlier fields (Some EndData) = refl
-
-unknown-header : (quadratic sos indicator : Bool) → AreAmong header_kinds ((true, cond quadratic kinds.Quadratic (cond sos kinds.Sos (cond indicator kinds.Indicator kinds.UnknownSection))) ∷ [])
-unknown-header true sos indicator = refl
-unknown-header false true indicator = refl
-unknown-header false false true = refl
-unknown-header false false false = refl
-
-header-among : (context : Context) (earlier : Draft) (keyword : List ℕ) (more : Fields) (o : Option Section) → AreAmong header_kinds (header_tests context earlier keyword more o)
-header-among context earlier keyword more None =
-    unknown-header (is_one_of (codes "QSECTION" ∷ codes "QMATRIX" ∷ codes "QUADOBJ" ∷ codes "QCMATRIX" ∷ codes "CSECTION" ∷ []) keyword)
-    (is_one_of (codes "SOS" ∷ codes "SOS1" ∷ codes "SOS2" ∷ []) keyword) (is_one_of (codes "INDICATORS" ∷ []) keyword)
-header-among context earlier keyword more (Some Name) = refl
-header-among context earlier keyword [] (Some ObjSense) = refl
-header-among context earlier keyword (word ∷ more) (Some ObjSense) = refl
-header-among context earlier keyword more (Some ObjName) = refl
-header-among context earlier keyword more (Some Rows) = refl
-header-among context earlier keyword more (Some Columns) = refl
-header-among context earlier keyword more (Some Rhs) = refl
-header-among context earlier keyword more (Some Ranges) = refl
-header-among context earlier keyword more (Some Bounds) = refl
-header-among context earlier keyword more (Some EndData) = refl
-
--- a kind of none of them
-no-data : {X : Type 0} (kind : FaultKind) (context : Context) (earlier : Draft) (fields : Fields) (o : Option Section) → is_among (kinds_in o) kind ≡ false → holds_of kind (data_tests context earlier fields o) ≡ true → X
-no-data kind context earlier fields o k h = absurd (never (holds_of kind (data_tests context earlier fields o)) h (none-holds (kinds_in o) kind (data_tests context earlier fields o) (data-among context earlier fields o) k))
-
-no-header : {X : Type 0} (kind : FaultKind) (context : Context) (earlier : Draft) (keyword : List ℕ) (more : Fields) (o : Option Section) → is_among header_kinds kind ≡ false
-    → holds_of kind (header_tests context earlier keyword more o) ≡ true → X
-no-header kind context earlier keyword more o k h =
-    absurd (never (holds_of kind (header_tests context earlier keyword more o)) h (none-holds header_kinds kind (header_tests context earlier keyword more o) (header-among context earlier keyword more o) k))
-
--- what is left of a line's tests, where no declaration is refused by the kind
-by-form : (kind : FaultKind) (is_such : List Item → Item → Bool) → is_among refusal_kinds kind ≡ false
-    → ((before : List Item) (earlier : Draft) (item : Item) → Known before earlier → holds_of kind (item_tests (context_of before) earlier item) ≡ true → is_such before item ≡ true)
-    → (before : List Item) (earlier : Draft) (item : Item) → Known before earlier
-    → (holds_of kind (item_tests (context_of before) earlier item) || refuses kind earlier (declared (context_of before) earlier item)) ≡ true → is_such before item ≡ true
-by-form kind is_such k such before earlier item known h =
-    such before earlier item known
-    (left_alone (holds_of kind (item_tests (context_of before) earlier item)) (refuses kind earlier (declared (context_of before) earlier item))
-    (form-alone kind k (declared (context_of before) earlier item) earlier) h)
+use Rattle.mpslp_mps.proofs.NamesOfWords.{Told}
+use Rattle.mpslp_mps.proofs.KindsOfLines.{none-holds, left_alone, column_kinds, unknown_kinds, unknown-among, section-among, column-among, no-data, no-header, by-form}
+use Rattle.mpslp_mps.proofs.FaultedLines.{holds_of, refused_as, refuses, IsFirst, in-words}
 
 -- ---- SectionRepeated
 
-repeated : (before : List Item) (earlier : Draft) (item : Item) → Known before earlier → holds_of kinds.SectionRepeated (item_tests (context_of before) earlier item) ≡ true → repeats_section before item ≡ true
+repeated : (before : List Item) (earlier : Draft) (item : Item) → Told before earlier → holds_of kinds.SectionRepeated (item_tests (context_of before) earlier item) ≡ true → repeats_section before item ≡ true
 repeated before earlier skipped known h = cc
 repeated before earlier (header keyword more) known h = by (section_named keyword) h
   where
@@ -264,7 +77,7 @@ section-repeated = in-words kinds.SectionRepeated repeats_section refl refl refl
 
 -- ---- BadMarker
 
-wrong-marker : (before : List Item) (earlier : Draft) (item : Item) → Known before earlier → holds_of kinds.BadMarker (item_tests (context_of before) earlier item) ≡ true → is_wrong_marker before item ≡ true
+wrong-marker : (before : List Item) (earlier : Draft) (item : Item) → Told before earlier → holds_of kinds.BadMarker (item_tests (context_of before) earlier item) ≡ true → is_wrong_marker before item ≡ true
 wrong-marker before earlier skipped known h = cc
 wrong-marker before earlier (header keyword more) known h = no-header kinds.BadMarker (context_of before) earlier keyword more (section_named keyword) refl h
 wrong-marker before earlier (data_line fields) known h = by (current_section before) h
@@ -312,13 +125,13 @@ bad-marker = in-words kinds.BadMarker is_wrong_marker refl refl refl (by-form ki
 
 -- ---- ColumnSplit
 
-split : (before : List Item) (earlier : Draft) (item : Item) → Known before earlier → holds_of kinds.ColumnSplit (item_tests (context_of before) earlier item) ≡ true → splits_column before item ≡ true
+split : (before : List Item) (earlier : Draft) (item : Item) → Told before earlier → holds_of kinds.ColumnSplit (item_tests (context_of before) earlier item) ≡ true → splits_column before item ≡ true
 split before earlier skipped known h = cc
 split before earlier (header keyword more) known h = no-header kinds.ColumnSplit (context_of before) earlier keyword more (section_named keyword) refl h
 split before earlier (data_line fields) known h = by (current_section before) h
   where
     of : (name : List ℕ) → is_split (context_of before) earlier name ≡ true → (b : Bool) → stand_together (columns_of before ++ Some name ∷ []) ≡ b → not b ≡ true
-    of name k true e = absurd (never (is_split (context_of before) earlier name) k (not-split before earlier name known.lines (together-apart (Some name) (columns_of before) [] e)))
+    of name k true e = absurd (never (is_split (context_of before) earlier name) k (not-split before earlier name known.known.lines (together-apart (Some name) (columns_of before) [] e)))
     of name k false e = refl
 
     line : (b : Bool) → holds_of kinds.ColumnSplit (cond b (marker_tests (context_of before) fields) (judged_by (column_tests (context_of before) earlier) (column_shape fields))) ≡ true
@@ -358,7 +171,7 @@ other-first : (sets : List (List ℕ)) (set : List ℕ) → option_map_or (λ na
 other-first [] set h = cc
 other-first (first ∷ sets) set h = or_left (not (same_bytes first set)) (differs_from sets set) h
 
-second : (before : List Item) (earlier : Draft) (item : Item) → Known before earlier → holds_of kinds.SecondSet (item_tests (context_of before) earlier item) ≡ true → is_of_second_set before item ≡ true
+second : (before : List Item) (earlier : Draft) (item : Item) → Told before earlier → holds_of kinds.SecondSet (item_tests (context_of before) earlier item) ≡ true → is_of_second_set before item ≡ true
 second before earlier skipped known h = cc
 second before earlier (header keyword more) known h = no-header kinds.SecondSet (context_of before) earlier keyword more (section_named keyword) refl h
 second before earlier (data_line fields) known h = by (current_section before) h
@@ -481,21 +294,21 @@ misplaced before Ranges f g = or_left (not (has_section before Columns)) (comes_
 misplaced before Bounds f g = or_left (not (has_section before Columns)) (comes_late before Bounds) (so_not (has_section before Columns) g)
 misplaced before EndData f g = or_left (not (has_section before Columns)) (comes_late before EndData) (so_not (has_section before Columns) g)
 
-out-of-place : (before : List Item) (earlier : Draft) (item : Item) → Known before earlier → holds_of kinds.SectionOrder (item_tests (context_of before) earlier item) ≡ true → is_out_of_place before item ≡ true
+out-of-place : (before : List Item) (earlier : Draft) (item : Item) → Told before earlier → holds_of kinds.SectionOrder (item_tests (context_of before) earlier item) ≡ true → is_out_of_place before item ≡ true
 out-of-place before earlier skipped known h = cc
 out-of-place before earlier (header keyword more) known h = by (section_named keyword) h
   where
     wanting : (o : Option Section) → current_section before ≡ o → is_some (wanted before) ≡ true → option_map_or (is_without_word before) o false ≡ true
-    wanting None e w = let no : false ≡ true = sym (ap (λ (o : Option Section). is_section ObjSense o || is_section ObjName o) e) ∙ known.there w in cc
-    wanting (Some ObjSense) e w = without-word ObjSense is_sense before refl known.words.sense e refl w
-    wanting (Some ObjName) e w = without-word ObjName (λ _. true) before refl known.words.name e refl w
-    wanting (Some Name) e w = let no : false ≡ true = sym (ap (λ (o : Option Section). is_section ObjSense o || is_section ObjName o) e) ∙ known.there w in cc
-    wanting (Some Rows) e w = let no : false ≡ true = sym (ap (λ (o : Option Section). is_section ObjSense o || is_section ObjName o) e) ∙ known.there w in cc
-    wanting (Some Columns) e w = let no : false ≡ true = sym (ap (λ (o : Option Section). is_section ObjSense o || is_section ObjName o) e) ∙ known.there w in cc
-    wanting (Some Rhs) e w = let no : false ≡ true = sym (ap (λ (o : Option Section). is_section ObjSense o || is_section ObjName o) e) ∙ known.there w in cc
-    wanting (Some Ranges) e w = let no : false ≡ true = sym (ap (λ (o : Option Section). is_section ObjSense o || is_section ObjName o) e) ∙ known.there w in cc
-    wanting (Some Bounds) e w = let no : false ≡ true = sym (ap (λ (o : Option Section). is_section ObjSense o || is_section ObjName o) e) ∙ known.there w in cc
-    wanting (Some EndData) e w = let no : false ≡ true = sym (ap (λ (o : Option Section). is_section ObjSense o || is_section ObjName o) e) ∙ known.there w in cc
+    wanting None e w = let no : false ≡ true = sym (ap (λ (o : Option Section). is_section ObjSense o || is_section ObjName o) e) ∙ known.known.there w in cc
+    wanting (Some ObjSense) e w = without-word ObjSense is_sense before refl known.known.words.sense e refl w
+    wanting (Some ObjName) e w = without-word ObjName (λ _. true) before refl known.known.words.name e refl w
+    wanting (Some Name) e w = let no : false ≡ true = sym (ap (λ (o : Option Section). is_section ObjSense o || is_section ObjName o) e) ∙ known.known.there w in cc
+    wanting (Some Rows) e w = let no : false ≡ true = sym (ap (λ (o : Option Section). is_section ObjSense o || is_section ObjName o) e) ∙ known.known.there w in cc
+    wanting (Some Columns) e w = let no : false ≡ true = sym (ap (λ (o : Option Section). is_section ObjSense o || is_section ObjName o) e) ∙ known.known.there w in cc
+    wanting (Some Rhs) e w = let no : false ≡ true = sym (ap (λ (o : Option Section). is_section ObjSense o || is_section ObjName o) e) ∙ known.known.there w in cc
+    wanting (Some Ranges) e w = let no : false ≡ true = sym (ap (λ (o : Option Section). is_section ObjSense o || is_section ObjName o) e) ∙ known.known.there w in cc
+    wanting (Some Bounds) e w = let no : false ≡ true = sym (ap (λ (o : Option Section). is_section ObjSense o || is_section ObjName o) e) ∙ known.known.there w in cc
+    wanting (Some EndData) e w = let no : false ≡ true = sym (ap (λ (o : Option Section). is_section ObjSense o || is_section ObjName o) e) ∙ known.known.there w in cc
 
     idle : Bool
     idle = option_map_or (is_without_word before) (current_section before) false
@@ -524,13 +337,13 @@ out-of-place before earlier (data_line fields) known h = by (current_section bef
   where
     stands : (s : Section) → holds_of kinds.SectionOrder (data_tests (context_of before) earlier fields (Some s)) ≡ true → current_section before ≡ Some s → is_closed before s ≡ true
     stands Name k e = refl
-    stands ObjSense k e = with-its_word ObjSense is_sense before refl known.words.sense e refl (word (is_some (wanted before)) (word_shape fields) k)
+    stands ObjSense k e = with-its_word ObjSense is_sense before refl known.known.words.sense e refl (word (is_some (wanted before)) (word_shape fields) k)
       where
         word : (b : Bool) (o : Option (List ℕ)) → holds_of kinds.SectionOrder ((not b, kinds.SectionOrder) ∷ judged_by word_tests o) ≡ true → b ≡ false
         word false o l = refl
         word true None l = cc
         word true (Some x) l = cc
-    stands ObjName k e = with-its_word ObjName (λ _. true) before refl known.words.name e refl (word (is_some (wanted before)) (word_shape fields) k)
+    stands ObjName k e = with-its_word ObjName (λ _. true) before refl known.known.words.name e refl (word (is_some (wanted before)) (word_shape fields) k)
       where
         word : (b : Bool) (o : Option (List ℕ)) → holds_of kinds.SectionOrder ((not b, kinds.SectionOrder) ∷ judged_by (λ _. []) o) ≡ true → b ≡ false
         word false o l = refl

@@ -48,7 +48,7 @@ no-rows-header context earlier keyword more (Some Ranges) h c = refl
 no-rows-header context earlier keyword more (Some Bounds) h c = refl
 no-rows-header context earlier keyword more (Some EndData) h c = refl
 
-no-rows-data : (context : Context) (earlier : Draft) (fields : Fields) (o : Option Section) → is_section Rows o ≡ false → no_rows (data_declared context earlier fields o) ≡ true
+pub no-rows-data : (context : Context) (earlier : Draft) (fields : Fields) (o : Option Section) → is_section Rows o ≡ false → no_rows (data_declared context earlier fields o) ≡ true
 no-rows-data context earlier fields None h = refl
 no-rows-data context earlier fields (Some Name) h = refl
 no-rows-data context earlier fields (Some ObjSense) h = sense-passes (λ d. not (declares_row d)) (λ _. refl) fields
@@ -66,7 +66,7 @@ no-rows-line before earlier skipped h past columns = refl
 no-rows-line before earlier (header keyword more) h past columns = no-rows-header (context_of before) earlier keyword more (section_named keyword) h columns
 no-rows-line before earlier (data_line fields) h past columns = no-rows-data (context_of before) earlier fields (current_section before) past.left
 
-no-columns-header : (context : Context) (earlier : Draft) (more : Fields) (o : Option Section) → no_columns (header_declared context earlier more o) ≡ true
+pub no-columns-header : (context : Context) (earlier : Draft) (more : Fields) (o : Option Section) → no_columns (header_declared context earlier more o) ≡ true
 no-columns-header context earlier more None = refl
 no-columns-header context earlier more (Some Name) = refl
 no-columns-header context earlier more (Some ObjSense) = sense-passes (λ d. not (declares_column d)) (λ _. refl) more
@@ -84,7 +84,7 @@ row-no-columns context earlier name AtMost = refl
 row-no-columns context earlier name AtLeast = refl
 row-no-columns context earlier name Equal = refl
 
-no-columns-data : (context : Context) (earlier : Draft) (fields : Fields) (o : Option Section) → is_section Columns o ≡ false → no_columns (data_declared context earlier fields o) ≡ true
+pub no-columns-data : (context : Context) (earlier : Draft) (fields : Fields) (o : Option Section) → is_section Columns o ≡ false → no_columns (data_declared context earlier fields o) ≡ true
 no-columns-data context earlier fields None h = refl
 no-columns-data context earlier fields (Some Name) h = refl
 no-columns-data context earlier fields (Some ObjSense) h = sense-passes (λ d. not (declares_column d)) (λ _. refl) fields

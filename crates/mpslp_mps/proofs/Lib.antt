@@ -49,5 +49,8 @@ pub mod ColumnsOfWords
 pub mod DataOfWords
 pub mod KeywordsOfWords
 pub mod TextOfWords
+pub mod NamesOfWords
 pub mod FaultedLines
+pub mod KindsOfLines
 pub mod FaultsOfWords
+pub mod FaultsOfNames

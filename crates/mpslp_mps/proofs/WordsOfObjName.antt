@@ -333,7 +333,7 @@ named-kept before earlier item good ordered early n = record {
 
 -- ---- the name, in the words of the section
 
-told-words : (current : Option Section) (items : List Item)
+pub told-words : (current : Option Section) (items : List Item)
     → filter_map word_shape (said_after (word_fields ObjName) current items) ≡ said_after (λ (c : Option Section) (item : Item). cons_option (objname_word c item) []) current items
 told-words current [] = refl
 told-words current (item ∷ items) =

@@ -1,5 +1,5 @@
 -- Faults of MPS text that look beyond their line, in the words of the format: what such a line is beside the lines before it. Nothing here goes from line to line.
-use Rattle.std.specs.Prelude.{◌≡◌, ℕ, ◌+◌, ◌-◌, ◌^◌, min, nat_lt, Bool, true, false, ◌&&◌, ◌||◌, not, List, [], ◌∷◌, ◌++◌, length, map, filter_map, Option, Some, None, codes}
+use Rattle.std.specs.Prelude.{◌≡◌, ℕ, ◌+◌, ◌-◌, ◌^◌, min, nat_lt, Bool, true, false, ◌&&◌, ◌||◌, not, List, [], ◌∷◌, ◌++◌, length, map, filter_map, Option, Some, None, if◌then◌else◌, codes}
 use Rattle.std.specs.List.{list_any, flat_map}
 use Rattle.std.specs.Option.{option_map, option_map_or}
 use Rattle.mpslp_types.specs.Name.{same_bytes}
@@ -112,8 +112,12 @@ repeats_row before skipped = false
 
 -- ---- UnknownRow: a line of COLUMNS, RHS or RANGES with a row that no line of ROWS names
 
+-- a line of a column, and no marker line
+abbrev pub column_line : Fields → Option ValuesLine
+column_line fields = if is_marker_line fields then None else column_shape fields
+
 abbrev pub pairs_in : Option Section → Fields → List Pair
-pairs_in (Some Columns) fields = option_map_or (λ line. line.pairs) (column_shape fields) []
+pairs_in (Some Columns) fields = option_map_or (λ line. line.pairs) (column_line fields) []
 pairs_in (Some Rhs) fields = option_map_or (λ line. line.pairs) (vector_shape fields) []
 pairs_in (Some Ranges) fields = option_map_or (λ line. line.pairs) (vector_shape fields) []
 pairs_in _ fields = []
@@ -145,15 +149,13 @@ has_row_twice (pair ∷ more) = list_any (λ other. same_bytes other.row pair.ro
 
 -- the line is of the column, and has the row
 abbrev pub has_entry_of : (column row : List ℕ) → Fields → Bool
-has_entry_of column row fields =
-    not (is_marker_line fields)
-    && option_map_or (λ line. same_bytes line.name column && list_any (λ pair. same_bytes pair.row row) line.pairs) (column_shape fields) false
+has_entry_of column row fields = option_map_or (λ line. same_bytes column line.name && list_any (λ pair. same_bytes row pair.row) line.pairs) (column_line fields) false
 
 abbrev pub repeats_entry_of : List Item → ValuesLine → Bool
 repeats_entry_of before line = has_row_twice line.pairs || list_any (λ pair. list_any (has_entry_of line.name pair.row) (data_lines Columns before)) line.pairs
 
 abbrev pub repeats_entry : List Item → Item → Bool
-repeats_entry before (data_line fields) = is_section Columns (current_section before) && option_map_or (repeats_entry_of before) (column_shape fields) false
+repeats_entry before (data_line fields) = is_section Columns (current_section before) && option_map_or (repeats_entry_of before) (column_line fields) false
 repeats_entry before _ = false
 
 -- ---- the laws

@@ -1,4 +1,5 @@
 use Rattle.mpslp_mps.proofs.FaultsOfWords.{section-repeated, section-order, bad-marker, column-split, second-set}
+use Rattle.mpslp_mps.proofs.FaultsOfNames.{unknown-rows, unknown-columns}
 use Rattle.mpslp_mps.proofs.laws.faults_are_in_words.Goals as goal
 
 pub returns : goal.returns
@@ -7,5 +8,7 @@ returns c = record {
   section_order = section-order;
   bad_marker = bad-marker;
   second_set = second-set;
+  unknown_row = unknown-rows;
+  unknown_column = unknown-columns;
   column_split = column-split;
 }

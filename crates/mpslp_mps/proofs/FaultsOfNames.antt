@@ -1,0 +1,450 @@
+-- Rows, columns and coefficients that a line names and no line before it has, or names again, are so in the words of the format.
+use Rattle.std.proofs.Common.{◌≡◌, refl, sym, ap, ◌∙◌, subst, List, [], ◌∷◌, ◌++◌, ℕ, Bool, true, false, cond, map}
+use Rattle.std.specs.Prelude.{Option, Some, None, is_none, is_some, not, filter_map, nat_lt, ◌||◌, ◌&&◌, codes}
+use Rattle.std.specs.List.{list_any, list_all, last_or, flat_map}
+use Rattle.std.specs.Option.{option_map, option_map_or}
+use Rattle.std.specs.Cmp.{first_so, second_so}
+use Rattle.std.proofs.lemmas.List.Folds.{list_all-append}
+use Rattle.mpslp_types.specs.Name.{same_bytes, is_one_of}
+use Rattle.mpslp_types.specs.FaultOrder.{kind_rank}
+use Rattle.mpslp_types.specs.declared.faults.BuildFault.{BuildFault}
+use Rattle.mpslp_types.specs.declared.faults.FaultKind.{FaultKind}
+use Rattle.mpslp_types.specs.declared.faults.FaultKind.TheVariants as kinds
+use Rattle.mpslp_types.specs.declared.kinds.Limit.{Limit}
+use Rattle.mpslp_types.specs.declared.kinds.RowType.{RowType}
+use Rattle.mpslp_types.specs.declared.kinds.RowType.TheVariants.{Free, AtMost, AtLeast, Equal}
+use Rattle.mpslp_types.specs.declared.kinds.Sense.{Sense}
+use Rattle.mpslp_types.proofs.BoolLemmas.{both_so, or_left, or_right, nor, not_so, so_not}
+use Rattle.mpslp_core.specs.Lists.{head_of, when, is_nonempty, those_of}
+use Rattle.mpslp_core.specs.Model.{CoefficientKey}
+use Rattle.mpslp_builder.specs.Declaration.{by_type, Declaration, declare_sense, declare_objective, declare_constant, declare_row, declare_rhs, declare_range, declare_column, declare_coefficient, declare_lower, declare_upper, declare_marked, declare_integer, declare_binary, declare_semi, Declarations, Draft, adding, adding_all, empty_draft, has_row, has_column, has_entry, is_free_row, rhs_declared}
+use Rattle.mpslp_builder.specs.Refusal.{refusal_tests}
+use Rattle.mpslp_builder.proofs.LaterDrafts.{itself_named}
+use Rattle.mpslp_builder.proofs.SlotLemmas.{has-put, has-put_key}
+use Rattle.mpslp_reading.specs.Declaring.{kind_of_refusal}
+use Rattle.mpslp_reading.specs.Field.{is_kind, value_of}
+use Rattle.mpslp_reading.specs.Tests.{Tests}
+use Rattle.mpslp_mps.specs.Line.{Fields, Item, skipped, header, data_line}
+use Rattle.mpslp_mps.specs.Section.{has, section_named, is_section}
+use Rattle.mpslp_mps.specs.DataLine.{RowLine, Pair, ValuesLine, word_shape, sense_of, row_shape, row_type, column_shape, is_marker_line, vector_shape}
+use Rattle.mpslp_mps.specs.BoundLine.{BoundLine, bound_type, bound_shape}
+use Rattle.mpslp_mps.specs.Context.{Context, context_of, current_section, has_section, sections_begun, data_lines, objective_name, line_column}
+use Rattle.mpslp_mps.specs.HeaderFault.{lacks_objective, section_tests, header_tests}
+use Rattle.mpslp_mps.specs.DataFault.{data_tests}
+use Rattle.mpslp_mps.specs.LineFault.{item_tests}
+use Rattle.mpslp_mps.specs.LineMeaning.{declared_of, sense_declared, is_new_objective, row_of_type, row_declared, default_objective, coefficient_declared, column_declared, columns_line_declared, right_sides_declared, ranges_declared, bound_declared, bound_value, bound_line_declared, data_declared, header_declared, declared}
+use Rattle.mpslp_mps.specs.TextInWords.{place, in_order, words_in, has_free_row, has_named_objective, same_column}
+use Rattle.mpslp_mps.specs.FaultsInWords.{IsInWords, names_row, row_name, repeats_row, column_line, pairs_in, names_unknown_row, bound_column, names_column, names_unknown_column, has_row_twice, has_entry_of, repeats_entry_of, repeats_entry}
+use Rattle.mpslp_mps.specs.declared.bound_types.BoundType.{BoundType}
+use Rattle.mpslp_mps.specs.declared.bound_types.BoundType.TheVariants as bounds
+use Rattle.mpslp_mps.specs.declared.sections.Section.{Section}
+use Rattle.mpslp_mps.specs.declared.sections.Section.TheVariants.{Name, ObjSense, ObjName, Rows, Columns, Rhs, Ranges, Bounds, EndData}
+use Rattle.mpslp_mps.proofs.OrderLemmas.{IsGood, never, header-fresh, each-declared, each-flat, sense-passes, sides-passes, ranges-passes, Passes, bounds-passes}
+use Rattle.mpslp_mps.proofs.WordsOfColumns.{AreThere}
+use Rattle.mpslp_mps.proofs.WordsOfFields.{section-is}
+use Rattle.mpslp_mps.proofs.WordsOfObjName.{told-words}
+use Rattle.mpslp_mps.proofs.WordsOfOneWord.{missing, without_word, with_word, IsUnderway, sense-word}
+use Rattle.mpslp_mps.proofs.NamesOfWords.{Told}
+use Rattle.mpslp_mps.proofs.FaultedLines.{holds_of, refused_as, refuses, is_below, IsFirst, in-words}
+use Rattle.mpslp_mps.proofs.KindsOfLines.{is_among, none-holds, left_alone, right_alone, header_kinds, kinds_in, same-rank, unknown_kinds, unknown-among, section-among, data-among, header-among, no-data, no-header, by-form}
+
+-- ---- declarations that are not refused by a kind
+
+-- a refusal of this kind is among those of such declarations
+abbrev may_refuse : FaultKind → Declaration → Bool
+may_refuse kind d = list_any (λ test. is_kind kind (kind_of_refusal test.1)) (refusal_tests empty_draft d)
+
+none-so : (kind : FaultKind) (tests : List (Bool × BuildFault)) → list_any (λ test. is_kind kind (kind_of_refusal test.1)) tests ≡ false → refused_as kind tests ≡ false
+none-so kind [] h = refl
+none-so kind ((held, fault) ∷ more) h = by (is_kind kind (kind_of_refusal fault)) h (λ e. none-so kind more e)
+  where
+    by : (b : Bool) → (b || list_any (λ test. is_kind kind (kind_of_refusal test.1)) more) ≡ false → (list_any (λ test. is_kind kind (kind_of_refusal test.1)) more ≡ false → refused_as kind more ≡ false)
+        → cond b (held || refused_as kind more) (refused_as kind more) ≡ false
+    by true e rest = cc
+    by false e rest = rest e
+
+-- the kinds of a declaration's tests are those after any draft
+not-refused : (kind : FaultKind) (all : Draft) (d : Declaration) → not (may_refuse kind d) ≡ true → refused_as kind (refusal_tests all d) ≡ false
+not-refused kind all (declare_sense s) h = none-so kind (refusal_tests all (declare_sense s)) (not_so (may_refuse kind (declare_sense s)) h)
+not-refused kind all (declare_objective n) h = none-so kind (refusal_tests all (declare_objective n)) (not_so (may_refuse kind (declare_objective n)) h)
+not-refused kind all (declare_constant v) h = none-so kind (refusal_tests all (declare_constant v)) (not_so (may_refuse kind (declare_constant v)) h)
+not-refused kind all (declare_row n f) h = none-so kind (refusal_tests all (declare_row n f)) (not_so (may_refuse kind (declare_row n f)) h)
+not-refused kind all (declare_rhs r v) h = none-so kind (refusal_tests all (declare_rhs r v)) (not_so (may_refuse kind (declare_rhs r v)) h)
+not-refused kind all (declare_range r v) h = none-so kind (refusal_tests all (declare_range r v)) (not_so (may_refuse kind (declare_range r v)) h)
+not-refused kind all (declare_column n) h = none-so kind (refusal_tests all (declare_column n)) (not_so (may_refuse kind (declare_column n)) h)
+not-refused kind all (declare_coefficient k v) h = none-so kind (refusal_tests all (declare_coefficient k v)) (not_so (may_refuse kind (declare_coefficient k v)) h)
+not-refused kind all (declare_lower c l) h = none-so kind (refusal_tests all (declare_lower c l)) (not_so (may_refuse kind (declare_lower c l)) h)
+not-refused kind all (declare_upper c l) h = none-so kind (refusal_tests all (declare_upper c l)) (not_so (may_refuse kind (declare_upper c l)) h)
+not-refused kind all (declare_marked c) h = none-so kind (refusal_tests all (declare_marked c)) (not_so (may_refuse kind (declare_marked c)) h)
+not-refused kind all (declare_integer c) h = none-so kind (refusal_tests all (declare_integer c)) (not_so (may_refuse kind (declare_integer c)) h)
+not-refused kind all (declare_binary c) h = none-so kind (refusal_tests all (declare_binary c)) (not_so (may_refuse kind (declare_binary c)) h)
+not-refused kind all (declare_semi c) h = none-so kind (refusal_tests all (declare_semi c)) (not_so (may_refuse kind (declare_semi c)) h)
+
+none-refuse : (kind : FaultKind) (ds : Declarations) (all : Draft) → list_all (λ d. not (may_refuse kind d)) ds ≡ true → refuses kind all ds ≡ false
+none-refuse kind [] all h = refl
+none-refuse kind (d ∷ ds) all h =
+    ap (λ (b : Bool). b || refuses kind (adding all d) ds) (not-refused kind all d (first_so (not (may_refuse kind d)) (list_all (λ d. not (may_refuse kind d)) ds) h))
+    ∙ none-refuse kind ds (adding all d) (second_so (not (may_refuse kind d)) (list_all (λ d. not (may_refuse kind d)) ds) h)
+
+no-one : {X : Type 0} (kind : FaultKind) (ds : Declarations) (all : Draft) → list_all (λ d. not (may_refuse kind d)) ds ≡ true → refuses kind all ds ≡ true → X
+no-one kind ds all h k = absurd (never (refuses kind all ds) k (none-refuse kind ds all h))
+
+-- of a kind that comes after those of all forms
+form-good : (kind : FaultKind) (before : List Item) (earlier : Draft) (item : Item) → is_below kind kinds.LineTooLong ≡ true → is_below kind kinds.BadByte ≡ true
+    → list_all (is_below kind) header_kinds ≡ true → ((o : Option Section) → list_all (is_below kind) (kinds_in o) ≡ true) → IsFirst kind before earlier item → IsGood before earlier item
+form-good kind before earlier item long byte heads lines first = first.late long byte (by item)
+  where
+    member : (ks : List FaultKind) (k : FaultKind) → list_all (is_below kind) ks ≡ true → is_among ks k ≡ true → is_below kind k ≡ true
+    member [] k h e = cc
+    member (x ∷ ks) k h e = of (is_kind k x) refl e (λ f. member ks k (second_so (is_below kind x) (list_all (is_below kind) ks) h) f)
+      where
+        of : (b : Bool) → is_kind k x ≡ b → (b || is_among ks k) ≡ true → (is_among ks k ≡ true → is_below kind k ≡ true) → is_below kind k ≡ true
+        of true f g rest = ap (λ (n : ℕ). nat_lt n (kind_rank kind)) (same-rank k x f) ∙ first_so (is_below kind x) (list_all (is_below kind) ks) h
+        of false f g rest = rest g
+
+    each : (ks : List FaultKind) (tests : Tests) → list_all (is_below kind) ks ≡ true → list_all (λ test. is_among ks test.1) tests ≡ true → list_all (λ test. is_below kind test.1) tests ≡ true
+    each ks [] h e = refl
+    each ks ((held, k) ∷ more) h e =
+        both_so (is_below kind k) (list_all (λ test. is_below kind test.1) more) (member ks k h (first_so (is_among ks k) (list_all (λ test. is_among ks test.1) more) e))
+        (each ks more h (second_so (is_among ks k) (list_all (λ test. is_among ks test.1) more) e))
+
+    by : (x : Item) → list_all (λ test. is_below kind test.1) (item_tests (context_of before) earlier x) ≡ true
+    by skipped = refl
+    by (header keyword more) = each header_kinds (header_tests (context_of before) earlier keyword more (section_named keyword)) heads (header-among (context_of before) earlier keyword more (section_named keyword))
+    by (data_line fields) = each (kinds_in (current_section before)) (data_tests (context_of before) earlier fields (current_section before)) (lines (current_section before)) (data-among (context_of before) earlier fields (current_section before))
+
+-- ---- lists
+
+some : {X : Type 0} (p q : X → Bool) (xs : List X) → ((x : X) → p x ≡ true → q x ≡ true) → list_any p xs ≡ true → list_any q xs ≡ true
+some p q [] h k = k
+some p q (x ∷ xs) h k = by (λ e. some p q xs h e) (p x) refl k
+  where
+    by : (list_any p xs ≡ true → list_any q xs ≡ true) → (b : Bool) → p x ≡ b → (b || list_any p xs) ≡ true → (q x || list_any q xs) ≡ true
+    by rest true e l = or_left (q x) (list_any q xs) (h x e)
+    by rest false e l = or_right (q x) (list_any q xs) (rest l)
+
+-- what is not there is not named
+unnamed : (a b : Bool) → (a ≡ true → b ≡ true) → not b ≡ true → not a ≡ true
+unnamed true b h k = absurd (never b (h refl) (not_so b k))
+unnamed false b h k = refl
+
+-- ---- UnknownColumn
+
+bounds-unknown : (type : BoundType) (column : List ℕ) (value : Limit) (all : Draft) → refuses kinds.UnknownColumn all (bound_declared type column value) ≡ true → not (has_column all column) ≡ true
+bounds-unknown type column value all h = by type h
+  where
+    one : (b : Bool) → ((b || false) || false) ≡ true → b ≡ true
+    one true e = refl
+    one false e = e
+
+    two : (b : Bool) → ((b || false) || ((b || false) || false)) ≡ true → b ≡ true
+    two true e = refl
+    two false e = e
+
+    three : (b : Bool) → ((b || false) || ((b || false) || ((b || false) || false))) ≡ true → b ≡ true
+    three true e = refl
+    three false e = e
+
+    by : (t : BoundType) → refuses kinds.UnknownColumn all (bound_declared t column value) ≡ true → not (has_column all column) ≡ true
+    by bounds.Lower e = one (not (has_column all column)) e
+    by bounds.Upper e = one (not (has_column all column)) e
+    by bounds.Fixed e = two (not (has_column all column)) e
+    by bounds.Free e = two (not (has_column all column)) e
+    by bounds.NoLower e = one (not (has_column all column)) e
+    by bounds.NoUpper e = one (not (has_column all column)) e
+    by bounds.Binary e = three (not (has_column all column)) e
+    by bounds.IntegerLower e = two (not (has_column all column)) e
+    by bounds.IntegerUpper e = two (not (has_column all column)) e
+    by bounds.SemiUpper e = two (not (has_column all column)) e
+
+-- a column's own line declares it first
+cells-known : (column : List ℕ) (pairs : List Pair) (all : Draft) → has_column all column ≡ true → refuses kinds.UnknownColumn all (flat_map (coefficient_declared column) pairs) ≡ false
+cells-known column [] all h = refl
+cells-known column (pair ∷ pairs) all h =
+    ap (λ (b : Bool). (not b || false) || refuses kinds.UnknownColumn (adding all (declare_coefficient (record { row = pair.row; column = column }) (value_of pair.literal))) (flat_map (coefficient_declared column) pairs)) h
+    ∙ cells-known column pairs (adding all (declare_coefficient (record { row = pair.row; column = column }) (value_of pair.literal))) h
+
+column-known : (context : Context) (earlier : Draft) (fields : Fields) → refuses kinds.UnknownColumn earlier (columns_line_declared context fields) ≡ false
+column-known context earlier fields = by (is_marker_line fields)
+  where
+    line : (l : ValuesLine) (b : Bool) → refuses kinds.UnknownColumn (adding earlier (declare_column l.name)) (cond b (declare_marked l.name ∷ []) [] ++ flat_map (coefficient_declared l.name) l.pairs) ≡ false
+    line l true =
+        ap (λ (b : Bool). (not b || false) || refuses kinds.UnknownColumn (adding (adding earlier (declare_column l.name)) (declare_marked l.name)) (flat_map (coefficient_declared l.name) l.pairs)) (there l)
+        ∙ cells-known l.name l.pairs (adding (adding earlier (declare_column l.name)) (declare_marked l.name)) (there l)
+      where
+        there : (v : ValuesLine) → has_column (adding earlier (declare_column v.name)) v.name ≡ true
+        there v = has-put v.name v.name tt earlier.columns ∙ or_left (same_bytes v.name v.name) (has_column earlier v.name) (itself_named v.name)
+    line l false = cells-known l.name l.pairs (adding earlier (declare_column l.name)) (has-put l.name l.name tt earlier.columns ∙ or_left (same_bytes l.name l.name) (has_column earlier l.name) (itself_named l.name))
+
+    of : (o : Option ValuesLine) → refuses kinds.UnknownColumn earlier (declared_of (column_declared context) o) ≡ false
+    of None = refl
+    of (Some l) = line l context.in_integer_part
+
+    by : (b : Bool) → refuses kinds.UnknownColumn earlier (cond b [] (declared_of (column_declared context) (column_shape fields))) ≡ false
+    by true = refl
+    by false = of (column_shape fields)
+
+unknown-column : (before : List Item) (earlier : Draft) (item : Item) → Told before earlier → IsFirst kinds.UnknownColumn before earlier item → names_unknown_column before item ≡ true
+unknown-column before earlier skipped told h = let no = h.told in cc
+unknown-column before earlier (header keyword more) told h = by (section_named keyword) (right_alone (holds_of kinds.UnknownColumn tests) (refuses kinds.UnknownColumn earlier (header_declared (context_of before) earlier more (section_named keyword))) (none-holds header_kinds kinds.UnknownColumn tests (header-among (context_of before) earlier keyword more (section_named keyword)) refl) h.told)
+  where
+    tests : Tests
+    tests = header_tests (context_of before) earlier keyword more (section_named keyword)
+
+    by : (o : Option Section) → refuses kinds.UnknownColumn earlier (header_declared (context_of before) earlier more o) ≡ true → false ≡ true
+    by o k = no-one kinds.UnknownColumn (header_declared (context_of before) earlier more o) earlier (none o) k
+      where
+        none : (s : Option Section) → list_all (λ d. not (may_refuse kinds.UnknownColumn d)) (header_declared (context_of before) earlier more s) ≡ true
+        none None = refl
+        none (Some Name) = refl
+        none (Some ObjSense) = sense-passes (λ d. not (may_refuse kinds.UnknownColumn d)) (λ _. refl) more
+        none (Some ObjName) = refl
+        none (Some Rows) = refl
+        none (Some Columns) =
+            elim (is_none earlier.objective && is_none (context_of before).objective_name) as (λ b. list_all (λ d. not (may_refuse kinds.UnknownColumn d)) (cond b (declare_objective (codes "obj") ∷ []) []) ≡ true) [ true ↦ refl | false ↦ refl ]
+        none (Some Rhs) = refl
+        none (Some Ranges) = refl
+        none (Some Bounds) = refl
+        none (Some EndData) = refl
+unknown-column before earlier (data_line fields) told h =
+    by (current_section before)
+    (right_alone (holds_of kinds.UnknownColumn (data_tests (context_of before) earlier fields (current_section before))) (refuses kinds.UnknownColumn earlier (data_declared (context_of before) earlier fields (current_section before)))
+    (none-holds (kinds_in (current_section before)) kinds.UnknownColumn (data_tests (context_of before) earlier fields (current_section before)) (data-among (context_of before) earlier fields (current_section before)) (other (current_section before))) h.told)
+  where
+    other : (o : Option Section) → is_among (kinds_in o) kinds.UnknownColumn ≡ false
+    other None = refl
+    other (Some Name) = refl
+    other (Some ObjSense) = refl
+    other (Some ObjName) = refl
+    other (Some Rows) = refl
+    other (Some Columns) = refl
+    other (Some Rhs) = refl
+    other (Some Ranges) = refl
+    other (Some Bounds) = refl
+    other (Some EndData) = refl
+
+    rows : (name : List ℕ) (type : RowType) → list_all (λ d. not (may_refuse kinds.UnknownColumn d)) (row_of_type (context_of before) earlier name type) ≡ true
+    rows name Free =
+        elim (is_new_objective (context_of before) earlier name) as (λ b. list_all (λ d. not (may_refuse kinds.UnknownColumn d)) (cond b (declare_objective name ∷ []) (declare_row name (by_type Free) ∷ [])) ≡ true) [ true ↦ refl | false ↦ refl ]
+    rows name AtMost = refl
+    rows name AtLeast = refl
+    rows name Equal = refl
+
+    bound : (fs : Fields) → refuses kinds.UnknownColumn earlier (bound_line_declared fs) ≡ true → option_map_or (λ name. not (names_column before name)) (bound_column fs) false ≡ true
+    bound [] k = cc
+    bound (letters ∷ more) k = typed (bound_type letters) k
+      where
+        shape : (type : BoundType) (o : Option BoundLine) → refuses kinds.UnknownColumn earlier (declared_of (λ (line : BoundLine). bound_declared type line.column (bound_value line)) o) ≡ true
+            → option_map_or (λ name. not (names_column before name)) (option_map (λ (line : BoundLine). line.column) o) false ≡ true
+        shape type None e = cc
+        shape type (Some line) e =
+            unnamed (names_column before line.column) (has_column earlier line.column) (told.known.words.there line.column) (bounds-unknown type line.column (bound_value line) earlier e)
+
+        typed : (o : Option BoundType) → refuses kinds.UnknownColumn earlier (declared_of (λ (type : BoundType). declared_of (λ (line : BoundLine). bound_declared type line.column (bound_value line)) (bound_shape type more)) o) ≡ true
+            → option_map_or (λ name. not (names_column before name)) (option_map_or (λ type. option_map (λ (line : BoundLine). line.column) (bound_shape type more)) o None) false ≡ true
+        typed None e = cc
+        typed (Some type) e = shape type (bound_shape type more) e
+
+    by : (o : Option Section) → refuses kinds.UnknownColumn earlier (data_declared (context_of before) earlier fields o) ≡ true
+        → (is_section Bounds o && option_map_or (λ name. not (names_column before name)) (bound_column fields) false) ≡ true
+    by None k = cc
+    by (Some Name) k = cc
+    by (Some ObjSense) k = no-one kinds.UnknownColumn (data_declared (context_of before) earlier fields (Some ObjSense)) earlier (sense-passes (λ d. not (may_refuse kinds.UnknownColumn d)) (λ _. refl) fields) k
+    by (Some ObjName) k = cc
+    by (Some Rows) k =
+        no-one kinds.UnknownColumn (data_declared (context_of before) earlier fields (Some Rows)) earlier
+        (each-declared (λ d. not (may_refuse kinds.UnknownColumn d)) (row_declared (context_of before) earlier) (row_shape fields)
+        (λ line. each-declared (λ d. not (may_refuse kinds.UnknownColumn d)) (row_of_type (context_of before) earlier line.name) (row_type line.letter) (λ type. rows line.name type))) k
+    by (Some Columns) k = absurd (never (refuses kinds.UnknownColumn earlier (columns_line_declared (context_of before) fields)) k (column-known (context_of before) earlier fields))
+    by (Some Rhs) k = no-one kinds.UnknownColumn (data_declared (context_of before) earlier fields (Some Rhs)) earlier (sides-passes (λ d. not (may_refuse kinds.UnknownColumn d)) (λ r v. refl) earlier fields) k
+    by (Some Ranges) k = no-one kinds.UnknownColumn (data_declared (context_of before) earlier fields (Some Ranges)) earlier (ranges-passes (λ d. not (may_refuse kinds.UnknownColumn d)) (λ r v. refl) fields) k
+    by (Some Bounds) k = bound fields k
+    by (Some EndData) k = cc
+
+pub unknown-columns : IsInWords kinds.UnknownColumn names_unknown_column
+unknown-columns = in-words kinds.UnknownColumn names_unknown_column refl refl refl unknown-column
+
+-- ---- UnknownRow
+
+-- rows that are not there are not named
+rows-unnamed : (before : List Item) (earlier : Draft) (pairs : List Pair) → Told before earlier → list_any (λ pair. not (has_row earlier pair.row)) pairs ≡ true → list_any (λ pair. not (names_row before pair.row)) pairs ≡ true
+rows-unnamed before earlier pairs told = some (λ pair. not (has_row earlier pair.row)) (λ pair. not (names_row before pair.row)) pairs (λ pair e. unnamed (names_row before pair.row) (has_row earlier pair.row) (told.rows_there pair.row) e)
+
+either-pair : (a c d : Bool) → (c ≡ true → d ≡ true) → ((a || false) || c) ≡ true → (a || d) ≡ true
+either-pair true c d f h = refl
+either-pair false c d f h = f h
+
+cells-unknown : (column : List ℕ) (pairs : List Pair) (all : Draft) → refuses kinds.UnknownRow all (flat_map (coefficient_declared column) pairs) ≡ true → list_any (λ pair. not (has_row all pair.row)) pairs ≡ true
+cells-unknown column [] all h = cc
+cells-unknown column (pair ∷ pairs) all h =
+    let next = adding all (declare_coefficient (record { row = pair.row; column = column }) (value_of pair.literal)) in
+    either-pair (not (has_row all pair.row)) (refuses kinds.UnknownRow next (flat_map (coefficient_declared column) pairs)) (list_any (λ p. not (has_row all p.row)) pairs) (cells-unknown column pairs next) h
+
+sides-unknown : (earlier : Draft) (pairs : List Pair) (all : Draft) → refuses kinds.UnknownRow all (flat_map (λ (pair : Pair). rhs_declared earlier pair.row (value_of pair.literal)) pairs) ≡ true → list_any (λ pair. not (has_row all pair.row)) pairs ≡ true
+sides-unknown earlier [] all h = cc
+sides-unknown earlier (pair ∷ pairs) all h = by (is_free_row earlier pair.row) (λ next e. sides-unknown earlier pairs next e) h
+  where
+    by : (b : Bool) → ((next : Draft) → refuses kinds.UnknownRow next (flat_map (λ (pair : Pair). rhs_declared earlier pair.row (value_of pair.literal)) pairs) ≡ true → list_any (λ pair. not (has_row next pair.row)) pairs ≡ true)
+        → refuses kinds.UnknownRow all (cond b [] (declare_rhs pair.row (value_of pair.literal) ∷ []) ++ flat_map (λ (pair : Pair). rhs_declared earlier pair.row (value_of pair.literal)) pairs) ≡ true
+        → (not (has_row all pair.row) || list_any (λ p. not (has_row all p.row)) pairs) ≡ true
+    by true rest k = or_right (not (has_row all pair.row)) (list_any (λ p. not (has_row all p.row)) pairs) (rest all k)
+    by false rest k =
+        let next = adding all (declare_rhs pair.row (value_of pair.literal)) in
+        either-pair (not (has_row all pair.row)) (refuses kinds.UnknownRow next (flat_map (λ (pair : Pair). rhs_declared earlier pair.row (value_of pair.literal)) pairs)) (list_any (λ p. not (has_row all p.row)) pairs) (rest next) k
+
+ranges-unknown : (pairs : List Pair) (all : Draft) → refuses kinds.UnknownRow all (map (λ (pair : Pair). declare_range pair.row (value_of pair.literal)) pairs) ≡ true → list_any (λ pair. not (has_row all pair.row)) pairs ≡ true
+ranges-unknown [] all h = cc
+ranges-unknown (pair ∷ pairs) all h =
+    let next = adding all (declare_range pair.row (value_of pair.literal)) in
+    either-pair (not (has_row all pair.row)) (refuses kinds.UnknownRow next (map (λ (pair : Pair). declare_range pair.row (value_of pair.literal)) pairs)) (list_any (λ p. not (has_row all p.row)) pairs) (ranges-unknown pairs next) h
+
+-- the word of OBJNAME is the name of no row of type N
+word-unnamed : (test : List ℕ → Bool) (words : List Fields) (told : List ℕ) → head_of (filter_map word_shape words) ≡ Some told → test told ≡ false → list_all test (flat_map (λ fields. fields) words) ≡ false
+word-unnamed test [] told h k = cc
+word-unnamed test ([] ∷ more) told h k = word-unnamed test more told h k
+word-unnamed test ((word ∷ []) ∷ more) told h k = let same : word ≡ told = cc in ap (λ (b : Bool). b && list_all test (flat_map (λ fields. fields) more)) (ap test same ∙ k)
+word-unnamed test ((word ∷ next ∷ rest) ∷ more) told h k =
+    list_all-append test (word ∷ next ∷ rest) (flat_map (λ fields. fields) more)
+    ∙ (ap (λ (b : Bool). list_all test (word ∷ next ∷ rest) && b) (word-unnamed test more told h k) ∙ nowhere (list_all test (word ∷ next ∷ rest)))
+  where
+    nowhere : (b : Bool) → (b && false) ≡ false
+    nowhere true = refl
+    nowhere false = refl
+
+objective-missing : (before : List Item) (earlier : Draft) → Told before earlier → lacks_objective (context_of before) earlier ≡ true → not (has_named_objective before) ≡ true
+objective-missing before earlier told h =
+    so_not (has_named_objective before)
+    (named (objective_name before) refl (second_so (is_none earlier.objective) (is_some (objective_name before)) h))
+  where
+    none : is_none earlier.objective ≡ true
+    none = first_so (is_none earlier.objective) (is_some (objective_name before)) h
+
+    apart : (o : Option (List ℕ)) → is_none o ≡ true → is_some o ≡ true → ⊥
+    apart None e k = cc
+    apart (Some x) e k = cc
+
+    lacks : (word : List ℕ) (b : Bool) → objective_name before ≡ Some word → has_free_row before word ≡ b → b ≡ false
+    lacks word true e k = absurd (apart earlier.objective none (told.known.declares word e k))
+    lacks word false e k = refl
+
+    named : (o : Option (List ℕ)) → objective_name before ≡ o → is_some o ≡ true → has_named_objective before ≡ false
+    named None e k = cc
+    named (Some word) e k =
+        word-unnamed (has_free_row before) (words_in ObjName before) word (ap head_of (told-words None before) ∙ e)
+        (lacks word (has_free_row before word) e refl)
+
+unknown-row : (before : List Item) (earlier : Draft) (item : Item) → Told before earlier → IsFirst kinds.UnknownRow before earlier item → names_unknown_row before item ≡ true
+unknown-row before earlier skipped told h = let no = h.told in cc
+unknown-row before earlier (header keyword more) told h = by (section_named keyword) h.told
+  where
+    unrefused : (s : Option Section) → list_all (λ d. not (may_refuse kinds.UnknownRow d)) (header_declared (context_of before) earlier more s) ≡ true
+    unrefused None = refl
+    unrefused (Some Name) = refl
+    unrefused (Some ObjSense) = sense-passes (λ d. not (may_refuse kinds.UnknownRow d)) (λ _. refl) more
+    unrefused (Some ObjName) = refl
+    unrefused (Some Rows) = refl
+    unrefused (Some Columns) =
+        elim (is_none earlier.objective && is_none (context_of before).objective_name) as (λ b. list_all (λ d. not (may_refuse kinds.UnknownRow d)) (cond b (declare_objective (codes "obj") ∷ []) []) ≡ true) [ true ↦ refl | false ↦ refl ]
+    unrefused (Some Rhs) = refl
+    unrefused (Some Ranges) = refl
+    unrefused (Some Bounds) = refl
+    unrefused (Some EndData) = refl
+
+    form : (o : Option Section) → (holds_of kinds.UnknownRow (header_tests (context_of before) earlier keyword more o) || refuses kinds.UnknownRow earlier (header_declared (context_of before) earlier more o)) ≡ true
+        → holds_of kinds.UnknownRow (header_tests (context_of before) earlier keyword more o) ≡ true
+    form o k =
+        left_alone (holds_of kinds.UnknownRow (header_tests (context_of before) earlier keyword more o)) (refuses kinds.UnknownRow earlier (header_declared (context_of before) earlier more o))
+        (none-refuse kinds.UnknownRow (header_declared (context_of before) earlier more o) earlier (unrefused o)) k
+
+    sense : (fs : Fields) → holds_of kinds.UnknownRow (section_tests (context_of before) earlier ObjSense fs) ≡ true → false ≡ true
+    sense [] k = k
+    sense (word ∷ rest) k = k
+
+    of : (s : Section) → holds_of kinds.UnknownRow (section_tests (context_of before) earlier s more) ≡ true → (is_section Columns (Some s) && not (has_named_objective before)) ≡ true
+    of Name k = cc
+    of ObjSense k = sense more k
+    of ObjName k = cc
+    of Rows k = cc
+    of Columns k = objective-missing before earlier told (left_alone (lacks_objective (context_of before) earlier) false refl k)
+    of Rhs k = cc
+    of Ranges k = cc
+    of Bounds k = cc
+    of EndData k = cc
+
+    by : (o : Option Section) → (holds_of kinds.UnknownRow (header_tests (context_of before) earlier keyword more o) || refuses kinds.UnknownRow earlier (header_declared (context_of before) earlier more o)) ≡ true
+        → (is_section Columns o && not (has_named_objective before)) ≡ true
+    by None k =
+        absurd (never (holds_of kinds.UnknownRow (header_tests (context_of before) earlier keyword more None)) (form None k)
+        (none-holds unknown_kinds kinds.UnknownRow (header_tests (context_of before) earlier keyword more None)
+        (unknown-among (is_one_of (codes "QSECTION" ∷ codes "QMATRIX" ∷ codes "QUADOBJ" ∷ codes "QCMATRIX" ∷ codes "CSECTION" ∷ []) keyword)
+        (is_one_of (codes "SOS" ∷ codes "SOS1" ∷ codes "SOS2" ∷ []) keyword) (is_one_of (codes "INDICATORS" ∷ []) keyword)) refl))
+    by (Some s) k = of s (form (Some s) k)
+unknown-row before earlier (data_line fields) told h =
+    by (current_section before)
+    (right_alone (holds_of kinds.UnknownRow (data_tests (context_of before) earlier fields (current_section before))) (refuses kinds.UnknownRow earlier (data_declared (context_of before) earlier fields (current_section before)))
+    (none-holds (kinds_in (current_section before)) kinds.UnknownRow (data_tests (context_of before) earlier fields (current_section before)) (data-among (context_of before) earlier fields (current_section before)) (other (current_section before))) h.told)
+  where
+    other : (o : Option Section) → is_among (kinds_in o) kinds.UnknownRow ≡ false
+    other None = refl
+    other (Some Name) = refl
+    other (Some ObjSense) = refl
+    other (Some ObjName) = refl
+    other (Some Rows) = refl
+    other (Some Columns) = refl
+    other (Some Rhs) = refl
+    other (Some Ranges) = refl
+    other (Some Bounds) = refl
+    other (Some EndData) = refl
+
+    rows : (name : List ℕ) (type : RowType) → list_all (λ d. not (may_refuse kinds.UnknownRow d)) (row_of_type (context_of before) earlier name type) ≡ true
+    rows name Free =
+        elim (is_new_objective (context_of before) earlier name) as (λ b. list_all (λ d. not (may_refuse kinds.UnknownRow d)) (cond b (declare_objective name ∷ []) (declare_row name (by_type Free) ∷ [])) ≡ true) [ true ↦ refl | false ↦ refl ]
+    rows name AtMost = refl
+    rows name AtLeast = refl
+    rows name Equal = refl
+
+    marks : (line : ValuesLine) (b : Bool) → refuses kinds.UnknownRow (adding earlier (declare_column line.name)) (cond b (declare_marked line.name ∷ []) [] ++ flat_map (coefficient_declared line.name) line.pairs) ≡ true
+        → list_any (λ pair. not (has_row earlier pair.row)) line.pairs ≡ true
+    marks line true k = cells-unknown line.name line.pairs (adding (adding earlier (declare_column line.name)) (declare_marked line.name)) k
+    marks line false k = cells-unknown line.name line.pairs (adding earlier (declare_column line.name)) k
+
+    column : (b : Bool) → refuses kinds.UnknownRow earlier (cond b [] (declared_of (column_declared (context_of before)) (column_shape fields))) ≡ true
+        → list_any (λ pair. not (names_row before pair.row)) (option_map_or (λ (line : ValuesLine). line.pairs) (cond b None (column_shape fields)) []) ≡ true
+    column true k = k
+    column false k = of (column_shape fields) k
+      where
+        of : (o : Option ValuesLine) → refuses kinds.UnknownRow earlier (declared_of (column_declared (context_of before)) o) ≡ true
+            → list_any (λ pair. not (names_row before pair.row)) (option_map_or (λ (line : ValuesLine). line.pairs) o []) ≡ true
+        of None e = e
+        of (Some line) e = rows-unnamed before earlier line.pairs told (marks line (context_of before).in_integer_part e)
+
+    sides : (o : Option ValuesLine) → refuses kinds.UnknownRow earlier (declared_of (right_sides_declared earlier) o) ≡ true
+        → list_any (λ pair. not (names_row before pair.row)) (option_map_or (λ (line : ValuesLine). line.pairs) o []) ≡ true
+    sides None e = e
+    sides (Some line) e = rows-unnamed before earlier line.pairs told (sides-unknown earlier line.pairs earlier e)
+
+    ranges : (o : Option ValuesLine) → refuses kinds.UnknownRow earlier (declared_of ranges_declared o) ≡ true
+        → list_any (λ pair. not (names_row before pair.row)) (option_map_or (λ (line : ValuesLine). line.pairs) o []) ≡ true
+    ranges None e = e
+    ranges (Some line) e = rows-unnamed before earlier line.pairs told (ranges-unknown line.pairs earlier e)
+
+    passes : Passes (λ d. not (may_refuse kinds.UnknownRow d))
+    passes = record { lower = λ _ _. refl; upper = λ _ _. refl; integer = λ _. refl; semi = λ _. refl }
+
+    by : (o : Option Section) → refuses kinds.UnknownRow earlier (data_declared (context_of before) earlier fields o) ≡ true → list_any (λ pair. not (names_row before pair.row)) (pairs_in o fields) ≡ true
+    by None k = k
+    by (Some Name) k = k
+    by (Some ObjSense) k = no-one kinds.UnknownRow (data_declared (context_of before) earlier fields (Some ObjSense)) earlier (sense-passes (λ d. not (may_refuse kinds.UnknownRow d)) (λ _. refl) fields) k
+    by (Some ObjName) k = k
+    by (Some Rows) k =
+        no-one kinds.UnknownRow (data_declared (context_of before) earlier fields (Some Rows)) earlier
+        (each-declared (λ d. not (may_refuse kinds.UnknownRow d)) (row_declared (context_of before) earlier) (row_shape fields)
+        (λ line. each-declared (λ d. not (may_refuse kinds.UnknownRow d)) (row_of_type (context_of before) earlier line.name) (row_type line.letter) (λ type. rows line.name type))) k
+    by (Some Columns) k = column (is_marker_line fields) k
+    by (Some Rhs) k = sides (vector_shape fields) k
+    by (Some Ranges) k = ranges (vector_shape fields) k
+    by (Some Bounds) k = no-one kinds.UnknownRow (data_declared (context_of before) earlier fields (Some Bounds)) earlier (bounds-passes (λ d. not (may_refuse kinds.UnknownRow d)) passes fields) k
+    by (Some EndData) k = k
+
+pub unknown-rows : IsInWords kinds.UnknownRow names_unknown_row
+unknown-rows = in-words kinds.UnknownRow names_unknown_row refl refl refl unknown-row

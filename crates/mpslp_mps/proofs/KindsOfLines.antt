@@ -1,0 +1,230 @@
+-- The kinds of faults that the tests of each line have, so that a test of a kind is found where it stands.
+use Rattle.std.proofs.Common.{◌≡◌, refl, sym, ap, ◌∙◌, subst, List, [], ◌∷◌, ◌++◌, ℕ, Bool, true, false, cond, map}
+use Rattle.std.specs.Prelude.{Option, Some, None, is_none, is_some, not, filter_map, nat_lt, ◌||◌, ◌&&◌, ◌==◌, codes}
+use Rattle.std.specs.List.{list_any, list_all, last_or, flat_map}
+use Rattle.std.specs.Option.{option_map, option_map_or}
+use Rattle.std.specs.Cmp.{first_so, second_so}
+use Rattle.std.proofs.lemmas.Bool.Decides.{Decides-eqb}
+use Rattle.mpslp_types.specs.Name.{same_bytes, is_one_of}
+use Rattle.mpslp_types.specs.FaultOrder.{kind_rank}
+use Rattle.mpslp_types.specs.declared.faults.BuildFault.{BuildFault}
+use Rattle.mpslp_types.specs.declared.faults.BuildFault.TheVariants as builds
+use Rattle.mpslp_types.specs.declared.faults.FaultKind.{FaultKind}
+use Rattle.mpslp_types.specs.declared.faults.FaultKind.TheVariants as kinds
+use Rattle.mpslp_types.proofs.BoolLemmas.{both_so, or_left, or_right, nor, so_not}
+use Rattle.mpslp_core.specs.Lists.{head_of, is_nonempty}
+use Rattle.mpslp_builder.specs.Declaration.{Declaration, Declarations, Draft, adding}
+use Rattle.mpslp_builder.specs.Refusal.{refusal_tests}
+use Rattle.mpslp_reading.specs.Declaring.{kind_of_refusal}
+use Rattle.mpslp_reading.specs.Field.{is_kind, number_tests}
+use Rattle.mpslp_reading.specs.Tests.{Tests, judged_by}
+use Rattle.mpslp_mps.specs.Line.{Fields, Item, skipped, header, data_line}
+use Rattle.mpslp_mps.specs.Section.{has, section_named, is_section}
+use Rattle.mpslp_mps.specs.DataLine.{word_shape, row_shape, ValuesLine, column_shape, is_marker_line, marker_shape, opening_word, closing_word, vector_shape}
+use Rattle.mpslp_mps.specs.BoundLine.{BoundLine, bound_type, bound_shape}
+use Rattle.mpslp_mps.specs.Context.{Context, context_of, current_section, has_section, sections_begun, data_lines, takes_word, wanted, marker_word, line_column, vector_set, bound_set}
+use Rattle.mpslp_mps.specs.FieldFault.{literals_of, set_tests}
+use Rattle.mpslp_mps.specs.HeaderFault.{unknown_section, may_begin, is_out_of_order, may_follow, word_tests, section_tests, header_tests}
+use Rattle.mpslp_mps.specs.DataFault.{row_tests, marker_word_tests, marker_tests, is_sos_marker, is_split, column_tests, vector_tests, bound_tests, typed_bound_tests, bound_line_tests, columns_line_tests, data_tests}
+use Rattle.mpslp_mps.specs.LineFault.{item_tests}
+use Rattle.mpslp_mps.specs.LineMeaning.{declared}
+use Rattle.mpslp_mps.specs.declared.bound_types.BoundType.{BoundType}
+use Rattle.mpslp_mps.specs.declared.sections.Section.{Section}
+use Rattle.mpslp_mps.specs.declared.sections.Section.TheVariants.{Name, ObjSense, ObjName, Rows, Columns, Rhs, Ranges, Bounds, EndData}
+use Rattle.mpslp_mps.specs.TextInWords.{place, is_sense, words_in, is_one_word, alternate, same_column, stand_together}
+use Rattle.mpslp_mps.specs.FaultsInWords.{IsInWords, repeats_section, comes_early, comes_late, has_its_word, is_without_word, is_closed, is_out_of_place, breaks_turn, is_wrong_marker, differs_from, has_second_set, is_of_second_set, splits_column}
+use Rattle.mpslp_mps.proofs.OrderLemmas.{never}
+use Rattle.mpslp_mps.proofs.WordsOfFields.{section-is}
+use Rattle.mpslp_mps.proofs.WordsOfColumns.{columns_of, comes_again}
+use Rattle.mpslp_mps.proofs.WordsOfOneWord.{missing, without_word, with_word, IsUnderway}
+use Rattle.mpslp_mps.proofs.SectionsOfWords.{marker-follows, together-apart}
+use Rattle.mpslp_mps.proofs.ColumnsOfWords.{HaveLines, not-split}
+use Rattle.mpslp_mps.proofs.NamesOfWords.{Told}
+use Rattle.mpslp_mps.proofs.FaultedLines.{holds_of, refused_as, refuses, IsFirst, in-words}
+
+-- ---- tests of other kinds
+
+abbrev pub is_among : List FaultKind → FaultKind → Bool
+is_among kinds kind = list_any (is_kind kind) kinds
+
+pub same-rank : (kind other : FaultKind) → is_kind kind other ≡ true → kind_rank kind ≡ kind_rank other
+same-rank kind other h = (Decides-eqb (kind_rank kind) (kind_rank other)).0 h
+
+alike : (kinds : List FaultKind) (kind other : FaultKind) → is_kind kind other ≡ true → is_among kinds other ≡ is_among kinds kind
+alike kinds kind other h = ap (λ (n : ℕ). list_any (λ (k : FaultKind). n == kind_rank k) kinds) (sym (same-rank kind other h))
+
+-- of tests whose kinds are among these, none is of another kind
+pub none-holds : (ks : List FaultKind) (kind : FaultKind) (tests : Tests) → list_all (λ test. is_among ks test.1) tests ≡ true → is_among ks kind ≡ false → holds_of kind tests ≡ false
+none-holds ks kind [] h k = refl
+none-holds ks kind ((held, other) ∷ more) h k = by (none-holds ks kind more (second_so (is_among ks other) (list_all (λ test. is_among ks test.1) more) h) k) (is_kind kind other) refl
+  where
+    by : holds_of kind more ≡ false → (b : Bool) → is_kind kind other ≡ b → cond b (held || holds_of kind more) (holds_of kind more) ≡ false
+    by rest true e = absurd (never (is_among ks other) (first_so (is_among ks other) (list_all (λ test. is_among ks test.1) more) h) (alike ks kind other e ∙ k))
+    by rest false e = rest
+
+abbrev refusal_kinds : List FaultKind
+refusal_kinds = kinds.UnknownRow ∷ kinds.UnknownColumn ∷ kinds.DuplicateRow ∷ kinds.DuplicateEntry ∷ kinds.DuplicateRhs ∷ kinds.DuplicateRange ∷ kinds.DuplicateBound ∷ kinds.RangeOnFree ∷ kinds.SemiContinuous ∷ kinds.InfiniteValue ∷ []
+
+refusal-among : (fault : BuildFault) → is_among refusal_kinds (kind_of_refusal fault) ≡ true
+refusal-among builds.DuplicateSense = refl
+refusal-among builds.SecondObjective = refl
+refusal-among builds.UnknownRow = refl
+refusal-among builds.UnknownColumn = refl
+refusal-among builds.DuplicateRow = refl
+refusal-among builds.DuplicateEntry = refl
+refusal-among builds.DuplicateRhs = refl
+refusal-among builds.DuplicateRange = refl
+refusal-among builds.DuplicateBound = refl
+refusal-among builds.RangeOnFree = refl
+refusal-among builds.SemiContinuous = refl
+refusal-among builds.InfiniteValue = refl
+refusal-among builds.OutOfMemory = refl
+
+pub none-refused : (kind : FaultKind) (tests : List (Bool × BuildFault)) → is_among refusal_kinds kind ≡ false → refused_as kind tests ≡ false
+none-refused kind [] k = refl
+none-refused kind ((held, other) ∷ more) k = by (none-refused kind more k) (is_kind kind (kind_of_refusal other)) refl
+  where
+    by : refused_as kind more ≡ false → (b : Bool) → is_kind kind (kind_of_refusal other) ≡ b → cond b (held || refused_as kind more) (refused_as kind more) ≡ false
+    by rest true e = absurd (never (is_among refusal_kinds (kind_of_refusal other)) (refusal-among other) (alike refusal_kinds kind (kind_of_refusal other) e ∙ k))
+    by rest false e = rest
+
+-- a kind of a line's form alone
+form-alone : (kind : FaultKind) → is_among refusal_kinds kind ≡ false → (ds : Declarations) (earlier : Draft) → refuses kind earlier ds ≡ false
+form-alone kind k [] earlier = refl
+form-alone kind k (d ∷ ds) earlier = ap (λ (b : Bool). b || refuses kind (adding earlier d) ds) (none-refused kind (refusal_tests earlier d) k) ∙ form-alone kind k ds (adding earlier d)
+
+pub left_alone : (a b : Bool) → b ≡ false → (a || b) ≡ true → a ≡ true
+left_alone true b e h = refl
+left_alone false b e h = absurd (never b h e)
+
+pub right_alone : (a b : Bool) → a ≡ false → (a || b) ≡ true → b ≡ true
+right_alone false b e h = h
+right_alone true b e h = cc
+
+-- ---- the kinds of each line
+
+abbrev pub header_kinds : List FaultKind
+header_kinds = kinds.Quadratic ∷ kinds.Sos ∷ kinds.Indicator ∷ kinds.UnknownSection ∷ kinds.SectionOrder ∷ kinds.SectionRepeated ∷ kinds.FieldCount ∷ kinds.BadType ∷ kinds.UnknownRow ∷ []
+
+abbrev pub number_kinds : List FaultKind
+number_kinds = kinds.FieldCount ∷ kinds.BadType ∷ kinds.BadNumber ∷ kinds.LongNumber ∷ kinds.TooManyDigits ∷ kinds.ExponentRange ∷ kinds.SecondSet ∷ []
+
+abbrev marker_kinds : List FaultKind
+marker_kinds = kinds.Sos ∷ kinds.FieldCount ∷ kinds.BadMarker ∷ []
+
+abbrev pub column_kinds : List FaultKind
+column_kinds = kinds.FieldCount ∷ kinds.NameLength ∷ kinds.NameByte ∷ kinds.NameMarker ∷ kinds.BadNumber ∷ kinds.LongNumber ∷ kinds.TooManyDigits ∷ kinds.ExponentRange ∷ kinds.ColumnSplit ∷ []
+
+-- of each section but COLUMNS, whose lines are of two forms
+abbrev pub kinds_in : Option Section → List FaultKind
+kinds_in (Some Rows) = kinds.FieldCount ∷ kinds.BadType ∷ kinds.NameLength ∷ kinds.NameByte ∷ kinds.NameMarker ∷ []
+kinds_in (Some Columns) = kinds.Sos ∷ kinds.BadMarker ∷ column_kinds
+kinds_in (Some Rhs) = number_kinds
+kinds_in (Some Ranges) = number_kinds
+kinds_in (Some Bounds) = number_kinds
+kinds_in _ = kinds.SectionOrder ∷ kinds.FieldCount ∷ kinds.BadType ∷ []
+
+abbrev pub AreAmong : List FaultKind → Tests → Type 0
+AreAmong ks tests = list_all (λ test. is_among ks test.1) tests ≡ true
+
+judged-among : {X : Type 0} (ks : List FaultKind) (tests : X → Tests) (o : Option X) → is_among ks kinds.FieldCount ≡ true → ((x : X) → AreAmong ks (tests x)) → AreAmong ks (judged_by tests o)
+judged-among ks tests None f h = ap (λ (b : Bool). b && true) f
+judged-among ks tests (Some x) f h = h x
+
+abbrev pub unknown_kinds : List FaultKind
+unknown_kinds = kinds.Quadratic ∷ kinds.Sos ∷ kinds.Indicator ∷ kinds.UnknownSection ∷ []
+
+pub unknown-among : (quadratic sos indicator : Bool) → AreAmong unknown_kinds ((true, cond quadratic kinds.Quadratic (cond sos kinds.Sos (cond indicator kinds.Indicator kinds.UnknownSection))) ∷ [])
+unknown-among true sos indicator = refl
+unknown-among false true indicator = refl
+unknown-among false false true = refl
+unknown-among false false false = refl
+
+pub section-among : (context : Context) (earlier : Draft) (section : Section) (more : Fields) → AreAmong (kinds.BadType ∷ kinds.UnknownRow ∷ []) (section_tests context earlier section more)
+section-among context earlier Name more = refl
+section-among context earlier ObjSense [] = refl
+section-among context earlier ObjSense (word ∷ more) = refl
+section-among context earlier ObjName more = refl
+section-among context earlier Rows more = refl
+section-among context earlier Columns more = refl
+section-among context earlier Rhs more = refl
+section-among context earlier Ranges more = refl
+section-among context earlier Bounds more = refl
+section-among context earlier EndData more = refl
+
+bound-among : (context : Context) (line : BoundLine) → AreAmong number_kinds (bound_tests context line)
+bound-among context line = of line.literal
+  where
+    of : (o : Option (List ℕ)) → AreAmong number_kinds (option_map_or (λ literal. number_tests (literal ∷ [])) o [] ++ set_tests context.bounds_set line.set)
+    of None = refl
+    of (Some literal) = refl
+
+pub column-among : (context : Context) (earlier : Draft) (fields : Fields) → AreAmong column_kinds (judged_by (column_tests context earlier) (column_shape fields))
+column-among context earlier fields = judged-among column_kinds (column_tests context earlier) (column_shape fields) refl (λ _. refl)
+
+bounds-among : (context : Context) (fields : Fields) → AreAmong number_kinds (bound_line_tests context fields)
+bounds-among context [] = refl
+bounds-among context (letters ∷ more) = of (bound_type letters)
+  where
+    of : (o : Option BoundType) → AreAmong number_kinds (typed_bound_tests context more o)
+    of None = refl
+    of (Some type) = judged-among number_kinds (bound_tests context) (bound_shape type more) refl (bound-among context)
+
+pub data-among : (context : Context) (earlier : Draft) (fields : Fields) (o : Option Section) → AreAmong (kinds_in o) (data_tests context earlier fields o)
+data-among context earlier fields None = refl
+data-among context earlier fields (Some Name) = refl
+data-among context earlier fields (Some ObjSense) = judged-among (kinds_in (Some ObjSense)) word_tests (word_shape fields) refl (λ _. refl)
+data-among context earlier fields (Some ObjName) = judged-among (kinds_in (Some ObjName)) (λ _. []) (word_shape fields) refl (λ _. refl)
+data-among context earlier fields (Some Rows) = judged-among (kinds_in (Some Rows)) row_tests (row_shape fields) refl (λ _. refl)
+data-among context earlier fields (Some Columns) = by (is_marker_line fields)
+  where
+    marker : (o : Option (List ℕ)) → AreAmong (kinds_in (Some Columns)) (judged_by (marker_word_tests context) o)
+    marker None = refl
+    marker (Some word) = refl
+
+    by : (b : Bool) → AreAmong (kinds_in (Some Columns)) (cond b (marker_tests context fields) (judged_by (column_tests context earlier) (column_shape fields)))
+    by true = marker (marker_shape fields)
+    by false = judged-among (kinds_in (Some Columns)) (column_tests context earlier) (column_shape fields) refl (λ _. refl)
+data-among context earlier fields (Some Rhs) = judged-among number_kinds (vector_tests context.rhs_set) (vector_shape fields) refl (λ _. refl)
+data-among context earlier fields (Some Ranges) = judged-among number_kinds (vector_tests context.ranges_set) (vector_shape fields) refl (λ _. refl)
+data-among context earlier fields (Some Bounds) = bounds-among context fields
+data-among context earlier fields (Some EndData) = refl
+
+unknown-header : (quadratic sos indicator : Bool) → AreAmong header_kinds ((true, cond quadratic kinds.Quadratic (cond sos kinds.Sos (cond indicator kinds.Indicator kinds.UnknownSection))) ∷ [])
+unknown-header true sos indicator = refl
+unknown-header false true indicator = refl
+unknown-header false false true = refl
+unknown-header false false false = refl
+
+pub header-among : (context : Context) (earlier : Draft) (keyword : List ℕ) (more : Fields) (o : Option Section) → AreAmong header_kinds (header_tests context earlier keyword more o)
+header-among context earlier keyword more None =
+    unknown-header (is_one_of (codes "QSECTION" ∷ codes "QMATRIX" ∷ codes "QUADOBJ" ∷ codes "QCMATRIX" ∷ codes "CSECTION" ∷ []) keyword)
+    (is_one_of (codes "SOS" ∷ codes "SOS1" ∷ codes "SOS2" ∷ []) keyword) (is_one_of (codes "INDICATORS" ∷ []) keyword)
+header-among context earlier keyword more (Some Name) = refl
+header-among context earlier keyword [] (Some ObjSense) = refl
+header-among context earlier keyword (word ∷ more) (Some ObjSense) = refl
+header-among context earlier keyword more (Some ObjName) = refl
+header-among context earlier keyword more (Some Rows) = refl
+header-among context earlier keyword more (Some Columns) = refl
+header-among context earlier keyword more (Some Rhs) = refl
+header-among context earlier keyword more (Some Ranges) = refl
+header-among context earlier keyword more (Some Bounds) = refl
+header-among context earlier keyword more (Some EndData) = refl
+
+-- a kind of none of them
+pub no-data : {X : Type 0} (kind : FaultKind) (context : Context) (earlier : Draft) (fields : Fields) (o : Option Section) → is_among (kinds_in o) kind ≡ false → holds_of kind (data_tests context earlier fields o) ≡ true → X
+no-data kind context earlier fields o k h = absurd (never (holds_of kind (data_tests context earlier fields o)) h (none-holds (kinds_in o) kind (data_tests context earlier fields o) (data-among context earlier fields o) k))
+
+pub no-header : {X : Type 0} (kind : FaultKind) (context : Context) (earlier : Draft) (keyword : List ℕ) (more : Fields) (o : Option Section) → is_among header_kinds kind ≡ false
+    → holds_of kind (header_tests context earlier keyword more o) ≡ true → X
+no-header kind context earlier keyword more o k h =
+    absurd (never (holds_of kind (header_tests context earlier keyword more o)) h (none-holds header_kinds kind (header_tests context earlier keyword more o) (header-among context earlier keyword more o) k))
+
+-- what is left of a line's tests, where no declaration is refused by the kind
+pub by-form : (kind : FaultKind) (is_such : List Item → Item → Bool) → is_among refusal_kinds kind ≡ false
+    → ((before : List Item) (earlier : Draft) (item : Item) → Told before earlier → holds_of kind (item_tests (context_of before) earlier item) ≡ true → is_such before item ≡ true)
+    → (before : List Item) (earlier : Draft) (item : Item) → Told before earlier → IsFirst kind before earlier item → is_such before item ≡ true
+by-form kind is_such k such before earlier item known h =
+    such before earlier item known
+    (left_alone (holds_of kind (item_tests (context_of before) earlier item)) (refuses kind earlier (declared (context_of before) earlier item))
+    (form-alone kind k (declared (context_of before) earlier item) earlier) h.told)
