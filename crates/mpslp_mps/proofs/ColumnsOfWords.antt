@@ -1,27 +1,24 @@
 -- A column that a draft has is that of an earlier line of COLUMNS, so one whose lines stand together is not split.
 use Rattle.std.proofs.Common.{◌≡◌, refl, sym, ap, ◌∙◌, subst, List, [], ◌∷◌, ◌++◌, ℕ, Bool, true, false, cond, map}
-use Rattle.std.specs.Prelude.{Option, Some, None, is_none, not, ◌&&◌, ◌||◌, codes}
+use Rattle.std.specs.Prelude.{Option, Some, None, not, ◌&&◌, ◌||◌}
 use Rattle.std.specs.List.{list_any, flat_map}
 use Rattle.std.specs.Option.{option_map, option_map_or}
 use Rattle.std.proofs.lemmas.List.{map-append}
 use Rattle.std.proofs.lemmas.List.Folds.{list_any-append}
 use Rattle.mpslp_types.specs.Name.{same_bytes}
-use Rattle.mpslp_types.specs.declared.kinds.RowType.{RowType}
-use Rattle.mpslp_types.specs.declared.kinds.RowType.TheVariants.{Free, AtMost, AtLeast, Equal}
 use Rattle.mpslp_types.proofs.BoolLemmas.{or_left, or_right}
-use Rattle.mpslp_builder.specs.Declaration.{by_type, declare_objective, declare_row, declare_column, declare_marked, Draft, adding, adding_all, has_column}
+use Rattle.mpslp_builder.specs.Declaration.{declare_column, declare_marked, Draft, adding, adding_all, has_column}
 use Rattle.mpslp_core.specs.Lists.{when}
 use Rattle.mpslp_builder.proofs.SlotLemmas.{has-put}
 use Rattle.mpslp_mps.specs.Line.{Fields, Item, skipped, header, data_line}
 use Rattle.mpslp_mps.specs.Section.{section_named, is_section}
-use Rattle.mpslp_mps.specs.DataLine.{ValuesLine, row_shape, row_type, column_shape, is_marker_line}
+use Rattle.mpslp_mps.specs.DataLine.{ValuesLine, column_shape, is_marker_line}
 use Rattle.mpslp_mps.specs.Context.{Context, context_of, current_section, fields_under, data_lines, line_column, last_column}
-use Rattle.mpslp_mps.specs.LineMeaning.{declared_of, is_new_objective, row_of_type, row_declared, coefficient_declared, column_declared, columns_line_declared, data_declared, header_declared, declared}
+use Rattle.mpslp_mps.specs.LineMeaning.{declared_of, coefficient_declared, column_declared, columns_line_declared, data_declared, declared}
 use Rattle.mpslp_mps.specs.DataFault.{is_split}
 use Rattle.mpslp_mps.specs.TextInWords.{same_column}
-use Rattle.mpslp_mps.specs.declared.sections.Section.{Section}
-use Rattle.mpslp_mps.specs.declared.sections.Section.TheVariants.{Name, ObjSense, ObjName, Rows, Columns, Rhs, Ranges, Bounds, EndData}
-use Rattle.mpslp_mps.proofs.OrderLemmas.{declares_column, no_columns, columns-kept, each-declared, each-flat, sense-passes, sides-passes, ranges-passes, bounds-passes, passes-no_columns}
+use Rattle.mpslp_mps.specs.declared.sections.Section.TheVariants.{Columns}
+use Rattle.mpslp_mps.proofs.OrderLemmas.{declares_column, no_columns, columns-kept, each-flat}
 use Rattle.mpslp_mps.proofs.KnownLemmas.{no-columns-header, no-columns-data}
 use Rattle.mpslp_mps.proofs.SectionLemmas.{data_lines-push}
 use Rattle.mpslp_mps.proofs.WordsOfFields.{section-is}

@@ -1,6 +1,6 @@
 -- The line of a text's first fault: the lines before it have none, and it is one of its tests that tells the kind, or a refusal of what it declares.
 use Rattle.std.proofs.Common.{◌≡◌, refl, sym, ap, ◌∙◌, subst, List, [], ◌∷◌, ◌++◌, append_assoc, ℕ, suc, ◌+◌, ◌-◌, ◌^◌, Bool, true, false, cond, map, arith}
-use Rattle.std.specs.Prelude.{Option, Some, None, is_none, ◌||◌, ◌&&◌, ◌==◌, nat_le, nat_lt, not, filter_map, min, length, if◌then◌else◌}
+use Rattle.std.specs.Prelude.{Option, Some, None, ◌||◌, ◌&&◌, ◌==◌, nat_le, nat_lt, not, filter_map, min, length, if◌then◌else◌}
 use Rattle.std.specs.List.{list_any, list_all, cons_option}
 use Rattle.std.specs.Option.{option_map, option_map_or, option_or}
 use Rattle.std.specs.Cmp.{first_so, second_so}
@@ -26,11 +26,11 @@ use Rattle.mpslp_reading.specs.Tests.{Tests}
 use Rattle.mpslp_reading.proofs.LeastLemmas.{lesser, earlier_of, least-append, least-none}
 use Rattle.mpslp_reading.proofs.FirstFaultLemmas.{faultless}
 use Rattle.mpslp_mps.specs.Line.{Item, item_of, outside_comment}
-use Rattle.mpslp_mps.specs.Context.{Context, context_of}
+use Rattle.mpslp_mps.specs.Context.{context_of}
 use Rattle.mpslp_mps.specs.LineMeaning.{declared}
 use Rattle.mpslp_mps.specs.LineFault.{item_tests, line_tests}
 use Rattle.mpslp_mps.specs.MpsText.{Placed, read_lines, has_end, declared_at, tests_at, placed_after, placed_lines, declarations_of}
-use Rattle.mpslp_mps.specs.FirstFault.{line_fault, first_line_fault, whole_mps_fault, first_mps_fault, IsFirstMpsFault}
+use Rattle.mpslp_mps.specs.FirstFault.{line_fault, first_line_fault, whole_mps_fault}
 use Rattle.mpslp_mps.specs.FaultsInWords.{StandsOn, IsInWords}
 use Rattle.mpslp_mps.proofs.OrderLemmas.{IsGood, never}
 use Rattle.mpslp_mps.proofs.PlacedLemmas.{item-form}

@@ -1,46 +1,36 @@
 -- The kinds of faults that the tests of each line have, so that a test of a kind is found where it stands.
-use Rattle.std.proofs.Common.{◌≡◌, refl, sym, ap, ◌∙◌, subst, List, [], ◌∷◌, ◌++◌, ℕ, Bool, true, false, cond, map}
-use Rattle.std.specs.Prelude.{Option, Some, None, is_none, is_some, not, filter_map, nat_lt, ◌||◌, ◌&&◌, ◌==◌, codes}
-use Rattle.std.specs.List.{list_any, list_all, last_or, flat_map}
-use Rattle.std.specs.Option.{option_map, option_map_or}
+use Rattle.std.proofs.Common.{◌≡◌, refl, sym, ap, ◌∙◌, List, [], ◌∷◌, ◌++◌, ℕ, Bool, true, false, cond}
+use Rattle.std.specs.Prelude.{Option, Some, None, ◌||◌, ◌&&◌, ◌==◌, codes}
+use Rattle.std.specs.List.{list_any, list_all}
+use Rattle.std.specs.Option.{option_map_or}
 use Rattle.std.specs.Cmp.{first_so, second_so}
 use Rattle.std.proofs.lemmas.Bool.Decides.{Decides-eqb}
-use Rattle.mpslp_types.specs.Name.{same_bytes, is_one_of}
+use Rattle.mpslp_types.specs.Name.{is_one_of}
 use Rattle.mpslp_types.specs.FaultOrder.{kind_rank}
 use Rattle.mpslp_types.specs.declared.faults.BuildFault.{BuildFault}
 use Rattle.mpslp_types.specs.declared.faults.BuildFault.TheVariants as builds
 use Rattle.mpslp_types.specs.declared.faults.FaultKind.{FaultKind}
 use Rattle.mpslp_types.specs.declared.faults.FaultKind.TheVariants as kinds
-use Rattle.mpslp_types.proofs.BoolLemmas.{both_so, or_left, or_right, nor, so_not}
-use Rattle.mpslp_core.specs.Lists.{head_of, is_nonempty}
-use Rattle.mpslp_builder.specs.Declaration.{Declaration, Declarations, Draft, adding}
+use Rattle.mpslp_builder.specs.Declaration.{Declarations, Draft, adding}
 use Rattle.mpslp_builder.specs.Refusal.{refusal_tests}
 use Rattle.mpslp_reading.specs.Declaring.{kind_of_refusal}
 use Rattle.mpslp_reading.specs.Field.{is_kind, number_tests}
 use Rattle.mpslp_reading.specs.Tests.{Tests, judged_by}
-use Rattle.mpslp_mps.specs.Line.{Fields, Item, skipped, header, data_line}
-use Rattle.mpslp_mps.specs.Section.{has, section_named, is_section}
-use Rattle.mpslp_mps.specs.DataLine.{word_shape, row_shape, ValuesLine, column_shape, is_marker_line, marker_shape, opening_word, closing_word, vector_shape}
+use Rattle.mpslp_mps.specs.Line.{Fields, Item}
+use Rattle.mpslp_mps.specs.DataLine.{word_shape, row_shape, column_shape, is_marker_line, marker_shape, vector_shape}
 use Rattle.mpslp_mps.specs.BoundLine.{BoundLine, bound_type, bound_shape}
-use Rattle.mpslp_mps.specs.Context.{Context, context_of, current_section, has_section, sections_begun, data_lines, takes_word, wanted, marker_word, line_column, vector_set, bound_set}
-use Rattle.mpslp_mps.specs.FieldFault.{literals_of, set_tests}
-use Rattle.mpslp_mps.specs.HeaderFault.{unknown_section, may_begin, is_out_of_order, may_follow, word_tests, section_tests, header_tests}
-use Rattle.mpslp_mps.specs.DataFault.{row_tests, marker_word_tests, marker_tests, is_sos_marker, is_split, column_tests, vector_tests, bound_tests, typed_bound_tests, bound_line_tests, columns_line_tests, data_tests}
+use Rattle.mpslp_mps.specs.Context.{Context, context_of}
+use Rattle.mpslp_mps.specs.FieldFault.{set_tests}
+use Rattle.mpslp_mps.specs.HeaderFault.{word_tests, section_tests, header_tests}
+use Rattle.mpslp_mps.specs.DataFault.{row_tests, marker_word_tests, marker_tests, column_tests, vector_tests, bound_tests, typed_bound_tests, bound_line_tests, data_tests}
 use Rattle.mpslp_mps.specs.LineFault.{item_tests}
 use Rattle.mpslp_mps.specs.LineMeaning.{declared}
 use Rattle.mpslp_mps.specs.declared.bound_types.BoundType.{BoundType}
 use Rattle.mpslp_mps.specs.declared.sections.Section.{Section}
 use Rattle.mpslp_mps.specs.declared.sections.Section.TheVariants.{Name, ObjSense, ObjName, Rows, Columns, Rhs, Ranges, Bounds, EndData}
-use Rattle.mpslp_mps.specs.TextInWords.{place, is_sense, words_in, is_one_word, alternate, same_column, stand_together}
-use Rattle.mpslp_mps.specs.FaultsInWords.{IsInWords, repeats_section, comes_early, comes_late, has_its_word, is_without_word, is_closed, is_out_of_place, breaks_turn, is_wrong_marker, differs_from, has_second_set, is_of_second_set, splits_column}
 use Rattle.mpslp_mps.proofs.OrderLemmas.{never}
-use Rattle.mpslp_mps.proofs.WordsOfFields.{section-is}
-use Rattle.mpslp_mps.proofs.WordsOfColumns.{columns_of, comes_again}
-use Rattle.mpslp_mps.proofs.WordsOfOneWord.{missing, without_word, with_word, IsUnderway}
-use Rattle.mpslp_mps.proofs.SectionsOfWords.{marker-follows, together-apart}
-use Rattle.mpslp_mps.proofs.ColumnsOfWords.{HaveLines, not-split}
 use Rattle.mpslp_mps.proofs.NamesOfWords.{Told}
-use Rattle.mpslp_mps.proofs.FaultedLines.{holds_of, refused_as, refuses, IsFirst, in-words}
+use Rattle.mpslp_mps.proofs.FaultedLines.{holds_of, refused_as, refuses, IsFirst}
 
 -- ---- tests of other kinds
 

@@ -1,34 +1,33 @@
 -- What a draft has, the lines before have in the words of the format: rows, coefficients and the sense; and each row that they name is there.
-use Rattle.std.proofs.Common.{◌≡◌, refl, sym, ap, ◌∙◌, subst, List, [], ◌∷◌, ◌++◌, ℕ, Bool, true, false, cond, map}
+use Rattle.std.proofs.Common.{◌≡◌, refl, sym, ap, ◌∙◌, subst, List, [], ◌∷◌, ◌++◌, ℕ, Bool, true, false, cond}
 use Rattle.std.specs.Prelude.{Option, Some, None, is_none, is_some, not, filter_map, ◌||◌, ◌&&◌, codes}
 use Rattle.std.specs.List.{list_any, list_all, flat_map, cons_option}
 use Rattle.std.specs.Option.{option_map, option_map_or}
 use Rattle.std.specs.Cmp.{first_so, second_so}
 use Rattle.std.proofs.lemmas.List.Elements.{filter_map-append}
 use Rattle.std.proofs.lemmas.List.Concat.{flat_map-append}
-use Rattle.std.proofs.lemmas.List.Folds.{list_any-append, list_all-append}
+use Rattle.std.proofs.lemmas.List.Folds.{list_any-append}
 use Rattle.mpslp_types.specs.Name.{same_bytes, is_mps_name}
 use Rattle.mpslp_types.specs.declared.kinds.RowType.{RowType}
 use Rattle.mpslp_types.specs.declared.kinds.RowType.TheVariants.{Free, AtMost, AtLeast, Equal}
-use Rattle.mpslp_types.specs.declared.kinds.Sense.{Sense}
-use Rattle.mpslp_types.proofs.BoolLemmas.{both_so, or_left, or_right}
+use Rattle.mpslp_types.proofs.BoolLemmas.{or_left, or_right}
 use Rattle.mpslp_core.specs.Lists.{when, is_nonempty, those_of}
 use Rattle.mpslp_core.specs.Model.{CoefficientKey}
 use Rattle.mpslp_builder.specs.Declaration.{by_type, RowForm, Declaration, declare_sense, declare_objective, declare_constant, declare_row, declare_rhs, declare_range, declare_column, declare_coefficient, declare_lower, declare_upper, declare_marked, declare_integer, declare_binary, declare_semi, Declarations, Draft, adding, adding_all, empty_draft, has_name, is_objective, has_row, has_entry}
-use Rattle.mpslp_builder.proofs.LaterDrafts.{more_entries, itself_named}
+use Rattle.mpslp_builder.proofs.LaterDrafts.{more_entries}
 use Rattle.mpslp_builder.proofs.SlotLemmas.{has-put, has-put_key}
 use Rattle.mpslp_reading.specs.Field.{value_of}
 use Rattle.mpslp_mps.specs.Line.{Fields, Item, skipped, header, data_line}
 use Rattle.mpslp_mps.specs.Section.{section_named, begins, is_section}
-use Rattle.mpslp_mps.specs.DataLine.{RowLine, Pair, ValuesLine, word_shape, sense_of, row_shape, row_type, column_shape, is_marker_line}
+use Rattle.mpslp_mps.specs.DataLine.{RowLine, Pair, ValuesLine, word_shape, row_shape, row_type, column_shape, is_marker_line}
 use Rattle.mpslp_mps.specs.Context.{Context, context_of, current_section, has_section, fields_under, data_lines}
-use Rattle.mpslp_mps.specs.LineMeaning.{declared_of, sense_declared, is_new_objective, row_of_type, row_declared, default_objective, coefficient_declared, column_declared, columns_line_declared, data_declared, header_declared, declared}
+use Rattle.mpslp_mps.specs.LineMeaning.{declared_of, sense_declared, is_new_objective, row_of_type, row_declared, coefficient_declared, column_declared, columns_line_declared, data_declared, header_declared, declared}
 use Rattle.mpslp_mps.specs.DataFault.{data_tests}
 use Rattle.mpslp_mps.specs.TextInWords.{word_fields, words_in}
 use Rattle.mpslp_mps.specs.FaultsInWords.{row_name, is_named, names_row, has_entry_of, has_its_word}
 use Rattle.mpslp_mps.specs.declared.sections.Section.{Section}
 use Rattle.mpslp_mps.specs.declared.sections.Section.TheVariants.{Name, ObjSense, ObjName, Rows, Columns, Rhs, Ranges, Bounds, EndData}
-use Rattle.mpslp_mps.proofs.OrderLemmas.{IsGood, never, no_rows, rows-kept, each-declared, each-flat, sense-passes, sides-passes, ranges-passes, Passes, bounds-passes}
+use Rattle.mpslp_mps.proofs.OrderLemmas.{IsGood, no_rows, rows-kept, each-declared, each-flat, sense-passes, sides-passes, ranges-passes, Passes, bounds-passes}
 use Rattle.mpslp_mps.proofs.KnownLemmas.{no-rows-data}
 use Rattle.mpslp_mps.proofs.SectionLemmas.{data_lines-push, has_section-push, said_after-push}
 use Rattle.mpslp_mps.proofs.WordsOfFields.{section-is, row-fields}

@@ -13,9 +13,9 @@ use Rattle.mpslp_mps.specs.BoundLine.{bound_type, bound_shape}
 use Rattle.mpslp_mps.specs.Context.{current_section, has_section, sections_begun, data_lines, takes_word, marker_word, line_column, vector_set, bound_set}
 use Rattle.mpslp_mps.specs.MpsText.{read_lines}
 use Rattle.mpslp_mps.specs.FirstFault.{IsFirstMpsFault}
-use Rattle.mpslp_mps.specs.TextInWords.{place, takes_data, words_in, has_named_objective, is_free_row_named, alternate, same_column, stand_together}
+use Rattle.mpslp_mps.specs.TextInWords.{place, takes_data, words_in, has_named_objective, alternate, same_column, stand_together}
 use Rattle.mpslp_mps.specs.declared.sections.Section.{Section}
-use Rattle.mpslp_mps.specs.declared.sections.Section.TheVariants.{Name, ObjSense, ObjName, Rows, Columns, Rhs, Ranges, Bounds, EndData}
+use Rattle.mpslp_mps.specs.declared.sections.Section.TheVariants.{Rows, Columns, Rhs, Ranges, Bounds, EndData}
 
 -- ---- SectionRepeated: a header whose section has a header before it
 

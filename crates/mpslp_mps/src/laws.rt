@@ -2,7 +2,7 @@
 //! law.
 
 ghost use Rattle.mpslp_types.specs.declared.faults.FaultKind.{FaultKind};
-ghost use Rattle.mpslp_mps.specs.FaultsInWords.{IsInWords, repeats_section, is_out_of_place, is_wrong_marker, is_of_second_set, splits_column, names_unknown_row, names_unknown_column};
+ghost use Rattle.mpslp_mps.specs.FaultsInWords.{IsInWords, repeats_section, is_out_of_place, is_wrong_marker, is_of_second_set, splits_column, names_unknown_row, names_unknown_column, repeats_row, repeats_entry};
 ghost use Rattle.mpslp_mps.specs.Laws.{DeclareOneModel, DeclareOrFail, DeclareUnlessFaulty, HaveOneFirstFault, TextIsInWords};
 
 /// No bytes declare two models.
@@ -40,5 +40,7 @@ pub fn faults_are_in_words()
     ensures second_set { IsInWords FaultKind.SecondSet is_of_second_set }
     ensures unknown_row { IsInWords FaultKind.UnknownRow names_unknown_row }
     ensures unknown_column { IsInWords FaultKind.UnknownColumn names_unknown_column }
+    ensures duplicate_row { IsInWords FaultKind.DuplicateRow repeats_row }
+    ensures duplicate_entry { IsInWords FaultKind.DuplicateEntry repeats_entry }
     ensures column_split { IsInWords FaultKind.ColumnSplit splits_column }
 {}

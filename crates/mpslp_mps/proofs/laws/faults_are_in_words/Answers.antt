@@ -1,5 +1,5 @@
 use Rattle.mpslp_mps.proofs.FaultsOfWords.{section-repeated, section-order, bad-marker, column-split, second-set}
-use Rattle.mpslp_mps.proofs.FaultsOfNames.{unknown-rows, unknown-columns}
+use Rattle.mpslp_mps.proofs.FaultsOfNames.{unknown-rows, unknown-columns, repeated-rows, repeated-entries}
 use Rattle.mpslp_mps.proofs.laws.faults_are_in_words.Goals as goal
 
 pub returns : goal.returns
@@ -10,5 +10,7 @@ returns c = record {
   second_set = second-set;
   unknown_row = unknown-rows;
   unknown_column = unknown-columns;
+  duplicate_row = repeated-rows;
+  duplicate_entry = repeated-entries;
   column_split = column-split;
 }
