@@ -21,7 +21,7 @@ use Rattle.mpslp_core.specs.Model.{CoefficientKey}
 use Rattle.mpslp_builder.specs.Declaration.{by_type, Declaration, declare_sense, declare_objective, declare_constant, declare_row, declare_rhs, declare_range, declare_column, declare_coefficient, declare_lower, declare_upper, declare_marked, declare_integer, declare_binary, declare_semi, Declarations, Draft, adding, empty_draft, has_row, has_column, has_entry, is_free_row, rhs_declared}
 use Rattle.mpslp_builder.specs.Refusal.{refusal_tests}
 use Rattle.mpslp_builder.proofs.LaterDrafts.{itself_named}
-use Rattle.mpslp_builder.proofs.SlotLemmas.{has-put, has-put_key}
+use Rattle.mpslp_builder.proofs.SlotLemmas.{same_name, has-put, has-put_key}
 use Rattle.mpslp_reading.specs.Declaring.{kind_of_refusal}
 use Rattle.mpslp_reading.specs.Field.{is_kind, value_of}
 use Rattle.mpslp_reading.specs.Tests.{Tests}
@@ -34,13 +34,14 @@ use Rattle.mpslp_mps.specs.HeaderFault.{lacks_objective, section_tests, header_t
 use Rattle.mpslp_mps.specs.DataFault.{data_tests}
 use Rattle.mpslp_mps.specs.LineFault.{item_tests}
 use Rattle.mpslp_mps.specs.LineMeaning.{declared_of, sense_declared, is_new_objective, row_of_type, row_declared, coefficient_declared, column_declared, columns_line_declared, right_sides_declared, ranges_declared, bound_declared, bound_value, bound_line_declared, data_declared, header_declared, declared}
-use Rattle.mpslp_mps.specs.TextInWords.{place, is_sense, in_order, words_in, has_free_row, has_named_objective}
-use Rattle.mpslp_mps.specs.FaultsInWords.{IsInWords, names_row, row_name, repeats_row, column_line, pairs_in, names_unknown_row, bound_column, names_column, names_unknown_column, has_row_twice, has_entry_of, repeats_entry_of, repeats_entry}
+use Rattle.mpslp_mps.specs.TextInWords.{place, is_sense, is_one_word, in_order, words_in, has_free_row, has_named_objective}
+use Rattle.mpslp_mps.specs.FaultsInWords.{IsInWords, has_its_word, names_row, row_name, is_free_row_line, has_default_objective, is_row, repeats_row, column_line, pairs_in, names_unknown_row, bound_column, names_column, names_unknown_column, has_row_twice, has_entry_of, repeats_entry_of, repeats_entry}
 use Rattle.mpslp_mps.specs.declared.bound_types.BoundType.{BoundType}
 use Rattle.mpslp_mps.specs.declared.bound_types.BoundType.TheVariants as bounds
 use Rattle.mpslp_mps.specs.declared.sections.Section.{Section}
 use Rattle.mpslp_mps.specs.declared.sections.Section.TheVariants.{Name, ObjSense, ObjName, Rows, Columns, Rhs, Ranges, Bounds, EndData}
 use Rattle.mpslp_mps.proofs.OrderLemmas.{IsGood, never, header-fresh, each-declared, each-flat, sense-passes, sides-passes, ranges-passes, Passes, bounds-passes}
+use Rattle.mpslp_mps.proofs.WordsOfHeaders.{AreOrdered}
 use Rattle.mpslp_mps.proofs.WordsOfObjName.{told-words}
 use Rattle.mpslp_mps.proofs.WordsOfOneWord.{missing, without_word, with_word, IsUnderway, sense-word}
 use Rattle.mpslp_mps.proofs.NamesOfWords.{Told}
@@ -265,9 +266,21 @@ unknown-columns = in-words kinds.UnknownColumn names_unknown_column refl refl re
 
 -- ---- UnknownRow
 
+-- a row by the words is there
+row-there : (before : List Item) (earlier : Draft) (name : List ℕ) → Told before earlier → has_section before Columns ≡ true → is_row before name ≡ true → has_row earlier name ≡ true
+row-there before earlier name told begun h = by (names_row before name) refl h
+  where
+    by : (b : Bool) → names_row before name ≡ b → (b || (has_default_objective before && same_bytes name (codes "obj"))) ≡ true → has_row earlier name ≡ true
+    by true e k = told.rows_there name e
+    by false e k =
+        ap (has_row earlier) (same_name name (codes "obj") (second_so (has_default_objective before) (same_bytes name (codes "obj")) k))
+        ∙ told.default_there begun (first_so (has_default_objective before) (same_bytes name (codes "obj")) k)
+
 -- rows that are not there are not named
-rows-unnamed : (before : List Item) (earlier : Draft) (pairs : List Pair) → Told before earlier → list_any (λ pair. not (has_row earlier pair.row)) pairs ≡ true → list_any (λ pair. not (names_row before pair.row)) pairs ≡ true
-rows-unnamed before earlier pairs told = some (λ pair. not (has_row earlier pair.row)) (λ pair. not (names_row before pair.row)) pairs (λ pair e. unnamed (names_row before pair.row) (has_row earlier pair.row) (told.rows_there pair.row) e)
+rows-unnamed : (before : List Item) (earlier : Draft) (pairs : List Pair) → Told before earlier → has_section before Columns ≡ true → list_any (λ pair. not (has_row earlier pair.row)) pairs ≡ true → list_any (λ pair. not (is_row before pair.row)) pairs ≡ true
+rows-unnamed before earlier pairs told begun =
+    some (λ pair. not (has_row earlier pair.row)) (λ pair. not (is_row before pair.row)) pairs
+    (λ pair e. unnamed (is_row before pair.row) (has_row earlier pair.row) (row-there before earlier pair.row told begun) e)
 
 either-pair : (a c d : Bool) → (c ≡ true → d ≡ true) → ((a || false) || c) ≡ true → (a || d) ≡ true
 either-pair true c d f h = refl
@@ -332,6 +345,15 @@ objective-missing before earlier told h =
         word-unnamed (has_free_row before) (words_in ObjName before) word (ap head_of (told-words None before) ∙ e)
         (lacks word (has_free_row before word) e refl)
 
+-- in a section from COLUMNS on, COLUMNS has begun
+columns-begun : (before : List Item) (s : Section) → AreOrdered (sections_begun before) → nat_le 3 (place s) ≡ true → current_section before ≡ Some s → has_section before Columns ≡ true
+columns-begun before s ordered late e = ordered.columns (last-so (sections_begun before) e)
+  where
+    last-so : (seen : List Section) → last_or None seen ≡ Some s → list_any (λ (x : Section). nat_le 3 (place x)) seen ≡ true
+    last-so [] k = cc
+    last-so (x ∷ []) k = let same : x ≡ s = cc in or_left (nat_le 3 (place x)) false (ap (λ (y : Section). nat_le 3 (place y)) same ∙ late)
+    last-so (x ∷ y ∷ seen) k = or_right (nat_le 3 (place x)) (list_any (λ (z : Section). nat_le 3 (place z)) (y ∷ seen)) (last-so (y ∷ seen) k)
+
 unknown-row : (before : List Item) (earlier : Draft) (item : Item) → Told before earlier → IsFirst kinds.UnknownRow before earlier item → names_unknown_row before item ≡ true
 unknown-row before earlier skipped told h = let no = h.told in cc
 unknown-row before earlier (header keyword more) told h = by (section_named keyword) h.told
@@ -379,7 +401,7 @@ unknown-row before earlier (header keyword more) told h = by (section_named keyw
         (is_one_of (codes "SOS" ∷ codes "SOS1" ∷ codes "SOS2" ∷ []) keyword) (is_one_of (codes "INDICATORS" ∷ []) keyword)) refl))
     by (Some s) k = of s (form (Some s) k)
 unknown-row before earlier (data_line fields) told h =
-    by (current_section before)
+    by (current_section before) refl
     (right_alone (holds_of kinds.UnknownRow (data_tests (context_of before) earlier fields (current_section before))) (refuses kinds.UnknownRow earlier (data_declared (context_of before) earlier fields (current_section before)))
     (none-holds (kinds_in (current_section before)) kinds.UnknownRow (data_tests (context_of before) earlier fields (current_section before)) (data-among (context_of before) earlier fields (current_section before)) (other (current_section before))) h.told)
   where
@@ -407,43 +429,46 @@ unknown-row before earlier (data_line fields) told h =
     marks line true k = cells-unknown line.name line.pairs (adding (adding earlier (declare_column line.name)) (declare_marked line.name)) k
     marks line false k = cells-unknown line.name line.pairs (adding earlier (declare_column line.name)) k
 
-    column : (b : Bool) → refuses kinds.UnknownRow earlier (cond b [] (declared_of (column_declared (context_of before)) (column_shape fields))) ≡ true
-        → list_any (λ pair. not (names_row before pair.row)) (option_map_or (λ (line : ValuesLine). line.pairs) (cond b None (column_shape fields)) []) ≡ true
-    column true k = k
-    column false k = of (column_shape fields) k
+    column : has_section before Columns ≡ true → (b : Bool) → refuses kinds.UnknownRow earlier (cond b [] (declared_of (column_declared (context_of before)) (column_shape fields))) ≡ true
+        → list_any (λ pair. not (is_row before pair.row)) (option_map_or (λ (line : ValuesLine). line.pairs) (cond b None (column_shape fields)) []) ≡ true
+    column begun true k = k
+    column begun false k = of (column_shape fields) k
       where
         of : (o : Option ValuesLine) → refuses kinds.UnknownRow earlier (declared_of (column_declared (context_of before)) o) ≡ true
-            → list_any (λ pair. not (names_row before pair.row)) (option_map_or (λ (line : ValuesLine). line.pairs) o []) ≡ true
+            → list_any (λ pair. not (is_row before pair.row)) (option_map_or (λ (line : ValuesLine). line.pairs) o []) ≡ true
         of None e = e
-        of (Some line) e = rows-unnamed before earlier line.pairs told (marks line (context_of before).in_integer_part e)
+        of (Some line) e = rows-unnamed before earlier line.pairs told begun (marks line (context_of before).in_integer_part e)
 
-    sides : (o : Option ValuesLine) → refuses kinds.UnknownRow earlier (declared_of (right_sides_declared earlier) o) ≡ true
-        → list_any (λ pair. not (names_row before pair.row)) (option_map_or (λ (line : ValuesLine). line.pairs) o []) ≡ true
-    sides None e = e
-    sides (Some line) e = rows-unnamed before earlier line.pairs told (sides-unknown earlier line.pairs earlier e)
+    sides : has_section before Columns ≡ true → (o : Option ValuesLine) → refuses kinds.UnknownRow earlier (declared_of (right_sides_declared earlier) o) ≡ true
+        → list_any (λ pair. not (is_row before pair.row)) (option_map_or (λ (line : ValuesLine). line.pairs) o []) ≡ true
+    sides begun None e = e
+    sides begun (Some line) e = rows-unnamed before earlier line.pairs told begun (sides-unknown earlier line.pairs earlier e)
 
-    ranges : (o : Option ValuesLine) → refuses kinds.UnknownRow earlier (declared_of ranges_declared o) ≡ true
-        → list_any (λ pair. not (names_row before pair.row)) (option_map_or (λ (line : ValuesLine). line.pairs) o []) ≡ true
-    ranges None e = e
-    ranges (Some line) e = rows-unnamed before earlier line.pairs told (ranges-unknown line.pairs earlier e)
+    ranges : has_section before Columns ≡ true → (o : Option ValuesLine) → refuses kinds.UnknownRow earlier (declared_of ranges_declared o) ≡ true
+        → list_any (λ pair. not (is_row before pair.row)) (option_map_or (λ (line : ValuesLine). line.pairs) o []) ≡ true
+    ranges begun None e = e
+    ranges begun (Some line) e = rows-unnamed before earlier line.pairs told begun (ranges-unknown line.pairs earlier e)
 
     passes : Passes (λ d. not (may_refuse kinds.UnknownRow d))
     passes = record { lower = λ _ _. refl; upper = λ _ _. refl; integer = λ _. refl; semi = λ _. refl }
 
-    by : (o : Option Section) → refuses kinds.UnknownRow earlier (data_declared (context_of before) earlier fields o) ≡ true → list_any (λ pair. not (names_row before pair.row)) (pairs_in o fields) ≡ true
-    by None k = k
-    by (Some Name) k = k
-    by (Some ObjSense) k = no-one kinds.UnknownRow (data_declared (context_of before) earlier fields (Some ObjSense)) earlier (sense-passes (λ d. not (may_refuse kinds.UnknownRow d)) (λ _. refl) fields) k
-    by (Some ObjName) k = k
-    by (Some Rows) k =
+    begun_in : (s : Section) → nat_le 3 (place s) ≡ true → current_section before ≡ Some s → has_section before Columns ≡ true
+    begun_in s = columns-begun before s told.known.words.ordered
+
+    by : (o : Option Section) → current_section before ≡ o → refuses kinds.UnknownRow earlier (data_declared (context_of before) earlier fields o) ≡ true → list_any (λ pair. not (is_row before pair.row)) (pairs_in o fields) ≡ true
+    by None e k = k
+    by (Some Name) e k = k
+    by (Some ObjSense) e k = no-one kinds.UnknownRow (data_declared (context_of before) earlier fields (Some ObjSense)) earlier (sense-passes (λ d. not (may_refuse kinds.UnknownRow d)) (λ _. refl) fields) k
+    by (Some ObjName) e k = k
+    by (Some Rows) e k =
         no-one kinds.UnknownRow (data_declared (context_of before) earlier fields (Some Rows)) earlier
         (each-declared (λ d. not (may_refuse kinds.UnknownRow d)) (row_declared (context_of before) earlier) (row_shape fields)
         (λ line. each-declared (λ d. not (may_refuse kinds.UnknownRow d)) (row_of_type (context_of before) earlier line.name) (row_type line.letter) (λ type. rows line.name type))) k
-    by (Some Columns) k = column (is_marker_line fields) k
-    by (Some Rhs) k = sides (vector_shape fields) k
-    by (Some Ranges) k = ranges (vector_shape fields) k
-    by (Some Bounds) k = no-one kinds.UnknownRow (data_declared (context_of before) earlier fields (Some Bounds)) earlier (bounds-passes (λ d. not (may_refuse kinds.UnknownRow d)) passes fields) k
-    by (Some EndData) k = k
+    by (Some Columns) e k = column (begun_in Columns refl e) (is_marker_line fields) k
+    by (Some Rhs) e k = sides (begun_in Rhs refl e) (vector_shape fields) k
+    by (Some Ranges) e k = ranges (begun_in Ranges refl e) (vector_shape fields) k
+    by (Some Bounds) e k = no-one kinds.UnknownRow (data_declared (context_of before) earlier fields (Some Bounds)) earlier (bounds-passes (λ d. not (may_refuse kinds.UnknownRow d)) passes fields) k
+    by (Some EndData) e k = k
 
 pub unknown-rows : IsInWords kinds.UnknownRow names_unknown_row
 unknown-rows = in-words kinds.UnknownRow names_unknown_row refl refl refl unknown-row
@@ -519,24 +544,64 @@ good-refused : (kind : FaultKind) (before : List Item) (earlier : Draft) (item :
 good-refused kind before earlier item good first =
     right_alone (holds_of kind (item_tests (context_of before) earlier item)) (refuses kind earlier (declared (context_of before) earlier item)) (good-none kind (item_tests (context_of before) earlier item) good) first.told
 
+-- where there is no objective, and OBJNAME tells no name, no row is of type N, and OBJNAME has no word
+default-in_words : (before : List Item) (earlier : Draft) → Told before earlier → is_none earlier.objective ≡ true → is_none (objective_name before) ≡ true → has_default_objective before ≡ true
+default-in_words before earlier told none untold =
+    both_so (not (list_any is_free_row_line (data_lines Rows before))) (not (has_its_word before ObjName))
+    (so_not (list_any is_free_row_line (data_lines Rows before)) (no_row (list_any is_free_row_line (data_lines Rows before)) refl))
+    (so_not (has_its_word before ObjName) (no_word told.known.words.name))
+  where
+    nothing : (o n : Option (List ℕ)) → is_none o ≡ true → is_none n ≡ true → (is_some o || is_some n) ≡ false
+    nothing None None e f = refl
+    nothing (Some x) n e f = cc
+    nothing None (Some y) e f = cc
+
+    no_row : (b : Bool) → list_any is_free_row_line (data_lines Rows before) ≡ b → b ≡ false
+    no_row true e = absurd (never (is_some earlier.objective || is_some (objective_name before)) (told.free_named e) (nothing earlier.objective (objective_name before) none untold))
+    no_row false e = refl
+
+    word : (words : List Fields) → is_one_word (λ _. true) words ≡ true → is_none (head_of (filter_map word_shape words)) ≡ false
+    word [] h = cc
+    word ((x ∷ []) ∷ []) h = refl
+    word ([] ∷ (x ∷ []) ∷ []) h = refl
+    word ([] ∷ []) h = cc
+    word ([] ∷ [] ∷ more) h = cc
+    word ([] ∷ (x ∷ []) ∷ next ∷ more) h = cc
+    word ([] ∷ (x ∷ other ∷ rest) ∷ more) h = cc
+    word ((x ∷ []) ∷ next ∷ more) h = cc
+    word ((x ∷ other ∷ rest) ∷ more) h = cc
+
+    no_word : IsUnderway ObjName (λ _. true) before → has_its_word before ObjName ≡ false
+    no_word (missing, (a, b, c)) = ap (λ (words : List Fields). is_nonempty (flat_map (λ fields. fields) words)) a
+    no_word (without_word, (a, b, c, d)) = ap (λ (words : List Fields). is_nonempty (flat_map (λ fields. fields) words)) a
+    no_word (with_word, (a, b, c)) =
+        absurd (never (is_none (objective_name before)) untold (sym (ap (λ (names : List (List ℕ)). is_none (head_of names)) (told-words None before)) ∙ word (words_in ObjName before) a))
+
 repeated-row : (before : List Item) (earlier : Draft) (item : Item) → Told before earlier → IsFirst kinds.DuplicateRow before earlier item → repeats_row before item ≡ true
 repeated-row before earlier item told first =
     let good = form-good kinds.DuplicateRow before earlier item refl refl refl (below-all kinds.DuplicateRow refl refl refl refl) first in
     by item good (good-refused kinds.DuplicateRow before earlier item good first)
   where
     head : (keyword : List ℕ) (more : Fields) (o : Option Section) → those_of (header_tests (context_of before) earlier keyword more o) ≡ [] → refuses kinds.DuplicateRow earlier (header_declared (context_of before) earlier more o) ≡ true
-        → (is_section Columns o && names_row before (codes "obj")) ≡ true
+        → (is_section Columns o && (has_default_objective before && names_row before (codes "obj"))) ≡ true
     head keyword more None g k = cc
     head keyword more (Some Name) g k = cc
     head keyword more (Some ObjSense) g k = no-one kinds.DuplicateRow (header_declared (context_of before) earlier more (Some ObjSense)) earlier (sense-passes (λ d. not (may_refuse kinds.DuplicateRow d)) (λ _. refl) more) k
     head keyword more (Some ObjName) g k = cc
     head keyword more (Some Rows) g k = cc
     head keyword more (Some Columns) g k =
-        row-named before earlier (codes "obj") told (header-fresh (context_of before) earlier keyword more Columns g) (default (is_none earlier.objective && is_none (context_of before).objective_name) k)
+        default (is_none earlier.objective && is_none (objective_name before)) refl k
       where
-        default : (b : Bool) → refuses kinds.DuplicateRow earlier (cond b (declare_objective (codes "obj") ∷ []) []) ≡ true → has_row earlier (codes "obj") ≡ true
-        default true e = left_alone (has_row earlier (codes "obj")) false refl (left_alone (has_row earlier (codes "obj") || false) false refl e)
-        default false e = cc
+        fresh : has_section before Columns ≡ false
+        fresh = header-fresh (context_of before) earlier keyword more Columns g
+
+        default : (b : Bool) → (is_none earlier.objective && is_none (objective_name before)) ≡ b → refuses kinds.DuplicateRow earlier (cond b (declare_objective (codes "obj") ∷ []) []) ≡ true
+            → (has_default_objective before && names_row before (codes "obj")) ≡ true
+        default true e f =
+            both_so (has_default_objective before) (names_row before (codes "obj"))
+            (default-in_words before earlier told (first_so (is_none earlier.objective) (is_none (objective_name before)) e) (second_so (is_none earlier.objective) (is_none (objective_name before)) e))
+            (row-named before earlier (codes "obj") told fresh (left_alone (has_row earlier (codes "obj")) false refl (left_alone (has_row earlier (codes "obj") || false) false refl f)))
+        default false e f = cc
     head keyword more (Some Rhs) g k = cc
     head keyword more (Some Ranges) g k = cc
     head keyword more (Some Bounds) g k = cc

@@ -54,3 +54,4 @@ pub mod FaultedLines
 pub mod KindsOfLines
 pub mod FaultsOfWords
 pub mod FaultsOfNames
+pub mod WorkedSentences

@@ -2,7 +2,7 @@
 use Rattle.std.proofs.Common.{◌≡◌, refl, sym, ap, ◌∙◌, subst, List, [], ◌∷◌, ◌++◌, ℕ, Bool, true, false, cond}
 use Rattle.std.specs.Prelude.{Option, Some, None, is_none, is_some, not, filter_map, ◌||◌, ◌&&◌, codes}
 use Rattle.std.specs.List.{list_any, list_all, flat_map, cons_option}
-use Rattle.std.specs.Option.{option_map, option_map_or}
+use Rattle.std.specs.Option.{option_map, option_map_or, option_or}
 use Rattle.std.specs.Cmp.{first_so, second_so}
 use Rattle.std.proofs.lemmas.List.Elements.{filter_map-append}
 use Rattle.std.proofs.lemmas.List.Concat.{flat_map-append}
@@ -10,27 +10,30 @@ use Rattle.std.proofs.lemmas.List.Folds.{list_any-append}
 use Rattle.mpslp_types.specs.Name.{same_bytes, is_mps_name}
 use Rattle.mpslp_types.specs.declared.kinds.RowType.{RowType}
 use Rattle.mpslp_types.specs.declared.kinds.RowType.TheVariants.{Free, AtMost, AtLeast, Equal}
-use Rattle.mpslp_types.proofs.BoolLemmas.{or_left, or_right}
-use Rattle.mpslp_core.specs.Lists.{when, is_nonempty, those_of}
+use Rattle.mpslp_types.proofs.BoolLemmas.{or_left, or_right, both_so, both_false, nor, not_so, so_not}
+use Rattle.mpslp_core.specs.Lists.{when, head_of, is_nonempty, those_of}
 use Rattle.mpslp_core.specs.Model.{CoefficientKey}
 use Rattle.mpslp_builder.specs.Declaration.{by_type, RowForm, Declaration, declare_sense, declare_objective, declare_constant, declare_row, declare_rhs, declare_range, declare_column, declare_coefficient, declare_lower, declare_upper, declare_marked, declare_integer, declare_binary, declare_semi, Declarations, Draft, adding, adding_all, empty_draft, has_name, is_objective, has_row, has_entry}
 use Rattle.mpslp_builder.proofs.LaterDrafts.{more_entries}
 use Rattle.mpslp_builder.proofs.SlotLemmas.{has-put, has-put_key}
 use Rattle.mpslp_reading.specs.Field.{value_of}
+use Rattle.mpslp_reading.proofs.ObjectiveLemmas.{named-after}
 use Rattle.mpslp_mps.specs.Line.{Fields, Item, skipped, header, data_line}
 use Rattle.mpslp_mps.specs.Section.{section_named, begins, is_section}
 use Rattle.mpslp_mps.specs.DataLine.{RowLine, Pair, ValuesLine, word_shape, row_shape, row_type, column_shape, is_marker_line}
-use Rattle.mpslp_mps.specs.Context.{Context, context_of, current_section, has_section, fields_under, data_lines}
+use Rattle.mpslp_mps.specs.Context.{Context, context_of, current_section, objective_name, objname_word, has_section, fields_under, data_lines}
 use Rattle.mpslp_mps.specs.LineMeaning.{declared_of, sense_declared, is_new_objective, row_of_type, row_declared, coefficient_declared, column_declared, columns_line_declared, data_declared, header_declared, declared}
 use Rattle.mpslp_mps.specs.DataFault.{data_tests}
-use Rattle.mpslp_mps.specs.TextInWords.{word_fields, words_in}
-use Rattle.mpslp_mps.specs.FaultsInWords.{row_name, is_named, names_row, has_entry_of, has_its_word}
+use Rattle.mpslp_mps.specs.TextInWords.{is_free, word_fields, words_in}
+use Rattle.mpslp_mps.specs.FaultsInWords.{row_name, is_named, names_row, is_free_row_line, has_default_objective, has_entry_of, has_its_word}
 use Rattle.mpslp_mps.specs.declared.sections.Section.{Section}
 use Rattle.mpslp_mps.specs.declared.sections.Section.TheVariants.{Name, ObjSense, ObjName, Rows, Columns, Rhs, Ranges, Bounds, EndData}
-use Rattle.mpslp_mps.proofs.OrderLemmas.{IsGood, no_rows, rows-kept, each-declared, each-flat, sense-passes, sides-passes, ranges-passes, Passes, bounds-passes}
+use Rattle.mpslp_mps.proofs.OrderLemmas.{never, IsGood, no_rows, rows-kept, each-declared, each-flat, sense-passes, sides-passes, ranges-passes, Passes, bounds-passes}
 use Rattle.mpslp_mps.proofs.KnownLemmas.{no-rows-data}
 use Rattle.mpslp_mps.proofs.SectionLemmas.{data_lines-push, has_section-push, said_after-push}
 use Rattle.mpslp_mps.proofs.WordsOfFields.{section-is, row-fields}
+use Rattle.mpslp_mps.proofs.ContextLemmas.{objective_name-push}
+use Rattle.mpslp_mps.proofs.WordsOfObjName.{are_unnamed, objective-kept, header-unnamed, data-unnamed, told-words}
 use Rattle.mpslp_mps.proofs.TextOfWords.{Known, none-known, known-kept}
 
 -- ---- one line more
@@ -490,6 +493,199 @@ sense_word-kept before earlier item have h =
             left words []
             (have (sym (ap is_some (senses-kept (data_declared (context_of before) earlier fields (current_section before)) earlier (no-senses-data (context_of before) earlier fields (current_section before) e))) ∙ k))
 
+-- ---- the objective: a row of type N, or `obj` from the header of COLUMNS on
+
+abbrev has_free_line : List Item → Bool
+has_free_line before = list_any is_free_row_line (data_lines Rows before)
+
+free_line-push : (before : List Item) (item : Item) → has_free_line (before ++ item ∷ []) ≡ (has_free_line before || list_any is_free_row_line (fields_under Rows (current_section before) item))
+free_line-push before item =
+    ap (list_any is_free_row_line) (data_lines-push Rows before item) ∙ list_any-append is_free_row_line (data_lines Rows before) (fields_under Rows (current_section before) item)
+
+word-push : (section : Section) (before : List Item) (item : Item) → has_its_word before section ≡ true → has_its_word (before ++ item ∷ []) section ≡ true
+word-push section before item h =
+    ap (λ (words : List Fields). is_nonempty (flat_map (λ fields. fields) words)) (said_after-push (word_fields section) None before item)
+    ∙ (ap is_nonempty (flat_map-append (λ fields. fields) (words_in section before) (word_fields section (current_section before) item))
+    ∙ left (flat_map (λ fields. fields) (words_in section before)) (flat_map (λ fields. fields) (word_fields section (current_section before) item)) h)
+  where
+    left : (xs ys : List (List ℕ)) → is_nonempty xs ≡ true → is_nonempty (xs ++ ys) ≡ true
+    left [] ys k = cc
+    left (x ∷ xs) ys k = refl
+
+-- an objective that is there is a row of type N, or COLUMNS has begun
+abbrev pub IsFreeLine : List Item → Draft → Type 0
+IsFreeLine before earlier = is_some earlier.objective ≡ true → (has_free_line before || has_section before Columns) ≡ true
+
+free_line-kept : (before : List Item) (earlier : Draft) (item : Item) → IsFreeLine before earlier → IsFreeLine (before ++ item ∷ []) (adding_all earlier (declared (context_of before) earlier item))
+free_line-kept before earlier item have h =
+    ap (λ (b : Bool). b || has_section (before ++ item ∷ []) Columns) (free_line-push before item)
+    ∙ (ap (λ (b : Bool). (has_free_line before || list_any is_free_row_line (fields_under Rows (current_section before) item)) || b) (has_section-push Columns before item)
+    ∙ by item h)
+  where
+    old : (a b : Bool) → is_some earlier.objective ≡ true → ((has_free_line before || a) || (has_section before Columns || b)) ≡ true
+    old a b k = of (has_free_line before) (has_section before Columns) (have k)
+      where
+        of : (m n : Bool) → (m || n) ≡ true → ((m || a) || (n || b)) ≡ true
+        of true n e = refl
+        of false true e = or_right a true refl
+        of false false e = cc
+
+    same : (ds : Declarations) → are_unnamed ds ≡ true → is_some (adding_all earlier ds).objective ≡ true → is_some earlier.objective ≡ true
+    same ds e k = sym (ap (λ (o : Option (List ℕ)). is_some o) (objective-kept ds earlier e)) ∙ k
+
+    typed : (line : RowLine) (o : Option RowType) → is_some (adding_all earlier (declared_of (row_of_type (context_of before) earlier line.name) o)).objective ≡ true
+        → ((has_free_line before || (is_free o || false)) || (has_section before Columns || false)) ≡ true
+    typed line None k = old (is_free None || false) false k
+    typed line (Some Free) k = or_left (has_free_line before || true) (has_section before Columns || false) (or_right (has_free_line before) true refl)
+    typed line (Some AtMost) k = old false false k
+    typed line (Some AtLeast) k = old false false k
+    typed line (Some Equal) k = old false false k
+
+    row : (o : Option RowLine) → is_some (adding_all earlier (declared_of (row_declared (context_of before) earlier) o)).objective ≡ true
+        → ((has_free_line before || (option_map_or (λ (line : RowLine). is_free (row_type line.letter)) o false || false)) || (has_section before Columns || false)) ≡ true
+    row None k = old false false k
+    row (Some line) k = typed line (row_type line.letter) k
+
+    by : (x : Item) → is_some (adding_all earlier (declared (context_of before) earlier x)).objective ≡ true
+        → ((has_free_line before || list_any is_free_row_line (fields_under Rows (current_section before) x)) || (has_section before Columns || begins Columns x)) ≡ true
+    by skipped k = old false false k
+    by (header keyword more) k = of_header (is_section Columns (section_named keyword)) refl
+      where
+        of_header : (b : Bool) → is_section Columns (section_named keyword) ≡ b → ((has_free_line before || false) || (has_section before Columns || b)) ≡ true
+        of_header true e = or_right (has_free_line before || false) (has_section before Columns || true) (or_right (has_section before Columns) true refl)
+        of_header false e = old false false (same (header_declared (context_of before) earlier more (section_named keyword)) (header-unnamed (context_of before) earlier more (section_named keyword) e) k)
+    by (data_line fields) k = under (is_section Rows (current_section before)) refl
+      where
+        under : (b : Bool) → is_section Rows (current_section before) ≡ b → ((has_free_line before || list_any is_free_row_line (when b fields)) || (has_section before Columns || false)) ≡ true
+        under true e = row (row_shape fields) (subst (λ o. is_some (adding_all earlier (data_declared (context_of before) earlier fields o)).objective ≡ true) (section-is Rows (current_section before) e) k)
+        under false e = old false false (same (data_declared (context_of before) earlier fields (current_section before)) (data-unnamed (context_of before) earlier fields (current_section before) e) k)
+
+-- a row of type N is the objective, or OBJNAME tells another name
+abbrev pub IsFreeNamed : List Item → Draft → Type 0
+IsFreeNamed before earlier = has_free_line before ≡ true → (is_some earlier.objective || is_some (objective_name before)) ≡ true
+
+free_named-kept : (before : List Item) (earlier : Draft) (item : Item) → IsFreeNamed before earlier → IsFreeNamed (before ++ item ∷ []) (adding_all earlier (declared (context_of before) earlier item))
+free_named-kept before earlier item have h = by item (sym (free_line-push before item) ∙ h)
+  where
+    stays : (x : Item) (o n : Bool) → is_some earlier.objective ≡ o → is_some (objective_name before) ≡ n → (o || n) ≡ true
+        → (is_some (adding_all earlier (declared (context_of before) earlier x)).objective || is_some (objective_name (before ++ x ∷ []))) ≡ true
+    stays x true n e f k =
+        or_left (is_some (adding_all earlier (declared (context_of before) earlier x)).objective) (is_some (objective_name (before ++ x ∷ []))) (named-after (declared (context_of before) earlier x) earlier e)
+    stays x false true e f k =
+        or_right (is_some (adding_all earlier (declared (context_of before) earlier x)).objective) (is_some (objective_name (before ++ x ∷ [])))
+        (ap (λ (o : Option (List ℕ)). is_some o) (objective_name-push before x) ∙ first (objective_name before) (objname_word (current_section before) x) f)
+      where
+        first : (a b : Option (List ℕ)) → is_some a ≡ true → is_some (option_or a b) ≡ true
+        first None b g = cc
+        first (Some y) b g = refl
+    stays x false false e f k = cc
+
+    old : (x : Item) → has_free_line before ≡ true → (is_some (adding_all earlier (declared (context_of before) earlier x)).objective || is_some (objective_name (before ++ x ∷ []))) ≡ true
+    old x e = stays x (is_some earlier.objective) (is_some (objective_name before)) refl refl (have e)
+
+    -- not new: there is an objective, or a name that it should have
+    kept_back : (name : List ℕ) (o n : Option (List ℕ)) → (is_none o && option_map_or (same_bytes name) n true) ≡ false → (is_some o || is_some n) ≡ true
+    kept_back name (Some x) n e = refl
+    kept_back name None (Some y) e = refl
+    kept_back name None None e = cc
+
+    fresh : (fields : Fields) (line : RowLine) (o : Option RowType) → is_free o ≡ true → data_declared (context_of before) earlier fields (current_section before) ≡ declared_of (row_of_type (context_of before) earlier line.name) o
+        → (is_some (adding_all earlier (declared (context_of before) earlier (data_line fields))).objective || is_some (objective_name (before ++ data_line fields ∷ []))) ≡ true
+    fresh fields line None e d = cc
+    fresh fields line (Some AtMost) e d = cc
+    fresh fields line (Some AtLeast) e d = cc
+    fresh fields line (Some Equal) e d = cc
+    fresh fields line (Some Free) e d = new (is_new_objective (context_of before) earlier line.name) refl
+      where
+        new : (b : Bool) → is_new_objective (context_of before) earlier line.name ≡ b
+            → (is_some (adding_all earlier (declared (context_of before) earlier (data_line fields))).objective || is_some (objective_name (before ++ data_line fields ∷ []))) ≡ true
+        new true f =
+            or_left (is_some (adding_all earlier (declared (context_of before) earlier (data_line fields))).objective) (is_some (objective_name (before ++ data_line fields ∷ [])))
+            (ap (λ (ds : Declarations). is_some (adding_all earlier ds).objective)
+            (d ∙ ap (λ (c : Bool). cond c (declare_objective line.name ∷ []) (declare_row line.name (by_type Free) ∷ [])) f))
+        new false f = stays (data_line fields) (is_some earlier.objective) (is_some (objective_name before)) refl refl (kept_back line.name earlier.objective (objective_name before) f)
+
+    either : (x : Item) (a b : Bool) → has_free_line before ≡ a → (a || b) ≡ true → (b ≡ true → (is_some (adding_all earlier (declared (context_of before) earlier x)).objective || is_some (objective_name (before ++ x ∷ []))) ≡ true)
+        → (is_some (adding_all earlier (declared (context_of before) earlier x)).objective || is_some (objective_name (before ++ x ∷ []))) ≡ true
+    either x true b e k new = old x e
+    either x false b e k new = new k
+
+    by : (x : Item) → (has_free_line before || list_any is_free_row_line (fields_under Rows (current_section before) x)) ≡ true
+        → (is_some (adding_all earlier (declared (context_of before) earlier x)).objective || is_some (objective_name (before ++ x ∷ []))) ≡ true
+    by skipped k = either skipped (has_free_line before) false refl k (λ e. cc)
+    by (header keyword more) k = either (header keyword more) (has_free_line before) false refl k (λ e. cc)
+    by (data_line fields) k =
+        either (data_line fields) (has_free_line before) (list_any is_free_row_line (fields_under Rows (current_section before) (data_line fields))) refl k
+        (λ e. under (is_section Rows (current_section before)) refl e)
+      where
+        row : (o : Option RowLine) → (option_map_or (λ (line : RowLine). is_free (row_type line.letter)) o false || false) ≡ true
+            → data_declared (context_of before) earlier fields (current_section before) ≡ declared_of (row_declared (context_of before) earlier) o
+            → (is_some (adding_all earlier (declared (context_of before) earlier (data_line fields))).objective || is_some (objective_name (before ++ data_line fields ∷ []))) ≡ true
+        row None e d = cc
+        row (Some line) e d = fresh fields line (row_type line.letter) (only (is_free (row_type line.letter)) e) d
+          where
+            only : (b : Bool) → (b || false) ≡ true → b ≡ true
+            only true f = refl
+            only false f = f
+
+        under : (b : Bool) → is_section Rows (current_section before) ≡ b → list_any is_free_row_line (when b fields) ≡ true
+            → (is_some (adding_all earlier (declared (context_of before) earlier (data_line fields))).objective || is_some (objective_name (before ++ data_line fields ∷ []))) ≡ true
+        under true e f = row (row_shape fields) f (ap (data_declared (context_of before) earlier fields) (section-is Rows (current_section before) e))
+        under false e f = cc
+
+-- where there is none, and OBJNAME has no word, `obj` is there from the header of COLUMNS on
+abbrev pub IsDefaultThere : List Item → Draft → Type 0
+IsDefaultThere before earlier = has_section before Columns ≡ true → has_default_objective before ≡ true → has_row earlier (codes "obj") ≡ true
+
+no-word : (before : List Item) → has_its_word before ObjName ≡ false → objective_name before ≡ None
+no-word before h = sym (ap head_of (told-words None before)) ∙ none (words_in ObjName before) h
+  where
+    none : (words : List Fields) → is_nonempty (flat_map (λ (fields : Fields). fields) words) ≡ false → head_of (filter_map word_shape words) ≡ None
+    none [] e = refl
+    none ([] ∷ more) e = none more e
+    none ((word ∷ rest) ∷ more) e = cc
+
+default_there-kept : (before : List Item) (earlier : Draft) (item : Item) → IsFreeLine before earlier → IsDefaultThere before earlier → IsDefaultThere (before ++ item ∷ []) (adding_all earlier (declared (context_of before) earlier item))
+default_there-kept before earlier item free there begun default = by (has_section before Columns) refl item (sym (has_section-push Columns before item) ∙ begun) free_before (no_word item word_after)
+  where
+    free_before : has_free_line before ≡ false
+    free_before =
+        (nor (has_free_line before) (list_any is_free_row_line (fields_under Rows (current_section before) item))
+        (sym (free_line-push before item) ∙ not_so (has_free_line (before ++ item ∷ [])) (first_so (not (has_free_line (before ++ item ∷ []))) (not (has_its_word (before ++ item ∷ []) ObjName)) default))).0
+
+    word_after : has_its_word (before ++ item ∷ []) ObjName ≡ false
+    word_after = not_so (has_its_word (before ++ item ∷ []) ObjName) (second_so (not (has_free_line (before ++ item ∷ []))) (not (has_its_word (before ++ item ∷ []) ObjName)) default)
+
+    no_word : (x : Item) → has_its_word (before ++ x ∷ []) ObjName ≡ false → has_its_word before ObjName ≡ false
+    no_word x e = of (has_its_word before ObjName) refl
+      where
+        of : (b : Bool) → has_its_word before ObjName ≡ b → b ≡ false
+        of true f = absurd (never (has_its_word (before ++ x ∷ []) ObjName) (word-push ObjName before x f) e)
+        of false f = refl
+
+    none_yet : (b : Bool) → is_some earlier.objective ≡ b → has_free_line before ≡ false → has_section before Columns ≡ false → is_none earlier.objective ≡ true
+    none_yet true e f g = absurd (never (has_free_line before || has_section before Columns) (free e) (both_false (has_free_line before) (has_section before Columns) f g))
+    none_yet false e f g = of earlier.objective e
+      where
+        of : (o : Option (List ℕ)) → is_some o ≡ false → is_none o ≡ true
+        of None k = refl
+        of (Some y) k = cc
+
+    declares : (o : Option Section) (more : Fields) → is_section Columns o ≡ true → is_none earlier.objective ≡ true → is_none (objective_name before) ≡ true → has_row (adding_all earlier (header_declared (context_of before) earlier more o)) (codes "obj") ≡ true
+    declares o more e f g =
+        subst (λ s. has_row (adding_all earlier (header_declared (context_of before) earlier more s)) (codes "obj") ≡ true) (sym (section-is Columns o e))
+        (ap (λ (b : Bool). has_row (adding_all earlier (cond b (declare_objective (codes "obj") ∷ []) [])) (codes "obj")) (both_so (is_none earlier.objective) (is_none (objective_name before)) f g))
+
+    by : (b : Bool) → has_section before Columns ≡ b → (x : Item) → (b || begins Columns x) ≡ true → has_free_line before ≡ false → has_its_word before ObjName ≡ false
+        → has_row (adding_all earlier (declared (context_of before) earlier x)) (codes "obj") ≡ true
+    by true e x k f w =
+        rows-stay (context_of before) earlier x (codes "obj")
+        (there e (both_so (not (has_free_line before)) (not (has_its_word before ObjName)) (so_not (has_free_line before) f) (so_not (has_its_word before ObjName) w)))
+    by false e skipped k f w = cc
+    by false e (data_line fields) k f w = cc
+    by false e (header keyword more) k f w =
+        declares (section_named keyword) more k (none_yet (is_some earlier.objective) refl f e) (ap (λ (o : Option (List ℕ)). is_none o) (no-word before w))
+
 -- ---- all of it
 
 pub record Told (before : List Item) (earlier : Draft) : Type 0 where
@@ -498,9 +694,12 @@ pub record Told (before : List Item) (earlier : Draft) : Type 0 where
   pub row_lines : HaveRowLines before earlier
   pub entry_lines : HaveEntryLines before earlier
   pub sense_word : HasSenseWord before earlier
+  pub free_line : IsFreeLine before earlier
+  pub free_named : IsFreeNamed before earlier
+  pub default_there : IsDefaultThere before earlier
 
 pub none-told : Told [] empty_draft
-none-told = record { known = none-known; rows_there = λ name h. cc; row_lines = λ name h. cc; entry_lines = λ key h. cc; sense_word = λ h. cc }
+none-told = record { known = none-known; rows_there = λ name h. cc; row_lines = λ name h. cc; entry_lines = λ key h. cc; sense_word = λ h. cc; free_line = λ h. cc; free_named = λ h. cc; default_there = λ h k. cc }
 
 pub told-kept : (before : List Item) (earlier : Draft) (item : Item) → IsGood before earlier item → Told before earlier → Told (before ++ item ∷ []) (adding_all earlier (declared (context_of before) earlier item))
 told-kept before earlier item good told = record {
@@ -509,4 +708,7 @@ told-kept before earlier item good told = record {
   row_lines = row_lines-kept before earlier item told.row_lines;
   entry_lines = entry_lines-kept before earlier item told.entry_lines;
   sense_word = sense_word-kept before earlier item told.sense_word;
+  free_line = free_line-kept before earlier item told.free_line;
+  free_named = free_named-kept before earlier item told.free_named;
+  default_there = default_there-kept before earlier item told.free_line told.default_there;
 }

@@ -51,7 +51,7 @@ objective-same all (declare_integer c) h = refl
 objective-same all (declare_binary c) h = refl
 objective-same all (declare_semi c) h = refl
 
-objective-kept : (ds : Declarations) (all : Draft) → are_unnamed ds ≡ true → (adding_all all ds).objective ≡ all.objective
+pub objective-kept : (ds : Declarations) (all : Draft) → are_unnamed ds ≡ true → (adding_all all ds).objective ≡ all.objective
 objective-kept [] all h = refl
 objective-kept (d ∷ ds) all h =
     objective-kept ds (adding all d) (second_so (not (declares_objective d)) (are_unnamed ds) h) ∙ objective-same all d (first_so (not (declares_objective d)) (are_unnamed ds) h)
@@ -73,7 +73,7 @@ columns-line-unnamed context fields = by (is_marker_line fields)
     by true = refl
     by false = each-declared (λ d. not (declares_objective d)) (column_declared context) (column_shape fields) of
 
-data-unnamed : (context : Context) (earlier : Draft) (fields : Fields) (o : Option Section) → is_section Rows o ≡ false → are_unnamed (data_declared context earlier fields o) ≡ true
+pub data-unnamed : (context : Context) (earlier : Draft) (fields : Fields) (o : Option Section) → is_section Rows o ≡ false → are_unnamed (data_declared context earlier fields o) ≡ true
 data-unnamed context earlier fields None h = refl
 data-unnamed context earlier fields (Some Name) h = refl
 data-unnamed context earlier fields (Some ObjSense) h = sense-passes (λ d. not (declares_objective d)) (λ _. refl) fields
@@ -85,7 +85,7 @@ data-unnamed context earlier fields (Some Ranges) h = ranges-passes (λ d. not (
 data-unnamed context earlier fields (Some Bounds) h = bounds-passes (λ d. not (declares_objective d)) unnamed-sides fields
 data-unnamed context earlier fields (Some EndData) h = refl
 
-header-unnamed : (context : Context) (earlier : Draft) (more : Fields) (o : Option Section) → is_section Columns o ≡ false → are_unnamed (header_declared context earlier more o) ≡ true
+pub header-unnamed : (context : Context) (earlier : Draft) (more : Fields) (o : Option Section) → is_section Columns o ≡ false → are_unnamed (header_declared context earlier more o) ≡ true
 header-unnamed context earlier more None h = refl
 header-unnamed context earlier more (Some Name) h = refl
 header-unnamed context earlier more (Some ObjSense) h = sense-passes (λ d. not (declares_objective d)) (λ _. refl) more

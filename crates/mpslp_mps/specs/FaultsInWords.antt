@@ -8,14 +8,14 @@ use Rattle.mpslp_types.specs.declared.faults.FaultKind.{FaultKind}
 use Rattle.mpslp_core.specs.Lists.{is_nonempty}
 use Rattle.mpslp_mps.specs.Line.{Fields, Item, skipped, header, data_line, item_of}
 use Rattle.mpslp_mps.specs.Section.{section_named, is_section}
-use Rattle.mpslp_mps.specs.DataLine.{Pair, ValuesLine, row_shape, column_shape, is_marker_line, opening_word, closing_word, vector_shape}
+use Rattle.mpslp_mps.specs.DataLine.{Pair, ValuesLine, row_shape, row_type, column_shape, is_marker_line, opening_word, closing_word, vector_shape}
 use Rattle.mpslp_mps.specs.BoundLine.{bound_type, bound_shape}
 use Rattle.mpslp_mps.specs.Context.{current_section, has_section, sections_begun, data_lines, takes_word, marker_word, line_column, vector_set, bound_set}
 use Rattle.mpslp_mps.specs.MpsText.{read_lines}
 use Rattle.mpslp_mps.specs.FirstFault.{IsFirstMpsFault}
-use Rattle.mpslp_mps.specs.TextInWords.{place, takes_data, words_in, has_named_objective, alternate, same_column, stand_together}
+use Rattle.mpslp_mps.specs.TextInWords.{place, takes_data, words_in, has_named_objective, alternate, same_column, stand_together, is_free}
 use Rattle.mpslp_mps.specs.declared.sections.Section.{Section}
-use Rattle.mpslp_mps.specs.declared.sections.Section.TheVariants.{Rows, Columns, Rhs, Ranges, Bounds, EndData}
+use Rattle.mpslp_mps.specs.declared.sections.Section.TheVariants.{Rows, Columns, Rhs, Ranges, Bounds, EndData, ObjName}
 
 -- ---- SectionRepeated: a header whose section has a header before it
 
@@ -91,7 +91,7 @@ abbrev pub splits_column : List Item → Item → Bool
 splits_column before (data_line fields) = is_section Columns (current_section before) && not (stand_together (map line_column (data_lines Columns before) ++ line_column fields ∷ []))
 splits_column before _ = false
 
--- ---- rows: those that lines of ROWS name, and `obj` where none is of type N and OBJNAME names none
+-- ---- rows: those that lines of ROWS name, and `obj` where none is of type N and OBJNAME has no word
 
 abbrev pub row_name : Fields → Option (List ℕ)
 row_name fields = option_map (λ line. line.name) (row_shape fields)
@@ -102,15 +102,24 @@ is_named name names = list_any (same_bytes name) names
 abbrev pub names_row : List Item → List ℕ → Bool
 names_row before name = is_named name (filter_map row_name (data_lines Rows before))
 
+abbrev pub is_free_row_line : Fields → Bool
+is_free_row_line fields = option_map_or (λ line. is_free (row_type line.letter)) (row_shape fields) false
+
+abbrev pub has_default_objective : List Item → Bool
+has_default_objective before = not (list_any is_free_row_line (data_lines Rows before)) && not (has_its_word before ObjName)
+
+abbrev pub is_row : List Item → List ℕ → Bool
+is_row before name = names_row before name || (has_default_objective before && same_bytes name (codes "obj"))
+
 -- ---- DuplicateRow: a line of ROWS whose name a line of ROWS before it has
 
--- or the header of COLUMNS, where the objective is `obj`, which a line of ROWS names
+-- or the header of COLUMNS, where the objective is `obj`, and a line of ROWS has this name
 abbrev pub repeats_row : List Item → Item → Bool
-repeats_row before (header keyword more) = is_section Columns (section_named keyword) && names_row before (codes "obj")
+repeats_row before (header keyword more) = is_section Columns (section_named keyword) && (has_default_objective before && names_row before (codes "obj"))
 repeats_row before (data_line fields) = is_section Rows (current_section before) && option_map_or (names_row before) (row_name fields) false
 repeats_row before skipped = false
 
--- ---- UnknownRow: a line of COLUMNS, RHS or RANGES with a row that no line of ROWS names
+-- ---- UnknownRow: a line of COLUMNS, RHS or RANGES with a row that is none of these
 
 -- a line of a column, and no marker line
 abbrev pub column_line : Fields → Option ValuesLine
@@ -125,7 +134,7 @@ pairs_in _ fields = []
 -- or the header of COLUMNS, where the word of OBJNAME is the name of no row of type N
 abbrev pub names_unknown_row : List Item → Item → Bool
 names_unknown_row before (header keyword more) = is_section Columns (section_named keyword) && not (has_named_objective before)
-names_unknown_row before (data_line fields) = list_any (λ pair. not (names_row before pair.row)) (pairs_in (current_section before) fields)
+names_unknown_row before (data_line fields) = list_any (λ pair. not (is_row before pair.row)) (pairs_in (current_section before) fields)
 names_unknown_row before skipped = false
 
 -- ---- UnknownColumn: a line of BOUNDS with a column that no line of COLUMNS has
