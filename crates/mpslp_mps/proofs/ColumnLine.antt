@@ -1,8 +1,8 @@
 -- The first fault of a line of a column: that of its form, or else a row that is not declared, a column that is
 -- split, or a coefficient that is there twice.
 use Rattle.std.proofs.Common.{◌≡◌, refl, sym, ap, ◌∙◌, ℕ, List, [], ◌∷◌, ◌++◌, Bool, true, false, cond, map, arith}
-use Rattle.std.specs.Prelude.{◌&&◌, not, nat_le, Option, Some, None}
-use Rattle.std.specs.List.{list_all, flat_map}
+use Rattle.std.specs.Prelude.{◌&&◌, not, nat_le, Option, Some, None, is_some}
+use Rattle.std.specs.List.{list_all, flat_map, cons_option}
 use Rattle.std.specs.Option.{option_map, option_or}
 use Rattle.std.proofs.lemmas.Bool.Decides.{nat_tests}
 use Rattle.mpslp_decimal.specs.Decimal.{Number}
@@ -38,7 +38,7 @@ use Rattle.mpslp_mps.specs.KindClash.{column_clash}
 use Rattle.mpslp_mps.proofs.TakingLemmas.{is_early}
 use Rattle.mpslp_mps.proofs.TakenLemmas.{clash-told}
 use Rattle.mpslp_mps.proofs.ClashLemmas.{column-clashes, column-apart}
-use Rattle.mpslp_mps.proofs.ColumnTaking.{are_rows, front-none, front-there, front-rows, values-late, values-unknown, values-double, front-double}
+use Rattle.mpslp_mps.proofs.ColumnTaking.{are_rows, front-none, front-there, front-rows, values-late, values-unknown, values-double, front-double, next-fault}
 
 -- ---- the form
 
@@ -220,6 +220,22 @@ double-fault context earlier fields column values here plain apart held is in_or
     ∙ values-double values (with_column context earlier column) column (front-there earlier marked column)
     (front-rows earlier marked column values ∙ (placed context earlier column values in_order).0)
     ∙ ap (λ (b : Bool). cond b (Some kinds.DuplicateEntry) None) (front-double earlier marked column values)
+
+-- ---- one value, whose column goes on
+
+pub only-first : (first : List ℕ × Number) (second : Option (List ℕ × Number)) (values : List (List ℕ × Number)) → first ∷ cons_option second [] ≡ values → is_some second ≡ false → values ≡ first ∷ []
+only-first first None values h none = sym h
+only-first first (Some other) values h none = cc
+
+pub next-line-fault : (context : Context) (earlier : Draft) (fields : Fields) (column : List ℕ) (values : List (List ℕ × Number)) (first : List ℕ × Number) → context.section ≡ Some Columns
+    → is_marker_line fields ≡ false → column_clash context earlier fields ≡ false → first_held (judged_by field_tests (column_shape fields)) ≡ None
+    → option_map named_values (column_shape fields) ≡ Some (column, values) → values ≡ first ∷ [] → is_split context earlier column ≡ false → has_column earlier column ≡ true
+    → item_fault context earlier (data_line fields) ≡ declared_fault earlier (value_declared column first)
+next-line-fault context earlier fields column values first here plain apart held is one split there =
+    column-fault context earlier fields column values here plain apart held is
+    ∙ ap (λ (b : Bool). earlier_of (cond b (Some kinds.ColumnSplit) None) (declared_fault (with_column context earlier column) (flat_map (value_declared column) values))) split
+    ∙ ap (λ (vs : List (List ℕ × Number)). declared_fault (with_column context earlier column) (flat_map (value_declared column) vs)) one
+    ∙ next-fault earlier context.in_integer_part column first there
 
 -- ---- the column's name
 

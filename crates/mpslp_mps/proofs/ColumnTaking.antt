@@ -1,16 +1,18 @@
 -- Lines of COLUMNS: the first fault of their form and of what they declare together.
 use Rattle.std.proofs.Common.{◌≡◌, refl, sym, ap, subst, ◌∙◌, ℕ, List, [], ◌∷◌, ◌++◌, Bool, true, false, cond, map}
-use Rattle.std.specs.Prelude.{◌||◌, ◌&&◌, not, Option, Some, None, is_some}
+use Rattle.std.specs.Prelude.{◌||◌, ◌&&◌, not, Ok, Err, Option, Some, None, is_some}
 use Rattle.std.specs.List.{list_all, flat_map}
 use Rattle.std.specs.Cmp.{first_so, second_so}
 use Rattle.std.specs.FinMap.{find, put}
 use Rattle.mpslp_decimal.specs.Decimal.{Number}
-use Rattle.mpslp_types.specs.Name.{same_bytes}
+use Rattle.mpslp_types.specs.Name.{same_bytes, bytes_cmp}
 use Rattle.mpslp_core.specs.Model.{CoefficientKey, key_cmp}
-use Rattle.mpslp_builder.specs.Declaration.{declare_column, declare_coefficient, Declarations, Draft, adding, adding_all, has_row, has_column, has_entry, is_semi}
-use Rattle.mpslp_core.specs.Lists.{those_of}
+use Rattle.mpslp_builder.specs.Declaration.{declare_column, declare_marked, declare_coefficient, Declarations, Draft, adding, adding_all, has_row, has_column, has_entry, is_semi}
+use Rattle.mpslp_core.specs.Lists.{those_of, when}
 use Rattle.mpslp_types.specs.FaultOrder.{least_kind}
+use Rattle.mpslp_types.specs.declared.faults.BuildFault.{BuildFault}
 use Rattle.mpslp_types.specs.declared.faults.BuildFault.TheVariants.{UnknownColumn, SemiContinuous}
+use Rattle.mpslp_builder.specs.Answer.{Answers}
 use Rattle.mpslp_builder.proofs.SlotLemmas.{has-put, has-put_key}
 use Rattle.mpslp_builder.proofs.LaterDrafts.{itself_named}
 use Rattle.mpslp_types.specs.declared.faults.FaultKind.{FaultKind}
@@ -222,3 +224,25 @@ values-unknown (value ∷ values) earlier column there rows =
     by false b h rest = form-first ((true, kinds.UnknownRow) ∷ []) kinds.UnknownRow next more refl refl refl (values_apart next)
     by true true h rest = ap (λ (o : Option FaultKind). Some (lesser kinds.DuplicateEntry o)) (rest h)
     by true false h rest = rest h
+
+-- ---- a line of one value, whose column goes on
+
+-- the column is there, so declaring it again changes nothing; and whether it is marked does not depend on the coefficient
+pub next-declared : (earlier : Draft) (marked : Bool) (column : List ℕ) (value : List ℕ × Number) → put bytes_cmp column tt earlier.columns ≡ earlier.columns
+    → adding_all (adding earlier (declare_coefficient (record { row = value.0; column = column }) value.1)) (when marked (declare_marked column))
+    ≡ adding_all (adding_all earlier (front_declared marked column)) (value_declared column value)
+next-declared earlier true column value same =
+    ap (λ (columns : List (List ℕ × Unit {0})). adding (adding (record earlier { columns = columns }) (declare_marked column)) (declare_coefficient (record { row = value.0; column = column }) value.1)) (sym same)
+next-declared earlier false column value same =
+    ap (λ (columns : List (List ℕ × Unit {0})). adding (record earlier { columns = columns }) (declare_coefficient (record { row = value.0; column = column }) value.1)) (sym same)
+
+-- a call that succeeded had no refusal
+pub call-made : (faults : List BuildFault) (P Q : Type 0) → Answers faults (Ok tt) P Q → (faults ≡ []) × P
+call-made [] P Q answer = (refl, answer)
+call-made (fault ∷ faults) P Q answer = absurd (let no : Ok tt ≡ Err fault = answer.0 in cc)
+
+-- so the coefficient's fault is that before the column is declared again
+pub next-fault : (earlier : Draft) (marked : Bool) (column : List ℕ) (value : List ℕ × Number) → has_column earlier column ≡ true
+    → declared_fault (adding_all earlier (front_declared marked column)) (flat_map (value_declared column) (value ∷ [])) ≡ declared_fault earlier (value_declared column value)
+next-fault earlier true column value there = value-fault (adding_all earlier (front_declared true column)) column value (front-there earlier true column) ∙ sym (value-fault earlier column value there)
+next-fault earlier false column value there = value-fault (adding_all earlier (front_declared false column)) column value (front-there earlier false column) ∙ sym (value-fault earlier column value there)

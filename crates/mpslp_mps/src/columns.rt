@@ -12,7 +12,8 @@ ghost use Rattle.mpslp_mps.specs.Line.{data_line};
 ghost use Rattle.mpslp_mps.specs.DataLine.{is_marker_line};
 ghost use Rattle.mpslp_mps.specs.DataFault.{is_split};
 ghost use Rattle.mpslp_reading.specs.Tests.{first_held};
-ghost use Rattle.mpslp_reading.specs.LineAnswer.{AreDeclared, IfFault};
+ghost use Rattle.mpslp_reading.specs.Declaring.{declared_fault};
+ghost use Rattle.mpslp_reading.specs.LineAnswer.{AreDeclared, IfFault, IsErrorOf};
 ghost use Rattle.mpslp_mps.specs.ColumnDeclared.{front_declared, value_declared, has_double};
 ghost use Rattle.mpslp_mps.specs.LineAnswer.{ReadsItem};
 
@@ -159,6 +160,33 @@ fn declare_values(
     Ok(())
 }
 
+/// Whether the line before was of the column, which is declared.
+fn goes_on(context: &LineContext, builder: &Builder, column: &[u8]) -> bool
+    ensures { result ≡ true → (is_split context.now builder.now column.now ≡ false) × (has_column builder.now column.now ≡ true) }
+{
+    context.is_last_column(column) && builder.has_column(column)
+}
+
+/// Declares a coefficient of a column that goes on, and that the column is marked where it is. The coefficient may be
+/// refused, so it comes first; its row is looked up this once.
+fn declare_next(
+    builder: &mut Builder,
+    column: &[u8],
+    value: &RowValue<'_>,
+    is_marked: bool,
+) -> Result<(), LineError>
+    requires column { has_column builder.old column.now ≡ true }
+    requires apart { (is_marked && is_semi builder.old column.now) ≡ false }
+    ensures answers { let first_fault = declared_fault builder.old (value_declared column.now value.now) in
+        MatchResult result (λ _. (first_fault ≡ None) × (builder.new ≡ adding_all (adding_all builder.old (front_declared is_marked column.now)) (value_declared column.now value.now))) (IsErrorOf first_fault) }
+    ensures unchanged { IfFault result (builder.new ≡ builder.old) }
+{
+    each_builder_is_made(builder);
+    builder.coefficient(value.row, column, value.value)?;
+    declare_mark(builder, column, is_marked)?;
+    Ok(())
+}
+
 /// Reads a line of a column: it is asked for each fault before anything is declared.
 fn read_values(
     context: &mut LineContext,
@@ -175,6 +203,13 @@ fn read_values(
         return Err(LineError::Fault(FaultKind::SemiContinuous));
     }
     let (column, values) = check_column(context, builder, fields)?;
+    if values.second.is_none() {
+        if goes_on(context, builder, column) {
+            declare_next(builder, column, &values.first, context.in_integer_part())?;
+            context.pass_column(column)?;
+            return Ok(());
+        }
+    }
     check_place(context, builder, column, &values)?;
     if has_double(builder, column, &values) {
         return Err(LineError::Fault(FaultKind::DuplicateEntry));

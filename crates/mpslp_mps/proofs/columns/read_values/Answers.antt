@@ -1,5 +1,6 @@
-use Rattle.std.proofs.Common.{◌≡◌, sym, ap, subst, ◌∙◌, Bool, cond, map}
-use Rattle.std.specs.Prelude.{◌&&◌, Option, Some, None}
+use Rattle.std.proofs.Common.{◌≡◌, sym, ap, subst, ◌∙◌, ℕ, List, ◌++◌, Bool, cond, map}
+use Rattle.mpslp_decimal.specs.Decimal.{Number}
+use Rattle.std.specs.Prelude.{◌&&◌, not, Option, Some, None}
 use Rattle.std.specs.List.{flat_map}
 use Rattle.mpslp_builder.specs.Declaration.{Draft, adding_all, has_column, is_semi}
 use Rattle.mpslp_types.specs.declared.faults.FaultKind.{FaultKind}
@@ -17,7 +18,7 @@ use Rattle.mpslp_reading.proofs.UnchangedLemmas.{if_fault-ends, if_fault-none}
 use Rattle.mpslp_mps.specs.DataLine.{column_shape}
 use Rattle.mpslp_mps.proofs.ColumnTaking.{front-there}
 use Rattle.mpslp_mps.proofs.ClashLemmas.{column-apart}
-use Rattle.mpslp_mps.proofs.ColumnLine.{column-judged, column-clash-told, place-fault, placed-fault, double-fault, column-declares, column-named, with_column}
+use Rattle.mpslp_mps.proofs.ColumnLine.{column-judged, column-clash-told, place-fault, placed-fault, double-fault, column-declares, column-named, with_column, only-first, next-line-fault}
 use Rattle.mpslp_mps.proofs.columns.read_values.Goals as goal
 
 pub returns-then-has_column_clash-clause-answers : goal.returns-then-has_column_clash-clause-answers
@@ -29,7 +30,7 @@ pub declare_column-requires-clause-apart : goal.declare_column-requires-clause-a
 declare_column-requires-clause-apart c =
     let fields = map (λ field. field.now) c.args.fields.now in
     let column = c.in_ok-column.column.now in
-    ap (λ (b : Bool). b && is_semi c.args.builder.now column) c.in_integer_part.ensures
+    ap (λ (b : Bool). b && is_semi c.args.builder.now column) c.in_integer_part-2.ensures
     ∙ column-apart c.args.context.now c.args.builder.now fields column c.in_ok-column.values c.in_ok-column.ensures.1 (sym c.has_column_clash.ensures ∙ c.if-has_column_clash.false)
 
 pub returns-in_err-column-clause-answers : goal.returns-in_err-column-clause-answers
@@ -50,7 +51,7 @@ returns-in_err-check_place-clause-answers c =
 pub declare_values-requires-clause-column : goal.declare_values-requires-clause-column
 declare_values-requires-clause-column c =
     let column = c.in_ok-column.column.now in
-    ap (λ (d : Draft). has_column d column) c.in_ok-declare_column.ensures ∙ front-there c.args.builder.now c.in_integer_part.result column
+    ap (λ (d : Draft). has_column d column) c.in_ok-declare_column.ensures ∙ front-there c.args.builder.now c.in_integer_part-2.result column
 
 pub returns-in_err-declare_values-clause-answers : goal.returns-in_err-declare_values-clause-answers
 returns-in_err-declare_values-clause-answers c =
@@ -62,7 +63,7 @@ returns-in_err-declare_values-clause-answers c =
     let line = c.in_ok-column.ensures in
     let error = c.in_err-declare_values.field-0.0 in
     let draft : c.declare_column.new.builder ≡ with_column context earlier column =
-    c.in_ok-declare_column.ensures ∙ ap (λ (marked : Bool). adding_all earlier (front_declared marked column)) c.in_integer_part.ensures in
+    c.in_ok-declare_column.ensures ∙ ap (λ (marked : Bool). adding_all earlier (front_declared marked column)) c.in_integer_part-2.ensures in
     let fault_is = ap (λ (d : Draft). declared_fault d (flat_map (value_declared column) values)) draft
     ∙ sym (placed-fault context earlier fields column values c.requires.section c.requires.plain (sym c.has_column_clash.ensures ∙ c.if-has_column_clash.false) line.0 line.1 c.in_ok-check_place.ensures) in
     ends-by c.from_residual-in_err-declare_values.result error _ _ c.from_residual-in_err-declare_values.ensures.1
@@ -79,13 +80,48 @@ returns-clause-answers c =
     let front = front_declared context.in_integer_part column in
     let coefficients = flat_map (value_declared column) values in
     let draft : c.declare_column.new.builder ≡ with_column context earlier column =
-    c.in_ok-declare_column.ensures ∙ ap (λ (marked : Bool). adding_all earlier (front_declared marked column)) c.in_integer_part.ensures in
+    c.in_ok-declare_column.ensures ∙ ap (λ (marked : Bool). adding_all earlier (front_declared marked column)) c.in_integer_part-2.ensures in
     let declares = column-declares context earlier fields column values c.requires.plain line.1 in (
       placed-fault context earlier fields column values c.requires.section c.requires.plain (sym c.has_column_clash.ensures ∙ c.if-has_column_clash.false) line.0 line.1 c.in_ok-check_place.ensures
           ∙ ap (λ (d : Draft). declared_fault d coefficients) (sym draft) ∙ c.in_ok-declare_values.ensures.0,
-      c.in_ok-pass_column.ensures ∙ sym (step-column context fields column values c.requires.section c.requires.plain line.1),
+      c.in_ok-pass_column-2.ensures ∙ sym (step-column context fields column values c.requires.section c.requires.plain line.1),
       c.in_ok-declare_values.ensures.1 ∙ ap (λ (d : Draft). adding_all d coefficients) draft ∙ sym (adding_all-append front coefficients earlier)
           ∙ ap (adding_all earlier) (sym (ap (λ (section : Option Section). data_declared context earlier fields section) c.requires.section ∙ declares)),
+    )
+
+pub returns-in_err-declare_next-clause-answers : goal.returns-in_err-declare_next-clause-answers
+returns-in_err-declare_next-clause-answers c =
+    let fields = map (λ field. field.now) c.args.fields.now in
+    let line = c.in_ok-column.ensures in
+    let goes_on = c.goes_on.ensures c.if-goes_on.true in
+    let error = c.in_err-declare_next.field-0.0 in
+    let one = only-first c.values.inside.first c.values.inside.second c.in_ok-column.values c.values.view_is (c.is_none.ensures ∙ ap not c.if-is_none.true) in
+    ends-by c.from_residual-in_err-declare_next.result error _ _ c.from_residual-in_err-declare_next.ensures.1
+    (subst (λ (o : Option FaultKind). IsErrorOf o error)
+    (sym (next-line-fault c.args.context.now c.args.builder.now fields c.in_ok-column.column.now c.in_ok-column.values c.values.inside.first c.requires.section c.requires.plain
+    (sym c.has_column_clash.ensures ∙ c.if-has_column_clash.false) line.0 line.1 one goes_on.0 goes_on.1)) c.in_err-declare_next.ensures.answers)
+
+pub returns-then-goes_on-clause-answers : goal.returns-then-goes_on-clause-answers
+returns-then-goes_on-clause-answers c =
+    let fields = map (λ field. field.now) c.args.fields.now in
+    let context = c.args.context.now in
+    let earlier = c.args.builder.now in
+    let column = c.in_ok-column.column.now in
+    let values = c.in_ok-column.values in
+    let first = c.values.inside.first in
+    let line = c.in_ok-column.ensures in
+    let goes_on = c.goes_on.ensures c.if-goes_on.true in
+    let apart = sym c.has_column_clash.ensures ∙ c.if-has_column_clash.false in
+    let one = only-first first c.values.inside.second values c.values.view_is (c.is_none.ensures ∙ ap not c.if-is_none.true) in
+    let declares = column-declares context earlier fields column values c.requires.plain line.1 in
+    let all : data_declared context earlier fields context.section ≡ front_declared context.in_integer_part column ++ value_declared column first =
+    ap (λ (section : Option Section). data_declared context earlier fields section) c.requires.section ∙ declares
+    ∙ ap (λ (vs : List (List ℕ × Number)). front_declared context.in_integer_part column ++ flat_map (value_declared column) vs) one in (
+      next-line-fault context earlier fields column values first c.requires.section c.requires.plain apart line.0 line.1 one goes_on.0 goes_on.1 ∙ c.in_ok-declare_next.ensures.answers.0,
+      c.in_ok-pass_column.ensures ∙ sym (step-column context fields column values c.requires.section c.requires.plain line.1),
+      c.in_ok-declare_next.ensures.answers.1
+          ∙ ap (λ (marked : Bool). adding_all (adding_all earlier (front_declared marked column)) (value_declared column first)) c.in_integer_part.ensures
+          ∙ sym (adding_all-append (front_declared context.in_integer_part column) (value_declared column first) earlier) ∙ ap (adding_all earlier) (sym all),
     )
 
 pub returns-then-has_double-clause-answers : goal.returns-then-has_double-clause-answers
@@ -112,7 +148,7 @@ returns-in_err-declare_values-clause-unchanged c =
     let apart = sym c.has_column_clash.ensures ∙ c.if-has_column_clash.false in
     let error = c.in_err-declare_values.field-0.0 in
     let draft : c.declare_column.new.builder ≡ with_column context earlier column =
-    c.in_ok-declare_column.ensures ∙ ap (λ (marked : Bool). adding_all earlier (front_declared marked column)) c.in_integer_part.ensures in
+    c.in_ok-declare_column.ensures ∙ ap (λ (marked : Bool). adding_all earlier (front_declared marked column)) c.in_integer_part-2.ensures in
     let none = ap (λ (d : Draft). declared_fault d (flat_map (value_declared column) values)) draft
     ∙ sym (placed-fault context earlier fields column values c.requires.section c.requires.plain apart line.0 line.1 c.in_ok-check_place.ensures)
     ∙ double-fault context earlier fields column values c.requires.section c.requires.plain apart line.0 line.1 c.in_ok-check_place.ensures
