@@ -21,7 +21,7 @@ use Rattle.mpslp_core.specs.Numbered.{sorted_of, each_part, given_parts, column_
 use Rattle.mpslp_core.proofs.KeyLemmas.{bytes_total, key_total, tied_names, same_key}
 use Rattle.mpslp_core.proofs.SortedLemmas.{find-sorted_of, sorted_of-put, sorted_of-append}
 use Rattle.mpslp_core.proofs.CellLemmas.{at, find-all_cells}
-use Rattle.mpslp_builder.specs.Declaration.{Draft, adding, adding_all, declare_column, declare_coefficient, declare_marked, declare_integer, declare_semi, bounds_declared, has_column, has_entry}
+use Rattle.mpslp_builder.specs.Declaration.{Draft, adding, adding_all, declare_column, declare_coefficient, declare_marked, declare_integer, declare_binary, declare_semi, bounds_declared, has_column, has_entry}
 use Rattle.mpslp_builder.specs.Tables.{bytes, no_part, cells_of, lower_of, upper_of, mark_of, integer_of, binary_of, semi_of, number_name, cells_by_name, draft_from, AreNumbered}
 use Rattle.mpslp_builder.specs.Calls.{new_column, with_cell, with_sides, put_side}
 use Rattle.mpslp_builder.specs.declared.tables.ObjectiveParts.{ObjectiveParts}
@@ -146,6 +146,21 @@ module _ (sense : Option Sense) (constant : Option Number) (objective : Option O
           marked = kept mark_of w refl j;
           integers = given integer_of w tt once refl j;
           binaries = kept binary_of w refl j;
+          semis = kept semi_of w refl j;
+        }
+
+    pub binary_draft : IsOnce (cells_by_name columns)
+        → draft_from sense constant objective rows (set_value_at columns i (record v { binary = true })) ≡ adding (draft_from sense constant objective rows columns) (declare_binary (bytes k))
+    binary_draft once =
+        let w : ColumnParts = record v { binary = true } in
+        λ j. record (draft_from sense constant objective rows columns) {
+          columns = names w j;
+          coefficients = coefficients w refl j;
+          lowers = kept lower_of w refl j;
+          uppers = kept upper_of w refl j;
+          marked = kept mark_of w refl j;
+          integers = kept integer_of w refl j;
+          binaries = given binary_of w tt once refl j;
           semis = kept semi_of w refl j;
         }
 

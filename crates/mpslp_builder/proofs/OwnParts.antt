@@ -1,5 +1,5 @@
 -- What a draft says of a row or a column by its name is what stands beside this name.
-use Rattle.std.proofs.Common.{◌≡◌, refl, ◌∙◌, ℕ, List, Bool}
+use Rattle.std.proofs.Common.{◌≡◌, refl, ◌∙◌, ℕ, Bool}
 use Rattle.std.specs.Prelude.{Option, Some, slice_get}
 use Rattle.std.specs.Global.{Vec}
 use Rattle.mpslp_decimal.specs.Decimal.{Number}

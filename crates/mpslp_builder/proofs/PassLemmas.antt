@@ -1,5 +1,5 @@
 -- What a loop moves from one list to another.
-use Rattle.std.proofs.Common.{◌≡◌, refl, sym, ap, subst, ◌∙◌, ℕ, zero, suc, ◌<◌, List, [], ◌∷◌, ◌++◌, length, arith}
+use Rattle.std.proofs.Common.{◌≡◌, refl, ap, subst, ◌∙◌, zero, suc, List, [], ◌∷◌, ◌++◌, arith}
 use Rattle.std.specs.List.{All}
 
 -- the first of what is left goes behind what is done

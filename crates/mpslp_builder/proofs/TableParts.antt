@@ -1,5 +1,5 @@
 -- What tables say of a row or of a column is what their draft says of its name.
-use Rattle.std.proofs.Common.{◌≡◌, refl, sym, ap, ◌∙◌, ℕ, zero, suc, List, [], ◌∷◌, ◌++◌, length, map, Bool, true, false, cond}
+use Rattle.std.proofs.Common.{◌≡◌, refl, sym, ap, ◌∙◌, ℕ, zero, suc, List, [], ◌∷◌, ◌++◌, map, Bool, true, false, cond}
 use Rattle.std.specs.Prelude.{Option, Some, None, is_some, unwrap_or, slice_get}
 use Rattle.std.specs.Option.{option_map, option_map_or}
 use Rattle.std.specs.Ordering.{eq_by_cmp}
@@ -10,11 +10,9 @@ use Rattle.mpslp_types.specs.Name.{bytes_cmp}
 use Rattle.mpslp_types.specs.declared.kinds.Sense.{Sense}
 use Rattle.mpslp_types.specs.declared.kinds.RowType.TheVariants.{Free}
 use Rattle.mpslp_types.proofs.EachLemmas.{Each, Each-both, Each-weaker}
-use Rattle.mpslp_core.specs.Model.{Column, Row}
 use Rattle.mpslp_core.specs.Limits.{limits_of, plain_limits}
 use Rattle.mpslp_core.specs.Columns.{declared_column}
 use Rattle.mpslp_core.specs.Numbered.{sorted_of, each_part, given_parts, IsOnce, TellsApart}
-use Rattle.mpslp_core.specs.declared.bounds.DeclaredColumn.{DeclaredColumn}
 use Rattle.mpslp_core.proofs.KeyLemmas.{bytes_total}
 use Rattle.mpslp_core.proofs.SortedLemmas.{find-sorted_of}
 use Rattle.mpslp_core.proofs.CellLemmas.{or_else, find-two, name_same}

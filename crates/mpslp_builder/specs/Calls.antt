@@ -12,7 +12,7 @@ use Rattle.mpslp_core.specs.Numbered.{IsOnce, each_part}
 use Rattle.mpslp_core.specs.Model.{CoefficientKey}
 use Rattle.mpslp_builder.specs.Answer.{Answer}
 use Rattle.mpslp_builder.specs.Declaration.{Draft, has_row, has_column, has_entry}
-use Rattle.mpslp_builder.specs.Tables.{bytes, form_of, cells_of, objective_name, number_name, cells_by_name}
+use Rattle.mpslp_builder.specs.Tables.{bytes, form_of, cells_of, number_name, cells_by_name}
 use Rattle.mpslp_builder.specs.declared.tables.ObjectiveParts.{ObjectiveParts}
 use Rattle.mpslp_builder.specs.declared.tables.RowParts.{RowParts}
 use Rattle.mpslp_builder.specs.declared.tables.ColumnParts.{ColumnParts}

@@ -7,7 +7,8 @@ ghost use Rattle.std.specs.FinMap.{find};
 ghost use Rattle.indexmap.specs.IndexMap.{index_map_len};
 ghost use Rattle.mpslp_types.specs.Name.{same_bytes};
 ghost use Rattle.mpslp_builder.specs.Declaration.{has_row, has_column, has_name, is_objective, is_free_row, is_free_form, is_limits_form};
-ghost use Rattle.mpslp_builder.specs.Tables.{draft};
+ghost use Rattle.mpslp_builder.specs.Consistency.{has_objective_rhs};
+ghost use Rattle.mpslp_builder.specs.Tables.{draft, IsNumbered};
 ghost use Rattle.mpslp_builder.specs.Calls.{number_of, row_name, column_name, row_tells, column_tells, cells_at, new_column, with_cell, put_side, with_sides, IsOnceEach, IsEmptyTables, IsSameTables, HasObjective, HasRowAdded, HasRowChanged, HasColumnAdded, HasColumnChanged, HasRhsPut};
 
 use indexmap::IndexMap;
@@ -136,6 +137,18 @@ impl Tables {
         ensures { result ≡ is_some self.now.objective }
     {
         self.objective.is_some()
+    }
+
+    /// Whether the objective has a right side, which is a constant too.
+    pub(crate) fn has_objective_rhs(&self) -> bool
+        requires { IsNumbered self.now }
+        ensures { result ≡ has_objective_rhs (draft None None self.now) }
+    {
+        self.each_name_stands_once();
+        match &self.objective {
+            Some(objective) => objective.rhs.is_some(),
+            None => false,
+        }
     }
 
     /// Whether the objective has this name.
@@ -426,6 +439,16 @@ impl Tables {
         self.recent = column;
         let (_key, parts) = self.columns.pair_mut(column);
         parts.integer = true;
+    }
+
+    /// Makes a column binary.
+    pub(crate) fn put_binary(&mut self, column: usize)
+        requires { is_some (column_name self.old column) ≡ true }
+        ensures { HasColumnChanged self.old column (λ parts. record parts { binary = true }) self.new }
+    {
+        self.recent = column;
+        let (_key, parts) = self.columns.pair_mut(column);
+        parts.binary = true;
     }
 
     /// Makes a column semi-continuous.

@@ -1,9 +1,7 @@
-use Rattle.std.proofs.Common.{◌≡◌, sym, ap, ◌∙◌, ℕ, ◌<◌, List, [], ◌∷◌, ◌++◌, length}
+use Rattle.std.proofs.Common.{sym, ap, ◌∙◌, ℕ, ◌<◌, [], ◌∷◌, ◌++◌, length}
 use Rattle.std.specs.List.{All}
 use Rattle.std.specs.Vec.Iter.{into_iter_items}
 use Rattle.mpslp_types.specs.Name.{IsMpsName}
-use Rattle.mpslp_core.specs.Model.{Column}
-use Rattle.mpslp_decimal.specs.Decimal.{Number}
 use Rattle.mpslp_core.specs.Numbered.{each_part}
 use Rattle.mpslp_core.specs.ModelParts.{own, bounds_in, cells_in}
 use Rattle.std.specs.Global.{Vec}
