@@ -12,9 +12,9 @@ use Rattle.mpslp_core.proofs.CellLemmas.{at}
 use Rattle.mpslp_builder.specs.Declaration.{adding, adding_all, declare_row, declare_objective, declare_column, declare_coefficient, declare_rhs, declare_range, declare_marked, declare_integer, declare_binary, declare_semi, bounds_declared, has_row, has_column, has_entry}
 use Rattle.mpslp_builder.specs.Tables.{bytes, cells_of, objective_name, draft_from, draft, AreNumbered, IsNumbered}
 use Rattle.mpslp_builder.specs.Calls.{number_of, row_name, row_tells, column_name, new_column, with_cell, with_sides, IsOnceEach, IsSameTables, HasObjective, HasRowAdded, HasRowChanged, HasColumnAdded, HasColumnChanged, HasObjectiveChanged, HasRhsPut}
-use Rattle.mpslp_builder.specs.declared.tables.ObjectiveParts.{ObjectiveParts}
-use Rattle.mpslp_builder.specs.declared.tables.RowParts.{RowParts}
-use Rattle.mpslp_builder.specs.declared.tables.ColumnParts.{ColumnParts}
+use Rattle.mpslp_numbered.specs.declared.parts.ObjectiveParts.{ObjectiveParts}
+use Rattle.mpslp_numbered.specs.declared.parts.RowParts.{RowParts}
+use Rattle.mpslp_numbered.specs.declared.parts.ColumnParts.{ColumnParts}
 use Rattle.mpslp_builder.specs.declared.tables.RowPlace.{RowPlace}
 use Rattle.mpslp_builder.specs.declared.tables.RowPlace.TheVariants.{Objective, Row}
 use Rattle.mpslp_builder.specs.declared.tables.Tables.{Tables}

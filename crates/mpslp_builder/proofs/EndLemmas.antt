@@ -22,10 +22,10 @@ use Rattle.mpslp_builder.specs.Made.{IsMade}
 use Rattle.mpslp_builder.specs.Meaning.{constant_of}
 use Rattle.mpslp_builder.specs.Tables.{bytes, objective_name, form_of, rhs_of, cells_of, no_part, objective_rhs, number_name, draft_from, AreNumbered}
 use Rattle.mpslp_numbered.specs.Ordered.{name_at, taken}
-use Rattle.mpslp_builder.specs.MovedParts.{rhs_in}
-use Rattle.mpslp_builder.specs.declared.tables.ObjectiveParts.{ObjectiveParts}
-use Rattle.mpslp_builder.specs.declared.tables.RowParts.{RowParts}
-use Rattle.mpslp_builder.specs.declared.tables.ColumnParts.{ColumnParts}
+use Rattle.mpslp_numbered.specs.Parts.{rhs_in}
+use Rattle.mpslp_numbered.specs.declared.parts.ObjectiveParts.{ObjectiveParts}
+use Rattle.mpslp_numbered.specs.declared.parts.RowParts.{RowParts}
+use Rattle.mpslp_numbered.specs.declared.parts.ColumnParts.{ColumnParts}
 use Rattle.mpslp_builder.proofs.MadeDrafts.{good-from_made}
 use Rattle.mpslp_builder.proofs.OrderedParts.{ordered_parts, each-ordered, no_part-found}
 use Rattle.mpslp_numbered.proofs.RankLemmas.{order_length, order_within, order_apart}

@@ -31,10 +31,10 @@ use Rattle.mpslp_builder.specs.Bounds.{column_of}
 use Rattle.mpslp_builder.specs.Meaning.{objective_name, constant_of, row_limits, row_entry, model_of, file_fault, DraftMeans}
 use Rattle.mpslp_builder.specs.Tables.{bytes, form_of, cells_of, no_part, number_name, cells_by_name, draft_from, AreNumbered}
 use Rattle.mpslp_numbered.specs.Ordered.{taken}
-use Rattle.mpslp_builder.specs.MovedParts.{moved_in}
-use Rattle.mpslp_builder.specs.declared.tables.ObjectiveParts.{ObjectiveParts}
-use Rattle.mpslp_builder.specs.declared.tables.RowParts.{RowParts}
-use Rattle.mpslp_builder.specs.declared.tables.ColumnParts.{ColumnParts}
+use Rattle.mpslp_numbered.specs.Parts.{moved_in}
+use Rattle.mpslp_numbered.specs.declared.parts.ObjectiveParts.{ObjectiveParts}
+use Rattle.mpslp_numbered.specs.declared.parts.RowParts.{RowParts}
+use Rattle.mpslp_numbered.specs.declared.parts.ColumnParts.{ColumnParts}
 use Rattle.mpslp_builder.proofs.MadeDrafts.{meant-from_made}
 use Rattle.mpslp_builder.proofs.SortedDrafts.{sorted-from_made}
 use Rattle.mpslp_builder.proofs.MeaningFromNoFault.{sorted-mapped}

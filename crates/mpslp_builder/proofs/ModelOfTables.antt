@@ -25,10 +25,10 @@ use Rattle.mpslp_core.proofs.MovingLemmas.{unless_zero, find-moved}
 use Rattle.mpslp_core.proofs.RenumberLemmas.{renumbered}
 use Rattle.mpslp_builder.specs.Tables.{bytes, cells_of, no_part, objective_name, number_name, cells_by_name, AreNumbered}
 use Rattle.mpslp_numbered.specs.Ordered.{name_at, taken}
-use Rattle.mpslp_builder.specs.MovedParts.{limits_in, bounds_of, moved_in}
-use Rattle.mpslp_builder.specs.declared.tables.ObjectiveParts.{ObjectiveParts}
-use Rattle.mpslp_builder.specs.declared.tables.RowParts.{RowParts}
-use Rattle.mpslp_builder.specs.declared.tables.ColumnParts.{ColumnParts}
+use Rattle.mpslp_numbered.specs.Parts.{limits_in, bounds_of, moved_in}
+use Rattle.mpslp_numbered.specs.declared.parts.ObjectiveParts.{ObjectiveParts}
+use Rattle.mpslp_numbered.specs.declared.parts.RowParts.{RowParts}
+use Rattle.mpslp_numbered.specs.declared.parts.ColumnParts.{ColumnParts}
 use Rattle.mpslp_builder.proofs.PartLemmas.{find-each_part}
 use Rattle.mpslp_builder.proofs.OrderedParts.{taken-permutation, parts-permutation, once-part}
 use Rattle.mpslp_numbered.proofs.RankLemmas.{order_within, AreRanks, rank_at, ranks_length, ranks_apart, get-taken, place_below, length-taken}

@@ -20,9 +20,9 @@ use Rattle.mpslp_builder.specs.Declaration.{at_name, has_name, has_entry, is_obj
 use Rattle.mpslp_builder.specs.Consistency.{has_objective_rhs}
 use Rattle.mpslp_builder.specs.Tables.{bytes, form_of, rhs_of, range_of, no_part, cells_of, as_part, objective_name, objective_rhs, draft, IsNumbered}
 use Rattle.mpslp_builder.specs.Calls.{number_of, row_name, row_tells, column_tells, cells_at, is_objective_place, IsOnceEach}
-use Rattle.mpslp_builder.specs.declared.tables.ObjectiveParts.{ObjectiveParts}
-use Rattle.mpslp_builder.specs.declared.tables.RowParts.{RowParts}
-use Rattle.mpslp_builder.specs.declared.tables.ColumnParts.{ColumnParts}
+use Rattle.mpslp_numbered.specs.declared.parts.ObjectiveParts.{ObjectiveParts}
+use Rattle.mpslp_numbered.specs.declared.parts.RowParts.{RowParts}
+use Rattle.mpslp_numbered.specs.declared.parts.ColumnParts.{ColumnParts}
 use Rattle.mpslp_builder.specs.declared.tables.RowPlace.{RowPlace}
 use Rattle.mpslp_builder.specs.declared.tables.RowPlace.TheVariants.{Objective, Row}
 use Rattle.mpslp_builder.specs.declared.tables.Tables.{Tables}

@@ -23,9 +23,9 @@ use Rattle.mpslp_core.proofs.PutsLemmas.{equal_from}
 use Rattle.mpslp_core.proofs.CellLemmas.{or_else, find-two}
 use Rattle.mpslp_builder.specs.Declaration.{Draft, adding, declare_objective, declare_row, declare_rhs, declare_range, is_objective, has_name, has_row}
 use Rattle.mpslp_builder.specs.Tables.{bytes, form_of, rhs_of, range_of, objective_name, objective_rhs, number_name, cells_by_name, draft_from, AreNumbered}
-use Rattle.mpslp_builder.specs.declared.tables.ObjectiveParts.{ObjectiveParts}
-use Rattle.mpslp_builder.specs.declared.tables.RowParts.{RowParts}
-use Rattle.mpslp_builder.specs.declared.tables.ColumnParts.{ColumnParts}
+use Rattle.mpslp_numbered.specs.declared.parts.ObjectiveParts.{ObjectiveParts}
+use Rattle.mpslp_numbered.specs.declared.parts.RowParts.{RowParts}
+use Rattle.mpslp_numbered.specs.declared.parts.ColumnParts.{ColumnParts}
 use Rattle.mpslp_builder.proofs.NameLemmas.{there_found, once_too, names-more, old_or_last}
 use Rattle.mpslp_builder.proofs.PartLemmas.{each_part-append, each_part-kept, given_parts-without, given_parts-kept, find-given_any, absent-each_part}
 

@@ -227,7 +227,7 @@ impl Builder {
         ensures { Answers (bounds_refusals self.old column.now lower upper) result (self.new ≡ adding_all self.old (bounds_declared column.now lower upper)) (self.new ≡ self.old) }
     {
         let number = self.tables.sides_column(column, &lower, &upper)?;
-        self.tables.put_sides(number, lower, upper);
+        self.tables.put_sides(self.alloc, number, lower, upper)?;
         Ok(())
     }
 

@@ -151,7 +151,7 @@ impl Tables {
 
     /// Whether a side that is given is declared of the column of a number.
     fn has_side(&self, column: usize, lower: &Option<Limit>, upper: &Option<Limit>) -> bool
-        ensures { result ≡ ((is_some lower.now && column_tells self.now column (λ parts. is_some parts.lower)) || (is_some upper.now && column_tells self.now column (λ parts. is_some parts.upper))) }
+        ensures { result ≡ ((is_some lower.now && column_tells self.now column (λ parts. is_some parts.sides.lower)) || (is_some upper.now && column_tells self.now column (λ parts. is_some parts.sides.upper))) }
     {
         (lower.is_some() && self.has_lower(column)) || (upper.is_some() && self.has_upper(column))
     }

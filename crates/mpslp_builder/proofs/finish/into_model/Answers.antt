@@ -4,7 +4,7 @@ use Rattle.mpslp_core.specs.Numbered.{each_part}
 use Rattle.mpslp_core.specs.ModelParts.{own, bounds_in, cells_in}
 use Rattle.mpslp_builder.specs.Meaning.{DraftMeans}
 use Rattle.mpslp_builder.specs.Tables.{bytes, no_part, cells_of, draft}
-use Rattle.mpslp_builder.specs.MovedParts.{limits_in, bounds_of, moved_in}
+use Rattle.mpslp_numbered.specs.Parts.{limits_in, bounds_of, moved_in}
 use Rattle.mpslp_builder.proofs.OrderedParts.{once-part}
 use Rattle.mpslp_numbered.proofs.RankLemmas.{AreRanks, ranks_length, ranks_apart}
 use Rattle.mpslp_builder.proofs.ModelOfTables.{AreFinished}
