@@ -9,16 +9,16 @@ use Rattle.mpslp_types.specs.declared.kinds.Limit.{Limit}
 use Rattle.mpslp_types.specs.declared.kinds.Sense.{Sense}
 use Rattle.mpslp_core.specs.Limits.{RowForm, is_limits_form}
 use Rattle.mpslp_core.proofs.CellLemmas.{at}
-use Rattle.mpslp_builder.specs.Declaration.{Draft, adding, adding_all, declare_row, declare_objective, declare_column, declare_coefficient, declare_rhs, declare_range, declare_marked, declare_integer, declare_semi, bounds_declared, has_row, has_column, has_entry, is_objective}
+use Rattle.mpslp_builder.specs.Declaration.{adding, adding_all, declare_row, declare_objective, declare_column, declare_coefficient, declare_rhs, declare_range, declare_marked, declare_integer, declare_binary, declare_semi, bounds_declared, has_row, has_column, has_entry}
 use Rattle.mpslp_builder.specs.Tables.{bytes, cells_of, objective_name, draft_from, draft, AreNumbered, IsNumbered}
-use Rattle.mpslp_builder.specs.Calls.{number_of, row_name, row_tells, column_name, new_column, with_cell, with_sides, IsOnceEach, IsSameTables, HasObjective, HasRowAdded, HasRowChanged, HasRowWritten, HasColumnAdded, HasColumnChanged, HasColumnWritten, HasObjectiveChanged, HasRhsPut}
-use Rattle.mpslp_builder.specs.declared.tables.ObjectiveParts.{ObjectiveParts}
-use Rattle.mpslp_builder.specs.declared.tables.RowParts.{RowParts}
-use Rattle.mpslp_builder.specs.declared.tables.ColumnParts.{ColumnParts}
+use Rattle.mpslp_builder.specs.Calls.{number_of, row_name, row_tells, column_name, new_column, with_cell, with_sides, IsOnceEach, IsSameTables, HasObjective, HasRowAdded, HasRowChanged, HasColumnAdded, HasColumnChanged, HasObjectiveChanged, HasRhsPut}
+use Rattle.mpslp_numbered.specs.declared.parts.ObjectiveParts.{ObjectiveParts}
+use Rattle.mpslp_numbered.specs.declared.parts.RowParts.{RowParts}
+use Rattle.mpslp_numbered.specs.declared.parts.ColumnParts.{ColumnParts}
 use Rattle.mpslp_builder.specs.declared.tables.RowPlace.{RowPlace}
 use Rattle.mpslp_builder.specs.declared.tables.RowPlace.TheVariants.{Objective, Row}
 use Rattle.mpslp_builder.specs.declared.tables.Tables.{Tables}
-use Rattle.mpslp_builder.proofs.ColumnDrafts.{column_draft, column_numbered, kept_numbered, mark_draft, integer_draft, semi_draft, sides_draft, cell_draft, cell_numbered}
+use Rattle.mpslp_builder.proofs.ColumnDrafts.{column_draft, column_numbered, kept_numbered, mark_draft, integer_draft, binary_draft, semi_draft, sides_draft, cell_draft, cell_numbered}
 use Rattle.mpslp_builder.proofs.RowDrafts.{row_draft, row_numbered, written_numbered, range_draft, rhs_draft, objective_draft, objective_numbered, objective_rhs_draft, objective_rhs_numbered}
 
 abbrev Parts : Type 0
@@ -164,6 +164,12 @@ module _ (sense : Option Sense) (constant : Option Number) (t u : Tables) where
         columns_written (λ parts. record parts { integer = true }) i h
         ∙ integer_draft sense constant t.objective t.rows.entries t.columns.entries i h.key h.parts h.was once.columns
         ∙ ap (λ (name : List ℕ). adding (draft sense constant t) (declare_integer name)) (entry_named (slice_get t.columns.entries i) h.key h.parts c h.was column)
+
+    pub binary_added : HasColumnChanged t i (λ parts. record parts { binary = true }) u → draft sense constant u ≡ adding (draft sense constant t) (declare_binary c)
+    binary_added h =
+        columns_written (λ parts. record parts { binary = true }) i h
+        ∙ binary_draft sense constant t.objective t.rows.entries t.columns.entries i h.key h.parts h.was once.columns
+        ∙ ap (λ (name : List ℕ). adding (draft sense constant t) (declare_binary name)) (entry_named (slice_get t.columns.entries i) h.key h.parts c h.was column)
 
     pub semi_added : HasColumnChanged t i (λ parts. record parts { semi = true }) u → draft sense constant u ≡ adding (draft sense constant t) (declare_semi c)
     semi_added h =

@@ -21,12 +21,13 @@ use Rattle.mpslp_core.specs.Numbered.{sorted_of, each_part, given_parts, column_
 use Rattle.mpslp_core.proofs.KeyLemmas.{bytes_total, key_total, tied_names, same_key}
 use Rattle.mpslp_core.proofs.SortedLemmas.{find-sorted_of, sorted_of-put, sorted_of-append}
 use Rattle.mpslp_core.proofs.CellLemmas.{at, find-all_cells}
-use Rattle.mpslp_builder.specs.Declaration.{Draft, adding, adding_all, declare_column, declare_coefficient, declare_marked, declare_integer, declare_semi, bounds_declared, has_column, has_entry}
+use Rattle.mpslp_builder.specs.Declaration.{Draft, adding, adding_all, declare_column, declare_coefficient, declare_marked, declare_integer, declare_binary, declare_semi, bounds_declared, has_column, has_entry}
 use Rattle.mpslp_builder.specs.Tables.{bytes, no_part, cells_of, lower_of, upper_of, mark_of, integer_of, binary_of, semi_of, number_name, cells_by_name, draft_from, AreNumbered}
-use Rattle.mpslp_builder.specs.Calls.{new_column, with_cell, with_sides, put_side}
-use Rattle.mpslp_builder.specs.declared.tables.ObjectiveParts.{ObjectiveParts}
-use Rattle.mpslp_builder.specs.declared.tables.RowParts.{RowParts}
-use Rattle.mpslp_builder.specs.declared.tables.ColumnParts.{ColumnParts}
+use Rattle.mpslp_numbered.specs.Sides.{side_put}
+use Rattle.mpslp_builder.specs.Calls.{new_column, with_cell, with_sides}
+use Rattle.mpslp_numbered.specs.declared.parts.ObjectiveParts.{ObjectiveParts}
+use Rattle.mpslp_numbered.specs.declared.parts.RowParts.{RowParts}
+use Rattle.mpslp_numbered.specs.declared.parts.ColumnParts.{ColumnParts}
 use Rattle.mpslp_builder.proofs.NameLemmas.{find_own, once_too}
 use Rattle.mpslp_builder.proofs.PartLemmas.{each_part-append, each_part-kept, given_parts-without, given_parts-kept, find-given_any, absent-each_part, find-put_in_column, none_there}
 
@@ -149,6 +150,21 @@ module _ (sense : Option Sense) (constant : Option Number) (objective : Option O
           semis = kept semi_of w refl j;
         }
 
+    pub binary_draft : IsOnce (cells_by_name columns)
+        → draft_from sense constant objective rows (set_value_at columns i (record v { binary = true })) ≡ adding (draft_from sense constant objective rows columns) (declare_binary (bytes k))
+    binary_draft once =
+        let w : ColumnParts = record v { binary = true } in
+        λ j. record (draft_from sense constant objective rows columns) {
+          columns = names w j;
+          coefficients = coefficients w refl j;
+          lowers = kept lower_of w refl j;
+          uppers = kept upper_of w refl j;
+          marked = kept mark_of w refl j;
+          integers = kept integer_of w refl j;
+          binaries = given binary_of w tt once refl j;
+          semis = kept semi_of w refl j;
+        }
+
     pub semi_draft : IsOnce (cells_by_name columns)
         → draft_from sense constant objective rows (set_value_at columns i (record v { semi = true })) ≡ adding (draft_from sense constant objective rows columns) (declare_semi (bytes k))
     semi_draft once =
@@ -167,16 +183,16 @@ module _ (sense : Option Sense) (constant : Option Number) (objective : Option O
     -- ---- sides
 
     -- the sides of a kind, with one more where it is given
-    abbrev side_put : Option Limit → List (List ℕ × Limit) → List (List ℕ × Limit)
-    side_put side sides = option_map_or (λ limit. put bytes_cmp (bytes k) limit sides) side sides
+    abbrev limits_put : Option Limit → List (List ℕ × Limit) → List (List ℕ × Limit)
+    limits_put side sides = option_map_or (λ limit. put bytes_cmp (bytes k) limit sides) side sides
 
-    side : (f : ColumnParts → Option Limit) (w : ColumnParts) (given_side : Option Limit) → IsOnce (cells_by_name columns) → f w ≡ put_side given_side (f v)
-        → sorted_of bytes_cmp (given_parts bytes f (set_value_at columns i w)) ≡ side_put given_side (sorted_of bytes_cmp (given_parts bytes f columns))
+    side : (f : ColumnParts → Option Limit) (w : ColumnParts) (given_side : Option Limit) → IsOnce (cells_by_name columns) → f w ≡ side_put given_side (f v)
+        → sorted_of bytes_cmp (given_parts bytes f (set_value_at columns i w)) ≡ limits_put given_side (sorted_of bytes_cmp (given_parts bytes f columns))
     side f w None once is = kept f w is
     side f w (Some limit) once is = given f w limit once is
 
     sides-adding : (before : Draft) (lower upper : Option Limit)
-        → adding_all before (bounds_declared (bytes k) lower upper) ≡ record before { lowers = side_put lower before.lowers; uppers = side_put upper before.uppers }
+        → adding_all before (bounds_declared (bytes k) lower upper) ≡ record before { lowers = limits_put lower before.lowers; uppers = limits_put upper before.uppers }
     sides-adding before None None = refl
     sides-adding before (Some l) None = refl
     sides-adding before None (Some u) = refl
@@ -187,7 +203,7 @@ module _ (sense : Option Sense) (constant : Option Number) (objective : Option O
     sides_draft lower upper once =
         let w : ColumnParts = with_sides lower upper v in
         let before : Draft = draft_from sense constant objective rows columns in
-        let written : draft_from sense constant objective rows (set_value_at columns i w) ≡ record before { lowers = side_put lower before.lowers; uppers = side_put upper before.uppers } =
+        let written : draft_from sense constant objective rows (set_value_at columns i w) ≡ record before { lowers = limits_put lower before.lowers; uppers = limits_put upper before.uppers } =
         λ j. record before {
           columns = names w j;
           coefficients = coefficients w refl j;

@@ -1,8 +1,8 @@
 -- What the end of tables asks of its steps.
-use Rattle.std.proofs.Common.{◌≡◌, refl, sym, ap, subst, ◌∙◌, ℕ, zero, suc, ◌+◌, ◌<◌, List, [], ◌∷◌, ◌++◌, length, get_or, arith, Bool, true, false, cond, IsPermutation}
-use Rattle.std.specs.Prelude.{◌≢◌, Option, Some, None, is_some, ◌&&◌, unwrap_or, slice_get, slice_index}
+use Rattle.std.proofs.Common.{◌≡◌, refl, sym, ap, subst, ◌∙◌, ℕ, zero, suc, ◌+◌, ◌<◌, List, [], ◌∷◌, ◌++◌, length, arith, Bool, true, false, cond, IsPermutation}
+use Rattle.std.specs.Prelude.{◌≢◌, Option, Some, None, is_some, unwrap_or, slice_get, slice_index}
 use Rattle.std.specs.Option.{option_map, option_map_or}
-use Rattle.std.specs.Ordering.{is_eq, is_lt, eq_by_cmp}
+use Rattle.std.specs.Ordering.{is_lt, eq_by_cmp}
 use Rattle.std.specs.Cmp.{first_so, second_so}
 use Rattle.std.specs.FinMap.{find}
 use Rattle.std.specs.Global.{Vec}
@@ -12,22 +12,22 @@ use Rattle.mpslp_decimal.specs.Decimal.{Number, negated, zero_number}
 use Rattle.mpslp_types.specs.Name.{bytes_cmp, is_mps_name, IsMpsName}
 use Rattle.mpslp_types.specs.declared.kinds.Sense.{Sense}
 use Rattle.mpslp_types.proofs.EachLemmas.{Each, Each-weaker}
-use Rattle.mpslp_core.specs.Numbered.{sorted_of, each_part, given_parts, all_named, IsOnce, TellsApart}
+use Rattle.mpslp_core.specs.Numbered.{sorted_of, each_part, given_parts, IsOnce, TellsApart}
 use Rattle.mpslp_core.proofs.KeyLemmas.{bytes_total}
 use Rattle.mpslp_core.proofs.SortedLemmas.{find-sorted_of}
 use Rattle.mpslp_core.proofs.CellLemmas.{or_else, find-two, name_same, name_tied}
 use Rattle.mpslp_core.proofs.MovingLemmas.{all-from_each}
-use Rattle.mpslp_builder.specs.Declaration.{Draft, at_name}
+use Rattle.mpslp_builder.specs.Declaration.{at_name}
 use Rattle.mpslp_builder.specs.Made.{IsMade}
 use Rattle.mpslp_builder.specs.Meaning.{constant_of}
-use Rattle.mpslp_builder.specs.Tables.{bytes, objective_name, form_of, rhs_of, cells_of, no_part, objective_rhs, number_name, cells_by_name, draft_from, AreNumbered}
+use Rattle.mpslp_builder.specs.Tables.{bytes, objective_name, form_of, rhs_of, cells_of, no_part, objective_rhs, number_name, draft_from, AreNumbered}
 use Rattle.mpslp_numbered.specs.Ordered.{name_at, taken}
-use Rattle.mpslp_builder.specs.MovedParts.{rhs_in}
-use Rattle.mpslp_builder.specs.declared.tables.ObjectiveParts.{ObjectiveParts}
-use Rattle.mpslp_builder.specs.declared.tables.RowParts.{RowParts}
-use Rattle.mpslp_builder.specs.declared.tables.ColumnParts.{ColumnParts}
+use Rattle.mpslp_numbered.specs.Parts.{rhs_in}
+use Rattle.mpslp_numbered.specs.declared.parts.ObjectiveParts.{ObjectiveParts}
+use Rattle.mpslp_numbered.specs.declared.parts.RowParts.{RowParts}
+use Rattle.mpslp_numbered.specs.declared.parts.ColumnParts.{ColumnParts}
 use Rattle.mpslp_builder.proofs.MadeDrafts.{good-from_made}
-use Rattle.mpslp_builder.proofs.OrderedParts.{ordered_parts, each-ordered, once-part, no_part-found}
+use Rattle.mpslp_builder.proofs.OrderedParts.{ordered_parts, each-ordered, no_part-found}
 use Rattle.mpslp_numbered.proofs.RankLemmas.{order_length, order_within, order_apart}
 use Rattle.mpslp_builder.proofs.ModelOfTables.{within-all}
 

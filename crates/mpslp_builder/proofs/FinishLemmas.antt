@@ -1,5 +1,5 @@
 -- The model that tables end in, from its parts.
-use Rattle.std.proofs.Common.{◌≡◌, refl, sym, ap, subst, ◌∙◌, ℕ, List, [], ◌∷◌, map, Bool, true, false, cond, not}
+use Rattle.std.proofs.Common.{◌≡◌, refl, sym, ap, subst, ◌∙◌, ℕ, List, [], ◌∷◌, map, Bool, true}
 use Rattle.std.specs.Prelude.{Option, Some, None, filter, is_some, slice_index, unwrap_or}
 use Rattle.std.specs.Ordering.{nat_cmp}
 use Rattle.std.specs.Cmp.{nat_cmp_total, first_so, second_so}
@@ -9,7 +9,7 @@ use Rattle.std.specs.FinMap.{is_sorted, put}
 use Rattle.std.specs.FinMap.Entries.{by_order}
 use Rattle.std.specs.Global.{Vec}
 use Rattle.std.specs.List.{list_all}
-use Rattle.mpslp_decimal.specs.Decimal.{Number, is_zero, zero_number}
+use Rattle.mpslp_decimal.specs.Decimal.{Number, zero_number}
 use Rattle.mpslp_types.specs.Name.{bytes_cmp}
 use Rattle.mpslp_types.specs.declared.kinds.Sense.{Sense}
 use Rattle.mpslp_types.specs.declared.kinds.Sense.TheVariants.{Minimize}
@@ -17,24 +17,24 @@ use Rattle.mpslp_types.specs.declared.kinds.RowType.TheVariants.{Free}
 use Rattle.mpslp_types.proofs.BoolLemmas.{true_from, both_so}
 use Rattle.mpslp_types.proofs.EachLemmas.{Each, Each-weaker, Each-map, Each-from_list_all}
 use Rattle.mpslp_core.specs.Model.{key_cmp, IsSound}
-use Rattle.mpslp_core.specs.Limits.{RowForm, plain_limits}
+use Rattle.mpslp_core.specs.Limits.{plain_limits}
 use Rattle.mpslp_core.specs.ModelParts.{linear_model, AreModelParts, columns_in}
 use Rattle.mpslp_core.specs.ModelParts as parts
 use Rattle.mpslp_core.specs.Numbered.{sorted_of, each_part, all_cells, all_named, is_kept, moved_cells, IsOnce}
 use Rattle.mpslp_core.specs.declared.model.ModelParts.{ModelParts}
 use Rattle.mpslp_core.proofs.SortedLemmas.{is_sorted-sorted_of}
 use Rattle.mpslp_core.proofs.OnceLemmas.{is_sorted-filter}
-use Rattle.mpslp_core.proofs.MovingLemmas.{renamed, each-kept}
+use Rattle.mpslp_core.proofs.MovingLemmas.{each-kept}
 use Rattle.mpslp_builder.specs.Declaration.{Draft}
 use Rattle.mpslp_builder.specs.Made.{IsMade}
 use Rattle.mpslp_builder.specs.Bounds.{column_of}
 use Rattle.mpslp_builder.specs.Meaning.{objective_name, constant_of, row_limits, row_entry, model_of, file_fault, DraftMeans}
 use Rattle.mpslp_builder.specs.Tables.{bytes, form_of, cells_of, no_part, number_name, cells_by_name, draft_from, AreNumbered}
 use Rattle.mpslp_numbered.specs.Ordered.{taken}
-use Rattle.mpslp_builder.specs.MovedParts.{moved_in}
-use Rattle.mpslp_builder.specs.declared.tables.ObjectiveParts.{ObjectiveParts}
-use Rattle.mpslp_builder.specs.declared.tables.RowParts.{RowParts}
-use Rattle.mpslp_builder.specs.declared.tables.ColumnParts.{ColumnParts}
+use Rattle.mpslp_numbered.specs.Parts.{moved_in}
+use Rattle.mpslp_numbered.specs.declared.parts.ObjectiveParts.{ObjectiveParts}
+use Rattle.mpslp_numbered.specs.declared.parts.RowParts.{RowParts}
+use Rattle.mpslp_numbered.specs.declared.parts.ColumnParts.{ColumnParts}
 use Rattle.mpslp_builder.proofs.MadeDrafts.{meant-from_made}
 use Rattle.mpslp_builder.proofs.SortedDrafts.{sorted-from_made}
 use Rattle.mpslp_builder.proofs.MeaningFromNoFault.{sorted-mapped}

@@ -1,7 +1,7 @@
 -- The fault that is found first is the one that is told: of a kind, the least name that has it.
-use Rattle.std.proofs.Common.{◌≡◌, refl, sym, ap, ◌∙◌, ℕ, zero, suc, drop, ◌<◌, ◌+◌, ◌-◌, List, [], ◌∷◌, length, map, Bool, true, false, cond, not, arith}
-use Rattle.std.specs.Prelude.{◌||◌, ◌&&◌, Option, Some, None, is_some, filter, filter_map, slice_get, slice_index_or, unwrap_or}
-use Rattle.std.specs.Option.{option_map, option_and_then}
+use Rattle.std.proofs.Common.{◌≡◌, refl, sym, ap, ◌∙◌, ℕ, zero, suc, drop, ◌<◌, ◌+◌, ◌-◌, List, [], ◌∷◌, length, map, Bool, true, false, cond, arith}
+use Rattle.std.specs.Prelude.{◌||◌, Option, Some, None, is_some, filter, filter_map, slice_get, slice_index_or, unwrap_or}
+use Rattle.std.specs.Option.{option_map}
 use Rattle.std.specs.List.{list_any, cons_option}
 use Rattle.std.specs.Global.{Vec}
 use Rattle.std.specs.Cmp.{first_so, second_so}
@@ -23,20 +23,17 @@ use Rattle.mpslp_core.specs.declared.limits.RowFault.{RowFault}
 use Rattle.mpslp_core.specs.declared.limits.RowFault.TheVariants as rows
 use Rattle.mpslp_core.specs.declared.bounds.ColumnFault.{ColumnFault}
 use Rattle.mpslp_core.specs.declared.bounds.ColumnFault.TheVariants as columns
-use Rattle.mpslp_core.specs.declared.bounds.DeclaredColumn.{DeclaredColumn}
-use Rattle.mpslp_core.proofs.KeyLemmas.{bytes_total, tied_names}
+use Rattle.mpslp_core.proofs.KeyLemmas.{bytes_total}
 use Rattle.mpslp_core.proofs.SortedLemmas.{find-sorted_of, is_sorted-sorted_of}
-use Rattle.mpslp_builder.specs.Declaration.{Draft, names_in, at_name, has_name, is_objective}
+use Rattle.mpslp_builder.specs.Declaration.{Draft, names_in, has_name, is_objective}
 use Rattle.mpslp_builder.specs.Bounds.{declared_of}
 use Rattle.mpslp_builder.specs.Meaning.{whole_fault, row_passes, named_faults, file_fault}
 use Rattle.mpslp_builder.specs.Tables.{bytes, form_of, no_part, cells_of, draft, IsNumbered}
 use Rattle.mpslp_builder.specs.Calls.{IsOnceEach}
-use Rattle.mpslp_builder.specs.FaultFound.{row_test, bounds_test, kind_of_row_fault, kind_of_column_fault, row_fails, column_fails, is_wrong_row, is_wrong_column, declared_in, lesser, is_below, least_name, entry_name, named, fault_found, IsThere, HaveLegalNames}
-use Rattle.mpslp_builder.specs.declared.tables.RowParts.{RowParts}
-use Rattle.mpslp_builder.specs.declared.tables.ColumnParts.{ColumnParts}
+use Rattle.mpslp_builder.specs.FaultFound.{row_test, bounds_test, kind_of_row_fault, kind_of_column_fault, row_fails, column_fails, is_wrong_row, is_wrong_column, declared_in, lesser, is_below, least_name, entry_name, named, HaveLegalNames}
+use Rattle.mpslp_numbered.specs.declared.parts.RowParts.{RowParts}
+use Rattle.mpslp_numbered.specs.declared.parts.ColumnParts.{ColumnParts}
 use Rattle.mpslp_builder.specs.declared.tables.Tables.{Tables}
-use Rattle.mpslp_builder.specs.declared.file_faults.FoundFault.TheVariants as found
-use Rattle.mpslp_types.specs.declared.faults.Fault.{Fault}
 use Rattle.mpslp_types.specs.declared.faults.FaultKind.{FaultKind}
 use Rattle.mpslp_types.specs.declared.faults.FaultKind.TheVariants as kinds
 use Rattle.mpslp_core.proofs.CellLemmas.{or_else}

@@ -29,7 +29,6 @@ pub mod ColumnDrafts
 pub mod RowDrafts
 pub mod TestLemmas
 pub mod CallLemmas
-pub mod PassLemmas
 pub mod OrderedParts
 pub mod TableParts
 pub mod ModelOfTables

@@ -1,39 +1,37 @@
 -- Tables whose rows and columns are put into the order of their names make the model that their draft means.
-use Rattle.std.proofs.Common.{◌≡◌, refl, sym, ap, subst, ◌∙◌, ℕ, zero, suc, ◌+◌, ◌<◌, List, [], ◌∷◌, ◌++◌, length, map, get_or, arith, Bool, true, false, cond, IsPermutation}
+use Rattle.std.proofs.Common.{◌≡◌, refl, sym, ap, subst, ◌∙◌, ℕ, zero, suc, ◌+◌, ◌<◌, List, [], ◌∷◌, length, get_or, arith, Bool, true, false, cond, IsPermutation}
 use Rattle.std.proofs.Common.{inl, inr}
-use Rattle.std.specs.Prelude.{Option, Some, None, is_some, ◌⊎◌, filter, slice_get, slice_index, unwrap_or}
+use Rattle.std.specs.Prelude.{Option, Some, None, is_some, ◌⊎◌, filter, slice_get, slice_index}
 use Rattle.std.specs.Option.{option_map, option_and_then}
 use Rattle.std.specs.Ordering.{is_lt, eq_by_cmp, nat_cmp}
-use Rattle.std.specs.Cmp.{nat_cmp_total, first_so, second_so}
-use Rattle.std.specs.FinMap as maps
+use Rattle.std.specs.Cmp.{first_so, second_so}
 use Rattle.std.specs.FinMap.{find}
 use Rattle.std.specs.Map.{lookup}
 use Rattle.std.specs.Global.{Vec}
-use Rattle.std.specs.List.{All, list_all, range_with_len}
+use Rattle.std.specs.List.{list_all, range_with_len}
 use Rattle.std.specs.List.Sorted.{IsSortedBy}
 use Rattle.mpslp_decimal.specs.Decimal.{Number}
 use Rattle.mpslp_types.specs.Name.{bytes_cmp, same_bytes}
-use Rattle.mpslp_types.specs.declared.kinds.Sense.{Sense}
 use Rattle.mpslp_types.proofs.EachLemmas.{Each, Each-weaker, Each-from_list_all}
-use Rattle.mpslp_core.specs.Model.{Column, Row, CoefficientKey, key_cmp}
+use Rattle.mpslp_core.specs.Model.{Row, key_cmp}
 use Rattle.mpslp_core.specs.ModelParts.{own, columns_in}
 use Rattle.mpslp_core.specs.ModelParts as parts
-use Rattle.mpslp_core.specs.Numbered.{sorted_of, each_part, name_of, all_cells, all_named, is_kept, moved_cells, IsOnce, TellsApart}
+use Rattle.mpslp_core.specs.Numbered.{sorted_of, each_part, all_cells, all_named, is_kept, IsOnce}
 use Rattle.mpslp_core.specs.declared.model.ModelParts.{ModelParts}
 use Rattle.mpslp_core.proofs.KeyLemmas.{bytes_total}
 use Rattle.mpslp_core.proofs.CellLemmas.{name_same, name_tied}
 use Rattle.mpslp_core.proofs.OnceLemmas.{find-permutation, once-permutation}
 use Rattle.mpslp_core.proofs.MovingLemmas.{unless_zero, find-moved}
-use Rattle.mpslp_core.proofs.RenumberLemmas.{AreRenumbered, renumbered}
-use Rattle.mpslp_builder.specs.Tables.{bytes, form_of, cells_of, no_part, objective_name, number_name, cells_by_name, AreNumbered}
+use Rattle.mpslp_core.proofs.RenumberLemmas.{renumbered}
+use Rattle.mpslp_builder.specs.Tables.{bytes, cells_of, no_part, objective_name, number_name, cells_by_name, AreNumbered}
 use Rattle.mpslp_numbered.specs.Ordered.{name_at, taken}
-use Rattle.mpslp_builder.specs.MovedParts.{limits_in, bounds_of, moved_in}
-use Rattle.mpslp_builder.specs.declared.tables.ObjectiveParts.{ObjectiveParts}
-use Rattle.mpslp_builder.specs.declared.tables.RowParts.{RowParts}
-use Rattle.mpslp_builder.specs.declared.tables.ColumnParts.{ColumnParts}
+use Rattle.mpslp_numbered.specs.Parts.{limits_in, bounds_of, moved_in}
+use Rattle.mpslp_numbered.specs.declared.parts.ObjectiveParts.{ObjectiveParts}
+use Rattle.mpslp_numbered.specs.declared.parts.RowParts.{RowParts}
+use Rattle.mpslp_numbered.specs.declared.parts.ColumnParts.{ColumnParts}
 use Rattle.mpslp_builder.proofs.PartLemmas.{find-each_part}
 use Rattle.mpslp_builder.proofs.OrderedParts.{taken-permutation, parts-permutation, once-part}
-use Rattle.mpslp_numbered.proofs.RankLemmas.{order_length, order_within, AreRanks, rank_at, ranks_length, ranks_apart, get-taken, place_below, length-taken}
+use Rattle.mpslp_numbered.proofs.RankLemmas.{order_within, AreRanks, rank_at, ranks_length, ranks_apart, get-taken, place_below, length-taken}
 
 -- ---- which rows there are
 

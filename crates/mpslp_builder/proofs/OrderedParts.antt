@@ -1,18 +1,18 @@
 -- Entries that are put into the order of their names: what each says stands as in the maps of a draft.
-use Rattle.std.proofs.Common.{◌≡◌, refl, sym, ap, subst, ◌∙◌, ℕ, zero, suc, ◌+◌, ◌<◌, List, [], ◌∷◌, ◌++◌, length, map, get_or, arith, Bool, true, false, cond, IsPermutation}
+use Rattle.std.proofs.Common.{◌≡◌, refl, sym, ap, subst, ◌∙◌, ℕ, zero, suc, ◌+◌, ◌<◌, List, [], ◌∷◌, length, map, arith, Bool, true, false, cond, IsPermutation}
 use Rattle.std.specs.Prelude.{Option, Some, None, slice_get, filter_map}
-use Rattle.std.specs.Option.{option_map, option_map_or}
+use Rattle.std.specs.Option.{option_map_or}
 use Rattle.std.specs.Ordering.{is_eq, is_lt, eq_by_cmp}
 use Rattle.std.specs.Cmp.{tied_itself, eq_by_cmp_equiv}
 use Rattle.std.specs.Cmp.Lexicographic.{texts_ties}
 use Rattle.std.specs.FinMap.{find}
 use Rattle.std.specs.Map.{keys_of}
 use Rattle.std.specs.Global.{Vec}
-use Rattle.std.specs.List.{All, AllByRecursion, IsDistinct, cons_option, range_with_len}
+use Rattle.std.specs.List.{AllByRecursion, IsDistinct, cons_option, range_with_len}
 use Rattle.std.specs.List.Sorted.{IsSortedBy}
 use Rattle.std.proofs.lemmas.List.Sorted.{IsPermutation-refl, IsPermutation-cons, IsPermutation-trans, IsPermutation-map, All-permutation}
 use Rattle.mpslp_types.specs.Name.{bytes_cmp, same_bytes}
-use Rattle.mpslp_types.proofs.EachLemmas.{Each, Each-both, Each-weaker}
+use Rattle.mpslp_types.proofs.EachLemmas.{Each, Each-both}
 use Rattle.mpslp_core.specs.Numbered.{sorted_of, each_part, given_parts, IsOnce}
 use Rattle.mpslp_core.proofs.KeyLemmas.{bytes_total, tied_names}
 use Rattle.mpslp_core.proofs.PermutationLemmas.{along_permutation}

@@ -1,5 +1,5 @@
 -- What a draft says of a row or a column by its name is what stands beside this name.
-use Rattle.std.proofs.Common.{◌≡◌, refl, ◌∙◌, ℕ, List, Bool}
+use Rattle.std.proofs.Common.{◌≡◌, refl, ◌∙◌, ℕ, Bool}
 use Rattle.std.specs.Prelude.{Option, Some, slice_get}
 use Rattle.std.specs.Global.{Vec}
 use Rattle.mpslp_decimal.specs.Decimal.{Number}
@@ -10,8 +10,8 @@ use Rattle.mpslp_builder.specs.Bounds.{declared_of}
 use Rattle.mpslp_builder.specs.Tables.{bytes, form_of, rhs_of, range_of, lower_of, upper_of, draft, IsNumbered}
 use Rattle.mpslp_builder.specs.Calls.{IsOnceEach}
 use Rattle.mpslp_builder.specs.FaultFound.{declared_in}
-use Rattle.mpslp_builder.specs.declared.tables.RowParts.{RowParts}
-use Rattle.mpslp_builder.specs.declared.tables.ColumnParts.{ColumnParts}
+use Rattle.mpslp_numbered.specs.declared.parts.RowParts.{RowParts}
+use Rattle.mpslp_numbered.specs.declared.parts.ColumnParts.{ColumnParts}
 use Rattle.mpslp_builder.specs.declared.tables.Tables.{Tables}
 use Rattle.mpslp_builder.proofs.ReadingLemmas.{Stands, given_at, flag_at, told_at, rhs_at, range_at}
 

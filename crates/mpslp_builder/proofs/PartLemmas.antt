@@ -17,6 +17,7 @@ use Rattle.mpslp_core.proofs.KeyLemmas.{bytes_total, key_total, tied_names}
 use Rattle.mpslp_builder.specs.Declaration.{at_name, has_name}
 use Rattle.mpslp_core.proofs.SortedLemmas.{find-sorted_of}
 use Rattle.mpslp_core.specs.Numbered.{sorted_of, each_part, given_parts, column_cells, all_cells, TellsApart, IsOnce}
+pub use Rattle.mpslp_numbered.proofs.PassLemmas.{each_part-append}
 use Rattle.mpslp_core.proofs.CellLemmas.{at, or_else, find-two, first_none, find-put_cell, swapped, clear}
 
 pub none_there : {X : Type 0} (o : Option X) → is_some o ≡ false → o ≡ None
@@ -49,10 +50,6 @@ module _ {K V X : Type 0} (key : K → List ℕ) (f : V → X) where
   -- a name that is not in the map is no key
   pub absent-each_part : (q : List ℕ) (es : List (K × V)) → has_name (sorted_of bytes_cmp (each_part key f es)) q ≡ false → find bytes_cmp q (each_part key f es) ≡ None
   absent-each_part q es h = none_there (find bytes_cmp q (each_part key f es)) (ap is_some (sym (find-sorted_of bytes_cmp bytes_total q (each_part key f es))) ∙ h)
-
-  pub each_part-append : (es : List (K × V)) (k : K) (v : V) → each_part key f (es ++ (k, v) ∷ []) ≡ each_part key f es ++ (key k, f v) ∷ []
-  each_part-append [] k v = refl
-  each_part-append (e ∷ es) k v = ap (λ (more : List (List ℕ × X)). (key e.0, f e.1) ∷ more) (each_part-append es k v)
 
   -- a write that keeps this part
   pub each_part-kept : (es : List (K × V)) (i : ℕ) (k : K) (v w : V) → slice_get es i ≡ Some (k, v) → f w ≡ f v → each_part key f (set_value_at es i w) ≡ each_part key f es

@@ -13,16 +13,16 @@ use Rattle.mpslp_types.specs.Name.{same_bytes, bytes_cmp}
 use Rattle.mpslp_types.specs.declared.kinds.Sense.{Sense}
 use Rattle.mpslp_core.specs.Limits.{RowForm, is_free_form, is_limits_form}
 use Rattle.mpslp_core.specs.Numbered.{sorted_of, each_part, given_parts}
-use Rattle.mpslp_core.proofs.KeyLemmas.{bytes_total, tied_names}
+use Rattle.mpslp_core.proofs.KeyLemmas.{bytes_total}
 use Rattle.mpslp_core.proofs.SortedLemmas.{find-sorted_of}
-use Rattle.mpslp_core.proofs.PutsLemmas.{equal_from}
 use Rattle.mpslp_core.proofs.CellLemmas.{at, or_else, find-two}
-use Rattle.mpslp_builder.specs.Declaration.{Draft, at_name, has_name, has_entry, is_objective, is_free_row, is_row_by_limits, is_integer}
+use Rattle.mpslp_builder.specs.Declaration.{at_name, has_name, has_entry, is_objective, is_free_row, is_row_by_limits, is_integer}
+use Rattle.mpslp_builder.specs.Consistency.{has_objective_rhs}
 use Rattle.mpslp_builder.specs.Tables.{bytes, form_of, rhs_of, range_of, no_part, cells_of, as_part, objective_name, objective_rhs, draft, IsNumbered}
-use Rattle.mpslp_builder.specs.Calls.{number_of, row_name, column_name, row_tells, column_tells, cells_at, is_objective_place, IsOnceEach}
-use Rattle.mpslp_builder.specs.declared.tables.ObjectiveParts.{ObjectiveParts}
-use Rattle.mpslp_builder.specs.declared.tables.RowParts.{RowParts}
-use Rattle.mpslp_builder.specs.declared.tables.ColumnParts.{ColumnParts}
+use Rattle.mpslp_builder.specs.Calls.{number_of, row_name, row_tells, column_tells, cells_at, is_objective_place, IsOnceEach}
+use Rattle.mpslp_numbered.specs.declared.parts.ObjectiveParts.{ObjectiveParts}
+use Rattle.mpslp_numbered.specs.declared.parts.RowParts.{RowParts}
+use Rattle.mpslp_numbered.specs.declared.parts.ColumnParts.{ColumnParts}
 use Rattle.mpslp_builder.specs.declared.tables.RowPlace.{RowPlace}
 use Rattle.mpslp_builder.specs.declared.tables.RowPlace.TheVariants.{Objective, Row}
 use Rattle.mpslp_builder.specs.declared.tables.Tables.{Tables}
@@ -197,6 +197,16 @@ module _ (sense : Option Sense) (constant : Option Number) (t : Tables) (once : 
 
       own_name : is_objective (draft sense constant t) o.name ≡ true
       own_name = ap (λ (parts : Option ObjectiveParts). option_map_or (same_bytes o.name) (objective_name parts) false) there ∙ nat_list_eq_equiv.refl o.name
+
+    -- the objective has a right side
+    pub has_objective_rhs_at : has_objective_rhs (draft sense constant t) ≡ option_map_or (λ o. is_some o.rhs) t.objective false
+    has_objective_rhs_at =
+        let all = draft sense constant t in
+        let of_parts : Option ObjectiveParts → Bool = λ parts. option_map_or (has_name all.rhs_values) (objective_name parts) false in
+        elim t.objective as (λ parts. t.objective ≡ parts → has_objective_rhs all ≡ option_map_or (λ o. is_some o.rhs) parts false) [
+          | None ↦ λ none. ap of_parts none
+          | Some o ↦ λ there. ap of_parts there ∙ ap is_some (objective_rhs_at o there)
+        ] refl
 
     -- ---- at a place
 

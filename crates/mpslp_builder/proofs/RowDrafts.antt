@@ -14,7 +14,7 @@ use Rattle.mpslp_decimal.specs.Decimal.{Number}
 use Rattle.mpslp_types.specs.Name.{same_bytes, bytes_cmp}
 use Rattle.mpslp_types.specs.declared.kinds.Sense.{Sense}
 use Rattle.mpslp_types.proofs.BoolLemmas.{both_so}
-use Rattle.mpslp_core.specs.Model.{CoefficientKey, key_cmp}
+use Rattle.mpslp_core.specs.Model.{key_cmp}
 use Rattle.mpslp_core.specs.Limits.{RowForm}
 use Rattle.mpslp_core.specs.Numbered.{sorted_of, each_part, given_parts, column_cells, all_cells, all_named, IsOnce}
 use Rattle.mpslp_core.proofs.KeyLemmas.{bytes_total, tied_names}
@@ -23,10 +23,10 @@ use Rattle.mpslp_core.proofs.PutsLemmas.{equal_from}
 use Rattle.mpslp_core.proofs.CellLemmas.{or_else, find-two}
 use Rattle.mpslp_builder.specs.Declaration.{Draft, adding, declare_objective, declare_row, declare_rhs, declare_range, is_objective, has_name, has_row}
 use Rattle.mpslp_builder.specs.Tables.{bytes, form_of, rhs_of, range_of, objective_name, objective_rhs, number_name, cells_by_name, draft_from, AreNumbered}
-use Rattle.mpslp_builder.specs.declared.tables.ObjectiveParts.{ObjectiveParts}
-use Rattle.mpslp_builder.specs.declared.tables.RowParts.{RowParts}
-use Rattle.mpslp_builder.specs.declared.tables.ColumnParts.{ColumnParts}
-use Rattle.mpslp_builder.proofs.NameLemmas.{there_found, once_too, names-more, old_or_last, find_own}
+use Rattle.mpslp_numbered.specs.declared.parts.ObjectiveParts.{ObjectiveParts}
+use Rattle.mpslp_numbered.specs.declared.parts.RowParts.{RowParts}
+use Rattle.mpslp_numbered.specs.declared.parts.ColumnParts.{ColumnParts}
+use Rattle.mpslp_builder.proofs.NameLemmas.{there_found, once_too, names-more, old_or_last}
 use Rattle.mpslp_builder.proofs.PartLemmas.{each_part-append, each_part-kept, given_parts-without, given_parts-kept, find-given_any, absent-each_part}
 
 -- ---- numbers that name at least what they named

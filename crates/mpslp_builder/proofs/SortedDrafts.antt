@@ -1,10 +1,7 @@
 -- Each map of a draft holds its entries in the order of their keys.
-use Rattle.std.proofs.Common.{◌≡◌, sym, subst, ℕ, List}
+use Rattle.std.proofs.Common.{sym, subst, ℕ, List}
 use Rattle.std.specs.List.{flat_map}
-use Rattle.std.specs.Cmp.{IsTotalOrder}
-use Rattle.std.specs.Cmp.Lexicographic.{nat_list_cmp_total}
-use Rattle.std.specs.FinMap.{is_sorted, slice_cmp-IsAntisymmetric, nat_cmp-IsAntisymmetric}
-use Rattle.std.specs.declared.cmp.Ordering.TheVariants.{Equal}
+use Rattle.std.specs.FinMap.{is_sorted}
 use Rattle.std.proofs.Math.Dec.{T}
 use Rattle.mpslp_decimal.specs.Decimal.{Number}
 use Rattle.mpslp_core.specs.Model.{CoefficientKey, key_cmp}

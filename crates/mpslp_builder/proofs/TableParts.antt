@@ -1,5 +1,5 @@
 -- What tables say of a row or of a column is what their draft says of its name.
-use Rattle.std.proofs.Common.{◌≡◌, refl, sym, ap, ◌∙◌, ℕ, zero, suc, List, [], ◌∷◌, ◌++◌, length, map, Bool, true, false, cond}
+use Rattle.std.proofs.Common.{◌≡◌, refl, sym, ap, ◌∙◌, ℕ, zero, suc, List, [], ◌∷◌, ◌++◌, map, Bool, true, false, cond}
 use Rattle.std.specs.Prelude.{Option, Some, None, is_some, unwrap_or, slice_get}
 use Rattle.std.specs.Option.{option_map, option_map_or}
 use Rattle.std.specs.Ordering.{eq_by_cmp}
@@ -10,11 +10,9 @@ use Rattle.mpslp_types.specs.Name.{bytes_cmp}
 use Rattle.mpslp_types.specs.declared.kinds.Sense.{Sense}
 use Rattle.mpslp_types.specs.declared.kinds.RowType.TheVariants.{Free}
 use Rattle.mpslp_types.proofs.EachLemmas.{Each, Each-both, Each-weaker}
-use Rattle.mpslp_core.specs.Model.{Column, Row}
 use Rattle.mpslp_core.specs.Limits.{limits_of, plain_limits}
 use Rattle.mpslp_core.specs.Columns.{declared_column}
 use Rattle.mpslp_core.specs.Numbered.{sorted_of, each_part, given_parts, IsOnce, TellsApart}
-use Rattle.mpslp_core.specs.declared.bounds.DeclaredColumn.{DeclaredColumn}
 use Rattle.mpslp_core.proofs.KeyLemmas.{bytes_total}
 use Rattle.mpslp_core.proofs.SortedLemmas.{find-sorted_of}
 use Rattle.mpslp_core.proofs.CellLemmas.{or_else, find-two, name_same}
@@ -23,10 +21,10 @@ use Rattle.mpslp_builder.specs.Bounds.{declared_of, column_of}
 use Rattle.mpslp_builder.specs.Meaning.{row_entry}
 use Rattle.mpslp_builder.specs.Tables.{bytes, form_of, rhs_of, range_of, no_part, lower_of, upper_of, as_part, mark_of, integer_of, binary_of, semi_of, objective_rhs, number_name, draft_from}
 use Rattle.mpslp_builder.specs.FaultFound.{declared_in}
-use Rattle.mpslp_builder.specs.MovedParts.{limits_in, bounds_of}
-use Rattle.mpslp_builder.specs.declared.tables.ObjectiveParts.{ObjectiveParts}
-use Rattle.mpslp_builder.specs.declared.tables.RowParts.{RowParts}
-use Rattle.mpslp_builder.specs.declared.tables.ColumnParts.{ColumnParts}
+use Rattle.mpslp_numbered.specs.Parts.{limits_in, bounds_of}
+use Rattle.mpslp_numbered.specs.declared.parts.ObjectiveParts.{ObjectiveParts}
+use Rattle.mpslp_numbered.specs.declared.parts.RowParts.{RowParts}
+use Rattle.mpslp_numbered.specs.declared.parts.ColumnParts.{ColumnParts}
 use Rattle.mpslp_builder.proofs.OrderedParts.{own_parts}
 
 -- what holds at each place holds of each
@@ -95,15 +93,15 @@ module _ (columns : List (Vec ℕ × ColumnParts)) (once : IsOnce (each_part byt
   pub columns_say : (sense : Option Sense) (constant : Option Number) (objective : Option ObjectiveParts) (rows : List (Vec ℕ × RowParts)) → Each (SaysColumn (draft_from sense constant objective rows columns)) columns
   columns_say sense constant objective rows =
       let d = draft_from sense constant objective rows columns in
-      let sides = Each-both (λ e. e.1.lower ≡ at_name d.lowers e.0.items) (λ e. e.1.upper ≡ at_name d.uppers e.0.items)
-      (λ e. (e.1.lower ≡ at_name d.lowers e.0.items) × (e.1.upper ≡ at_name d.uppers e.0.items)) (λ e a b. (a, b)) columns (says lower_of) (says upper_of) in
+      let sides = Each-both (λ e. e.1.sides.lower ≡ at_name d.lowers e.0.items) (λ e. e.1.sides.upper ≡ at_name d.uppers e.0.items)
+      (λ e. (e.1.sides.lower ≡ at_name d.lowers e.0.items) × (e.1.sides.upper ≡ at_name d.uppers e.0.items)) (λ e a b. (a, b)) columns (says lower_of) (says upper_of) in
       let whole = Each-both (λ e. mark_of e.1 ≡ at_name d.marked e.0.items) (λ e. integer_of e.1 ≡ at_name d.integers e.0.items)
       (λ e. (mark_of e.1 ≡ at_name d.marked e.0.items) × (integer_of e.1 ≡ at_name d.integers e.0.items)) (λ e a b. (a, b)) columns (says mark_of) (says integer_of) in
       let kinds = Each-both (λ e. binary_of e.1 ≡ at_name d.binaries e.0.items) (λ e. semi_of e.1 ≡ at_name d.semis e.0.items)
       (λ e. (binary_of e.1 ≡ at_name d.binaries e.0.items) × (semi_of e.1 ≡ at_name d.semis e.0.items)) (λ e a b. (a, b)) columns (says binary_of) (says semi_of) in
       let flags = Each-both (λ e. (mark_of e.1 ≡ at_name d.marked e.0.items) × (integer_of e.1 ≡ at_name d.integers e.0.items)) (λ e. (binary_of e.1 ≡ at_name d.binaries e.0.items) × (semi_of e.1 ≡ at_name d.semis e.0.items))
       (λ e. ((mark_of e.1 ≡ at_name d.marked e.0.items) × (integer_of e.1 ≡ at_name d.integers e.0.items)) × ((binary_of e.1 ≡ at_name d.binaries e.0.items) × (semi_of e.1 ≡ at_name d.semis e.0.items))) (λ e a b. (a, b)) columns whole kinds in
-      Each-both (λ e. (e.1.lower ≡ at_name d.lowers e.0.items) × (e.1.upper ≡ at_name d.uppers e.0.items))
+      Each-both (λ e. (e.1.sides.lower ≡ at_name d.lowers e.0.items) × (e.1.sides.upper ≡ at_name d.uppers e.0.items))
       (λ e. ((mark_of e.1 ≡ at_name d.marked e.0.items) × (integer_of e.1 ≡ at_name d.integers e.0.items)) × ((binary_of e.1 ≡ at_name d.binaries e.0.items) × (semi_of e.1 ≡ at_name d.semis e.0.items)))
       (SaysColumn d)
       (λ e s f i. record {

@@ -1,5 +1,5 @@
 -- What a question of tables answers is the first refusal of the declaration.
-use Rattle.std.proofs.Common.{◌≡◌, refl, sym, ap, ◌∙◌, ℕ, suc, List, [], ◌∷◌, Bool, true, false, not}
+use Rattle.std.proofs.Common.{◌≡◌, sym, ap, ◌∙◌, ℕ, List, [], ◌∷◌, Bool, true, false, not}
 use Rattle.std.specs.Prelude.{Option, Some, None, is_some, ◌||◌, ◌&&◌}
 use Rattle.std.specs.Option.{option_map_or}
 use Rattle.std.specs.Ordering.{nat_cmp}
@@ -37,7 +37,7 @@ module _ (constant : Option Number) (t : Tables) (once : IsOnceEach t) where
         λ j. those_of ((not (sym there j), UnknownColumn) ∷ (integer j, SemiContinuous) ∷ [])
 
     pub sides_told : (lower upper : Option Limit) (b infinite : Bool)
-        → b ≡ ((is_some lower && column_tells t i (λ parts. is_some parts.lower)) || (is_some upper && column_tells t i (λ parts. is_some parts.upper)))
+        → b ≡ ((is_some lower && column_tells t i (λ parts. is_some parts.sides.lower)) || (is_some upper && column_tells t i (λ parts. is_some parts.sides.upper)))
         → infinite ≡ (option_map_or is_plus_infinite lower false || option_map_or is_minus_infinite upper false)
         → bounds_refusals (draft None constant t) c lower upper ≡ those_of ((b, DuplicateBound) ∷ (infinite, InfiniteValue) ∷ [])
     sides_told lower upper b infinite told end =

@@ -6,16 +6,16 @@ use Rattle.std.specs.Ordering.{nat_cmp}
 use Rattle.std.specs.FinMap.{put}
 use Rattle.indexmap.specs.IndexMap.{set_value_at}
 use Rattle.mpslp_decimal.specs.Decimal.{Number}
-use Rattle.mpslp_types.specs.declared.kinds.Limit.{Limit}
 use Rattle.mpslp_types.specs.declared.faults.BuildFault.{BuildFault}
 use Rattle.mpslp_core.specs.Numbered.{IsOnce, each_part}
 use Rattle.mpslp_core.specs.Model.{CoefficientKey}
+pub use Rattle.mpslp_numbered.specs.Parts.{new_column, with_sides}
 use Rattle.mpslp_builder.specs.Answer.{Answer}
 use Rattle.mpslp_builder.specs.Declaration.{Draft, has_row, has_column, has_entry}
-use Rattle.mpslp_builder.specs.Tables.{bytes, form_of, cells_of, objective_name, number_name, cells_by_name}
-use Rattle.mpslp_builder.specs.declared.tables.ObjectiveParts.{ObjectiveParts}
-use Rattle.mpslp_builder.specs.declared.tables.RowParts.{RowParts}
-use Rattle.mpslp_builder.specs.declared.tables.ColumnParts.{ColumnParts}
+use Rattle.mpslp_builder.specs.Tables.{bytes, form_of, cells_of, number_name, cells_by_name}
+use Rattle.mpslp_numbered.specs.declared.parts.ObjectiveParts.{ObjectiveParts}
+use Rattle.mpslp_numbered.specs.declared.parts.RowParts.{RowParts}
+use Rattle.mpslp_numbered.specs.declared.parts.ColumnParts.{ColumnParts}
 use Rattle.mpslp_builder.specs.declared.tables.RowPlace.{RowPlace}
 use Rattle.mpslp_builder.specs.declared.tables.RowPlace.TheVariants.{Objective, Row}
 use Rattle.mpslp_builder.specs.declared.tables.Tables.{Tables}
@@ -104,9 +104,6 @@ pub record HasColumnWritten (old : Tables) (i : ℕ) (parts : ColumnParts) (new 
   pub rows : new.rows.entries ≡ old.rows.entries
   pub columns : new.columns.entries ≡ set_value_at old.columns.entries i parts
 
-abbrev pub new_column : ColumnParts
-new_column = record { cells = []; lower = None; upper = None; marked = false; integer = false; binary = false; semi = false }
-
 -- the column of a number, changed so
 pub record HasColumnChanged (old : Tables) (i : ℕ) (change : ColumnParts → ColumnParts) (new : Tables) : Type 0 where
   pub key : Vec ℕ
@@ -131,14 +128,6 @@ pub record HasObjectiveChanged (old : Tables) (change : ObjectiveParts → Objec
 abbrev pub HasRhsPut : Tables → RowPlace → Number → Tables → Type 0
 HasRhsPut old Objective value new = HasObjectiveChanged old (λ o. record o { rhs = Some value }) new
 HasRhsPut old (Row i) value new = HasRowChanged old i (λ row. record row { rhs = Some value }) new
-
--- the sides that are given are put
-abbrev pub put_side : Option Limit → Option Limit → Option Limit
-put_side None old = old
-put_side (Some side) old = Some side
-
-abbrev pub with_sides : Option Limit → Option Limit → ColumnParts → ColumnParts
-with_sides lower upper column = record column { lower = put_side lower column.lower; upper = put_side upper column.upper }
 
 abbrev pub with_cell : ℕ → Number → ColumnParts → ColumnParts
 with_cell row value column = record column { cells = put nat_cmp row value column.cells }

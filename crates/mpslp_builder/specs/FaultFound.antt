@@ -10,14 +10,14 @@ pub use Rattle.mpslp_core.specs.WrongParts.{is_faulty_row, row_test, bounds_test
 use Rattle.mpslp_core.specs.Lists.{head_of}
 use Rattle.mpslp_core.specs.declared.limits.RowFault.{RowFault}
 use Rattle.mpslp_core.specs.declared.bounds.ColumnFault.{ColumnFault}
-use Rattle.mpslp_core.specs.declared.bounds.DeclaredColumn.{DeclaredColumn}
+pub use Rattle.mpslp_numbered.specs.Parts.{declared_in}
 use Rattle.mpslp_builder.specs.Meaning.{names_with, whole_fault}
-use Rattle.mpslp_builder.specs.Tables.{bytes, form_of, rhs_of, range_of, lower_of, upper_of}
+use Rattle.mpslp_builder.specs.Tables.{bytes, form_of, rhs_of, range_of}
 use Rattle.mpslp_types.specs.declared.faults.Fault.{Fault}
 use Rattle.mpslp_types.specs.declared.faults.FaultKind.{FaultKind}
 use Rattle.mpslp_types.specs.declared.faults.FaultKind.TheVariants as kinds
-use Rattle.mpslp_builder.specs.declared.tables.RowParts.{RowParts}
-use Rattle.mpslp_builder.specs.declared.tables.ColumnParts.{ColumnParts}
+use Rattle.mpslp_numbered.specs.declared.parts.RowParts.{RowParts}
+use Rattle.mpslp_numbered.specs.declared.parts.ColumnParts.{ColumnParts}
 use Rattle.mpslp_builder.specs.declared.tables.Tables.{Tables}
 use Rattle.mpslp_builder.specs.declared.file_faults.FoundFault.{FoundFault}
 use Rattle.mpslp_builder.specs.declared.file_faults.FoundFault.TheVariants as found
@@ -29,16 +29,6 @@ row_fails fault row = row_test fault (form_of row) (unwrap_or (rhs_of row) zero_
 
 abbrev pub is_wrong_row : RowParts → Bool
 is_wrong_row row = is_faulty_row (form_of row) (unwrap_or (rhs_of row) zero_number) (range_of row)
-
-abbrev pub declared_in : ColumnParts → DeclaredColumn
-declared_in column = record {
-  lower = lower_of column;
-  upper = upper_of column;
-  marked = column.marked;
-  integer = column.integer;
-  binary = column.binary;
-  semi = column.semi;
-}
 
 abbrev pub column_fails : ColumnFault → ColumnParts → Bool
 column_fails fault column = bounds_test fault (declared_in column)

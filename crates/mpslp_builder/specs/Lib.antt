@@ -10,4 +10,3 @@ pub mod Finish
 pub mod Tables
 pub mod Calls
 pub mod FaultFound
-pub mod MovedParts

@@ -21,6 +21,10 @@ has_constant all = is_some all.constant || has_objective_rhs all
 abbrev pub sense_tests : Draft → List (Bool × BuildFault)
 sense_tests all = (is_some all.sense, DuplicateSense) ∷ []
 
+-- whatever the value is
+abbrev pub constant_tests : Draft → List (Bool × BuildFault)
+constant_tests all = (has_constant all, DuplicateRhs) ∷ []
+
 -- of a row by its type, whichever it is
 abbrev pub row_tests : Draft → List ℕ → List (Bool × BuildFault)
 row_tests all name = (has_row all name, DuplicateRow) ∷ []
@@ -47,7 +51,7 @@ semi_tests all column = (not (has_column all column), UnknownColumn) ∷ (is_int
 abbrev pub refusal_tests : Draft → Declaration → List (Bool × BuildFault)
 refusal_tests all (declare_sense sense) = sense_tests all
 refusal_tests all (declare_objective name) = (is_some all.objective, SecondObjective) ∷ (has_row all name, DuplicateRow) ∷ []
-refusal_tests all (declare_constant value) = (has_constant all, DuplicateRhs) ∷ []
+refusal_tests all (declare_constant value) = constant_tests all
 refusal_tests all (declare_row name form) = row_tests all name ++ (have_infinite_side form, InfiniteValue) ∷ []
 refusal_tests all (declare_rhs row value) = rhs_tests all row
 refusal_tests all (declare_range row value) =

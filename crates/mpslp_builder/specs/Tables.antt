@@ -1,62 +1,18 @@
 -- What tables of numbered names say: the draft that they stand for.
-use Rattle.std.specs.Prelude.{◌≡◌, ◌<◌, ℕ, Bool, true, List, [], ◌∷◌, ◌++◌, Option, None, Some, length, if◌then◌else◌}
+use Rattle.std.specs.Prelude.{◌≡◌, ◌<◌, ℕ, true, List, [], ◌∷◌, ◌++◌, Option, length}
 use Rattle.std.specs.Option.{option_map, option_map_or}
 use Rattle.std.specs.Global.{Vec}
 use Rattle.mpslp_decimal.specs.Decimal.{Number}
 use Rattle.mpslp_types.specs.Name.{bytes_cmp}
 use Rattle.mpslp_types.specs.declared.kinds.Sense.{Sense}
-use Rattle.mpslp_types.specs.declared.kinds.Limit.{Limit}
 use Rattle.mpslp_core.specs.Model.{key_cmp}
-use Rattle.mpslp_core.specs.Limits.{RowForm}
 use Rattle.mpslp_core.specs.Numbered.{sorted_of, each_part, given_parts, name_of, all_cells, all_named, TellsApart}
 use Rattle.mpslp_builder.specs.Declaration.{Draft}
-use Rattle.mpslp_builder.specs.declared.tables.ObjectiveParts.{ObjectiveParts}
-use Rattle.mpslp_builder.specs.declared.tables.RowParts.{RowParts}
-use Rattle.mpslp_builder.specs.declared.tables.ColumnParts.{ColumnParts}
+pub use Rattle.mpslp_numbered.specs.Parts.{bytes, form_of, rhs_of, range_of, no_part, cells_of, lower_of, upper_of, as_part, mark_of, integer_of, binary_of, semi_of}
+use Rattle.mpslp_numbered.specs.declared.parts.ObjectiveParts.{ObjectiveParts}
+use Rattle.mpslp_numbered.specs.declared.parts.RowParts.{RowParts}
+use Rattle.mpslp_numbered.specs.declared.parts.ColumnParts.{ColumnParts}
 use Rattle.mpslp_builder.specs.declared.tables.Tables.{Tables}
-
--- a name's bytes
-abbrev pub bytes : Vec ℕ → List ℕ
-bytes v = v.items
-
--- ---- what is declared of a row or of a column
-
-abbrev pub form_of : RowParts → RowForm
-form_of row = row.form
-
-abbrev pub rhs_of : RowParts → Option Number
-rhs_of row = row.rhs
-
-abbrev pub range_of : RowParts → Option Number
-range_of row = row.range
-
-abbrev pub no_part : ColumnParts → Unit {0}
-no_part column = tt
-
-abbrev pub cells_of : ColumnParts → List (ℕ × Number)
-cells_of column = column.cells
-
-abbrev pub lower_of : ColumnParts → Option Limit
-lower_of column = column.lower
-
-abbrev pub upper_of : ColumnParts → Option Limit
-upper_of column = column.upper
-
--- whether it is so, as a part that is there or not
-abbrev pub as_part : Bool → Option (Unit {0})
-as_part b = if b then Some tt else None
-
-abbrev pub mark_of : ColumnParts → Option (Unit {0})
-mark_of column = as_part column.marked
-
-abbrev pub integer_of : ColumnParts → Option (Unit {0})
-integer_of column = as_part column.integer
-
-abbrev pub binary_of : ColumnParts → Option (Unit {0})
-binary_of column = as_part column.binary
-
-abbrev pub semi_of : ColumnParts → Option (Unit {0})
-semi_of column = as_part column.semi
 
 -- ---- the draft
 

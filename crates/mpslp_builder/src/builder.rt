@@ -3,12 +3,12 @@
 ghost use Rattle.std.specs.Prelude.{◌≡◌, IsTrue};
 ghost use Rattle.std.specs.Option.{ForSome};
 ghost use Rattle.mpslp_types.specs.Sides.{is_given};
-ghost use Rattle.mpslp_builder.specs.Declaration.{empty_draft, adding, adding_all, declare_sense, declare_objective, declare_row, by_type, declare_rhs, declare_range, declare_column, declare_coefficient, declare_marked, declare_integer, declare_semi, rhs_declared, bounds_declared};
+ghost use Rattle.mpslp_builder.specs.Declaration.{empty_draft, adding, adding_all, declare_sense, declare_objective, declare_constant, declare_row, by_type, by_limits, declare_rhs, declare_range, declare_column, declare_coefficient, declare_marked, declare_integer, declare_binary, declare_semi, rhs_declared, bounds_declared};
 ghost use Rattle.mpslp_builder.specs.Refusal.{refusals, bounds_refusals};
 ghost use Rattle.mpslp_builder.specs.Answer.{Answers, IsNotOutOfMemory};
 
 use crate::tables::Tables;
-use mpslp_core::StoredForm;
+use mpslp_core::{RowLimits, StoredForm};
 use mpslp_decimal::Decimal;
 use mpslp_decimal::laws::each_value_is_a_decimal;
 use mpslp_types::{BuildFault, Limit, Name, RowType, Sense};
@@ -86,6 +86,21 @@ impl Builder {
         Ok(())
     }
 
+    /// Declares the constant of the objective. It is 0 if none is declared, also as a [right side](Self::rhs).
+    ///
+    /// # Errors
+    ///
+    /// `DuplicateRhs` where the constant is declared already, as such or as a right side of the objective. This call takes no memory.
+    pub fn constant(&mut self, value: Decimal) -> Result<(), BuildFault>
+        ensures answers { Answers (refusals self.old (declare_constant value)) result (self.new ≡ adding self.old (declare_constant value)) (self.new ≡ self.old) }
+        ensures memory { IsNotOutOfMemory result }
+    {
+        self.check_constant()?;
+        each_value_is_a_decimal(value);
+        self.constant = Some(value);
+        Ok(())
+    }
+
     /// Declares a row by its type. Its right side is 0 if none is declared.
     ///
     /// # Errors
@@ -100,6 +115,27 @@ impl Builder {
         }
         self.tables
             .add_row(name.into_bytes(), StoredForm::of_type(row_type))?;
+        Ok(())
+    }
+
+    /// Declares a row by its limits. A number among them is of size below 10^20. The row has no right side and no range to be
+    /// declared.
+    ///
+    /// # Errors
+    ///
+    /// `DuplicateRow` where a row or the objective has the name, `InfiniteValue` for a lower limit of plus infinity or an upper
+    /// one of minus infinity, `OutOfMemory`. The name is dropped then.
+    pub fn row_limits(&mut self, name: Name, lower: Limit, upper: Limit) -> Result<(), BuildFault>
+        requires lower { IsTrue (is_given lower) }
+        requires upper { IsTrue (is_given upper) }
+        ensures { let declared = declare_row name (by_limits lower upper) in Answers (refusals self.old declared) result (self.new ≡ adding self.old declared) (self.new ≡ self.old) }
+    {
+        self.check_row_limits(name.as_bytes(), &lower, &upper)?;
+        if !self.tables.has_room() {
+            return Err(BuildFault::OutOfMemory);
+        }
+        let form = StoredForm::of_limits(self.alloc, RowLimits { lower, upper })?;
+        self.tables.add_row(name.into_bytes(), form)?;
         Ok(())
     }
 
@@ -191,7 +227,7 @@ impl Builder {
         ensures { Answers (bounds_refusals self.old column.now lower upper) result (self.new ≡ adding_all self.old (bounds_declared column.now lower upper)) (self.new ≡ self.old) }
     {
         let number = self.tables.sides_column(column, &lower, &upper)?;
-        self.tables.put_sides(number, lower, upper);
+        self.tables.put_sides(self.alloc, number, lower, upper)?;
         Ok(())
     }
 
@@ -222,13 +258,27 @@ impl Builder {
         Ok(())
     }
 
+    /// Declares that a column takes 0 and 1 alone: its upper bound is 1 if none is declared, and its bounds lie within 0 and
+    /// 1. It may be declared again.
+    ///
+    /// # Errors
+    ///
+    /// `UnknownColumn` where no column has the name, `SemiContinuous` where the column is semi-continuous, `OutOfMemory`.
+    pub fn binary(&mut self, column: &[u8]) -> Result<(), BuildFault>
+        ensures { Answers (refusals self.old (declare_binary column.now)) result (self.new ≡ adding self.old (declare_binary column.now)) (self.new ≡ self.old) }
+    {
+        let number = self.tables.integer_column(column)?;
+        self.tables.put_binary(number);
+        Ok(())
+    }
+
     /// Declares that a column is semi-continuous: it is 0 or lies within its bounds. Its upper bound has to be declared, finite
     /// and above 0, in whatever order; its lower one is at least 0. It may be declared again.
     ///
     /// # Errors
     ///
-    /// `UnknownColumn` where no column has the name, `SemiContinuous` where the column is [marked](Self::marked) or
-    /// [integer](Self::integer), `OutOfMemory`.
+    /// `UnknownColumn` where no column has the name, `SemiContinuous` where the column is [marked](Self::marked),
+    /// [integer](Self::integer) or [binary](Self::binary), `OutOfMemory`.
     pub fn semi(&mut self, column: &[u8]) -> Result<(), BuildFault>
         ensures { Answers (refusals self.old (declare_semi column.now)) result (self.new ≡ adding self.old (declare_semi column.now)) (self.new ≡ self.old) }
     {

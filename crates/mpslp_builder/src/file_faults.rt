@@ -11,9 +11,10 @@ ghost use Rattle.mpslp_builder.specs.Meaning.{file_fault};
 ghost use Rattle.mpslp_builder.specs.Tables.{draft, IsNumbered};
 ghost use Rattle.mpslp_builder.specs.FaultFound.{row_fails, column_fails, is_wrong_row, is_wrong_column, is_below, least_name, entry_name, kind_of_row_fault, kind_of_column_fault, named, fault_found, IsThere};
 
-use crate::tables::{ColumnParts, RowParts, Tables};
+use crate::tables::Tables;
 use indexmap::IndexMap;
 use mpslp_core::{ColumnFault, RowFault, is_faulty_row, row_has};
+use mpslp_numbered::{ColumnParts, RowParts};
 
 /// What may have a fault.
 pub(crate) trait Faulty<F> {

@@ -10,20 +10,19 @@ ghost use Rattle.mpslp_builder.specs.Meaning.{file_fault, DraftMeans};
 ghost use Rattle.mpslp_builder.specs.FaultFound.{HaveLegalNames, entry_name, fault_found};
 ghost use Rattle.mpslp_builder.specs.Finish.{Finishes};
 ghost use Rattle.mpslp_numbered.specs.Ordered.{name_at, taken};
-ghost use Rattle.mpslp_builder.specs.MovedParts.{rhs_in};
+ghost use Rattle.mpslp_numbered.specs.Parts.{rhs_in};
 ghost use Rattle.mpslp_types.specs.declared.kinds.Sense.TheVariants.{Minimize};
 ghost use Rattle.mpslp_builder.specs.Tables.{bytes, objective_name, draft, IsNumbered};
 
 use crate::builder::Builder;
 use crate::file_faults::FoundFault;
-use crate::parts::{columns_of, rows_of};
-use crate::tables::{ObjectiveParts, Tables};
+use crate::tables::Tables;
 use indexmap::IndexMap;
 use mpslp_core::{
     Model, ModelColumn, ModelParts, PackedRow, kind_of_column_fault, kind_of_row_fault,
 };
 use mpslp_decimal::{Decimal, PackedDecimal};
-use mpslp_numbered::{in_order, order_of, ranks_of};
+use mpslp_numbered::{ObjectiveParts, columns_of, in_order, order_of, ranks_of, rows_of};
 use mpslp_types::{Fault, FaultKind, Name, ReadFault, Sense};
 use std::alloc::{AllocError, Global};
 

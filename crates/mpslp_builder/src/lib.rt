@@ -5,7 +5,6 @@ mod builder;
 mod file_faults;
 mod finish;
 pub mod laws;
-mod parts;
 mod refusals;
 mod tables;
 

@@ -9,8 +9,8 @@ ghost use Rattle.std.specs.Ordering.{nat_cmp};
 ghost use Rattle.std.specs.FinMap.{find};
 ghost use Rattle.mpslp_types.specs.Sides.{is_plus_infinite, is_minus_infinite};
 ghost use Rattle.mpslp_core.specs.Lists.{those_of};
-ghost use Rattle.mpslp_builder.specs.Declaration.{declare_objective, declare_range, declare_marked, declare_integer, declare_semi, has_row, has_column, has_entry, is_free_row, is_limits_form};
-ghost use Rattle.mpslp_builder.specs.Refusal.{sense_tests, row_tests, rhs_tests, integer_tests, semi_tests, coefficient_tests, refusals, bounds_refusals};
+ghost use Rattle.mpslp_builder.specs.Declaration.{by_limits, declare_objective, declare_row, declare_range, declare_marked, declare_integer, declare_binary, declare_semi, have_infinite_side, has_row, has_column, has_entry, is_free_row, is_limits_form};
+ghost use Rattle.mpslp_builder.specs.Refusal.{has_constant, sense_tests, constant_tests, row_tests, rhs_tests, integer_tests, semi_tests, coefficient_tests, refusals, bounds_refusals};
 ghost use Rattle.mpslp_builder.specs.Answer.{first_refusal};
 ghost use Rattle.mpslp_builder.specs.Tables.{draft, IsNumbered};
 ghost use Rattle.mpslp_builder.specs.Calls.{CoefficientsAreKnown, number_of, row_name, column_name, row_tells, column_tells, cells_at, answer_of, IsOnceEach};
@@ -39,6 +39,17 @@ fn have_infinite_side(lower: &Option<Limit>, upper: &Option<Limit>) -> bool
     match (lower, upper) {
         (Some(Limit::PlusInf), _) => true,
         (_, Some(Limit::MinusInf)) => true,
+        _ => false,
+    }
+}
+
+/// Whether no value meets the limits: the lower one is plus infinity, or the upper one minus infinity.
+fn have_infinite_limit(lower: &Limit, upper: &Limit) -> bool
+    ensures { result ≡ have_infinite_side (by_limits lower.now upper.now) }
+{
+    match (lower, upper) {
+        (Limit::PlusInf, _) => true,
+        (_, Limit::MinusInf) => true,
         _ => false,
     }
 }
@@ -140,7 +151,7 @@ impl Tables {
 
     /// Whether a side that is given is declared of the column of a number.
     fn has_side(&self, column: usize, lower: &Option<Limit>, upper: &Option<Limit>) -> bool
-        ensures { result ≡ ((is_some lower.now && column_tells self.now column (λ parts. is_some parts.lower)) || (is_some upper.now && column_tells self.now column (λ parts. is_some parts.upper))) }
+        ensures { result ≡ ((is_some lower.now && column_tells self.now column (λ parts. is_some parts.sides.lower)) || (is_some upper.now && column_tells self.now column (λ parts. is_some parts.sides.upper))) }
     {
         (lower.is_some() && self.has_lower(column)) || (upper.is_some() && self.has_upper(column))
     }
@@ -169,7 +180,7 @@ impl Tables {
         Ok(number)
     }
 
-    /// The number of the column that may be declared to be marked or integer.
+    /// The number of the column that may be declared to be marked, integer or binary.
     pub(crate) fn integer_column(&self, column: &[u8]) -> Result<usize, BuildFault>
         ensures number { IfOk result (λ i. column_name self.now i ≡ Some column.now) }
         ensures once { IsOnceEach self.now }
@@ -208,6 +219,13 @@ impl Builder {
         ensures { result ≡ is_some self.now.objective }
     {
         self.tables.has_objective()
+    }
+
+    /// Whether the constant is declared, as such or by the right side of the objective.
+    fn has_constant(&self) -> bool
+        ensures { result ≡ has_constant self.now }
+    {
+        self.constant.is_some() || self.tables.has_objective_rhs()
     }
 
     /// Whether a row of this name is declared; the objective counts.
@@ -263,6 +281,17 @@ impl Builder {
         ])
     }
 
+    /// The refusal that [`constant`](Self::constant) would have now, of whatever value.
+    ///
+    /// # Errors
+    ///
+    /// `DuplicateRhs`, as of the call.
+    pub fn check_constant(&self) -> Result<(), BuildFault>
+        ensures { result ≡ first_refusal (those_of (constant_tests self.now)) }
+    {
+        refuse(&[(self.has_constant(), BuildFault::DuplicateRhs)])
+    }
+
     /// The refusal that [`row`](Self::row) would have now, of whatever type the row is.
     ///
     /// # Errors
@@ -272,6 +301,25 @@ impl Builder {
         ensures { result ≡ first_refusal (those_of (row_tests self.now name.now)) }
     {
         refuse(&[(self.has_row(name), BuildFault::DuplicateRow)])
+    }
+
+    /// The refusal that [`row_limits`](Self::row_limits) would have now.
+    ///
+    /// # Errors
+    ///
+    /// `DuplicateRow`, `InfiniteValue`, as of the call.
+    pub fn check_row_limits(
+        &self,
+        name: &[u8],
+        lower: &Limit,
+        upper: &Limit,
+    ) -> Result<(), BuildFault>
+        ensures { result ≡ first_refusal (refusals self.now (declare_row name.now (by_limits lower.now upper.now))) }
+    {
+        refuse(&[
+            (self.has_row(name), BuildFault::DuplicateRow),
+            (have_infinite_limit(lower, upper), BuildFault::InfiniteValue),
+        ])
     }
 
     /// The refusal that [`rhs`](Self::rhs) would have now, of whatever value.
@@ -346,6 +394,18 @@ impl Builder {
     /// `UnknownColumn`, `SemiContinuous`, as of the call.
     pub fn check_integer(&self, column: &[u8]) -> Result<(), BuildFault>
         ensures { result ≡ first_refusal (refusals self.now (declare_integer column.now)) }
+    {
+        self.tables.integer_column(column)?;
+        Ok(())
+    }
+
+    /// The refusal that [`binary`](Self::binary) would have now.
+    ///
+    /// # Errors
+    ///
+    /// `UnknownColumn`, `SemiContinuous`, as of the call.
+    pub fn check_binary(&self, column: &[u8]) -> Result<(), BuildFault>
+        ensures { result ≡ first_refusal (refusals self.now (declare_binary column.now)) }
     {
         self.tables.integer_column(column)?;
         Ok(())

@@ -7,42 +7,16 @@ ghost use Rattle.std.specs.FinMap.{find};
 ghost use Rattle.indexmap.specs.IndexMap.{index_map_len};
 ghost use Rattle.mpslp_types.specs.Name.{same_bytes};
 ghost use Rattle.mpslp_builder.specs.Declaration.{has_row, has_column, has_name, is_objective, is_free_row, is_free_form, is_limits_form};
-ghost use Rattle.mpslp_builder.specs.Tables.{draft};
-ghost use Rattle.mpslp_builder.specs.Calls.{number_of, row_name, column_name, row_tells, column_tells, cells_at, new_column, with_cell, put_side, with_sides, IsOnceEach, IsEmptyTables, IsSameTables, HasObjective, HasRowAdded, HasRowChanged, HasColumnAdded, HasColumnChanged, HasRhsPut};
+ghost use Rattle.mpslp_builder.specs.Consistency.{has_objective_rhs};
+ghost use Rattle.mpslp_builder.specs.Tables.{draft, IsNumbered};
+ghost use Rattle.mpslp_builder.specs.Calls.{number_of, row_name, column_name, row_tells, column_tells, cells_at, new_column, with_cell, with_sides, IsOnceEach, IsEmptyTables, IsSameTables, HasObjective, HasRowAdded, HasRowChanged, HasColumnAdded, HasColumnChanged, HasRhsPut};
 
 use indexmap::IndexMap;
-use mpslp_core::{PackedLimit, StoredForm};
+use mpslp_core::StoredForm;
 use mpslp_decimal::{Decimal, PackedDecimal};
-use mpslp_numbered::Cells;
+use mpslp_numbered::{ColumnParts, ObjectiveParts, RowParts};
 use mpslp_types::{Limit, Name};
 use std::alloc::{AllocError, Global};
-
-/// The objective, and its right side if one is declared.
-#[derive(Debug, Drop)]
-pub(crate) struct ObjectiveParts {
-    pub(crate) name: Name,
-    pub(crate) rhs: Option<PackedDecimal>,
-}
-
-/// What is declared of a row.
-#[derive(Debug, Drop)]
-pub(crate) struct RowParts {
-    pub(crate) form: StoredForm,
-    pub(crate) rhs: Option<PackedDecimal>,
-    pub(crate) range: Option<PackedDecimal>,
-}
-
-/// What is declared of a column.
-#[derive(Debug, Drop)]
-pub(crate) struct ColumnParts {
-    pub(crate) cells: Cells,
-    pub(crate) lower: Option<PackedLimit>,
-    pub(crate) upper: Option<PackedLimit>,
-    pub(crate) marked: bool,
-    pub(crate) integer: bool,
-    pub(crate) binary: bool,
-    pub(crate) semi: bool,
-}
 
 /// The objective, rows and columns.
 #[derive(Debug, Drop)]
@@ -76,40 +50,6 @@ impl RowPlace {
     }
 }
 
-impl ColumnParts {
-    /// A column of which nothing is declared but its name.
-    fn new(alloc: Global) -> ColumnParts
-        ensures { result ≡ new_column }
-    {
-        ColumnParts {
-            cells: Cells::new(alloc),
-            lower: None,
-            upper: None,
-            marked: false,
-            integer: false,
-            binary: false,
-            semi: false,
-        }
-    }
-
-    /// Puts the sides that are given.
-    fn put_sides(&mut self, lower: Option<Limit>, upper: Option<Limit>)
-        ensures { self.new ≡ with_sides lower upper self.old }
-    {
-        put_side(&mut self.lower, lower);
-        put_side(&mut self.upper, upper);
-    }
-}
-
-/// Puts a side if it is given.
-fn put_side(kept: &mut Option<PackedLimit>, side: Option<Limit>)
-    ensures { kept.new ≡ put_side side kept.old }
-{
-    if let Some(limit) = side {
-        *kept = Some(PackedLimit::of(limit));
-    }
-}
-
 impl Tables {
     /// Tables to which nothing is declared.
     pub(crate) fn new(alloc: Global) -> Tables
@@ -136,6 +76,18 @@ impl Tables {
         ensures { result ≡ is_some self.now.objective }
     {
         self.objective.is_some()
+    }
+
+    /// Whether the objective has a right side, which is a constant too.
+    pub(crate) fn has_objective_rhs(&self) -> bool
+        requires { IsNumbered self.now }
+        ensures { result ≡ has_objective_rhs (draft None None self.now) }
+    {
+        self.each_name_stands_once();
+        match &self.objective {
+            Some(objective) => objective.rhs.is_some(),
+            None => false,
+        }
     }
 
     /// Whether the objective has this name.
@@ -271,20 +223,20 @@ impl Tables {
 
     /// Whether the lower side of the column of a number is declared.
     pub(crate) fn has_lower(&self, column: usize) -> bool
-        ensures { result ≡ column_tells self.now column (λ parts. is_some parts.lower) }
+        ensures { result ≡ column_tells self.now column (λ parts. is_some parts.sides.lower) }
     {
         match self.columns.get_index(column) {
-            Some((_key, parts)) => parts.lower.is_some(),
+            Some((_key, parts)) => parts.sides.has_lower(),
             None => false,
         }
     }
 
     /// Whether the upper side of the column of a number is declared.
     pub(crate) fn has_upper(&self, column: usize) -> bool
-        ensures { result ≡ column_tells self.now column (λ parts. is_some parts.upper) }
+        ensures { result ≡ column_tells self.now column (λ parts. is_some parts.sides.upper) }
     {
         match self.columns.get_index(column) {
-            Some((_key, parts)) => parts.upper.is_some(),
+            Some((_key, parts)) => parts.sides.has_upper(),
             None => false,
         }
     }
@@ -428,6 +380,16 @@ impl Tables {
         parts.integer = true;
     }
 
+    /// Makes a column binary.
+    pub(crate) fn put_binary(&mut self, column: usize)
+        requires { is_some (column_name self.old column) ≡ true }
+        ensures { HasColumnChanged self.old column (λ parts. record parts { binary = true }) self.new }
+    {
+        self.recent = column;
+        let (_key, parts) = self.columns.pair_mut(column);
+        parts.binary = true;
+    }
+
     /// Makes a column semi-continuous.
     pub(crate) fn put_semi(&mut self, column: usize)
         requires { is_some (column_name self.old column) ≡ true }
@@ -439,12 +401,19 @@ impl Tables {
     }
 
     /// Puts the sides of a column that are given.
-    pub(crate) fn put_sides(&mut self, column: usize, lower: Option<Limit>, upper: Option<Limit>)
+    pub(crate) fn put_sides(
+        &mut self,
+        alloc: Global,
+        column: usize,
+        lower: Option<Limit>,
+        upper: Option<Limit>,
+    ) -> Result<(), AllocError>
         requires { is_some (column_name self.old column) ≡ true }
-        ensures { HasColumnChanged self.old column (with_sides lower upper) self.new }
+        ensures ok { OnOk result (HasColumnChanged self.old column (with_sides lower upper) self.new) }
+        ensures err { OnErr result (IsSameTables self.old self.new) }
     {
         self.recent = column;
         let (_key, parts) = self.columns.pair_mut(column);
-        parts.put_sides(lower, upper);
+        parts.sides.put(alloc, lower, upper)
     }
 }

@@ -39,7 +39,9 @@ fn named(alloc: Global, text: &str) -> Result<Name, BuildFault> {
 enum Call<'a> {
     Sense(Sense),
     Objective(&'a str),
+    Constant(&'a str),
     Row(&'a str, RowType),
+    RowLimits(&'a str, &'a str, &'a str),
     Rhs(&'a str, &'a str),
     Range(&'a str, &'a str),
     Column(&'a str),
@@ -50,6 +52,7 @@ enum Call<'a> {
     Bounds(&'a str, &'a str, &'a str),
     Marked(&'a str),
     Integer(&'a str),
+    Binary(&'a str),
     Semi(&'a str),
 }
 
@@ -58,6 +61,9 @@ fn call_of_row(builder: &mut Builder, alloc: Global, call: Call<'_>) -> Result<(
     match call {
         Call::Objective(name) => builder.objective(named(alloc, name)?),
         Call::Row(name, row_type) => builder.row(named(alloc, name)?, row_type),
+        Call::RowLimits(name, lower, upper) => {
+            builder.row_limits(named(alloc, name)?, side(lower), side(upper))
+        }
         Call::Rhs(row, value) => builder.rhs(row.as_bytes(), number(value)),
         Call::Range(row, value) => builder.range(row.as_bytes(), number(value)),
         Call::Coefficient(row, column, value) => {
@@ -84,9 +90,11 @@ fn call_of_bounds(builder: &mut Builder, call: Call<'_>) -> Result<(), BuildFaul
 fn call_of(builder: &mut Builder, alloc: Global, call: Call<'_>) -> Result<(), BuildFault> {
     match call {
         Call::Sense(sense) => builder.sense(sense),
+        Call::Constant(value) => builder.constant(number(value)),
         Call::Column(name) => builder.column(named(alloc, name)?),
         Call::Marked(column) => builder.marked(column.as_bytes()),
         Call::Integer(column) => builder.integer(column.as_bytes()),
+        Call::Binary(column) => builder.binary(column.as_bytes()),
         Call::Semi(column) => builder.semi(column.as_bytes()),
         Call::NoBounds(_) | Call::Lower(..) | Call::Upper(..) | Call::Bounds(..) => {
             call_of_bounds(builder, call)
@@ -100,7 +108,11 @@ fn check_of(builder: &Builder, call: Call<'_>) -> Result<(), BuildFault> {
     match call {
         Call::Sense(_) => builder.check_sense(),
         Call::Objective(name) => builder.check_objective(name.as_bytes()),
+        Call::Constant(_) => builder.check_constant(),
         Call::Row(name, _) => builder.check_row(name.as_bytes()),
+        Call::RowLimits(name, lower, upper) => {
+            builder.check_row_limits(name.as_bytes(), &side(lower), &side(upper))
+        }
         Call::Rhs(row, _) => builder.check_rhs(row.as_bytes()),
         Call::Range(row, value) => builder.check_range(row.as_bytes(), number(value)),
         Call::Column(_) => Ok(()),
@@ -121,6 +133,7 @@ fn check_of(builder: &Builder, call: Call<'_>) -> Result<(), BuildFault> {
         ),
         Call::Marked(column) => builder.check_marked(column.as_bytes()),
         Call::Integer(column) => builder.check_integer(column.as_bytes()),
+        Call::Binary(column) => builder.check_binary(column.as_bytes()),
         Call::Semi(column) => builder.check_semi(column.as_bytes()),
     }
 }
@@ -344,6 +357,59 @@ const KINDS: [(Call<'static>, Result<(), BuildFault>); 11] = [
     (Call::Marked("z"), Ok(())),
 ];
 
+/// Calls that files of LP make, one after another, and what each answers.
+const OF_LP: [(Call<'static>, Result<(), BuildFault>); 23] = [
+    (Call::Objective("f"), Ok(())),
+    (Call::Constant("5"), Ok(())),
+    (Call::Constant("5"), Err(BuildFault::DuplicateRhs)),
+    (Call::Rhs("f", "-5"), Err(BuildFault::DuplicateRhs)),
+    (
+        Call::RowLimits("f", "1e20", "4"),
+        Err(BuildFault::DuplicateRow),
+    ),
+    (
+        Call::RowLimits("r", "1e20", "1e20"),
+        Err(BuildFault::InfiniteValue),
+    ),
+    (
+        Call::RowLimits("r", "-1e20", "-1e20"),
+        Err(BuildFault::InfiniteValue),
+    ),
+    (Call::RowLimits("r", "-1e20", "4"), Ok(())),
+    (
+        Call::RowLimits("r", "-1e20", "4"),
+        Err(BuildFault::DuplicateRow),
+    ),
+    (
+        Call::Row("r", RowType::AtMost),
+        Err(BuildFault::DuplicateRow),
+    ),
+    (Call::Rhs("r", "4"), Err(BuildFault::DuplicateRhs)),
+    (Call::Range("r", "1"), Err(BuildFault::DuplicateRange)),
+    (Call::Row("n", RowType::Free), Ok(())),
+    (
+        Call::RowLimits("n", "0", "4"),
+        Err(BuildFault::DuplicateRow),
+    ),
+    (Call::Binary("x"), Err(BuildFault::UnknownColumn)),
+    (Call::Column("x"), Ok(())),
+    (Call::Binary("x"), Ok(())),
+    (Call::Binary("x"), Ok(())),
+    (Call::Integer("x"), Ok(())),
+    (Call::Semi("x"), Err(BuildFault::SemiContinuous)),
+    (Call::Column("y"), Ok(())),
+    (Call::Semi("y"), Ok(())),
+    (Call::Binary("y"), Err(BuildFault::SemiContinuous)),
+];
+
+/// Calls after which the constant is declared by the right side of the objective.
+const CONSTANTS: [(Call<'static>, Result<(), BuildFault>); 4] = [
+    (Call::Objective("f"), Ok(())),
+    (Call::Rhs("f", "-5"), Ok(())),
+    (Call::Constant("5"), Err(BuildFault::DuplicateRhs)),
+    (Call::Rhs("f", "-5"), Err(BuildFault::DuplicateRhs)),
+];
+
 /// The first of these calls that is not answered so, or whose question is not, counted from 0.
 fn first_other_answer(
     builder: &mut Builder,
@@ -379,6 +445,20 @@ fn answers_in_order(rt: HostRuntime) {
 fn refuses_a_second_kind(rt: HostRuntime) {
     let mut builder = Builder::new(rt.alloc());
     let other_answer = first_other_answer(&mut builder, rt.alloc(), &KINDS);
+    assert_eq!(rt; other_answer, None);
+}
+
+#[test]
+fn answers_what_lp_declares(rt: HostRuntime) {
+    let mut builder = Builder::new(rt.alloc());
+    let other_answer = first_other_answer(&mut builder, rt.alloc(), &OF_LP);
+    assert_eq!(rt; other_answer, None);
+}
+
+#[test]
+fn takes_one_constant(rt: HostRuntime) {
+    let mut builder = Builder::new(rt.alloc());
+    let other_answer = first_other_answer(&mut builder, rt.alloc(), &CONSTANTS);
     assert_eq!(rt; other_answer, None);
 }
 
@@ -571,8 +651,41 @@ fn limits_rows_by_type_right_side_and_range(rt: HostRuntime) -> Result<(), Fail>
     Ok(())
 }
 
+/// Rows by their limits, and what their views tell.
+const LIMITED: [(&str, &str, &str); 11] = [
+    ("-1e20", "4", "row R L -inf 4 rhs 4 range 0"),
+    ("4.0", "1e20", "row R G 4 inf rhs 4 range 0"),
+    ("-1e20", "1e20", "row R N -inf inf rhs 0 range 0"),
+    ("4", "4.0", "row R E 4 4 rhs 4 range 0"),
+    ("-2", "4", "row R R -2 4 rhs 4 range 6"),
+    ("4", "3", "LimitsCrossed R"),
+    ("-9e19", "9e19", "LimitTooLarge R"),
+    ("9e19", "-9e19", "LimitTooLarge R"),
+    ("1e-20", "1e19", "RangeInexact R"),
+    ("1e19", "1e-20", "RangeInexact R"),
+    (
+        "1e-10",
+        "1e19",
+        "row R R 0.0000000001 1e19 rhs 1e19 range 9999999999999999999.9999999999",
+    ),
+];
+
+#[test]
+fn limits_rows_by_their_limits(rt: HostRuntime) -> Result<(), Fail> {
+    for (lower, upper, expected) in LIMITED {
+        let calls = [
+            Call::Objective("C"),
+            Call::RowLimits("R", lower, upper),
+            Call::Column("X"),
+        ];
+        let answer = outcome(rt.alloc(), &calls)?;
+        assert!(rt; tells(&answer, expected), "at {lower} {upper}");
+    }
+    Ok(())
+}
+
 /// Two calls of the bounds or the kind of a column, and what its views tell.
-const COLUMNS: [(Call<'static>, Call<'static>, &str); 14] = [
+const COLUMNS: [(Call<'static>, Call<'static>, &str); 21] = [
     (
         Call::NoBounds("X"),
         Call::NoBounds("X"),
@@ -618,6 +731,25 @@ const COLUMNS: [(Call<'static>, Call<'static>, &str); 14] = [
         Call::NoBounds("X"),
         "column X integer 0 inf objective 0",
     ),
+    (
+        Call::Binary("X"),
+        Call::NoBounds("X"),
+        "column X integer 0 1 objective 0",
+    ),
+    (
+        Call::Binary("X"),
+        Call::Lower("X", "1"),
+        "column X integer 1 1 objective 0",
+    ),
+    (
+        Call::Bounds("X", "0.5", "1"),
+        Call::Binary("X"),
+        "column X integer 0.5 1 objective 0",
+    ),
+    (Call::Binary("X"), Call::Upper("X", "2"), "BinaryBounds X"),
+    (Call::Binary("X"), Call::Lower("X", "-1"), "BinaryBounds X"),
+    (Call::Binary("X"), Call::Lower("X", "2"), "BoundsCrossed X"),
+    (Call::Binary("X"), Call::Upper("X", "-1"), "NegativeUpper X"),
     (
         Call::Semi("X"),
         Call::Upper("X", "4"),
@@ -671,6 +803,23 @@ fn tells_the_first_fault_of_the_whole(rt: HostRuntime) -> Result<(), Fail> {
     assert_eq!(rt;
         outcome(rt.alloc(), &FAULTY[..1])?.as_slice(),
         b"NoColumns".as_slice()
+    );
+    Ok(())
+}
+
+#[test]
+fn tells_the_constant_as_declared(rt: HostRuntime) -> Result<(), Fail> {
+    let calls = [
+        Call::Objective("f"),
+        Call::Constant("-2.50"),
+        Call::Column("x"),
+    ];
+    let expected = b"minimize f constant -2.5 offset 2.5
+column x continuous 0 inf objective 0
+";
+    assert_eq!(rt;
+        outcome(rt.alloc(), &calls)?.as_slice(),
+        expected.as_slice()
     );
     Ok(())
 }

@@ -1,11 +1,13 @@
 //! How a row was declared, kept small.
 
-ghost use Rattle.std.specs.Prelude.{◌≡◌};
-ghost use Rattle.mpslp_core.specs.Limits.{row_form, by_type, is_free_form, is_limits_form};
+ghost use Rattle.std.specs.Prelude.{◌≡◌, IfOk};
+ghost use Rattle.mpslp_core.specs.Limits.{row_form, by_type, by_limits, is_free_form, is_limits_form};
 
 use crate::limits::FormKind;
 use crate::packed::PackedRow;
+use crate::sides::RowLimits;
 use mpslp_types::RowType;
+use std::alloc::{AllocError, Global};
 use std::marker::Model;
 
 /// How a row was declared. Contracts see it as a `RowForm`.
@@ -42,6 +44,19 @@ impl StoredForm {
         StoredForm {
             stored: StoredKind::ByType(row_type),
         }
+    }
+
+    /// A row that is declared by its limits.
+    ///
+    /// # Errors
+    ///
+    /// `AllocError` where there is no memory for the limits.
+    pub fn of_limits(alloc: Global, limits: RowLimits) -> Result<StoredForm, AllocError>
+        ensures { IfOk result (λ form. form ≡ by_limits limits.lower limits.upper) }
+    {
+        Ok(StoredForm {
+            stored: StoredKind::ByLimits(Box::new(alloc, PackedRow::of(limits))?),
+        })
     }
 
     /// How the row was declared.

@@ -1,6 +1,5 @@
 -- Names in order: the first bytes, and then the whole.
 use Rattle.std.proofs.Common.{◌≡◌, refl, sym, ap, subst, ◌∙◌, ℕ, zero, suc, ◌+◌, ◌-◌, ◌*◌, ◌^◌, ◌<◌, ◌≤◌, List, [], ◌∷◌, get_or, arith}
-use Rattle.std.specs.Prelude.{slice_index}
 use Rattle.std.specs.Ordering.{nat_cmp, ordering_then, ordering_reverse}
 use Rattle.std.specs.Cmp.{nat_cmp_total, ranked, tied_itself}
 use Rattle.std.specs.declared.cmp.Ordering.{Ordering}

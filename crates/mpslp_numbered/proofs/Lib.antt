@@ -1,3 +1,4 @@
 pub mod FrontLemmas
 pub mod OrderLemmas
 pub mod RankLemmas
+pub mod PassLemmas

@@ -1,8 +1,7 @@
 -- Entries in the order of their names.
-use Rattle.std.proofs.Common.{◌≡◌, refl, sym, ap, subst, ◌∙◌, ℕ, zero, suc, ◌+◌, ◌<◌, ◌≤◌, List, [], ◌∷◌, ◌++◌, length, map, get_or, arith, Bool, true, false, nat_lt, IsPermutation}
-use Rattle.std.specs.Prelude.{Option, Some, None, Result, Ok, Err, IfOk, slice_get, slice_index, filter_map}
+use Rattle.std.proofs.Common.{◌≡◌, refl, sym, ap, subst, ◌∙◌, ℕ, zero, suc, ◌+◌, ◌<◌, List, [], ◌∷◌, length, map, get_or, arith, true, false, nat_lt, IsPermutation}
+use Rattle.std.specs.Prelude.{Result, Ok, Err, IfOk, slice_index}
 use Rattle.std.specs.Ordering.{is_lt, nat_cmp, ordering_then}
-use Rattle.std.specs.declared.cmp.Ordering.{Ordering}
 use Rattle.std.specs.Cmp.{IsTotalOrder, nat_cmp_total, then_total, on_total}
 use Rattle.std.specs.Global.{Vec}
 use Rattle.std.specs.List.{All}
@@ -14,7 +13,7 @@ use Rattle.mpslp_core.proofs.KeyLemmas.{bytes_total}
 use Rattle.mpslp_core.proofs.MovingLemmas.{all-from_each}
 use Rattle.mpslp_types.proofs.EachLemmas.{Each}
 use Rattle.std.proofs.lemmas.List.Sorted.{IsPermutation-map, All-permutation}
-use Rattle.mpslp_numbered.specs.Ordered.{name_at, front_value, front_at, front_cmp, taken}
+use Rattle.mpslp_numbered.specs.Ordered.{name_at, front_value, front_at, front_cmp}
 use Rattle.mpslp_numbered.specs.declared.order.Front.{Front}
 use Rattle.mpslp_numbered.proofs.FrontLemmas.{AreBytes, front-then}
 

@@ -1,1 +1,4 @@
 pub mod Ordered
+pub mod Parts
+pub mod Sides
+pub mod StoredSides

@@ -1,14 +1,20 @@
-//! What a builder keeps by numbers: the coefficients of a column by those of rows, and the byte order of names, which gives
-//! rows their later numbers.
+//! What a builder keeps by numbers: what is declared of each row and column, the coefficients of a column by the numbers
+//! of rows, and the byte order of names, which gives rows their later numbers.
 //!
 //! Entries are put into the order of their names by small keys, and then moved, so that no name is copied.
 #![tactic(auto)]
 
 mod cells;
+mod listed;
 mod moving;
 mod order;
+mod parts;
 mod ranks;
+mod sides;
 
 pub use cells::Cells;
+pub use listed::{columns_of, rows_of};
 pub use order::{in_order, order_of};
+pub use parts::{ColumnParts, ObjectiveParts, RowParts};
 pub use ranks::ranks_of;
+pub use sides::Sides;

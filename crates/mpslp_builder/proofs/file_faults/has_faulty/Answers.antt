@@ -1,9 +1,7 @@
-use Rattle.std.proofs.Common.{◌≡◌, sym, ap, ◌∙◌, List, ℕ, suc, drop, length, ◌<◌, ◌-◌, ◌≤◌, Bool, false, true, arith, refl}
-use Rattle.std.specs.Prelude.{Option, Some, None, slice_get}
+use Rattle.std.proofs.Common.{◌≡◌, sym, ap, ◌∙◌, ℕ, suc, drop, length, ◌<◌, ◌-◌, arith}
+use Rattle.std.specs.Prelude.{None, slice_get}
 use Rattle.std.specs.Option.{option_map}
 use Rattle.std.specs.List.{list_any}
-use Rattle.std.specs.Global.{Vec}
-use Rattle.std.proofs.lemmas.Bool.Decides.{nat_tests}
 use Rattle.mpslp_builder.proofs.FoundLemmas.{any_at, drop_all, none_from, before, there}
 use Rattle.mpslp_builder.proofs.file_faults.has_faulty.Goals as goal
 

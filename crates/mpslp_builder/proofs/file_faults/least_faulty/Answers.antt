@@ -1,5 +1,4 @@
-use Rattle.std.proofs.Common.{◌≡◌, sym, ap, subst, ◌∙◌, List, ℕ, suc, drop, length, ◌<◌, ◌-◌, Bool, false, true, arith}
-use Rattle.std.specs.Prelude.{Option, Some}
+use Rattle.std.proofs.Common.{◌≡◌, sym, ap, subst, ◌∙◌, List, ℕ, suc, drop, length, ◌<◌, ◌-◌, arith}
 use Rattle.std.specs.Option.{option_and_then}
 use Rattle.mpslp_builder.specs.FaultFound.{least_name, entry_name, is_below}
 use Rattle.mpslp_builder.proofs.FoundLemmas.{before, least_put, least_failing, least_above}

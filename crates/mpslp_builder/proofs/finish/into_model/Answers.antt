@@ -1,17 +1,12 @@
-use Rattle.std.proofs.Common.{◌≡◌, sym, ap, subst, ◌∙◌, ℕ, ◌+◌, ◌<◌, List, length, arith, IsPermutation}
+use Rattle.std.proofs.Common.{◌≡◌, sym, ap, subst, ◌∙◌, ℕ, ◌<◌, List, length}
 use Rattle.std.specs.Prelude.{◌≢◌, slice_index}
-use Rattle.std.specs.Global.{Vec}
-use Rattle.std.specs.List.{All, range_with_len}
-use Rattle.mpslp_core.specs.Numbered.{each_part, IsOnce}
+use Rattle.mpslp_core.specs.Numbered.{each_part}
 use Rattle.mpslp_core.specs.ModelParts.{own, bounds_in, cells_in}
-use Rattle.mpslp_builder.specs.Declaration.{Draft}
 use Rattle.mpslp_builder.specs.Meaning.{DraftMeans}
-use Rattle.mpslp_builder.specs.Tables.{bytes, form_of, no_part, cells_of, draft}
-use Rattle.mpslp_builder.specs.MovedParts.{limits_in, bounds_of, moved_in}
-use Rattle.mpslp_builder.specs.declared.tables.RowParts.{RowParts}
-use Rattle.mpslp_builder.specs.declared.tables.ColumnParts.{ColumnParts}
+use Rattle.mpslp_builder.specs.Tables.{bytes, no_part, cells_of, draft}
+use Rattle.mpslp_numbered.specs.Parts.{limits_in, bounds_of, moved_in}
 use Rattle.mpslp_builder.proofs.OrderedParts.{once-part}
-use Rattle.mpslp_numbered.proofs.RankLemmas.{AreRanks, order_length, order_within, order_apart, ranks_length, ranks_apart}
+use Rattle.mpslp_numbered.proofs.RankLemmas.{AreRanks, ranks_length, ranks_apart}
 use Rattle.mpslp_builder.proofs.ModelOfTables.{AreFinished}
 use Rattle.mpslp_builder.proofs.FinishLemmas.{meant_parts, meant_draft, finished_parts, finished_cells}
 use Rattle.mpslp_builder.proofs.EndLemmas.{AreOrdered, legal_rows, legal_columns, cells_within, constant_is, ordered_from, few_of, within_of, apart_of, named_there}

@@ -1,6 +1,5 @@
-use Rattle.std.proofs.Common.{◌≡◌, sym, ap, subst, ◌∙◌, ℕ, List, length, IsPermutation}
+use Rattle.std.proofs.Common.{sym, ap, subst, ℕ, length, IsPermutation}
 use Rattle.std.specs.List.{range_with_len}
-use Rattle.mpslp_numbered.specs.Ordered.{taken}
 use Rattle.mpslp_numbered.proofs.RankLemmas.{order_within, order_apart}
 use Rattle.mpslp_builder.proofs.finish.ordered.Goals as goal
 

@@ -1,8 +1,7 @@
-use Rattle.std.proofs.Common.{◌≡◌, refl, sym, ap, subst, ◌∙◌, ℕ, ◌+◌, ◌<◌, List, [], ◌∷◌, ◌++◌, arith}
+use Rattle.std.proofs.Common.{◌≡◌, sym, ap, subst, ◌∙◌, ℕ, ◌<◌, List, [], ◌∷◌, ◌++◌, arith}
 use Rattle.std.specs.Prelude.{slice_index}
 use Rattle.std.proofs.lemmas.List.FromFn.{map-range_with_len_more}
 use Rattle.mpslp_numbered.specs.Ordered.{name_at, front_at, front_value}
-use Rattle.mpslp_numbered.specs.declared.order.Front.{Front}
 use Rattle.mpslp_numbered.proofs.OrderLemmas.{name_at-entry, at_next}
 use Rattle.mpslp_numbered.proofs.order.fronts_of.Goals as goal
 

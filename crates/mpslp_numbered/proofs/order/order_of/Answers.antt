@@ -1,4 +1,4 @@
-use Rattle.std.proofs.Common.{◌≡◌, sym, ap, subst, ◌∙◌, ℕ, List, length, map, IsPermutation}
+use Rattle.std.proofs.Common.{sym, ap, subst, ◌∙◌, List, length, map, IsPermutation}
 use Rattle.std.specs.Ordering.{is_lt}
 use Rattle.std.specs.List.{range_with_len}
 use Rattle.std.specs.List.Sorted.{IsSortedBy}

@@ -1,10 +1,9 @@
-use Rattle.std.proofs.Common.{◌≡◌, sym, ap, subst, ◌∙◌}
-use Rattle.std.specs.Prelude.{Option, Some, None}
+use Rattle.std.proofs.Common.{sym, ap, subst, ◌∙◌}
+use Rattle.std.specs.Prelude.{Some}
 use Rattle.std.specs.Option.{option_map}
 use Rattle.mpslp_builder.specs.Declaration.{Draft}
 use Rattle.mpslp_builder.specs.Meaning.{file_fault, DraftMeans}
 use Rattle.mpslp_builder.specs.FaultFound.{fault_found}
-use Rattle.mpslp_builder.specs.declared.file_faults.FoundFault.{FoundFault}
 use Rattle.mpslp_builder.proofs.FoundLemmas.{legal_names}
 use Rattle.mpslp_builder.proofs.builder.Builder.finish.Goals as goal
 

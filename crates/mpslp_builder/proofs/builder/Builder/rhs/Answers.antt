@@ -1,7 +1,7 @@
-use Rattle.std.proofs.Common.{◌≡◌, refl, sym, ap, ◌∙◌, true, false, Bool, [], ◌∷◌, cond}
+use Rattle.std.proofs.Common.{◌≡◌, refl, sym, ap, ◌∙◌, true, false, Bool, [], ◌∷◌}
 use Rattle.std.specs.Prelude.{is_some, if◌then◌else◌}
 use Rattle.mpslp_builder.specs.Answer.{first_refusal}
-use Rattle.mpslp_builder.specs.Declaration.{Draft, Declaration, declare_rhs, adding_all, rhs_declared, is_free_row}
+use Rattle.mpslp_builder.specs.Declaration.{Draft, declare_rhs, adding_all, is_free_row}
 use Rattle.mpslp_builder.specs.Refusal.{refusals}
 use Rattle.mpslp_builder.specs.Tables.{draft}
 use Rattle.mpslp_builder.proofs.AnswerLemmas.{none_refused, made_after, declared, handed_on}

@@ -1,9 +1,7 @@
-use Rattle.std.proofs.Common.{◌≡◌, sym, ap, ◌∙◌, true, false, ℕ}
-use Rattle.std.specs.Prelude.{None, Some, is_some}
-use Rattle.std.specs.Ordering.{nat_cmp}
-use Rattle.std.specs.FinMap.{find}
+use Rattle.std.proofs.Common.{◌≡◌, sym, ap, ◌∙◌, true, false}
+use Rattle.std.specs.Prelude.{None, Some}
 use Rattle.mpslp_builder.specs.Answer.{first_refusal}
-use Rattle.mpslp_builder.specs.Calls.{row_name, cells_at}
+use Rattle.mpslp_builder.specs.Calls.{row_name}
 use Rattle.mpslp_builder.proofs.TestLemmas.{cell_told}
 use Rattle.mpslp_builder.proofs.tables.Tables.cell_place.Goals as goal
 

@@ -1,6 +1,5 @@
-use Rattle.std.proofs.Common.{◌≡◌, sym, ap, ◌∙◌, true}
+use Rattle.std.proofs.Common.{sym, ◌∙◌}
 use Rattle.std.specs.Prelude.{None}
-use Rattle.mpslp_core.specs.Lists.{is_nonempty}
 use Rattle.mpslp_builder.specs.Tables.{draft}
 use Rattle.mpslp_builder.specs.FaultFound.{fault_found}
 use Rattle.mpslp_builder.proofs.FoundLemmas.{some_column, nonempty_from, of_the_whole, first_decides, later_decides}

@@ -1,5 +1,5 @@
-use Rattle.std.proofs.Common.{◌≡◌, refl, sym, ap, ◌∙◌, List, ℕ}
-use Rattle.std.specs.Prelude.{Option, Some, None, slice_index_or}
+use Rattle.std.proofs.Common.{refl, sym, ap, ◌∙◌, List, ℕ}
+use Rattle.std.specs.Prelude.{Some, None, slice_index_or}
 use Rattle.std.specs.Option.{option_map}
 use Rattle.mpslp_builder.specs.Meaning.{whole_fault}
 use Rattle.mpslp_builder.specs.Tables.{draft}

@@ -1,5 +1,5 @@
 use Rattle.std.proofs.Common.{◌≡◌, sym, ap, ◌∙◌}
-use Rattle.std.specs.Prelude.{Some, None, is_some}
+use Rattle.std.specs.Prelude.{Some, None}
 use Rattle.mpslp_builder.specs.Calls.{row_name}
 use Rattle.mpslp_builder.proofs.ReadingLemmas.{stands, cell_at}
 use Rattle.mpslp_builder.proofs.tables.Tables.has_coefficient.Goals as goal

@@ -1,5 +1,5 @@
-use Rattle.std.proofs.Common.{◌≡◌, refl, sym, ap, ◌∙◌, true, false, Bool, [], ◌∷◌}
-use Rattle.std.specs.Prelude.{None, is_some, ◌||◌}
+use Rattle.std.proofs.Common.{refl, sym, ap, ◌∙◌, true, false, Bool, [], ◌∷◌}
+use Rattle.std.specs.Prelude.{None, ◌||◌}
 use Rattle.mpslp_core.specs.Limits.{is_free_form}
 use Rattle.mpslp_core.specs.Lists.{those_of}
 use Rattle.mpslp_types.specs.declared.faults.BuildFault.TheVariants.{DuplicateRange, RangeOnFree, InfiniteValue}

@@ -1,5 +1,5 @@
-use Rattle.std.proofs.Common.{◌≡◌, sym, ap, ◌∙◌, true, false, Bool}
-use Rattle.std.specs.Prelude.{None, is_some, ◌||◌}
+use Rattle.std.proofs.Common.{sym, ap, ◌∙◌, true, false, Bool}
+use Rattle.std.specs.Prelude.{is_some, ◌||◌}
 use Rattle.mpslp_core.specs.Limits.{is_limits_form}
 use Rattle.mpslp_builder.specs.Answer.{first_refusal}
 use Rattle.mpslp_builder.specs.Calls.{row_tells}

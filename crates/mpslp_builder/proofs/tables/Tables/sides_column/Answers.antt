@@ -1,4 +1,4 @@
-use Rattle.std.proofs.Common.{sym, ap, true, false, ◌∷◌, []}
+use Rattle.std.proofs.Common.{sym, ap, true, false}
 use Rattle.std.specs.Prelude.{None, Bool, ◌||◌}
 use Rattle.std.specs.Option.{option_map_or}
 use Rattle.mpslp_types.specs.Sides.{is_plus_infinite, is_minus_infinite}

@@ -3,9 +3,9 @@ use Rattle.std.specs.List.{All}
 use Rattle.std.specs.Vec.Iter.{into_iter_items}
 use Rattle.mpslp_types.specs.Name.{IsMpsName}
 use Rattle.mpslp_core.specs.Numbered.{each_part}
-use Rattle.mpslp_builder.specs.Tables.{bytes}
-use Rattle.mpslp_builder.specs.MovedParts.{limits_in}
-use Rattle.mpslp_builder.proofs.parts.rows_of.Given as goal
+use Rattle.mpslp_numbered.specs.Parts.{bytes}
+use Rattle.mpslp_numbered.specs.Parts.{limits_in}
+use Rattle.mpslp_numbered.proofs.listed.rows_of.Given as goal
 
 abbrev pub invariant-loop-name : goal.invariant-loop-name
 invariant-loop-name l = record {

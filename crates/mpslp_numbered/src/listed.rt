@@ -1,4 +1,4 @@
-//! The rows and the columns of a model, from those of tables that stand in the order of their names.
+//! The rows and the columns of a model, from what is declared of them in the order of their names.
 
 ghost use Rattle.std.specs.Prelude.{◌≡◌, ◌<◌, ℕ, IfOk, length, slice_index, unwrap_or};
 ghost use Rattle.std.specs.List.{All};
@@ -8,66 +8,15 @@ ghost use Rattle.mpslp_types.specs.declared.kinds.RowType.TheVariants as types;
 ghost use Rattle.mpslp_core.specs.Limits.{limits_of, plain_limits, row_form};
 ghost use Rattle.mpslp_core.specs.ModelParts.{own, bounds_in, cells_in};
 ghost use Rattle.mpslp_core.specs.Numbered.{each_part};
-ghost use Rattle.mpslp_builder.specs.FaultFound.{declared_in};
-ghost use Rattle.mpslp_builder.specs.MovedParts.{limits_in, bounds_of, moved_in};
-ghost use Rattle.mpslp_builder.specs.Tables.{bytes, rhs_of, range_of};
+ghost use Rattle.mpslp_numbered.specs.Parts.{bytes, limits_in, bounds_of, moved_in};
 
-use crate::tables::{ColumnParts, RowParts};
+use crate::parts::{ColumnParts, RowParts};
 use mpslp_core::{
-    DeclaredColumn, FormKind, ModelColumn, PackedColumn, PackedLimit, PackedRow, RowLimits,
-    limits_of, plain_limits,
+    FormKind, ModelColumn, PackedColumn, PackedRow, RowLimits, limits_of, plain_limits,
 };
 use mpslp_decimal::Decimal;
-use mpslp_types::{Limit, Name, RowType};
+use mpslp_types::{Name, RowType};
 use std::alloc::{AllocError, Global};
-
-impl RowParts {
-    /// The right side, and 0 where none is declared.
-    pub(crate) fn rhs_or_zero(&self) -> Decimal
-        ensures { result ≡ unwrap_or (rhs_of self.now) zero_number }
-    {
-        match &self.rhs {
-            Some(value) => value.value(),
-            None => Decimal::zero(),
-        }
-    }
-
-    /// The range, if one is declared.
-    pub(crate) fn range_value(&self) -> Option<Decimal>
-        ensures { result ≡ range_of self.now }
-    {
-        match &self.range {
-            Some(value) => Some(value.value()),
-            None => None,
-        }
-    }
-}
-
-/// The side, if one is declared.
-fn side_of(side: &Option<PackedLimit>) -> Option<Limit>
-    ensures { result ≡ side.now }
-{
-    match side {
-        Some(side) => Some(side.limit()),
-        None => None,
-    }
-}
-
-impl ColumnParts {
-    /// What is declared of the column beside its coefficients.
-    pub(crate) fn declared(&self) -> DeclaredColumn
-        ensures { result ≡ declared_in self.now }
-    {
-        DeclaredColumn {
-            lower: side_of(&self.lower),
-            upper: side_of(&self.upper),
-            marked: self.marked,
-            integer: self.integer,
-            binary: self.binary,
-            semi: self.semi,
-        }
-    }
-}
 
 /// The limits of a row; where they are no decimals, those of a row without limits.
 fn limits_or_none(form: &FormKind, rhs: Decimal, range: &Option<Decimal>) -> RowLimits
@@ -86,8 +35,12 @@ fn limits_in(row: &RowParts) -> RowLimits
     limits_or_none(&row.form.kind(), row.rhs_or_zero(), &row.range_value())
 }
 
-/// The rows of a model.
-pub(crate) fn rows_of(
+/// The rows of a model, under their names.
+///
+/// # Errors
+///
+/// [`AllocError`] where there is no memory for them.
+pub fn rows_of(
     alloc: Global,
     rows: Vec<(Vec<u8>, RowParts)>,
 ) -> Result<Vec<(Name, PackedRow)>, AllocError>
@@ -113,8 +66,12 @@ fn column_of(column: ColumnParts, ranks: &[u32]) -> Result<ModelColumn, AllocErr
     Ok(ModelColumn { bounds, cells })
 }
 
-/// The columns of a model, with the later numbers of rows.
-pub(crate) fn columns_of(
+/// The columns of a model, under their names, with the later numbers of rows.
+///
+/// # Errors
+///
+/// [`AllocError`] where there is no memory for them.
+pub fn columns_of(
     alloc: Global,
     columns: Vec<(Vec<u8>, ColumnParts)>,
     ranks: &[u32],

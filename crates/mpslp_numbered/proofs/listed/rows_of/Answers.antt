@@ -1,11 +1,11 @@
-use Rattle.std.proofs.Common.{◌≡◌, sym, ap, ◌∙◌, List, [], ◌∷◌, ◌++◌}
+use Rattle.std.proofs.Common.{sym, ap, ◌∙◌, [], ◌∷◌, ◌++◌}
 use Rattle.std.specs.Vec.Iter.{into_iter_items}
 use Rattle.mpslp_types.specs.Name.{IsMpsName}
 use Rattle.mpslp_core.specs.Numbered.{each_part}
-use Rattle.mpslp_builder.specs.Tables.{bytes}
-use Rattle.mpslp_builder.specs.MovedParts.{limits_in}
-use Rattle.mpslp_builder.proofs.PassLemmas.{passed_on, holds_first, holds_later}
-use Rattle.mpslp_builder.proofs.parts.rows_of.Goals as goal
+use Rattle.mpslp_numbered.specs.Parts.{bytes}
+use Rattle.mpslp_numbered.specs.Parts.{limits_in}
+use Rattle.mpslp_numbered.proofs.PassLemmas.{passed_on, holds_first, holds_later}
+use Rattle.mpslp_numbered.proofs.listed.rows_of.Goals as goal
 
 pub from_legal-requires : goal.from_legal-requires
 from_legal-requires c =

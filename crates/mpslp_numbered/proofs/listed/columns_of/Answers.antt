@@ -1,18 +1,15 @@
-use Rattle.std.proofs.Common.{◌≡◌, sym, ap, ◌∙◌, ℕ, ◌<◌, List, [], ◌∷◌, ◌++◌, length}
+use Rattle.std.proofs.Common.{sym, ap, ◌∙◌, ℕ, ◌<◌, [], ◌∷◌, ◌++◌, length}
 use Rattle.std.specs.List.{All}
 use Rattle.std.specs.Vec.Iter.{into_iter_items}
 use Rattle.mpslp_types.specs.Name.{IsMpsName}
-use Rattle.mpslp_core.specs.Model.{Column}
-use Rattle.mpslp_decimal.specs.Decimal.{Number}
 use Rattle.mpslp_core.specs.Numbered.{each_part}
 use Rattle.mpslp_core.specs.ModelParts.{own, bounds_in, cells_in}
 use Rattle.std.specs.Global.{Vec}
-use Rattle.mpslp_builder.specs.declared.tables.ColumnParts.{ColumnParts}
-use Rattle.mpslp_builder.specs.Tables.{bytes}
-use Rattle.mpslp_builder.specs.MovedParts.{bounds_of, moved_in}
-use Rattle.mpslp_builder.proofs.PartLemmas.{each_part-append}
-use Rattle.mpslp_builder.proofs.PassLemmas.{passed_on, holds_first, holds_later}
-use Rattle.mpslp_builder.proofs.parts.columns_of.Goals as goal
+use Rattle.mpslp_numbered.specs.declared.parts.ColumnParts.{ColumnParts}
+use Rattle.mpslp_numbered.specs.Parts.{bytes}
+use Rattle.mpslp_numbered.specs.Parts.{bounds_of, moved_in}
+use Rattle.mpslp_numbered.proofs.PassLemmas.{each_part-append, passed_on, holds_first, holds_later}
+use Rattle.mpslp_numbered.proofs.listed.columns_of.Goals as goal
 
 pub from_legal-requires : goal.from_legal-requires
 from_legal-requires c =

@@ -1,0 +1,195 @@
+//! Which names are legal in LP.
+
+ghost use Rattle.std.specs.Prelude.{◌≡◌, map};
+ghost use Rattle.std.specs.List.{list_all, list_any};
+ghost use Rattle.mpslp_types.specs.Name.{is_upper, is_letter, is_lp_symbol, is_lp_byte, lower_byte, same_bytes, is_reserved, is_like_exponent, begins_a_number, is_lp_name};
+ghost use Rattle.mpslp_decimal.specs.Literal.{is_digit};
+
+use crate::laws::each_name_is_legal;
+use crate::names::Name;
+
+/// What an LP name may hold beside letters and digits.
+const LP_SYMBOLS: &[u8] = b"!\"#$%&()/,.;?@_'{}|~`";
+
+/// The words that LP keeps for itself, in lower case.
+const RESERVED_WORDS: [&[u8]; 31] = [
+    b"min",
+    b"minimize",
+    b"minimum",
+    b"max",
+    b"maximize",
+    b"maximum",
+    b"subject",
+    b"such",
+    b"st",
+    b"s.t.",
+    b"st.",
+    b"bound",
+    b"bounds",
+    b"general",
+    b"generals",
+    b"gen",
+    b"integer",
+    b"integers",
+    b"int",
+    b"binary",
+    b"binaries",
+    b"bin",
+    b"semi",
+    b"semis",
+    b"sos",
+    b"sos1",
+    b"sos2",
+    b"free",
+    b"inf",
+    b"infinity",
+    b"end",
+];
+
+/// Whether the byte is a letter in upper case.
+fn is_upper(byte: u8) -> bool
+    ensures { result ≡ is_upper byte }
+{
+    65 <= byte && byte <= 90
+}
+
+/// Whether the byte is a letter.
+fn is_letter(byte: u8) -> bool
+    ensures { result ≡ is_letter byte }
+{
+    is_upper(byte) || (97 <= byte && byte <= 122)
+}
+
+/// Whether the byte is a digit.
+fn is_digit(byte: u8) -> bool
+    ensures { result ≡ is_digit byte }
+{
+    48 <= byte && byte <= 57
+}
+
+/// Whether the byte is one of the symbols of LP names.
+fn is_lp_symbol(byte: u8) -> bool
+    ensures { result ≡ is_lp_symbol byte }
+{
+    LP_SYMBOLS.iter().any(|symbol| *symbol == byte)
+}
+
+/// Whether an LP name may hold the byte.
+fn is_lp_byte(byte: u8) -> bool
+    ensures { result ≡ is_lp_byte byte }
+{
+    is_letter(byte) || (is_digit(byte) || is_lp_symbol(byte))
+}
+
+/// Whether an LP name may hold each of the bytes.
+fn has_lp_bytes(bytes: &[u8]) -> bool
+    ensures { result ≡ list_all is_lp_byte bytes.now }
+{
+    bytes.iter().all(|byte| is_lp_byte(*byte))
+}
+
+/// Whether a number could begin so.
+fn begins_a_number(bytes: &[u8]) -> bool
+    ensures { result ≡ begins_a_number bytes.now }
+{
+    match bytes {
+        [] => false,
+        [byte, ..] => is_digit(*byte) || *byte == b'.',
+    }
+}
+
+/// Whether a number that stands before the bytes would take their front as its exponent.
+fn is_like_exponent(bytes: &[u8]) -> bool
+    ensures { result ≡ is_like_exponent bytes.now }
+{
+    match bytes {
+        [] => false,
+        [byte] => *byte == b'e' || *byte == b'E',
+        [byte, next, ..] => (*byte == b'e' || *byte == b'E') && is_digit(*next),
+    }
+}
+
+/// The byte in lower case.
+fn lower_byte(byte: u8) -> u8
+    ensures { result ≡ lower_byte byte }
+{
+    if is_upper(byte) { byte + 32 } else { byte }
+}
+
+/// Whether the text, in lower case, is the word.
+fn is_word(text: &[u8], word: &[u8]) -> bool
+    ensures { result ≡ same_bytes (map lower_byte text.now) word.now }
+{
+    match (text, word) {
+        ([], []) => true,
+        ([byte, text @ ..], [lower, word @ ..]) => {
+            lower_byte(*byte) == *lower && is_word(text, word)
+        }
+        _ => false,
+    }
+}
+
+/// Whether the text, in lower case, is one of the words.
+fn is_one_of(words: &[&[u8]], text: &[u8]) -> bool
+    ensures { result ≡ list_any (λ word. same_bytes (map lower_byte text.now) word.now) words.now }
+{
+    words.iter().any(|word| is_word(text, word))
+}
+
+/// Whether the text is a reserved word, in upper case, lower case or both.
+fn is_reserved(text: &[u8]) -> bool
+    ensures { result ≡ is_reserved text.now }
+{
+    is_one_of(&RESERVED_WORDS, text)
+}
+
+impl Name {
+    /// Whether the name is legal in LP too: it has only letters, digits and `!"#$%&()/,.;?@_'{}|~` and a back quote, begins
+    /// with no digit or period, is no reserved word in whatever case, and is not `e` or `E`, nor begins with one of these and a
+    /// digit.
+    pub fn is_lp(&self) -> bool
+        ensures { result ≡ is_lp_name self.now }
+    {
+        each_name_is_legal(self);
+        let bytes = self.as_bytes();
+        has_lp_bytes(bytes)
+            && (!begins_a_number(bytes) && (!is_like_exponent(bytes) && !is_reserved(bytes)))
+    }
+}
+
+#[cfg(test)]
+mod tests {
+    use super::*;
+    use std::test::Fail;
+
+    /// Names, and whether they are legal in LP.
+    const NAMES: [(&str, bool); 18] = [
+        ("x1", true),
+        ("x(1,2).a#b", true),
+        ("!\"#$%&()/,;?@_'{}|~`", true),
+        ("e5x", false),
+        ("E", false),
+        ("ex", true),
+        ("3x", false),
+        (".x", false),
+        ("x.3", true),
+        ("x+y", false),
+        ("x:y", false),
+        ("x^2", false),
+        ("Free", false),
+        ("S.T.", false),
+        ("sos1", false),
+        ("semis", false),
+        ("ends", true),
+        ("to", true),
+    ];
+
+    #[test]
+    fn tells_names_that_are_legal_in_lp(rt: HostRuntime) -> Result<(), Fail> {
+        for (text, expected) in NAMES {
+            let name = Name::new(rt.alloc(), text.as_bytes())?;
+            assert_eq!(rt; name.is_lp(), expected, "at {text}");
+        }
+        Ok(())
+    }
+}
