@@ -1,12 +1,10 @@
 -- What each phrase declares: legal declarations, of which none is refused after those before it.
-use Rattle.std.proofs.Common.{◌⊎◌, inl, inr, ◌≡◌, ◌≤◌, ◌<◌, refl, sym, ap, subst, ◌∙◌, ℕ, suc, ◌+◌, ◌-◌, ◌^◌, List, [], ◌∷◌, ◌++◌, Bool, true, false, not, length, map, arith, pos, negsuc, zero}
-use Rattle.std.specs.Prelude.{Option, Some, None, is_some, unwrap_or, ◌&&◌, ◌||◌, ◌==◌, if◌then◌else◌, min, nat_le, codes}
+use Rattle.std.proofs.Common.{◌⊎◌, inl, inr, ◌≡◌, ◌≤◌, ◌<◌, refl, sym, ap, subst, ◌∙◌, ℕ, suc, ◌+◌, ◌-◌, ◌^◌, List, [], ◌∷◌, ◌++◌, Bool, true, false, not, length, arith, pos, negsuc, zero}
+use Rattle.std.specs.Prelude.{Option, Some, None, is_some, unwrap_or, ◌&&◌, ◌||◌, ◌==◌, if◌then◌else◌, min, nat_le}
 use Rattle.std.specs.List.{list_all, list_any, flat_map}
 use Rattle.std.specs.Option.{option_map_or}
 use Rattle.std.specs.Cmp.{first_so, second_so}
 use Rattle.std.specs.Fmt.{decimal}
-use Rattle.std.specs.FinMap.{put}
-use Rattle.std.specs.Cmp.Lexicographic.{nat_list_eq_equiv}
 use Rattle.std.proofs.lemmas.List.Folds.{list_all-append}
 use Rattle.std.proofs.lemmas.Fmt.{length-decimal-le}
 use Rattle.std.proofs.lemmas.Bool.{le-leb}
@@ -14,13 +12,11 @@ use Rattle.std.proofs.Math.Nat.{min-le_right}
 use Rattle.mpslp_decimal.specs.Decimal.{Number as Decimal, is_decimal, negated}
 use Rattle.mpslp_decimal.specs.Literal.{is_digit}
 use Rattle.mpslp_decimal.proofs.CutLemmas.{list_all-digits, decimal-spells}
-use Rattle.mpslp_types.specs.Name.{same_bytes, is_mps_name, is_lp_name, lower_byte, has_name_length, marker, is_letter, is_lp_symbol, is_lp_byte, begins_a_number, is_like_exponent, is_reserved}
+use Rattle.mpslp_types.specs.Name.{same_bytes, is_mps_name, is_lp_name, has_name_length, marker, is_letter, is_lp_symbol, is_lp_byte, begins_a_number, is_like_exponent, is_reserved}
 use Rattle.mpslp_types.proofs.EachLemmas.{imp_all}
 use Rattle.mpslp_types.proofs.NameLemmas.{mps_name-from_lp}
-use Rattle.mpslp_types.specs.Name.{bytes_cmp}
 use Rattle.mpslp_types.specs.Sides.{limit_of}
-use Rattle.mpslp_builder.specs.Declaration.{Declaration, declare_sense, declare_objective, declare_constant, declare_row, declare_rhs, declare_range, declare_column, declare_coefficient, declare_lower, declare_upper, declare_marked, declare_integer, declare_binary, declare_semi, Declarations, Draft, empty_draft, adding_all, bounds_declared, has_name}
-use Rattle.mpslp_core.specs.Lists.{those_of}
+use Rattle.mpslp_builder.specs.Declaration.{draft_of, Declaration, declare_sense, declare_objective, declare_constant, declare_row, declare_rhs, declare_range, declare_column, declare_coefficient, declare_lower, declare_upper, declare_marked, declare_integer, declare_binary, declare_semi, Declarations, Draft, empty_draft, adding_all, bounds_declared}
 use Rattle.mpslp_builder.specs.Refusal.{refusals_in_turn, bounds_refusals}
 use Rattle.mpslp_types.specs.Sides.{is_given}
 use Rattle.mpslp_builder.specs.Made.{are_given, is_legal}
@@ -29,11 +25,9 @@ use Rattle.mpslp_types.specs.declared.kinds.Limit.TheVariants.{MinusInf, PlusInf
 use Rattle.mpslp_types.specs.declared.kinds.Sense.{Sense}
 use Rattle.mpslp_types.specs.declared.kinds.Sense.TheVariants as senses
 use Rattle.mpslp_types.specs.declared.faults.BuildFault.{BuildFault}
-use Rattle.mpslp_types.specs.declared.faults.BuildFault.TheVariants.{UnknownColumn, DuplicateEntry}
 use Rattle.mpslp_types.specs.declared.faults.FaultKind.{FaultKind}
 use Rattle.mpslp_types.specs.declared.faults.FaultKind.TheVariants.{BadToken}
 use Rattle.mpslp_types.proofs.BoolLemmas.{both_so, or_left, or_right}
-use Rattle.mpslp_builder.proofs.SlotLemmas.{has-put}
 use Rattle.mpslp_builder.proofs.MadeDrafts.{refusals_in_turn-append, bounds-in_turn}
 use Rattle.mpslp_builder.proofs.RefusalLemmas.{join_none}
 use Rattle.mpslp_reading.proofs.FieldLemmas.{limit-given}
@@ -44,16 +38,20 @@ use Rattle.mpslp_lp.specs.Rules.Step.{Goes, Ends}
 use Rattle.mpslp_lp.specs.Words.{section_of}
 use Rattle.mpslp_lp.specs.Terminal.{Terminal, TerminalAt}
 use Rattle.mpslp_lp.specs.Terminal.Terminal.{Opens, Name, Number, Sign, Compares, Colon, Infinity, Free, Other}
-use Rattle.mpslp_lp.specs.Point.{Before, PartialRow, Place, Point, start, opened_with, section_fault}
-use Rattle.mpslp_lp.specs.Point.Place.{AtStart, BeforeItems, InObjective, BetweenRows, InRow, InBounds, InGenerals, InBinaries, InSemis}
+use Rattle.mpslp_lp.specs.Point.{Before, Point, start, opened_with, section_fault}
+use Rattle.mpslp_lp.specs.PartialRow.{PartialRow}
+use Rattle.mpslp_lp.specs.declared.states.Place.{Place}
+use Rattle.mpslp_lp.specs.declared.states.Place.TheVariants.{AtStart, BeforeItems, InObjective, BetweenRows, InRow, InBounds, InGenerals, InBinaries, InSemis}
 use Rattle.mpslp_lp.specs.Phrase.{Rule, Follows, fails, refuses, goes_to, unless_refused, declares}
+use Rattle.mpslp_lp.specs.declared.states.LastWord.{LastWord}
+use Rattle.mpslp_lp.specs.declared.states.LastWord.TheVariants.{To, That, Continuous}
 use Rattle.mpslp_lp.specs.Sides.{Side, Limits, signed, infinity, unsigned_side, side_from, side, sense, fits_second, limits_by, turned}
 use Rattle.mpslp_lp.specs.Items.{Item, one, product, number_item, signed_item, item_from, colon}
 use Rattle.mpslp_lp.specs.Items.Item.{Term, Lone}
-use Rattle.mpslp_lp.specs.Objective.{term_declared, objective_item, objective_declared, default_objective, objective_named, objective_from, objective}
+use Rattle.mpslp_lp.specs.Objective.{term_declared, objective_item, objective_declared, default_objective, first_item_declared, objective_named, objective_from, objective}
 use Rattle.mpslp_lp.specs.Rows.{default_row, without_terms, row_item, row_first, row_after_left, row_number, row_signed, row_from, row_named, row, fits_left, row_limits, row_declared, row_whole, row_end}
 use Rattle.mpslp_lp.specs.Bounds.{bounded, no_limits, bound_right, bound_after, bound_column, bound_left, bound, second_side}
-use Rattle.mpslp_lp.specs.Grammar.{line_end, second_word, semi_from, section_start, section_from, may_begin_section, listed, phrase, phrase_at}
+use Rattle.mpslp_lp.specs.Grammar.{line_end, opened_by, is_last_word, last_word, semi_from, section_start, section_from, may_begin_section, listed, phrase, phrase_at}
 use Rattle.mpslp_lp.specs.declared.relations.Relation.{Relation}
 use Rattle.mpslp_lp.specs.declared.relations.Relation.TheVariants.{AtMost, AtLeast, EqualTo}
 use Rattle.mpslp_lp.specs.declared.words.Section.TheVariants.{Objective}
@@ -568,21 +566,28 @@ line_end-fine before line named (token ∷ tokens) sound = by (token.line == lin
     by true = tt
     by false = (refl, named.0)
 
-second_word-fine : (before : Before) (wanted : List ℕ) (place : Place) (token : TerminalAt) → IsNamed before → IsPlain place → Gives (IsFine before.earlier) (second_word before wanted place token)
-second_word-fine before wanted place token named plain = by token.line token.terminal
+opened-plain : (wanted : LastWord) → IsPlain (opened_by wanted)
+opened-plain To b n = n
+opened-plain That b n = n
+opened-plain Continuous b n = n
+
+last_word-fine : (before : Before) (wanted : LastWord) (token : TerminalAt) → IsNamed before → Gives (IsFine before.earlier) (last_word before wanted token)
+last_word-fine before wanted token named = by token.line token.terminal
   where
-    by : (line : ℕ) (terminal : Terminal) → Gives (IsFine before.earlier) (second_word before wanted place (record { line = line; terminal = terminal }))
-    by line (Name word) = either-fine before (same_bytes (map lower_byte word) wanted) _ _ (nothing-fine before place named plain) (λ tokens sound. tt)
+    by : (line : ℕ) (terminal : Terminal) → Gives (IsFine before.earlier) (last_word before wanted (record { line = line; terminal = terminal }))
+    by line (Name word) = either-fine before (is_last_word wanted word) _ _ (nothing-fine before (opened_by wanted) named (opened-plain wanted)) (λ tokens sound. tt)
     by line _ = λ tokens sound. tt
+
+next_word-fine : (before : Before) (wanted : LastWord) → IsNamed before → Gives (IsFine before.earlier) (next >>= last_word before wanted)
+next_word-fine before wanted named = then-gives IsSoundToken (IsFine before.earlier) next (last_word before wanted) next-gives (λ word w. last_word-fine before wanted word named)
 
 semi-fine : (before : Before) (token : TerminalAt) → IsNamed before → Gives (IsFine before.earlier) (semi_from before token)
 semi-fine before token named = by token.line token.terminal
   where
     by : (line : ℕ) (terminal : Terminal) → Gives (IsFine before.earlier) (semi_from before (record { line = line; terminal = terminal }))
     by line (Sign true) =
-        then-gives IsSoundToken (IsFine before.earlier) next (λ dash. next >>= second_word before (codes "continuous") InSemis) next-gives
-        (λ dash d. then-gives IsSoundToken (IsFine before.earlier) next (second_word before (codes "continuous") InSemis) next-gives
-        (λ word w. second_word-fine before (codes "continuous") InSemis word named (λ b n. n)))
+        then-gives IsSoundToken (IsFine before.earlier) next (λ dash. next >>= last_word before Continuous) next-gives
+        (λ dash d. next_word-fine before Continuous named)
     by line _ = nothing-fine before InSemis named (λ b n. n)
 
 -- a word of a section after the objective
@@ -595,10 +600,8 @@ start-fine : (before : Before) (token : TerminalAt) (word : SectionWord) → IsL
 start-fine before token words.Minimize later named = absurd later
 start-fine before token words.Maximize later named = absurd later
 start-fine before token words.Rows later named = nothing-fine before BetweenRows named (λ b n. n)
-start-fine before token words.Subject later named =
-    then-gives IsSoundToken (IsFine before.earlier) next (second_word before (codes "to") BetweenRows) next-gives (λ second s. second_word-fine before (codes "to") BetweenRows second named (λ b n. n))
-start-fine before token words.Such later named =
-    then-gives IsSoundToken (IsFine before.earlier) next (second_word before (codes "that") BetweenRows) next-gives (λ second s. second_word-fine before (codes "that") BetweenRows second named (λ b n. n))
+start-fine before token words.Subject later named = next_word-fine before To named
+start-fine before token words.Such later named = next_word-fine before That named
 start-fine before token words.Bounds later named = nothing-fine before (InBounds None) named (λ b n. n)
 start-fine before token words.Generals later named = nothing-fine before InGenerals named (λ b n. n)
 start-fine before token words.Binaries later named = nothing-fine before InBinaries named (λ b n. n)
@@ -635,39 +638,39 @@ section-fine before token words.End named = later-fine before token words.End tt
 abbrev opening : Before
 opening = record { opened = opened_with start.before.opened Objective; earlier = empty_draft }
 
-same-self : (name : List ℕ) → same_bytes name name ≡ true
-same-self name = nat_list_eq_equiv.refl name
-
-first_term-unrefused : (goal : Sense) (name : List ℕ) → refusals_in_turn empty_draft (objective_declared goal default_objective ++ term_declared default_objective (name, one)) ≡ []
-first_term-unrefused goal name =
-    let unit : Unit {0} = tt in
-    let there : has_name {X = Unit {0}} (put bytes_cmp name unit []) name ≡ true = has-put {X = Unit {0}} name name unit [] ∙ ap (λ (b : Bool). b || false) (same-self name) in
-    by (has_name {X = Unit {0}} (put bytes_cmp name unit []) name) there
+-- declarations that name it
+opens-declared : (token : TerminalAt) (place : Place) (made : Declarations) → ((before : Before) → IsNamed before → IsSoundPoint (record { place = place; before = before }))
+    → is_some (draft_of made).objective ≡ true → list_all is_lp_legal made ≡ true → Gives (IsFine empty_draft) (declares opening token place made)
+opens-declared token place made plain named legal = by (refusals_in_turn empty_draft made) refl
   where
-    by : (b : Bool) → b ≡ true → those_of ((not b, UnknownColumn) ∷ (false, DuplicateEntry) ∷ []) ++ [] ≡ []
-    by true e = refl
-    by false e = cc
+    by : (refusals : List BuildFault) → refusals_in_turn empty_draft made ≡ refusals → Gives (IsFine empty_draft) (unless_refused opening token refusals place made)
+    by [] e = λ tokens sound. record { drafts = refl; unrefused = e; legal = legal; sound = plain (record opening { earlier = draft_of made }) (named, refl) }
+    by (refusal ∷ more) e = λ tokens sound. tt
 
-objective_named-fine : (goal : Sense) (name : List ℕ) (labelled : Bool) → is_lp_name name ≡ true → Gives (IsFine empty_draft) (objective_named opening goal name labelled)
-objective_named-fine goal name true h = λ tokens sound. record { drafts = refl; unrefused = refl; legal = both_so (is_lp_name name) true h refl; sound = (refl, refl) }
-objective_named-fine goal name false h = λ tokens sound. record {
-  drafts = refl;
-  unrefused = first_term-unrefused goal name;
-  legal = both_so (is_lp_name name) true h refl;
-  sound = (refl, refl);
-}
+objective_named-fine : (goal : Sense) (name : List ℕ) (line : ℕ) (terminal : Terminal) → is_lp_name name ≡ true
+    → Gives (IsFine empty_draft) (objective_named opening goal name (record { line = line; terminal = terminal }))
+objective_named-fine goal name line terminal h = by terminal
+  where
+    legal : {b : Bool} → b ≡ true → (is_lp_name name && b) ≡ true
+    legal e = both_so (is_lp_name name) _ h e
+
+    first_item : (t : Terminal) → Gives (IsFine empty_draft) (declares opening (record { line = line; terminal = t }) (InObjective default_objective) (first_item_declared goal name))
+    first_item t = opens-declared (record { line = line; terminal = t }) (InObjective default_objective) (first_item_declared goal name) (λ b n. n) refl (legal refl)
+
+    by : (t : Terminal) → Gives (IsFine empty_draft) (objective_named opening goal name (record { line = line; terminal = t }))
+    by Colon = then-gives IsSoundToken (IsFine empty_draft) next (λ colon. declares opening (record { line = line; terminal = Colon }) (BeforeItems name) (objective_declared goal name)) next-gives
+        (λ colon c. opens-declared (record { line = line; terminal = Colon }) (BeforeItems name) (objective_declared goal name) (λ b n. n) refl (legal refl))
+    by t = first_item t
 
 objective-fine : (goal : Sense) → Gives (IsFine empty_draft) (objective opening goal)
 objective-fine goal = then-gives IsSoundToken (IsFine empty_draft) ahead (objective_from opening goal) ahead-gives (λ token s. by token.line token.terminal s)
   where
-    default : (line : ℕ) (terminal : Terminal) → Gives (IsFine empty_draft) (goes_to opening (BeforeItems default_objective) (objective_declared goal default_objective))
-    default line terminal = λ tokens sound. record { drafts = refl; unrefused = refl; legal = refl; sound = (refl, refl) }
-
     by : (line : ℕ) (terminal : Terminal) → IsSoundTerminal terminal → Gives (IsFine empty_draft) (objective_from opening goal (record { line = line; terminal = terminal }))
     by line (Name name) s =
-        then-gives IsSoundToken (IsFine empty_draft) next (λ first. colon >>= objective_named opening goal name) next-gives
-        (λ first f. then-gives (λ (labelled : Bool). Unit {0}) (IsFine empty_draft) colon (objective_named opening goal name) colon-gives (λ labelled u. objective_named-fine goal name labelled s))
-    by line terminal s = default line terminal
+        then-gives IsSoundToken (IsFine empty_draft) next (λ first. ahead >>= objective_named opening goal name) next-gives
+        (λ first f. then-gives IsSoundToken (IsFine empty_draft) ahead (objective_named opening goal name) ahead-gives (λ second t. objective_named-fine goal name second.line second.terminal s))
+    by line terminal s =
+        opens-declared (record { line = line; terminal = terminal }) (BeforeItems default_objective) (objective_declared goal default_objective) (λ b n. n) refl refl
 
 -- at the start, no other section may be opened
 first_section-fine : (token : TerminalAt) (word : SectionWord) → Gives (IsFine empty_draft) (section_from start.before token word)

@@ -12,8 +12,8 @@ use Rattle.mpslp_types.specs.declared.faults.ReadFault.TheVariants.{File, Failed
 use Rattle.mpslp_lp.specs.Rules.{Outcome}
 use Rattle.mpslp_lp.specs.Rules.Outcome.{Finished, Refused, Open}
 use Rattle.mpslp_lp.specs.Point.{start}
-use Rattle.mpslp_lp.specs.Point.Place.{AtStart}
-use Rattle.mpslp_lp.specs.Reading.State.{Between}
+use Rattle.mpslp_lp.specs.declared.states.Place.TheVariants.{AtStart}
+use Rattle.mpslp_lp.specs.declared.states.State.TheVariants.{Between}
 use Rattle.mpslp_lp.specs.ReadingLines.{read_from}
 use Rattle.mpslp_lp.specs.ReadingAnswer.{ReadsLp}
 use Rattle.mpslp_lp.specs.LpText.{numbered_lines, DeclaresLp}

@@ -13,99 +13,80 @@ use Rattle.mpslp_lp.specs.Rules.Reading.{Reads}
 use Rattle.mpslp_lp.specs.Rules.Step.{Ends as StepEnds}
 use Rattle.mpslp_lp.specs.Rules.Outcome.{Finished, Refused, Open}
 use Rattle.mpslp_lp.specs.Token.{Token, tokens}
-use Rattle.mpslp_lp.specs.Terminal.{TerminalAt, terminal_of, line_terminals}
+use Rattle.mpslp_lp.specs.Terminal.{Terminal, TerminalAt, terminal_of, as_terminal, terminals, line_terminals}
 use Rattle.mpslp_lp.specs.Point.{Before, start}
-use Rattle.mpslp_lp.specs.Point.Place.{AtStart}
+use Rattle.mpslp_lp.specs.declared.states.Place.TheVariants.{AtStart}
 use Rattle.mpslp_reading.specs.LineAnswer.{fault_on_line}
 use Rattle.mpslp_lp.specs.Phrase.{refuses}
 use Rattle.mpslp_lp.specs.Grammar.{phrase_at}
-use Rattle.mpslp_lp.specs.Reading.{State, says}
-use Rattle.mpslp_lp.specs.Reading.State.{Between, AfterEnd}
-use Rattle.mpslp_lp.specs.Taken.{Taken, Goes, Ends, Refuses}
+use Rattle.mpslp_lp.specs.declared.states.State.{State}
+use Rattle.mpslp_lp.specs.Reading.{says}
+use Rattle.mpslp_lp.specs.declared.states.State.TheVariants.{Between, AfterEnd}
+use Rattle.mpslp_lp.specs.Taken.{Taken, Goes, Refuses}
 use Rattle.mpslp_lp.specs.Taking.{take, says_after, at_end}
 use Rattle.mpslp_lp.specs.OwnFault.{own_fault}
 use Rattle.mpslp_lp.specs.ReadingLines.{take_all, take_line, is_at_end, read_from}
 use Rattle.mpslp_lp.specs.LpText.{numbered_lines, sound_terminals, first_own_fault, or_else, outcome}
 use Rattle.mpslp_lp.proofs.TakingLemmas.{take-says, nothing-says}
-use Rattle.mpslp_lp.proofs.EndLemmas.{IsEndOn, EndsOn, take-ends}
 
 -- ---- the tokens of a line
-
-pub all-say : (found : List TerminalAt) (before : Before) (state : State) (more : List TerminalAt)
-    → says before state (found ++ more) ≡ says_after (take_all before state found) more
-all-say [] before state more = refl
-all-say (token ∷ found) before state more =
-    take-says before state token.line token.terminal (found ++ more) ∙ by (take before state token) (λ after next. all-say found after next more)
-  where
-    by : (taken : Taken) → ((after : Before) (next : State) → says after next (found ++ more) ≡ says_after (take_all after next found) more)
-        → says_after taken (found ++ more) ≡ says_after (elim taken as (λ _. Taken) [
-          | Goes after next ↦ take_all after next found
-          | Ends all ↦ Ends all
-          | Refuses fault ↦ Refuses fault
-        ]) more
-    by (Goes after next) later = later after next
-    by (Ends all) later = refl
-    by (Refuses fault) later = refl
 
 abbrev terminals_on : ℕ → List Token → List TerminalAt
 terminals_on n found = map (λ (token : Token). record { line = n; terminal = terminal_of token.kind token.text }) found
 
-all-end : (n : ℕ) (found : List Token) (before : Before) (state : State) → IsEndOn n state → EndsOn n (take_all before state (terminals_on n found))
-all-end n [] before state h = h
-all-end n (token ∷ found) before state h =
-    by (take before state (record { line = n; terminal = terminal_of token.kind token.text })) (take-ends before state n (terminal_of token.kind token.text) h)
-    (λ after next e. all-end n found after next e)
+all-say : (n : ℕ) (found : List Token) (before : Before) (state : State) (more : List TerminalAt)
+    → says n before state (terminals_on n found ++ more) ≡ says_after n (take_all before state (map as_terminal found)) more
+all-say n [] before state more = refl
+all-say n (token ∷ found) before state more =
+    take-says before state n (terminal_of token.kind token.text) (terminals_on n found ++ more)
+    ∙ by (take before state (terminal_of token.kind token.text)) (λ after next. all-say n found after next more)
   where
-    by : (taken : Taken) → EndsOn n taken → ((after : Before) (next : State) → IsEndOn n next → EndsOn n (take_all after next (terminals_on n found)))
-        → EndsOn n (elim taken as (λ _. Taken) [
-          | Goes after next ↦ take_all after next (terminals_on n found)
-          | Ends all ↦ Ends all
-          | Refuses fault ↦ Refuses fault
-        ])
-    by (Goes after next) e later = later after next e
-    by (Ends all) e later = e
-    by (Refuses fault) e later = tt
+    by : (taken : Taken) → ((after : Before) (next : State) → says n after next (terminals_on n found ++ more) ≡ says_after n (take_all after next (map as_terminal found)) more)
+        → says_after n taken (terminals_on n found ++ more) ≡ says_after n (elim taken as (λ _. Taken) [
+          | Goes after next ↦ take_all after next (map as_terminal found)
+          | Refuses kind ↦ Refuses kind
+        ]) more
+    by (Goes after next) later = later after next
+    by (Refuses kind) later = refl
 
 -- ---- lines after that of the end
 
--- a state after the end is so on an earlier line than this
-abbrev pub IsBehind : ℕ → State → Type 0
-IsBehind n (AfterEnd line) = line < n
-IsBehind n _ = Unit {0}
+-- the line of the last token is of account after the end alone
+line-says : (line n : ℕ) (before : Before) (state : State) (tokens : List TerminalAt) → is_at_end state ≡ false → says line before state tokens ≡ says n before state tokens
+line-says line n before AfterEnd tokens h = cc
+line-says line n before _ tokens h = refl
 
-behind-next : (n : ℕ) (state : State) → IsEndOn n state → IsBehind (n + 1) state
-behind-next n (AfterEnd line) h = omega (arith, h)
-behind-next n _ h = tt
-
-end-says : (n line : ℕ) (before : Before) (more : List TerminalAt) (token : TerminalAt) → token.line ≡ n → line < n → says before (AfterEnd line) (token ∷ more) ≡ Finished before.earlier
-end-says n line before more token is h = by (token.line == line) refl
+later-says : (line n : ℕ) (before : Before) (terminal : Terminal) (more : List TerminalAt) → line < n
+    → says line before AfterEnd (record { line = n; terminal = terminal } ∷ more) ≡ Finished before.earlier
+later-says line n before terminal more h = by (n == line) refl
   where
-    by : (b : Bool) → (token.line == line) ≡ b
-        → follow phrase_at ((if b then refuses before token BadToken more else Reads (StepEnds before.earlier) 0)) (token ∷ more) ≡ Finished before.earlier
-    by true e = absurd (omega (arith, eqb-true token.line line e, is, h))
+    token : TerminalAt
+    token = record { line = n; terminal = terminal }
+
+    by : (b : Bool) → (n == line) ≡ b → follow phrase_at (if b then refuses before token BadToken more else Reads (StepEnds before.earlier) 0) (token ∷ more) ≡ Finished before.earlier
+    by true e = absurd (omega (arith, eqb-true n line e, h))
     by false e = refl
 
-line_after-says : (n line : ℕ) (before : Before) (found : List Token) (more : List TerminalAt) → line < n
-    → says before (AfterEnd line) more ≡ Finished before.earlier → says before (AfterEnd line) (terminals_on n found ++ more) ≡ Finished before.earlier
-line_after-says n line before [] more h k = k
-line_after-says n line before (token ∷ found) more h k = end-says n line before (terminals_on n found ++ more) (record { line = n; terminal = terminal_of token.kind token.text }) refl h
-
-lines_after-say : (ls : List (List ℕ)) (n line : ℕ) (before : Before) → line < n → says before (AfterEnd line) (sound_terminals (enumerate_from n ls)) ≡ Finished before.earlier
-lines_after-say [] n line before h = refl
-lines_after-say (l ∷ ls) n line before h = by (own_fault l) (lines_after-say ls (n + 1) line before (omega (arith, h)))
+lines_after-say : (ls : List (List ℕ)) (line n : ℕ) (before : Before) → line < n → says line before AfterEnd (sound_terminals (enumerate_from n ls)) ≡ Finished before.earlier
+lines_after-say [] line n before h = refl
+lines_after-say (l ∷ ls) line n before h = by (own_fault l) (lines_after-say ls line (n + 1) before (omega (arith, h)))
   where
-    by : (o : Option FaultKind) → says before (AfterEnd line) (sound_terminals (enumerate_from (n + 1) ls)) ≡ Finished before.earlier
-        → says before (AfterEnd line) (elim o as (λ _. List TerminalAt) [
+    of_line : (found : List Token) (more : List TerminalAt) → says line before AfterEnd more ≡ Finished before.earlier → says line before AfterEnd (terminals_on n found ++ more) ≡ Finished before.earlier
+    of_line [] more k = k
+    of_line (token ∷ found) more k = later-says line n before (terminal_of token.kind token.text) (terminals_on n found ++ more) h
+
+    by : (o : Option FaultKind) → says line before AfterEnd (sound_terminals (enumerate_from (n + 1) ls)) ≡ Finished before.earlier
+        → says line before AfterEnd (elim o as (λ _. List TerminalAt) [
           | Some kind ↦ []
           | None ↦ line_terminals (n, l) ++ sound_terminals (enumerate_from (n + 1) ls)
         ]) ≡ Finished before.earlier
     by (Some kind) k = refl
-    by None k = line_after-says n line before (tokens l) (sound_terminals (enumerate_from (n + 1) ls)) h k
+    by None k = of_line (tokens l) (sound_terminals (enumerate_from (n + 1) ls)) k
 
-after_end-says : (ls : List (List ℕ)) (n : ℕ) (before : Before) (state : State) → is_at_end state ≡ true → IsBehind n state
-    → says before state (sound_terminals (enumerate_from n ls)) ≡ Finished before.earlier
-after_end-says ls n before (AfterEnd line) e h = lines_after-say ls n line before h
-after_end-says ls n before _ e h = cc
+after_end-says : (ls : List (List ℕ)) (line n : ℕ) (before : Before) (state : State) → is_at_end state ≡ true → line < n
+    → says line before state (sound_terminals (enumerate_from n ls)) ≡ Finished before.earlier
+after_end-says ls line n before AfterEnd e h = lines_after-say ls line n before h
+after_end-says ls line n before _ e h = cc
 
 -- ---- all lines
 
@@ -114,56 +95,47 @@ or_open (Finished all) = refl
 or_open (Refused fault) = refl
 or_open Open = refl
 
-not_at_end : (before : Before) (state : State) → is_at_end state ≡ false → says before state [] ≡ Open
-not_at_end before state h = nothing-says before state ∙ by state h
+not_at_end : (line : ℕ) (before : Before) (state : State) → is_at_end state ≡ false → says line before state [] ≡ Open
+not_at_end line before state h = nothing-says line before state ∙ by state h
   where
     by : (s : State) → is_at_end s ≡ false → at_end before s ≡ Open
-    by (AfterEnd line) e = cc
+    by AfterEnd e = cc
     by _ e = refl
 
-is_behind_end : (n : ℕ) (state : State) → is_at_end state ≡ false → IsEndOn n state
-is_behind_end n (AfterEnd line) h = cc
-is_behind_end n _ h = tt
+-- what the lines from line n on say, where the last token before them stands on an earlier line
+abbrev lines_from : (line n : ℕ) → Before → State → List (List ℕ) → Outcome Fault Draft
+lines_from line n before state ls = or_else (says line before state (sound_terminals (enumerate_from n ls))) (first_own_fault (enumerate_from n ls))
 
 -- what a line makes, and then those behind it
-line-read : (ls : List (List ℕ)) (n : ℕ) (taken : Taken) → EndsOn n taken
-    → ((after : Before) (next : State) → IsBehind (n + 1) next
-    → or_else (says after next (sound_terminals (enumerate_from (n + 1) ls))) (first_own_fault (enumerate_from (n + 1) ls)) ≡ read_from after next (enumerate_from (n + 1) ls))
-    → or_else (says_after taken (sound_terminals (enumerate_from (n + 1) ls))) (first_own_fault (enumerate_from (n + 1) ls))
+line-read : (ls : List (List ℕ)) (n : ℕ) (taken : Taken)
+    → ((after : Before) (next : State) → lines_from n (n + 1) after next ls ≡ read_from after next (enumerate_from (n + 1) ls))
+    → or_else (says_after n taken (sound_terminals (enumerate_from (n + 1) ls))) (first_own_fault (enumerate_from (n + 1) ls))
     ≡ elim taken as (λ _. Outcome Fault Draft) [
       | Goes after next ↦ read_from after next (enumerate_from (n + 1) ls)
-      | Ends all ↦ Finished all
-      | Refuses fault ↦ Refused fault
+      | Refuses kind ↦ Refused (fault_on_line n kind)
     ]
-line-read ls n (Goes after next) e later = later after next (behind-next n next e)
-line-read ls n (Ends all) e later = refl
-line-read ls n (Refuses fault) e later = refl
+line-read ls n (Goes after next) later = later after next
+line-read ls n (Refuses kind) later = refl
 
-pub lines-read : (ls : List (List ℕ)) (n : ℕ) (before : Before) (state : State) → IsBehind n state
-    → or_else (says before state (sound_terminals (enumerate_from n ls))) (first_own_fault (enumerate_from n ls)) ≡ read_from before state (enumerate_from n ls)
-lines-read [] n before state h = or_open (says before state []) ∙ nothing-says before state
-lines-read (l ∷ ls) n before state h = at (is_at_end state) refl (λ after next. lines-read ls (n + 1) after next)
+pub lines-read : (ls : List (List ℕ)) (line n : ℕ) (before : Before) (state : State) → line < n → lines_from line n before state ls ≡ read_from before state (enumerate_from n ls)
+lines-read [] line n before state h = or_open (says line before state []) ∙ nothing-says line before state
+lines-read (l ∷ ls) line n before state h = at (is_at_end state) refl (λ after next. lines-read ls n (n + 1) after next (omega arith))
   where
-    all_lines : List (ℕ × List ℕ)
-    all_lines = enumerate_from n (l ∷ ls)
-
     at : (b : Bool) → is_at_end state ≡ b
-        → ((after : Before) (next : State) → IsBehind (n + 1) next
-        → or_else (says after next (sound_terminals (enumerate_from (n + 1) ls))) (first_own_fault (enumerate_from (n + 1) ls)) ≡ read_from after next (enumerate_from (n + 1) ls))
-        → or_else (says before state (sound_terminals (enumerate_from n (l ∷ ls)))) (first_own_fault (enumerate_from n (l ∷ ls)))
+        → ((after : Before) (next : State) → lines_from n (n + 1) after next ls ≡ read_from after next (enumerate_from (n + 1) ls))
+        → lines_from line n before state (l ∷ ls)
         ≡ elim b as (λ _. Outcome Fault Draft) [
           | true ↦ Finished before.earlier
-          | false ↦ elim (take_line before state (n, l)) as (λ _. Outcome Fault Draft) [
+          | false ↦ elim (take_line before state l) as (λ _. Outcome Fault Draft) [
             | Goes after next ↦ read_from after next (enumerate_from (n + 1) ls)
-            | Ends all ↦ Finished all
-            | Refuses fault ↦ Refused fault
+            | Refuses kind ↦ Refused (fault_on_line n kind)
           ]
         ]
-    at true e later = ap (λ (o : Outcome Fault Draft). or_else o (first_own_fault (enumerate_from n (l ∷ ls)))) (after_end-says (l ∷ ls) n before state e h)
+    at true e later = ap (λ (o : Outcome Fault Draft). or_else o (first_own_fault (enumerate_from n (l ∷ ls)))) (after_end-says (l ∷ ls) line n before state e h)
     at false e later = by (own_fault l)
       where
         by : (o : Option FaultKind)
-            → or_else (says before state (elim o as (λ _. List TerminalAt) [
+            → or_else (says line before state (elim o as (λ _. List TerminalAt) [
               | Some kind ↦ []
               | None ↦ line_terminals (n, l) ++ sound_terminals (enumerate_from (n + 1) ls)
             ])) (elim o as (λ _. Outcome Fault Draft) [
@@ -171,18 +143,18 @@ lines-read (l ∷ ls) n before state h = at (is_at_end state) refl (λ after nex
               | None ↦ first_own_fault (enumerate_from (n + 1) ls)
             ])
             ≡ elim (elim o as (λ _. Taken) [
-              | Some kind ↦ Refuses (fault_on_line n kind)
-              | None ↦ take_all before state (line_terminals (n, l))
+              | Some kind ↦ Refuses kind
+              | None ↦ take_all before state (terminals l)
             ]) as (λ _. Outcome Fault Draft) [
               | Goes after next ↦ read_from after next (enumerate_from (n + 1) ls)
-              | Ends all ↦ Finished all
-              | Refuses fault ↦ Refused fault
+              | Refuses kind ↦ Refused (fault_on_line n kind)
             ]
-        by (Some kind) = ap (λ (o : Outcome Fault Draft). or_else o (Refused (fault_on_line n kind))) (not_at_end before state e)
+        by (Some kind) = ap (λ (o : Outcome Fault Draft). or_else o (Refused (fault_on_line n kind))) (not_at_end line before state e)
         by None =
-            ap (λ (o : Outcome Fault Draft). or_else o (first_own_fault (enumerate_from (n + 1) ls))) (all-say (line_terminals (n, l)) before state (sound_terminals (enumerate_from (n + 1) ls)))
-            ∙ line-read ls n (take_all before state (line_terminals (n, l))) (all-end n (tokens l) before state (is_behind_end n state e)) later
+            ap (λ (o : Outcome Fault Draft). or_else o (first_own_fault (enumerate_from (n + 1) ls)))
+            (line-says line n before state _ e ∙ all-say n (tokens l) before state (sound_terminals (enumerate_from (n + 1) ls)))
+            ∙ line-read ls n (take_all before state (terminals l)) later
 
 -- What a text says is what its lines say, read one after another.
 pub outcome-read : (bytes : List ℕ) → outcome bytes ≡ read_from start.before (Between AtStart) (numbered_lines bytes)
-outcome-read bytes = lines-read (lines bytes) 1 start.before (Between AtStart) tt
+outcome-read bytes = lines-read (lines bytes) 0 1 start.before (Between AtStart) (omega arith)

@@ -8,9 +8,10 @@ use Rattle.mpslp_types.specs.declared.faults.FaultKind.TheVariants.{BadToken, Mi
 use Rattle.mpslp_lp.specs.Rules.{◌>>=◌, next}
 use Rattle.mpslp_lp.specs.Terminal.{TerminalAt}
 use Rattle.mpslp_lp.specs.Terminal.Terminal.{Name, Compares, Free}
-use Rattle.mpslp_lp.specs.Point.{Before, Place}
+use Rattle.mpslp_lp.specs.Point.{Before}
+use Rattle.mpslp_lp.specs.declared.states.Place.{Place}
 use Rattle.mpslp_lp.specs.Phrase.{Rule, Follows, refuses, unless_refused}
-use Rattle.mpslp_lp.specs.Point.Place.{InBounds}
+use Rattle.mpslp_lp.specs.declared.states.Place.TheVariants.{InBounds}
 use Rattle.mpslp_lp.specs.Sides.{Side, Limits, limits_by, turned, fits_second, side, side_from, sense}
 use Rattle.mpslp_lp.specs.declared.relations.Relation.{Relation}
 

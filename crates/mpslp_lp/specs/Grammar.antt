@@ -11,9 +11,12 @@ use Rattle.mpslp_lp.specs.Rules.Step.{Ends}
 use Rattle.mpslp_lp.specs.Words.{section_of}
 use Rattle.mpslp_lp.specs.Terminal.{TerminalAt}
 use Rattle.mpslp_lp.specs.Terminal.Terminal.{Opens, Name, Sign, Compares}
-use Rattle.mpslp_lp.specs.Point.{Before, section_fault, opened_with, Place, Point, start}
+use Rattle.mpslp_lp.specs.Point.{Before, section_fault, opened_with, Point, start}
+use Rattle.mpslp_lp.specs.declared.states.Place.{Place}
 use Rattle.mpslp_lp.specs.Phrase.{Rule, Follows, fails, refuses, goes_to, declares}
-use Rattle.mpslp_lp.specs.Point.Place.{AtStart, BeforeItems, InObjective, BetweenRows, InRow, InBounds, InGenerals, InBinaries, InSemis}
+use Rattle.mpslp_lp.specs.declared.states.Place.TheVariants.{AtStart, BeforeItems, InObjective, BetweenRows, InRow, InBounds, InGenerals, InBinaries, InSemis}
+use Rattle.mpslp_lp.specs.declared.states.LastWord.{LastWord}
+use Rattle.mpslp_lp.specs.declared.states.LastWord.TheVariants.{To, That, Continuous}
 use Rattle.mpslp_lp.specs.Items.{signed_item, item_from}
 use Rattle.mpslp_lp.specs.Objective.{objective, objective_item}
 use Rattle.mpslp_lp.specs.Rows.{row, row_item, row_end}
@@ -28,17 +31,31 @@ abbrev pub line_end : Before → ℕ → Rule Follows
 line_end before line [] = Reads (Ends before.earlier) 0
 line_end before line (token ∷ tokens) = if token.line == line then refuses before token BadToken tokens else Reads (Ends before.earlier) 0
 
--- the last word of `subject to`, `such that` and `semi - continuous`, in upper case, lower case or both
-abbrev pub second_word : Before → List ℕ → Place → TerminalAt → Rule Follows
-second_word before wanted place token = elim token.terminal [
-  | Name word ↦ if same_bytes (map lower_byte word) wanted then goes_to before place [] else refuses before token BadToken
+-- the last word of a section's opening, and where it leads
+abbrev pub last_word_text : LastWord → List ℕ
+last_word_text To = codes "to"
+last_word_text That = codes "that"
+last_word_text Continuous = codes "continuous"
+
+abbrev pub opened_by : LastWord → Place
+opened_by To = BetweenRows
+opened_by That = BetweenRows
+opened_by Continuous = InSemis
+
+-- in upper case, lower case or both
+abbrev pub is_last_word : LastWord → List ℕ → Bool
+is_last_word wanted word = same_bytes (map lower_byte word) (last_word_text wanted)
+
+abbrev pub last_word : Before → LastWord → TerminalAt → Rule Follows
+last_word before wanted token = elim token.terminal [
+  | Name word ↦ if is_last_word wanted word then goes_to before (opened_by wanted) [] else refuses before token BadToken
   | _ ↦ refuses before token BadToken
 ]
 
 -- after `semi`: perhaps `- continuous`
 abbrev pub semi_from : Before → TerminalAt → Rule Follows
 semi_from before token = elim token.terminal [
-  | Sign minus ↦ if minus then (next >>= λ dash. next >>= second_word before (codes "continuous") InSemis) else goes_to before InSemis []
+  | Sign minus ↦ if minus then (next >>= λ dash. next >>= last_word before Continuous) else goes_to before InSemis []
   | _ ↦ goes_to before InSemis []
 ]
 
@@ -46,8 +63,8 @@ abbrev pub section_start : Before → TerminalAt → SectionWord → Rule Follow
 section_start before token Minimize = objective before senses.Minimize
 section_start before token Maximize = objective before senses.Maximize
 section_start before token Rows = goes_to before BetweenRows []
-section_start before token Subject = next >>= second_word before (codes "to") BetweenRows
-section_start before token Such = next >>= second_word before (codes "that") BetweenRows
+section_start before token Subject = next >>= last_word before To
+section_start before token Such = next >>= last_word before That
 section_start before token Bounds = goes_to before (InBounds None) []
 section_start before token Generals = goes_to before InGenerals []
 section_start before token Binaries = goes_to before InBinaries []

@@ -4,6 +4,7 @@ pub mod Scan
 pub mod Rules
 pub mod Words
 pub mod Terminal
+pub mod PartialRow
 pub mod Point
 pub mod Phrase
 pub mod Sides

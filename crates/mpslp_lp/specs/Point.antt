@@ -1,24 +1,15 @@
 -- Where in the text a phrase begins, and what stands before it.
-use Rattle.std.specs.Prelude.{ℕ, Bool, true, false, ◌||◌, not, List, Option, Some, None, if◌then◌else◌}
-use Rattle.mpslp_decimal.specs.Decimal.{Number}
+use Rattle.std.specs.Prelude.{Bool, true, false, ◌||◌, not, Option, Some, None, if◌then◌else◌}
 use Rattle.mpslp_builder.specs.Declaration.{Draft, empty_draft}
-use Rattle.mpslp_types.specs.declared.kinds.Limit.{Limit}
 use Rattle.mpslp_types.specs.declared.faults.FaultKind.{FaultKind}
 use Rattle.mpslp_types.specs.declared.faults.FaultKind.TheVariants.{SectionOrder, SectionRepeated}
-use Rattle.mpslp_lp.specs.declared.relations.Relation.{Relation}
+use Rattle.mpslp_lp.specs.declared.opened.Opened.{Opened}
+use Rattle.mpslp_lp.specs.declared.states.Place.{Place}
+use Rattle.mpslp_lp.specs.declared.states.Place.TheVariants.{AtStart}
 use Rattle.mpslp_lp.specs.declared.words.Section.{Section}
 use Rattle.mpslp_lp.specs.declared.words.Section.TheVariants.{Objective, Rows, Bounds, Generals, Binaries, SemiContinuous, End}
 
 -- ---- the sections that were opened
-
-pub record Opened : Type 0 where
-  pub objective : Bool
-  pub rows : Bool
-  pub bounds : Bool
-  pub generals : Bool
-  pub binaries : Bool
-  pub semis : Bool
-  pub end : Bool
 
 abbrev pub none_opened : Opened
 none_opened = record { objective = false; rows = false; bounds = false; generals = false; binaries = false; semis = false; end = false }
@@ -61,26 +52,6 @@ pub record Before : Type 0 where
   pub earlier : Draft
 
 -- ---- where a phrase begins
-
--- a row after its first term
-pub record PartialRow : Type 0 where
-  pub name : List ℕ
-  -- the left side and the sense after it, where there is one
-  pub left : Option (Limit × Relation)
-  pub terms : List (List ℕ × Number)
-
-pub data Place : Type 0 where
-  AtStart : Place
-  -- before the first item of the objective of this name, and after it
-  BeforeItems : (name : List ℕ) → Place
-  InObjective : (name : List ℕ) → Place
-  BetweenRows : Place
-  InRow : PartialRow → Place
-  -- after the column of a bound with a left side: this column and the sense before it
-  InBounds : Option (List ℕ × Relation) → Place
-  InGenerals : Place
-  InBinaries : Place
-  InSemis : Place
 
 pub record Point : Type 0 where
   pub place : Place

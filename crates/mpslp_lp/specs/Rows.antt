@@ -11,9 +11,10 @@ use Rattle.mpslp_types.specs.declared.faults.FaultKind.TheVariants.{BadToken, Du
 use Rattle.mpslp_lp.specs.Rules.{◌>>=◌, next, ahead}
 use Rattle.mpslp_lp.specs.Terminal.{TerminalAt}
 use Rattle.mpslp_lp.specs.Terminal.Terminal.{Name, Number, Sign, Compares, Infinity}
-use Rattle.mpslp_lp.specs.Point.{Before, PartialRow}
+use Rattle.mpslp_lp.specs.Point.{Before}
+use Rattle.mpslp_lp.specs.PartialRow.{PartialRow}
 use Rattle.mpslp_lp.specs.Phrase.{Rule, Follows, refuses, goes_to, declares}
-use Rattle.mpslp_lp.specs.Point.Place.{BetweenRows, InRow}
+use Rattle.mpslp_lp.specs.declared.states.Place.TheVariants.{BetweenRows, InRow}
 use Rattle.mpslp_lp.specs.Sides.{Side, Limits, limits_by, fits_second, infinity, side, sense}
 use Rattle.mpslp_lp.specs.Items.{Item, one, number_item, signed_item, item_from, colon}
 use Rattle.mpslp_lp.specs.Items.Item.{Term, Lone}

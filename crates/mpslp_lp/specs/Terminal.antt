@@ -42,6 +42,13 @@ terminal_of kinds.Plus text = Sign false
 terminal_of kinds.Minus text = Sign true
 terminal_of _ text = Other
 
+abbrev pub as_terminal : Token → Terminal
+as_terminal token = terminal_of token.kind token.text
+
+-- those of a line
+abbrev pub terminals : List ℕ → List Terminal
+terminals line = map as_terminal (tokens line)
+
 -- a terminal, and the number of its line
 pub record TerminalAt : Type 0 where
   pub line : ℕ

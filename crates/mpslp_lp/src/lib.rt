@@ -8,8 +8,11 @@
 #![tactic(auto)]
 
 pub mod laws;
+mod limits;
+mod opened;
 mod relations;
 mod scan;
+mod states;
 #[cfg(test)]
 mod tests;
 mod tokens;
