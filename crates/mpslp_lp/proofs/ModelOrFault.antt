@@ -1,0 +1,129 @@
+-- Bytes declare a model or have a first fault, and not both.
+use Rattle.std.proofs.Common.{◌≡◌, refl, sym, ap, subst, ◌∙◌, ℕ, List, [], ◌∷◌, true}
+use Rattle.std.specs.Prelude.{Option, Some, None, is_some}
+use Rattle.mpslp_core.specs.Model.{LinearModel}
+use Rattle.mpslp_builder.specs.Declaration.{Declaration, declare_sense, declare_objective, declare_constant, declare_row, declare_rhs, declare_range, declare_column, declare_coefficient, declare_lower, declare_upper, declare_marked, declare_integer, declare_binary, declare_semi, Draft, empty_draft, draft_of}
+use Rattle.mpslp_builder.specs.Meaning.{model_of, file_fault}
+use Rattle.mpslp_types.specs.declared.faults.Fault.{Fault}
+use Rattle.mpslp_types.specs.declared.faults.FaultKind.{FaultKind}
+use Rattle.std.specs.List.{list_all}
+use Rattle.mpslp_builder.specs.Made.{are_given, is_legal}
+use Rattle.mpslp_types.specs.Name.{is_lp_name}
+use Rattle.std.specs.Cmp.{first_so}
+use Rattle.mpslp_types.proofs.EachLemmas.{imp_all}
+use Rattle.mpslp_builder.proofs.Acceptance.{means-from_none}
+use Rattle.mpslp_builder.proofs.NoFaultFromMeaning.{no_fault-from_means}
+use Rattle.mpslp_lp.specs.Rules.{Outcome}
+use Rattle.mpslp_lp.specs.Rules.Outcome.{Finished, Refused, Open}
+use Rattle.mpslp_lp.specs.Point.{start}
+use Rattle.mpslp_reading.specs.LineAnswer.{fault_on_line}
+use Rattle.mpslp_lp.specs.Grammar.{text_says}
+use Rattle.mpslp_lp.specs.OwnFault.{own_fault}
+use Rattle.mpslp_lp.specs.LpText.{numbered_lines, sound_terminals, first_own_fault, or_else, outcome, is_finished, declarations_of, DeclaresLp}
+use Rattle.mpslp_lp.specs.FirstFault.{fault_of, first_lp_fault}
+use Rattle.mpslp_lp.specs.Laws.{has_lp_name, DeclareLpNames, DeclareOrFail, DeclareUnlessFaulty}
+use Rattle.mpslp_lp.proofs.SoundTokens.{text-sound}
+use Rattle.mpslp_reading.proofs.ObjectiveLemmas.{objective-declared}
+use Rattle.mpslp_lp.proofs.TextFacts.{IsDraftAtEnd, IsFineText, text-fine}
+use Rattle.mpslp_lp.proofs.PhraseFacts.{is_lp_legal, legal-from_lp}
+
+pub whole-fine : (bytes : List ℕ) → IsFineText empty_draft (declarations_of bytes) (text_says (sound_terminals (numbered_lines bytes)))
+whole-fine bytes = text-fine (sound_terminals (numbered_lines bytes)) 0 start (text-sound (numbered_lines bytes)) refl
+
+-- what is declared is legal, and its names are those of LP
+pub whole-legal : (bytes : List ℕ) → list_all is_legal (declarations_of bytes) ≡ true
+whole-legal bytes = imp_all is_lp_legal is_legal (declarations_of bytes) legal-from_lp (whole-fine bytes).legal
+
+-- no line that has a fault by itself makes text whole
+never_whole : (numbered : List (ℕ × List ℕ)) (all : Draft) → first_own_fault numbered ≡ Finished all → ⊥
+never_whole [] all h = cc
+never_whole (line ∷ more) all h = by (own_fault line.1) h (never_whole more all)
+  where
+    by : (o : Option FaultKind) → (elim o as (λ _. Outcome Fault Draft) [ Some kind ↦ Refused (fault_on_line line.0 kind) | None ↦ first_own_fault more ]) ≡ Finished all
+        → (first_own_fault more ≡ Finished all → ⊥) → ⊥
+    by (Some kind) e later = cc
+    by None e later = later e
+
+-- so the tokens make it whole
+whole-by_tokens : (bytes : List ℕ) (all : Draft) → outcome bytes ≡ Finished all → text_says (sound_terminals (numbered_lines bytes)) ≡ Finished all
+whole-by_tokens bytes all h = by (text_says (sound_terminals (numbered_lines bytes))) h
+  where
+    by : (o : Outcome Fault Draft) → or_else o (first_own_fault (numbered_lines bytes)) ≡ Finished all → o ≡ Finished all
+    by (Finished other) e = e
+    by (Refused fault) e = e
+    by Open e = absurd (never_whole (numbered_lines bytes) all e)
+
+pub record IsWhole (bytes : List ℕ) (all : Draft) : Type 0 where
+  pub draft : all ≡ draft_of (declarations_of bytes)
+  pub named : is_some all.objective ≡ true
+
+-- the draft that whole text ends with is that of its declarations
+pub whole-draft : (bytes : List ℕ) (all : Draft) → outcome bytes ≡ Finished all → IsWhole bytes all
+whole-draft bytes all h =
+    let end = subst (IsDraftAtEnd empty_draft (declarations_of bytes)) (whole-by_tokens bytes all h) (whole-fine bytes).draft in
+    record { draft = end.0; named = end.1 }
+
+-- ---- bytes without a fault
+
+pub declares-from_whole : (bytes : List ℕ) (all : Draft) → outcome bytes ≡ Finished all → file_fault all ≡ None → DeclaresLp bytes (model_of (draft_of (declarations_of bytes)))
+declares-from_whole bytes all h fault =
+    let whole = whole-draft bytes all h in
+    let fine = whole-fine bytes in
+    record {
+      text = ap is_finished h;
+      means = means-from_none (declarations_of bytes)
+          (objective-declared (declarations_of bytes) empty_draft (ap (λ (d : Draft). is_some d.objective) (sym whole.draft) ∙ whole.named))
+          (whole-legal bytes) fine.unrefused (ap file_fault (sym whole.draft) ∙ fault);
+    }
+
+pub declares-from_no_fault : (bytes : List ℕ) → first_lp_fault bytes ≡ None → DeclaresLp bytes (model_of (draft_of (declarations_of bytes)))
+declares-from_no_fault bytes h = by (outcome bytes) refl h
+  where
+    by : (o : Outcome Fault Draft) → outcome bytes ≡ o → fault_of o ≡ None → DeclaresLp bytes (model_of (draft_of (declarations_of bytes)))
+    by (Finished all) e f = declares-from_whole bytes all e f
+    by (Refused fault) e f = cc
+    by Open e f = cc
+
+pub model-unless_faulty : DeclareUnlessFaulty
+model-unless_faulty bytes none = (model_of (draft_of (declarations_of bytes)), declares-from_no_fault bytes (by (first_lp_fault bytes) refl))
+  where
+    by : (o : Option Fault) → first_lp_fault bytes ≡ o → first_lp_fault bytes ≡ None
+    by None e = e
+    by (Some fault) e = absurd (none fault e)
+
+-- ---- bytes that declare a model
+
+pub no_fault-from_declares : (bytes : List ℕ) (m : LinearModel) → DeclaresLp bytes m → first_lp_fault bytes ≡ None
+no_fault-from_declares bytes m declares = by (outcome bytes) refl declares.text
+  where
+    by : (o : Outcome Fault Draft) → outcome bytes ≡ o → is_finished o ≡ true → fault_of o ≡ None
+    by (Finished all) e t = ap file_fault (whole-draft bytes all e).draft ∙ no_fault-from_means (declarations_of bytes) m declares.means (whole-legal bytes)
+    by (Refused fault) e t = cc
+    by Open e t = cc
+
+none_is_not : (fault : Fault) → None ≡ Some fault → ⊥
+none_is_not fault e = cc
+
+pub model-or_fault : DeclareOrFail
+model-or_fault bytes m fault declares first = none_is_not fault (sym (no_fault-from_declares bytes m declares) ∙ first)
+
+-- ---- names
+
+named-from_lp : (d : Declaration) → is_lp_legal d ≡ true → has_lp_name d ≡ true
+named-from_lp (declare_sense s) h = refl
+named-from_lp (declare_objective name) h = h
+named-from_lp (declare_constant value) h = refl
+named-from_lp (declare_row name form) h = first_so (is_lp_name name) (are_given form) h
+named-from_lp (declare_rhs row value) h = refl
+named-from_lp (declare_range row value) h = refl
+named-from_lp (declare_column name) h = h
+named-from_lp (declare_coefficient place value) h = refl
+named-from_lp (declare_lower column limit) h = refl
+named-from_lp (declare_upper column limit) h = refl
+named-from_lp (declare_marked column) h = refl
+named-from_lp (declare_integer column) h = refl
+named-from_lp (declare_binary column) h = refl
+named-from_lp (declare_semi column) h = refl
+
+pub lp_names-declared : DeclareLpNames
+lp_names-declared bytes = imp_all is_lp_legal has_lp_name (declarations_of bytes) named-from_lp (whole-fine bytes).legal

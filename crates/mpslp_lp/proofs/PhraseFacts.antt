@@ -1,0 +1,712 @@
+-- What each phrase declares: legal declarations, of which none is refused after those before it.
+use Rattle.std.proofs.Common.{◌⊎◌, inl, inr, ◌≡◌, ◌≤◌, ◌<◌, refl, sym, ap, subst, ◌∙◌, ℕ, suc, ◌+◌, ◌-◌, ◌^◌, List, [], ◌∷◌, ◌++◌, Bool, true, false, not, length, arith, pos, negsuc, zero}
+use Rattle.std.specs.Prelude.{Option, Some, None, is_some, unwrap_or, ◌&&◌, ◌||◌, ◌==◌, if◌then◌else◌, min, nat_le}
+use Rattle.std.specs.List.{list_all, list_any, flat_map}
+use Rattle.std.specs.Option.{option_map_or}
+use Rattle.std.specs.Cmp.{first_so, second_so}
+use Rattle.std.specs.Fmt.{decimal}
+use Rattle.std.proofs.lemmas.List.Folds.{list_all-append}
+use Rattle.std.proofs.lemmas.Fmt.{length-decimal-le}
+use Rattle.std.proofs.lemmas.Bool.{le-leb}
+use Rattle.std.proofs.Math.Nat.{min-le_right}
+use Rattle.mpslp_decimal.specs.Decimal.{Number as Decimal, is_decimal, negated}
+use Rattle.mpslp_decimal.specs.Literal.{is_digit}
+use Rattle.mpslp_decimal.proofs.CutLemmas.{list_all-digits, decimal-spells}
+use Rattle.mpslp_types.specs.Name.{same_bytes, is_mps_name, is_lp_name, has_name_length, marker, is_letter, is_lp_symbol, is_lp_byte, begins_a_number, is_like_exponent, is_reserved}
+use Rattle.mpslp_types.proofs.EachLemmas.{imp_all}
+use Rattle.mpslp_types.proofs.NameLemmas.{mps_name-from_lp}
+use Rattle.mpslp_types.specs.Sides.{limit_of}
+use Rattle.mpslp_builder.specs.Declaration.{draft_of, Declaration, declare_sense, declare_objective, declare_constant, declare_row, declare_rhs, declare_range, declare_column, declare_coefficient, declare_lower, declare_upper, declare_marked, declare_integer, declare_binary, declare_semi, Declarations, Draft, empty_draft, adding_all, bounds_declared}
+use Rattle.mpslp_builder.specs.Refusal.{refusals_in_turn, bounds_refusals}
+use Rattle.mpslp_types.specs.Sides.{is_given}
+use Rattle.mpslp_builder.specs.Made.{are_given, is_legal}
+use Rattle.mpslp_types.specs.declared.kinds.Limit.{Limit}
+use Rattle.mpslp_types.specs.declared.kinds.Limit.TheVariants.{MinusInf, PlusInf}
+use Rattle.mpslp_types.specs.declared.kinds.Sense.{Sense}
+use Rattle.mpslp_types.specs.declared.kinds.Sense.TheVariants as senses
+use Rattle.mpslp_types.specs.declared.faults.BuildFault.{BuildFault}
+use Rattle.mpslp_types.specs.declared.faults.FaultKind.{FaultKind}
+use Rattle.mpslp_types.specs.declared.faults.FaultKind.TheVariants.{BadToken}
+use Rattle.mpslp_types.proofs.BoolLemmas.{both_so, or_left, or_right}
+use Rattle.mpslp_builder.proofs.MadeDrafts.{refusals_in_turn-append, bounds-in_turn}
+use Rattle.mpslp_builder.proofs.RefusalLemmas.{join_none}
+use Rattle.mpslp_reading.proofs.FieldLemmas.{limit-given}
+use Rattle.mpslp_reading.proofs.ObjectiveLemmas.{named-after}
+use Rattle.mpslp_lp.specs.Rules.{◌>>=◌, next, ahead}
+use Rattle.mpslp_lp.specs.Rules.Reading.{Reads}
+use Rattle.mpslp_lp.specs.Rules.Step.{Goes, Ends}
+use Rattle.mpslp_lp.specs.Words.{section_of}
+use Rattle.mpslp_lp.specs.Terminal.{Terminal, TerminalAt}
+use Rattle.mpslp_lp.specs.Terminal.Terminal.{Opens, Name, Number, Sign, Compares, Colon, Infinity, Free, Other}
+use Rattle.mpslp_lp.specs.Point.{Before, Point, start, opened_with, section_fault}
+use Rattle.mpslp_lp.specs.PartialRow.{PartialRow}
+use Rattle.mpslp_lp.specs.declared.states.Place.{Place}
+use Rattle.mpslp_lp.specs.declared.states.Place.TheVariants.{AtStart, BeforeItems, InObjective, BetweenRows, InRow, InBounds, InGenerals, InBinaries, InSemis}
+use Rattle.mpslp_lp.specs.Phrase.{Rule, Follows, fails, refuses, goes_to, unless_refused, declares}
+use Rattle.mpslp_lp.specs.declared.states.LastWord.{LastWord}
+use Rattle.mpslp_lp.specs.declared.states.LastWord.TheVariants.{To, That, Continuous}
+use Rattle.mpslp_lp.specs.Sides.{Side, Limits, signed, infinity, unsigned_side, side_from, side, sense, fits_second, limits_by, turned}
+use Rattle.mpslp_lp.specs.Items.{Item, one, product, number_item, signed_item, item_from, colon}
+use Rattle.mpslp_lp.specs.Items.Item.{Term, Lone}
+use Rattle.mpslp_lp.specs.Objective.{term_declared, objective_item, objective_declared, default_objective, first_item_declared, objective_named, objective_from, objective}
+use Rattle.mpslp_lp.specs.Rows.{default_row, without_terms, row_item, row_first, row_after_left, row_number, row_signed, row_from, row_named, row, fits_left, row_limits, row_declared, row_whole, row_end}
+use Rattle.mpslp_lp.specs.Bounds.{bounded, no_limits, bound_right, bound_after, bound_column, bound_left, bound, second_side}
+use Rattle.mpslp_lp.specs.Grammar.{line_end, opened_by, is_last_word, last_word, semi_from, section_start, section_from, may_begin_section, listed, phrase, phrase_at}
+use Rattle.mpslp_lp.specs.declared.relations.Relation.{Relation}
+use Rattle.mpslp_lp.specs.declared.relations.Relation.TheVariants.{AtMost, AtLeast, EqualTo}
+use Rattle.mpslp_lp.specs.declared.words.Section.TheVariants.{Objective}
+use Rattle.mpslp_lp.specs.declared.words.SectionWord.{SectionWord}
+use Rattle.mpslp_lp.specs.declared.words.SectionWord.TheVariants as words
+use Rattle.mpslp_lp.proofs.SoundTokens.{AreSound, IsSoundTerminal}
+use Rattle.mpslp_lp.proofs.RuleFacts.{Holds, Gives, passed, then-gives, IsSoundToken, next-gives, ahead-gives}
+
+-- ---- legal declarations, with names of LP
+
+abbrev pub is_lp_legal : Declaration → Bool
+is_lp_legal (declare_sense _) = true
+is_lp_legal (declare_objective name) = is_lp_name name
+is_lp_legal (declare_constant value) = is_decimal value
+is_lp_legal (declare_row name form) = is_lp_name name && are_given form
+is_lp_legal (declare_rhs row value) = is_decimal value
+is_lp_legal (declare_range row value) = is_decimal value
+is_lp_legal (declare_column name) = is_lp_name name
+is_lp_legal (declare_coefficient place value) = is_decimal value
+is_lp_legal (declare_lower column limit) = is_given limit
+is_lp_legal (declare_upper column limit) = is_given limit
+is_lp_legal _ = true
+
+-- so they are legal
+pub legal-from_lp : (d : Declaration) → is_lp_legal d ≡ true → is_legal d ≡ true
+legal-from_lp (declare_sense s) h = refl
+legal-from_lp (declare_objective name) h = mps_name-from_lp name h
+legal-from_lp (declare_constant value) h = h
+legal-from_lp (declare_row name form) h =
+    both_so (is_mps_name name) (are_given form) (mps_name-from_lp name (first_so (is_lp_name name) (are_given form) h)) (second_so (is_lp_name name) (are_given form) h)
+legal-from_lp (declare_rhs row value) h = h
+legal-from_lp (declare_range row value) h = h
+legal-from_lp (declare_column name) h = mps_name-from_lp name h
+legal-from_lp (declare_coefficient place value) h = h
+legal-from_lp (declare_lower column limit) h = h
+legal-from_lp (declare_upper column limit) h = h
+legal-from_lp (declare_marked column) h = refl
+legal-from_lp (declare_integer column) h = refl
+legal-from_lp (declare_binary column) h = refl
+legal-from_lp (declare_semi column) h = refl
+
+-- ---- sound values
+
+decimal-negated : (m e : _) → is_decimal (record { mantissa = m; exponent = e }) ≡ true → is_decimal (negated (record { mantissa = m; exponent = e })) ≡ true
+decimal-negated (pos zero) e h = h
+decimal-negated (pos (suc n)) e h = h
+decimal-negated (negsuc n) e h = h
+
+signed-decimal : (minus : Bool) (value : Decimal) → is_decimal value ≡ true → is_decimal (signed minus value) ≡ true
+signed-decimal true value h = decimal-negated value.mantissa value.exponent h
+signed-decimal false value h = h
+
+infinity-given : (minus : Bool) → is_given (infinity minus) ≡ true
+infinity-given true = refl
+infinity-given false = refl
+
+abbrev IsSoundSide : Side → Type 0
+IsSoundSide side = is_given side.limit ≡ true
+
+abbrev pub IsGiven : Option Limit → Type 0
+IsGiven o = option_map_or is_given o true ≡ true
+
+abbrev AreGiven : Limits → Type 0
+AreGiven limits = IsGiven limits.lower × IsGiven limits.upper
+
+limits_by-given : (relation : Relation) (limit : Limit) → is_given limit ≡ true → AreGiven (limits_by relation limit)
+limits_by-given AtMost limit h = (refl, h)
+limits_by-given AtLeast limit h = (h, refl)
+limits_by-given EqualTo limit h = (h, h)
+
+abbrev is_sound_term : List ℕ × Decimal → Bool
+is_sound_term term = is_lp_name term.0 && is_decimal term.1
+
+abbrev is_sound_left : Option (Limit × Relation) → Bool
+is_sound_left left = option_map_or (λ (l : Limit × Relation). is_given l.0) left true
+
+pub record IsSoundRow (row : PartialRow) : Type 0 where
+  pub name : is_lp_name row.name ≡ true
+  pub left : is_sound_left row.left ≡ true
+  pub terms : list_all is_sound_term row.terms ≡ true
+
+abbrev IsSoundItem : Item → Type 0
+IsSoundItem (Term value column token) = (is_decimal value ≡ true) × (is_lp_name column ≡ true)
+IsSoundItem (Lone value token) = is_decimal value ≡ true
+
+-- ---- sound points
+
+abbrev pub IsNamed : Before → Type 0
+IsNamed before = (is_some before.earlier.objective ≡ true) × (before.opened.objective ≡ true)
+
+-- before anything was read there is nothing; later the objective has its name
+abbrev pub IsSoundPoint : Point → Type 0
+IsSoundPoint point = at point.place
+  where
+    at : Place → Type 0
+    at AtStart = point ≡ start
+    at (BeforeItems name) = IsNamed point.before
+    at (InObjective name) = IsNamed point.before
+    at BetweenRows = IsNamed point.before
+    at (InRow row) = IsNamed point.before × IsSoundRow row
+    at (InBounds left) = IsNamed point.before
+    at InGenerals = IsNamed point.before
+    at InBinaries = IsNamed point.before
+    at InSemis = IsNamed point.before
+
+pub record IsFineGoing (earlier : Draft) (after : Point) (made : Declarations) : Type 0 where
+  pub drafts : after.before.earlier ≡ adding_all earlier made
+  pub unrefused : refusals_in_turn earlier made ≡ []
+  pub legal : list_all is_lp_legal made ≡ true
+  pub sound : IsSoundPoint after
+
+abbrev pub IsFine : Draft → Follows → Type 0
+IsFine earlier (Goes after made) = IsFineGoing earlier after made
+IsFine earlier (Ends all) = (all ≡ earlier) × (is_some earlier.objective ≡ true)
+
+-- ---- what follows a phrase
+
+-- a place that asks nothing of what stands before but the objective's name
+abbrev IsPlain : Place → Type 0
+IsPlain place = (before : Before) → IsNamed before → IsSoundPoint (record { place = place; before = before })
+
+in_row-plain : (row : PartialRow) → IsSoundRow row → IsPlain (InRow row)
+in_row-plain row h before named = (named, h)
+
+goes-fine : (before : Before) (place : Place) (made : Declarations) → IsNamed before → IsPlain place → refusals_in_turn before.earlier made ≡ [] → list_all is_lp_legal made ≡ true
+    → Gives (IsFine before.earlier) (goes_to before place made)
+goes-fine before place made named plain unrefused legal tokens sound = record {
+  drafts = refl;
+  unrefused = unrefused;
+  legal = legal;
+  sound = plain (record before { earlier = adding_all before.earlier made }) (named-after made before.earlier named.0, named.1);
+}
+
+nothing-fine : (before : Before) (place : Place) → IsNamed before → IsPlain place → Gives (IsFine before.earlier) (goes_to before place [])
+nothing-fine before place named plain = goes-fine before place [] named plain refl refl
+
+refuses-fine : (before : Before) (token : TerminalAt) (kind : FaultKind) → Gives (IsFine before.earlier) (refuses before token kind)
+refuses-fine before token kind tokens sound = tt
+
+unless_refused-fine : (before : Before) (token : TerminalAt) (refusals : List BuildFault) (place : Place) (made : Declarations) → IsNamed before → IsPlain place
+    → (refusals ≡ [] → refusals_in_turn before.earlier made ≡ []) → list_all is_lp_legal made ≡ true → Gives (IsFine before.earlier) (unless_refused before token refusals place made)
+unless_refused-fine before token [] place made named plain unrefused legal = goes-fine before place made named plain (unrefused refl) legal
+unless_refused-fine before token (refusal ∷ more) place made named plain unrefused legal = λ tokens sound. tt
+
+declares-fine : (before : Before) (token : TerminalAt) (place : Place) (made : Declarations) → IsNamed before → IsPlain place → list_all is_lp_legal made ≡ true
+    → Gives (IsFine before.earlier) (declares before token place made)
+declares-fine before token place made named plain legal =
+    unless_refused-fine before token (refusals_in_turn before.earlier made) place made named plain (λ e. e) legal
+
+either-fine : (before : Before) (b : Bool) (r s : Rule Follows) → Gives (IsFine before.earlier) r → Gives (IsFine before.earlier) s → Gives (IsFine before.earlier) (if b then r else s)
+either-fine before true r s h k = h
+either-fine before false r s h k = k
+
+-- ---- items
+
+number-gives : (minus : Bool) (value : Decimal) → is_decimal value ≡ true → Gives IsSoundItem (number_item minus value)
+number-gives minus value h [] sound = tt
+number-gives minus value h (token ∷ tokens) sound = by token.line token.terminal sound.0
+  where
+    by : (line : ℕ) (terminal : Terminal) → IsSoundTerminal terminal → Holds IsSoundItem (number_item minus value (record { line = line; terminal = terminal } ∷ tokens))
+    by line (Name column) name = (signed-decimal minus value h, name)
+    by line (Opens word) s = signed-decimal minus value h
+    by line (Number other) s = signed-decimal minus value h
+    by line (Sign other) s = signed-decimal minus value h
+    by line (Compares relation) s = signed-decimal minus value h
+    by line Colon s = signed-decimal minus value h
+    by line Infinity s = signed-decimal minus value h
+    by line Free s = signed-decimal minus value h
+    by line Other s = signed-decimal minus value h
+
+signed_item-gives : (before : Before) (tokens : List TerminalAt) (minus : Bool) → AreSound tokens → Holds IsSoundItem (signed_item before minus tokens)
+signed_item-gives before [] minus sound = tt
+signed_item-gives before (token ∷ tokens) minus sound = by token.line token.terminal sound.0 (λ m. signed_item-gives before tokens m sound.1)
+  where
+    by : (line : ℕ) (terminal : Terminal) → IsSoundTerminal terminal → ((m : Bool) → Holds IsSoundItem (signed_item before m tokens))
+        → Holds IsSoundItem (signed_item before minus (record { line = line; terminal = terminal } ∷ tokens))
+    by line (Sign more) s later = passed IsSoundItem (signed_item before (product minus more) tokens) (later (product minus more))
+    by line (Name column) s later = (signed-decimal minus one refl, s)
+    by line (Number value) s later = passed IsSoundItem (number_item minus value tokens) (number-gives minus value s tokens sound.1)
+    by line _ s later = tt
+
+item-gives : (before : Before) (line : ℕ) (terminal : Terminal) → IsSoundTerminal terminal → Gives IsSoundItem (item_from before (record { line = line; terminal = terminal }))
+item-gives before line (Sign minus) s = λ tokens sound. signed_item-gives before tokens minus sound
+item-gives before line (Name column) s = λ tokens sound. (refl, s)
+item-gives before line (Number value) s = number-gives false value s
+item-gives before line _ s = λ tokens sound. tt
+
+-- ---- the objective
+
+term-legal : (row : List ℕ) (term : List ℕ × Decimal) → is_sound_term term ≡ true → list_all is_lp_legal (term_declared row term) ≡ true
+term-legal row term h =
+    both_so (is_lp_name term.0) (is_decimal term.1 && true) (first_so (is_lp_name term.0) (is_decimal term.1) h)
+    (both_so (is_decimal term.1) true (second_so (is_lp_name term.0) (is_decimal term.1) h) refl)
+
+objective_item-fine : (before : Before) (name : List ℕ) (item : Item) → IsNamed before → IsSoundItem item → Gives (IsFine before.earlier) (objective_item before name item)
+objective_item-fine before name (Term value column token) named h =
+    declares-fine before token (InObjective name) (term_declared name (column, value)) named (λ b n. n) (term-legal name (column, value) (both_so (is_lp_name column) (is_decimal value) h.1 h.0))
+objective_item-fine before name (Lone value token) named h = by token.line token.terminal
+  where
+    by : (line : ℕ) (terminal : Terminal) → Gives (IsFine before.earlier) (objective_item before name (Lone value (record { line = line; terminal = terminal })))
+    by line (Sign minus) = declares-fine before (record { line = line; terminal = Sign minus }) (InObjective name) (declare_constant value ∷ []) named (λ b n. n) (both_so (is_decimal value) true h refl)
+    by line (Opens word) = declares-fine before (record { line = line; terminal = Opens word }) (InObjective name) (declare_constant value ∷ []) named (λ b n. n) (both_so (is_decimal value) true h refl)
+    by line _ = λ tokens sound. tt
+
+-- ---- rows
+
+terms-legal : (row : List ℕ) (terms : List (List ℕ × Decimal)) → list_all is_sound_term terms ≡ true → list_all is_lp_legal (flat_map (term_declared row) terms) ≡ true
+terms-legal row [] h = refl
+terms-legal row (term ∷ terms) h =
+    list_all-append is_lp_legal (term_declared row term) (flat_map (term_declared row) terms)
+    ∙ both_so (list_all is_lp_legal (term_declared row term)) (list_all is_lp_legal (flat_map (term_declared row) terms))
+    (term-legal row term (first_so (is_sound_term term) (list_all is_sound_term terms) h)) (terms-legal row terms (second_so (is_sound_term term) (list_all is_sound_term terms) h))
+
+row_item-fine : (before : Before) (row : PartialRow) (item : Item) → IsNamed before → IsSoundRow row → IsSoundItem item → Gives (IsFine before.earlier) (row_item before row item)
+row_item-fine before row (Term value column token) named r h =
+    let more : PartialRow = record row { terms = row.terms ++ (column, value) ∷ [] } in
+    either-fine before (list_any (λ term. same_bytes term.0 column) row.terms) _ _ (λ tokens sound. tt)
+    (nothing-fine before (InRow more) named (in_row-plain more (record {
+      name = r.name;
+      left = r.left;
+      terms = list_all-append is_sound_term row.terms ((column, value) ∷ [])
+          ∙ both_so (list_all is_sound_term row.terms) (list_all is_sound_term ((column, value) ∷ [])) r.terms
+          (both_so (is_lp_name column && is_decimal value) true (both_so (is_lp_name column) (is_decimal value) h.1 h.0) refl);
+    })))
+row_item-fine before row (Lone value token) named r h = by token.line token.terminal
+  where
+    by : (line : ℕ) (terminal : Terminal) → Gives (IsFine before.earlier) (row_item before row (Lone value (record { line = line; terminal = terminal })))
+    by line (Sign minus) = λ tokens sound. tt
+    by line (Compares relation) = λ tokens sound. tt
+    by line _ = λ tokens sound. tt
+
+without-sound : (name : List ℕ) (left : Option (Limit × Relation)) → is_lp_name name ≡ true → is_sound_left left ≡ true → IsSoundRow (without_terms name left)
+without-sound name left h k = record { name = h; left = k; terms = refl }
+
+sense-gives : (before : Before) → Gives (λ (relation : Relation). Unit {0}) (sense before)
+sense-gives before [] sound = tt
+sense-gives before (token ∷ tokens) sound = by token.line token.terminal
+  where
+    by : (line : ℕ) (terminal : Terminal) → Holds (λ (relation : Relation). Unit {0}) (sense before (record { line = line; terminal = terminal } ∷ tokens))
+    by line (Compares relation) = tt
+    by line _ = tt
+
+row_first-fine : (before : Before) (row : PartialRow) (token : TerminalAt) → IsNamed before → IsSoundRow row → IsSoundToken token → Gives (IsFine before.earlier) (row_first before row token)
+row_first-fine before row token named r s =
+    then-gives IsSoundItem (IsFine before.earlier) (item_from before token) (row_item before row) (item-gives before token.line token.terminal s) (λ item h. row_item-fine before row item named r h)
+
+row_left-fine : (before : Before) (name : List ℕ) (limit : Limit) → IsNamed before → is_lp_name name ≡ true → is_given limit ≡ true → Gives (IsFine before.earlier) (row_after_left before name limit)
+row_left-fine before name limit named h g =
+    then-gives (λ (relation : Relation). Unit {0}) (IsFine before.earlier) (sense before) (λ relation. next >>= row_first before (without_terms name (Some (limit, relation)))) (sense-gives before)
+    (λ relation u. then-gives IsSoundToken (IsFine before.earlier) next (row_first before (without_terms name (Some (limit, relation)))) next-gives
+    (λ token s. row_first-fine before (without_terms name (Some (limit, relation))) token named (without-sound name (Some (limit, relation)) h g) s))
+
+row_number-fine : (before : Before) (name : List ℕ) (item : Item) → IsNamed before → is_lp_name name ≡ true → IsSoundItem item → Gives (IsFine before.earlier) (row_number before name item)
+row_number-fine before name (Term value column token) named h s = row_item-fine before (without_terms name None) (Term value column token) named (without-sound name None h refl) s
+row_number-fine before name (Lone value token) named h s = by token.line token.terminal
+  where
+    by : (line : ℕ) (terminal : Terminal) → Gives (IsFine before.earlier) (row_number before name (Lone value (record { line = line; terminal = terminal })))
+    by line (Compares relation) = row_left-fine before name (limit_of value) named h (limit-given value s)
+    by line (Sign minus) = λ tokens sound. tt
+    by line _ = λ tokens sound. tt
+
+digit-lp : (b : ℕ) → is_digit b ≡ true → is_lp_byte b ≡ true
+digit-lp b h = or_right (is_letter b) (is_digit b || is_lp_symbol b) (or_left (is_digit b) (is_lp_symbol b) h)
+
+-- `c` and a position is a name
+default_row-name : (before : Before) → is_lp_name (default_row before) ≡ true
+default_row-name before =
+    let position = min (length before.earlier.rows + 1) (2 ^ 64 - 1) in
+    let fits : position < 2 ^ 64 = omega (arith, min-le_right (length before.earlier.rows + 1) (2 ^ 64 - 1)) in
+    named (decimal position) (length-decimal-le 20 position (omega arith) (omega (arith, fits)) fits)
+    (imp_all is_digit is_lp_byte (decimal position) digit-lp (list_all-digits (decimal position) (decimal-spells position (omega (arith, fits))).digits))
+  where
+    exponent : (ds : List ℕ) → not (is_like_exponent (99 ∷ ds)) ≡ true
+    exponent [] = refl
+    exponent (d ∷ ds) = refl
+
+    named : (ds : List ℕ) → length ds ≤ 20 → list_all is_lp_byte ds ≡ true → is_lp_name (99 ∷ ds) ≡ true
+    named ds short bytes =
+        let some : nat_le 1 (length (99 ∷ ds)) ≡ true = le-leb 1 (length (99 ∷ ds)) (omega arith) in
+        let few : nat_le (length (99 ∷ ds)) 255 ≡ true = le-leb (length (99 ∷ ds)) 255 (omega (arith, short)) in
+        let size : has_name_length (99 ∷ ds) ≡ true = both_so (nat_le 1 (length (99 ∷ ds))) (nat_le (length (99 ∷ ds)) 255) some few in
+        let t4 = not (same_bytes (99 ∷ ds) marker) && not (is_reserved (99 ∷ ds)) in
+        let t3 = not (is_like_exponent (99 ∷ ds)) && t4 in
+        let t2 = not (begins_a_number (99 ∷ ds)) && t3 in
+        both_so (has_name_length (99 ∷ ds)) (list_all is_lp_byte (99 ∷ ds) && t2) size
+        (both_so (list_all is_lp_byte (99 ∷ ds)) t2 bytes (both_so (not (is_like_exponent (99 ∷ ds))) t4 (exponent ds) refl))
+
+row_signed-fine : (before : Before) (name : List ℕ) (minus : Bool) (second : TerminalAt) → IsNamed before → is_lp_name name ≡ true → IsSoundToken second → Gives (IsFine before.earlier) (row_signed before name minus second)
+row_signed-fine before name minus second named h s = by second.line second.terminal s
+  where
+    items : Gives (IsFine before.earlier) (signed_item before minus >>= row_item before (without_terms name None))
+    items = then-gives IsSoundItem (IsFine before.earlier) (signed_item before minus) (row_item before (without_terms name None)) (λ tokens sound. signed_item-gives before tokens minus sound)
+        (λ item i. row_item-fine before (without_terms name None) item named (without-sound name None h refl) i)
+
+    by : (line : ℕ) (terminal : Terminal) → IsSoundTerminal terminal → Gives (IsFine before.earlier) (row_signed before name minus (record { line = line; terminal = terminal }))
+    by line Infinity s = then-gives IsSoundToken (IsFine before.earlier) next (λ word. row_after_left before name (infinity minus)) next-gives (λ word w. row_left-fine before name (infinity minus) named h (infinity-given minus))
+    by line (Number value) s =
+        then-gives IsSoundToken (IsFine before.earlier) next (λ number. number_item minus value >>= row_number before name) next-gives
+        (λ number w. then-gives IsSoundItem (IsFine before.earlier) (number_item minus value) (row_number before name) (number-gives minus value s) (λ item i. row_number-fine before name item named h i))
+    by line (Opens word) s = items
+    by line (Name column) s = items
+    by line (Sign more) s = items
+    by line (Compares relation) s = items
+    by line Colon s = items
+    by line Free s = items
+    by line Other s = items
+
+row_from-fine : (before : Before) (name : List ℕ) (line : ℕ) (terminal : Terminal) → IsNamed before → is_lp_name name ≡ true → IsSoundTerminal terminal
+    → Gives (IsFine before.earlier) (row_from before name (record { line = line; terminal = terminal }))
+row_from-fine before name line Infinity named h s = row_left-fine before name PlusInf named h refl
+row_from-fine before name line (Number value) named h s =
+    then-gives IsSoundItem (IsFine before.earlier) (number_item false value) (row_number before name) (number-gives false value s) (λ item i. row_number-fine before name item named h i)
+row_from-fine before name line (Name column) named h s =
+    row_item-fine before (without_terms name None) (Term one column (record { line = line; terminal = Name column })) named (without-sound name None h refl) (refl, s)
+row_from-fine before name line (Sign minus) named h s =
+    then-gives IsSoundToken (IsFine before.earlier) ahead (row_signed before name minus) ahead-gives (λ second t. row_signed-fine before name minus second named h t)
+row_from-fine before name line _ named h s = λ tokens sound. tt
+
+colon-gives : Gives (λ (labelled : Bool). Unit {0}) colon
+colon-gives [] sound = tt
+colon-gives (token ∷ tokens) sound = by token.line token.terminal
+  where
+    by : (line : ℕ) (terminal : Terminal) → Holds (λ (labelled : Bool). Unit {0}) (colon (record { line = line; terminal = terminal } ∷ tokens))
+    by line Colon = tt
+    by line _ = tt
+
+row_named-fine : (before : Before) (name : List ℕ) (labelled : Bool) → IsNamed before → is_lp_name name ≡ true → Gives (IsFine before.earlier) (row_named before name labelled)
+row_named-fine before name labelled named h =
+    let row : PartialRow = record { name = default_row before; left = None; terms = (name, one) ∷ [] } in
+    either-fine before labelled _ _
+    (then-gives IsSoundToken (IsFine before.earlier) next (row_from before name) next-gives (λ token s. row_from-fine before name token.line token.terminal named h s))
+    (nothing-fine before (InRow row) named (in_row-plain row (record { name = default_row-name before; left = refl; terms = both_so (is_lp_name name && is_decimal one) true (both_so (is_lp_name name) true h refl) refl })))
+
+row-fine : (before : Before) (line : ℕ) (terminal : Terminal) → IsNamed before → IsSoundTerminal terminal → Gives (IsFine before.earlier) (row before (record { line = line; terminal = terminal }))
+row-fine before line (Name name) named s = then-gives (λ (labelled : Bool). Unit {0}) (IsFine before.earlier) colon (row_named before name) colon-gives (λ labelled u. row_named-fine before name labelled named s)
+row-fine before line (Opens word) named s = row_from-fine before (default_row before) line (Opens word) named (default_row-name before) s
+row-fine before line (Number value) named s = row_from-fine before (default_row before) line (Number value) named (default_row-name before) s
+row-fine before line (Sign minus) named s = row_from-fine before (default_row before) line (Sign minus) named (default_row-name before) s
+row-fine before line (Compares relation) named s = row_from-fine before (default_row before) line (Compares relation) named (default_row-name before) s
+row-fine before line Colon named s = row_from-fine before (default_row before) line Colon named (default_row-name before) s
+row-fine before line Infinity named s = row_from-fine before (default_row before) line Infinity named (default_row-name before) s
+row-fine before line Free named s = row_from-fine before (default_row before) line Free named (default_row-name before) s
+row-fine before line Other named s = row_from-fine before (default_row before) line Other named (default_row-name before) s
+
+-- ---- sides
+
+unsigned_side-gives : (before : Before) (minus : Bool) (token : TerminalAt) → IsSoundToken token → Gives IsSoundSide (unsigned_side before minus token)
+unsigned_side-gives before minus token s = by token.line token.terminal s
+  where
+    by : (line : ℕ) (terminal : Terminal) → IsSoundTerminal terminal → Gives IsSoundSide (unsigned_side before minus (record { line = line; terminal = terminal }))
+    by line (Number value) s = λ tokens sound. limit-given (signed minus value) (signed-decimal minus value s)
+    by line Infinity s = λ tokens sound. infinity-given minus
+    by line _ s = λ tokens sound. tt
+
+side_from-gives : (before : Before) (token : TerminalAt) → IsSoundToken token → Gives IsSoundSide (side_from before token)
+side_from-gives before token s = by token.line token.terminal s
+  where
+    by : (line : ℕ) (terminal : Terminal) → IsSoundTerminal terminal → Gives IsSoundSide (side_from before (record { line = line; terminal = terminal }))
+    by line (Sign minus) s = then-gives IsSoundToken IsSoundSide next (λ second. unsigned_side before minus second) next-gives (λ second t. unsigned_side-gives before minus second t)
+    by line (Number value) s = unsigned_side-gives before false (record { line = line; terminal = Number value }) s
+    by line Infinity s = unsigned_side-gives before false (record { line = line; terminal = Infinity }) s
+    by line _ s = λ tokens sound. tt
+
+side-gives : (before : Before) → Gives IsSoundSide (side before)
+side-gives before = then-gives IsSoundToken IsSoundSide next (side_from before) next-gives (λ token s. side_from-gives before token s)
+
+limits-legal : (left : Option (Limit × Relation)) (relation : Relation) (limit : Limit) → is_sound_left left ≡ true → is_given limit ≡ true → AreGiven (row_limits left relation limit)
+limits-legal None relation limit h k = limits_by-given relation limit k
+limits-legal (Some left) AtMost limit h k = (h, k)
+limits-legal (Some left) AtLeast limit h k = (k, h)
+limits-legal (Some left) EqualTo limit h k = (k, h)
+
+lower-given : (o : Option Limit) → IsGiven o → is_given (unwrap_or o MinusInf) ≡ true
+lower-given None h = refl
+lower-given (Some limit) h = h
+
+upper-given : (o : Option Limit) → IsGiven o → is_given (unwrap_or o PlusInf) ≡ true
+upper-given None h = refl
+upper-given (Some limit) h = h
+
+row_whole-fine : (before : Before) (row : PartialRow) (relation : Relation) (right : Side) → IsNamed before → IsSoundRow row → IsSoundSide right → Gives (IsFine before.earlier) (row_whole before row relation right)
+row_whole-fine before row relation right named r h =
+    let limits = row_limits row.left relation right.limit in
+    let given = limits-legal row.left relation right.limit r.left h in
+    let lower = unwrap_or limits.lower MinusInf in
+    let upper = unwrap_or limits.upper PlusInf in
+    let terms = flat_map (term_declared row.name) row.terms in
+    declares-fine before right.last BetweenRows (row_declared row limits) named (λ b n. n)
+    (both_so (is_lp_name row.name && (is_given lower && is_given upper)) (list_all is_lp_legal terms)
+    (both_so (is_lp_name row.name) (is_given lower && is_given upper) r.name (both_so (is_given lower) (is_given upper) (lower-given limits.lower given.0) (upper-given limits.upper given.1)))
+    (terms-legal row.name row.terms r.terms))
+
+row_end-fine : (before : Before) (row : PartialRow) (relation : Relation) (token : TerminalAt) → IsNamed before → IsSoundRow row → Gives (IsFine before.earlier) (row_end before row relation token)
+row_end-fine before row relation token named r =
+    either-fine before (fits_left row.left relation) _ _
+    (then-gives IsSoundSide (IsFine before.earlier) (side before) (row_whole before row relation) (side-gives before) (λ right h. row_whole-fine before row relation right named r h))
+    (λ tokens sound. tt)
+
+-- ---- bounds
+
+sides-legal : (column : List ℕ) (lower upper : Option Limit) → IsGiven lower → IsGiven upper → list_all is_lp_legal (bounds_declared column lower upper) ≡ true
+sides-legal column None None h k = refl
+sides-legal column (Some l) None h k = both_so (is_given l) true h refl
+sides-legal column None (Some u) h k = both_so (is_given u) true k refl
+sides-legal column (Some l) (Some u) h k = both_so (is_given l) (is_given u && true) h (both_so (is_given u) true k refl)
+
+-- declarations that are not refused come before, and the place asks nothing
+bounded-fine : (before : Before) (front : Declarations) (column : List ℕ) (limits : Limits) (last : TerminalAt) (place : Place) → IsNamed before → IsPlain place
+    → refusals_in_turn before.earlier front ≡ [] → list_all is_lp_legal front ≡ true → AreGiven limits → Gives (IsFine before.earlier) (bounded before front column limits last place)
+bounded-fine before front column limits last place named plain unrefused legal given =
+    let sides = bounds_declared column limits.lower limits.upper in
+    let middle = adding_all before.earlier front in
+    unless_refused-fine before last (bounds_refusals middle column limits.lower limits.upper) place (front ++ sides) named plain
+    (λ e. refusals_in_turn-append front sides before.earlier
+    ∙ join_none (refusals_in_turn before.earlier front) (refusals_in_turn middle sides) unrefused (bounds-in_turn middle column limits.lower limits.upper e))
+    (list_all-append is_lp_legal front sides ∙ both_so (list_all is_lp_legal front) (list_all is_lp_legal sides) legal (sides-legal column limits.lower limits.upper given.0 given.1))
+
+column-legal : (column : List ℕ) → is_lp_name column ≡ true → list_all is_lp_legal (declare_column column ∷ []) ≡ true
+column-legal column h = both_so (is_lp_name column) true h refl
+
+bound_after-fine : (before : Before) (column : List ℕ) (token : TerminalAt) → IsNamed before → is_lp_name column ≡ true → Gives (IsFine before.earlier) (bound_after before column token)
+bound_after-fine before column token named h = by token.line token.terminal
+  where
+    by : (line : ℕ) (terminal : Terminal) → Gives (IsFine before.earlier) (bound_after before column (record { line = line; terminal = terminal }))
+    by line Free = bounded-fine before (declare_column column ∷ []) column no_limits (record { line = line; terminal = Free }) (InBounds None) named (λ b n. n) refl (column-legal column h) (refl, refl)
+    by line (Compares relation) =
+        then-gives IsSoundSide (IsFine before.earlier) (side before) (bound_right before (declare_column column ∷ []) column relation) (side-gives before)
+        (λ right s. bounded-fine before (declare_column column ∷ []) column (limits_by relation right.limit) right.last (InBounds None) named (λ b n. n) refl (column-legal column h) (limits_by-given relation right.limit s))
+    by line _ = λ tokens sound. tt
+
+bound_column-fine : (before : Before) (limit : Limit) (relation : Relation) (token : TerminalAt) → IsNamed before → is_given limit ≡ true → IsSoundToken token → Gives (IsFine before.earlier) (bound_column before limit relation token)
+bound_column-fine before limit relation token named g s = by token.line token.terminal s
+  where
+    by : (line : ℕ) (terminal : Terminal) → IsSoundTerminal terminal → Gives (IsFine before.earlier) (bound_column before limit relation (record { line = line; terminal = terminal }))
+    by line (Name column) h =
+        bounded-fine before (declare_column column ∷ []) column (limits_by (turned relation) limit) (record { line = line; terminal = Name column }) (InBounds (Some (column, relation)))
+        named (λ b n. n) refl (column-legal column h) (limits_by-given (turned relation) limit g)
+    by line _ h = λ tokens sound. tt
+
+bound_left-fine : (before : Before) (left : Side) → IsNamed before → IsSoundSide left → Gives (IsFine before.earlier) (bound_left before left)
+bound_left-fine before left named h =
+    then-gives (λ (relation : Relation). Unit {0}) (IsFine before.earlier) (sense before) (λ relation. next >>= bound_column before left.limit relation) (sense-gives before)
+    (λ relation u. then-gives IsSoundToken (IsFine before.earlier) next (bound_column before left.limit relation) next-gives (λ token s. bound_column-fine before left.limit relation token named h s))
+
+bound-fine : (before : Before) (line : ℕ) (terminal : Terminal) → IsNamed before → IsSoundTerminal terminal → Gives (IsFine before.earlier) (bound before (record { line = line; terminal = terminal }))
+bound-fine before line terminal named s = by terminal s
+  where
+    sided : (t : Terminal) → IsSoundTerminal t → Gives (IsFine before.earlier) (side_from before (record { line = line; terminal = t }) >>= bound_left before)
+    sided t s = then-gives IsSoundSide (IsFine before.earlier) (side_from before (record { line = line; terminal = t })) (bound_left before) (side_from-gives before (record { line = line; terminal = t }) s) (λ left h. bound_left-fine before left named h)
+
+    by : (t : Terminal) → IsSoundTerminal t → Gives (IsFine before.earlier) (bound before (record { line = line; terminal = t }))
+    by (Name column) s = then-gives IsSoundToken (IsFine before.earlier) next (bound_after before column) next-gives (λ token h. bound_after-fine before column token named s)
+    by (Opens word) s = sided (Opens word) s
+    by (Number value) s = sided (Number value) s
+    by (Sign minus) s = sided (Sign minus) s
+    by (Compares relation) s = sided (Compares relation) s
+    by Colon s = sided Colon s
+    by Infinity s = sided Infinity s
+    by Free s = sided Free s
+    by Other s = sided Other s
+
+second_side-fine : (before : Before) (left : Option (List ℕ × Relation)) (relation : Relation) (token : TerminalAt) → IsNamed before → Gives (IsFine before.earlier) (second_side before left relation token)
+second_side-fine before None relation token named = λ tokens sound. tt
+second_side-fine before (Some left) relation token named =
+    either-fine before (fits_second left.1 relation) _ _
+    (then-gives IsSoundSide (IsFine before.earlier) (side before) (bound_right before [] left.0 relation) (side-gives before)
+    (λ right s. bounded-fine before [] left.0 (limits_by relation right.limit) right.last (InBounds None) named (λ b n. n) refl refl (limits_by-given relation right.limit s)))
+    (λ tokens sound. tt)
+
+-- ---- phrases
+
+listed-fine : (place : Place) (kind_declared : List ℕ → Declaration) (before : Before) (line : ℕ) (terminal : Terminal) → IsNamed before → IsPlain place → ((name : List ℕ) → is_lp_legal (kind_declared name) ≡ true)
+    → IsSoundTerminal terminal → Gives (IsFine before.earlier) (listed place kind_declared before (record { line = line; terminal = terminal }))
+listed-fine place kind_declared before line (Name column) named plain legal s =
+    declares-fine before (record { line = line; terminal = Name column }) place (declare_column column ∷ kind_declared column ∷ []) named plain
+    (both_so (is_lp_name column) (is_lp_legal (kind_declared column) && true) s (both_so (is_lp_legal (kind_declared column)) true (legal column) refl))
+listed-fine place kind_declared before line _ named plain legal s = λ tokens sound. tt
+
+phrase-fine : (place : Place) (before : Before) (line : ℕ) (terminal : Terminal) → IsSoundPoint (record { place = place; before = before }) → IsSoundTerminal terminal
+    → Gives (IsFine before.earlier) (phrase place before (record { line = line; terminal = terminal }))
+phrase-fine AtStart before line terminal point s = λ tokens sound. tt
+phrase-fine (BeforeItems name) before line terminal named s =
+    then-gives IsSoundItem (IsFine before.earlier) (item_from before (record { line = line; terminal = terminal })) (objective_item before name) (item-gives before line terminal s) (λ item i. objective_item-fine before name item named i)
+phrase-fine (InObjective name) before line (Sign minus) named s =
+    then-gives IsSoundItem (IsFine before.earlier) (signed_item before minus) (objective_item before name) (λ tokens sound. signed_item-gives before tokens minus sound) (λ item i. objective_item-fine before name item named i)
+phrase-fine (InObjective name) before line _ named s = λ tokens sound. tt
+phrase-fine BetweenRows before line terminal named s = row-fine before line terminal named s
+phrase-fine (InRow row) before line (Sign minus) point s =
+    then-gives IsSoundItem (IsFine before.earlier) (signed_item before minus) (row_item before row) (λ tokens sound. signed_item-gives before tokens minus sound) (λ item i. row_item-fine before row item point.0 point.1 i)
+phrase-fine (InRow row) before line (Compares relation) point s = row_end-fine before row relation (record { line = line; terminal = Compares relation }) point.0 point.1
+phrase-fine (InRow row) before line _ point s = λ tokens sound. tt
+phrase-fine (InBounds left) before line (Compares relation) named s = second_side-fine before left relation (record { line = line; terminal = Compares relation }) named
+phrase-fine (InBounds left) before line (Name name) named s = bound-fine before line (Name name) named s
+phrase-fine (InBounds left) before line (Opens word) named s = bound-fine before line (Opens word) named s
+phrase-fine (InBounds left) before line (Number value) named s = bound-fine before line (Number value) named s
+phrase-fine (InBounds left) before line (Sign minus) named s = bound-fine before line (Sign minus) named s
+phrase-fine (InBounds left) before line Colon named s = bound-fine before line Colon named s
+phrase-fine (InBounds left) before line Infinity named s = bound-fine before line Infinity named s
+phrase-fine (InBounds left) before line Free named s = bound-fine before line Free named s
+phrase-fine (InBounds left) before line Other named s = bound-fine before line Other named s
+phrase-fine InGenerals before line terminal named s = listed-fine InGenerals declare_integer before line terminal named (λ b n. n) (λ name. refl) s
+phrase-fine InBinaries before line terminal named s = listed-fine InBinaries declare_binary before line terminal named (λ b n. n) (λ name. refl) s
+phrase-fine InSemis before line terminal named s = listed-fine InSemis declare_semi before line terminal named (λ b n. n) (λ name. refl) s
+
+-- ---- sections
+
+line_end-fine : (before : Before) (line : ℕ) → IsNamed before → Gives (IsFine before.earlier) (line_end before line)
+line_end-fine before line named [] sound = (refl, named.0)
+line_end-fine before line named (token ∷ tokens) sound = by (token.line == line)
+  where
+    by : (b : Bool) → Holds (IsFine before.earlier) (if b then refuses before token BadToken tokens else Reads (Ends before.earlier) 0)
+    by true = tt
+    by false = (refl, named.0)
+
+opened-plain : (wanted : LastWord) → IsPlain (opened_by wanted)
+opened-plain To b n = n
+opened-plain That b n = n
+opened-plain Continuous b n = n
+
+last_word-fine : (before : Before) (wanted : LastWord) (token : TerminalAt) → IsNamed before → Gives (IsFine before.earlier) (last_word before wanted token)
+last_word-fine before wanted token named = by token.line token.terminal
+  where
+    by : (line : ℕ) (terminal : Terminal) → Gives (IsFine before.earlier) (last_word before wanted (record { line = line; terminal = terminal }))
+    by line (Name word) = either-fine before (is_last_word wanted word) _ _ (nothing-fine before (opened_by wanted) named (opened-plain wanted)) (λ tokens sound. tt)
+    by line _ = λ tokens sound. tt
+
+next_word-fine : (before : Before) (wanted : LastWord) → IsNamed before → Gives (IsFine before.earlier) (next >>= last_word before wanted)
+next_word-fine before wanted named = then-gives IsSoundToken (IsFine before.earlier) next (last_word before wanted) next-gives (λ word w. last_word-fine before wanted word named)
+
+semi-fine : (before : Before) (token : TerminalAt) → IsNamed before → Gives (IsFine before.earlier) (semi_from before token)
+semi-fine before token named = by token.line token.terminal
+  where
+    by : (line : ℕ) (terminal : Terminal) → Gives (IsFine before.earlier) (semi_from before (record { line = line; terminal = terminal }))
+    by line (Sign true) =
+        then-gives IsSoundToken (IsFine before.earlier) next (λ dash. next >>= last_word before Continuous) next-gives
+        (λ dash d. next_word-fine before Continuous named)
+    by line _ = nothing-fine before InSemis named (λ b n. n)
+
+-- a word of a section after the objective
+abbrev IsLater : SectionWord → Type 0
+IsLater words.Minimize = ⊥
+IsLater words.Maximize = ⊥
+IsLater _ = Unit {0}
+
+start-fine : (before : Before) (token : TerminalAt) (word : SectionWord) → IsLater word → IsNamed before → Gives (IsFine before.earlier) (section_start before token word)
+start-fine before token words.Minimize later named = absurd later
+start-fine before token words.Maximize later named = absurd later
+start-fine before token words.Rows later named = nothing-fine before BetweenRows named (λ b n. n)
+start-fine before token words.Subject later named = next_word-fine before To named
+start-fine before token words.Such later named = next_word-fine before That named
+start-fine before token words.Bounds later named = nothing-fine before (InBounds None) named (λ b n. n)
+start-fine before token words.Generals later named = nothing-fine before InGenerals named (λ b n. n)
+start-fine before token words.Binaries later named = nothing-fine before InBinaries named (λ b n. n)
+start-fine before token words.Semi later named = then-gives IsSoundToken (IsFine before.earlier) ahead (semi_from before) ahead-gives (λ second s. semi-fine before second named)
+start-fine before token words.Semis later named = nothing-fine before InSemis named (λ b n. n)
+start-fine before token words.End later named = line_end-fine before token.line named
+
+later-fine : (before : Before) (token : TerminalAt) (word : SectionWord) → IsLater word → IsNamed (record before { opened = opened_with before.opened (section_of word) }) → Gives (IsFine before.earlier) (section_from before token word)
+later-fine before token word later named = by (section_fault before.opened (section_of word))
+  where
+    by : (o : Option FaultKind) → Gives (IsFine before.earlier) (elim o as (λ _. Rule Follows) [
+      | Some kind ↦ fails token kind
+      | None ↦ section_start (record before { opened = opened_with before.opened (section_of word) }) token word
+    ])
+    by (Some kind) = λ tokens sound. tt
+    by None = start-fine (record before { opened = opened_with before.opened (section_of word) }) token word later named
+
+-- after the objective was opened
+section-fine : (before : Before) (token : TerminalAt) (word : SectionWord) → IsNamed before → Gives (IsFine before.earlier) (section_from before token word)
+section-fine before token words.Minimize named = rw (named.1, section_from) (λ tokens sound. tt)
+section-fine before token words.Maximize named = rw (named.1, section_from) (λ tokens sound. tt)
+section-fine before token words.Rows named = later-fine before token words.Rows tt named
+section-fine before token words.Subject named = later-fine before token words.Subject tt named
+section-fine before token words.Such named = later-fine before token words.Such tt named
+section-fine before token words.Bounds named = later-fine before token words.Bounds tt named
+section-fine before token words.Generals named = later-fine before token words.Generals tt named
+section-fine before token words.Binaries named = later-fine before token words.Binaries tt named
+section-fine before token words.Semi named = later-fine before token words.Semi tt named
+section-fine before token words.Semis named = later-fine before token words.Semis tt named
+section-fine before token words.End named = later-fine before token words.End tt named
+
+-- ---- the objective, before which there is nothing
+
+abbrev opening : Before
+opening = record { opened = opened_with start.before.opened Objective; earlier = empty_draft }
+
+-- declarations that name it
+opens-declared : (token : TerminalAt) (place : Place) (made : Declarations) → ((before : Before) → IsNamed before → IsSoundPoint (record { place = place; before = before }))
+    → is_some (draft_of made).objective ≡ true → list_all is_lp_legal made ≡ true → Gives (IsFine empty_draft) (declares opening token place made)
+opens-declared token place made plain named legal = by (refusals_in_turn empty_draft made) refl
+  where
+    by : (refusals : List BuildFault) → refusals_in_turn empty_draft made ≡ refusals → Gives (IsFine empty_draft) (unless_refused opening token refusals place made)
+    by [] e = λ tokens sound. record { drafts = refl; unrefused = e; legal = legal; sound = plain (record opening { earlier = draft_of made }) (named, refl) }
+    by (refusal ∷ more) e = λ tokens sound. tt
+
+objective_named-fine : (goal : Sense) (name : List ℕ) (line : ℕ) (terminal : Terminal) → is_lp_name name ≡ true
+    → Gives (IsFine empty_draft) (objective_named opening goal name (record { line = line; terminal = terminal }))
+objective_named-fine goal name line terminal h = by terminal
+  where
+    legal : {b : Bool} → b ≡ true → (is_lp_name name && b) ≡ true
+    legal e = both_so (is_lp_name name) _ h e
+
+    first_item : (t : Terminal) → Gives (IsFine empty_draft) (declares opening (record { line = line; terminal = t }) (InObjective default_objective) (first_item_declared goal name))
+    first_item t = opens-declared (record { line = line; terminal = t }) (InObjective default_objective) (first_item_declared goal name) (λ b n. n) refl (legal refl)
+
+    by : (t : Terminal) → Gives (IsFine empty_draft) (objective_named opening goal name (record { line = line; terminal = t }))
+    by Colon = then-gives IsSoundToken (IsFine empty_draft) next (λ colon. declares opening (record { line = line; terminal = Colon }) (BeforeItems name) (objective_declared goal name)) next-gives
+        (λ colon c. opens-declared (record { line = line; terminal = Colon }) (BeforeItems name) (objective_declared goal name) (λ b n. n) refl (legal refl))
+    by t = first_item t
+
+objective-fine : (goal : Sense) → Gives (IsFine empty_draft) (objective opening goal)
+objective-fine goal = then-gives IsSoundToken (IsFine empty_draft) ahead (objective_from opening goal) ahead-gives (λ token s. by token.line token.terminal s)
+  where
+    by : (line : ℕ) (terminal : Terminal) → IsSoundTerminal terminal → Gives (IsFine empty_draft) (objective_from opening goal (record { line = line; terminal = terminal }))
+    by line (Name name) s =
+        then-gives IsSoundToken (IsFine empty_draft) next (λ first. ahead >>= objective_named opening goal name) next-gives
+        (λ first f. then-gives IsSoundToken (IsFine empty_draft) ahead (objective_named opening goal name) ahead-gives (λ second t. objective_named-fine goal name second.line second.terminal s))
+    by line terminal s =
+        opens-declared (record { line = line; terminal = terminal }) (BeforeItems default_objective) (objective_declared goal default_objective) (λ b n. n) refl refl
+
+-- at the start, no other section may be opened
+first_section-fine : (token : TerminalAt) (word : SectionWord) → Gives (IsFine empty_draft) (section_from start.before token word)
+first_section-fine token words.Minimize = objective-fine senses.Minimize
+first_section-fine token words.Maximize = objective-fine senses.Maximize
+first_section-fine token _ = λ tokens sound. tt
+
+-- ---- all phrases
+
+named-point : (place : Place) (before : Before) → may_begin_section place ≡ true → IsSoundPoint (record { place = place; before = before })
+    → (before ≡ start.before) ⊎ IsNamed before
+named-point AtStart before m h = inl (ap (λ (p : Point). p.before) h)
+named-point (BeforeItems name) before m h = inr h
+named-point (InObjective name) before m h = inr h
+named-point BetweenRows before m h = inr h
+named-point (InRow row) before m h = cc
+named-point (InBounds left) before m h = inr h
+named-point InGenerals before m h = inr h
+named-point InBinaries before m h = inr h
+named-point InSemis before m h = inr h
+
+opens-fine : (place : Place) (before : Before) (token : TerminalAt) (word : SectionWord) (b : Bool) → may_begin_section place ≡ b → IsSoundPoint (record { place = place; before = before })
+    → Gives (IsFine before.earlier) (if b then section_from before token word else refuses before token BadToken)
+opens-fine place before token word false e h = λ tokens sound. tt
+opens-fine place before token word true e h = elim (named-point place before e h) [
+  | inl same ↦ subst (λ (b : Before). Gives (IsFine b.earlier) (section_from b token word)) (sym same) (first_section-fine token word)
+  | inr named ↦ section-fine before token word named
+]
+
+pub phrase_at-fine : (point : Point) (line : ℕ) (terminal : Terminal) → IsSoundPoint point → IsSoundTerminal terminal → Gives (IsFine point.before.earlier) (phrase_at point (record { line = line; terminal = terminal }))
+phrase_at-fine point line (Opens word) h s = opens-fine point.place point.before (record { line = line; terminal = Opens word }) word (may_begin_section point.place) refl h
+phrase_at-fine point line (Name name) h s = phrase-fine point.place point.before line (Name name) h s
+phrase_at-fine point line (Number value) h s = phrase-fine point.place point.before line (Number value) h s
+phrase_at-fine point line (Sign minus) h s = phrase-fine point.place point.before line (Sign minus) h s
+phrase_at-fine point line (Compares relation) h s = phrase-fine point.place point.before line (Compares relation) h s
+phrase_at-fine point line Colon h s = phrase-fine point.place point.before line Colon h s
+phrase_at-fine point line Infinity h s = phrase-fine point.place point.before line Infinity h s
+phrase_at-fine point line Free h s = phrase-fine point.place point.before line Free h s
+phrase_at-fine point line Other h s = phrase-fine point.place point.before line Other h s

@@ -1,0 +1,89 @@
+-- The tokens of a line without a fault of its own hold legal names and decimals.
+use Rattle.std.proofs.Common.{◌≡◌, refl, ℕ, List, [], ◌∷◌, ◌++◌, true, drop, zero, suc, map}
+use Rattle.std.specs.Prelude.{Option, Some, None, filter_map}
+use Rattle.std.specs.List.{cons_option}
+use Rattle.mpslp_decimal.specs.Decimal.{is_decimal}
+use Rattle.mpslp_types.specs.Name.{is_lp_name}
+use Rattle.mpslp_types.specs.FaultOrder.{least_kind}
+use Rattle.mpslp_types.specs.declared.faults.FaultKind.{FaultKind}
+use Rattle.mpslp_reading.specs.LegalLine.{legal_tests}
+use Rattle.mpslp_reading.specs.Tests.{first_held}
+use Rattle.mpslp_reading.proofs.FieldLemmas.{value-decimal}
+use Rattle.mpslp_lp.specs.Line.{outside_comment}
+use Rattle.mpslp_lp.specs.Token.{is_word, Token, tokens}
+use Rattle.mpslp_lp.specs.Words.{meaning_of}
+use Rattle.mpslp_lp.specs.Terminal.{Terminal, TerminalAt, word_terminal, terminal_of, line_terminals}
+use Rattle.mpslp_lp.specs.Terminal.Terminal.{Name, Number}
+use Rattle.mpslp_lp.specs.OwnFault.{word_fault, token_fault, own_fault}
+use Rattle.mpslp_lp.specs.LpText.{sound_terminals}
+use Rattle.mpslp_lp.specs.declared.tokens.TokenKind.{TokenKind}
+use Rattle.mpslp_lp.specs.declared.tokens.TokenKind.TheVariants as kinds
+use Rattle.mpslp_lp.specs.declared.words.Meaning.{Meaning}
+use Rattle.mpslp_lp.specs.declared.words.Meaning.TheVariants as meanings
+use Rattle.mpslp_lp.proofs.NameTokens.{WordIs, AreWords, tokens-words, lp-name}
+
+abbrev pub IsSoundTerminal : Terminal → Type 0
+IsSoundTerminal (Name name) = is_lp_name name ≡ true
+IsSoundTerminal (Number value) = is_decimal value ≡ true
+IsSoundTerminal _ = Unit {0}
+
+abbrev pub AreSound : List TerminalAt → Type 0
+AreSound [] = Unit {0}
+AreSound (token ∷ more) = IsSoundTerminal token.terminal × AreSound more
+
+pub sound-drop : (n : ℕ) (tokens : List TerminalAt) → AreSound tokens → AreSound (drop n tokens)
+sound-drop zero tokens h = h
+sound-drop (suc n) [] h = tt
+sound-drop (suc n) (token ∷ tokens) h = sound-drop n tokens h.1
+
+sound-append : (xs ys : List TerminalAt) → AreSound xs → AreSound ys → AreSound (xs ++ ys)
+sound-append [] ys h k = k
+sound-append (x ∷ xs) ys h k = (h.0, sound-append xs ys h.1 k)
+
+-- ---- a token
+
+word-sound : (text : List ℕ) (meaning : Meaning) → is_word text ≡ true → meaning_of text ≡ meaning → word_fault text meaning ≡ None → IsSoundTerminal (word_terminal text meaning)
+word-sound text meanings.Name word is h = lp-name text word is h
+word-sound text _ word is h = tt
+
+token-sound : (kind : TokenKind) (text : List ℕ) → WordIs kind text → token_fault kind text ≡ None → IsSoundTerminal (terminal_of kind text)
+token-sound kinds.Word text word h = word-sound text (meaning_of text) word refl h
+token-sound kinds.Number text word h = value-decimal text
+token-sound _ text word h = tt
+
+-- ---- a line
+
+-- the faults of its tokens
+abbrev token_faults : List ℕ → List FaultKind
+token_faults line = filter_map (λ (token : Token). token_fault token.kind token.text) (tokens line)
+
+none-least : (found : List FaultKind) → least_kind found ≡ None → found ≡ []
+none-least [] h = refl
+none-least (kind ∷ found) h = cc
+
+tokens-sound : (n : ℕ) (found : List Token) → AreWords found → filter_map (λ (token : Token). token_fault token.kind token.text) found ≡ []
+    → AreSound (map (λ (token : Token). record { line = n; terminal = terminal_of token.kind token.text }) found)
+tokens-sound n [] w h = tt
+tokens-sound n (token ∷ found) w h =
+    let parts = by (token_fault token.kind token.text) (filter_map (λ (t : Token). token_fault t.kind t.text) found) h in
+    (token-sound token.kind token.text w.0 parts.0, tokens-sound n found w.1 parts.1)
+  where
+    by : (o : Option FaultKind) (more : List FaultKind) → cons_option o more ≡ [] → (o ≡ None) × (more ≡ [])
+    by None more e = (refl, e)
+    by (Some kind) more e = cc
+
+pub line-sound : (line : ℕ × List ℕ) → own_fault line.1 ≡ None → AreSound (line_terminals line)
+line-sound line h = tokens-sound line.0 (tokens line.1) (tokens-words line.1) (none-least (token_faults line.1) (by (first_held (legal_tests line.1 (outside_comment line.1))) (token_faults line.1) h))
+  where
+    by : (legal : Option FaultKind) (found : List FaultKind) → elim legal as (λ _. Option FaultKind) [ Some kind ↦ Some kind | None ↦ least_kind found ] ≡ None → least_kind found ≡ None
+    by None found e = e
+    by (Some kind) found e = cc
+
+pub text-sound : (numbered : List (ℕ × List ℕ)) → AreSound (sound_terminals numbered)
+text-sound [] = tt
+text-sound (line ∷ more) = by (own_fault line.1) refl (text-sound more)
+  where
+    by : (o : Option FaultKind) → own_fault line.1 ≡ o → AreSound (sound_terminals more)
+        → AreSound (elim o as (λ _. List TerminalAt) [ Some kind ↦ [] | None ↦ line_terminals line ++ sound_terminals more ])
+    by (Some kind) e k = tt
+    by None e k = sound-append (line_terminals line) (sound_terminals more) (line-sound line e) k

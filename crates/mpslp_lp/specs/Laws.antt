@@ -1,0 +1,55 @@
+-- Laws of LP text.
+use Rattle.std.specs.Prelude.{◌≡◌, ℕ, ◌+◌, ◌≤◌, ◌<◌, Bool, true, IsTrue, List, [], ◌∷◌, length, take, drop}
+use Rattle.std.specs.List.{list_all}
+use Rattle.mpslp_types.specs.Name.{is_lp_name}
+use Rattle.mpslp_builder.specs.Declaration.{Declaration, declare_objective, declare_row, declare_column}
+use Rattle.mpslp_core.specs.Model.{LinearModel}
+use Rattle.mpslp_types.specs.declared.faults.Fault.{Fault}
+use Rattle.mpslp_lp.specs.Line.{has_legal_bytes}
+use Rattle.mpslp_lp.specs.Token.{Token, tokens}
+use Rattle.mpslp_lp.specs.Scan.{is_known}
+use Rattle.mpslp_lp.specs.LpText.{declarations_of, DeclaresLp}
+use Rattle.mpslp_lp.specs.FirstFault.{IsFirstLpFault}
+
+-- From a place of a line on, each text is the slice of the line at its start and has a byte at least, and no token begins
+-- before the one before it ends.
+abbrev pub AreSlices : List ℕ → ℕ → List Token → Type 0
+AreSlices line place [] = Unit {0}
+AreSlices line place (token ∷ more) =
+    (place ≤ token.start) × (0 < length token.text) × (take (length token.text) (drop token.start line) ≡ token.text)
+    × AreSlices line (token.start + length token.text) more
+
+-- The tokens of each line are slices of it.
+abbrev pub TokensAreSlices : Type 0
+TokensAreSlices = (line : List ℕ) → AreSlices line 0 (tokens line)
+
+-- what a declaration gives a name, it gives an LP name
+abbrev pub has_lp_name : Declaration → Bool
+has_lp_name (declare_objective name) = is_lp_name name
+has_lp_name (declare_row name form) = is_lp_name name
+has_lp_name (declare_column name) = is_lp_name name
+has_lp_name _ = true
+
+-- The names that bytes declare are LP names.
+abbrev pub DeclareLpNames : Type 0
+DeclareLpNames = (bytes : List ℕ) → IsTrue (list_all has_lp_name (declarations_of bytes))
+
+-- Two models that the same bytes declare are one.
+abbrev pub DeclareOneModel : Type 0
+DeclareOneModel = (bytes : List ℕ) (m n : LinearModel) → DeclaresLp bytes m → DeclaresLp bytes n → m ≡ n
+
+-- Two first faults of the same bytes are one.
+abbrev pub HaveOneFirstFault : Type 0
+HaveOneFirstFault = (bytes : List ℕ) (a b : Fault) → IsFirstLpFault bytes a → IsFirstLpFault bytes b → a ≡ b
+
+-- No bytes both declare a model and have a first fault.
+abbrev pub DeclareOrFail : Type 0
+DeclareOrFail = (bytes : List ℕ) (m : LinearModel) (fault : Fault) → DeclaresLp bytes m → IsFirstLpFault bytes fault → ⊥
+
+-- Bytes that have no first fault declare a model.
+abbrev pub DeclareUnlessFaulty : Type 0
+DeclareUnlessFaulty = (bytes : List ℕ) → ((fault : Fault) → IsFirstLpFault bytes fault → ⊥) → (m : LinearModel) × DeclaresLp bytes m
+
+-- The bytes of a line are legal exactly where each of its tokens is known.
+abbrev pub UnknownAreIllegal : Type 0
+UnknownAreIllegal = (line : List ℕ) → has_legal_bytes line ≡ list_all (λ (token : Token). is_known token.kind) (tokens line)

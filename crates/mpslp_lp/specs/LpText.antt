@@ -1,0 +1,65 @@
+-- What LP text says and declares.
+use Rattle.std.specs.Prelude.{ℕ, Bool, true, false, IsTrue, List, [], ◌∷◌, ◌++◌, Some, None}
+use Rattle.std.specs.List.{enumerate_from}
+use Rattle.std.specs.Str.Lines.{lines}
+use Rattle.mpslp_core.specs.Model.{LinearModel}
+use Rattle.mpslp_builder.specs.Declaration.{Declarations, Draft}
+use Rattle.mpslp_builder.specs.Meaning.{Means}
+use Rattle.mpslp_types.specs.declared.faults.Fault.{Fault}
+use Rattle.mpslp_lp.specs.Rules.{Outcome}
+use Rattle.mpslp_lp.specs.Rules.Outcome.{Finished, Refused, Open}
+use Rattle.mpslp_lp.specs.Terminal.{TerminalAt, line_terminals}
+use Rattle.mpslp_reading.specs.LineAnswer.{fault_on_line}
+use Rattle.mpslp_lp.specs.Grammar.{text_says, text_declares}
+use Rattle.mpslp_lp.specs.OwnFault.{own_fault}
+
+-- the lines with their numbers, from 1. They end by a line feed, or a carriage return and a line feed
+abbrev pub numbered_lines : List ℕ → List (ℕ × List ℕ)
+numbered_lines bytes = enumerate_from 1 (lines bytes)
+
+-- the terminals of the lines before the first one that has a fault by itself
+abbrev pub sound_terminals : List (ℕ × List ℕ) → List TerminalAt
+sound_terminals [] = []
+sound_terminals (line ∷ more) = elim (own_fault line.1) [
+  | Some kind ↦ []
+  | None ↦ line_terminals line ++ sound_terminals more
+]
+
+-- the first line that has a fault by itself
+abbrev pub first_own_fault : List (ℕ × List ℕ) → Outcome Fault Draft
+first_own_fault [] = Open
+first_own_fault (line ∷ more) = elim (own_fault line.1) [
+  | Some kind ↦ Refused (fault_on_line line.0 kind)
+  | None ↦ first_own_fault more
+]
+
+-- where the text is not whole, this decides
+abbrev pub or_else : Outcome Fault Draft → Outcome Fault Draft → Outcome Fault Draft
+or_else Open other = other
+or_else (Finished all) other = Finished all
+or_else (Refused fault) other = Refused fault
+
+-- Where the lines before the first faulty one neither come to `end` nor make a fault, that one decides. So the lines
+-- after that of `end` are not looked at.
+abbrev pub lines_say : List (ℕ × List ℕ) → Outcome Fault Draft
+lines_say numbered = or_else (text_says (sound_terminals numbered)) (first_own_fault numbered)
+
+abbrev pub outcome : List ℕ → Outcome Fault Draft
+outcome bytes = lines_say (numbered_lines bytes)
+
+abbrev pub is_finished : Outcome Fault Draft → Bool
+is_finished (Finished all) = true
+is_finished _ = false
+
+-- the text comes to `end`, and neither a line before nor a token makes a fault. So each line that is read, each name
+-- and each number keeps its limits
+abbrev pub is_lp_text : List ℕ → Bool
+is_lp_text bytes = is_finished (outcome bytes)
+
+abbrev pub declarations_of : List ℕ → Declarations
+declarations_of bytes = text_declares (sound_terminals (numbered_lines bytes))
+
+-- The bytes declare the model in LP.
+pub record DeclaresLp (bytes : List ℕ) (m : LinearModel) : Type 0 where
+  pub text : IsTrue (is_lp_text bytes)
+  pub means : Means (declarations_of bytes) m

@@ -1,0 +1,58 @@
+-- The objective: perhaps `name :`, and any number of items, of which one may be a constant.
+use Rattle.std.specs.Prelude.{ℕ, List, [], ◌∷◌, ◌++◌, codes}
+use Rattle.mpslp_decimal.specs.Decimal.{Number as Decimal}
+use Rattle.mpslp_builder.specs.Declaration.{declare_sense, declare_objective, declare_column, declare_coefficient, declare_constant, Declarations}
+use Rattle.mpslp_types.specs.declared.kinds.Sense.{Sense}
+use Rattle.mpslp_types.specs.declared.faults.FaultKind.TheVariants.{BadToken}
+use Rattle.mpslp_lp.specs.Rules.{◌>>=◌, next, ahead}
+use Rattle.mpslp_lp.specs.Terminal.{TerminalAt}
+use Rattle.mpslp_lp.specs.Terminal.Terminal.{Opens, Name, Sign, Colon}
+use Rattle.mpslp_lp.specs.Point.{Before}
+use Rattle.mpslp_lp.specs.Phrase.{Rule, Follows, refuses, declares}
+use Rattle.mpslp_lp.specs.declared.states.Place.TheVariants.{BeforeItems, InObjective}
+use Rattle.mpslp_lp.specs.Items.{Item, one}
+use Rattle.mpslp_lp.specs.Items.Item.{Term, Lone}
+
+-- a coefficient, and its column
+abbrev pub term_declared : List ℕ → List ℕ × Decimal → Declarations
+term_declared row term = declare_column term.0 ∷ declare_coefficient (record { row = row; column = term.0 }) term.1 ∷ []
+
+-- a number alone is the constant where an item or a section follows
+abbrev pub objective_item : Before → List ℕ → Item → Rule Follows
+objective_item before name (Term value column token) = declares before token (InObjective name) (term_declared name (column, value))
+objective_item before name (Lone value token) = elim token.terminal [
+  | Sign minus ↦ constant
+  | Opens word ↦ constant
+  | _ ↦ refuses before token BadToken
+]
+  where
+    constant : Rule Follows
+    constant = declares before token (InObjective name) (declare_constant value ∷ [])
+
+abbrev pub objective_declared : Sense → List ℕ → Declarations
+objective_declared sense name = declare_sense sense ∷ declare_objective name ∷ []
+
+-- the name of an objective without a label
+abbrev pub default_objective : List ℕ
+default_objective = codes "obj"
+
+-- what the objective's word and a name behind it declare, where a label is none: the name is that of the first item
+abbrev pub first_item_declared : Sense → List ℕ → Declarations
+first_item_declared sense column = objective_declared sense default_objective ++ term_declared default_objective (column, one)
+
+-- a name that no colon follows is the first item
+abbrev pub objective_named : Before → Sense → List ℕ → TerminalAt → Rule Follows
+objective_named before sense name second = elim second.terminal [
+  | Colon ↦ next >>= λ colon. declares before second (BeforeItems name) (objective_declared sense name)
+  | _ ↦ declares before second (InObjective default_objective) (first_item_declared sense name)
+]
+
+abbrev pub objective_from : Before → Sense → TerminalAt → Rule Follows
+objective_from before sense token = elim token.terminal [
+  | Name name ↦ next >>= λ first. ahead >>= objective_named before sense name
+  | _ ↦ declares before token (BeforeItems default_objective) (objective_declared sense default_objective)
+]
+
+-- after the word of the objective: perhaps `name :`. Nothing is declared before, so nothing of it is refused
+abbrev pub objective : Before → Sense → Rule Follows
+objective before sense = ahead >>= objective_from before sense

@@ -1,0 +1,45 @@
+-- Lines read one after another, in place of all their tokens.
+use Rattle.std.specs.Prelude.{ℕ, Bool, true, false, List, [], ◌∷◌, Some, None}
+use Rattle.mpslp_builder.specs.Declaration.{Draft}
+use Rattle.mpslp_types.specs.declared.faults.Fault.{Fault}
+use Rattle.mpslp_lp.specs.Rules.{Outcome}
+use Rattle.mpslp_lp.specs.Rules.Outcome.{Finished, Refused}
+use Rattle.mpslp_lp.specs.Terminal.{Terminal, terminals}
+use Rattle.mpslp_lp.specs.Point.{Before}
+use Rattle.mpslp_reading.specs.LineAnswer.{fault_on_line}
+use Rattle.mpslp_lp.specs.declared.states.State.{State}
+use Rattle.mpslp_lp.specs.declared.states.State.TheVariants.{AfterEnd}
+use Rattle.mpslp_lp.specs.Taken.{Taken, Goes, Refuses}
+use Rattle.mpslp_lp.specs.Taking.{take, at_end}
+use Rattle.mpslp_lp.specs.OwnFault.{own_fault}
+
+-- tokens one after another, up to one that makes a fault
+abbrev pub take_all : Before → State → List Terminal → Taken
+take_all before state [] = Goes before state
+take_all before state (terminal ∷ terminals) = elim (take before state terminal) [
+  | Goes after next ↦ take_all after next terminals
+  | Refuses kind ↦ Refuses kind
+]
+
+-- a line: the fault that it has by itself, or what its tokens make
+abbrev pub take_line : Before → State → List ℕ → Taken
+take_line before state line = elim (own_fault line) [
+  | Some kind ↦ Refuses kind
+  | None ↦ take_all before state (terminals line)
+]
+
+-- `end` was the last token
+abbrev pub is_at_end : State → Bool
+is_at_end AfterEnd = true
+is_at_end _ = false
+
+-- lines up to that of `end`
+abbrev pub read_from : Before → State → List (ℕ × List ℕ) → Outcome Fault Draft
+read_from before state [] = at_end before state
+read_from before state (line ∷ more) = elim (is_at_end state) [
+  | true ↦ Finished before.earlier
+  | false ↦ elim (take_line before state line.1) [
+    | Goes after next ↦ read_from after next more
+    | Refuses kind ↦ Refused (fault_on_line line.0 kind)
+  ]
+]

@@ -1,0 +1,51 @@
+-- Reserved words, and what they mean.
+use Rattle.std.specs.Prelude.{ℕ, List, [], ◌∷◌, ◌++◌, map, codes}
+use Rattle.std.specs.List.{find}
+use Rattle.std.specs.Option.{option_map_or}
+use Rattle.mpslp_types.specs.Name.{same_bytes, lower_byte}
+use Rattle.mpslp_lp.specs.declared.words.Section.{Section}
+use Rattle.mpslp_lp.specs.declared.words.Section.TheVariants as sections
+use Rattle.mpslp_lp.specs.declared.words.SectionWord.{SectionWord}
+use Rattle.mpslp_lp.specs.declared.words.SectionWord.TheVariants.{Minimize, Maximize, Rows, Subject, Such, Bounds, Generals, Binaries, Semi, Semis, End}
+use Rattle.mpslp_lp.specs.declared.words.Meaning.{Meaning}
+use Rattle.mpslp_lp.specs.declared.words.Meaning.TheVariants.{Opens, Infinity, Free, Sos, Name}
+
+abbrev all_mean : Meaning → List (List ℕ) → List (List ℕ × Meaning)
+all_mean meaning words = map (λ word. (word, meaning)) words
+
+-- the reserved words, in lower case
+abbrev pub word_meanings : List (List ℕ × Meaning)
+word_meanings =
+    all_mean (Opens Minimize) (codes "min" ∷ codes "minimize" ∷ codes "minimum" ∷ [])
+    ++ all_mean (Opens Maximize) (codes "max" ∷ codes "maximize" ∷ codes "maximum" ∷ [])
+    ++ all_mean (Opens Subject) (codes "subject" ∷ [])
+    ++ all_mean (Opens Such) (codes "such" ∷ [])
+    ++ all_mean (Opens Rows) (codes "st" ∷ codes "s.t." ∷ codes "st." ∷ [])
+    ++ all_mean (Opens Bounds) (codes "bound" ∷ codes "bounds" ∷ [])
+    ++ all_mean (Opens Generals) (codes "general" ∷ codes "generals" ∷ codes "gen" ∷ codes "integer" ∷ codes "integers" ∷ codes "int" ∷ [])
+    ++ all_mean (Opens Binaries) (codes "binary" ∷ codes "binaries" ∷ codes "bin" ∷ [])
+    ++ all_mean (Opens Semi) (codes "semi" ∷ [])
+    ++ all_mean (Opens Semis) (codes "semis" ∷ [])
+    ++ all_mean Sos (codes "sos" ∷ codes "sos1" ∷ codes "sos2" ∷ [])
+    ++ all_mean Free (codes "free" ∷ [])
+    ++ all_mean Infinity (codes "inf" ∷ codes "infinity" ∷ [])
+    ++ all_mean (Opens End) (codes "end" ∷ [])
+
+-- what a word means, in upper case, lower case or both; a word that is not reserved is a name
+abbrev pub meaning_of : List ℕ → Meaning
+meaning_of word =
+    let lower = map lower_byte word in
+    option_map_or (λ (entry : List ℕ × Meaning). entry.1) (find (λ entry. same_bytes lower entry.0) word_meanings) Name
+
+abbrev pub section_of : SectionWord → Section
+section_of Minimize = sections.Objective
+section_of Maximize = sections.Objective
+section_of Rows = sections.Rows
+section_of Subject = sections.Rows
+section_of Such = sections.Rows
+section_of Bounds = sections.Bounds
+section_of Generals = sections.Generals
+section_of Binaries = sections.Binaries
+section_of Semi = sections.SemiContinuous
+section_of Semis = sections.SemiContinuous
+section_of End = sections.End

@@ -1,0 +1,23 @@
+//! LP text: what it declares, and the first fault of text that declares no model.
+//!
+//! The format is that of the CPLEX file format reference. The definitions are in `specs/`: the bytes of lines (`Line`),
+//! their tokens (`Token`), reserved words (`Words`), what the grammar sees of a token (`Terminal`), the faults of a line by
+//! itself (`OwnFault`), the grammar by its rules (`Rules`, `Point`, `Phrase`, `Sides`, `Items`, `Objective`, `Rows`,
+//! `Bounds`, `Grammar`), and the whole text (`LpText`, `FirstFault`). The same one token after another, by what a reader
+//! keeps: `Reading`, `Taken`, `Begun`, `Taking`, `ReadingLines`.
+#![tactic(auto)]
+
+pub mod laws;
+mod limits;
+mod opened;
+mod relations;
+mod scan;
+mod states;
+#[cfg(test)]
+mod tests;
+mod tokens;
+mod words;
+
+pub use mpslp_reading::MAX_LINE_LEN;
+pub use tokens::{Token, TokenKind, Tokens, next_token, tokens_of};
+pub use words::Section;
