@@ -20,14 +20,17 @@ use Rattle.mpslp_core.proofs.MovingLemmas.{all-from_each}
 use Rattle.mpslp_builder.specs.Declaration.{at_name}
 use Rattle.mpslp_builder.specs.Made.{IsMade}
 use Rattle.mpslp_builder.specs.Meaning.{constant_of}
-use Rattle.mpslp_builder.specs.Tables.{bytes, objective_name, form_of, rhs_of, cells_of, no_part, objective_rhs, number_name, draft_from, AreNumbered}
+use Rattle.mpslp_builder.specs.Tables.{bytes, objective_name, form_of, rhs_of, cells_of, objective_rhs, number_name, draft, draft_from, AreNumbered}
 use Rattle.mpslp_numbered.specs.Ordered.{name_at, taken}
 use Rattle.mpslp_numbered.specs.Parts.{rhs_in}
 use Rattle.mpslp_numbered.specs.declared.parts.ObjectiveParts.{ObjectiveParts}
 use Rattle.mpslp_numbered.specs.declared.parts.RowParts.{RowParts}
 use Rattle.mpslp_numbered.specs.declared.parts.ColumnParts.{ColumnParts}
+use Rattle.mpslp_builder.specs.FaultFound.{entry_name}
+use Rattle.mpslp_builder.specs.declared.tables.Tables.{Tables}
 use Rattle.mpslp_builder.proofs.MadeDrafts.{good-from_made}
-use Rattle.mpslp_builder.proofs.OrderedParts.{ordered_parts, each-ordered, no_part-found}
+use Rattle.mpslp_builder.proofs.FoundLemmas.{legal_names}
+use Rattle.mpslp_builder.proofs.OrderedParts.{ordered_parts, no_part-found}
 use Rattle.mpslp_numbered.proofs.RankLemmas.{order_length, order_within, order_apart}
 use Rattle.mpslp_builder.proofs.ModelOfTables.{within-all}
 
@@ -54,23 +57,23 @@ module _ (sense : Option Sense) (constant : Option Number) (objective : Option O
       (legal-each form_of _ (taken rows order) (λ e h. first_so (is_mps_name e.0) _ h)
       (ap (list_all _) (ordered_parts form_of rows order once o.permuted o.sorted) ∙ good.rows)))
 
-  pub legal_columns : (order : List ℕ) (ordered : List (Vec ℕ × ColumnParts)) → IsOnce (each_part bytes no_part columns) → AreOrdered columns order ordered → All (λ column. IsMpsName column.0.items) ordered
-  legal_columns order ordered once o =
-      let good = good-from_made (draft_from sense constant objective rows columns) made in
-      subst (All (λ column. IsMpsName column.0.items)) (sym o.are)
-      (all-from_each (λ column. IsMpsName column.0.items) (taken columns order)
-      (legal-each no_part (λ e. is_mps_name e.0) (taken columns order) (λ e h. h)
-      (ap (list_all (λ e. is_mps_name e.0)) (ordered_parts no_part columns order once o.permuted o.sorted) ∙ good.columns)))
+-- what holds of each name that stands at an index
+named_each : {V : Type 0} (P : List ℕ → Type 0) (es : List (Vec ℕ × V)) → ((i : ℕ) (name : List ℕ) → entry_name es i ≡ Some name → P name) → Each (λ e. P e.0.items) es
+named_each P [] h = tt
+named_each P (e ∷ es) h = (h zero e.0.items refl, named_each P es (λ i name is. h (suc i) name is))
+
+pub legal_columns : (sense : Option Sense) (constant : Option Number) (t : Tables) → IsMade (draft sense constant t) → All (λ column. IsMpsName column.0.items) t.columns.entries
+legal_columns sense constant t made =
+    all-from_each (λ column. IsMpsName column.0.items) t.columns.entries (named_each IsMpsName t.columns.entries (legal_names sense constant t made).columns)
 
 -- ---- numbers of cells
 
-pub cells_within : (objective : Option ObjectiveParts) (rows : List (Vec ℕ × RowParts)) (columns : List (Vec ℕ × ColumnParts)) (bound : ℕ) (order : List ℕ) (ordered : List (Vec ℕ × ColumnParts))
-    → AreNumbered objective rows columns → bound ≡ length rows + 1 → AreOrdered columns order ordered → All (λ column. All (λ cell. cell.0 < bound) column.1.cells) ordered
-cells_within objective rows columns bound order ordered n is o =
-    let within = Each-weaker (λ e. Each (λ cell. cell.0 < length rows + 1) (cells_of e.1)) (λ column. All (λ cell. cell.0 < bound) column.1.cells)
-    (λ e h. all-from_each (λ cell. cell.0 < bound) (cells_of e.1) (subst (λ (bound : ℕ). Each (λ cell. cell.0 < bound) (cells_of e.1)) (sym is) h)) columns (within-all objective rows columns n.named) in
-    subst (All (λ column. All (λ cell. cell.0 < bound) column.1.cells)) (sym o.are)
-    (all-from_each (λ column. All (λ cell. cell.0 < bound) column.1.cells) (taken columns order) (each-ordered (λ column. All (λ cell. cell.0 < bound) column.1.cells) columns order o.permuted within))
+pub cells_within : (objective : Option ObjectiveParts) (rows : List (Vec ℕ × RowParts)) (columns : List (Vec ℕ × ColumnParts)) (bound : ℕ)
+    → AreNumbered objective rows columns → bound ≡ length rows + 1 → All (λ column. All (λ cell. cell.0 < bound) column.1.cells) columns
+cells_within objective rows columns bound n is =
+    all-from_each (λ column. All (λ cell. cell.0 < bound) column.1.cells) columns
+    (Each-weaker (λ e. Each (λ cell. cell.0 < length rows + 1) (cells_of e.1)) (λ column. All (λ cell. cell.0 < bound) column.1.cells)
+    (λ e h. all-from_each (λ cell. cell.0 < bound) (cells_of e.1) (subst (λ (bound : ℕ). Each (λ cell. cell.0 < bound) (cells_of e.1)) (sym is) h)) columns (within-all objective rows columns n.named))
 
 -- ---- the right side of the objective
 

@@ -22,7 +22,7 @@ use mpslp_core::{
     Model, ModelColumn, ModelParts, PackedRow, kind_of_column_fault, kind_of_row_fault,
 };
 use mpslp_decimal::{Decimal, PackedDecimal};
-use mpslp_numbered::{ObjectiveParts, columns_of, in_order, order_of, ranks_of, rows_of};
+use mpslp_numbered::{ObjectiveParts, in_order, order_of, ordered_columns, ranks_of, rows_of};
 use mpslp_types::{Fault, FaultKind, Name, ReadFault, Sense};
 use std::alloc::{AllocError, Global};
 
@@ -107,10 +107,9 @@ pub(crate) fn into_model(
         recent: _,
     } = tables;
     let (row_order, rows) = ordered(alloc, entries_of(alloc, rows)?)?;
-    let (_column_order, columns) = ordered(alloc, entries_of(alloc, columns)?)?;
     let ranks = ranks_of(alloc, &row_order)?;
     let rows = rows_of(alloc, rows)?;
-    let columns = columns_of(alloc, columns, &ranks)?;
+    let (_column_order, columns) = ordered_columns(alloc, entries_of(alloc, columns)?, &ranks)?;
     Ok(Model::of_parts(parts_of(sense, constant, objective, rows, columns)))
 }
 

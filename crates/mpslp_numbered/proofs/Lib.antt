@@ -2,3 +2,4 @@ pub mod FrontLemmas
 pub mod OrderLemmas
 pub mod RankLemmas
 pub mod PassLemmas
+pub mod TakenLemmas

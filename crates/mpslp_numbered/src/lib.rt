@@ -13,7 +13,7 @@ mod ranks;
 mod sides;
 
 pub use cells::Cells;
-pub use listed::{columns_of, rows_of};
+pub use listed::{ordered_columns, rows_of};
 pub use order::{in_order, order_of};
 pub use parts::{ColumnParts, ObjectiveParts, RowParts};
 pub use ranks::ranks_of;

@@ -1,15 +1,18 @@
 //! The rows and the columns of a model, from what is declared of them in the order of their names.
 
 ghost use Rattle.std.specs.Prelude.{◌≡◌, ◌<◌, ℕ, IfOk, length, slice_index, unwrap_or};
-ghost use Rattle.std.specs.List.{All};
+ghost use Rattle.std.specs.List.{All, range_with_len};
+ghost use Rattle.std.specs.List.Sorted.{IsPermutation, IsSortedByKey};
 ghost use Rattle.mpslp_decimal.specs.Decimal.{zero_number};
-ghost use Rattle.mpslp_types.specs.Name.{IsMpsName};
+ghost use Rattle.mpslp_types.specs.Name.{IsMpsName, bytes_cmp};
 ghost use Rattle.mpslp_types.specs.declared.kinds.RowType.TheVariants as types;
 ghost use Rattle.mpslp_core.specs.Limits.{limits_of, plain_limits, row_form};
 ghost use Rattle.mpslp_core.specs.ModelParts.{own, bounds_in, cells_in};
 ghost use Rattle.mpslp_core.specs.Numbered.{each_part};
+ghost use Rattle.mpslp_numbered.specs.Ordered.{name_at, taken};
 ghost use Rattle.mpslp_numbered.specs.Parts.{bytes, limits_in, bounds_of, moved_in};
 
+use crate::order::{in_order, order_of};
 use crate::parts::{ColumnParts, RowParts};
 use mpslp_core::{
     FormKind, ModelColumn, PackedColumn, PackedRow, RowLimits, limits_of, plain_limits,
@@ -67,11 +70,7 @@ fn column_of(column: ColumnParts, ranks: &[u32]) -> Result<ModelColumn, AllocErr
 }
 
 /// The columns of a model, under their names, with the later numbers of rows.
-///
-/// # Errors
-///
-/// [`AllocError`] where there is no memory for them.
-pub fn columns_of(
+fn columns_of(
     alloc: Global,
     columns: Vec<(Vec<u8>, ColumnParts)>,
     ranks: &[u32],
@@ -87,4 +86,32 @@ pub fn columns_of(
         made.push((Name::from_legal(name), column_of(parts, ranks)?))?;
     }
     Ok(made)
+}
+
+/// The columns of a model in the byte order of their names, with the later numbers of rows, behind their indices in that
+/// order.
+///
+/// Coefficients are moved before the columns are, while they lie in memory as they were declared: in the other order each
+/// would be far from the one before it.
+///
+/// # Errors
+///
+/// [`AllocError`] where there is no memory for them.
+pub fn ordered_columns(
+    alloc: Global,
+    entries: Vec<(Vec<u8>, ColumnParts)>,
+    ranks: &[u32],
+) -> Result<(Vec<usize>, Vec<(Name, ModelColumn)>), AllocError>
+    requires names { All (λ column. IsMpsName column.0.items) entries.items }
+    requires within { All (λ column. All (λ cell. cell.0 < length ranks.now) column.1.cells) entries.items }
+    requires apart { (n m : ℕ) → n < length ranks.now → m < length ranks.now → slice_index ranks.now n ≡ slice_index ranks.now m → n ≡ m }
+    ensures permutation { IfOk result (λ r. IsPermutation (range_with_len 0 (length entries.items)) r.0.items) }
+    ensures sorted { IfOk result (λ r. IsSortedByKey (name_at entries.items) bytes_cmp r.0.items) }
+    ensures bounds { IfOk result (λ r. each_part own bounds_in r.1.items ≡ each_part bytes bounds_of (taken entries.items r.0.items)) }
+    ensures cells { IfOk result (λ r. each_part own cells_in r.1.items ≡ each_part bytes (moved_in ranks.now) (taken entries.items r.0.items)) }
+{
+    let order = order_of(alloc, &entries)?;
+    let columns = columns_of(alloc, entries, ranks)?;
+    let ordered = in_order(alloc, columns, &order)?;
+    Ok((order, ordered))
 }

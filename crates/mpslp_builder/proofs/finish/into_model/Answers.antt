@@ -1,6 +1,9 @@
-use Rattle.std.proofs.Common.{◌≡◌, sym, ap, subst, ◌∙◌, ℕ, ◌<◌, List, length}
+use Rattle.std.proofs.Common.{◌≡◌, refl, sym, ap, subst, ◌∙◌, ℕ, ◌<◌, List, length}
 use Rattle.std.specs.Prelude.{◌≢◌, slice_index}
+use Rattle.std.specs.List.{All}
+use Rattle.mpslp_types.specs.Name.{IsMpsName}
 use Rattle.mpslp_core.specs.Numbered.{each_part}
+use Rattle.mpslp_numbered.specs.Ordered.{taken}
 use Rattle.mpslp_core.specs.ModelParts.{own, bounds_in, cells_in}
 use Rattle.mpslp_builder.specs.Meaning.{DraftMeans}
 use Rattle.mpslp_builder.specs.Tables.{bytes, no_part, cells_of, draft}
@@ -43,27 +46,23 @@ rows_of-requires c =
     legal_rows c.args.sense c.args.constant c.args.tables.objective c.args.tables.rows.entries c.args.tables.columns.entries c.requires.made c.in_ok-row_order.row_order.items c.in_ok-row_order.rows.items
     c.each_name_stands_once.ensures.rows in_rows
 
-pub columns_of-requires-clause-names : goal.columns_of-requires-clause-names
-columns_of-requires-clause-names c =
-    let in_columns : AreOrdered c.args.tables.columns.entries c.in_ok-_column_order._column_order.items c.in_ok-_column_order.columns.items = ordered_from c.in_ok-entries_of-2.field-0.items c.args.tables.columns.entries c.in_ok-_column_order._column_order.items c.in_ok-_column_order.columns.items c.in_ok-entries_of-2.ensures
-    c.in_ok-_column_order.ensures.permutation c.in_ok-_column_order.ensures.sorted c.in_ok-_column_order.ensures.taken in
-    legal_columns c.args.sense c.args.constant c.args.tables.objective c.args.tables.rows.entries c.args.tables.columns.entries c.requires.made c.in_ok-_column_order._column_order.items c.in_ok-_column_order.columns.items
-    (once-part no_part cells_of c.args.tables.columns.entries c.each_name_stands_once.ensures.columns) in_columns
+pub ordered_columns-requires-clause-names : goal.ordered_columns-requires-clause-names
+ordered_columns-requires-clause-names c =
+    subst (All (λ column. IsMpsName column.0.items)) (sym c.in_ok-entries_of-2.ensures) (legal_columns c.args.sense c.args.constant c.args.tables c.requires.made)
 
-pub columns_of-requires-clause-within : goal.columns_of-requires-clause-within
-columns_of-requires-clause-within c =
+pub ordered_columns-requires-clause-within : goal.ordered_columns-requires-clause-within
+ordered_columns-requires-clause-within c =
     let in_rows : AreOrdered c.args.tables.rows.entries c.in_ok-row_order.row_order.items c.in_ok-row_order.rows.items = ordered_from c.in_ok-entries_of.field-0.items c.args.tables.rows.entries c.in_ok-row_order.row_order.items c.in_ok-row_order.rows.items c.in_ok-entries_of.ensures
     c.in_ok-row_order.ensures.permutation c.in_ok-row_order.ensures.sorted c.in_ok-row_order.ensures.taken in
-    let in_columns : AreOrdered c.args.tables.columns.entries c.in_ok-_column_order._column_order.items c.in_ok-_column_order.columns.items = ordered_from c.in_ok-entries_of-2.field-0.items c.args.tables.columns.entries c.in_ok-_column_order._column_order.items c.in_ok-_column_order.columns.items c.in_ok-entries_of-2.ensures
-    c.in_ok-_column_order.ensures.permutation c.in_ok-_column_order.ensures.sorted c.in_ok-_column_order.ensures.taken in
     let order = c.in_ok-row_order.row_order.items in
     let ranked : AreRanks order c.in_ok-ranks.ranks.items = subst (λ (order : List ℕ). AreRanks order c.in_ok-ranks.ranks.items) c.deref.ensures.value
     (record { objective = c.in_ok-ranks.ensures.objective; places = c.in_ok-ranks.ensures.ranks; len = c.in_ok-ranks.ensures.len }) in
-    cells_within c.args.tables.objective c.args.tables.rows.entries c.args.tables.columns.entries (length c.deref-2.result.now) c.in_ok-_column_order._column_order.items c.in_ok-_column_order.columns.items c.requires.numbered
-    (ap length c.deref-2.ensures.value ∙ ranks_length (length c.args.tables.rows.entries) order c.in_ok-ranks.ranks.items in_rows.permuted ranked) in_columns
+    subst (All (λ column. All (λ cell. cell.0 < length c.deref-2.result.now) column.1.cells)) (sym c.in_ok-entries_of-2.ensures)
+    (cells_within c.args.tables.objective c.args.tables.rows.entries c.args.tables.columns.entries (length c.deref-2.result.now) c.requires.numbered
+    (ap length c.deref-2.ensures.value ∙ ranks_length (length c.args.tables.rows.entries) order c.in_ok-ranks.ranks.items in_rows.permuted ranked))
 
-pub columns_of-requires-clause-apart : goal.columns_of-requires-clause-apart
-columns_of-requires-clause-apart c =
+pub ordered_columns-requires-clause-apart : goal.ordered_columns-requires-clause-apart
+ordered_columns-requires-clause-apart c =
     let in_rows : AreOrdered c.args.tables.rows.entries c.in_ok-row_order.row_order.items c.in_ok-row_order.rows.items = ordered_from c.in_ok-entries_of.field-0.items c.args.tables.rows.entries c.in_ok-row_order.row_order.items c.in_ok-row_order.rows.items c.in_ok-entries_of.ensures
     c.in_ok-row_order.ensures.permutation c.in_ok-row_order.ensures.sorted c.in_ok-row_order.ensures.taken in
     let order = c.in_ok-row_order.row_order.items in
@@ -76,8 +75,8 @@ pub of_parts-requires : goal.of_parts-requires
 of_parts-requires c =
     let in_rows : AreOrdered c.args.tables.rows.entries c.in_ok-row_order.row_order.items c.in_ok-row_order.rows.items = ordered_from c.in_ok-entries_of.field-0.items c.args.tables.rows.entries c.in_ok-row_order.row_order.items c.in_ok-row_order.rows.items c.in_ok-entries_of.ensures
     c.in_ok-row_order.ensures.permutation c.in_ok-row_order.ensures.sorted c.in_ok-row_order.ensures.taken in
-    let in_columns : AreOrdered c.args.tables.columns.entries c.in_ok-_column_order._column_order.items c.in_ok-_column_order.columns.items = ordered_from c.in_ok-entries_of-2.field-0.items c.args.tables.columns.entries c.in_ok-_column_order._column_order.items c.in_ok-_column_order.columns.items c.in_ok-entries_of-2.ensures
-    c.in_ok-_column_order.ensures.permutation c.in_ok-_column_order.ensures.sorted c.in_ok-_column_order.ensures.taken in
+    let in_columns : AreOrdered c.args.tables.columns.entries c.in_ok-_column_order._column_order.items (taken c.in_ok-entries_of-2.field-0.items c.in_ok-_column_order._column_order.items) = ordered_from c.in_ok-entries_of-2.field-0.items c.args.tables.columns.entries c.in_ok-_column_order._column_order.items (taken c.in_ok-entries_of-2.field-0.items c.in_ok-_column_order._column_order.items) c.in_ok-entries_of-2.ensures
+    c.in_ok-_column_order.ensures.permutation c.in_ok-_column_order.ensures.sorted refl in
     let order = c.in_ok-row_order.row_order.items in
     let ranked : AreRanks order c.in_ok-ranks.ranks.items = subst (λ (order : List ℕ). AreRanks order c.in_ok-ranks.ranks.items) c.deref.ensures.value
     (record { objective = c.in_ok-ranks.ensures.objective; places = c.in_ok-ranks.ensures.ranks; len = c.in_ok-ranks.ensures.len }) in
@@ -96,8 +95,8 @@ of_parts-requires c =
       ranked = ranked;
       objective_is = c.parts_of.ensures.objective;
       rows_are = c.parts_of.ensures.rows ∙ c.in_ok-rows.ensures ∙ ap (each_part bytes limits_in) in_rows.are;
-      bounds_are = ap (each_part own bounds_in) c.parts_of.ensures.columns ∙ c.in_ok-columns.ensures.bounds ∙ ap (each_part bytes bounds_of) in_columns.are;
-      cells_are = ap (each_part own cells_in) c.parts_of.ensures.columns ∙ c.in_ok-columns.ensures.cells
+      bounds_are = ap (each_part own bounds_in) c.parts_of.ensures.columns ∙ c.in_ok-_column_order.ensures.bounds ∙ ap (each_part bytes bounds_of) in_columns.are;
+      cells_are = ap (each_part own cells_in) c.parts_of.ensures.columns ∙ c.in_ok-_column_order.ensures.cells
           ∙ (λ i. each_part bytes (moved_in (c.deref-2.ensures.value i)) (in_columns.are i));
     } in
     let meant = finished_parts objective rows columns m finished c.args.sense c.args.constant c.requires.numbered
@@ -110,8 +109,8 @@ pub returns : goal.returns
 returns c =
     let in_rows : AreOrdered c.args.tables.rows.entries c.in_ok-row_order.row_order.items c.in_ok-row_order.rows.items = ordered_from c.in_ok-entries_of.field-0.items c.args.tables.rows.entries c.in_ok-row_order.row_order.items c.in_ok-row_order.rows.items c.in_ok-entries_of.ensures
     c.in_ok-row_order.ensures.permutation c.in_ok-row_order.ensures.sorted c.in_ok-row_order.ensures.taken in
-    let in_columns : AreOrdered c.args.tables.columns.entries c.in_ok-_column_order._column_order.items c.in_ok-_column_order.columns.items = ordered_from c.in_ok-entries_of-2.field-0.items c.args.tables.columns.entries c.in_ok-_column_order._column_order.items c.in_ok-_column_order.columns.items c.in_ok-entries_of-2.ensures
-    c.in_ok-_column_order.ensures.permutation c.in_ok-_column_order.ensures.sorted c.in_ok-_column_order.ensures.taken in
+    let in_columns : AreOrdered c.args.tables.columns.entries c.in_ok-_column_order._column_order.items (taken c.in_ok-entries_of-2.field-0.items c.in_ok-_column_order._column_order.items) = ordered_from c.in_ok-entries_of-2.field-0.items c.args.tables.columns.entries c.in_ok-_column_order._column_order.items (taken c.in_ok-entries_of-2.field-0.items c.in_ok-_column_order._column_order.items) c.in_ok-entries_of-2.ensures
+    c.in_ok-_column_order.ensures.permutation c.in_ok-_column_order.ensures.sorted refl in
     let order = c.in_ok-row_order.row_order.items in
     let ranked : AreRanks order c.in_ok-ranks.ranks.items = subst (λ (order : List ℕ). AreRanks order c.in_ok-ranks.ranks.items) c.deref.ensures.value
     (record { objective = c.in_ok-ranks.ensures.objective; places = c.in_ok-ranks.ensures.ranks; len = c.in_ok-ranks.ensures.len }) in
@@ -130,8 +129,8 @@ returns c =
       ranked = ranked;
       objective_is = c.parts_of.ensures.objective;
       rows_are = c.parts_of.ensures.rows ∙ c.in_ok-rows.ensures ∙ ap (each_part bytes limits_in) in_rows.are;
-      bounds_are = ap (each_part own bounds_in) c.parts_of.ensures.columns ∙ c.in_ok-columns.ensures.bounds ∙ ap (each_part bytes bounds_of) in_columns.are;
-      cells_are = ap (each_part own cells_in) c.parts_of.ensures.columns ∙ c.in_ok-columns.ensures.cells
+      bounds_are = ap (each_part own bounds_in) c.parts_of.ensures.columns ∙ c.in_ok-_column_order.ensures.bounds ∙ ap (each_part bytes bounds_of) in_columns.are;
+      cells_are = ap (each_part own cells_in) c.parts_of.ensures.columns ∙ c.in_ok-_column_order.ensures.cells
           ∙ (λ i. each_part bytes (moved_in (c.deref-2.ensures.value i)) (in_columns.are i));
     } in
     let meant = finished_parts objective rows columns m finished c.args.sense c.args.constant c.requires.numbered
