@@ -1,10 +1,10 @@
 -- Lines that are complete, and the bytes behind them, where a text is cut into pieces.
-use Rattle.std.proofs.Common.{◌≡◌, refl, sym, ap, subst, ◌∙◌, ℕ, List, [], ◌∷◌, ◌++◌, true, false, append_assoc}
-use Rattle.std.specs.List.{slice_split, onto_first, All}
+use Rattle.std.proofs.Common.{◌≡◌, refl, sym, ap, subst, ◌∙◌, ℕ, List, [], ◌∷◌, ◌++◌, true, false, append-nil, append_assoc}
+use Rattle.std.specs.List.{slice_split, onto_first}
 use Rattle.std.specs.Str.Lines.{lines, lines_of_parts, strip_carriage_return}
 use Rattle.std.proofs.lemmas.List.Splits.{slice_split_none, slice_split_at, slice_split-cons_yes, slice_split-cons_no}
-use Rattle.std.proofs.lemmas.List.Elements.{All-nil, All-cons}
-use Rattle.mpslp_model.specs.CompleteLines.{is_feed, ended_parts, last_part, complete_lines, unfinished}
+use Rattle.std.proofs.lemmas.List.Elements.{All-nil, All-cons, All-append}
+use Rattle.mpslp_model.specs.CompleteLines.{is_feed, ended_parts, last_part, complete_lines, unfinished, HasNoFeed}
 
 -- ---- parts between line feeds
 
@@ -110,9 +110,6 @@ lines-more xs ys =
 
 -- ---- bytes without a line feed
 
-abbrev pub HasNoFeed : List ℕ → Type 0
-HasNoFeed bytes = All (λ byte. is_feed byte ≡ false) bytes
-
 last-onto : (byte : ℕ) (part : List ℕ) (more : List (List ℕ)) → is_feed byte ≡ false → HasNoFeed (last_part (part ∷ more)) → HasNoFeed (last_part ((byte ∷ part) ∷ more))
 last-onto byte part [] other h = All-cons (λ b. is_feed b ≡ false) byte part other h
 last-onto byte part (next ∷ more) other h = h
@@ -134,9 +131,34 @@ complete-no_feed bytes h = ap ended_parts (slice_split_none is_feed bytes h)
 pub unfinished-all : (bytes : List ℕ) → HasNoFeed bytes → unfinished bytes ≡ bytes
 unfinished-all bytes h = ap last_part (slice_split_none is_feed bytes h)
 
--- a line that its line feed completes
-pub complete-line : (line : List ℕ) → HasNoFeed line → complete_lines (line ++ 10 ∷ []) ≡ strip_carriage_return line ∷ []
-complete-line line h = ap ended_parts (slice_split_at is_feed line 10 [] h refl)
+on-no_feed : (bytes part : List ℕ) → HasNoFeed part → HasNoFeed (unfinished bytes ++ part)
+on-no_feed bytes part h = All-append (λ b. is_feed b ≡ false) (unfinished bytes) part (unfinished-no_feed bytes) h
 
-pub unfinished-line : (line : List ℕ) → HasNoFeed line → unfinished (line ++ 10 ∷ []) ≡ []
-unfinished-line line h = ap last_part (slice_split_at is_feed line 10 [] h refl)
+-- behind other bytes
+pub complete-same : (bytes part : List ℕ) → HasNoFeed part → complete_lines (bytes ++ part) ≡ complete_lines bytes
+complete-same bytes part h =
+    complete-more bytes part ∙ ap (λ l. complete_lines bytes ++ l) (complete-no_feed (unfinished bytes ++ part) (on-no_feed bytes part h)) ∙ append-nil (complete_lines bytes)
+
+pub unfinished-on : (bytes part : List ℕ) → HasNoFeed part → unfinished (bytes ++ part) ≡ unfinished bytes ++ part
+unfinished-on bytes part h = unfinished-more bytes part ∙ unfinished-all (unfinished bytes ++ part) (on-no_feed bytes part h)
+
+-- ---- a line feed
+
+-- it completes a line
+pub complete-ended : (bytes : List ℕ) → complete_lines (bytes ++ 10 ∷ []) ≡ complete_lines bytes ++ strip_carriage_return (unfinished bytes) ∷ []
+complete-ended bytes =
+    complete-more bytes (10 ∷ [])
+    ∙ ap (λ parts. complete_lines bytes ++ ended_parts parts) (slice_split_at is_feed (unfinished bytes) 10 [] (unfinished-no_feed bytes) refl)
+
+pub unfinished-ended : (bytes : List ℕ) → unfinished (bytes ++ 10 ∷ []) ≡ []
+unfinished-ended bytes = unfinished-more bytes (10 ∷ []) ∙ ap last_part (slice_split_at is_feed (unfinished bytes) 10 [] (unfinished-no_feed bytes) refl)
+
+-- ---- bytes behind a line feed
+
+pub complete-from : (bytes part : List ℕ) → unfinished bytes ≡ [] → unfinished part ≡ [] → complete_lines (bytes ++ part) ≡ complete_lines bytes ++ lines part
+complete-from bytes part start whole =
+    complete-more bytes part ∙ ap (λ l. complete_lines bytes ++ complete_lines (l ++ part)) start
+    ∙ ap (λ l. complete_lines bytes ++ l) (sym (lines-are part ∙ ap (λ l. complete_lines part ++ last_line l) whole ∙ append-nil (complete_lines part)))
+
+pub unfinished-from : (bytes part : List ℕ) → unfinished bytes ≡ [] → unfinished (bytes ++ part) ≡ unfinished part
+unfinished-from bytes part start = unfinished-more bytes part ∙ ap (λ l. unfinished (l ++ part)) start

@@ -1,6 +1,6 @@
 -- Which lines of a text are complete where only its first bytes are there.
-use Rattle.std.specs.Prelude.{ℕ, Bool, ◌==◌, List, [], ◌∷◌}
-use Rattle.std.specs.List.{slice_split}
+use Rattle.std.specs.Prelude.{◌≡◌, ℕ, Bool, false, ◌==◌, List, [], ◌∷◌}
+use Rattle.std.specs.List.{slice_split, All}
 use Rattle.std.specs.Str.Lines.{strip_carriage_return}
 
 abbrev pub is_feed : ℕ → Bool
@@ -25,3 +25,7 @@ complete_lines bytes = ended_parts (slice_split is_feed bytes)
 -- the bytes behind the last line feed. A carriage return at their end is a byte of theirs
 abbrev pub unfinished : List ℕ → List ℕ
 unfinished bytes = last_part (slice_split is_feed bytes)
+
+-- There is no line feed in these bytes.
+abbrev pub HasNoFeed : List ℕ → Type 0
+HasNoFeed bytes = All (λ byte. is_feed byte ≡ false) bytes

@@ -49,3 +49,7 @@ pub mod ColumnsOfWords
 pub mod DataOfWords
 pub mod KeywordsOfWords
 pub mod TextOfWords
+pub mod FedLemmas
+pub mod LineReaderLemmas
+pub mod LineEndLemmas
+pub mod PieceLemmas

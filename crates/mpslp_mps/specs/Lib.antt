@@ -21,3 +21,6 @@ pub mod VectorDeclared
 pub mod ColumnDeclared
 pub mod KindClash
 pub mod ReadingAnswer
+pub mod OpenLine
+pub mod Fed
+pub mod FedLaws

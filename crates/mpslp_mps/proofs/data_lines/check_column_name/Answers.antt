@@ -1,4 +1,4 @@
-use Rattle.std.proofs.Common.{◌≡◌, refl, sym, ap, ◌∙◌, List, ℕ, Bool, true}
+use Rattle.std.proofs.Common.{◌≡◌, refl, sym, ◌∙◌, true}
 use Rattle.std.specs.Prelude.{Option, Some, None, is_none}
 use Rattle.mpslp_types.specs.Name.{is_mps_name, name_refusal}
 use Rattle.mpslp_types.proofs.NameLemmas.{is_none-name_refusal}
