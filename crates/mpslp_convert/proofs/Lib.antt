@@ -3,3 +3,4 @@ pub mod ConversionLemmas
 pub mod LoadLemmas
 pub mod RunLemmas
 pub mod FaultLineLemmas
+pub mod FeedingLemmas

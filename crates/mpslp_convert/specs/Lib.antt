@@ -3,3 +3,4 @@ pub mod Compared
 pub mod Runs
 pub mod FaultLine
 pub mod Laws
+pub mod Feeding

@@ -10,6 +10,7 @@ mod compared;
 mod conversion;
 mod counter;
 mod faults;
+mod feeding;
 pub mod laws;
 mod reporting;
 mod running;

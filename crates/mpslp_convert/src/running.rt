@@ -10,11 +10,12 @@ ghost use Rattle.mpslp_convert.specs.Runs.{SourceHeld, SourceHeldMore, IsLoad, I
 
 use crate::counter::Counter;
 use crate::faults::RunFault;
-use mpslp_model::{Format, Model, ReadFault, Sink, Source, WriteFault};
+use crate::feeding::read_model;
+use mpslp_model::{Format, Model, Sink, Source, WriteFault};
 use std::alloc::Global;
 
 /// The most bytes that are asked for in one read.
-const PIECE: usize = 65_536;
+pub(crate) const PIECE: usize = 65_536;
 
 /// All bytes of a source.
 ///
@@ -94,10 +95,11 @@ fn put_model<B: Format, W: Sink>(model: &Model, sink: &mut W) -> Result<(), RunF
 /// Reads a source to its end, and writes to the sink the canonical text in B of the model that its bytes
 /// declare in A, flushed once.
 ///
-/// The source is read as by [`load`]. Nothing is written before all bytes were read and accepted: the
-/// source is at its end after `Ok` and after each fault but [`Read`](RunFault::Read),
-/// [`TooLong`](RunFault::TooLong) and [`OutOfMemory`](RunFault::OutOfMemory). The sink is called at most
-/// once for each byte of the text, and once to flush it. Either device stays failed once it has failed.
+/// The source is read as by [`load`], but no whole file is kept: each piece is fed to the reader of A. The first fault of
+/// the bytes is told only where the source has ended, so nothing is written before all bytes were read and accepted. The
+/// source is at its end after `Ok` and after each fault but [`Read`](RunFault::Read), [`TooLong`](RunFault::TooLong) and
+/// [`OutOfMemory`](RunFault::OutOfMemory). The sink is called at most once for each byte of the text, and once to flush it.
+/// Either device stays failed once it has failed.
 ///
 /// What is written is known where the sink's writer tells what it holds, as a `Vec` does:
 ///
@@ -135,12 +137,6 @@ pub fn run<A: Format, B: Format, R: Source, W: Sink>(
     ensures source_stays { R.failed source.old ≡ true → R.failed source.new ≡ true }
     ensures sink_stays { W.failed sink.old ≡ true → W.failed sink.new ≡ true }
 {
-    let bytes = load(alloc, max_bytes, source)?;
-    let model = match A::read(alloc, &bytes) {
-        Ok(model) => model,
-        Err(ReadFault::File(fault)) => return Err(RunFault::File(fault)),
-        Err(ReadFault::Failed) => unreachable!(),
-        Err(ReadFault::OutOfMemory) => return Err(RunFault::OutOfMemory),
-    };
+    let model = read_model::<A, R>(alloc, max_bytes, source)?;
     put_model::<B, W>(&model, sink)
 }

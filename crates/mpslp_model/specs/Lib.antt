@@ -1,1 +1,3 @@
 pub mod Formats
+pub mod Readers
+pub mod CompleteLines

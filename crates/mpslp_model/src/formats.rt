@@ -6,6 +6,7 @@ ghost use Rattle.mpslp_model.specs.Formats.{IsAnswerTo, IsWritten};
 ghost use Rattle.mpslp_types.specs.declared.faults.Fault.{Fault};
 ghost use Rattle.mpslp_types.specs.declared.faults.NameAt.{NameAt};
 
+use crate::readers::ModelReader;
 use mpslp_core::Model;
 use mpslp_io::Sink;
 use mpslp_types::{ReadFault, WriteFault};
@@ -25,6 +26,9 @@ pub trait Format {
 
     /// Where a model first has what the format cannot tell, if it has such a thing.
     ghost unfit: { LinearModel → Option NameAt };
+
+    /// What reads its bytes in pieces.
+    type Reader: ModelReader;
 
     /// The model that the bytes declare. Refused are bytes that declare none, with their first fault,
     /// and want of memory; [`Failed`](ReadFault::Failed) is never answered.
@@ -61,4 +65,10 @@ pub trait Format {
 
     /// No bytes have two first faults.
     ghost one_fault: { (bytes : List ℕ) (fault other : Fault) → first_fault bytes fault → first_fault bytes other → fault ≡ other };
+
+    /// What its reader says that bytes declare, they declare.
+    ghost reader_declares: { (bytes : List ℕ) (m : LinearModel) → Self.Reader.declares bytes m → declares bytes m };
+
+    /// What its reader says is the first fault of bytes, is theirs.
+    ghost reader_faults: { (bytes : List ℕ) (fault : Fault) → Self.Reader.first_fault bytes fault → first_fault bytes fault };
 }

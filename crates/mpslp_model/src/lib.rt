@@ -11,6 +11,7 @@
 
 mod formats;
 pub mod laws;
+mod readers;
 
 pub use formats::Format;
 pub use mpslp_builder::Builder;
@@ -20,3 +21,4 @@ pub use mpslp_types::{
     BuildFault, Fault, FaultKind, Kind, Limit, MAX_NAME_LEN, Name, NameAt, NameFault, ReadFault,
     RowType, Sense, WriteFault,
 };
+pub use readers::{ModelReader, read_whole};

@@ -1,6 +1,6 @@
 -- The lines up to that of ENDATA, one after another.
-use Rattle.std.proofs.Common.{◌≡◌, refl, ap, ◌∙◌, ℕ, suc, ◌+◌, List, [], ◌∷◌, take, Bool, true, false, cond, arith}
-use Rattle.std.specs.Prelude.{not, Option, Some, None}
+use Rattle.std.proofs.Common.{◌≡◌, refl, ℕ, suc, List, [], ◌∷◌, take, true, false}
+use Rattle.std.specs.Prelude.{Option, Some, None}
 use Rattle.std.specs.List.{position_or_len}
 use Rattle.std.specs.Option.{option_or}
 use Rattle.mpslp_mps.specs.Line.{Item}
@@ -8,6 +8,7 @@ use Rattle.mpslp_mps.specs.Section.{section_begun, is_section, begins}
 use Rattle.mpslp_mps.specs.Context.{Context}
 use Rattle.mpslp_mps.specs.NextContext.{next_context}
 use Rattle.mpslp_mps.specs.MpsText.{is_end}
+use Rattle.mpslp_mps.specs.FedLaws.{to_end-last, to_end-more}
 use Rattle.mpslp_mps.specs.declared.sections.Section.{Section}
 use Rattle.mpslp_mps.specs.declared.sections.Section.TheVariants.{EndData}
 
@@ -16,13 +17,10 @@ abbrev pub up_to_end : List (List ℕ) → List (List ℕ)
 up_to_end lines = take (suc (position_or_len is_end lines)) lines
 
 pub up_to_end-last : (line : List ℕ) (more : List (List ℕ)) → is_end line ≡ true → up_to_end (line ∷ more) ≡ line ∷ []
-up_to_end-last line more h = ap (λ (b : Bool). take (suc (cond (not b) (1 + position_or_len is_end more) 0)) (line ∷ more)) h
+up_to_end-last = to_end-last
 
 pub up_to_end-more : (line : List ℕ) (more : List (List ℕ)) → is_end line ≡ false → up_to_end (line ∷ more) ≡ line ∷ up_to_end more
-up_to_end-more line more h =
-    let e : 1 + position_or_len is_end more ≡ suc (position_or_len is_end more) = omega arith in
-    ap (λ (b : Bool). take (suc (cond (not b) (1 + position_or_len is_end more) 0)) (line ∷ more)) h
-    ∙ ap (λ (n : ℕ). take (suc n) (line ∷ more)) e
+up_to_end-more = to_end-more
 
 -- a context that does not stand at the end stands there after the line of ENDATA alone
 pub at_end-after : (c : Context) (item : Item) → is_section EndData c.section ≡ false → is_section EndData (next_context c item).section ≡ begins EndData item

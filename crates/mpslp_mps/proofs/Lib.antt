@@ -55,3 +55,7 @@ pub mod KindsOfLines
 pub mod FaultsOfWords
 pub mod FaultsOfNames
 pub mod WorkedSentences
+pub mod FedLemmas
+pub mod LineReaderLemmas
+pub mod LineEndLemmas
+pub mod PieceLemmas

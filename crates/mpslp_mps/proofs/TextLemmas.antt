@@ -1,22 +1,18 @@
 -- What the lines of a text say of the whole.
-use Rattle.std.proofs.Common.{◌≡◌, sym, ap, ◌∙◌, ℕ, List, [], Bool, true, cond}
-use Rattle.std.specs.Prelude.{Option, Some, None, is_some}
+use Rattle.std.proofs.Common.{◌≡◌, sym, ap, ◌∙◌, ℕ, List, [], Bool, cond}
+use Rattle.std.specs.Prelude.{Option, Some, None}
 use Rattle.std.specs.Option.{option_or}
 use Rattle.std.specs.Str.Lines.{lines}
 use Rattle.mpslp_builder.specs.Declaration.{Draft, empty_draft, draft_of}
 use Rattle.mpslp_builder.specs.Meaning.{whole_fault, file_fault}
 use Rattle.mpslp_types.specs.declared.faults.Fault.{Fault}
 use Rattle.mpslp_types.specs.declared.faults.FaultKind.TheVariants.{MissingEnd}
-use Rattle.mpslp_types.specs.declared.faults.ReadFault.{ReadFault}
-use Rattle.mpslp_types.specs.declared.faults.ReadFault.TheVariants.{File, Failed, OutOfMemory}
 use Rattle.mpslp_mps.specs.Context.{context_of}
 use Rattle.mpslp_mps.specs.MpsText.{has_end, declarations_of}
 use Rattle.mpslp_mps.specs.FirstFault.{whole_mps_fault, first_mps_fault}
 use Rattle.mpslp_mps.specs.Reading.{fault_from, draft_from}
-use Rattle.mpslp_reading.specs.LineAnswer.{IsFaultOf}
 use Rattle.mpslp_mps.specs.ReadingAnswer.{lines_to_end}
 use Rattle.mpslp_mps.proofs.ReadingLemmas.{first_fault-is, draft-is}
-use Rattle.mpslp_mps.proofs.NamedLemmas.{named-lines_to_end}
 
 -- the fault of the first line that has one
 abbrev pub fault_of_lines : List ℕ → Option Fault
@@ -25,11 +21,6 @@ fault_of_lines bytes = fault_from 1 (context_of []) empty_draft (lines_to_end (l
 -- and the draft after all of them
 abbrev pub draft_lines : List ℕ → Draft
 draft_lines bytes = draft_from (context_of []) empty_draft (lines_to_end (lines bytes))
-
-pub first_fault-line : (bytes : List ℕ) (error : ReadFault) → IsFaultOf (fault_of_lines bytes) error → IsFaultOf (first_mps_fault bytes) error
-first_fault-line bytes (File fault) fault_is = first_fault-is bytes ∙ ap (λ (o : Option Fault). option_or o (whole_mps_fault bytes)) fault_is
-first_fault-line bytes Failed fault_is = fault_is
-first_fault-line bytes OutOfMemory fault_is = tt
 
 abbrev whole : List ℕ → Bool → Option Fault
 whole bytes ended = cond ended (file_fault (draft_of (declarations_of bytes))) (Some (whole_fault MissingEnd None))
@@ -40,6 +31,3 @@ first_fault-whole bytes ended none is =
 
 pub draft-whole : (bytes : List ℕ) → draft_lines bytes ≡ draft_of (declarations_of bytes)
 draft-whole bytes = sym (draft-is bytes)
-
-pub named-whole : (bytes : List ℕ) → fault_of_lines bytes ≡ None → has_end bytes ≡ true → is_some (draft_lines bytes).objective ≡ true
-named-whole bytes none ended = named-lines_to_end (lines bytes) 1 (context_of []) empty_draft (λ h. cc) none ended

@@ -31,3 +31,8 @@ fault_from n context earlier (line ∷ more) =
 abbrev pub draft_from : Context → Draft → List (List ℕ) → Draft
 draft_from context earlier [] = earlier
 draft_from context earlier (line ∷ more) = draft_from (context_after context line) (draft_after context earlier line) more
+
+-- the context after all of them
+abbrev pub context_from : Context → List (List ℕ) → Context
+context_from context [] = context
+context_from context (line ∷ more) = context_from (context_after context line) more

@@ -17,7 +17,12 @@ mod header_lines;
 mod headers;
 mod items;
 pub mod laws;
+mod line_ends;
+mod line_reader;
 mod lines;
+mod open_line;
+mod piece_reader;
+mod reader;
 mod reading;
 mod sections;
 mod shapes;
@@ -27,6 +32,7 @@ mod words;
 
 pub use bound_types::BoundType;
 pub use mpslp_reading::MAX_LINE_LEN;
+pub use reader::MpsReader;
 pub use reading::read_mps;
 pub use sections::Section;
 

@@ -8,7 +8,7 @@ ghost use Rattle.mpslp_canonical.proofs.MpsFormat as laws;
 
 use crate::mps::write_mps;
 use mpslp_model::{Format, Model, ReadFault, Sink, WriteFault};
-use mpslp_mps::read_mps;
+use mpslp_mps::{MpsReader, read_mps};
 use std::alloc::Global;
 
 /// MPS, as the CPLEX file format reference has it, in this profile (`docs/FORMATS.md`). It can tell
@@ -26,6 +26,8 @@ impl Format for Mps {
     ghost text = { canonical_mps };
 
     ghost unfit = { λ m. None };
+
+    type Reader = MpsReader;
 
     fn read(alloc: Global, bytes: &[u8]) -> Result<Model, ReadFault> {
         read_mps(alloc, bytes)
@@ -49,4 +51,8 @@ impl Format for Mps {
     ghost no_fault = { laws.no_fault };
 
     ghost one_fault = { laws.one_fault };
+
+    ghost reader_declares = { λ bytes m declared. declared };
+
+    ghost reader_faults = { λ bytes fault first. first };
 }

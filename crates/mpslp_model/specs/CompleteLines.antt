@@ -1,0 +1,31 @@
+-- Which lines of a text are complete where only its first bytes are there.
+use Rattle.std.specs.Prelude.{◌≡◌, ℕ, Bool, false, ◌==◌, List, [], ◌∷◌}
+use Rattle.std.specs.List.{slice_split, All}
+use Rattle.std.specs.Str.Lines.{strip_carriage_return}
+
+abbrev pub is_feed : ℕ → Bool
+is_feed byte = byte == 10
+
+-- of the parts between line feeds, those that one follows, as lines
+abbrev pub ended_parts : List (List ℕ) → List (List ℕ)
+ended_parts [] = []
+ended_parts (part ∷ []) = []
+ended_parts (part ∷ next ∷ more) = strip_carriage_return part ∷ ended_parts (next ∷ more)
+
+-- the last of them, which none follows
+abbrev pub last_part : List (List ℕ) → List ℕ
+last_part [] = []
+last_part (part ∷ []) = part
+last_part (part ∷ next ∷ more) = last_part (next ∷ more)
+
+-- the lines whose line feed is there
+abbrev pub complete_lines : List ℕ → List (List ℕ)
+complete_lines bytes = ended_parts (slice_split is_feed bytes)
+
+-- the bytes behind the last line feed. A carriage return at their end is a byte of theirs
+abbrev pub unfinished : List ℕ → List ℕ
+unfinished bytes = last_part (slice_split is_feed bytes)
+
+-- There is no line feed in these bytes.
+abbrev pub HasNoFeed : List ℕ → Type 0
+HasNoFeed bytes = All (λ byte. is_feed byte ≡ false) bytes

@@ -1,0 +1,193 @@
+-- Lines that are read one after another, and what is left of a text that comes in pieces.
+use Rattle.std.proofs.Common.{◌≡◌, refl, sym, ap, subst, ◌∙◌, ℕ, ◌+◌, ◌-◌, ◌^◌, min, List, [], ◌∷◌, ◌++◌, length, Bool, true, false, append-nil, arith}
+use Rattle.std.specs.Prelude.{◌||◌, Option, Some, None, is_some}
+use Rattle.std.specs.List.{list_any}
+use Rattle.std.specs.Option.{option_or, option_map}
+use Rattle.std.proofs.lemmas.List.{length-append}
+use Rattle.std.proofs.lemmas.List.Folds.{list_any-append}
+use Rattle.mpslp_builder.specs.Declaration.{Draft, empty_draft}
+use Rattle.mpslp_types.specs.declared.faults.Fault.{Fault}
+use Rattle.mpslp_types.specs.declared.faults.FaultKind.{FaultKind}
+use Rattle.mpslp_reading.specs.LineAnswer.{fault_on_line}
+use Rattle.mpslp_mps.specs.Section.{is_section}
+use Rattle.mpslp_mps.specs.Line.{item_of}
+use Rattle.mpslp_mps.specs.Context.{Context, context_of}
+use Rattle.mpslp_mps.specs.MpsText.{is_end}
+use Rattle.mpslp_mps.specs.FirstFault.{line_fault}
+use Rattle.mpslp_mps.specs.Reading.{placed_in, draft_after, context_after, fault_from, draft_from, context_from}
+use Rattle.mpslp_mps.specs.ReadingAnswer.{lines_to_end}
+use Rattle.mpslp_mps.specs.Fed.{lines_fault, LedTo}
+use Rattle.mpslp_mps.specs.FedLaws.{to_end-last, to_end-more}
+use Rattle.mpslp_mps.specs.declared.sections.Section.TheVariants.{EndData}
+use Rattle.mpslp_mps.specs.VectorDeclared.{HasMpsSides}
+use Rattle.mpslp_mps.proofs.EndLemmas.{at_end-after}
+use Rattle.mpslp_mps.proofs.LoopLemmas.{sides-next}
+use Rattle.mpslp_mps.proofs.NamedLemmas.{named-lines_to_end}
+use Rattle.mpslp_mps.proofs.ReadingLemmas.{fault_from-is}
+
+-- ---- lines behind others
+
+or-behind : (a b c : Option Fault) → option_or (option_or a b) c ≡ option_or a (option_or b c)
+or-behind None b c = refl
+or-behind (Some x) b c = refl
+
+fault_from-append : (xs ys : List (List ℕ)) (n : ℕ) (context : Context) (earlier : Draft)
+    → fault_from n context earlier (xs ++ ys) ≡ option_or (fault_from n context earlier xs) (fault_from (n + length xs) (context_from context xs) (draft_from context earlier xs) ys)
+fault_from-append [] ys n context earlier = let e : n ≡ n + 0 = omega arith in ap (λ (m : ℕ). fault_from m context earlier ys) e
+fault_from-append (line ∷ xs) ys n context earlier =
+    let own = option_map (fault_on_line n) (line_fault (placed_in context earlier line)) in
+    let next = context_after context line in
+    let later = draft_after context earlier line in
+    let e : n + 1 + length xs ≡ n + length (line ∷ xs) = omega arith in
+    ap (option_or own) (fault_from-append xs ys (n + 1) next later)
+    ∙ sym (or-behind own (fault_from (n + 1) next later xs) (fault_from (n + 1 + length xs) (context_from next xs) (draft_from next later xs) ys))
+    ∙ ap (λ (m : ℕ). option_or (option_or own (fault_from (n + 1) next later xs)) (fault_from m (context_from next xs) (draft_from next later xs) ys)) e
+
+context_from-append : (xs ys : List (List ℕ)) (context : Context) → context_from context (xs ++ ys) ≡ context_from (context_from context xs) ys
+context_from-append [] ys context = refl
+context_from-append (line ∷ xs) ys context = context_from-append xs ys (context_after context line)
+
+draft_from-append : (xs ys : List (List ℕ)) (context : Context) (earlier : Draft)
+    → draft_from context earlier (xs ++ ys) ≡ draft_from (context_from context xs) (draft_from context earlier xs) ys
+draft_from-append [] ys context earlier = refl
+draft_from-append (line ∷ xs) ys context earlier = draft_from-append xs ys (context_after context line) (draft_after context earlier line)
+
+-- ---- up to that of ENDATA
+
+first_none : (a b : Bool) → (a || b) ≡ false → a ≡ false
+first_none true b h = h
+first_none false b h = refl
+
+rest_none : (a b : Bool) → (a || b) ≡ false → b ≡ false
+rest_none true b h = cc
+rest_none false b h = h
+
+-- of lines without one all are read, and so are those behind
+unended-more : (xs ys : List (List ℕ)) → list_any is_end xs ≡ false → lines_to_end (xs ++ ys) ≡ xs ++ lines_to_end ys
+unended-more [] ys h = refl
+unended-more (line ∷ xs) ys h =
+    to_end-more line (xs ++ ys) (first_none (is_end line) (list_any is_end xs) h)
+    ∙ ap (λ (read : List (List ℕ)). line ∷ read) (unended-more xs ys (rest_none (is_end line) (list_any is_end xs) h))
+
+unended-all : (xs : List (List ℕ)) → list_any is_end xs ≡ false → lines_to_end xs ≡ xs
+unended-all xs h = ap lines_to_end (sym (append-nil xs)) ∙ unended-more xs [] h ∙ append-nil xs
+
+one-read : (line : List ℕ) → lines_to_end (line ∷ []) ≡ line ∷ []
+one-read line =
+    elim (is_end line) as (λ b. is_end line ≡ b → lines_to_end (line ∷ []) ≡ line ∷ []) [
+      | true ↦ λ e. to_end-last line [] e
+      | false ↦ λ e. to_end-more line [] e
+    ] refl
+
+-- of lines with one none behind them is read
+ended-more : (xs ys : List (List ℕ)) → list_any is_end xs ≡ true → lines_to_end (xs ++ ys) ≡ lines_to_end xs
+ended-more [] ys h = cc
+ended-more (line ∷ xs) ys h =
+    elim (is_end line) as (λ b. is_end line ≡ b → (b || list_any is_end xs) ≡ true → lines_to_end (line ∷ (xs ++ ys)) ≡ lines_to_end (line ∷ xs)) [
+      | true ↦ λ e k. to_end-last line (xs ++ ys) e ∙ sym (to_end-last line xs e)
+      | false ↦ λ e k. to_end-more line (xs ++ ys) e ∙ ap (λ (read : List (List ℕ)). line ∷ read) (ended-more xs ys k) ∙ sym (to_end-more line xs e)
+    ] refl h
+
+-- ---- one line more
+
+pub lines_fault-is : (text : List (List ℕ)) → lines_fault text ≡ fault_from 1 (context_of []) empty_draft (lines_to_end text)
+lines_fault-is text = fault_from-is (lines_to_end text) 1 [] empty_draft
+
+sides-none : HasMpsSides empty_draft
+sides-none = record { known = λ row h. cc; limited = λ row h. cc; constant = refl }
+
+sides-from : (text : List (List ℕ)) (n : ℕ) (context : Context) (earlier : Draft) → HasMpsSides earlier → fault_from n context earlier text ≡ None → HasMpsSides (draft_from context earlier text)
+sides-from [] n context earlier sides h = sides
+sides-from (line ∷ text) n context earlier sides h =
+    let own = line_fault (placed_in context earlier line) in
+    let rest = fault_from (n + 1) (context_after context line) (draft_after context earlier line) text in
+    sides-from text (n + 1) (context_after context line) (draft_after context earlier line)
+    (sides-next line context earlier (draft_after context earlier line) sides (own_none own rest h) refl) (later_none own rest h)
+  where
+    own_none : (own : Option FaultKind) (rest : Option Fault) → option_or (option_map (fault_on_line n) own) rest ≡ None → own ≡ None
+    own_none None rest h = refl
+    own_none (Some kind) rest h = cc
+
+    later_none : (own : Option FaultKind) (rest : Option Fault) → option_or (option_map (fault_on_line n) own) rest ≡ None → rest ≡ None
+    later_none None rest h = h
+    later_none (Some kind) rest h = cc
+
+module _ (text : List (List ℕ)) (context : Context) (earlier : Draft) (number : ℕ) (led : LedTo text context earlier number) where
+  module _ (unended : is_section EndData context.section ≡ false) where
+    none_yet : list_any is_end text ≡ false
+    none_yet = sym led.ended ∙ unended
+
+    all_read : lines_to_end text ≡ text
+    all_read = unended-all text none_yet
+
+    read_on : (line : List ℕ) → lines_to_end (text ++ line ∷ []) ≡ text ++ line ∷ []
+    read_on line = unended-more text (line ∷ []) none_yet ∙ ap (λ (read : List (List ℕ)). text ++ read) (one-read line)
+
+    context_here : context_from (context_of []) text ≡ context
+    context_here = ap (context_from (context_of [])) (sym all_read) ∙ sym led.context_is
+
+    draft_here : draft_from (context_of []) empty_draft text ≡ earlier
+    draft_here = ap (draft_from (context_of []) empty_draft) (sym all_read) ∙ sym led.draft
+
+    clean_here : fault_from 1 (context_of []) empty_draft text ≡ None
+    clean_here = ap (fault_from 1 (context_of []) empty_draft) (sym all_read) ∙ sym (lines_fault-is text) ∙ led.clean
+
+    -- its fault is the first one
+    fault_next : (line : List ℕ) → lines_fault (text ++ line ∷ []) ≡ fault_from (1 + length text) context earlier (line ∷ [])
+    fault_next line =
+        lines_fault-is (text ++ line ∷ []) ∙ ap (fault_from 1 (context_of []) empty_draft) (read_on line)
+        ∙ fault_from-append text (line ∷ []) 1 (context_of []) empty_draft
+        ∙ (λ i. option_or (clean_here i) (fault_from (1 + length text) (context_here i) (draft_here i) (line ∷ [])))
+
+    pub led-fault : (line : List ℕ) (kind : FaultKind) → line_fault (placed_in context earlier line) ≡ Some kind
+        → lines_fault (text ++ line ∷ []) ≡ Some (record { kind = kind; line = number; name = None })
+    led-fault line kind h =
+        fault_next line
+        ∙ ap (λ (o : Option FaultKind). option_or (option_map (fault_on_line (1 + length text)) o) None) h
+        ∙ ap (λ (n : ℕ). Some (record { kind = kind; line = n; name = None })) (sym (led.counted none_yet))
+
+    pub led-line : (line : List ℕ) (next : Context) (later : Draft) (following : ℕ) → line_fault (placed_in context earlier line) ≡ None
+        → next ≡ context_after context line → later ≡ draft_after context earlier line → following ≡ min (number + 1) (2 ^ 64 - 1)
+        → LedTo (text ++ line ∷ []) next later following
+    led-line line next later following none next_is later_is following_is = record {
+      clean = fault_next line ∙ ap (λ (o : Option FaultKind). option_or (option_map (fault_on_line (1 + length text)) o) None) none;
+      context_is = next_is ∙ ap (λ (c : Context). context_after c line) (sym context_here) ∙ sym (context_from-append text (line ∷ []) (context_of []))
+          ∙ ap (context_from (context_of [])) (sym (read_on line));
+      draft = later_is ∙ (λ i. draft_after (sym context_here i) (sym draft_here i) line) ∙ sym (draft_from-append text (line ∷ []) (context_of []) empty_draft)
+          ∙ ap (draft_from (context_of []) empty_draft) (sym (read_on line));
+      ended = ap (λ (c : Context). is_section EndData c.section) next_is ∙ at_end-after context (item_of line) unended
+          ∙ sym (list_any-append is_end text (line ∷ []) ∙ ap (λ (b : Bool). b || (is_end line || false)) none_yet ∙ or_false (is_end line));
+      counted = λ h. following_is ∙ ap (λ (n : ℕ). min (n + 1) (2 ^ 64 - 1)) (led.counted none_yet)
+          ∙ omega (arith, length-append text (line ∷ []));
+    }
+      where
+        or_false : (b : Bool) → (b || false) ≡ b
+        or_false true = refl
+        or_false false = refl
+
+  -- ---- lines behind that of ENDATA
+
+  pub led-behind : (more : List (List ℕ)) → is_section EndData context.section ≡ true → LedTo (text ++ more) context earlier number
+  led-behind more at_end =
+      let ended = sym led.ended ∙ at_end in
+      let same = ended-more text more ended in
+      let any : list_any is_end (text ++ more) ≡ true = list_any-append is_end text more ∙ ap (λ (b : Bool). b || list_any is_end more) ended in
+      record {
+        clean = lines_fault-is (text ++ more) ∙ ap (fault_from 1 (context_of []) empty_draft) same ∙ sym (lines_fault-is text) ∙ led.clean;
+        context_is = led.context_is ∙ ap (context_from (context_of [])) (sym same);
+        draft = led.draft ∙ ap (draft_from (context_of []) empty_draft) (sym same);
+        ended = at_end ∙ sym any;
+        counted = λ h. let both : true ≡ false = sym any ∙ h in cc;
+      }
+
+  -- ---- what is known of a reader
+
+  -- right sides are as lines declare them
+  pub led-sides : HasMpsSides earlier
+  led-sides = subst HasMpsSides (sym led.draft) (sides-from (lines_to_end text) 1 (context_of []) empty_draft sides-none (sym (lines_fault-is text) ∙ led.clean))
+
+  -- behind the line of ENDATA the objective has a name
+  pub led-named : is_section EndData context.section ≡ true → is_some earlier.objective ≡ true
+  led-named at_end =
+      ap (λ (d : Draft). is_some d.objective) led.draft
+      ∙ named-lines_to_end text 1 (context_of []) empty_draft (λ h. cc) (sym (lines_fault-is text) ∙ led.clean) (sym led.ended ∙ at_end)

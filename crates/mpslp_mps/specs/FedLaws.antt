@@ -1,0 +1,90 @@
+-- Laws of a reader that is fed MPS text in pieces. They stand here since its `impl` cites them.
+use Rattle.std.proofs.Common.{◌≡◌, refl, sym, ap, ◌∙◌, ℕ, ◌+◌, suc, List, [], ◌∷◌, ◌++◌, take, Bool, true, false, cond, arith}
+use Rattle.std.specs.Prelude.{not, is_some, Option, Some, None}
+use Rattle.std.specs.List.{position_or_len}
+use Rattle.std.specs.Option.{option_or, option_map}
+use Rattle.std.specs.Str.Lines.{lines}
+use Rattle.mpslp_builder.specs.Declaration.{Draft, empty_draft, adding_all}
+use Rattle.mpslp_types.specs.declared.faults.Fault.{Fault}
+use Rattle.mpslp_model.specs.CompleteLines.{complete_lines, unfinished}
+use Rattle.mpslp_model.proofs.CompleteLineLemmas.{lines-more}
+use Rattle.mpslp_reading.specs.LineAnswer.{fault_on_line}
+use Rattle.mpslp_mps.specs.Line.{Item, item_of}
+use Rattle.mpslp_mps.specs.Context.{context_of}
+use Rattle.mpslp_mps.specs.MpsText.{Placed, is_end, placed_after, declared_at}
+use Rattle.mpslp_mps.specs.FirstFault.{line_fault, first_line_fault, whole_mps_fault, IsFirstMpsFault}
+use Rattle.mpslp_mps.specs.ReadingAnswer.{lines_to_end}
+use Rattle.mpslp_mps.specs.Fed.{lines_fault, IsFaultOfComplete, IsFedAll}
+use Rattle.mpslp_mps.specs.declared.piece_reader.PieceReader.{PieceReader}
+
+-- ---- the lines up to that of ENDATA
+
+pub to_end-last : (line : List ℕ) (more : List (List ℕ)) → is_end line ≡ true → lines_to_end (line ∷ more) ≡ line ∷ []
+to_end-last line more h = ap (λ (b : Bool). take (suc (cond (not b) (1 + position_or_len is_end more) 0)) (line ∷ more)) h
+
+pub to_end-more : (line : List ℕ) (more : List (List ℕ)) → is_end line ≡ false → lines_to_end (line ∷ more) ≡ line ∷ lines_to_end more
+to_end-more line more h =
+    let e : 1 + position_or_len is_end more ≡ suc (position_or_len is_end more) = omega arith in
+    ap (λ (b : Bool). take (suc (cond (not b) (1 + position_or_len is_end more) 0)) (line ∷ more)) h
+    ∙ ap (λ (n : ℕ). take (suc n) (line ∷ more)) e
+
+-- ---- the first fault
+
+-- of a line, or of those behind it
+stays-behind : (own : Option Fault) (rest later : Option Fault) (fault : Fault) → (rest ≡ Some fault → later ≡ Some fault)
+    → option_or own rest ≡ Some fault → option_or own later ≡ Some fault
+stays-behind None rest later fault on h = on h
+stays-behind (Some found) rest later fault on h = h
+
+first_fault-stays : (text more : List (List ℕ)) (n : ℕ) (before : List Item) (earlier : Draft) (fault : Fault)
+    → first_line_fault n (placed_after before earlier (lines_to_end text)) ≡ Some fault
+    → first_line_fault n (placed_after before earlier (lines_to_end (text ++ more))) ≡ Some fault
+first_fault-stays [] more n before earlier fault h = cc
+first_fault-stays (line ∷ text) more n before earlier fault h =
+    elim (is_end line) as (λ b. is_end line ≡ b → found (line ∷ (text ++ more)) ≡ Some fault) [
+      | true ↦ λ e. ap (λ (read : List (List ℕ)). of read) (to_end-last line (text ++ more) e ∙ sym (to_end-last line text e)) ∙ h
+      | false ↦ λ e.
+          ap of (to_end-more line (text ++ more) e)
+          ∙ stays-behind own (of_more (lines_to_end text)) (of_more (lines_to_end (text ++ more))) fault
+          (first_fault-stays text more (n + 1) (before ++ item_of line ∷ []) next fault) (sym (ap of (to_end-more line text e)) ∙ h)
+    ] refl
+  where
+    here : Placed
+    here = record { context = context_of before; earlier = earlier; line = line }
+
+    next : Draft
+    next = adding_all earlier (declared_at here)
+
+    own : Option Fault
+    own = option_map (fault_on_line n) (line_fault here)
+
+    of : List (List ℕ) → Option Fault
+    of read = first_line_fault n (placed_after before earlier read)
+
+    found : List (List ℕ) → Option Fault
+    found read = of (lines_to_end read)
+
+    of_more : List (List ℕ) → Option Fault
+    of_more read = first_line_fault (n + 1) (placed_after (before ++ item_of line ∷ []) next read)
+
+-- The first fault of some lines is that of more lines.
+pub lines_fault-stays : (text more : List (List ℕ)) (fault : Fault) → lines_fault text ≡ Some fault → lines_fault (text ++ more) ≡ Some fault
+lines_fault-stays text more fault h = first_fault-stays text more 1 [] empty_draft fault h
+
+-- The first fault of the lines that are complete is that of the whole text, whatever follows.
+pub complete-is_first : (bytes more : List ℕ) (fault : Fault) → IsFaultOfComplete bytes fault → IsFirstMpsFault (bytes ++ more) fault
+complete-is_first bytes more fault h =
+    ap (λ (o : Option Fault). option_or o (whole_mps_fault (bytes ++ more)))
+    (ap lines_fault (lines-more bytes more) ∙ lines_fault-stays (complete_lines bytes) (lines (unfinished bytes ++ more)) fault h)
+
+-- ---- a reader
+
+-- A reader that was fed bytes still reads.
+pub fed-works : (reader : Option PieceReader) (bytes : List ℕ) → IsFedAll reader bytes → not (is_some reader) ≡ false
+fed-works None bytes h = absurd h
+fed-works (Some reader) bytes h = refl
+
+-- No line that is complete in the bytes that it was fed has a fault.
+pub fed-is_clean : (reader : Option PieceReader) (bytes : List ℕ) (fault : Fault) → IsFedAll reader bytes → IsFaultOfComplete bytes fault → ⊥
+fed-is_clean None bytes fault h found = h
+fed-is_clean (Some reader) bytes fault h found = let both : None ≡ Some fault = sym h.complete.clean ∙ found in cc

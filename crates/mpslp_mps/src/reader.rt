@@ -1,0 +1,78 @@
+//! A reader of MPS text that comes in pieces.
+
+use crate::piece_reader::PieceReader;
+use mpslp_model::{ModelReader, ReadFault};
+use std::alloc::Global;
+use std::marker::Model;
+
+/// A reader of MPS text that comes in pieces of any length. What the pieces were does not matter: it answers of all of them
+/// together what [`read_mps`](crate::read_mps) answers of the whole text.
+///
+/// It keeps the model as far as it is declared, and of the text only the line that is not complete: at most 1,048,577 bytes
+/// of it, none where the line of ENDATA is complete. A line is completed by its line feed, the last one perhaps by the end
+/// of the text. Lines that are complete in a piece are not copied. After the line of ENDATA each piece is taken, and not
+/// looked at.
+#[derive(Drop)]
+pub struct MpsReader {
+    /// There is none after a piece was refused.
+    pieces: Option<PieceReader>,
+}
+
+impl Model for MpsReader {
+    ghost use Rattle.std.specs.Prelude.{Option, IfSome};
+    ghost use Rattle.mpslp_mps.specs.declared.piece_reader.PieceReader.{PieceReader};
+    ghost use Rattle.mpslp_mps.specs.Fed.{WasFed, KeepsNoneBehindEnd};
+
+    ghost Value = { Option PieceReader };
+
+    ghost view = { λ reader. reader.pieces };
+
+    ghost invariant = { λ reader. IfSome reader.pieces (λ pieces. WasFed pieces × KeepsNoneBehindEnd pieces) };
+}
+
+impl ModelReader for MpsReader {
+    ghost use Rattle.std.specs.Prelude.{is_some, not};
+    ghost use Rattle.mpslp_mps.specs.MpsText.{DeclaresMps};
+    ghost use Rattle.mpslp_mps.specs.FirstFault.{IsFirstMpsFault};
+    ghost use Rattle.mpslp_mps.specs.Fed.{IsFedAll, IsFaultOfComplete};
+    ghost use Rattle.mpslp_mps.specs.FedLaws.{fed-works, fed-is_clean, complete-is_first};
+
+    ghost after = { IsFedAll };
+
+    ghost refused = { λ reader. not (is_some reader) };
+
+    ghost declares = { DeclaresMps };
+
+    ghost first_fault = { IsFirstMpsFault };
+
+    ghost early_fault = { IsFaultOfComplete };
+
+    fn new(alloc: Global) -> MpsReader {
+        MpsReader {
+            pieces: Some(PieceReader::new(alloc)),
+        }
+    }
+
+    fn feed(&mut self, piece: &[u8]) -> Result<(), ReadFault> {
+        let Some(mut pieces) = self.pieces.take() else {
+            return Err(ReadFault::Failed);
+        };
+        pieces.feed(piece)?;
+        self.pieces = Some(pieces);
+        Ok(())
+    }
+
+    fn finish(self) -> Result<mpslp_model::Model, ReadFault> {
+        let MpsReader { pieces } = self;
+        match pieces {
+            Some(pieces) => pieces.finish(),
+            None => Err(ReadFault::Failed),
+        }
+    }
+
+    ghost after_works = { fed-works };
+
+    ghost after_is_clean = { fed-is_clean };
+
+    ghost early_is_first = { complete-is_first };
+}
