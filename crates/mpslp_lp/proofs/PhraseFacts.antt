@@ -38,7 +38,8 @@ use Rattle.mpslp_lp.specs.Rules.Step.{Goes, Ends}
 use Rattle.mpslp_lp.specs.Words.{section_of}
 use Rattle.mpslp_lp.specs.Terminal.{Terminal, TerminalAt}
 use Rattle.mpslp_lp.specs.Terminal.Terminal.{Opens, Name, Number, Sign, Compares, Colon, Infinity, Free, Other}
-use Rattle.mpslp_lp.specs.Point.{Before, Point, start, opened_with, section_fault}
+use Rattle.mpslp_lp.specs.Point.{Point, start, opened_with, section_fault}
+use Rattle.mpslp_lp.specs.declared.before.Before.{Before}
 use Rattle.mpslp_lp.specs.PartialRow.{PartialRow}
 use Rattle.mpslp_lp.specs.declared.states.Place.{Place}
 use Rattle.mpslp_lp.specs.declared.states.Place.TheVariants.{AtStart, BeforeItems, InObjective, BetweenRows, InRow, InBounds, InGenerals, InBinaries, InSemis}
@@ -49,7 +50,7 @@ use Rattle.mpslp_lp.specs.Sides.{Side, Limits, signed, infinity, unsigned_side, 
 use Rattle.mpslp_lp.specs.Items.{Item, one, product, number_item, signed_item, item_from, colon}
 use Rattle.mpslp_lp.specs.Items.Item.{Term, Lone}
 use Rattle.mpslp_lp.specs.Objective.{term_declared, objective_item, objective_declared, default_objective, first_item_declared, objective_named, objective_from, objective}
-use Rattle.mpslp_lp.specs.Rows.{default_row, without_terms, row_item, row_first, row_after_left, row_number, row_signed, row_from, row_named, row, fits_left, row_limits, row_declared, row_whole, row_end}
+use Rattle.mpslp_lp.specs.Rows.{numbered_row, default_row, without_terms, row_item, row_first, row_after_left, row_number, row_signed, row_from, row_named, row, fits_left, row_limits, row_declared, row_whole, row_end}
 use Rattle.mpslp_lp.specs.Bounds.{bounded, no_limits, bound_right, bound_after, bound_column, bound_left, bound, second_side}
 use Rattle.mpslp_lp.specs.Grammar.{line_end, opened_by, is_last_word, last_word, semi_from, section_start, section_from, may_begin_section, listed, phrase, phrase_at}
 use Rattle.mpslp_lp.specs.declared.relations.Relation.{Relation}
@@ -268,7 +269,7 @@ terms-legal row (term ∷ terms) h =
 row_item-fine : (before : Before) (row : PartialRow) (item : Item) → IsNamed before → IsSoundRow row → IsSoundItem item → Gives (IsFine before.earlier) (row_item before row item)
 row_item-fine before row (Term value column token) named r h =
     let more : PartialRow = record row { terms = row.terms ++ (column, value) ∷ [] } in
-    either-fine before (list_any (λ term. same_bytes term.0 column) row.terms) _ _ (λ tokens sound. tt)
+    either-fine before (list_any (λ term. same_bytes column term.0) row.terms) _ _ (λ tokens sound. tt)
     (nothing-fine before (InRow more) named (in_row-plain more (record {
       name = r.name;
       left = r.left;
@@ -317,10 +318,8 @@ digit-lp : (b : ℕ) → is_digit b ≡ true → is_lp_byte b ≡ true
 digit-lp b h = or_right (is_letter b) (is_digit b || is_lp_symbol b) (or_left (is_digit b) (is_lp_symbol b) h)
 
 -- `c` and a position is a name
-default_row-name : (before : Before) → is_lp_name (default_row before) ≡ true
-default_row-name before =
-    let position = min (length before.earlier.rows + 1) (2 ^ 64 - 1) in
-    let fits : position < 2 ^ 64 = omega (arith, min-le_right (length before.earlier.rows + 1) (2 ^ 64 - 1)) in
+pub numbered-name : (position : ℕ) → position < 2 ^ 64 → is_lp_name (numbered_row position) ≡ true
+numbered-name position fits =
     named (decimal position) (length-decimal-le 20 position (omega arith) (omega (arith, fits)) fits)
     (imp_all is_digit is_lp_byte (decimal position) digit-lp (list_all-digits (decimal position) (decimal-spells position (omega (arith, fits))).digits))
   where
@@ -338,6 +337,10 @@ default_row-name before =
         let t2 = not (begins_a_number (99 ∷ ds)) && t3 in
         both_so (has_name_length (99 ∷ ds)) (list_all is_lp_byte (99 ∷ ds) && t2) size
         (both_so (list_all is_lp_byte (99 ∷ ds)) t2 bytes (both_so (not (is_like_exponent (99 ∷ ds))) t4 (exponent ds) refl))
+
+default_row-name : (before : Before) → is_lp_name (default_row before) ≡ true
+default_row-name before =
+    numbered-name (min (length before.earlier.rows + 1) (2 ^ 64 - 1)) (omega (arith, min-le_right (length before.earlier.rows + 1) (2 ^ 64 - 1)))
 
 row_signed-fine : (before : Before) (name : List ℕ) (minus : Bool) (second : TerminalAt) → IsNamed before → is_lp_name name ≡ true → IsSoundToken second → Gives (IsFine before.earlier) (row_signed before name minus second)
 row_signed-fine before name minus second named h s = by second.line second.terminal s

@@ -14,7 +14,8 @@ use Rattle.mpslp_lp.specs.Rules.Step.{Ends as StepEnds}
 use Rattle.mpslp_lp.specs.Rules.Outcome.{Finished, Refused, Open}
 use Rattle.mpslp_lp.specs.Token.{Token, tokens}
 use Rattle.mpslp_lp.specs.Terminal.{Terminal, TerminalAt, terminal_of, as_terminal, terminals, line_terminals}
-use Rattle.mpslp_lp.specs.Point.{Before, start}
+use Rattle.mpslp_lp.specs.Point.{start}
+use Rattle.mpslp_lp.specs.declared.before.Before.{Before}
 use Rattle.mpslp_lp.specs.declared.states.Place.TheVariants.{AtStart}
 use Rattle.mpslp_reading.specs.LineAnswer.{fault_on_line}
 use Rattle.mpslp_lp.specs.Phrase.{refuses}

@@ -19,7 +19,8 @@ use Rattle.mpslp_lp.specs.Rules.Step.{Ends}
 use Rattle.mpslp_lp.specs.Words.{section_of}
 use Rattle.mpslp_lp.specs.Terminal.{Terminal, TerminalAt}
 use Rattle.mpslp_lp.specs.Terminal.Terminal.{Opens, Name, Number, Sign, Compares, Colon, Infinity, Free, Other}
-use Rattle.mpslp_lp.specs.Point.{Before, section_fault, opened_with}
+use Rattle.mpslp_lp.specs.Point.{section_fault, opened_with}
+use Rattle.mpslp_lp.specs.declared.before.Before.{Before}
 use Rattle.mpslp_lp.specs.PartialRow.{PartialRow}
 use Rattle.mpslp_lp.specs.declared.states.Place.{Place}
 use Rattle.mpslp_lp.specs.declared.states.Place.TheVariants.{AtStart, BeforeItems, InObjective, BetweenRows, InRow, InBounds, InGenerals, InBinaries, InSemis}
@@ -72,7 +73,7 @@ completed-says before line terminal (refusal ∷ more) place made tokens = refl
 term-says : (before : Before) (owner : Owner) (column : List ℕ) (value : Decimal) (line : ℕ) (terminal : Terminal) (tokens : Tokens)
     → resume phrase_at (item_read before owner (Term value column (at line terminal))) tokens ≡ says_after line (term_taken before owner column value terminal) tokens
 term-says before (OfObjective name) column value line terminal tokens = completed-says before line terminal _ (InObjective name) _ tokens
-term-says before (OfRow row) column value line terminal tokens = branch line (list_any (λ term. same_bytes term.0 column) row.terms) _ _ _ _ tokens refl refl
+term-says before (OfRow row) column value line terminal tokens = branch line (list_any (λ term. same_bytes column term.0) row.terms) _ _ _ _ tokens refl refl
 
 -- ---- items
 

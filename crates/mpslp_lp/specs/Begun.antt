@@ -6,7 +6,8 @@ use Rattle.mpslp_types.specs.declared.kinds.Sense.TheVariants as senses
 use Rattle.mpslp_types.specs.declared.faults.FaultKind.TheVariants.{BadToken, MixedSenses}
 use Rattle.mpslp_lp.specs.Words.{section_of}
 use Rattle.mpslp_lp.specs.Terminal.{Terminal}
-use Rattle.mpslp_lp.specs.Point.{section_fault, opened_with, Before}
+use Rattle.mpslp_lp.specs.Point.{section_fault, opened_with}
+use Rattle.mpslp_lp.specs.declared.before.Before.{Before}
 use Rattle.mpslp_lp.specs.declared.states.Place.{Place}
 use Rattle.mpslp_lp.specs.declared.states.Place.TheVariants.{AtStart, BeforeItems, InObjective, BetweenRows, InRow, InBounds, InGenerals, InBinaries, InSemis}
 use Rattle.mpslp_lp.specs.declared.states.LastWord.TheVariants.{To, That}

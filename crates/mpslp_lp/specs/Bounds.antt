@@ -8,7 +8,7 @@ use Rattle.mpslp_types.specs.declared.faults.FaultKind.TheVariants.{BadToken, Mi
 use Rattle.mpslp_lp.specs.Rules.{◌>>=◌, next}
 use Rattle.mpslp_lp.specs.Terminal.{TerminalAt}
 use Rattle.mpslp_lp.specs.Terminal.Terminal.{Name, Compares, Free}
-use Rattle.mpslp_lp.specs.Point.{Before}
+use Rattle.mpslp_lp.specs.declared.before.Before.{Before}
 use Rattle.mpslp_lp.specs.declared.states.Place.{Place}
 use Rattle.mpslp_lp.specs.Phrase.{Rule, Follows, refuses, unless_refused}
 use Rattle.mpslp_lp.specs.declared.states.Place.TheVariants.{InBounds}

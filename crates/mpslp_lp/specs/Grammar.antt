@@ -11,7 +11,8 @@ use Rattle.mpslp_lp.specs.Rules.Step.{Ends}
 use Rattle.mpslp_lp.specs.Words.{section_of}
 use Rattle.mpslp_lp.specs.Terminal.{TerminalAt}
 use Rattle.mpslp_lp.specs.Terminal.Terminal.{Opens, Name, Sign, Compares}
-use Rattle.mpslp_lp.specs.Point.{Before, section_fault, opened_with, Point, start}
+use Rattle.mpslp_lp.specs.Point.{section_fault, opened_with, Point, start}
+use Rattle.mpslp_lp.specs.declared.before.Before.{Before}
 use Rattle.mpslp_lp.specs.declared.states.Place.{Place}
 use Rattle.mpslp_lp.specs.Phrase.{Rule, Follows, fails, refuses, goes_to, declares}
 use Rattle.mpslp_lp.specs.declared.states.Place.TheVariants.{AtStart, BeforeItems, InObjective, BetweenRows, InRow, InBounds, InGenerals, InBinaries, InSemis}

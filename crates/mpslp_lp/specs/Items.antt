@@ -6,7 +6,7 @@ use Rattle.mpslp_lp.specs.Rules.{passing, gives}
 use Rattle.mpslp_lp.specs.Rules.Reading.{Reads, Unfinished}
 use Rattle.mpslp_lp.specs.Terminal.{TerminalAt}
 use Rattle.mpslp_lp.specs.Terminal.Terminal.{Name, Number, Sign, Colon}
-use Rattle.mpslp_lp.specs.Point.{Before}
+use Rattle.mpslp_lp.specs.declared.before.Before.{Before}
 use Rattle.mpslp_lp.specs.Phrase.{Rule, refuses}
 use Rattle.mpslp_lp.specs.Sides.{signed}
 

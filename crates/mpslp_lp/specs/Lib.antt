@@ -17,7 +17,9 @@ pub mod Reading
 pub mod Taken
 pub mod Begun
 pub mod Taking
+pub mod Declares
 pub mod OwnFault
+pub mod Seen
 pub mod ReadingLines
 pub mod LpText
 pub mod FirstFault

@@ -7,7 +7,7 @@ use Rattle.mpslp_types.specs.declared.faults.FaultKind.TheVariants.{BadToken}
 use Rattle.mpslp_lp.specs.Rules.{◌>>=◌, next, ahead}
 use Rattle.mpslp_lp.specs.Terminal.{TerminalAt}
 use Rattle.mpslp_lp.specs.Terminal.Terminal.{Opens, Name, Sign, Colon}
-use Rattle.mpslp_lp.specs.Point.{Before}
+use Rattle.mpslp_lp.specs.declared.before.Before.{Before}
 use Rattle.mpslp_lp.specs.Phrase.{Rule, Follows, refuses, declares}
 use Rattle.mpslp_lp.specs.declared.states.Place.TheVariants.{BeforeItems, InObjective}
 use Rattle.mpslp_lp.specs.Items.{Item, one}

@@ -13,7 +13,8 @@ use Rattle.mpslp_lp.specs.Words.{section_of}
 use Rattle.mpslp_lp.specs.Terminal.{Terminal, TerminalAt}
 use Rattle.mpslp_lp.specs.Terminal.Terminal.{Opens}
 use Rattle.mpslp_reading.specs.Declaring.{kind_of_refusal}
-use Rattle.mpslp_lp.specs.Point.{Before, section_fault, Point}
+use Rattle.mpslp_lp.specs.Point.{section_fault, Point}
+use Rattle.mpslp_lp.specs.declared.before.Before.{Before}
 use Rattle.mpslp_lp.specs.declared.states.Place.{Place}
 
 abbrev pub Rule : Type 0 → Type 0

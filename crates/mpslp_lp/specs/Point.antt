@@ -1,9 +1,10 @@
 -- Where in the text a phrase begins, and what stands before it.
 use Rattle.std.specs.Prelude.{Bool, true, false, ◌||◌, not, Option, Some, None, if◌then◌else◌}
-use Rattle.mpslp_builder.specs.Declaration.{Draft, empty_draft}
+use Rattle.mpslp_builder.specs.Declaration.{empty_draft}
 use Rattle.mpslp_types.specs.declared.faults.FaultKind.{FaultKind}
 use Rattle.mpslp_types.specs.declared.faults.FaultKind.TheVariants.{SectionOrder, SectionRepeated}
 use Rattle.mpslp_lp.specs.declared.opened.Opened.{Opened}
+use Rattle.mpslp_lp.specs.declared.before.Before.{Before}
 use Rattle.mpslp_lp.specs.declared.states.Place.{Place}
 use Rattle.mpslp_lp.specs.declared.states.Place.TheVariants.{AtStart}
 use Rattle.mpslp_lp.specs.declared.words.Section.{Section}
@@ -43,13 +44,6 @@ abbrev pub section_fault : Opened → Section → Option FaultKind
 section_fault opened section =
     if was_opened opened section then Some SectionRepeated
     else (if is_out_of_order opened section then Some SectionOrder else None)
-
--- ---- what stands before a phrase
-
-pub record Before : Type 0 where
-  pub opened : Opened
-  -- what was declared
-  pub earlier : Draft
 
 -- ---- where a phrase begins
 

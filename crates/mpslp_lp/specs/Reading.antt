@@ -10,7 +10,7 @@ use Rattle.mpslp_lp.specs.declared.states.State.{State}
 use Rattle.mpslp_lp.specs.declared.states.State.TheVariants.{Between, AtObjective, ObjectiveName, AtLastWord, AtSemi, Signs, ItemNumber, RowName, RowLabel, RowSign, RowNumber, RowLeft, RowLeftSense, BoundName, BoundSign, BoundLeft, BoundLeftSense, AtSide, SideSign, AfterEnd}
 use Rattle.mpslp_lp.specs.Rules.{◌>>=◌, next, ahead, Outcome, phrases, resume}
 use Rattle.mpslp_lp.specs.Terminal.{TerminalAt}
-use Rattle.mpslp_lp.specs.Point.{Before}
+use Rattle.mpslp_lp.specs.declared.before.Before.{Before}
 use Rattle.mpslp_lp.specs.Phrase.{Rule, Follows}
 use Rattle.mpslp_lp.specs.Sides.{unsigned_side, side, sense}
 use Rattle.mpslp_lp.specs.Items.{Item, number_item, signed_item, colon}

@@ -1,17 +1,20 @@
 -- Lines read one after another, in place of all their tokens.
-use Rattle.std.specs.Prelude.{ℕ, Bool, true, false, List, [], ◌∷◌, Some, None}
+use Rattle.std.specs.Prelude.{ℕ, Bool, true, false, List, [], ◌∷◌, map, filter_map, Some, None}
+use Rattle.mpslp_types.specs.FaultOrder.{least_kind}
+use Rattle.mpslp_types.specs.declared.faults.FaultKind.{FaultKind}
+use Rattle.mpslp_lp.specs.Token.{Token}
 use Rattle.mpslp_builder.specs.Declaration.{Draft}
 use Rattle.mpslp_types.specs.declared.faults.Fault.{Fault}
 use Rattle.mpslp_lp.specs.Rules.{Outcome}
 use Rattle.mpslp_lp.specs.Rules.Outcome.{Finished, Refused}
-use Rattle.mpslp_lp.specs.Terminal.{Terminal, terminals}
-use Rattle.mpslp_lp.specs.Point.{Before}
+use Rattle.mpslp_lp.specs.Terminal.{Terminal, as_terminal, terminals}
+use Rattle.mpslp_lp.specs.declared.before.Before.{Before}
 use Rattle.mpslp_reading.specs.LineAnswer.{fault_on_line}
 use Rattle.mpslp_lp.specs.declared.states.State.{State}
 use Rattle.mpslp_lp.specs.declared.states.State.TheVariants.{AfterEnd}
 use Rattle.mpslp_lp.specs.Taken.{Taken, Goes, Refuses}
 use Rattle.mpslp_lp.specs.Taking.{take, at_end}
-use Rattle.mpslp_lp.specs.OwnFault.{own_fault}
+use Rattle.mpslp_lp.specs.OwnFault.{token_fault, own_fault}
 
 -- tokens one after another, up to one that makes a fault
 abbrev pub take_all : Before → State → List Terminal → Taken
@@ -19,6 +22,17 @@ take_all before state [] = Goes before state
 take_all before state (terminal ∷ terminals) = elim (take before state terminal) [
   | Goes after next ↦ take_all after next terminals
   | Refuses kind ↦ Refuses kind
+]
+
+-- the faults that tokens have wherever they stand
+abbrev pub token_faults : List Token → List FaultKind
+token_faults found = filter_map (λ (token : Token). token_fault token.kind token.text) found
+
+-- tokens of which none has such a fault, or the least of these
+abbrev pub take_tokens : Before → State → List Token → Taken
+take_tokens before state found = elim (least_kind (token_faults found)) [
+  | Some kind ↦ Refuses kind
+  | None ↦ take_all before state (map as_terminal found)
 ]
 
 -- a line: the fault that it has by itself, or what its tokens make

@@ -11,7 +11,7 @@ use Rattle.mpslp_types.specs.declared.faults.FaultKind.TheVariants.{BadToken, Du
 use Rattle.mpslp_lp.specs.Rules.{◌>>=◌, next, ahead}
 use Rattle.mpslp_lp.specs.Terminal.{TerminalAt}
 use Rattle.mpslp_lp.specs.Terminal.Terminal.{Name, Number, Sign, Compares, Infinity}
-use Rattle.mpslp_lp.specs.Point.{Before}
+use Rattle.mpslp_lp.specs.declared.before.Before.{Before}
 use Rattle.mpslp_lp.specs.PartialRow.{PartialRow}
 use Rattle.mpslp_lp.specs.Phrase.{Rule, Follows, refuses, goes_to, declares}
 use Rattle.mpslp_lp.specs.declared.states.Place.TheVariants.{BetweenRows, InRow}
@@ -23,8 +23,11 @@ use Rattle.mpslp_lp.specs.declared.relations.Relation.{Relation}
 use Rattle.mpslp_lp.specs.declared.relations.Relation.TheVariants.{AtMost}
 
 -- a row without a label is named `c` and its position among all rows, from 1; a position stays at 2^64 - 1
+abbrev pub numbered_row : (position : ℕ) → List ℕ
+numbered_row position = codes "c" ++ decimal position
+
 abbrev pub default_row : Before → List ℕ
-default_row before = codes "c" ++ decimal (min (length before.earlier.rows + 1) (2 ^ 64 - 1))
+default_row before = numbered_row (min (length before.earlier.rows + 1) (2 ^ 64 - 1))
 
 -- ---- terms
 
@@ -34,7 +37,7 @@ without_terms name left = record { name = name; left = left; terms = [] }
 -- the column of a term is new in its row, and a row has no number alone
 abbrev pub row_item : Before → PartialRow → Item → Rule Follows
 row_item before row (Term value column token) =
-    if list_any (λ term. same_bytes term.0 column) row.terms then refuses before token DuplicateEntry
+    if list_any (λ term. same_bytes column term.0) row.terms then refuses before token DuplicateEntry
     else goes_to before (InRow (record row { terms = row.terms ++ (column, value) ∷ [] })) []
 row_item before row (Lone value token) = elim token.terminal [
   | Sign minus ↦ refuses before token ConstantInRow

@@ -12,7 +12,7 @@ use Rattle.mpslp_types.specs.declared.faults.FaultKind.{FaultKind}
 use Rattle.mpslp_types.specs.declared.faults.FaultKind.TheVariants.{BadToken, DuplicateEntry}
 use Rattle.mpslp_lp.specs.Terminal.{Terminal}
 use Rattle.mpslp_reading.specs.Declaring.{kind_of_refusal}
-use Rattle.mpslp_lp.specs.Point.{Before}
+use Rattle.mpslp_lp.specs.declared.before.Before.{Before}
 use Rattle.mpslp_lp.specs.declared.states.Place.{Place}
 use Rattle.mpslp_lp.specs.declared.states.Place.TheVariants.{InObjective, BetweenRows, InRow, InBounds}
 use Rattle.mpslp_lp.specs.Phrase.{terminal_fault}
@@ -59,7 +59,7 @@ then_taken before terminal (refusal ∷ more) made next = refused before termina
 abbrev pub term_taken : Before → Owner → List ℕ → Decimal → Terminal → Taken
 term_taken before (OfObjective name) column value terminal = declared before terminal (InObjective name) (term_declared name (column, value))
 term_taken before (OfRow row) column value terminal =
-    if list_any (λ term. same_bytes term.0 column) row.terms then refused before terminal DuplicateEntry
+    if list_any (λ term. same_bytes column term.0) row.terms then refused before terminal DuplicateEntry
     else Goes (with_made before []) (Between (InRow (record row { terms = row.terms ++ (column, value) ∷ [] })))
 
 -- an item's token after its first sign

@@ -11,7 +11,7 @@ use Rattle.mpslp_lp.specs.Rules.{Outcome}
 use Rattle.mpslp_lp.specs.Rules.Outcome.{Finished, Refused, Open}
 use Rattle.mpslp_lp.specs.Terminal.{TerminalAt}
 use Rattle.mpslp_lp.specs.Terminal.{Terminal}
-use Rattle.mpslp_lp.specs.Point.{Before}
+use Rattle.mpslp_lp.specs.declared.before.Before.{Before}
 use Rattle.mpslp_lp.specs.declared.states.Place.TheVariants.{BeforeItems, InObjective, InRow, InBounds, InSemis}
 use Rattle.mpslp_lp.specs.declared.states.LastWord.TheVariants.{Continuous}
 use Rattle.mpslp_lp.specs.Grammar.{is_last_word, opened_by}

@@ -7,12 +7,22 @@
 //! keeps: `Reading`, `Taken`, `Begun`, `Taking`, `ReadingLines`.
 #![tactic(auto)]
 
+mod answers;
+mod before;
+mod begun;
+mod bounds;
+mod declared;
+mod items;
 pub mod laws;
 mod limits;
 mod opened;
 mod relations;
+mod rows;
 mod scan;
+mod seen;
+mod sides;
 mod states;
+mod taking;
 #[cfg(test)]
 mod tests;
 mod tokens;

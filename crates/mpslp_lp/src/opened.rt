@@ -2,7 +2,7 @@
 
 /// Which sections were opened before a phrase.
 #[derive(Clone, Copy, Debug)]
-pub(crate) struct Opened {
+pub struct Opened {
     pub(crate) objective: bool,
     pub(crate) rows: bool,
     pub(crate) bounds: bool,

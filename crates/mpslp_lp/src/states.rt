@@ -9,7 +9,7 @@ use std::marker::Model;
 
 /// A row whose last token is still to come.
 #[derive(Debug, Drop)]
-pub(crate) struct PartialRow {
+pub struct PartialRow {
     pub(crate) name: Name,
     /// The left side and the sense after it, where there is one.
     pub(crate) left: Option<(GivenLimit, Relation)>,
@@ -27,7 +27,7 @@ impl Model for PartialRow {
 
 /// Where in the text a phrase begins.
 #[derive(Debug, Drop)]
-pub(crate) enum Place {
+pub enum Place {
     /// Before the word of the objective.
     AtStart,
     /// Before the first item of the objective of this name.
@@ -50,7 +50,7 @@ pub(crate) enum Place {
 
 /// Whose item it is.
 #[derive(Debug, Drop)]
-pub(crate) enum Owner {
+pub enum Owner {
     /// The objective's, of this name.
     OfObjective(Name),
     /// A row's.
@@ -59,7 +59,7 @@ pub(crate) enum Owner {
 
 /// What stands before a sense that a right side follows.
 #[derive(Debug, Drop)]
-pub(crate) enum Sided {
+pub enum Sided {
     /// The terms of a row.
     SideOfRow(PartialRow, Relation),
     /// A column; and whether no side of this bound was declared before, and so not its column.
@@ -68,7 +68,7 @@ pub(crate) enum Sided {
 
 /// The last word of a section's opening that has several.
 #[derive(Clone, Copy, Debug)]
-pub(crate) enum LastWord {
+pub enum LastWord {
     /// Of `subject to`.
     To,
     /// Of `such that`.
@@ -79,7 +79,7 @@ pub(crate) enum LastWord {
 
 /// How far a phrase has come.
 #[derive(Debug, Drop)]
-pub(crate) enum State {
+pub enum State {
     /// A phrase begins.
     Between(Place),
     /// After the word of the objective.

@@ -1,5 +1,12 @@
 //! Reserved words, and the sections that they open.
 
+ghost use Rattle.std.specs.Prelude.{◌≡◌, ℕ, List, map};
+ghost use Rattle.std.specs.List.{find};
+ghost use Rattle.std.specs.Option.{option_map_or};
+ghost use Rattle.mpslp_types.specs.Name.{lower_byte, same_bytes};
+ghost use Rattle.mpslp_lp.specs.declared.words.Meaning.{Meaning};
+ghost use Rattle.mpslp_lp.specs.Words.{meaning_of};
+
 /// A section of an LP file. They stand in this order, but those from Bounds to SemiContinuous in any order.
 #[derive(Clone, Copy, Debug, PartialEq, Eq)]
 pub enum Section {
@@ -59,4 +66,87 @@ pub enum Meaning {
     Sos,
     /// It is not reserved: a name.
     Name,
+}
+
+/// The reserved words in lower case, each with its meaning.
+const WORDS: [(&'static [u8], Meaning); 31] = [
+    (b"min", Meaning::Opens(SectionWord::Minimize)),
+    (b"minimize", Meaning::Opens(SectionWord::Minimize)),
+    (b"minimum", Meaning::Opens(SectionWord::Minimize)),
+    (b"max", Meaning::Opens(SectionWord::Maximize)),
+    (b"maximize", Meaning::Opens(SectionWord::Maximize)),
+    (b"maximum", Meaning::Opens(SectionWord::Maximize)),
+    (b"subject", Meaning::Opens(SectionWord::Subject)),
+    (b"such", Meaning::Opens(SectionWord::Such)),
+    (b"st", Meaning::Opens(SectionWord::Rows)),
+    (b"s.t.", Meaning::Opens(SectionWord::Rows)),
+    (b"st.", Meaning::Opens(SectionWord::Rows)),
+    (b"bound", Meaning::Opens(SectionWord::Bounds)),
+    (b"bounds", Meaning::Opens(SectionWord::Bounds)),
+    (b"general", Meaning::Opens(SectionWord::Generals)),
+    (b"generals", Meaning::Opens(SectionWord::Generals)),
+    (b"gen", Meaning::Opens(SectionWord::Generals)),
+    (b"integer", Meaning::Opens(SectionWord::Generals)),
+    (b"integers", Meaning::Opens(SectionWord::Generals)),
+    (b"int", Meaning::Opens(SectionWord::Generals)),
+    (b"binary", Meaning::Opens(SectionWord::Binaries)),
+    (b"binaries", Meaning::Opens(SectionWord::Binaries)),
+    (b"bin", Meaning::Opens(SectionWord::Binaries)),
+    (b"semi", Meaning::Opens(SectionWord::Semi)),
+    (b"semis", Meaning::Opens(SectionWord::Semis)),
+    (b"sos", Meaning::Sos),
+    (b"sos1", Meaning::Sos),
+    (b"sos2", Meaning::Sos),
+    (b"free", Meaning::Free),
+    (b"inf", Meaning::Infinity),
+    (b"infinity", Meaning::Infinity),
+    (b"end", Meaning::Opens(SectionWord::End)),
+];
+
+/// The byte in lower case.
+fn lower_byte(byte: u8) -> u8
+    ensures { result ≡ lower_byte byte }
+{
+    if 65 <= byte && byte <= 90 {
+        byte + 32
+    } else {
+        byte
+    }
+}
+
+/// Whether the text, in lower case, is the word.
+pub(crate) fn is_word(text: &[u8], word: &[u8]) -> bool
+    ensures { result ≡ same_bytes (map lower_byte text.now) word.now }
+{
+    match (text, word) {
+        ([], []) => true,
+        ([byte, text @ ..], [lower, word @ ..]) => {
+            lower_byte(*byte) == *lower && is_word(text, word)
+        }
+        _ => false,
+    }
+}
+
+/// The first of the words that the text is, in upper case, lower case or both, with its meaning.
+fn word_among(words: &[(&'static [u8], Meaning)], text: &[u8]) -> Option<(&'static [u8], Meaning)>
+    ensures { result ≡ find (λ entry. same_bytes (map lower_byte text.now) entry.0.now) words.now }
+{
+    words.iter().copied().find(|entry| is_word(text, entry.0))
+}
+
+/// What a text means among words with their meanings.
+fn meaning_among(words: &[(&'static [u8], Meaning)], text: &[u8]) -> Meaning
+    ensures { result ≡ option_map_or (λ (entry : List ℕ × Meaning). entry.1) (find (λ entry. same_bytes (map lower_byte text.now) entry.0) (map (λ entry. (entry.0.now, entry.1)) words.now)) Meaning.Name }
+{
+    match word_among(words, text) {
+        Some((_word, meaning)) => meaning,
+        None => Meaning::Name,
+    }
+}
+
+/// What a word means, in upper case, lower case or both.
+pub(crate) fn meaning_of(text: &[u8]) -> Meaning
+    ensures { result ≡ meaning_of text.now }
+{
+    meaning_among(&WORDS, text)
 }

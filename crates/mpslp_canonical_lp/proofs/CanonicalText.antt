@@ -1,0 +1,44 @@
+-- What the canonical text of a model says and declares, where nothing of that is refused.
+use Rattle.std.proofs.Common.{◌≡◌, ap, subst, sym, ◌∙◌, []}
+use Rattle.std.specs.Prelude.{None}
+use Rattle.mpslp_core.specs.Model.{LinearModel, IsSound}
+use Rattle.mpslp_builder.specs.Declaration.{Draft, empty_draft, Declarations, adding_all}
+use Rattle.mpslp_builder.specs.Refusal.{refusals_in_turn}
+use Rattle.mpslp_builder.specs.Meaning.{Means}
+use Rattle.mpslp_types.specs.declared.faults.Fault.{Fault}
+use Rattle.mpslp_decimal.proofs.CutLemmas.{Each}
+use Rattle.mpslp_lp.specs.Rules.{Outcome}
+use Rattle.mpslp_lp.specs.Rules.Outcome.{Finished}
+use Rattle.mpslp_lp.specs.Grammar.{text_says, text_declares}
+use Rattle.mpslp_lp.specs.LpText.{numbered_lines, first_own_fault, or_else, outcome, is_finished, declarations_of, DeclaresLp}
+use Rattle.mpslp_canonical_lp.specs.Listing.{listing_of}
+use Rattle.mpslp_canonical_lp.specs.CanonicalLp.{row_terms, canonical_lp}
+use Rattle.mpslp_canonical_lp.specs.Unfit.{unfit}
+use Rattle.mpslp_canonical_lp.proofs.PrintableLemmas.{fit-from_sound}
+use Rattle.mpslp_canonical_lp.proofs.ReadLemmas.{canonical-terminals}
+use Rattle.mpslp_canonical_lp.proofs.TextWalk.{IsRow, listed_declarations, text-ends}
+
+-- what is needed of a model beside soundness and LP names
+pub record IsPlainText (m : LinearModel) : Type 0 where
+  -- each row is printed with terms, none of them twice
+  pub rows : Each (λ row. IsRow (row_terms (listing_of m) row.0)) (listing_of m).rows
+  -- nothing that is printed is refused
+  pub unrefused : refusals_in_turn empty_draft (listed_declarations (listing_of m)) ≡ []
+
+pub canonical-outcome : (m : LinearModel) → IsSound m → unfit m ≡ None → IsPlainText m
+    → outcome (canonical_lp m) ≡ Finished (adding_all empty_draft (listed_declarations (listing_of m)))
+canonical-outcome m sound fits h =
+    ap (λ (o : Outcome Fault Draft). or_else o (first_own_fault (numbered_lines (canonical_lp m))))
+    (ap text_says (canonical-terminals m sound fits) ∙ (text-ends (listing_of m) (fit-from_sound m sound fits) h.rows h.unrefused).says)
+
+pub canonical-declarations : (m : LinearModel) → IsSound m → unfit m ≡ None → IsPlainText m → declarations_of (canonical_lp m) ≡ listed_declarations (listing_of m)
+canonical-declarations m sound fits h =
+    ap text_declares (canonical-terminals m sound fits) ∙ (text-ends (listing_of m) (fit-from_sound m sound fits) h.rows h.unrefused).makes
+
+-- so the text declares the model, if the listed declarations mean it
+pub canonical-declares_if : (m : LinearModel) → IsSound m → unfit m ≡ None → IsPlainText m → Means (listed_declarations (listing_of m)) m → DeclaresLp (canonical_lp m) m
+canonical-declares_if m sound fits h means =
+    record {
+      text = ap is_finished (canonical-outcome m sound fits h);
+      means = subst (λ (declared : Declarations). Means declared m) (sym (canonical-declarations m sound fits h)) means;
+    }

@@ -1,0 +1,224 @@
+-- A printed line has no fault by itself, and its terminals are those of its pieces.
+use Rattle.std.proofs.Common.{◌≡◌, refl, sym, ap, ◌∙◌, ℕ, zero, suc, ◌*◌, ◌≤◌, List, [], ◌∷◌, Bool, true, false, not, length, replicate, arith, length-append, map}
+use Rattle.std.specs.Prelude.{Option, Some, None, ◌||◌, ◌&&◌, ◌==◌, nat_le, codes, filter_map, if◌then◌else◌}
+use Rattle.std.specs.List.{join_by, list_all, list_any, cons_option}
+use Rattle.std.specs.Cmp.{first_so, second_so}
+use Rattle.std.proofs.lemmas.Bool.Decides.{nat_tests}
+use Rattle.std.proofs.lemmas.Bool.{eqb-true}
+use Rattle.std.proofs.lemmas.List.{length-replicate}
+use Rattle.mpslp_decimal.specs.Decimal.{Number, IsDecimal, is_negative, size_of}
+use Rattle.mpslp_decimal.specs.Literal.{is_digit}
+use Rattle.mpslp_decimal.specs.NumberText.{number_text}
+use Rattle.mpslp_decimal.proofs.CutLemmas.{before-none}
+use Rattle.mpslp_decimal.proofs.NumberTextLemmas.{number-text, read-short}
+use Rattle.mpslp_types.specs.Name.{is_letter, is_lp_symbol, is_lp_byte}
+use Rattle.mpslp_types.specs.FaultOrder.{least_kind}
+use Rattle.mpslp_types.specs.declared.faults.FaultKind.{FaultKind}
+use Rattle.mpslp_types.specs.declared.faults.FaultKind.TheVariants as faults
+use Rattle.mpslp_types.proofs.EachLemmas.{Each-flat_map, Each-from_list_all, list_all-from_Each}
+use Rattle.mpslp_decimal.proofs.CutLemmas.{Each}
+use Rattle.mpslp_decimal.proofs.CutLemmas.{Each-weaker}
+use Rattle.mpslp_decimal.proofs.CutLemmas.{Each-append}
+use Rattle.mpslp_lp.specs.Line.{has_legal_bytes, begins_comment, begins_word, continues_word}
+use Rattle.mpslp_reading.specs.LegalLine.{is_legal_byte}
+use Rattle.mpslp_reading.specs.LegalLine.{has_legal_length}
+use Rattle.mpslp_lp.specs.Token.{is_word, Token, tokens}
+use Rattle.mpslp_lp.specs.Terminal.{TerminalAt, terminal_of, line_terminals}
+use Rattle.mpslp_reading.specs.Tests.{first_held}
+use Rattle.mpslp_lp.specs.OwnFault.{token_fault, own_fault}
+use Rattle.mpslp_reading.specs.Field.{number_fault}
+use Rattle.mpslp_reading.specs.declared.lines.TheConstants.{MAX_LINE_LEN}
+use Rattle.mpslp_lp.specs.declared.relations.Relation.TheVariants.{AtMost, AtLeast, EqualTo}
+use Rattle.mpslp_lp.specs.declared.tokens.TokenKind.TheVariants as kinds
+use Rattle.mpslp_lp.proofs.NameTokens.{begins-lp}
+use Rattle.mpslp_canonical_lp.specs.Printed.{Piece, PrintedLine, word, label, number, sign, sense, minus_infinity, piece_text, printed, SeenToken, tokens_in, line_tokens, semi_continuous}
+use Rattle.mpslp_canonical_lp.proofs.LiteralBytes.{literal-each}
+use Rattle.mpslp_canonical_lp.proofs.TokenLemmas.{seen}
+use Rattle.mpslp_canonical_lp.proofs.TokenTexts.{text-literal}
+use Rattle.mpslp_canonical_lp.proofs.PieceLemmas.{IsPrintable, after_first_piece, line-read}
+
+-- ---- bytes
+
+-- visible, and no backslash
+abbrev pub is_plain : ℕ → Bool
+is_plain byte = nat_le 33 byte && (nat_le byte 126 && not (byte == 92))
+
+letter-plain : (b : ℕ) → is_letter b ≡ true → is_plain b ≡ true
+letter-plain b h = grind (arith, nat_tests)
+
+digit-plain : (b : ℕ) → is_digit b ≡ true → is_plain b ≡ true
+digit-plain b h = grind (arith, nat_tests)
+
+symbol-plain : (symbols : List ℕ) (b : ℕ) → list_all is_plain symbols ≡ true → list_any (λ s. s == b) symbols ≡ true → is_plain b ≡ true
+symbol-plain [] b all any = cc
+symbol-plain (s ∷ symbols) b all any = by (s == b) refl any (symbol-plain symbols b (second_so (is_plain s) (list_all is_plain symbols) all))
+  where
+    by : (c : Bool) → (s == b) ≡ c → (c || list_any (λ x. x == b) symbols) ≡ true → (list_any (λ x. x == b) symbols ≡ true → is_plain b ≡ true) → is_plain b ≡ true
+    by true is k more = ap is_plain (sym (eqb-true s b is)) ∙ first_so (is_plain s) (list_all is_plain symbols) all
+    by false is k more = more k
+
+lp-plain : (b : ℕ) → is_lp_byte b ≡ true → is_plain b ≡ true
+lp-plain b h = by (is_letter b) (is_digit b) refl refl h
+  where
+    by : (c d : Bool) → is_letter b ≡ c → is_digit b ≡ d → (c || (d || is_lp_symbol b)) ≡ true → is_plain b ≡ true
+    by true d e f k = letter-plain b e
+    by false true e f k = digit-plain b f
+    by false false e f k = symbol-plain (codes "!\"#$%&()/,.;?@_'{}|~`") b refl k
+
+-- what is said of plain bytes and of blanks is said of each byte that is printed
+module _ (P : ℕ → Type 0) (plain : (b : ℕ) → is_plain b ≡ true → P b) (blank : P 32) where
+  each-word : (text : List ℕ) → is_word text ≡ true → Each P text
+  each-word [] h = tt
+  each-word (b ∷ bytes) h = (
+    plain b (lp-plain b (begins-lp b (first_so (begins_word b) (list_all continues_word bytes) h))),
+    Each-weaker (λ c. is_lp_byte c ≡ true) P (λ c k. plain c (lp-plain c k)) bytes (Each-from_list_all is_lp_byte bytes (second_so (begins_word b) (list_all continues_word bytes) h)),
+  )
+
+  each-code : (text : List ℕ) → list_all is_plain text ≡ true → Each P text
+  each-code text h = Each-weaker (λ c. is_plain c ≡ true) P plain text (Each-from_list_all is_plain text h)
+
+  each-number : (value : Number) → IsDecimal value → Each P (number_text value)
+  each-number value h =
+      literal-each P (λ b k. plain b (grind (arith, nat_tests))) (λ b k. plain b (grind (arith, nat_tests))) (λ b k. plain b (grind (arith, nat_tests)))
+      (λ b k. plain b (grind (arith, nat_tests))) (number_text value) (text-literal value h)
+
+  each-piece : (piece : Piece) → IsPrintable piece → Each P (piece_text piece)
+  each-piece (word text) h = each-word text h.is
+  each-piece (label name) h = Each-append P name (codes ":") (each-word name h.word_is.is) (each-code (codes ":") refl)
+  each-piece (number value) h = each-number value h
+  each-piece (sign true) h = each-code (codes "-") refl
+  each-piece (sign false) h = each-code (codes "+") refl
+  each-piece (sense AtMost) h = each-code (codes "<=") refl
+  each-piece (sense AtLeast) h = each-code (codes ">=") refl
+  each-piece (sense EqualTo) h = each-code (codes "=") refl
+  each-piece minus_infinity h = each-code (codes "-infinity") refl
+  each-piece semi_continuous h = each-code (codes "Semi-Continuous") refl
+
+  each-after : (pieces : List Piece) → Each IsPrintable pieces → Each P (after_first_piece pieces)
+  each-after [] h = tt
+  each-after (piece ∷ pieces) h = (blank, Each-append P (piece_text piece) (after_first_piece pieces) (each-piece piece h.0) (each-after pieces h.1))
+
+  each-joined : (pieces : List Piece) → Each IsPrintable pieces → Each P (join_by piece_text (codes " ") pieces)
+  each-joined [] h = tt
+  each-joined (piece ∷ pieces) h = Each-append P (piece_text piece) (after_first_piece pieces) (each-piece piece h.0) (each-after pieces h.1)
+
+  each-blank : (n : ℕ) → Each P (replicate n 32)
+  each-blank zero = tt
+  each-blank (suc n) = (blank, each-blank n)
+
+  pub each-printed : (line : PrintedLine) → Each IsPrintable line.pieces → Each P (printed line)
+  each-printed line h = Each-append P (replicate line.indent 32) (join_by piece_text (codes " ") line.pieces) (each-blank line.indent) (each-joined line.pieces h)
+
+plain-legal : (b : ℕ) → is_plain b ≡ true → is_legal_byte b ≡ true
+plain-legal b h = grind (arith, nat_tests)
+
+plain-no_comment : (b : ℕ) → is_plain b ≡ true → begins_comment b ≡ false
+plain-no_comment b h = grind (arith, nat_tests)
+
+bytes-legal : (line : PrintedLine) → Each IsPrintable line.pieces → has_legal_bytes (printed line) ≡ true
+bytes-legal line h =
+    ap (list_all is_legal_byte) (before-none begins_comment (printed line) (each-printed (λ b. begins_comment b ≡ false) plain-no_comment refl line h))
+    ∙ list_all-from_Each is_legal_byte (printed line) (each-printed (λ b. is_legal_byte b ≡ true) plain-legal refl line h)
+
+-- ---- length
+
+-- a line as it may be printed
+pub record IsPrintableLine (line : PrintedLine) : Type 0 where
+  pub near : line.indent ≤ 2
+  pub few : length line.pieces ≤ 5
+  pub each : Each IsPrintable line.pieces
+
+length-piece : (piece : Piece) → IsPrintable piece → length (piece_text piece) ≤ 256
+length-piece (word text) h = omega (arith, h.short)
+length-piece (label name) h = omega (arith, h.word_is.short, length-append name (codes ":"))
+length-piece (number value) h = let short : length (number_text value) ≤ 255 = read-short (number_text value) value (number-text value h) in omega (arith, short)
+length-piece (sign true) h = omega arith
+length-piece (sign false) h = omega arith
+length-piece (sense AtMost) h = omega arith
+length-piece (sense AtLeast) h = omega arith
+length-piece (sense EqualTo) h = omega arith
+length-piece minus_infinity h = omega arith
+length-piece semi_continuous h = omega arith
+
+length-after : (pieces : List Piece) → Each IsPrintable pieces → length (after_first_piece pieces) ≤ 257 * length pieces
+length-after [] h = omega arith
+length-after (piece ∷ pieces) h =
+    let here : length (piece_text piece) ≤ 256 = length-piece piece h.0 in
+    let more : length (after_first_piece pieces) ≤ 257 * length pieces = length-after pieces h.1 in
+    omega (arith, here, more, length-append (piece_text piece) (after_first_piece pieces))
+
+length-joined : (pieces : List Piece) → Each IsPrintable pieces → length (join_by piece_text (codes " ") pieces) ≤ 257 * length pieces
+length-joined [] h = omega arith
+length-joined (piece ∷ pieces) h =
+    let here : length (piece_text piece) ≤ 256 = length-piece piece h.0 in
+    let more : length (after_first_piece pieces) ≤ 257 * length pieces = length-after pieces h.1 in
+    omega (arith, here, more, length-append (piece_text piece) (after_first_piece pieces))
+
+at_most : (n : ℕ) → n ≤ 2000 → nat_le n MAX_LINE_LEN ≡ true
+at_most n h = grind (arith, nat_tests)
+
+length-legal : (line : PrintedLine) → IsPrintableLine line → has_legal_length (printed line) ≡ true
+length-legal line h =
+    let blanks : length {A = ℕ} (replicate line.indent 32) ≡ line.indent = length-replicate line.indent 32 in
+    let joined : length (join_by piece_text (codes " ") line.pieces) ≤ 257 * length line.pieces = length-joined line.pieces h.each in
+    at_most (length (printed line)) (omega (arith, h.near, h.few, blanks, joined, length-append (replicate line.indent 32) (join_by piece_text (codes " ") line.pieces)))
+
+-- ---- faults of tokens
+
+abbrev seen_fault : SeenToken → Option FaultKind
+seen_fault token = token_fault token.0 token.1
+
+faults-seen : (found : List Token) → filter_map (λ (token : Token). token_fault token.kind token.text) found ≡ filter_map seen_fault (seen found)
+faults-seen [] = refl
+faults-seen (token ∷ found) = ap (cons_option (token_fault token.kind token.text)) (faults-seen found)
+
+none-faulty : (found : List SeenToken) → Each (λ token. seen_fault token ≡ None) found → filter_map seen_fault found ≡ []
+none-faulty [] h = refl
+none-faulty (token ∷ found) h = rw h.0 (none-faulty found h.1)
+
+number-faultless : (value : Number) → IsDecimal value → number_fault (number_text value) ≡ None
+number-faultless value h = rw (number-text value h) refl
+
+piece-faultless : (piece : Piece) → IsPrintable piece → Each (λ token. seen_fault token ≡ None) (tokens_in piece)
+piece-faultless (word text) h = (h.faultless, tt)
+piece-faultless (label name) h = (h.word_is.faultless, (refl, tt))
+piece-faultless (number value) h =
+    elim (is_negative value) as (λ b. Each (λ token. seen_fault token ≡ None)
+    (if b then (kinds.Minus, codes "-") ∷ (kinds.Number, number_text (size_of value)) ∷ [] else (kinds.Number, number_text value) ∷ [])) [
+      | true ↦ (refl, (number-faultless (size_of value) h, tt))
+      | false ↦ (number-faultless value h, tt)
+    ]
+piece-faultless (sign true) h = (refl, tt)
+piece-faultless (sign false) h = (refl, tt)
+piece-faultless (sense AtMost) h = (refl, tt)
+piece-faultless (sense AtLeast) h = (refl, tt)
+piece-faultless (sense EqualTo) h = (refl, tt)
+piece-faultless minus_infinity h = (refl, (refl, tt))
+piece-faultless semi_continuous h = (refl, (refl, (refl, tt)))
+
+pieces-faultless : (pieces : List Piece) → Each IsPrintable pieces → Each (λ piece. Each (λ token. seen_fault token ≡ None) (tokens_in piece)) pieces
+pieces-faultless pieces h = Each-weaker IsPrintable (λ piece. Each (λ token. seen_fault token ≡ None) (tokens_in piece)) piece-faultless pieces h
+
+-- a printed line has no fault by itself
+pub line-faultless : (line : PrintedLine) → IsPrintableLine line → own_fault (printed line) ≡ None
+line-faultless line h =
+    let none : filter_map (λ (token : Token). token_fault token.kind token.text) (tokens (printed line)) ≡ [] =
+    faults-seen (tokens (printed line)) ∙ ap (filter_map seen_fault) (line-read line h.each)
+    ∙ none-faulty (line_tokens line) (Each-flat_map (λ token. seen_fault token ≡ None) tokens_in line.pieces (pieces-faultless line.pieces h.each)) in
+    λ i. elim (first_held ((not (length-legal line h i), faults.LineTooLong) ∷ (not (bytes-legal line h.each i), faults.BadByte) ∷ [])) as (λ _. Option FaultKind) [
+      | Some kind ↦ Some kind
+      | None ↦ least_kind (none i)
+    ]
+
+-- ---- terminals
+
+abbrev pub seen_at : ℕ → SeenToken → TerminalAt
+seen_at n token = record { line = n; terminal = terminal_of token.0 token.1 }
+
+terminals-seen : (n : ℕ) (found : List Token) → map (λ (token : Token). record { line = n; terminal = terminal_of token.kind token.text }) found ≡ map (seen_at n) (seen found)
+terminals-seen n [] = refl
+terminals-seen n (token ∷ found) = ap (λ (more : List TerminalAt). record { line = n; terminal = terminal_of token.kind token.text } ∷ more) (terminals-seen n found)
+
+-- the terminals of a printed line are those of its pieces
+pub line-terminals : (n : ℕ) (line : PrintedLine) → Each IsPrintable line.pieces → line_terminals (n, printed line) ≡ map (seen_at n) (line_tokens line)
+line-terminals n line h = terminals-seen n (tokens (printed line)) ∙ ap (map (seen_at n)) (line-read line h)

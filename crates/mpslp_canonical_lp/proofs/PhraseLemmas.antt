@@ -1,0 +1,391 @@
+-- What the grammar makes of the printed forms: each declares what it was printed from, where nothing of it is refused.
+use Rattle.std.proofs.Common.{◌≡◌, refl, sym, ap, ◌∙◌, ℕ, List, [], ◌∷◌, ◌++◌, Bool, true, false, length, append_assoc}
+use Rattle.std.specs.Prelude.{Option, Some, None, codes, if◌then◌else◌}
+use Rattle.std.specs.List.{list_any}
+use Rattle.mpslp_decimal.specs.Decimal.{Number as Decimal}
+use Rattle.mpslp_types.specs.Name.{same_bytes}
+use Rattle.mpslp_types.specs.Sides.{limit_of}
+use Rattle.mpslp_builder.specs.Declaration.{Draft, empty_draft, Declarations, declare_column, declare_integer, declare_constant, bounds_declared, adding_all, declare_semi}
+use Rattle.mpslp_builder.specs.Refusal.{refusals_in_turn, bounds_refusals}
+use Rattle.mpslp_types.specs.declared.faults.BuildFault.{BuildFault}
+use Rattle.mpslp_types.specs.declared.faults.Fault.{Fault}
+use Rattle.mpslp_types.specs.declared.faults.FaultKind.{FaultKind}
+use Rattle.mpslp_types.specs.declared.faults.FaultKind.TheVariants.{BadToken, DuplicateEntry, MixedSenses}
+use Rattle.mpslp_types.specs.declared.kinds.Sense.{Sense}
+use Rattle.mpslp_types.specs.declared.kinds.Sense.TheVariants.{Minimize, Maximize}
+use Rattle.mpslp_types.specs.declared.kinds.Limit.{Limit}
+use Rattle.mpslp_types.specs.declared.kinds.Limit.TheVariants.{MinusInf}
+use Rattle.mpslp_lp.specs.Terminal.{TerminalAt}
+use Rattle.mpslp_lp.specs.Terminal.Terminal.{Opens, Name, Number, Sign, Compares, Colon, Infinity, Free}
+use Rattle.mpslp_lp.specs.Words.{section_of}
+use Rattle.mpslp_lp.specs.Rules.{Reading, passing, ◌>>=◌, Outcome, phrases, made_by}
+use Rattle.mpslp_lp.specs.Rules.Reading.{Reads, Refuses, Unfinished}
+use Rattle.mpslp_lp.specs.Rules.Step.{Goes, Ends}
+use Rattle.mpslp_lp.specs.Rules.Outcome.{Finished, Refused, Open}
+use Rattle.mpslp_lp.specs.Point.{none_opened, opened_with, section_fault, Point, start}
+use Rattle.mpslp_lp.specs.declared.opened.Opened.{Opened}
+use Rattle.mpslp_lp.specs.declared.before.Before.{Before}
+use Rattle.mpslp_lp.specs.PartialRow.{PartialRow}
+use Rattle.mpslp_lp.specs.declared.states.Place.{Place}
+use Rattle.mpslp_lp.specs.declared.states.Place.TheVariants.{BeforeItems, InObjective, BetweenRows, InRow, InBounds, InGenerals, InSemis}
+use Rattle.mpslp_lp.specs.Phrase.{Rule, fails, refuses, Follows, goes_to, unless_refused}
+use Rattle.mpslp_lp.specs.Sides.{signed, side, Limits, limits_by, turned}
+use Rattle.mpslp_lp.specs.Objective.{term_declared, objective_declared}
+use Rattle.mpslp_lp.specs.Rows.{fits_left, row_limits, row_declared, row_whole}
+use Rattle.mpslp_lp.specs.Bounds.{no_limits}
+use Rattle.mpslp_lp.specs.Grammar.{section_start, section_from, may_begin_section, phrase_at}
+use Rattle.mpslp_lp.specs.declared.relations.Relation.{Relation}
+use Rattle.mpslp_lp.specs.declared.relations.Relation.TheVariants.{AtMost}
+use Rattle.mpslp_lp.specs.declared.words.Section.TheVariants as sections
+use Rattle.mpslp_lp.specs.declared.words.SectionWord.{SectionWord}
+use Rattle.mpslp_lp.specs.declared.words.SectionWord.TheVariants as section_words
+use Rattle.mpslp_canonical_lp.proofs.TerminalLemmas.{at}
+
+abbrev pub Tokens : Type 0
+Tokens = List TerminalAt
+
+-- From a point on the tokens declare these, and lead to another point, whatever follows them.
+pub record Walks (from : Point) (tokens : Tokens) (made : Declarations) (to : Point) : Type 0 where
+  pub says : (rest : Tokens) → phrases phrase_at from 0 (tokens ++ rest) ≡ phrases phrase_at to 0 rest
+  pub makes : (rest : Tokens) → made_by phrase_at from 0 (tokens ++ rest) ≡ made ++ made_by phrase_at to 0 rest
+
+says-past : (to : Point) (tokens rest : Tokens) → phrases phrase_at to (length tokens) (tokens ++ rest) ≡ phrases phrase_at to 0 rest
+says-past to [] rest = refl
+says-past to (token ∷ tokens) rest = says-past to tokens rest
+
+makes-past : (to : Point) (tokens rest : Tokens) → made_by phrase_at to (length tokens) (tokens ++ rest) ≡ made_by phrase_at to 0 rest
+makes-past to [] rest = refl
+makes-past to (token ∷ tokens) rest = makes-past to tokens rest
+
+-- one phrase
+pub walks-one : (from : Point) (token : TerminalAt) (tokens : Tokens) (made : Declarations) (to : Point)
+    → ((rest : Tokens) → phrase_at from token (tokens ++ rest) ≡ Reads (Goes to made) (length tokens)) → Walks from (token ∷ tokens) made to
+walks-one from token tokens made to h =
+    record {
+      says = λ rest. ap (says rest) (h rest) ∙ says-past to tokens rest;
+      makes = λ rest. ap (makes rest) (h rest) ∙ ap (λ (more : Declarations). made ++ more) (makes-past to tokens rest);
+    }
+  where
+    says : Tokens → Reading Fault Follows → Outcome Fault Draft
+    says rest reading = elim reading as (λ _. Outcome Fault Draft) [
+      | Reads (Goes after found) more ↦ phrases phrase_at after more (tokens ++ rest)
+      | Reads (Ends whole) more ↦ Finished whole
+      | Refuses fault ↦ Refused fault
+      | Unfinished ↦ Open
+    ]
+
+    makes : Tokens → Reading Fault Follows → Declarations
+    makes rest reading = elim reading as (λ _. Declarations) [
+      | Reads (Goes after found) more ↦ found ++ made_by phrase_at after more (tokens ++ rest)
+      | Reads (Ends whole) more ↦ []
+      | Refuses fault ↦ []
+      | Unfinished ↦ []
+    ]
+
+pub walks-none : (point : Point) → Walks point [] [] point
+walks-none point = record { says = λ rest. refl; makes = λ rest. refl }
+
+-- one part behind the other
+pub walks-then : (from between to : Point) (xs ys : Tokens) (made more : Declarations) → Walks from xs made between → Walks between ys more to → Walks from (xs ++ ys) (made ++ more) to
+walks-then from between to xs ys made more h k =
+    record {
+      says = λ rest. ap (phrases phrase_at from 0) (append_assoc xs ys rest) ∙ h.says (ys ++ rest) ∙ k.says rest;
+      makes = λ rest.
+          ap (made_by phrase_at from 0) (append_assoc xs ys rest) ∙ h.makes (ys ++ rest)
+          ∙ ap (λ (later : Declarations). made ++ later) (k.makes rest) ∙ sym (append_assoc made more (made_by phrase_at to 0 rest));
+    }
+
+-- one phrase that looks at what follows it, and what follows
+pub walks-before : (from between to : Point) (token : TerminalAt) (tokens ys : Tokens) (made more : Declarations)
+    → ((rest : Tokens) → phrase_at from token (tokens ++ (ys ++ rest)) ≡ Reads (Goes between made) (length tokens)) → Walks between ys more to
+    → Walks from ((token ∷ tokens) ++ ys) (made ++ more) to
+walks-before from between to token tokens ys made more h k =
+    record {
+      says = λ rest. ap (phrases phrase_at from 0) (append_assoc (token ∷ tokens) ys rest) ∙ ap (says rest) (h rest) ∙ says-past between tokens (ys ++ rest) ∙ k.says rest;
+      makes = λ rest.
+          ap (made_by phrase_at from 0) (append_assoc (token ∷ tokens) ys rest) ∙ ap (makes rest) (h rest)
+          ∙ ap (λ (later : Declarations). made ++ later) (makes-past between tokens (ys ++ rest) ∙ k.makes rest) ∙ sym (append_assoc made more (made_by phrase_at to 0 rest));
+    }
+  where
+    says : Tokens → Reading Fault Follows → Outcome Fault Draft
+    says rest reading = elim reading as (λ _. Outcome Fault Draft) [
+      | Reads (Goes after found) taken ↦ phrases phrase_at after taken (tokens ++ (ys ++ rest))
+      | Reads (Ends whole) taken ↦ Finished whole
+      | Refuses fault ↦ Refused fault
+      | Unfinished ↦ Open
+    ]
+
+    makes : Tokens → Reading Fault Follows → Declarations
+    makes rest reading = elim reading as (λ _. Declarations) [
+      | Reads (Goes after found) taken ↦ found ++ made_by phrase_at after taken (tokens ++ (ys ++ rest))
+      | Reads (Ends whole) taken ↦ []
+      | Refuses fault ↦ []
+      | Unfinished ↦ []
+    ]
+
+-- ---- points
+
+abbrev pub point_at : Place → Opened → Draft → Point
+point_at place opened all = record { place = place; before = record { opened = opened; earlier = all } }
+
+-- ---- the objective
+
+abbrev pub sense_opens : Sense → SectionWord
+sense_opens Minimize = section_words.Minimize
+sense_opens Maximize = section_words.Maximize
+
+pub start-walks : (n k : ℕ) (sense : Sense) (name : List ℕ)
+    → Walks start (at n (Opens (sense_opens sense)) ∷ at k (Name name) ∷ at k Colon ∷ []) (objective_declared sense name)
+    (point_at (BeforeItems name) (opened_with none_opened sections.Objective) (adding_all empty_draft (objective_declared sense name)))
+start-walks n k Minimize name = walks-one start (at n (Opens section_words.Minimize)) (at k (Name name) ∷ at k Colon ∷ []) _ _ (λ rest. refl)
+start-walks n k Maximize name = walks-one start (at n (Opens section_words.Maximize)) (at k (Name name) ∷ at k Colon ∷ []) _ _ (λ rest. refl)
+
+-- the first term, and each further one
+pub first-term-walks : (opened : Opened) (all : Draft) (name : List ℕ) (n : ℕ) (minus : Bool) (size : Decimal) (column : List ℕ)
+    → refusals_in_turn all (term_declared name (column, signed minus size)) ≡ []
+    → Walks (point_at (BeforeItems name) opened all) (at n (Sign minus) ∷ at n (Number size) ∷ at n (Name column) ∷ []) (term_declared name (column, signed minus size))
+    (point_at (InObjective name) opened (adding_all all (term_declared name (column, signed minus size))))
+first-term-walks opened all name n minus size column h =
+    walks-one (point_at (BeforeItems name) opened all) (at n (Sign minus)) (at n (Number size) ∷ at n (Name column) ∷ []) _ _
+    (λ rest. ap (λ (refused : List BuildFault). passing 2 (unless_refused (record { opened = opened; earlier = all }) (at n (Name column)) refused (InObjective name) (term_declared name (column, signed minus size)) rest)) h)
+
+pub term-walks : (opened : Opened) (all : Draft) (name : List ℕ) (n : ℕ) (minus : Bool) (size : Decimal) (column : List ℕ)
+    → refusals_in_turn all (term_declared name (column, signed minus size)) ≡ []
+    → Walks (point_at (InObjective name) opened all) (at n (Sign minus) ∷ at n (Number size) ∷ at n (Name column) ∷ []) (term_declared name (column, signed minus size))
+    (point_at (InObjective name) opened (adding_all all (term_declared name (column, signed minus size))))
+term-walks opened all name n minus size column h =
+    walks-one (point_at (InObjective name) opened all) (at n (Sign minus)) (at n (Number size) ∷ at n (Name column) ∷ []) _ _
+    (λ rest. ap (λ (refused : List BuildFault). passing 2 (unless_refused (record { opened = opened; earlier = all }) (at n (Name column)) refused (InObjective name) (term_declared name (column, signed minus size)) rest)) h)
+
+-- ---- rows
+
+-- a label and the first term
+pub row-walks : (opened : Opened) (all : Draft) (name : List ℕ) (k n : ℕ) (minus : Bool) (size : Decimal) (column : List ℕ)
+    → Walks (point_at BetweenRows opened all) (at k (Name name) ∷ at k Colon ∷ at n (Sign minus) ∷ at n (Number size) ∷ at n (Name column) ∷ []) []
+    (point_at (InRow (record { name = name; left = None; terms = (column, signed minus size) ∷ [] })) opened all)
+row-walks opened all name k n minus size column =
+    walks-one (point_at BetweenRows opened all) (at k (Name name)) (at k Colon ∷ at n (Sign minus) ∷ at n (Number size) ∷ at n (Name column) ∷ []) _ _ (λ rest. refl)
+
+-- a label, a limit left of the terms, and the first term
+pub left-row-walks : (opened : Opened) (all : Draft) (name : List ℕ) (k j n : ℕ) (value : Decimal) (relation : Relation) (minus : Bool) (size : Decimal) (column : List ℕ)
+    → Walks (point_at BetweenRows opened all)
+    (at k (Name name) ∷ at k Colon ∷ at j (Number value) ∷ at j (Compares relation) ∷ at n (Sign minus) ∷ at n (Number size) ∷ at n (Name column) ∷ []) []
+    (point_at (InRow (record { name = name; left = Some (limit_of value, relation); terms = (column, signed minus size) ∷ [] })) opened all)
+left-row-walks opened all name k j n value relation minus size column =
+    walks-one (point_at BetweenRows opened all) (at k (Name name))
+    (at k Colon ∷ at j (Number value) ∷ at j (Compares relation) ∷ at n (Sign minus) ∷ at n (Number size) ∷ at n (Name column) ∷ []) _ _ (λ rest. refl)
+
+-- the same with a sign before the limit
+pub signed-row-walks : (opened : Opened) (all : Draft) (name : List ℕ) (k j n : ℕ) (below : Bool) (value : Decimal) (relation : Relation) (minus : Bool) (size : Decimal) (column : List ℕ)
+    → Walks (point_at BetweenRows opened all)
+    (at k (Name name) ∷ at k Colon ∷ at j (Sign below) ∷ at j (Number value) ∷ at j (Compares relation) ∷ at n (Sign minus) ∷ at n (Number size) ∷ at n (Name column) ∷ []) []
+    (point_at (InRow (record { name = name; left = Some (limit_of (signed below value), relation); terms = (column, signed minus size) ∷ [] })) opened all)
+signed-row-walks opened all name k j n below value relation minus size column =
+    walks-one (point_at BetweenRows opened all) (at k (Name name))
+    (at k Colon ∷ at j (Sign below) ∷ at j (Number value) ∷ at j (Compares relation) ∷ at n (Sign minus) ∷ at n (Number size) ∷ at n (Name column) ∷ []) _ _ (λ rest. refl)
+
+-- a further term, whose column is new in the row
+pub row-term-walks : (opened : Opened) (all : Draft) (row : PartialRow) (n : ℕ) (minus : Bool) (size : Decimal) (column : List ℕ)
+    → list_any (λ (term : List ℕ × Decimal). same_bytes column term.0) row.terms ≡ false
+    → Walks (point_at (InRow row) opened all) (at n (Sign minus) ∷ at n (Number size) ∷ at n (Name column) ∷ []) []
+    (point_at (InRow (record row { terms = row.terms ++ (column, signed minus size) ∷ [] })) opened all)
+row-term-walks opened all row n minus size column h =
+    let before : Before = record { opened = opened; earlier = all } in
+    walks-one (point_at (InRow row) opened all) (at n (Sign minus)) (at n (Number size) ∷ at n (Name column) ∷ []) _ _
+    (λ rest. ap (λ (twice : Bool). passing 2 ((if twice then refuses before (at n (Name column)) DuplicateEntry
+    else goes_to before (InRow (record row { terms = row.terms ++ (column, signed minus size) ∷ [] })) []) rest)) h)
+
+-- what a row declares that ends by this sense and this limit
+abbrev pub ended_by : PartialRow → Relation → Limit → Declarations
+ended_by row relation limit = row_declared row (row_limits row.left relation limit)
+
+-- a sense and a limit right of the terms
+pub row-end-walks : (opened : Opened) (all : Draft) (row : PartialRow) (n : ℕ) (relation : Relation) (value : Decimal)
+    → fits_left row.left relation ≡ true → refusals_in_turn all (ended_by row relation (limit_of value)) ≡ []
+    → Walks (point_at (InRow row) opened all) (at n (Compares relation) ∷ at n (Number value) ∷ []) (ended_by row relation (limit_of value))
+    (point_at BetweenRows opened (adding_all all (ended_by row relation (limit_of value))))
+row-end-walks opened all row n relation value fits h =
+    let before : Before = record { opened = opened; earlier = all } in
+    walks-one (point_at (InRow row) opened all) (at n (Compares relation)) (at n (Number value) ∷ []) _ _
+    (λ rest. ap (λ (b : Bool). (if b then (side before >>= row_whole before row relation) else refuses before (at n (Compares relation)) MixedSenses) (at n (Number value) ∷ rest)) fits
+    ∙ ap (λ (refused : List BuildFault). passing 1 (unless_refused before (at n (Number value)) refused BetweenRows (ended_by row relation (limit_of value)) rest)) h)
+
+-- the same with a sign before the limit
+pub signed-end-walks : (opened : Opened) (all : Draft) (row : PartialRow) (n : ℕ) (relation : Relation) (below : Bool) (value : Decimal)
+    → fits_left row.left relation ≡ true → refusals_in_turn all (ended_by row relation (limit_of (signed below value))) ≡ []
+    → Walks (point_at (InRow row) opened all) (at n (Compares relation) ∷ at n (Sign below) ∷ at n (Number value) ∷ []) (ended_by row relation (limit_of (signed below value)))
+    (point_at BetweenRows opened (adding_all all (ended_by row relation (limit_of (signed below value)))))
+signed-end-walks opened all row n relation below value fits h =
+    let before : Before = record { opened = opened; earlier = all } in
+    walks-one (point_at (InRow row) opened all) (at n (Compares relation)) (at n (Sign below) ∷ at n (Number value) ∷ []) _ _
+    (λ rest. ap (λ (b : Bool). (if b then (side before >>= row_whole before row relation) else refuses before (at n (Compares relation)) MixedSenses) (at n (Sign below) ∷ at n (Number value) ∷ rest)) fits
+    ∙ ap (λ (refused : List BuildFault). passing 2 (unless_refused before (at n (Number value)) refused BetweenRows (ended_by row relation (limit_of (signed below value))) rest)) h)
+
+-- ---- sections
+
+-- a section's word, where a section may begin
+opens-section : (place : Place) (opened : Opened) (all : Draft) (n : ℕ) (word : SectionWord) (tokens : Tokens) → may_begin_section place ≡ true
+    → section_fault opened (section_of word) ≡ None
+    → phrase_at (point_at place opened all) (at n (Opens word)) tokens ≡ section_start (record { opened = opened_with opened (section_of word); earlier = all }) (at n (Opens word)) word tokens
+opens-section place opened all n word tokens may fault =
+    let before : Before = record { opened = opened; earlier = all } in
+    ap (λ (b : Bool). (if b then section_from before (at n (Opens word)) word else refuses before (at n (Opens word)) BadToken) tokens) may
+    ∙ ap (λ (o : Option FaultKind). (elim o as (λ _. Rule Follows) [
+      | Some kind ↦ fails (at n (Opens word)) kind
+      | None ↦ section_start (record { opened = opened_with opened (section_of word); earlier = all }) (at n (Opens word)) word
+    ]) tokens) fault
+
+-- `Subject To`
+pub subject-walks : (place : Place) (opened : Opened) (all : Draft) (n : ℕ) → may_begin_section place ≡ true → section_fault opened sections.Rows ≡ None
+    → Walks (point_at place opened all) (at n (Opens section_words.Subject) ∷ at n (Name (codes "To")) ∷ []) [] (point_at BetweenRows (opened_with opened sections.Rows) all)
+subject-walks place opened all n may fault =
+    walks-one (point_at place opened all) (at n (Opens section_words.Subject)) (at n (Name (codes "To")) ∷ []) _ _
+    (λ rest. opens-section place opened all n section_words.Subject (at n (Name (codes "To")) ∷ rest) may fault)
+
+pub bounds-section-walks : (place : Place) (opened : Opened) (all : Draft) (n : ℕ) → may_begin_section place ≡ true → section_fault opened sections.Bounds ≡ None
+    → Walks (point_at place opened all) (at n (Opens section_words.Bounds) ∷ []) [] (point_at (InBounds None) (opened_with opened sections.Bounds) all)
+bounds-section-walks place opened all n may fault =
+    walks-one (point_at place opened all) (at n (Opens section_words.Bounds)) [] _ _ (λ rest. opens-section place opened all n section_words.Bounds rest may fault)
+
+pub generals-section-walks : (place : Place) (opened : Opened) (all : Draft) (n : ℕ) → may_begin_section place ≡ true → section_fault opened sections.Generals ≡ None
+    → Walks (point_at place opened all) (at n (Opens section_words.Generals) ∷ []) [] (point_at InGenerals (opened_with opened sections.Generals) all)
+generals-section-walks place opened all n may fault =
+    walks-one (point_at place opened all) (at n (Opens section_words.Generals)) [] _ _ (λ rest. opens-section place opened all n section_words.Generals rest may fault)
+
+-- `Semi-Continuous`
+pub semis-section-walks : (place : Place) (opened : Opened) (all : Draft) (n : ℕ) → may_begin_section place ≡ true → section_fault opened sections.SemiContinuous ≡ None
+    → Walks (point_at place opened all) (at n (Opens section_words.Semi) ∷ at n (Sign true) ∷ at n (Name (codes "Continuous")) ∷ []) [] (point_at InSemis (opened_with opened sections.SemiContinuous) all)
+semis-section-walks place opened all n may fault =
+    walks-one (point_at place opened all) (at n (Opens section_words.Semi)) (at n (Sign true) ∷ at n (Name (codes "Continuous")) ∷ []) _ _
+    (λ rest. opens-section place opened all n section_words.Semi (at n (Sign true) ∷ at n (Name (codes "Continuous")) ∷ rest) may fault)
+
+-- a constant, which is told by what follows it: `Subject To`
+pub constant-walks : (started : Bool) (opened : Opened) (all : Draft) (name : List ℕ) (k n : ℕ) (minus : Bool) (size : Decimal)
+    → refusals_in_turn all (declare_constant (signed minus size) ∷ []) ≡ [] → section_fault opened sections.Rows ≡ None
+    → Walks (point_at (if started then InObjective name else BeforeItems name) opened all) (at k (Sign minus) ∷ at k (Number size) ∷ at n (Opens section_words.Subject) ∷ at n (Name (codes "To")) ∷ [])
+    (declare_constant (signed minus size) ∷ [])
+    (point_at BetweenRows (opened_with opened sections.Rows) (adding_all all (declare_constant (signed minus size) ∷ [])))
+constant-walks true opened all name k n minus size h fault =
+    walks-before (point_at (InObjective name) opened all) _ _ (at k (Sign minus)) (at k (Number size) ∷ []) (at n (Opens section_words.Subject) ∷ at n (Name (codes "To")) ∷ []) _ []
+    (λ rest. ap (λ (refused : List BuildFault). passing 1 (unless_refused (record { opened = opened; earlier = all }) (at n (Opens section_words.Subject)) refused (InObjective name) (declare_constant (signed minus size) ∷ [])
+    (at n (Opens section_words.Subject) ∷ at n (Name (codes "To")) ∷ rest))) h)
+    (subject-walks (InObjective name) opened (adding_all all (declare_constant (signed minus size) ∷ [])) n refl fault)
+constant-walks false opened all name k n minus size h fault =
+    walks-before (point_at (BeforeItems name) opened all) _ _ (at k (Sign minus)) (at k (Number size) ∷ []) (at n (Opens section_words.Subject) ∷ at n (Name (codes "To")) ∷ []) _ []
+    (λ rest. ap (λ (refused : List BuildFault). passing 1 (unless_refused (record { opened = opened; earlier = all }) (at n (Opens section_words.Subject)) refused (InObjective name) (declare_constant (signed minus size) ∷ [])
+    (at n (Opens section_words.Subject) ∷ at n (Name (codes "To")) ∷ rest))) h)
+    (subject-walks (InObjective name) opened (adding_all all (declare_constant (signed minus size) ∷ [])) n refl fault)
+
+-- the text is whole at its last word
+pub end-says : (place : Place) (opened : Opened) (all : Draft) (n : ℕ) → may_begin_section place ≡ true → section_fault opened sections.End ≡ None
+    → phrases phrase_at (point_at place opened all) 0 (at n (Opens section_words.End) ∷ []) ≡ Finished all
+end-says place opened all n may fault = ap whole (opens-section place opened all n section_words.End [] may fault)
+  where
+    whole : Reading Fault Follows → Outcome Fault Draft
+    whole reading = elim reading as (λ _. Outcome Fault Draft) [
+      | Reads (Goes after found) taken ↦ phrases phrase_at after taken []
+      | Reads (Ends all_of) taken ↦ Finished all_of
+      | Refuses fault_of ↦ Refused fault_of
+      | Unfinished ↦ Open
+    ]
+
+pub end-makes : (place : Place) (opened : Opened) (all : Draft) (n : ℕ) → may_begin_section place ≡ true → section_fault opened sections.End ≡ None
+    → made_by phrase_at (point_at place opened all) 0 (at n (Opens section_words.End) ∷ []) ≡ []
+end-makes place opened all n may fault = ap made (opens-section place opened all n section_words.End [] may fault)
+  where
+    made : Reading Fault Follows → Declarations
+    made reading = elim reading as (λ _. Declarations) [
+      | Reads (Goes after found) taken ↦ found ++ made_by phrase_at after taken []
+      | Reads (Ends all_of) taken ↦ []
+      | Refuses fault_of ↦ []
+      | Unfinished ↦ []
+    ]
+
+-- ---- bounds
+
+-- what sides of a column declare, and the column with them
+abbrev pub column_and : List ℕ → Limits → Declarations
+column_and column limits = (declare_column column ∷ []) ++ bounds_declared column limits.lower limits.upper
+
+-- sides of a column that is declared with them are not refused
+abbrev pub AreTaken : Draft → List ℕ → Limits → Type 0
+AreTaken all column limits = bounds_refusals (adding_all all (declare_column column ∷ [])) column limits.lower limits.upper ≡ []
+
+-- a column, a sense and a limit
+pub bound-walks : (opened : Opened) (all : Draft) (n : ℕ) (column : List ℕ) (relation : Relation) (value : Decimal) → AreTaken all column (limits_by relation (limit_of value))
+    → Walks (point_at (InBounds None) opened all) (at n (Name column) ∷ at n (Compares relation) ∷ at n (Number value) ∷ []) (column_and column (limits_by relation (limit_of value)))
+    (point_at (InBounds None) opened (adding_all all (column_and column (limits_by relation (limit_of value)))))
+bound-walks opened all n column relation value h =
+    walks-one (point_at (InBounds None) opened all) (at n (Name column)) (at n (Compares relation) ∷ at n (Number value) ∷ []) _ _
+    (λ rest. ap (λ (refused : List BuildFault). passing 1 (passing 1 (unless_refused (record { opened = opened; earlier = all }) (at n (Number value)) refused (InBounds None) (column_and column (limits_by relation (limit_of value))) rest))) h)
+
+pub signed-bound-walks : (opened : Opened) (all : Draft) (n : ℕ) (column : List ℕ) (relation : Relation) (below : Bool) (value : Decimal) → AreTaken all column (limits_by relation (limit_of (signed below value)))
+    → Walks (point_at (InBounds None) opened all) (at n (Name column) ∷ at n (Compares relation) ∷ at n (Sign below) ∷ at n (Number value) ∷ []) (column_and column (limits_by relation (limit_of (signed below value))))
+    (point_at (InBounds None) opened (adding_all all (column_and column (limits_by relation (limit_of (signed below value))))))
+signed-bound-walks opened all n column relation below value h =
+    walks-one (point_at (InBounds None) opened all) (at n (Name column)) (at n (Compares relation) ∷ at n (Sign below) ∷ at n (Number value) ∷ []) _ _
+    (λ rest. ap (λ (refused : List BuildFault). passing 1 (passing 2 (unless_refused (record { opened = opened; earlier = all }) (at n (Number value)) refused (InBounds None) (column_and column (limits_by relation (limit_of (signed below value)))) rest))) h)
+
+-- a column and `free`
+pub free-walks : (opened : Opened) (all : Draft) (n : ℕ) (column : List ℕ) → AreTaken all column no_limits
+    → Walks (point_at (InBounds None) opened all) (at n (Name column) ∷ at n Free ∷ []) (column_and column no_limits) (point_at (InBounds None) opened (adding_all all (column_and column no_limits)))
+free-walks opened all n column h =
+    walks-one (point_at (InBounds None) opened all) (at n (Name column)) (at n Free ∷ []) _ _
+    (λ rest. ap (λ (refused : List BuildFault). passing 1 (unless_refused (record { opened = opened; earlier = all }) (at n Free) refused (InBounds None) (column_and column no_limits) rest)) h)
+
+-- a limit left of a column
+pub left-bound-walks : (opened : Opened) (all : Draft) (n : ℕ) (value : Decimal) (relation : Relation) (column : List ℕ) → AreTaken all column (limits_by (turned relation) (limit_of value))
+    → Walks (point_at (InBounds None) opened all) (at n (Number value) ∷ at n (Compares relation) ∷ at n (Name column) ∷ []) (column_and column (limits_by (turned relation) (limit_of value)))
+    (point_at (InBounds (Some (column, relation))) opened (adding_all all (column_and column (limits_by (turned relation) (limit_of value)))))
+left-bound-walks opened all n value relation column h =
+    walks-one (point_at (InBounds None) opened all) (at n (Number value)) (at n (Compares relation) ∷ at n (Name column) ∷ []) _ _
+    (λ rest. ap (λ (refused : List BuildFault). passing 0 (passing 1 (passing 1 (unless_refused (record { opened = opened; earlier = all }) (at n (Name column)) refused (InBounds (Some (column, relation))) (column_and column (limits_by (turned relation) (limit_of value))) rest)))) h)
+
+pub signed-left-bound-walks : (opened : Opened) (all : Draft) (n : ℕ) (below : Bool) (value : Decimal) (relation : Relation) (column : List ℕ)
+    → AreTaken all column (limits_by (turned relation) (limit_of (signed below value)))
+    → Walks (point_at (InBounds None) opened all) (at n (Sign below) ∷ at n (Number value) ∷ at n (Compares relation) ∷ at n (Name column) ∷ []) (column_and column (limits_by (turned relation) (limit_of (signed below value))))
+    (point_at (InBounds (Some (column, relation))) opened (adding_all all (column_and column (limits_by (turned relation) (limit_of (signed below value))))))
+signed-left-bound-walks opened all n below value relation column h =
+    walks-one (point_at (InBounds None) opened all) (at n (Sign below)) (at n (Number value) ∷ at n (Compares relation) ∷ at n (Name column) ∷ []) _ _
+    (λ rest. ap (λ (refused : List BuildFault). passing 1 (passing 1 (passing 1 (unless_refused (record { opened = opened; earlier = all }) (at n (Name column)) refused (InBounds (Some (column, relation))) (column_and column (limits_by (turned relation) (limit_of (signed below value)))) rest)))) h)
+
+-- `-infinity` left of a column
+pub infinite-left-walks : (opened : Opened) (all : Draft) (n : ℕ) (relation : Relation) (column : List ℕ) → AreTaken all column (limits_by (turned relation) MinusInf)
+    → Walks (point_at (InBounds None) opened all) (at n (Sign true) ∷ at n Infinity ∷ at n (Compares relation) ∷ at n (Name column) ∷ []) (column_and column (limits_by (turned relation) MinusInf))
+    (point_at (InBounds (Some (column, relation))) opened (adding_all all (column_and column (limits_by (turned relation) MinusInf))))
+infinite-left-walks opened all n relation column h =
+    walks-one (point_at (InBounds None) opened all) (at n (Sign true)) (at n Infinity ∷ at n (Compares relation) ∷ at n (Name column) ∷ []) _ _
+    (λ rest. ap (λ (refused : List BuildFault). passing 1 (passing 1 (passing 1 (unless_refused (record { opened = opened; earlier = all }) (at n (Name column)) refused (InBounds (Some (column, relation))) (column_and column (limits_by (turned relation) MinusInf)) rest)))) h)
+
+-- the upper limit of a column that has a limit left of it
+pub upper-walks : (opened : Opened) (all : Draft) (n : ℕ) (column : List ℕ) (value : Decimal) → bounds_refusals all column None (Some (limit_of value)) ≡ []
+    → Walks (point_at (InBounds (Some (column, AtMost))) opened all) (at n (Compares AtMost) ∷ at n (Number value) ∷ []) (bounds_declared column None (Some (limit_of value)))
+    (point_at (InBounds None) opened (adding_all all (bounds_declared column None (Some (limit_of value)))))
+upper-walks opened all n column value h =
+    walks-one (point_at (InBounds (Some (column, AtMost))) opened all) (at n (Compares AtMost)) (at n (Number value) ∷ []) _ _
+    (λ rest. ap (λ (refused : List BuildFault). passing 1 (unless_refused (record { opened = opened; earlier = all }) (at n (Number value)) refused (InBounds None) (bounds_declared column None (Some (limit_of value))) rest)) h)
+
+pub signed-upper-walks : (opened : Opened) (all : Draft) (n : ℕ) (column : List ℕ) (below : Bool) (value : Decimal) → bounds_refusals all column None (Some (limit_of (signed below value))) ≡ []
+    → Walks (point_at (InBounds (Some (column, AtMost))) opened all) (at n (Compares AtMost) ∷ at n (Sign below) ∷ at n (Number value) ∷ []) (bounds_declared column None (Some (limit_of (signed below value))))
+    (point_at (InBounds None) opened (adding_all all (bounds_declared column None (Some (limit_of (signed below value))))))
+signed-upper-walks opened all n column below value h =
+    walks-one (point_at (InBounds (Some (column, AtMost))) opened all) (at n (Compares AtMost)) (at n (Sign below) ∷ at n (Number value) ∷ []) _ _
+    (λ rest. ap (λ (refused : List BuildFault). passing 2 (unless_refused (record { opened = opened; earlier = all }) (at n (Number value)) refused (InBounds None) (bounds_declared column None (Some (limit_of (signed below value)))) rest)) h)
+
+-- ---- integer columns
+
+pub general-walks : (opened : Opened) (all : Draft) (n : ℕ) (column : List ℕ) → refusals_in_turn all (declare_column column ∷ declare_integer column ∷ []) ≡ []
+    → Walks (point_at InGenerals opened all) (at n (Name column) ∷ []) (declare_column column ∷ declare_integer column ∷ [])
+    (point_at InGenerals opened (adding_all all (declare_column column ∷ declare_integer column ∷ [])))
+general-walks opened all n column h =
+    walks-one (point_at InGenerals opened all) (at n (Name column)) [] _ _
+    (λ rest. ap (λ (refused : List BuildFault). unless_refused (record { opened = opened; earlier = all }) (at n (Name column)) refused InGenerals (declare_column column ∷ declare_integer column ∷ []) rest) h)
+
+-- ---- semi-continuous columns
+
+pub semi-walks : (opened : Opened) (all : Draft) (n : ℕ) (column : List ℕ) → refusals_in_turn all (declare_column column ∷ declare_semi column ∷ []) ≡ []
+    → Walks (point_at InSemis opened all) (at n (Name column) ∷ []) (declare_column column ∷ declare_semi column ∷ [])
+    (point_at InSemis opened (adding_all all (declare_column column ∷ declare_semi column ∷ [])))
+semi-walks opened all n column h =
+    walks-one (point_at InSemis opened all) (at n (Name column)) [] _ _
+    (λ rest. ap (λ (refused : List BuildFault). unless_refused (record { opened = opened; earlier = all }) (at n (Name column)) refused InSemis (declare_column column ∷ declare_semi column ∷ []) rest) h)

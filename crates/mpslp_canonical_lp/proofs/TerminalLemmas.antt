@@ -1,0 +1,93 @@
+-- What the grammar sees of a printed line.
+use Rattle.mpslp_lp.specs.declared.words.SectionWord.TheVariants as section_words
+use Rattle.std.proofs.Common.{◌≡◌, refl, sym, ap, ◌∙◌, ℕ, ◌+◌, List, [], ◌∷◌, ◌++◌, Bool, true, false, map}
+use Rattle.std.specs.Prelude.{pos, neg_ℤ, unsigned_abs, codes, if◌then◌else◌}
+use Rattle.std.specs.List.{flat_map}
+use Rattle.std.specs.Result.{result_unwrap_or}
+use Rattle.mpslp_decimal.specs.Decimal.{Number as Decimal, IsDecimal, is_negative, size_of, zero_number}
+use Rattle.mpslp_decimal.specs.NumberText.{number_text}
+use Rattle.mpslp_decimal.specs.Literal.{signed as literal_sign}
+use Rattle.mpslp_decimal.proofs.NumberTextLemmas.{number-text, signed-size}
+use Rattle.mpslp_decimal.proofs.CutLemmas.{Each}
+use Rattle.mpslp_lp.specs.Words.{meaning_of}
+use Rattle.mpslp_lp.specs.Terminal.{Terminal, TerminalAt, word_terminal}
+use Rattle.mpslp_reading.specs.Field.{value_of}
+use Rattle.mpslp_lp.specs.Terminal.Terminal.{Name, Number, Sign, Compares, Colon, Infinity, Opens}
+use Rattle.mpslp_lp.specs.Sides.{signed}
+use Rattle.mpslp_lp.specs.declared.relations.Relation.TheVariants.{AtMost, AtLeast, EqualTo}
+use Rattle.mpslp_lp.specs.declared.tokens.TokenKind.TheVariants as kinds
+use Rattle.mpslp_canonical_lp.specs.Printed.{Piece, PrintedLine, word, label, number, sign, sense, minus_infinity, tokens_in, line_tokens, semi_continuous}
+use Rattle.mpslp_canonical_lp.proofs.LineLemmas.{seen_at, IsPrintableLine}
+use Rattle.mpslp_canonical_lp.proofs.PieceLemmas.{IsPrintable}
+use Rattle.mpslp_canonical_lp.proofs.TextLemmas.{terminals_from}
+
+abbrev pub at : ℕ → Terminal → TerminalAt
+at n terminal = record { line = n; terminal = terminal }
+
+-- what is seen of a piece: a word by its meaning, a label as a name, and numbers by their values
+abbrev pub terminals_in : Piece → List Terminal
+terminals_in (word text) = word_terminal text (meaning_of text) ∷ []
+terminals_in (label name) = Name name ∷ Colon ∷ []
+terminals_in (number value) = if is_negative value then Sign true ∷ Number (size_of value) ∷ [] else Number value ∷ []
+terminals_in (sign minus) = Sign minus ∷ []
+terminals_in (sense relation) = Compares relation ∷ []
+terminals_in minus_infinity = Sign true ∷ Infinity ∷ []
+terminals_in semi_continuous = Opens section_words.Semi ∷ Sign true ∷ Name (codes "Continuous") ∷ []
+
+abbrev pub line_terminals_in : ℕ → PrintedLine → List TerminalAt
+line_terminals_in n line = map (at n) (flat_map terminals_in line.pieces)
+
+value-read : (value : Decimal) → IsDecimal value → value_of (number_text value) ≡ value
+value-read value h = ap (λ r. result_unwrap_or r zero_number) (number-text value h)
+
+piece-seen : (n : ℕ) (piece : Piece) → IsPrintable piece → map (seen_at n) (tokens_in piece) ≡ map (at n) (terminals_in piece)
+piece-seen n (word text) h = refl
+piece-seen n (label name) h = λ i. at n (word_terminal name (h.meaning i)) ∷ at n Colon ∷ []
+piece-seen n (number value) h =
+    elim (is_negative value) as (λ b. map (seen_at n) (if b then (kinds.Minus, codes "-") ∷ (kinds.Number, number_text (size_of value)) ∷ [] else (kinds.Number, number_text value) ∷ [])
+    ≡ map (at n) (if b then Sign true ∷ Number (size_of value) ∷ [] else Number value ∷ [])) [
+      | true ↦ (λ i. at n (Sign true) ∷ at n (Number (value-read (size_of value) h i)) ∷ [])
+      | false ↦ (λ i. at n (Number (value-read value h i)) ∷ [])
+    ]
+piece-seen n (sign true) h = refl
+piece-seen n (sign false) h = refl
+piece-seen n (sense AtMost) h = refl
+piece-seen n (sense AtLeast) h = refl
+piece-seen n (sense EqualTo) h = refl
+piece-seen n minus_infinity h = refl
+piece-seen n semi_continuous h = refl
+
+pub mapped-append : {X Y : Type 0} (f : X → Y) (xs ys : List X) → map f (xs ++ ys) ≡ map f xs ++ map f ys
+mapped-append f [] ys = refl
+mapped-append {X} {Y} f (x ∷ xs) ys = ap (λ (more : List Y). f x ∷ more) (mapped-append f xs ys)
+
+pieces-seen : (n : ℕ) (pieces : List Piece) → Each IsPrintable pieces → map (seen_at n) (flat_map tokens_in pieces) ≡ map (at n) (flat_map terminals_in pieces)
+pieces-seen n [] h = refl
+pieces-seen n (piece ∷ pieces) h =
+    mapped-append (seen_at n) (tokens_in piece) (flat_map tokens_in pieces)
+    ∙ (λ i. piece-seen n piece h.0 i ++ pieces-seen n pieces h.1 i)
+    ∙ sym (mapped-append (at n) (terminals_in piece) (flat_map terminals_in pieces))
+
+pub line-seen : (n : ℕ) (line : PrintedLine) → Each IsPrintable line.pieces → map (seen_at n) (line_tokens line) ≡ line_terminals_in n line
+line-seen n line h = pieces-seen n line.pieces h
+
+-- those of printed lines that are numbered from here on
+abbrev pub all_terminals : ℕ → List PrintedLine → List TerminalAt
+all_terminals n [] = []
+all_terminals n (line ∷ lines) = line_terminals_in n line ++ all_terminals (n + 1) lines
+
+pub lines-seen : (n : ℕ) (lines : List PrintedLine) → Each IsPrintableLine lines → terminals_from n lines ≡ all_terminals n lines
+lines-seen n [] h = refl
+lines-seen n (line ∷ lines) h = λ i. line-seen n line h.0.each i ++ lines-seen (n + 1) lines h.1 i
+
+-- a sign and a size are the number
+pub signed-value : (value : Decimal) → signed (is_negative value) (size_of value) ≡ value
+signed-value value = by (is_negative value) refl
+  where
+    by : (b : Bool) → is_negative value ≡ b → signed b (size_of value) ≡ value
+    by true e =
+        let whole : neg_ℤ (pos (unsigned_abs value.mantissa)) ≡ value.mantissa = ap (λ (b : Bool). literal_sign b (unsigned_abs value.mantissa)) (sym e) ∙ signed-size value.mantissa in
+        λ i. record { mantissa = whole i; exponent = value.exponent }
+    by false e =
+        let whole : pos (unsigned_abs value.mantissa) ≡ value.mantissa = ap (λ (b : Bool). literal_sign b (unsigned_abs value.mantissa)) (sym e) ∙ signed-size value.mantissa in
+        λ i. record { mantissa = whole i; exponent = value.exponent }

@@ -1,0 +1,86 @@
+-- A text of printed lines is cut into these lines, and its terminals are those of their pieces.
+use Rattle.std.proofs.Common.{◌≡◌, refl, ap, ◌∙◌, List, [], ◌∷◌, ◌++◌, ℕ, zero, suc, ◌+◌, Bool, true, false, map, arith}
+use Rattle.std.specs.Prelude.{◌==◌, slice_index, Option, Some, None, is_none}
+use Rattle.std.specs.List.{slice_split, list_all, enumerate_from}
+use Rattle.std.specs.Str.Lines.{lines, lines_of_parts, strip_carriage_return}
+use Rattle.std.proofs.lemmas.Bool.Decides.{nat_tests}
+use Rattle.mpslp_types.specs.declared.faults.FaultKind.{FaultKind}
+use Rattle.mpslp_types.proofs.BoolLemmas.{both_so}
+use Rattle.mpslp_decimal.proofs.CutLemmas.{Each}
+use Rattle.mpslp_lp.specs.Terminal.{TerminalAt, line_terminals}
+use Rattle.mpslp_lp.specs.OwnFault.{own_fault}
+use Rattle.mpslp_lp.specs.LpText.{sound_terminals}
+use Rattle.mpslp_canonical_lp.specs.Printed.{PrintedLine, printed, ended, text_of, line_tokens}
+use Rattle.mpslp_canonical_lp.specs.Laws.{tokens_seen}
+use Rattle.mpslp_canonical_lp.proofs.PieceLemmas.{line-read}
+use Rattle.mpslp_canonical_lp.proofs.LineLemmas.{is_plain, each-printed, IsPrintableLine, line-faultless, line-terminals, seen_at}
+
+-- ---- lines
+
+abbrev pub is_feed : ℕ → Bool
+is_feed b = b == 10
+
+-- neither a line feed nor a carriage return
+abbrev pub IsPlain : ℕ → Type 0
+IsPlain b = (is_feed b ≡ false) × ((b == 13) ≡ false)
+
+split-feed : (line rest : List ℕ) → Each IsPlain line → slice_split is_feed ((line ++ 10 ∷ []) ++ rest) ≡ line ∷ slice_split is_feed rest
+split-feed [] rest h = refl
+split-feed (b ∷ bs) rest h = rw (h.0.0, split-feed bs rest h.1) refl
+
+split-ended : (ls : List (List ℕ)) → Each (Each IsPlain) ls → slice_split is_feed (ended ls) ≡ ls ++ [] ∷ []
+split-ended [] h = refl
+split-ended (l ∷ ls) h = split-feed l (ended ls) h.0 ∙ ap (λ (x : List (List ℕ)). l ∷ x) (split-ended ls h.1)
+
+no-return : (line : List ℕ) (k : ℕ) → Each IsPlain line → (slice_index line k == 13) ≡ false
+no-return [] k h = refl
+no-return (b ∷ bs) zero h = h.0.1
+no-return (b ∷ bs) (suc k) h = no-return bs k h.1
+
+strip-plain : (line : List ℕ) → Each IsPlain line → strip_carriage_return line ≡ line
+strip-plain line h = rw (no-return line _ h) refl
+
+parts-lines : (ls : List (List ℕ)) → Each (Each IsPlain) ls → lines_of_parts (ls ++ [] ∷ []) ≡ ls
+parts-lines [] h = refl
+parts-lines (l ∷ []) h = ap (λ (x : List ℕ). x ∷ []) (strip-plain l h.0)
+parts-lines (l ∷ k ∷ ls) h = λ i. strip-plain l h.0 i ∷ parts-lines (k ∷ ls) h.1 i
+
+pub lines-ended : (ls : List (List ℕ)) → Each (Each IsPlain) ls → lines (ended ls) ≡ ls
+lines-ended ls h = ap lines_of_parts (split-ended ls h) ∙ parts-lines ls h
+
+-- ---- printed lines
+
+plain-whole : (b : ℕ) → is_plain b ≡ true → IsPlain b
+plain-whole b h = (grind (arith, nat_tests), grind (arith, nat_tests))
+
+all-plain : (ls : List PrintedLine) → Each IsPrintableLine ls → Each (Each IsPlain) (map printed ls)
+all-plain [] h = tt
+all-plain (l ∷ ls) h = (each-printed IsPlain plain-whole (refl, refl) l h.0.each, all-plain ls h.1)
+
+pub lines-text : (ls : List PrintedLine) → Each IsPrintableLine ls → lines (text_of ls) ≡ map printed ls
+lines-text ls h = lines-ended (map printed ls) (all-plain ls h)
+
+pub all-faultless : (ls : List PrintedLine) → Each IsPrintableLine ls → list_all (λ line. is_none (own_fault line)) (map printed ls) ≡ true
+all-faultless [] h = refl
+all-faultless (l ∷ ls) h =
+    both_so (is_none (own_fault (printed l))) (list_all (λ line. is_none (own_fault line)) (map printed ls)) (ap is_none (line-faultless l h.0)) (all-faultless ls h.1)
+
+pub all-tokens : (ls : List PrintedLine) → Each IsPrintableLine ls → map tokens_seen (map printed ls) ≡ map line_tokens ls
+all-tokens [] h = refl
+all-tokens (l ∷ ls) h = λ i. line-read l h.0.each i ∷ all-tokens ls h.1 i
+
+-- ---- their terminals
+
+-- those of printed lines that are numbered from here on
+abbrev pub terminals_from : ℕ → List PrintedLine → List TerminalAt
+terminals_from n [] = []
+terminals_from n (l ∷ ls) = map (seen_at n) (line_tokens l) ++ terminals_from (n + 1) ls
+
+pub sound-terminals : (n : ℕ) (ls : List PrintedLine) → Each IsPrintableLine ls → sound_terminals (enumerate_from n (map printed ls)) ≡ terminals_from n ls
+sound-terminals n [] h = refl
+sound-terminals n (l ∷ ls) h =
+    ap (λ (o : Option FaultKind). elim o as (λ _. List TerminalAt) [
+      | Some kind ↦ []
+      | None ↦ line_terminals (n, printed l) ++ sound_terminals (enumerate_from (n + 1) (map printed ls))
+    ]) (line-faultless l h.0)
+    ∙ (λ i. line-terminals n l h.0.each i ++ sound-terminals (n + 1) ls h.1 i)

@@ -1,0 +1,85 @@
+-- Printed lines: their pieces, how they are printed, and the tokens that a reader of LP sees in them.
+use Rattle.std.specs.Prelude.{ℕ, Bool, List, [], ◌∷◌, ◌++◌, map, replicate, codes, if◌then◌else◌}
+use Rattle.std.specs.List.{flat_map, join_by}
+use Rattle.mpslp_decimal.specs.Decimal.{Number, is_negative, size_of}
+use Rattle.mpslp_decimal.specs.NumberText.{number_text}
+use Rattle.mpslp_lp.specs.declared.relations.Relation.{Relation}
+use Rattle.mpslp_lp.specs.declared.relations.Relation.TheVariants.{AtMost, AtLeast, EqualTo}
+use Rattle.mpslp_lp.specs.declared.tokens.TokenKind.{TokenKind}
+use Rattle.mpslp_lp.specs.declared.tokens.TokenKind.TheVariants as kinds
+
+pub data Piece : Type 0 where
+  -- a name, or a word of the language
+  word : List ℕ → Piece
+  -- a name and a colon
+  label : List ℕ → Piece
+  -- a number with its sign, where it is negative
+  number : Number → Piece
+  sign : (minus : Bool) → Piece
+  sense : Relation → Piece
+  minus_infinity : Piece
+  -- the opening of a section, which is read as three tokens
+  semi_continuous : Piece
+
+-- pieces after so many blanks
+pub record PrintedLine : Type 0 where
+  pub indent : ℕ
+  pub pieces : List Piece
+
+-- ---- how they are printed
+
+abbrev pub sign_bytes : Bool → List ℕ
+sign_bytes minus = if minus then codes "-" else codes "+"
+
+abbrev pub sense_bytes : Relation → List ℕ
+sense_bytes AtMost = codes "<="
+sense_bytes AtLeast = codes ">="
+sense_bytes EqualTo = codes "="
+
+abbrev pub piece_text : Piece → List ℕ
+piece_text (word text) = text
+piece_text (label name) = name ++ codes ":"
+piece_text (number value) = number_text value
+piece_text (sign minus) = sign_bytes minus
+piece_text (sense relation) = sense_bytes relation
+piece_text minus_infinity = codes "-infinity"
+piece_text semi_continuous = codes "Semi-Continuous"
+
+-- one blank between the pieces
+abbrev pub printed : PrintedLine → List ℕ
+printed line = replicate line.indent 32 ++ join_by piece_text (codes " ") line.pieces
+
+-- each line ended by a line feed
+abbrev pub ended : List (List ℕ) → List ℕ
+ended lines = flat_map (λ line. line ++ 10 ∷ []) lines
+
+abbrev pub text_of : List PrintedLine → List ℕ
+text_of lines = ended (map printed lines)
+
+-- ---- what is read in them
+
+abbrev pub sign_kind : Bool → TokenKind
+sign_kind minus = if minus then kinds.Minus else kinds.Plus
+
+abbrev pub sense_kind : Relation → TokenKind
+sense_kind AtMost = kinds.Less
+sense_kind AtLeast = kinds.Greater
+sense_kind EqualTo = kinds.Equal
+
+-- a token's kind and its text
+abbrev pub SeenToken : Type 0
+SeenToken = TokenKind × List ℕ
+
+abbrev pub tokens_in : Piece → List SeenToken
+tokens_in (word text) = (kinds.Word, text) ∷ []
+tokens_in (label name) = (kinds.Word, name) ∷ (kinds.Colon, codes ":") ∷ []
+tokens_in (number value) =
+    if is_negative value then (kinds.Minus, codes "-") ∷ (kinds.Number, number_text (size_of value)) ∷ []
+    else (kinds.Number, number_text value) ∷ []
+tokens_in (sign minus) = (sign_kind minus, sign_bytes minus) ∷ []
+tokens_in (sense relation) = (sense_kind relation, sense_bytes relation) ∷ []
+tokens_in minus_infinity = (kinds.Minus, codes "-") ∷ (kinds.Word, codes "infinity") ∷ []
+tokens_in semi_continuous = (kinds.Word, codes "Semi") ∷ (kinds.Minus, codes "-") ∷ (kinds.Word, codes "Continuous") ∷ []
+
+abbrev pub line_tokens : PrintedLine → List SeenToken
+line_tokens line = flat_map tokens_in line.pieces

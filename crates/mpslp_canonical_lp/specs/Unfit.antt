@@ -1,0 +1,29 @@
+-- Where a model first has a name that LP cannot tell.
+use Rattle.std.specs.Prelude.{ℕ, Bool, not, List, map, Option, Some, None, position, if◌then◌else◌}
+use Rattle.std.specs.Option.{option_map}
+use Rattle.mpslp_types.specs.Name.{is_lp_name}
+use Rattle.mpslp_core.specs.Model.{LinearModel}
+use Rattle.mpslp_types.specs.declared.faults.NameAt.{NameAt}
+use Rattle.mpslp_types.specs.declared.faults.NameAt.TheVariants.{Objective, Row, Column}
+use Rattle.mpslp_canonical_lp.specs.Listing.{Listing, listing_of}
+
+abbrev pub is_no_lp_name : List ℕ → Bool
+is_no_lp_name name = not (is_lp_name name)
+
+-- the position of the first name that is no LP name
+abbrev pub first_unfit : List (List ℕ) → Option ℕ
+first_unfit names = position is_no_lp_name names
+
+-- this place, or else that one
+abbrev pub or_else : Option NameAt → Option NameAt → Option NameAt
+or_else (Some place) other = Some place
+or_else None other = other
+
+-- the objective's name first, then the least row, then the least column
+abbrev pub unfit_in : Listing → Option NameAt
+unfit_in m =
+    if is_no_lp_name m.objective then Some Objective
+    else or_else (option_map Row (first_unfit (map (λ row. row.0) m.rows))) (option_map Column (first_unfit (map (λ column. column.0) m.columns)))
+
+abbrev pub unfit : LinearModel → Option NameAt
+unfit m = unfit_in (listing_of m)

@@ -1,0 +1,61 @@
+-- What a token makes that completes declarations, and terms of a row.
+use Rattle.std.proofs.Common.{◌≡◌, refl, sym, ap, subst, ◌∙◌, ℕ, List, [], ◌∷◌, Bool, true, false, cond}
+use Rattle.std.specs.Prelude.{Option, Some, None, Ok, Err, is_some, ◌||◌, unwrap_or}
+use Rattle.std.specs.List.{list_any}
+use Rattle.std.specs.Map.{lookup}
+use Rattle.mpslp_decimal.specs.Decimal.{Number as Decimal, trailing_zeros}
+use Rattle.mpslp_decimal.specs.Literal.{number_of}
+use Rattle.mpslp_types.specs.Name.{same_bytes}
+use Rattle.mpslp_types.specs.declared.faults.BuildFault.{BuildFault}
+use Rattle.mpslp_types.specs.declared.faults.FaultKind.{FaultKind}
+use Rattle.mpslp_builder.specs.Declaration.{Declarations, Draft}
+use Rattle.mpslp_reading.specs.Declaring.{kind_of_refusal}
+use Rattle.mpslp_reading.specs.LineAnswer.{LineResult}
+use Rattle.mpslp_reading.specs.declared.errors.LineError.TheVariants.{Fault, OutOfMemory}
+use Rattle.mpslp_lp.specs.Terminal.{Terminal}
+use Rattle.mpslp_lp.specs.Phrase.{terminal_fault}
+use Rattle.mpslp_lp.specs.Items.{one}
+use Rattle.mpslp_lp.specs.declared.before.Before.{Before}
+use Rattle.mpslp_lp.specs.declared.states.Place.{Place}
+use Rattle.mpslp_lp.specs.declared.states.State.TheVariants.{Between}
+use Rattle.mpslp_lp.specs.Taken.{Goes, Refuses, refused, completed}
+use Rattle.mpslp_lp.specs.Declares.{DeclaresUnless, TokenResult, Takes, answer_at}
+
+-- ---- declarations
+
+told-kind : (before : Before) (terminal : Terminal) (refusal : BuildFault) (kind : FaultKind) → terminal_fault before terminal ≡ None
+    → ◌≡◌ {A = Option FaultKind} (Some (kind_of_refusal refusal)) (Some kind) → refused before terminal (kind_of_refusal refusal) ≡ Refuses kind
+told-kind before terminal refusal kind none told =
+    let same : kind_of_refusal refusal ≡ kind = cc in
+    ap (λ (o : Option FaultKind). Refuses (unwrap_or o (kind_of_refusal refusal))) none ∙ ap (λ (k : FaultKind). Refuses k) same
+
+-- a token that completes declarations
+pub completes : (before : Before) (later : Draft) (terminal : Terminal) (refusals : List BuildFault) (place : Place) (made : Declarations) (answer : LineResult) (result : TokenResult)
+    → terminal_fault before terminal ≡ None → result ≡ answer_at place answer → DeclaresUnless refusals before.earlier made answer later
+    → Takes (completed before terminal refusals place made) result (record before { earlier = later })
+completes before later terminal refusals place made answer result none is declared =
+    subst (λ (r : TokenResult). Takes (completed before terminal refusals place made) r (record before { earlier = later })) (sym is) (by answer refusals declared)
+  where
+    by : (a : LineResult) (faults : List BuildFault) → DeclaresUnless faults before.earlier made a later
+        → Takes (completed before terminal faults place made) (answer_at place a) (record before { earlier = later })
+    by (Ok u) faults h =
+        ap (λ (fs : List BuildFault). completed before terminal fs place made) h.0
+        ∙ ap (λ (d : Draft). Goes (record before { earlier = d }) (Between place)) (sym h.1)
+    by (Err (Fault kind)) [] h = cc
+    by (Err (Fault kind)) (refusal ∷ more) h = told-kind before terminal refusal kind none h
+    by (Err OutOfMemory) faults h = tt
+
+-- ---- terms
+
+pub one-parsed : number_of (49 ∷ []) ≡ Ok one
+unfolding trailing_zeros
+one-parsed = refl
+
+pub looked-up : (name : List ℕ) (terms : List (List ℕ × Decimal)) → list_any (λ term. same_bytes name term.0) terms ≡ is_some (lookup (same_bytes name) terms)
+looked-up name [] = refl
+looked-up name (term ∷ terms) = by (same_bytes name term.0) (looked-up name terms)
+  where
+    by : (b : Bool) → list_any (λ t. same_bytes name t.0) terms ≡ is_some (lookup (same_bytes name) terms)
+        → (b || list_any (λ t. same_bytes name t.0) terms) ≡ is_some (cond b (Some term.1) (lookup (same_bytes name) terms))
+    by true h = refl
+    by false h = h

@@ -1,0 +1,30 @@
+use Rattle.std.proofs.Common.{◌≡◌, refl, sym, ap, ◌∙◌, ℕ, List, [], ◌∷◌, ◌++◌}
+use Rattle.std.specs.Prelude.{is_some}
+use Rattle.std.specs.Map.{lookup}
+use Rattle.indexmap.proofs.CallerLemmas.{insert_entry-new}
+use Rattle.mpslp_decimal.specs.Decimal.{Number}
+use Rattle.mpslp_types.specs.Name.{same_bytes}
+use Rattle.mpslp_lp.specs.PartialRow.{PartialRow}
+use Rattle.mpslp_lp.proofs.TokenAnswers.{looked-up}
+use Rattle.mpslp_lp.proofs.states.PartialRow.with_term.Goals as goal
+
+pub returns-in-Ok-None : goal.returns-in-Ok-None
+returns-in-Ok-None c =
+    let column = c.args.column in
+    let terms = c.self.inside.terms.entries in
+    let none = sym c.in-Ok-None.ensures.old ∙ c.in-Ok-None.field-0-is in
+    let seen : c.args.self.terms ≡ terms = ap (λ (row : PartialRow). row.terms) (sym c.self.view_is) in (
+      looked-up column c.args.self.terms ∙ ap (λ (all : List (List ℕ × Number)). is_some (lookup (same_bytes column) all)) seen ∙ ap is_some none,
+      ap (λ (all : List (List ℕ × Number)). record { name = c.self.inside.name; left = c.self.inside.left; terms = all })
+          (c.in-Ok-None.ensures.entries ∙ insert_entry-new same_bytes c.self.inside.terms column c.args.value none)
+          ∙ ap (λ (row : PartialRow). record row { terms = row.terms ++ (column, c.args.value) ∷ [] }) c.self.view_is,
+    )
+
+pub returns-in-Ok-Some : goal.returns-in-Ok-Some
+returns-in-Ok-Some c =
+    let column = c.args.column in
+    let seen : c.args.self.terms ≡ c.self.inside.terms.entries = ap (λ (row : PartialRow). row.terms) (sym c.self.view_is) in (
+      looked-up column c.args.self.terms ∙ ap (λ (all : List (List ℕ × Number)). is_some (lookup (same_bytes column) all)) seen
+          ∙ ap is_some (sym c.in-Ok-Some.ensures.old ∙ c.in-Ok-Some.field-0-is),
+      refl,
+    )

@@ -1,0 +1,25 @@
+use Rattle.std.proofs.Common.{◌≡◌, sym, ap, subst, ◌∙◌, ◌++◌, ◌∷◌, [], ℕ, List}
+use Rattle.std.specs.Prelude.{None}
+use Rattle.mpslp_decimal.specs.Decimal.{Number}
+use Rattle.mpslp_lp.specs.Items.{one}
+use Rattle.mpslp_lp.specs.PartialRow.{PartialRow}
+use Rattle.mpslp_lp.specs.Rows.{default_row, without_terms}
+use Rattle.mpslp_lp.specs.Seen.{seen_terminal}
+use Rattle.mpslp_lp.specs.Taken.{Taken}
+use Rattle.mpslp_lp.specs.Begun.{begun}
+use Rattle.mpslp_lp.specs.Declares.{Takes}
+use Rattle.mpslp_lp.specs.declared.states.Place.TheVariants.{InRow}
+use Rattle.mpslp_lp.proofs.OtherTokens.{row_name-other}
+use Rattle.mpslp_lp.proofs.taking.take_after_row_name.Goals as goal
+
+pub returns-in_ok-row-in_default : goal.returns-in_ok-row-in_default
+returns-in_ok-row-in_default c =
+    let before = c.args.before.now in
+    let seen = c.args.seen.now in
+    let row = c.in_ok-row-in_default.row in
+    let first : PartialRow → Number → PartialRow = λ r value. record r { terms = r.terms ++ (c.args.name, value) ∷ [] } in
+    let same : row ≡ first (without_terms (default_row before) None) one =
+    c.in_ok-row-in_default.ensures.1 ∙ (λ i. first (c.without_terms.ensures i) (c.one.ensures i))
+    ∙ ap (λ (label : List ℕ). first (without_terms label None) one) c.in_ok-label-in_default.ensures in
+    subst (λ (taken : Taken). Takes taken c.begin.result c.begin.new.before) (sym (row_name-other before c.args.name seen.kind seen.text.now c.in_default.not-Colon))
+    (subst (λ (r : PartialRow). Takes (begun (InRow r) before (seen_terminal seen)) c.begin.result c.begin.new.before) same c.begin.ensures)

@@ -1,0 +1,138 @@
+//! Rows, token by token.
+
+ghost use Rattle.std.specs.Prelude.{◌≡◌, Some, None, MatchResult};
+ghost use Rattle.mpslp_lp.specs.PartialRow.{PartialRow};
+ghost use Rattle.mpslp_lp.specs.Point.{none_opened};
+ghost use Rattle.mpslp_lp.specs.Rows.{default_row, without_terms, fits_left, row_limits, row_declared};
+ghost use Rattle.mpslp_lp.specs.Sides.{fits_second, limits_by};
+ghost use Rattle.mpslp_lp.specs.Seen.{IsSound, seen_terminal};
+ghost use Rattle.mpslp_lp.specs.Declares.{Declares, Takes};
+ghost use Rattle.std.specs.Prelude.{IsTrue, unwrap_or};
+ghost use Rattle.mpslp_types.specs.Sides.{is_given};
+ghost use Rattle.mpslp_types.specs.declared.kinds.Limit.{Limit};
+ghost use Rattle.mpslp_lp.specs.Phrase.{terminal_fault};
+ghost use Rattle.mpslp_lp.specs.declared.states.Place.{Place};
+ghost use Rattle.mpslp_lp.specs.Taken.{declared};
+ghost use Rattle.mpslp_lp.specs.Begun.{row_begun};
+ghost use Rattle.mpslp_reading.specs.declared.errors.LineError.{LineError};
+
+use crate::answers::{at_place, refuse};
+use crate::before::Before;
+use crate::items::{one, take_term};
+use crate::limits::GivenLimit;
+use crate::relations::Relation;
+use crate::seen::{Seen, SeenKind};
+use crate::states::{Owner, PartialRow, Place, State};
+use indexmap::IndexMap;
+use mpslp_model::{FaultKind, Limit, Name};
+use mpslp_reading::LineError;
+
+/// A row of which no term was taken.
+pub(crate) fn without_terms(
+    before: &Before,
+    name: Name,
+    left: Option<(GivenLimit, Relation)>,
+) -> PartialRow
+    ensures { result ≡ without_terms name left }
+{
+    PartialRow {
+        name,
+        left,
+        terms: IndexMap::new(before.earlier.alloc()),
+    }
+}
+
+/// Whether two senses, of a left side and of the right one, are both `<` or both `>`.
+pub(crate) fn fits_second(first: Relation, second: Relation) -> bool
+    ensures { result ≡ fits_second first second }
+{
+    match first {
+        Relation::AtMost => second == Relation::AtMost,
+        Relation::AtLeast => second == Relation::AtLeast,
+        Relation::EqualTo => false,
+    }
+}
+
+/// Whether the sense goes with that of the row's left side, where there is one.
+pub(crate) fn fits_left(row: &PartialRow, relation: Relation) -> bool
+    ensures { result ≡ fits_left row.now.left relation }
+{
+    match &row.left {
+        Some((_limit, first)) => fits_second(*first, relation),
+        None => true,
+    }
+}
+
+/// Takes the first token of a row, or the first behind its label.
+pub(crate) fn begin_row(
+    before: &mut Before,
+    name: Name,
+    seen: &Seen<'_>,
+) -> Result<State, LineError>
+    requires { IsSound seen.now }
+    ensures { Takes (row_begun before.old name (seen_terminal seen.now)) result before.new }
+{
+    match seen.kind {
+        SeenKind::Infinity => Ok(State::RowLeft(name, GivenLimit::infinity(false))),
+        SeenKind::Number(value) => Ok(State::RowNumber(name, false, value)),
+        SeenKind::Name => {
+            let row = without_terms(before, name, None);
+            take_term(before, Owner::OfRow(row), seen.text, one())
+        }
+        SeenKind::Sign(minus) => Ok(State::RowSign(name, minus)),
+        _ => refuse(before, seen, FaultKind::BadToken),
+    }
+}
+
+/// The lower limit of a row with this right side.
+fn lower_limit(row: &PartialRow, relation: Relation, right: &GivenLimit) -> Limit
+    ensures value { result ≡ unwrap_or (row_limits row.now.left relation right.now).lower Limit.MinusInf }
+    ensures given { IsTrue (is_given result) }
+{
+    match &row.left {
+        None => match relation {
+            Relation::AtMost => Limit::MinusInf,
+            Relation::AtLeast | Relation::EqualTo => right.limit(),
+        },
+        Some((left, _first)) => match relation {
+            Relation::AtMost => left.limit(),
+            Relation::AtLeast | Relation::EqualTo => right.limit(),
+        },
+    }
+}
+
+/// The upper limit of a row with this right side.
+fn upper_limit(row: &PartialRow, relation: Relation, right: &GivenLimit) -> Limit
+    ensures value { result ≡ unwrap_or (row_limits row.now.left relation right.now).upper Limit.PlusInf }
+    ensures given { IsTrue (is_given result) }
+{
+    match &row.left {
+        None => match relation {
+            Relation::AtMost | Relation::EqualTo => right.limit(),
+            Relation::AtLeast => Limit::PlusInf,
+        },
+        Some((left, _first)) => match relation {
+            Relation::AtMost => right.limit(),
+            Relation::AtLeast | Relation::EqualTo => left.limit(),
+        },
+    }
+}
+
+/// Takes the right side of a row, which declares it.
+pub(crate) fn end_row(
+    before: &mut Before,
+    row: PartialRow,
+    relation: Relation,
+    right: &GivenLimit,
+    seen: &Seen<'_>,
+) -> Result<State, LineError>
+    requires { terminal_fault before.old (seen_terminal seen.now) ≡ None }
+    ensures { Takes (declared before.old (seen_terminal seen.now) Place.BetweenRows (row_declared row (row_limits row.left relation right.now))) result before.new }
+{
+    let lower = lower_limit(&row, relation, right);
+    let upper = upper_limit(&row, relation, right);
+    at_place(
+        before.earlier.declare_partial(&row, lower, upper),
+        Place::BetweenRows,
+    )
+}
