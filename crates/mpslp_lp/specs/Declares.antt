@@ -1,5 +1,5 @@
 -- What the code answers of declarations that a token completes, and of a token.
-use Rattle.std.specs.Prelude.{◌≡◌, nat_lt, if◌then◌else◌, ℕ, List, [], ◌∷◌, ◌++◌, true, false, Option, Some, Result, Ok, Err, Bool, None}
+use Rattle.std.specs.Prelude.{◌≡◌, nat_lt, if◌then◌else◌, ℕ, List, [], ◌∷◌, ◌++◌, true, false, Option, Some, Result, Ok, Err, Bool, None, is_some}
 use Rattle.std.specs.Option.{option_map}
 use Rattle.mpslp_builder.specs.Declaration.{Declarations, Draft, adding_all, bounds_declared}
 use Rattle.mpslp_core.specs.Lists.{head_of}
@@ -106,8 +106,9 @@ ReadsLines said (Err (reads.File fault)) later = said ≡ Refused fault
 ReadsLines said (Err reads.Failed) later = ⊥
 ReadsLines said (Err reads.OutOfMemory) later = Unit {0}
 
+-- There is what the text declares, and its objective has a name; or its first fault, or there was no memory.
 abbrev pub ReadsText : List ℕ → Result Draft ReadFault → Type 0
-ReadsText bytes (Ok draft) = outcome bytes ≡ Finished draft
+ReadsText bytes (Ok draft) = (outcome bytes ≡ Finished draft) × (is_some draft.objective ≡ true)
 ReadsText bytes (Err (reads.File fault)) = first_lp_fault bytes ≡ Some fault
 ReadsText bytes (Err reads.Failed) = ⊥
 ReadsText bytes (Err reads.OutOfMemory) = Unit {0}

@@ -15,7 +15,11 @@ mod declared;
 mod items;
 pub mod laws;
 mod limits;
+mod lines;
 mod opened;
+mod reading;
+#[cfg(test)]
+mod reading_tests;
 mod relations;
 mod rows;
 mod scan;
@@ -29,5 +33,6 @@ mod tokens;
 mod words;
 
 pub use mpslp_reading::MAX_LINE_LEN;
+pub use reading::read_lp;
 pub use tokens::{Token, TokenKind, Tokens, next_token, tokens_of};
 pub use words::Section;

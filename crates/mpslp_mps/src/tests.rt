@@ -1,5 +1,7 @@
 //! Worked files: the model of each by its views, or its first fault. Memory is ample.
 
+mod pieces;
+
 use crate::read_mps;
 use mpslp_decimal::{Decimal, DecimalText};
 use mpslp_model::{Kind, Limit, Model, ReadFault, Sense};
@@ -108,12 +110,11 @@ impl Telling {
     }
 }
 
-/// The views of the model that the text declares: the objective with constant and offset; each row with its letter, limits,
-/// right side and range; each column with its bounds, its objective coefficient and its elements. Or the first fault, as the
-/// program tells it.
-fn told(alloc: Global, text: &[u8]) -> Result<Vec<u8>, AllocError> {
+/// The views of a model: the objective with constant and offset; each row with its letter, limits, right side and range;
+/// each column with its bounds, its objective coefficient and its elements. Or the first fault, as the program tells it.
+fn told_of(alloc: Global, answer: Result<Model, ReadFault>) -> Result<Vec<u8>, AllocError> {
     let mut telling = Telling::new(alloc);
-    match read_mps(alloc, text) {
+    match answer {
         Ok(model) => telling.put_model(&model)?,
         Err(ReadFault::File(fault)) => {
             if fault.line == 0 {
@@ -128,9 +129,15 @@ fn told(alloc: Global, text: &[u8]) -> Result<Vec<u8>, AllocError> {
                 telling.put(name.as_bytes())?;
             }
         }
-        Err(_) => telling.put(b"no answer")?,
+        Err(ReadFault::Failed) => telling.put(b"failed")?,
+        Err(ReadFault::OutOfMemory) => telling.put(b"no answer")?,
     }
     Ok(telling.text)
+}
+
+/// What is told of a text.
+fn told(alloc: Global, text: &[u8]) -> Result<Vec<u8>, AllocError> {
+    told_of(alloc, read_mps(alloc, text))
 }
 
 /// The lines, with this one in place of that of a number, counted from 1.

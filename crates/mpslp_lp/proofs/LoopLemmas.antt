@@ -1,0 +1,90 @@
+-- Lines read one after another: what is left to be read decides.
+use Rattle.std.proofs.Common.{◌≡◌, ◌≤◌, refl, sym, ap, subst, ◌∙◌, ℕ, ◌+◌, ◌-◌, ◌^◌, min, List, [], ◌∷◌, Bool, true, false, arith}
+use Rattle.std.specs.Prelude.{None, Ok, Err}
+use Rattle.std.specs.List.{enumerate_from}
+use Rattle.mpslp_builder.specs.Declaration.{Draft}
+use Rattle.mpslp_types.specs.declared.faults.Fault.{Fault}
+use Rattle.mpslp_types.specs.declared.faults.ReadFault.{ReadFault}
+use Rattle.mpslp_reading.specs.LineAnswer.{fault_on_line, IsFaultOn}
+use Rattle.mpslp_reading.specs.declared.errors.LineError.{LineError}
+use Rattle.mpslp_reading.specs.declared.errors.LineError.TheVariants as errors
+use Rattle.mpslp_lp.specs.Rules.{Outcome}
+use Rattle.mpslp_lp.specs.Rules.Outcome.{Finished, Refused, Open}
+use Rattle.mpslp_lp.specs.declared.before.Before.{Before}
+use Rattle.mpslp_lp.specs.declared.states.State.{State}
+use Rattle.mpslp_lp.specs.declared.states.State.TheVariants.{AfterEnd}
+use Rattle.mpslp_lp.specs.Taken.{Taken, Goes, Refuses}
+use Rattle.mpslp_lp.specs.ReadingLines.{take_line, is_at_end, read_from}
+use Rattle.mpslp_lp.specs.Declares.{Takes, ReadsLines}
+
+abbrev pub last_number : ℕ
+last_number = 2 ^ 64 - 1
+
+-- what a line makes, and then those behind it
+abbrev after_line : ℕ → Taken → List (ℕ × List ℕ) → Outcome Fault Draft
+after_line n taken more = elim taken as (λ _. Outcome Fault Draft) [ Goes after next ↦ read_from after next more | Refuses kind ↦ Refused (fault_on_line n kind) ]
+
+line-read : (n : ℕ) (before : Before) (state : State) (line : List ℕ) (more : List (List ℕ)) → is_at_end state ≡ false
+    → read_from before state (enumerate_from n (line ∷ more)) ≡ after_line n (take_line before state line) (enumerate_from (n + 1) more)
+line-read n before state line more unended =
+    ap (λ (b : Bool). elim b as (λ _. Outcome Fault Draft) [ true ↦ Finished before.earlier | false ↦ after_line n (take_line before state line) (enumerate_from (n + 1) more) ]) unended
+
+-- numbers that are shown alike count the later lines alike
+counted-alike : (ls : List (List ℕ)) (n m : ℕ) (before : Before) (state : State) → min n last_number ≡ min m last_number
+    → read_from before state (enumerate_from n ls) ≡ read_from before state (enumerate_from m ls)
+counted-alike [] n m before state h = refl
+counted-alike (line ∷ ls) n m before state h =
+    let next : min (n + 1) last_number ≡ min (m + 1) last_number = omega (arith, h) in
+    by (is_at_end state) (take_line before state line) (λ after more. counted-alike ls (n + 1) (m + 1) after more next)
+  where
+    by : (b : Bool) (taken : Taken) → ((after : Before) (next : State) → read_from after next (enumerate_from (n + 1) ls) ≡ read_from after next (enumerate_from (m + 1) ls))
+        → elim b as (λ _. Outcome Fault Draft) [ true ↦ Finished before.earlier | false ↦ after_line n taken (enumerate_from (n + 1) ls) ]
+        ≡ elim b as (λ _. Outcome Fault Draft) [ true ↦ Finished before.earlier | false ↦ after_line m taken (enumerate_from (m + 1) ls) ]
+    by true taken later = refl
+    by false (Goes after next) later = later after next
+    by false (Refuses kind) later = ap (λ (k : ℕ). Refused (record { kind = kind; line = k; name = None })) h
+
+pub line-next : (n : ℕ) (before after : Before) (state next : State) (line : List ℕ) (more : List (List ℕ)) → is_at_end state ≡ false → take_line before state line ≡ Goes after next
+    → read_from before state (enumerate_from n (line ∷ more)) ≡ read_from after next (enumerate_from (min (n + 1) last_number) more)
+line-next n before after state next line more unended goes =
+    let same : min (n + 1) last_number ≡ min (min (n + 1) last_number) last_number = omega arith in
+    line-read n before state line more unended ∙ ap (λ (taken : Taken). after_line n taken (enumerate_from (n + 1) more)) goes
+    ∙ counted-alike more (n + 1) (min (n + 1) last_number) after next same
+
+-- the line of `end`
+pub line-last : (n : ℕ) (before after : Before) (state next : State) (line : List ℕ) (more : List (List ℕ)) → is_at_end state ≡ false → take_line before state line ≡ Goes after next
+    → is_at_end next ≡ true → read_from before state (enumerate_from n (line ∷ more)) ≡ Finished after.earlier
+line-last n before after state next line more unended goes ends =
+    line-read n before state line more unended ∙ ap (λ (taken : Taken). after_line n taken (enumerate_from (n + 1) more)) goes ∙ by next ends more
+  where
+    by : (s : State) → is_at_end s ≡ true → (ls : List (List ℕ)) → read_from after s (enumerate_from (n + 1) ls) ≡ Finished after.earlier
+    by AfterEnd e [] = refl
+    by AfterEnd e (l ∷ ls) = refl
+    by _ e ls = cc
+
+-- a line with an error
+pub line-fails : (n : ℕ) (before after : Before) (state : State) (line : List ℕ) (more : List (List ℕ)) (error : LineError) (answer : ReadFault) (later : Draft) (said : Outcome Fault Draft)
+    → is_at_end state ≡ false → n ≤ last_number → Takes (take_line before state line) (Err error) after → IsFaultOn n error answer
+    → read_from before state (enumerate_from n (line ∷ more)) ≡ said → ReadsLines said (Err answer) later
+line-fails n before after state line more (errors.Fault kind) answer later said unended counted refused told is =
+    let number : min n last_number ≡ n = omega (arith, counted) in
+    subst (λ (a : ReadFault). ReadsLines said (Err a) later) (sym told)
+    (sym is ∙ line-read n before state line more unended ∙ ap (λ (taken : Taken). after_line n taken (enumerate_from (n + 1) more)) refused
+    ∙ ap (λ (k : ℕ). Refused (record { kind = kind; line = k; name = None })) number)
+line-fails n before after state line more errors.OutOfMemory answer later said unended counted refused told is =
+    subst (λ (a : ReadFault). ReadsLines said (Err a) later) (sym told) tt
+
+-- no line is left
+pub none-left : (n : ℕ) (before : Before) (state : State) → is_at_end state ≡ false → read_from before state (enumerate_from n []) ≡ Open
+none-left n before AfterEnd unended = cc
+none-left n before _ unended = refl
+
+-- ---- what was answered of all lines
+
+pub lines-ended : (b : Bool) (said : Outcome Fault Draft) (later : Draft) → b ≡ true → ReadsLines said (Ok b) later → said ≡ Finished later
+lines-ended true said later e h = h
+lines-ended false said later e h = cc
+
+pub lines-open : (b : Bool) (said : Outcome Fault Draft) (later : Draft) → b ≡ false → ReadsLines said (Ok b) later → said ≡ Open
+lines-open false said later e h = h
+lines-open true said later e h = cc
