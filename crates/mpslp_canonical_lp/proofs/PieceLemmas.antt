@@ -134,7 +134,6 @@ piece-read (sense relation) rest expected h apart more = reads-token (sense_kind
 piece-read minus_infinity rest expected h apart more =
     reads-token kinds.Minus (codes "-") (codes "infinity" ++ rest) ((kinds.Word, codes "infinity") ∷ expected) minus-token (stops-minus 105 refl)
     (reads-token kinds.Word (codes "infinity") rest expected (word-token (codes "infinity") refl) (stops-apart (codes "infinity") rest apart) more)
-
 piece-read semi_continuous rest expected h apart more =
     reads-token kinds.Word (codes "Semi") (codes "-Continuous" ++ rest) ((kinds.Minus, codes "-") ∷ (kinds.Word, codes "Continuous") ∷ expected) (word-token (codes "Semi") refl) stops-semi
     (reads-token kinds.Minus (codes "-") (codes "Continuous" ++ rest) ((kinds.Word, codes "Continuous") ∷ expected) minus-token (stops-minus 67 refl)

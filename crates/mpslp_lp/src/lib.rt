@@ -5,6 +5,9 @@
 //! itself (`OwnFault`), the grammar by its rules (`Rules`, `Point`, `Phrase`, `Sides`, `Items`, `Objective`, `Rows`,
 //! `Bounds`, `Grammar`), and the whole text (`LpText`, `FirstFault`). The same one token after another, by what a reader
 //! keeps: `Reading`, `Taken`, `Begun`, `Taking`, `ReadingLines`.
+//!
+//! [`read_lp`] reads a text: it takes the tokens of each line (`lines`, `taking`) from a state to the next (`states`), and
+//! tells the builder what they declare (`declared`). [`tokens_of`] cuts a line.
 #![tactic(auto)]
 
 mod answers;
