@@ -3,6 +3,7 @@
 mod devices;
 mod faults;
 mod large;
+mod pieces;
 
 ghost use Rattle.std.specs.Prelude.{◌≡◌, IfOk};
 ghost use Rattle.mpslp_core.specs.Model.{LinearModel};
@@ -11,6 +12,8 @@ use crate::{ConvertFault, RunFault, canonical, is_canonical, laws, report, run, 
 use mpslp_model::{FaultKind, Format, FromRead, Sink, Source, ToWrite};
 use mpslp_write::Mps;
 use std::alloc::{AllocError, Global};
+use std::io;
+use std::io::Read;
 use std::test::Fail;
 
 /// Room for every input here.
@@ -39,15 +42,49 @@ fn run_in_memory<A: Format, B: Format>(
     Ok(sink.into_inner())
 }
 
-/// All that the program writes: the canonical text, or the line of the fault behind what was written before.
-fn told(alloc: Global, max_bytes: u64, text: &[u8]) -> Result<Vec<u8>, AllocError> {
+/// Gives at most so many bytes in each read.
+#[derive(Drop)]
+struct ShortReads<'a> {
+    bytes: &'a [u8],
+    len: usize,
+}
+
+impl Read for ShortReads<'_> {
+    fn read(&mut self, buffer: &mut [u8]) -> io::Result<usize> {
+        let given = self.bytes.len().min(buffer.len()).min(self.len);
+        buffer[..given].copy_from_slice(&self.bytes[..given]);
+        self.bytes = &self.bytes[given..];
+        Ok(given)
+    }
+}
+
+/// All that the program writes, where its input comes in pieces of so many bytes at most: the canonical text, or the line
+/// of the fault behind what was written before.
+fn told_in_pieces(
+    alloc: Global,
+    max_bytes: u64,
+    text: &[u8],
+    len: usize,
+) -> Result<Vec<u8>, AllocError> {
     let mut output = Vec::new(alloc);
-    let mut source = FromRead::new(text);
+    let mut source = FromRead::new(ShortReads { bytes: text, len });
     let mut sink = ToWrite::new(&mut output);
     if let Err(fault) = run_mps(alloc, max_bytes, &mut source, &mut sink) {
         let _ = report(&fault, &mut sink);
     }
     Ok(output)
+}
+
+/// All that the program writes, whether its input comes as a whole or in pieces of 1 or of 7 bytes.
+fn told(alloc: Global, max_bytes: u64, text: &[u8]) -> Result<Vec<u8>, AllocError> {
+    let whole = told_in_pieces(alloc, max_bytes, text, usize::MAX)?;
+    for len in [1, 7] {
+        let pieces = told_in_pieces(alloc, max_bytes, text, len)?;
+        if pieces.as_slice() != whole.as_slice() {
+            return b"other pieces, another answer".to_vec(alloc);
+        }
+    }
+    Ok(whole)
 }
 
 /// Several texts behind one another.

@@ -6,7 +6,7 @@
 
 ghost use Rattle.std.specs.Prelude.{◌<◌};
 
-use super::{MUCH, told};
+use super::{MUCH, told_in_pieces};
 use crate::{canonical, is_canonical, load, same_model};
 use mpslp_model::{Format, FromRead};
 use mpslp_write::Mps;
@@ -392,7 +392,7 @@ fn a_large_file_is_run(rt: HostRuntime) -> Result<(), Fail> {
     let alloc = rt.alloc();
     let text = large_file(alloc)?;
     assert!(rt; is_loaded(alloc, &text));
-    let output = told(alloc, MUCH, &text)?;
+    let output = told_in_pieces(alloc, MUCH, &text, usize::MAX)?;
     let expected = canonical_text(alloc)?;
     assert!(rt; output.as_slice() == expected.as_slice());
     Ok(())
