@@ -69,6 +69,21 @@ fn a_text_is_cut_anywhere(rt: HostRuntime) -> Result<(), Fail> {
 }
 
 #[test]
+fn a_text_without_carriage_returns_is_cut_anywhere(rt: HostRuntime) -> Result<(), Fail> {
+    let alloc = rt.alloc();
+    let text = joined(alloc, &[SMALL, "ENDATA\n"])?;
+    for at in 0..=text.len() {
+        let answer = read_cut(alloc, &text, at);
+        assert_eq!(rt;
+            told_of(alloc, answer)?.as_slice(),
+            SMALL_MODEL.as_bytes(),
+            "at {at}"
+        );
+    }
+    Ok(())
+}
+
+#[test]
 fn a_text_comes_byte_by_byte(rt: HostRuntime) -> Result<(), Fail> {
     let alloc = rt.alloc();
     for end in ["ENDATA\n", "ENDATA", "ENDATA\r\n[ anything ]\n"] {
