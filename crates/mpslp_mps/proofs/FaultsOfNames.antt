@@ -1,10 +1,9 @@
--- Rows, columns and coefficients that a line names and no line before it has, or names again, are so in the words of the format.
-use Rattle.std.proofs.Common.{◌≡◌, refl, sym, ap, ◌∙◌, List, [], ◌∷◌, ◌++◌, ℕ, Bool, true, false, cond, map, arith}
+-- Rows and columns that a line names and no line before it has are unknown in the words of the format.
+use Rattle.std.proofs.Common.{◌≡◌, refl, ap, ◌∙◌, List, [], ◌∷◌, ◌++◌, ℕ, Bool, true, false, cond, map}
 use Rattle.std.specs.Prelude.{Option, Some, None, is_none, is_some, not, filter_map, nat_lt, nat_le, ◌||◌, ◌&&◌, codes}
 use Rattle.std.specs.List.{list_any, list_all, last_or, flat_map}
 use Rattle.std.specs.Option.{option_map, option_map_or}
 use Rattle.std.specs.Cmp.{first_so, second_so}
-use Rattle.std.proofs.lemmas.Bool.Decides.{nat_tests}
 use Rattle.std.proofs.lemmas.List.Folds.{list_all-append}
 use Rattle.mpslp_types.specs.Name.{same_bytes, is_one_of}
 use Rattle.mpslp_types.specs.FaultOrder.{kind_rank}
@@ -14,36 +13,33 @@ use Rattle.mpslp_types.specs.declared.faults.FaultKind.TheVariants as kinds
 use Rattle.mpslp_types.specs.declared.kinds.Limit.{Limit}
 use Rattle.mpslp_types.specs.declared.kinds.RowType.{RowType}
 use Rattle.mpslp_types.specs.declared.kinds.RowType.TheVariants.{Free, AtMost, AtLeast, Equal}
-use Rattle.mpslp_types.specs.declared.kinds.Sense.{Sense}
-use Rattle.mpslp_types.proofs.BoolLemmas.{both_so, both_false, or_left, or_right, not_so, so_not}
-use Rattle.mpslp_core.specs.Lists.{head_of, is_nonempty, those_of}
-use Rattle.mpslp_core.specs.Model.{CoefficientKey}
-use Rattle.mpslp_builder.specs.Declaration.{by_type, Declaration, declare_sense, declare_objective, declare_constant, declare_row, declare_rhs, declare_range, declare_column, declare_coefficient, declare_lower, declare_upper, declare_marked, declare_integer, declare_binary, declare_semi, Declarations, Draft, adding, empty_draft, has_row, has_column, has_entry, is_free_row, rhs_declared}
+use Rattle.mpslp_types.proofs.BoolLemmas.{both_so, or_left, or_right, not_so, so_not}
+use Rattle.mpslp_core.specs.Lists.{head_of}
+use Rattle.mpslp_builder.specs.Declaration.{by_type, Declaration, declare_sense, declare_objective, declare_constant, declare_row, declare_rhs, declare_range, declare_column, declare_coefficient, declare_lower, declare_upper, declare_marked, declare_integer, declare_binary, declare_semi, Declarations, Draft, adding, empty_draft, has_row, has_column, is_free_row, rhs_declared}
 use Rattle.mpslp_builder.specs.Refusal.{refusal_tests}
 use Rattle.mpslp_builder.proofs.LaterDrafts.{itself_named}
-use Rattle.mpslp_builder.proofs.SlotLemmas.{same_name, has-put, has-put_key}
+use Rattle.mpslp_builder.proofs.SlotLemmas.{same_name, has-put}
 use Rattle.mpslp_reading.specs.Declaring.{kind_of_refusal}
 use Rattle.mpslp_reading.specs.Field.{is_kind, value_of}
 use Rattle.mpslp_reading.specs.Tests.{Tests}
 use Rattle.mpslp_mps.specs.Line.{Fields, Item, skipped, header, data_line}
-use Rattle.mpslp_mps.specs.Section.{has, section_named, is_section}
-use Rattle.mpslp_mps.specs.DataLine.{RowLine, Pair, ValuesLine, word_shape, sense_of, row_shape, row_type, column_shape, is_marker_line, vector_shape}
+use Rattle.mpslp_mps.specs.Section.{section_named, is_section}
+use Rattle.mpslp_mps.specs.DataLine.{Pair, ValuesLine, word_shape, row_shape, row_type, column_shape, is_marker_line, vector_shape}
 use Rattle.mpslp_mps.specs.BoundLine.{BoundLine, bound_type, bound_shape}
-use Rattle.mpslp_mps.specs.Context.{Context, context_of, current_section, has_section, sections_begun, data_lines, objective_name, wanted}
+use Rattle.mpslp_mps.specs.Context.{Context, context_of, current_section, has_section, sections_begun, objective_name}
 use Rattle.mpslp_mps.specs.HeaderFault.{lacks_objective, section_tests, header_tests}
 use Rattle.mpslp_mps.specs.DataFault.{data_tests}
 use Rattle.mpslp_mps.specs.LineFault.{item_tests}
-use Rattle.mpslp_mps.specs.LineMeaning.{declared_of, sense_declared, is_new_objective, row_of_type, row_declared, coefficient_declared, column_declared, columns_line_declared, right_sides_declared, ranges_declared, bound_declared, bound_value, bound_line_declared, data_declared, header_declared, declared}
-use Rattle.mpslp_mps.specs.TextInWords.{place, is_sense, is_one_word, in_order, words_in, has_free_row, has_named_objective}
-use Rattle.mpslp_mps.specs.FaultsInWords.{IsInWords, has_its_word, names_row, row_name, is_free_row_line, has_default_objective, is_row, repeats_row, column_line, pairs_in, names_unknown_row, bound_column, names_column, names_unknown_column, has_row_twice, has_entry_of, repeats_entry_of, repeats_entry}
+use Rattle.mpslp_mps.specs.LineMeaning.{declared_of, is_new_objective, row_of_type, row_declared, coefficient_declared, column_declared, columns_line_declared, right_sides_declared, ranges_declared, bound_declared, bound_value, bound_line_declared, data_declared, header_declared}
+use Rattle.mpslp_mps.specs.TextInWords.{place, words_in, has_free_row, has_named_objective}
+use Rattle.mpslp_mps.specs.FaultsInWords.{IsInWords, names_row, has_default_objective, is_row, pairs_in, names_unknown_row, bound_column, names_column, names_unknown_column}
 use Rattle.mpslp_mps.specs.declared.bound_types.BoundType.{BoundType}
 use Rattle.mpslp_mps.specs.declared.bound_types.BoundType.TheVariants as bounds
 use Rattle.mpslp_mps.specs.declared.sections.Section.{Section}
 use Rattle.mpslp_mps.specs.declared.sections.Section.TheVariants.{Name, ObjSense, ObjName, Rows, Columns, Rhs, Ranges, Bounds, EndData}
-use Rattle.mpslp_mps.proofs.OrderLemmas.{IsGood, never, header-fresh, each-declared, each-flat, sense-passes, sides-passes, ranges-passes, Passes, bounds-passes}
+use Rattle.mpslp_mps.proofs.OrderLemmas.{IsGood, never, each-declared, sense-passes, sides-passes, ranges-passes, Passes, bounds-passes}
 use Rattle.mpslp_mps.proofs.WordsOfHeaders.{AreOrdered}
 use Rattle.mpslp_mps.proofs.WordsOfObjName.{told-words}
-use Rattle.mpslp_mps.proofs.WordsOfOneWord.{missing, without_word, with_word, IsUnderway, sense-word}
 use Rattle.mpslp_mps.proofs.NamesOfWords.{Told}
 use Rattle.mpslp_mps.proofs.FaultedLines.{holds_of, refused_as, refuses, is_below, IsFirst, in-words}
 use Rattle.mpslp_mps.proofs.KindsOfLines.{is_among, none-holds, left_alone, right_alone, header_kinds, kinds_in, same-rank, unknown_kinds, unknown-among, data-among, header-among}
@@ -51,7 +47,7 @@ use Rattle.mpslp_mps.proofs.KindsOfLines.{is_among, none-holds, left_alone, righ
 -- ---- declarations that are not refused by a kind
 
 -- a refusal of this kind is among those of such declarations
-abbrev may_refuse : FaultKind → Declaration → Bool
+abbrev pub may_refuse : FaultKind → Declaration → Bool
 may_refuse kind d = list_any (λ test. is_kind kind (kind_of_refusal test.1)) (refusal_tests empty_draft d)
 
 none-so : (kind : FaultKind) (tests : List (Bool × BuildFault)) → list_any (λ test. is_kind kind (kind_of_refusal test.1)) tests ≡ false → refused_as kind tests ≡ false
@@ -86,11 +82,11 @@ none-refuse kind (d ∷ ds) all h =
     ap (λ (b : Bool). b || refuses kind (adding all d) ds) (not-refused kind all d (first_so (not (may_refuse kind d)) (list_all (λ d. not (may_refuse kind d)) ds) h))
     ∙ none-refuse kind ds (adding all d) (second_so (not (may_refuse kind d)) (list_all (λ d. not (may_refuse kind d)) ds) h)
 
-no-one : {X : Type 0} (kind : FaultKind) (ds : Declarations) (all : Draft) → list_all (λ d. not (may_refuse kind d)) ds ≡ true → refuses kind all ds ≡ true → X
+pub no-one : {X : Type 0} (kind : FaultKind) (ds : Declarations) (all : Draft) → list_all (λ d. not (may_refuse kind d)) ds ≡ true → refuses kind all ds ≡ true → X
 no-one kind ds all h k = absurd (never (refuses kind all ds) k (none-refuse kind ds all h))
 
 -- of a kind that comes after those of all forms
-form-good : (kind : FaultKind) (before : List Item) (earlier : Draft) (item : Item) → is_below kind kinds.LineTooLong ≡ true → is_below kind kinds.BadByte ≡ true
+pub form-good : (kind : FaultKind) (before : List Item) (earlier : Draft) (item : Item) → is_below kind kinds.LineTooLong ≡ true → is_below kind kinds.BadByte ≡ true
     → list_all (is_below kind) header_kinds ≡ true → ((o : Option Section) → list_all (is_below kind) (kinds_in o) ≡ true) → IsFirst kind before earlier item → IsGood before earlier item
 form-good kind before earlier item long byte heads lines first = first.late long byte (by item)
   where
@@ -115,7 +111,7 @@ form-good kind before earlier item long byte heads lines first = first.late long
 
 -- ---- lists
 
-some : {X : Type 0} (p q : X → Bool) (xs : List X) → ((x : X) → p x ≡ true → q x ≡ true) → list_any p xs ≡ true → list_any q xs ≡ true
+pub some : {X : Type 0} (p q : X → Bool) (xs : List X) → ((x : X) → p x ≡ true → q x ≡ true) → list_any p xs ≡ true → list_any q xs ≡ true
 some p q [] h k = k
 some p q (x ∷ xs) h k = by (λ e. some p q xs h e) (p x) refl k
   where
@@ -472,387 +468,3 @@ unknown-row before earlier (data_line fields) told h =
 
 pub unknown-rows : IsInWords kinds.UnknownRow names_unknown_row
 unknown-rows = in-words kinds.UnknownRow names_unknown_row refl refl refl unknown-row
-
--- ---- DuplicateRow
-
--- up to the header of COLUMNS a line of ROWS has the name of each row that is there
-row-named : (before : List Item) (earlier : Draft) (name : List ℕ) → Told before earlier → has_section before Columns ≡ false → has_row earlier name ≡ true → names_row before name ≡ true
-row-named before earlier name told out h = left_alone (names_row before name) (has_section before Columns) out (told.row_lines name h)
-
--- in ROWS the header of COLUMNS has not come
-last-place : (seen : List Section) (s : Section) → in_order seen ≡ true → last_or None seen ≡ Some s → list_all (λ (x : Section). nat_le (place x) (place s)) seen ≡ true
-last-place [] s h k = refl
-last-place (x ∷ []) s h k = let same : x ≡ s = cc in both_so (nat_le (place x) (place s)) true (ap (λ (y : Section). nat_le (place y) (place s)) same ∙ itself (place s)) refl
-  where
-    itself : (n : ℕ) → nat_le n n ≡ true
-    itself n = grind (arith, nat_tests)
-last-place (x ∷ y ∷ seen) s h k =
-    let rest = last-place (y ∷ seen) s (second_so (list_all (λ other. nat_le (place x) (place other)) (y ∷ seen)) (in_order (y ∷ seen)) h) k in
-    both_so (nat_le (place x) (place s)) (list_all (λ (z : Section). nat_le (place z) (place s)) (y ∷ seen))
-    (both-steps (place x) (place y) (place s)
-    (first_so (nat_le (place x) (place y)) (list_all (λ other. nat_le (place x) (place other)) seen) (first_so (list_all (λ other. nat_le (place x) (place other)) (y ∷ seen)) (in_order (y ∷ seen)) h))
-    (first_so (nat_le (place y) (place s)) (list_all (λ (z : Section). nat_le (place z) (place s)) seen) rest)) rest
-  where
-    both-steps : (a b c : ℕ) → nat_le a b ≡ true → nat_le b c ≡ true → nat_le a c ≡ true
-    both-steps a b c e f = grind (arith, nat_tests)
-
-columns-out : (seen : List Section) → list_all (λ (x : Section). nat_le (place x) 2) seen ≡ true → has seen Columns ≡ false
-columns-out [] h = refl
-columns-out (x ∷ seen) h =
-    both_false (is_section Columns (Some x)) (has seen Columns) (by x (first_so (nat_le (place x) 2) (list_all (λ (y : Section). nat_le (place y) 2) seen) h))
-    (columns-out seen (second_so (nat_le (place x) 2) (list_all (λ (y : Section). nat_le (place y) 2) seen) h))
-  where
-    by : (s : Section) → nat_le (place s) 2 ≡ true → is_section Columns (Some s) ≡ false
-    by Name e = refl
-    by ObjSense e = refl
-    by ObjName e = refl
-    by Rows e = refl
-    by Columns e = cc
-    by Rhs e = cc
-    by Ranges e = cc
-    by Bounds e = cc
-    by EndData e = cc
-
-below-all : (kind : FaultKind) → list_all (is_below kind) (kinds_in None) ≡ true → list_all (is_below kind) (kinds_in (Some Rows)) ≡ true → list_all (is_below kind) (kinds_in (Some Columns)) ≡ true → list_all (is_below kind) (kinds_in (Some Bounds)) ≡ true
-    → (o : Option Section) → list_all (is_below kind) (kinds_in o) ≡ true
-below-all kind none rows columns numbers None = none
-below-all kind none rows columns numbers (Some Name) = none
-below-all kind none rows columns numbers (Some ObjSense) = none
-below-all kind none rows columns numbers (Some ObjName) = none
-below-all kind none rows columns numbers (Some Rows) = rows
-below-all kind none rows columns numbers (Some Columns) = columns
-below-all kind none rows columns numbers (Some Rhs) = numbers
-below-all kind none rows columns numbers (Some Ranges) = numbers
-below-all kind none rows columns numbers (Some Bounds) = numbers
-below-all kind none rows columns numbers (Some EndData) = none
-
--- no test of a good form holds
-good-none : (kind : FaultKind) (tests : Tests) → those_of tests ≡ [] → holds_of kind tests ≡ false
-good-none kind [] h = refl
-good-none kind ((held, other) ∷ more) h = by held h (λ e. good-none kind more e)
-  where
-    by : (b : Bool) → cond b (other ∷ those_of more) (those_of more) ≡ [] → (those_of more ≡ [] → holds_of kind more ≡ false) → cond (is_kind kind other) (b || holds_of kind more) (holds_of kind more) ≡ false
-    by true e rest = cc
-    by false e rest = either (is_kind kind other)
-      where
-        either : (c : Bool) → cond c (false || holds_of kind more) (holds_of kind more) ≡ false
-        either true = rest e
-        either false = rest e
-
--- so one of its declarations is refused
-good-refused : (kind : FaultKind) (before : List Item) (earlier : Draft) (item : Item) → IsGood before earlier item → IsFirst kind before earlier item → refuses kind earlier (declared (context_of before) earlier item) ≡ true
-good-refused kind before earlier item good first =
-    right_alone (holds_of kind (item_tests (context_of before) earlier item)) (refuses kind earlier (declared (context_of before) earlier item)) (good-none kind (item_tests (context_of before) earlier item) good) first.told
-
--- where there is no objective, and OBJNAME tells no name, no row is of type N, and OBJNAME has no word
-default-in_words : (before : List Item) (earlier : Draft) → Told before earlier → is_none earlier.objective ≡ true → is_none (objective_name before) ≡ true → has_default_objective before ≡ true
-default-in_words before earlier told none untold =
-    both_so (not (list_any is_free_row_line (data_lines Rows before))) (not (has_its_word before ObjName))
-    (so_not (list_any is_free_row_line (data_lines Rows before)) (no_row (list_any is_free_row_line (data_lines Rows before)) refl))
-    (so_not (has_its_word before ObjName) (no_word told.known.words.name))
-  where
-    nothing : (o n : Option (List ℕ)) → is_none o ≡ true → is_none n ≡ true → (is_some o || is_some n) ≡ false
-    nothing None None e f = refl
-    nothing (Some x) n e f = cc
-    nothing None (Some y) e f = cc
-
-    no_row : (b : Bool) → list_any is_free_row_line (data_lines Rows before) ≡ b → b ≡ false
-    no_row true e = absurd (never (is_some earlier.objective || is_some (objective_name before)) (told.free_named e) (nothing earlier.objective (objective_name before) none untold))
-    no_row false e = refl
-
-    word : (words : List Fields) → is_one_word (λ _. true) words ≡ true → is_none (head_of (filter_map word_shape words)) ≡ false
-    word [] h = cc
-    word ((x ∷ []) ∷ []) h = refl
-    word ([] ∷ (x ∷ []) ∷ []) h = refl
-    word ([] ∷ []) h = cc
-    word ([] ∷ [] ∷ more) h = cc
-    word ([] ∷ (x ∷ []) ∷ next ∷ more) h = cc
-    word ([] ∷ (x ∷ other ∷ rest) ∷ more) h = cc
-    word ((x ∷ []) ∷ next ∷ more) h = cc
-    word ((x ∷ other ∷ rest) ∷ more) h = cc
-
-    no_word : IsUnderway ObjName (λ _. true) before → has_its_word before ObjName ≡ false
-    no_word (missing, (a, b, c)) = ap (λ (words : List Fields). is_nonempty (flat_map (λ fields. fields) words)) a
-    no_word (without_word, (a, b, c, d)) = ap (λ (words : List Fields). is_nonempty (flat_map (λ fields. fields) words)) a
-    no_word (with_word, (a, b, c)) =
-        absurd (never (is_none (objective_name before)) untold (sym (ap (λ (names : List (List ℕ)). is_none (head_of names)) (told-words None before)) ∙ word (words_in ObjName before) a))
-
-repeated-row : (before : List Item) (earlier : Draft) (item : Item) → Told before earlier → IsFirst kinds.DuplicateRow before earlier item → repeats_row before item ≡ true
-repeated-row before earlier item told first =
-    let good = form-good kinds.DuplicateRow before earlier item refl refl refl (below-all kinds.DuplicateRow refl refl refl refl) first in
-    by item good (good-refused kinds.DuplicateRow before earlier item good first)
-  where
-    head : (keyword : List ℕ) (more : Fields) (o : Option Section) → those_of (header_tests (context_of before) earlier keyword more o) ≡ [] → refuses kinds.DuplicateRow earlier (header_declared (context_of before) earlier more o) ≡ true
-        → (is_section Columns o && (has_default_objective before && names_row before (codes "obj"))) ≡ true
-    head keyword more None g k = cc
-    head keyword more (Some Name) g k = cc
-    head keyword more (Some ObjSense) g k = no-one kinds.DuplicateRow (header_declared (context_of before) earlier more (Some ObjSense)) earlier (sense-passes (λ d. not (may_refuse kinds.DuplicateRow d)) (λ _. refl) more) k
-    head keyword more (Some ObjName) g k = cc
-    head keyword more (Some Rows) g k = cc
-    head keyword more (Some Columns) g k =
-        default (is_none earlier.objective && is_none (objective_name before)) refl k
-      where
-        fresh : has_section before Columns ≡ false
-        fresh = header-fresh (context_of before) earlier keyword more Columns g
-
-        default : (b : Bool) → (is_none earlier.objective && is_none (objective_name before)) ≡ b → refuses kinds.DuplicateRow earlier (cond b (declare_objective (codes "obj") ∷ []) []) ≡ true
-            → (has_default_objective before && names_row before (codes "obj")) ≡ true
-        default true e f =
-            both_so (has_default_objective before) (names_row before (codes "obj"))
-            (default-in_words before earlier told (first_so (is_none earlier.objective) (is_none (objective_name before)) e) (second_so (is_none earlier.objective) (is_none (objective_name before)) e))
-            (row-named before earlier (codes "obj") told fresh (left_alone (has_row earlier (codes "obj")) false refl (left_alone (has_row earlier (codes "obj") || false) false refl f)))
-        default false e f = cc
-    head keyword more (Some Rhs) g k = cc
-    head keyword more (Some Ranges) g k = cc
-    head keyword more (Some Bounds) g k = cc
-    head keyword more (Some EndData) g k = cc
-
-    passes : Passes (λ d. not (may_refuse kinds.DuplicateRow d))
-    passes = record { lower = λ _ _. refl; upper = λ _ _. refl; integer = λ _. refl; semi = λ _. refl }
-
-    column : (fields : Fields) (b : Bool) → list_all (λ d. not (may_refuse kinds.DuplicateRow d)) (cond b [] (declared_of (column_declared (context_of before)) (column_shape fields))) ≡ true
-    column fields true = refl
-    column fields false = each-declared (λ d. not (may_refuse kinds.DuplicateRow d)) (column_declared (context_of before)) (column_shape fields) line
-      where
-        cells : (l : ValuesLine) → list_all (λ d. not (may_refuse kinds.DuplicateRow d)) (flat_map (coefficient_declared l.name) l.pairs) ≡ true
-        cells l = each-flat (λ d. not (may_refuse kinds.DuplicateRow d)) (coefficient_declared l.name) l.pairs (λ pair. refl)
-
-        line : (l : ValuesLine) → list_all (λ d. not (may_refuse kinds.DuplicateRow d)) (column_declared (context_of before) l) ≡ true
-        line l = marks (context_of before).in_integer_part
-          where
-            marks : (b : Bool) → list_all (λ d. not (may_refuse kinds.DuplicateRow d)) (cond b (declare_marked l.name ∷ []) [] ++ flat_map (coefficient_declared l.name) l.pairs) ≡ true
-            marks true = cells l
-            marks false = cells l
-
-    typed : (name : List ℕ) (type : RowType) → refuses kinds.DuplicateRow earlier (row_of_type (context_of before) earlier name type) ≡ true → has_row earlier name ≡ true
-    typed name type k = of type k
-      where
-        one : (b : Bool) → ((b || false) || false) ≡ true → b ≡ true
-        one true e = refl
-        one false e = e
-
-        free : (b : Bool) → refuses kinds.DuplicateRow earlier (cond b (declare_objective name ∷ []) (declare_row name (by_type Free) ∷ [])) ≡ true → has_row earlier name ≡ true
-        free true e = one (has_row earlier name) e
-        free false e = one (has_row earlier name) e
-
-        of : (t : RowType) → refuses kinds.DuplicateRow earlier (row_of_type (context_of before) earlier name t) ≡ true → has_row earlier name ≡ true
-        of Free e = free (is_new_objective (context_of before) earlier name) e
-        of AtMost e = one (has_row earlier name) e
-        of AtLeast e = one (has_row earlier name) e
-        of Equal e = one (has_row earlier name) e
-
-    row : (o : Option RowLine) → has_section before Columns ≡ false → refuses kinds.DuplicateRow earlier (declared_of (row_declared (context_of before) earlier) o) ≡ true → option_map_or (names_row before) (option_map (λ (line : RowLine). line.name) o) false ≡ true
-    row None out k = cc
-    row (Some line) out k = of (row_type line.letter) k
-      where
-        of : (t : Option RowType) → refuses kinds.DuplicateRow earlier (declared_of (row_of_type (context_of before) earlier line.name) t) ≡ true → names_row before line.name ≡ true
-        of None e = cc
-        of (Some type) e = row-named before earlier line.name told out (typed line.name type e)
-
-    data_in : (fields : Fields) (o : Option Section) → current_section before ≡ o → refuses kinds.DuplicateRow earlier (data_declared (context_of before) earlier fields o) ≡ true → (is_section Rows o && option_map_or (names_row before) (row_name fields) false) ≡ true
-    data_in fields None e k = cc
-    data_in fields (Some Name) e k = cc
-    data_in fields (Some ObjSense) e k = no-one kinds.DuplicateRow (data_declared (context_of before) earlier fields (Some ObjSense)) earlier (sense-passes (λ d. not (may_refuse kinds.DuplicateRow d)) (λ _. refl) fields) k
-    data_in fields (Some ObjName) e k = cc
-    data_in fields (Some Rows) e k = row (row_shape fields) (columns-out (sections_begun before) (last-place (sections_begun before) Rows told.known.words.ordered.order e)) k
-    data_in fields (Some Columns) e k = no-one kinds.DuplicateRow (data_declared (context_of before) earlier fields (Some Columns)) earlier (column fields (is_marker_line fields)) k
-    data_in fields (Some Rhs) e k = no-one kinds.DuplicateRow (data_declared (context_of before) earlier fields (Some Rhs)) earlier (sides-passes (λ d. not (may_refuse kinds.DuplicateRow d)) (λ r v. refl) earlier fields) k
-    data_in fields (Some Ranges) e k = no-one kinds.DuplicateRow (data_declared (context_of before) earlier fields (Some Ranges)) earlier (ranges-passes (λ d. not (may_refuse kinds.DuplicateRow d)) (λ r v. refl) fields) k
-    data_in fields (Some Bounds) e k = no-one kinds.DuplicateRow (data_declared (context_of before) earlier fields (Some Bounds)) earlier (bounds-passes (λ d. not (may_refuse kinds.DuplicateRow d)) passes fields) k
-    data_in fields (Some EndData) e k = cc
-
-    by : (x : Item) → IsGood before earlier x → refuses kinds.DuplicateRow earlier (declared (context_of before) earlier x) ≡ true → repeats_row before x ≡ true
-    by skipped g k = cc
-    by (header keyword more) g k = head keyword more (section_named keyword) g k
-    by (data_line fields) g k = data_in fields (current_section before) refl k
-
-pub repeated-rows : IsInWords kinds.DuplicateRow repeats_row
-repeated-rows = in-words kinds.DuplicateRow repeats_row refl refl refl repeated-row
-
--- ---- DuplicateEntry
-
--- each of two tests on some entry
-some-either : {X : Type 0} (p q : X → Bool) (xs : List X) → list_any (λ x. p x || q x) xs ≡ (list_any p xs || list_any q xs)
-some-either p q [] = refl
-some-either p q (x ∷ xs) = ap (λ (b : Bool). (p x || q x) || b) (some-either p q xs) ∙ mix (p x) (q x) (list_any p xs) (list_any q xs)
-  where
-    mix : (a b c d : Bool) → ((a || b) || (c || d)) ≡ ((a || c) || (b || d))
-    mix true b c d = refl
-    mix false true true d = refl
-    mix false true false d = refl
-    mix false false c d = refl
-
-cells-repeat : (column : List ℕ) (pairs : List Pair) (all : Draft) → refuses kinds.DuplicateEntry all (flat_map (coefficient_declared column) pairs) ≡ true
-    → (has_row_twice pairs || list_any (λ pair. has_entry all (record { row = pair.row; column = column })) pairs) ≡ true
-cells-repeat column [] all h = h
-cells-repeat column (pair ∷ pairs) all h = by (has_entry all (key pair)) refl h (λ e. cells-repeat column pairs next e)
-  where
-    key : Pair → CoefficientKey
-    key p = record { row = p.row; column = column }
-
-    next : Draft
-    next = adding all (declare_coefficient (record { row = pair.row; column = column }) (value_of pair.literal))
-
-    now : list_any (λ p. has_entry next (record { row = p.row; column = column })) pairs ≡ (list_any (λ other. same_bytes other.row pair.row && same_bytes column column) pairs || list_any (λ p. has_entry all (record { row = p.row; column = column })) pairs)
-    now =
-        same-any pairs
-        ∙ some-either (λ other. same_bytes other.row pair.row && same_bytes column column) (λ p. has_entry all (record { row = p.row; column = column })) pairs
-      where
-        same-any : (ps : List Pair) → list_any (λ p. has_entry next (record { row = p.row; column = column })) ps ≡ list_any (λ p. (same_bytes p.row pair.row && same_bytes column column) || has_entry all (record { row = p.row; column = column })) ps
-        same-any [] = refl
-        same-any (p ∷ ps) =
-            ap (λ (b : Bool). b || list_any (λ p. has_entry next (record { row = p.row; column = column })) ps) (has-put_key (record { row = p.row; column = column }) (record { row = pair.row; column = column }) (value_of pair.literal) all.coefficients)
-            ∙ ap (λ (b : Bool). ((same_bytes p.row pair.row && same_bytes column column) || has_entry all (record { row = p.row; column = column })) || b) (same-any ps)
-
-    one_column : list_any (λ other. same_bytes other.row pair.row && same_bytes column column) pairs ≡ true → list_any (λ other. same_bytes other.row pair.row) pairs ≡ true
-    one_column e = some (λ other. same_bytes other.row pair.row && same_bytes column column) (λ other. same_bytes other.row pair.row) pairs (λ other f. first_so (same_bytes other.row pair.row) (same_bytes column column) f) e
-
-    gather : (t a b : Bool) → a ≡ list_any (λ other. same_bytes other.row pair.row && same_bytes column column) pairs → (t || (a || b)) ≡ true → ((list_any (λ other. same_bytes other.row pair.row) pairs || t) || b) ≡ true
-    gather true a b e k = or_left (list_any (λ other. same_bytes other.row pair.row) pairs || true) b (or_right (list_any (λ other. same_bytes other.row pair.row) pairs) true refl)
-    gather false true b e k = or_left (list_any (λ other. same_bytes other.row pair.row) pairs || false) b (or_left (list_any (λ other. same_bytes other.row pair.row) pairs) false (one_column (sym e)))
-    gather false false b e k = or_right (list_any (λ other. same_bytes other.row pair.row) pairs || false) b k
-
-    by : (b : Bool) → has_entry all (record { row = pair.row; column = column }) ≡ b → ((b || false) || refuses kinds.DuplicateEntry next (flat_map (coefficient_declared column) pairs)) ≡ true
-        → (refuses kinds.DuplicateEntry next (flat_map (coefficient_declared column) pairs) ≡ true → (has_row_twice pairs || list_any (λ p. has_entry next (record { row = p.row; column = column })) pairs) ≡ true)
-        → ((list_any (λ other. same_bytes other.row pair.row) pairs || has_row_twice pairs) || (b || list_any (λ p. has_entry all (record { row = p.row; column = column })) pairs)) ≡ true
-    by true e k rest = or_right (list_any (λ other. same_bytes other.row pair.row) pairs || has_row_twice pairs) true refl
-    by false e k rest =
-        gather (has_row_twice pairs) (list_any (λ other. same_bytes other.row pair.row && same_bytes column column) pairs) (list_any (λ p. has_entry all (record { row = p.row; column = column })) pairs) refl
-        (sym (ap (λ (b : Bool). has_row_twice pairs || b) now) ∙ rest k)
-
--- a line of a good form does not declare a second sense: OBJSENSE has not begun, or has no word yet
-fresh-sense : (before : List Item) (earlier : Draft) → Told before earlier → is_nonempty (flat_map (λ fields. fields) (words_in ObjSense before)) ≡ false → is_some earlier.sense ≡ false
-fresh-sense before earlier told none = by (is_some earlier.sense) refl
-  where
-    by : (b : Bool) → is_some earlier.sense ≡ b → b ≡ false
-    by true e = absurd (never (is_nonempty (flat_map (λ fields. fields) (words_in ObjSense before))) (told.sense_word e) none)
-    by false e = refl
-
-sense-once : (fields : Fields) (all : Draft) → is_some all.sense ≡ false → refuses kinds.DuplicateEntry all (declared_of sense_declared (word_shape fields)) ≡ false
-sense-once fields all none = by (word_shape fields)
-  where
-    of : (o : Option Sense) → refuses kinds.DuplicateEntry all (declared_of (λ sense. declare_sense sense ∷ []) o) ≡ false
-    of None = refl
-    of (Some s) = ap (λ (b : Bool). (b || false) || false) none
-
-    by : (o : Option (List ℕ)) → refuses kinds.DuplicateEntry all (declared_of sense_declared o) ≡ false
-    by None = refl
-    by (Some word) = of (sense_of word)
-
--- nor a second objective
-objective-once : (all : Draft) (name : List ℕ) → is_none all.objective ≡ true → refuses kinds.DuplicateEntry all (declare_objective name ∷ []) ≡ false
-objective-once all name h = by all.objective h
-  where
-    by : (o : Option (List ℕ)) → is_none o ≡ true → ((is_some o || false) || false) ≡ false
-    by None e = refl
-    by (Some x) e = cc
-
-repeated-entry : (before : List Item) (earlier : Draft) (item : Item) → Told before earlier → IsFirst kinds.DuplicateEntry before earlier item → repeats_entry before item ≡ true
-repeated-entry before earlier item told first =
-    let good = form-good kinds.DuplicateEntry before earlier item refl refl refl (below-all kinds.DuplicateEntry refl refl refl refl) first in
-    by item good (good-refused kinds.DuplicateEntry before earlier item good first)
-  where
-    not_begun : has_section before ObjSense ≡ false → is_some earlier.sense ≡ false
-    not_begun out = stage told.known.words.sense
-      where
-        stage : IsUnderway ObjSense is_sense before → is_some earlier.sense ≡ false
-        stage (missing, (a, b, c)) = fresh-sense before earlier told (ap (λ (words : List Fields). is_nonempty (flat_map (λ fields. fields) words)) a)
-        stage (without_word, (a, b, c, d)) = absurd (never (has_section before ObjSense) b out)
-        stage (with_word, (a, b, c)) = absurd (never (has_section before ObjSense) b out)
-
-    no_word : current_section before ≡ Some ObjSense → is_some (wanted before) ≡ true → is_some earlier.sense ≡ false
-    no_word e w = stage told.known.words.sense
-      where
-        stage : IsUnderway ObjSense is_sense before → is_some earlier.sense ≡ false
-        stage (missing, (a, b, c)) = fresh-sense before earlier told (ap (λ (words : List Fields). is_nonempty (flat_map (λ fields. fields) words)) a)
-        stage (without_word, (a, b, c, d)) = fresh-sense before earlier told (ap (λ (words : List Fields). is_nonempty (flat_map (λ fields. fields) words)) a)
-        stage (with_word, (a, b, c)) = absurd (never (is_some (wanted before)) w (c (ap (is_section ObjSense) e)))
-
-    head : (keyword : List ℕ) (more : Fields) (o : Option Section) → those_of (header_tests (context_of before) earlier keyword more o) ≡ [] → refuses kinds.DuplicateEntry earlier (header_declared (context_of before) earlier more o) ≡ true → false ≡ true
-    head keyword more None g k = k
-    head keyword more (Some Name) g k = k
-    head keyword more (Some ObjSense) g k =
-        absurd (never (refuses kinds.DuplicateEntry earlier (declared_of sense_declared (word_shape more))) k (sense-once more earlier (not_begun (header-fresh (context_of before) earlier keyword more ObjSense g))))
-    head keyword more (Some ObjName) g k = k
-    head keyword more (Some Rows) g k = k
-    head keyword more (Some Columns) g k = default (is_none earlier.objective && is_none (context_of before).objective_name) refl k
-      where
-        default : (b : Bool) → (is_none earlier.objective && is_none (context_of before).objective_name) ≡ b → refuses kinds.DuplicateEntry earlier (cond b (declare_objective (codes "obj") ∷ []) []) ≡ true → false ≡ true
-        default true e f =
-            absurd (never (refuses kinds.DuplicateEntry earlier (declare_objective (codes "obj") ∷ [])) f
-            (objective-once earlier (codes "obj") (first_so (is_none earlier.objective) (is_none (context_of before).objective_name) e)))
-        default false e f = f
-    head keyword more (Some Rhs) g k = k
-    head keyword more (Some Ranges) g k = k
-    head keyword more (Some Bounds) g k = k
-    head keyword more (Some EndData) g k = k
-
-    passes : Passes (λ d. not (may_refuse kinds.DuplicateEntry d))
-    passes = record { lower = λ _ _. refl; upper = λ _ _. refl; integer = λ _. refl; semi = λ _. refl }
-
-    row : (name : List ℕ) (type : RowType) → refuses kinds.DuplicateEntry earlier (row_of_type (context_of before) earlier name type) ≡ true → false ≡ true
-    row name Free k = free (is_new_objective (context_of before) earlier name) refl k
-      where
-        free : (b : Bool) → is_new_objective (context_of before) earlier name ≡ b → refuses kinds.DuplicateEntry earlier (cond b (declare_objective name ∷ []) (declare_row name (by_type Free) ∷ [])) ≡ true → false ≡ true
-        free true e f =
-            absurd (never (refuses kinds.DuplicateEntry earlier (declare_objective name ∷ [])) f
-            (objective-once earlier name (first_so (is_none earlier.objective) (option_map_or (same_bytes name) (context_of before).objective_name true) e)))
-        free false e f = f
-    row name AtMost k = k
-    row name AtLeast k = k
-    row name Equal k = k
-
-    rows : (o : Option RowLine) → refuses kinds.DuplicateEntry earlier (declared_of (row_declared (context_of before) earlier) o) ≡ true → false ≡ true
-    rows None k = k
-    rows (Some line) k = of (row_type line.letter) k
-      where
-        of : (t : Option RowType) → refuses kinds.DuplicateEntry earlier (declared_of (row_of_type (context_of before) earlier line.name) t) ≡ true → false ≡ true
-        of None e = e
-        of (Some type) e = row line.name type e
-
-    -- each coefficient that is there has a line
-    lines : (line : ValuesLine) (all : Draft) → ((key : CoefficientKey) → has_entry all key ≡ has_entry earlier key) → refuses kinds.DuplicateEntry all (flat_map (coefficient_declared line.name) line.pairs) ≡ true → repeats_entry_of before line ≡ true
-    lines line all same k = of (has_row_twice line.pairs) (cells-repeat line.name line.pairs all k)
-      where
-        of : (b : Bool) → (b || list_any (λ pair. has_entry all (record { row = pair.row; column = line.name })) line.pairs) ≡ true → (b || list_any (λ pair. list_any (has_entry_of line.name pair.row) (data_lines Columns before)) line.pairs) ≡ true
-        of true e = refl
-        of false e =
-            some (λ pair. has_entry all (record { row = pair.row; column = line.name })) (λ pair. list_any (has_entry_of line.name pair.row) (data_lines Columns before)) line.pairs
-            (λ pair f. told.entry_lines (record { row = pair.row; column = line.name }) (sym (same (record { row = pair.row; column = line.name })) ∙ f)) e
-
-    marks : (line : ValuesLine) (b : Bool) → refuses kinds.DuplicateEntry (adding earlier (declare_column line.name)) (cond b (declare_marked line.name ∷ []) [] ++ flat_map (coefficient_declared line.name) line.pairs) ≡ true → repeats_entry_of before line ≡ true
-    marks line true k = lines line (adding (adding earlier (declare_column line.name)) (declare_marked line.name)) (λ key. refl) k
-    marks line false k = lines line (adding earlier (declare_column line.name)) (λ key. refl) k
-
-    column : (fields : Fields) (b : Bool) → refuses kinds.DuplicateEntry earlier (cond b [] (declared_of (column_declared (context_of before)) (column_shape fields))) ≡ true
-        → option_map_or (repeats_entry_of before) (cond b None (column_shape fields)) false ≡ true
-    column fields true k = k
-    column fields false k = of (column_shape fields) k
-      where
-        of : (o : Option ValuesLine) → refuses kinds.DuplicateEntry earlier (declared_of (column_declared (context_of before)) o) ≡ true → option_map_or (repeats_entry_of before) o false ≡ true
-        of None e = e
-        of (Some line) e = marks line (context_of before).in_integer_part e
-
-    data_in : (fields : Fields) (o : Option Section) → current_section before ≡ o → those_of (data_tests (context_of before) earlier fields o) ≡ [] → refuses kinds.DuplicateEntry earlier (data_declared (context_of before) earlier fields o) ≡ true
-        → (is_section Columns o && option_map_or (repeats_entry_of before) (column_line fields) false) ≡ true
-    data_in fields None e g k = k
-    data_in fields (Some Name) e g k = k
-    data_in fields (Some ObjSense) e g k =
-        absurd (never (refuses kinds.DuplicateEntry earlier (declared_of sense_declared (word_shape fields))) k
-        (sense-once fields earlier (no_word e (sense-word.on_line (context_of before) earlier fields g).0)))
-    data_in fields (Some ObjName) e g k = k
-    data_in fields (Some Rows) e g k = rows (row_shape fields) k
-    data_in fields (Some Columns) e g k = column fields (is_marker_line fields) k
-    data_in fields (Some Rhs) e g k = no-one kinds.DuplicateEntry (data_declared (context_of before) earlier fields (Some Rhs)) earlier (sides-passes (λ d. not (may_refuse kinds.DuplicateEntry d)) (λ r v. refl) earlier fields) k
-    data_in fields (Some Ranges) e g k = no-one kinds.DuplicateEntry (data_declared (context_of before) earlier fields (Some Ranges)) earlier (ranges-passes (λ d. not (may_refuse kinds.DuplicateEntry d)) (λ r v. refl) fields) k
-    data_in fields (Some Bounds) e g k = no-one kinds.DuplicateEntry (data_declared (context_of before) earlier fields (Some Bounds)) earlier (bounds-passes (λ d. not (may_refuse kinds.DuplicateEntry d)) passes fields) k
-    data_in fields (Some EndData) e g k = k
-
-    by : (x : Item) → IsGood before earlier x → refuses kinds.DuplicateEntry earlier (declared (context_of before) earlier x) ≡ true → repeats_entry before x ≡ true
-    by skipped g k = k
-    by (header keyword more) g k = head keyword more (section_named keyword) g k
-    by (data_line fields) g k =
-        data_in fields (current_section before) refl g k
-
-pub repeated-entries : IsInWords kinds.DuplicateEntry repeats_entry
-repeated-entries = in-words kinds.DuplicateEntry repeats_entry refl refl refl repeated-entry

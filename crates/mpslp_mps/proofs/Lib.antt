@@ -54,6 +54,7 @@ pub mod FaultedLines
 pub mod KindsOfLines
 pub mod FaultsOfWords
 pub mod FaultsOfNames
+pub mod RepeatsOfNames
 pub mod WorkedSentences
 pub mod FedLemmas
 pub mod LineReaderLemmas

@@ -1,5 +1,6 @@
 use Rattle.mpslp_mps.proofs.FaultsOfWords.{section-repeated, section-order, bad-marker, column-split, second-set}
-use Rattle.mpslp_mps.proofs.FaultsOfNames.{unknown-rows, unknown-columns, repeated-rows, repeated-entries}
+use Rattle.mpslp_mps.proofs.FaultsOfNames.{unknown-rows, unknown-columns}
+use Rattle.mpslp_mps.proofs.RepeatsOfNames.{repeated-rows, repeated-entries}
 use Rattle.mpslp_mps.proofs.laws.faults_are_in_words.Goals as goal
 
 pub returns : goal.returns
