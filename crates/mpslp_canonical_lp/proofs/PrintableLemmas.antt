@@ -265,7 +265,7 @@ term-fits m h row column c = by (find key_cmp (record { row = row; column = colu
     by None k = tt
     by (Some d) k = (c.name, k)
 
-terms-fit : (m : Listing) → IsFit m → (row : List ℕ) → Each IsTerm (filter_map (term_in m row) m.columns)
+pub terms-fit : (m : Listing) → IsFit m → (row : List ℕ) → Each IsTerm (filter_map (term_in m row) m.columns)
 terms-fit m h row =
     each-filter_map IsTerm (term_in m row) m.columns
     (Each-weaker IsFitColumn (λ column. Holds IsTerm (term_in m row column)) (λ column c. term-fits m h row column c) m.columns h.columns)
@@ -282,7 +282,7 @@ objective-fits m h =
     each-filter_map IsTerm (objective_term m) m.columns
     (Each-weaker IsFitColumn (λ column. Holds IsTerm (objective_term m column)) (λ column c. objective-term-fits m h column c) m.columns h.columns)
 
-some-fits : (columns : List (List ℕ × Column)) (terms : List Term) → Each IsFitColumn columns → Each IsTerm terms → Each IsTerm (some_term columns terms)
+pub some-fits : (columns : List (List ℕ × Column)) (terms : List Term) → Each IsFitColumn columns → Each IsTerm terms → Each IsTerm (some_term columns terms)
 some-fits [] [] c h = tt
 some-fits [] (term ∷ terms) c h = h
 some-fits (column ∷ columns) [] c h = ((c.0.name, zero-decimal), tt)

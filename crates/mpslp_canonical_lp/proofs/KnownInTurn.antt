@@ -1,0 +1,138 @@
+-- What the canonical text declares names no row and no column before it is declared.
+use Rattle.std.proofs.Common.{◌≡◌, refl, ◌∙◌, ℕ, List, [], ◌∷◌, ◌++◌, true, false}
+use Rattle.std.specs.Prelude.{filter, ◌&&◌, Option, Some, None, if◌then◌else◌}
+use Rattle.std.specs.List.{flat_map}
+use Rattle.std.specs.Cmp.{first_so, second_so}
+use Rattle.std.specs.FinMap.{put}
+use Rattle.mpslp_decimal.specs.Decimal.{Number, is_zero}
+use Rattle.mpslp_types.specs.Name.{same_bytes, bytes_cmp}
+use Rattle.mpslp_types.specs.Sides.{limit_of}
+use Rattle.mpslp_types.specs.declared.kinds.Limit.{Limit}
+use Rattle.mpslp_types.specs.declared.kinds.Limit.TheVariants.{MinusInf, Finite, PlusInf}
+use Rattle.mpslp_types.proofs.BoolLemmas.{both_so, or_left, or_right}
+use Rattle.mpslp_core.specs.Model.{Column, CoefficientKey}
+use Rattle.mpslp_builder.specs.Declaration.{RowForm, declare_sense, declare_objective, declare_constant, declare_row, declare_column, declare_coefficient, declare_lower, bounds_declared, Declarations, Draft, empty_draft, adding, adding_all, has_name, has_row, has_column, is_objective}
+use Rattle.mpslp_builder.specs.Consistency.{is_known}
+use Rattle.mpslp_builder.proofs.SlotLemmas.{has-put}
+use Rattle.mpslp_builder.proofs.LaterDrafts.{itself_named}
+use Rattle.mpslp_builder.proofs.RefusalLemmas.{are_known_in_turn}
+use Rattle.mpslp_lp.specs.Sides.{Limits, limits_by}
+use Rattle.mpslp_lp.specs.Bounds.{no_limits}
+use Rattle.mpslp_lp.specs.declared.relations.Relation.TheVariants.{AtLeast, EqualTo}
+use Rattle.mpslp_canonical_lp.specs.Listing.{Listing}
+use Rattle.mpslp_canonical_lp.specs.CanonicalLp.{Term, have_same_value, row_terms, objective_terms, is_integer_column, is_semi_column}
+use Rattle.mpslp_canonical_lp.proofs.PhraseLemmas.{column_and}
+use Rattle.mpslp_canonical_lp.proofs.ObjectiveWalk.{terms_declared, constant_declared, objective_made}
+use Rattle.mpslp_canonical_lp.proofs.BoundsWalk.{bound_made, column_made}
+use Rattle.mpslp_canonical_lp.proofs.TailWalk.{general_made, semi_made}
+use Rattle.mpslp_canonical_lp.proofs.TextWalk.{row_made, listed_declarations}
+
+-- ---- several declarations
+
+known-append : (xs ys : Declarations) (before : Draft) → are_known_in_turn before xs ≡ true → are_known_in_turn (adding_all before xs) ys ≡ true
+    → are_known_in_turn before (xs ++ ys) ≡ true
+known-append [] ys before h k = k
+known-append (d ∷ xs) ys before h k =
+    both_so (is_known before d) (are_known_in_turn (adding before d) (xs ++ ys)) (first_so (is_known before d) (are_known_in_turn (adding before d) xs) h)
+    (known-append xs ys (adding before d) (second_so (is_known before d) (are_known_in_turn (adding before d) xs) h) k)
+
+-- declarations that name nothing but what they declare themselves
+abbrev AlwaysKnown : Declarations → Type 0
+AlwaysKnown ds = (before : Draft) → are_known_in_turn before ds ≡ true
+
+always-append : (xs ys : Declarations) → AlwaysKnown xs → AlwaysKnown ys → AlwaysKnown (xs ++ ys)
+always-append xs ys h k before = known-append xs ys before (h before) (k (adding_all before xs))
+
+always-flat : {X : Type 0} (f : X → Declarations) → ((x : X) → AlwaysKnown (f x)) → (xs : List X) → AlwaysKnown (flat_map f xs)
+always-flat f h [] before = refl
+always-flat f h (x ∷ xs) before = always-append (f x) (flat_map f xs) (h x) (always-flat f h xs) before
+
+there : {X : Type 0} (name : List ℕ) (v : X) (es : List (List ℕ × X)) → has_name (put bytes_cmp name v es) name ≡ true
+there name v es = has-put name name v es ∙ or_left (same_bytes name name) (has_name es name) (itself_named name)
+
+-- ---- terms, and a row
+
+terms-known : (row : List ℕ) (terms : List Term) (before : Draft) → has_row before row ≡ true → are_known_in_turn before (terms_declared row terms) ≡ true
+terms-known row [] before h = refl
+terms-known row (term ∷ terms) before h =
+    let after = adding before (declare_column term.0) in
+    let key : CoefficientKey = record { row = row; column = term.0 } in
+    both_so (has_row after row && has_column after term.0) (are_known_in_turn (adding after (declare_coefficient key term.1)) (terms_declared row terms))
+    (both_so (has_row after row) (has_column after term.0) h (there term.0 tt before.columns))
+    (terms-known row terms (adding after (declare_coefficient key term.1)) h)
+
+row-known : (name : List ℕ) (form : RowForm) (terms : List Term) → AlwaysKnown (declare_row name form ∷ terms_declared name terms)
+row-known name form terms before =
+    terms-known name terms (adding before (declare_row name form)) (or_right (is_objective before name) (has_name (put bytes_cmp name form before.rows) name) (there name form before.rows))
+
+-- ---- the objective
+
+constant-known : (value : Number) → AlwaysKnown (constant_declared value)
+constant-known value before = elim (is_zero value) as (λ b. are_known_in_turn before (if b then [] else declare_constant value ∷ []) ≡ true) [ true ↦ refl | false ↦ refl ]
+
+objective-known : (m : Listing) → AlwaysKnown (objective_made m)
+objective-known m before =
+    let begun = adding (adding before (declare_sense m.sense)) (declare_objective m.objective) in
+    let terms = terms_declared m.objective (objective_terms m) in
+    known-append terms (constant_declared m.constant) begun
+    (terms-known m.objective (objective_terms m) begun (or_left (same_bytes m.objective m.objective) (has_name before.rows m.objective) (itself_named m.objective)))
+    (constant-known m.constant (adding_all begun terms))
+
+-- ---- bounds
+
+sides-known : (column : List ℕ) (lower upper : Option Limit) (before : Draft) → has_column before column ≡ true → are_known_in_turn before (bounds_declared column lower upper) ≡ true
+sides-known column None None before h = refl
+sides-known column (Some l) None before h = both_so (has_column before column) true h refl
+sides-known column None (Some u) before h = both_so (has_column before column) true h refl
+sides-known column (Some l) (Some u) before h = both_so (has_column before column) (has_column before column && true) h (both_so (has_column before column) true h refl)
+
+limited-known : (column : List ℕ) (limits : Limits) → AlwaysKnown (column_and column limits)
+limited-known column limits before = sides-known column limits.lower limits.upper (adding before (declare_column column)) (there column tt before.columns)
+
+-- a lower side, and then an upper one
+both-known : (column : List ℕ) (lower upper : Limit) → AlwaysKnown (column_and column (limits_by AtLeast lower) ++ bounds_declared column None (Some upper))
+both-known column lower upper before =
+    known-append (column_and column (limits_by AtLeast lower)) (bounds_declared column None (Some upper)) before (limited-known column (limits_by AtLeast lower) before)
+    (sides-known column None (Some upper) (adding (adding before (declare_column column)) (declare_lower column lower)) (there column tt before.columns))
+
+bound-known : (column : List ℕ) (lower upper : Limit) → AlwaysKnown (bound_made column lower upper)
+bound-known column MinusInf (Finite b) = both-known column MinusInf (limit_of b)
+bound-known column (Finite a) (Finite b) = λ before. elim (have_same_value a b) as (λ t. are_known_in_turn before (if t then column_and column (limits_by EqualTo (limit_of b)) else column_and column (limits_by AtLeast (limit_of a)) ++ bounds_declared column None (Some (limit_of b))) ≡ true) [
+  | true ↦ limited-known column (limits_by EqualTo (limit_of b)) before
+  | false ↦ both-known column (limit_of a) (limit_of b) before
+]
+bound-known column (Finite a) MinusInf = λ before. elim (is_zero a) as (λ t. are_known_in_turn before (if t then [] else column_and column (limits_by AtLeast (limit_of a))) ≡ true) [
+  | true ↦ refl
+  | false ↦ limited-known column (limits_by AtLeast (limit_of a)) before
+]
+bound-known column (Finite a) PlusInf = λ before. elim (is_zero a) as (λ t. are_known_in_turn before (if t then [] else column_and column (limits_by AtLeast (limit_of a))) ≡ true) [
+  | true ↦ refl
+  | false ↦ limited-known column (limits_by AtLeast (limit_of a)) before
+]
+bound-known column MinusInf MinusInf = limited-known column no_limits
+bound-known column MinusInf PlusInf = limited-known column no_limits
+bound-known column PlusInf MinusInf = limited-known column no_limits
+bound-known column PlusInf (Finite b) = limited-known column no_limits
+bound-known column PlusInf PlusInf = limited-known column no_limits
+
+-- ---- kinds
+
+general-known : (column : List ℕ × Column) → AlwaysKnown (general_made column)
+general-known column before = both_so (has_column (adding before (declare_column column.0)) column.0) true (there column.0 tt before.columns) refl
+
+semi-known : (column : List ℕ × Column) → AlwaysKnown (semi_made column)
+semi-known column before = both_so (has_column (adding before (declare_column column.0)) column.0) true (there column.0 tt before.columns) refl
+
+-- ---- the whole text
+
+-- No name is used before it is declared.
+pub listed-known : (m : Listing) → are_known_in_turn empty_draft (listed_declarations m) ≡ true
+listed-known m =
+    let rows = flat_map (row_made m) m.rows in
+    let bounds = flat_map column_made m.columns in
+    let generals = flat_map general_made (filter is_integer_column m.columns) in
+    let semis = flat_map semi_made (filter is_semi_column m.columns) in
+    always-append (objective_made m) (rows ++ (bounds ++ (generals ++ semis))) (objective-known m)
+    (always-append rows (bounds ++ (generals ++ semis)) (always-flat (row_made m) (λ row. row-known row.0 _ (row_terms m row.0)) m.rows)
+    (always-append bounds (generals ++ semis) (always-flat column_made (λ column. bound-known column.0 column.1.lower column.1.upper) m.columns)
+    (always-append generals semis (always-flat general_made general-known (filter is_integer_column m.columns)) (always-flat semi_made semi-known (filter is_semi_column m.columns))))) empty_draft

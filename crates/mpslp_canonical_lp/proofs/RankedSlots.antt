@@ -1,0 +1,159 @@
+-- Slots in sections of rising rank: where no section fills a slot twice, all together do not.
+use Rattle.std.proofs.Common.{◌≡◌, refl, sym, ap, ◌∙◌, ℕ, suc, ◌<◌, arith, List, [], ◌∷◌, ◌++◌, Bool, true, false, not, append_assoc}
+use Rattle.std.specs.Prelude.{◌&&◌, Option, Some, None}
+use Rattle.std.specs.List.{list_any, flat_map}
+use Rattle.std.specs.Cmp.{first_so, second_so, tied_itself}
+use Rattle.std.specs.FinMap.{is_sorted}
+use Rattle.std.specs.FinMap.Entries.{below_all}
+use Rattle.std.specs.Ordering.{is_lt}
+use Rattle.mpslp_types.specs.Name.{same_bytes, bytes_cmp}
+use Rattle.mpslp_types.proofs.BoolLemmas.{both_so, both_false, so_not}
+use Rattle.mpslp_types.proofs.EachLemmas.{Each, Each-weaker, Each-append}
+use Rattle.mpslp_core.specs.Model.{CoefficientKey}
+use Rattle.mpslp_core.specs.Lists.{are_distinct}
+use Rattle.mpslp_builder.specs.Declaration.{Declarations, names_in}
+use Rattle.mpslp_builder.specs.Consistency.{Slot, sense_slot, objective_slot, constant_slot, row_slot, rhs_slot, range_slot, coefficient_slot, lower_slot, upper_slot, same_slot, slots_of, all_slots}
+use Rattle.mpslp_builder.proofs.DistinctLemmas.{IsNew, Apart, distinct-append}
+use Rattle.mpslp_builder.proofs.SlotLemmas.{same_name}
+use Rattle.mpslp_builder.proofs.SortedDrafts.{bytes_total}
+use Rattle.mpslp_builder.proofs.LaterDrafts.{itself_named}
+
+-- ---- the same slot
+
+same_key : (a b : CoefficientKey) → (same_bytes a.row b.row && same_bytes a.column b.column) ≡ true → a ≡ b
+same_key a b h = λ i. record {
+  row = same_name a.row b.row (first_so (same_bytes a.row b.row) (same_bytes a.column b.column) h) i;
+  column = same_name a.column b.column (second_so (same_bytes a.row b.row) (same_bytes a.column b.column) h) i;
+}
+
+pub slot_is : (a b : Slot) → same_slot a b ≡ true → a ≡ b
+slot_is sense_slot sense_slot h = refl
+slot_is objective_slot objective_slot h = refl
+slot_is constant_slot constant_slot h = refl
+slot_is (row_slot a) (row_slot b) h = ap row_slot (same_name a b h)
+slot_is (rhs_slot a) (rhs_slot b) h = ap rhs_slot (same_name a b h)
+slot_is (range_slot a) (range_slot b) h = ap range_slot (same_name a b h)
+slot_is (coefficient_slot a) (coefficient_slot b) h = ap coefficient_slot (same_key a b h)
+slot_is (lower_slot a) (lower_slot b) h = ap lower_slot (same_name a b h)
+slot_is (upper_slot a) (upper_slot b) h = ap upper_slot (same_name a b h)
+slot_is _ _ h = cc
+
+-- a slot is none of those that differ from it
+pub new-from_others : (slot : Slot) (slots : List Slot) → Each (λ later. later ≡ slot → ⊥) slots → IsNew same_slot slot slots
+new-from_others slot [] h = refl
+new-from_others slot (later ∷ slots) h = both_false (same_slot later slot) (list_any (λ x. same_slot x slot) slots) (by (same_slot later slot) refl) (new-from_others slot slots h.1)
+  where
+    by : (b : Bool) → same_slot later slot ≡ b → b ≡ false
+    by true e = absurd (h.0 (slot_is later slot e))
+    by false e = refl
+
+-- ---- sections
+
+module _ (rank : Slot → ℕ) where
+  -- none is filled twice, and all are of one rank
+  pub record Section (n : ℕ) (slots : List Slot) : Type 0 where
+    pub once : are_distinct same_slot slots ≡ true
+    pub ranked : Each (λ slot. rank slot ≡ n) slots
+
+  -- of rising rank
+  abbrev pub Sections : ℕ → List (List Slot) → Type 0
+  Sections n [] = Unit {0}
+  Sections n (section ∷ sections) = Section n section × Sections (suc n) sections
+
+  none-above : (low n : ℕ) → low < n → (sections : List (List Slot)) → Sections n sections → Each (λ slot. rank slot ≡ low → ⊥) (flat_map (λ section. section) sections)
+  none-above low n below [] h = tt
+  none-above low n below (section ∷ sections) h =
+      Each-append (λ slot. rank slot ≡ low → ⊥) section (flat_map (λ s. s) sections)
+      (Each-weaker (λ slot. rank slot ≡ n) (λ slot. rank slot ≡ low → ⊥) (λ slot is other. omega (arith, is, other, below)) section h.0.ranked)
+      (none-above low (suc n) (omega (arith, below)) sections h.1)
+
+  pub joined-once : (n : ℕ) (sections : List (List Slot)) → Sections n sections → are_distinct same_slot (flat_map (λ section. section) sections) ≡ true
+  joined-once n [] h = refl
+  joined-once n (section ∷ sections) h =
+      let later = flat_map (λ (s : List Slot). s) sections in
+      distinct-append same_slot section later h.0.once (joined-once (suc n) sections h.1)
+      (Each-weaker (λ slot. rank slot ≡ n) (λ slot. IsNew same_slot slot later)
+      (λ slot is. new-from_others slot later (Each-weaker (λ other. rank other ≡ n → ⊥) (λ other. other ≡ slot → ⊥) (λ other not_n same. not_n (ap rank same ∙ is)) later (none-above n (suc n) (omega arith) sections h.1)))
+      section h.0.ranked)
+
+-- ---- names
+
+-- entries of different names
+abbrev pub AreOther : {X : Type 0} → List (List ℕ × X) → Type 0
+AreOther [] = Unit {0}
+AreOther (e ∷ es) = Each (λ later. same_bytes later.0 e.0 ≡ false) es × AreOther es
+
+no_tie : (a b : List ℕ) → is_lt (bytes_cmp a b) ≡ true → same_bytes b a ≡ false
+no_tie a b below = by (same_bytes b a) refl
+  where
+    not_below : false ≡ true → ⊥
+    not_below e = cc
+
+    by : (c : Bool) → same_bytes b a ≡ c → c ≡ false
+    by true e = absurd (not_below (ap is_lt (sym (ap (bytes_cmp a) (same_name b a e) ∙ tied_itself bytes_total a)) ∙ below))
+    by false e = refl
+
+above-other : {X : Type 0} (name : List ℕ) (es : List (List ℕ × X)) → below_all bytes_cmp name es ≡ true → Each (λ later. same_bytes later.0 name ≡ false) es
+above-other name [] h = tt
+above-other name (e ∷ es) h = (
+  no_tie name e.0 (first_so (is_lt (bytes_cmp name e.0)) (below_all bytes_cmp name es) h),
+  above-other name es (second_so (is_lt (bytes_cmp name e.0)) (below_all bytes_cmp name es) h),
+)
+
+pub other-from_sorted : {X : Type 0} (es : List (List ℕ × X)) → is_sorted bytes_cmp es ≡ true → AreOther es
+other-from_sorted [] h = tt
+other-from_sorted (e ∷ es) h = (
+  above-other e.0 es (first_so (below_all bytes_cmp e.0 es) (is_sorted bytes_cmp es) h),
+  other-from_sorted es (second_so (below_all bytes_cmp e.0 es) (is_sorted bytes_cmp es) h),
+)
+
+none_named : {X : Type 0} (name : List ℕ) (es : List (List ℕ × X)) → Each (λ later. same_bytes later.0 name ≡ false) es → list_any (λ later. same_bytes later name) (names_in es) ≡ false
+none_named name [] h = refl
+none_named name (e ∷ es) h = both_false (same_bytes e.0 name) (list_any (λ later. same_bytes later name) (names_in es)) h.0 (none_named name es h.1)
+
+pub names-distinct : {X : Type 0} (es : List (List ℕ × X)) → AreOther es → are_distinct same_bytes (names_in es) ≡ true
+names-distinct [] h = refl
+names-distinct (e ∷ es) h =
+    both_so (not (list_any (λ later. same_bytes later e.0) (names_in es))) (are_distinct same_bytes (names_in es))
+    (so_not (list_any (λ later. same_bytes later e.0) (names_in es)) (none_named e.0 es h.0)) (names-distinct es h.1)
+
+-- ---- slots of entries
+
+-- whose slot it is, by its name
+abbrev pub owner : Slot → Option (List ℕ)
+owner (row_slot name) = Some name
+owner (rhs_slot name) = Some name
+owner (range_slot name) = Some name
+owner (coefficient_slot key) = Some key.row
+owner (lower_slot name) = Some name
+owner (upper_slot name) = Some name
+owner _ = None
+
+some_name : (a b : List ℕ) → Some a ≡ Some b → same_bytes b a ≡ false → ⊥
+some_name a b e other = no_truth (sym (itself_named b) ∙ sym (ap same_as e) ∙ other)
+  where
+    same_as : Option (List ℕ) → Bool
+    same_as (Some c) = same_bytes b c
+    same_as None = false
+
+    no_truth : true ≡ false → ⊥
+    no_truth k = cc
+
+-- The slots of entries of different names, where each has its entry's name, are different.
+pub owners-apart : {X : Type 0} (f : List ℕ × X → List Slot) → ((e : List ℕ × X) → Each (λ slot. owner slot ≡ Some e.0) (f e)) → (es : List (List ℕ × X)) → AreOther es → Apart same_slot f es
+owners-apart f own [] h = tt
+owners-apart {X} f own (e ∷ es) h = (
+  Each-weaker (λ slot. owner slot ≡ Some e.0) (λ slot. Each (λ later. IsNew same_slot slot (f later)) es) (λ slot is. Each-weaker (λ later. same_bytes later.0 e.0 ≡ false) (λ later. IsNew same_slot slot (f later)) (λ later other.
+      new-from_others slot (f later) (Each-weaker (λ x. owner x ≡ Some later.0) (λ x. x ≡ slot → ⊥) (λ x its same. some_name e.0 later.0 (sym is ∙ ap owner (sym same) ∙ its) other) (f later) (own later))) es h.0) (f e) (own e),
+  owners-apart f own es h.1,
+)
+
+-- ---- slots of several declarations
+
+pub slots-append : (xs ys : Declarations) → all_slots (xs ++ ys) ≡ all_slots xs ++ all_slots ys
+slots-append [] ys = refl
+slots-append (x ∷ xs) ys = ap (λ (slots : List Slot). slots_of x ++ slots) (slots-append xs ys) ∙ sym (append_assoc (slots_of x) (all_slots xs) (all_slots ys))
+
+pub slots-flat : {X : Type 0} (f : X → Declarations) (xs : List X) → all_slots (flat_map f xs) ≡ flat_map (λ x. all_slots (f x)) xs
+slots-flat f [] = refl
+slots-flat f (x ∷ xs) = slots-append (f x) (flat_map f xs) ∙ ap (λ (slots : List Slot). all_slots (f x) ++ slots) (slots-flat f xs)

@@ -1,0 +1,201 @@
+-- What the canonical text declares fills no slot twice.
+use Rattle.std.proofs.Common.{◌≡◌, refl, ap, ◌∙◌, ℕ, List, [], ◌∷◌, ◌++◌, Bool, true, false, not, map, append_assoc}
+use Rattle.std.specs.Prelude.{◌&&◌, ◌||◌, Some, None, filter, if◌then◌else◌}
+use Rattle.std.specs.List.{list_any, flat_map}
+use Rattle.mpslp_decimal.specs.Decimal.{Number, is_zero}
+use Rattle.mpslp_types.specs.Name.{same_bytes}
+use Rattle.mpslp_types.specs.Sides.{limit_of}
+use Rattle.mpslp_types.specs.declared.kinds.Limit.{Limit}
+use Rattle.mpslp_types.specs.declared.kinds.Limit.TheVariants.{MinusInf, Finite, PlusInf}
+use Rattle.mpslp_types.proofs.BoolLemmas.{both_so, both_false, so_not}
+use Rattle.mpslp_types.proofs.EachLemmas.{Each, Each-weaker, Each-flat_map, Each-all}
+use Rattle.mpslp_core.specs.Model.{Row, Column}
+use Rattle.mpslp_core.specs.Lists.{are_distinct}
+use Rattle.mpslp_builder.specs.Declaration.{declare_constant, bounds_declared, Declarations, names_in}
+use Rattle.mpslp_builder.specs.Consistency.{Slot, sense_slot, objective_slot, constant_slot, row_slot, rhs_slot, range_slot, coefficient_slot, lower_slot, upper_slot, same_slot, all_slots}
+use Rattle.mpslp_builder.proofs.DistinctLemmas.{distinct-flat_map}
+use Rattle.mpslp_builder.proofs.LaterDrafts.{itself_named}
+use Rattle.mpslp_lp.specs.Sides.{limits_by}
+use Rattle.mpslp_lp.specs.declared.relations.Relation.TheVariants.{AtLeast, EqualTo}
+use Rattle.mpslp_canonical_lp.specs.Listing.{Listing}
+use Rattle.mpslp_canonical_lp.specs.CanonicalLp.{Term, have_same_value, row_terms, objective_terms, is_integer_column, is_semi_column}
+use Rattle.mpslp_canonical_lp.proofs.PhraseLemmas.{column_and}
+use Rattle.mpslp_canonical_lp.proofs.ObjectiveWalk.{terms_declared, constant_declared, objective_made}
+use Rattle.mpslp_canonical_lp.proofs.BoundsWalk.{bound_made, column_made}
+use Rattle.mpslp_canonical_lp.proofs.TailWalk.{general_made, semi_made}
+use Rattle.mpslp_canonical_lp.proofs.TextWalk.{row_made, listed_declarations}
+use Rattle.mpslp_canonical_lp.proofs.RankedSlots.{Section, Sections, joined-once, AreOther, names-distinct, owner, owners-apart, slots-append, slots-flat}
+use Rattle.mpslp_canonical_lp.proofs.NamedTerms.{objective-other, row-other}
+
+-- ---- ranks: the objective's row is apart from the others
+
+abbrev of_row : Bool → ℕ
+of_row is_objective = if is_objective then 2 else 4
+
+abbrev rank : List ℕ → Slot → ℕ
+rank objective sense_slot = 0
+rank objective objective_slot = 1
+rank objective constant_slot = 3
+rank objective (row_slot name) = of_row (same_bytes name objective)
+rank objective (rhs_slot name) = of_row (same_bytes name objective)
+rank objective (range_slot name) = of_row (same_bytes name objective)
+rank objective (coefficient_slot key) = of_row (same_bytes key.row objective)
+rank objective (lower_slot name) = 5
+rank objective (upper_slot name) = 5
+
+-- ---- coefficients
+
+abbrev cell_slot : List ℕ → List ℕ → Slot
+cell_slot row column = coefficient_slot (record { row = row; column = column })
+
+cells-fill : (row : List ℕ) (terms : List Term) → all_slots (terms_declared row terms) ≡ map (cell_slot row) (names_in terms)
+cells-fill row [] = refl
+cells-fill row (term ∷ terms) = ap (λ (slots : List Slot). cell_slot row term.0 ∷ slots) (cells-fill row terms)
+
+cells-any : (row column : List ℕ) (columns : List (List ℕ)) → list_any (λ later. same_slot later (cell_slot row column)) (map (cell_slot row) columns) ≡ list_any (λ later. same_bytes later column) columns
+cells-any row column [] = refl
+cells-any row column (other ∷ columns) = λ i. (itself_named row i && same_bytes other column) || cells-any row column columns i
+
+cells-distinct : (row : List ℕ) (columns : List (List ℕ)) → are_distinct same_bytes columns ≡ true → are_distinct same_slot (map (cell_slot row) columns) ≡ true
+cells-distinct row columns h = by columns ∙ h
+  where
+    by : (names : List (List ℕ)) → are_distinct same_slot (map (cell_slot row) names) ≡ are_distinct same_bytes names
+    by [] = refl
+    by (name ∷ names) = λ i. not (cells-any row name names i) && by names i
+
+-- what holds of each slot of the cells of a row
+each-cell : (P : Slot → Type 0) (row : List ℕ) (terms : List Term) → ((column : List ℕ) → P (cell_slot row column)) → Each P (all_slots (terms_declared row terms))
+each-cell P row [] h = tt
+each-cell P row (term ∷ terms) h = (h term.0, each-cell P row terms h)
+
+terms-once : (row : List ℕ) (terms : List Term) → AreOther terms → are_distinct same_slot (all_slots (terms_declared row terms)) ≡ true
+terms-once row terms other = ap (are_distinct same_slot) (cells-fill row terms) ∙ cells-distinct row (names_in terms) (names-distinct terms other)
+
+-- ---- a row
+
+no_cell : (slot : Slot) (row : List ℕ) (terms : List Term) → ((column : List ℕ) → same_slot (cell_slot row column) slot ≡ false) → list_any (λ later. same_slot later slot) (all_slots (terms_declared row terms)) ≡ false
+no_cell slot row [] h = refl
+no_cell slot row (term ∷ terms) h = both_false (same_slot (cell_slot row term.0) slot) (list_any (λ later. same_slot later slot) (all_slots (terms_declared row terms))) (h term.0) (no_cell slot row terms h)
+
+row-once : (name : List ℕ) (terms : List Term) → AreOther terms → are_distinct same_slot (row_slot name ∷ rhs_slot name ∷ range_slot name ∷ all_slots (terms_declared name terms)) ≡ true
+row-once name terms other =
+    let cells = all_slots (terms_declared name terms) in
+    both_so (not (list_any (λ later. same_slot later (row_slot name)) cells)) (are_distinct same_slot (rhs_slot name ∷ range_slot name ∷ cells))
+    (so_not (list_any (λ later. same_slot later (row_slot name)) cells) (no_cell (row_slot name) name terms (λ _. refl)))
+    (both_so (not (list_any (λ later. same_slot later (rhs_slot name)) cells)) (are_distinct same_slot (range_slot name ∷ cells))
+    (so_not (list_any (λ later. same_slot later (rhs_slot name)) cells) (no_cell (rhs_slot name) name terms (λ _. refl)))
+    (both_so (not (list_any (λ later. same_slot later (range_slot name)) cells)) (are_distinct same_slot cells)
+    (so_not (list_any (λ later. same_slot later (range_slot name)) cells) (no_cell (range_slot name) name terms (λ _. refl)))
+    (terms-once name terms other)))
+
+abbrev row_slots : Listing → List ℕ × Row → List Slot
+row_slots m row = all_slots (row_made m row)
+
+each-row_slot : (P : Slot → Type 0) (m : Listing) (row : List ℕ × Row) → P (row_slot row.0) → P (rhs_slot row.0) → P (range_slot row.0) → ((column : List ℕ) → P (cell_slot row.0 column)) → Each P (row_slots m row)
+each-row_slot P m row a b c d = (a, (b, (c, each-cell P row.0 (row_terms m row.0) d)))
+
+rows-section : (m : Listing) → AreOther m.columns → AreOther m.rows → Each (λ row. same_bytes row.0 m.objective ≡ false) m.rows → Section (rank m.objective) 4 (flat_map (row_slots m) m.rows)
+rows-section m columns rows others = record {
+  once = distinct-flat_map same_slot (row_slots m) m.rows (Each-all (λ row. are_distinct same_slot (row_slots m row) ≡ true) (λ row. row-once row.0 (row_terms m row.0) (row-other m row.0 columns)) m.rows)
+      (owners-apart (row_slots m) (λ row. each-row_slot (λ slot. owner slot ≡ Some row.0) m row refl refl refl (λ _. refl)) m.rows rows);
+  ranked = Each-flat_map (λ slot. rank m.objective slot ≡ 4) (row_slots m) m.rows
+      (Each-weaker (λ row. same_bytes row.0 m.objective ≡ false) (λ row. Each (λ slot. rank m.objective slot ≡ 4) (row_slots m row))
+      (λ row other. each-row_slot (λ slot. rank m.objective slot ≡ 4) m row (ap of_row other) (ap of_row other) (ap of_row other) (λ _. ap of_row other)) m.rows others);
+}
+
+-- ---- the objective
+
+objective-section : (m : Listing) → AreOther m.columns → Section (rank m.objective) 2 (row_slot m.objective ∷ all_slots (terms_declared m.objective (objective_terms m)))
+objective-section m columns =
+    let cells = all_slots (terms_declared m.objective (objective_terms m)) in
+    record {
+      once = both_so (not (list_any (λ later. same_slot later (row_slot m.objective)) cells)) (are_distinct same_slot cells)
+          (so_not (list_any (λ later. same_slot later (row_slot m.objective)) cells) (no_cell (row_slot m.objective) m.objective (objective_terms m) (λ _. refl)))
+          (terms-once m.objective (objective_terms m) (objective-other m columns));
+      ranked = (ap of_row (itself_named m.objective), each-cell (λ slot. rank m.objective slot ≡ 2) m.objective (objective_terms m) (λ _. ap of_row (itself_named m.objective)));
+    }
+
+constant-section : (objective : List ℕ) (value : Number) → Section (rank objective) 3 (all_slots (constant_declared value))
+constant-section objective value =
+    elim (is_zero value) as (λ b. Section (rank objective) 3 (all_slots (if b then [] else declare_constant value ∷ []))) [ true ↦ record { once = refl; ranked = tt } | false ↦ record { once = refl; ranked = (refl, tt) } ]
+
+-- ---- bounds
+
+-- the slots of a column's bounds
+record IsOfColumn (objective column : List ℕ) (slots : List Slot) : Type 0 where
+  pub once : are_distinct same_slot slots ≡ true
+  pub own : Each (λ slot. owner slot ≡ Some column) slots
+  pub ranked : Each (λ slot. rank objective slot ≡ 5) slots
+
+no-side : (objective column : List ℕ) → IsOfColumn objective column []
+no-side objective column = record { once = refl; own = tt; ranked = tt }
+
+one-side : (objective column : List ℕ) → IsOfColumn objective column (lower_slot column ∷ [])
+one-side objective column = record { once = refl; own = (refl, tt); ranked = (refl, tt) }
+
+both-sides : (objective column : List ℕ) → IsOfColumn objective column (lower_slot column ∷ upper_slot column ∷ [])
+both-sides objective column = record { once = refl; own = (refl, (refl, tt)); ranked = (refl, (refl, tt)) }
+
+bound-slots : (objective column : List ℕ) (lower upper : Limit) → IsOfColumn objective column (all_slots (bound_made column lower upper))
+bound-slots objective column MinusInf (Finite b) = both-sides objective column
+bound-slots objective column (Finite a) (Finite b) = elim (have_same_value a b) as (λ t. IsOfColumn objective column (all_slots (if t then column_and column (limits_by EqualTo (limit_of b)) else column_and column (limits_by AtLeast (limit_of a)) ++ bounds_declared column None (Some (limit_of b))))) [
+  | true ↦ both-sides objective column
+  | false ↦ both-sides objective column
+]
+bound-slots objective column (Finite a) MinusInf =
+    elim (is_zero a) as (λ t. IsOfColumn objective column (all_slots (if t then [] else column_and column (limits_by AtLeast (limit_of a))))) [ true ↦ no-side objective column | false ↦ one-side objective column ]
+bound-slots objective column (Finite a) PlusInf =
+    elim (is_zero a) as (λ t. IsOfColumn objective column (all_slots (if t then [] else column_and column (limits_by AtLeast (limit_of a))))) [ true ↦ no-side objective column | false ↦ one-side objective column ]
+bound-slots objective column MinusInf MinusInf = both-sides objective column
+bound-slots objective column MinusInf PlusInf = both-sides objective column
+bound-slots objective column PlusInf MinusInf = both-sides objective column
+bound-slots objective column PlusInf (Finite b) = both-sides objective column
+bound-slots objective column PlusInf PlusInf = both-sides objective column
+
+abbrev bound_slots : List ℕ × Column → List Slot
+bound_slots column = all_slots (column_made column)
+
+slots-of_column : (objective : List ℕ) (column : List ℕ × Column) → IsOfColumn objective column.0 (bound_slots column)
+slots-of_column objective column = bound-slots objective column.0 column.1.lower column.1.upper
+
+bounds-section : (m : Listing) → AreOther m.columns → Section (rank m.objective) 5 (flat_map bound_slots m.columns)
+bounds-section m columns = record {
+  once = distinct-flat_map same_slot bound_slots m.columns (Each-all (λ column. are_distinct same_slot (bound_slots column) ≡ true) (λ column. (slots-of_column m.objective column).once) m.columns)
+      (owners-apart bound_slots (λ column. (slots-of_column m.objective column).own) m.columns columns);
+  ranked = Each-flat_map (λ slot. rank m.objective slot ≡ 5) bound_slots m.columns (Each-all (λ column. Each (λ slot. rank m.objective slot ≡ 5) (bound_slots column)) (λ column. (slots-of_column m.objective column).ranked) m.columns);
+}
+
+-- ---- the whole
+
+abbrev sections : Listing → List (List Slot)
+sections m =
+    (sense_slot ∷ []) ∷ (objective_slot ∷ []) ∷ (row_slot m.objective ∷ all_slots (terms_declared m.objective (objective_terms m))) ∷ all_slots (constant_declared m.constant)
+    ∷ flat_map (row_slots m) m.rows ∷ flat_map bound_slots m.columns ∷ []
+
+kinds-fill : (make : List ℕ × Column → Declarations) → ((column : List ℕ × Column) → all_slots (make column) ≡ []) → (columns : List (List ℕ × Column)) → all_slots (flat_map make columns) ≡ []
+kinds-fill make h [] = refl
+kinds-fill make h (column ∷ columns) = slots-append (make column) (flat_map make columns) ∙ (λ i. h column i ++ kinds-fill make h columns i)
+
+sections-fill : (m : Listing) → all_slots (listed_declarations m) ≡ flat_map (λ (section : List Slot). section) (sections m)
+sections-fill m =
+    let terms = terms_declared m.objective (objective_terms m) in
+    let constant = constant_declared m.constant in
+    let rows = flat_map (row_made m) m.rows in
+    let bounds = flat_map column_made m.columns in
+    let generals = flat_map general_made (filter is_integer_column m.columns) in
+    let semis = flat_map semi_made (filter is_semi_column m.columns) in
+    let none : all_slots (generals ++ semis) ≡ [] =
+    slots-append generals semis ∙ (λ i. kinds-fill general_made (λ _. refl) (filter is_integer_column m.columns) i ++ kinds-fill semi_made (λ _. refl) (filter is_semi_column m.columns) i) in
+    let tail : all_slots (bounds ++ (generals ++ semis)) ≡ flat_map bound_slots m.columns ++ [] = slots-append bounds (generals ++ semis) ∙ (λ i. slots-flat column_made m.columns i ++ none i) in
+    let later : all_slots (rows ++ (bounds ++ (generals ++ semis))) ≡ flat_map (row_slots m) m.rows ++ (flat_map bound_slots m.columns ++ []) =
+    slots-append rows (bounds ++ (generals ++ semis)) ∙ (λ i. slots-flat (row_made m) m.rows i ++ tail i) in
+    slots-append (objective_made m) (rows ++ (bounds ++ (generals ++ semis)))
+    ∙ (λ i. sense_slot ∷ objective_slot ∷ row_slot m.objective ∷ (slots-append terms constant i ++ later i))
+    ∙ ap (λ (slots : List Slot). sense_slot ∷ objective_slot ∷ row_slot m.objective ∷ slots) (append_assoc (all_slots terms) (all_slots constant) (flat_map (row_slots m) m.rows ++ (flat_map bound_slots m.columns ++ [])))
+
+-- No slot is filled twice, where rows and columns have different names, and no row that of the objective.
+pub listed-once : (m : Listing) → AreOther m.columns → AreOther m.rows → Each (λ row. same_bytes row.0 m.objective ≡ false) m.rows → are_distinct same_slot (all_slots (listed_declarations m)) ≡ true
+listed-once m columns rows others =
+    let all : Sections (rank m.objective) 0 (sections m) =
+    (record { once = refl; ranked = (refl, tt) }, (record { once = refl; ranked = (refl, tt) }, (objective-section m columns, (constant-section m.objective m.constant, (rows-section m columns rows others, (bounds-section m columns, tt)))))) in
+    ap (are_distinct same_slot) (sections-fill m) ∙ joined-once (rank m.objective) 0 (sections m) all

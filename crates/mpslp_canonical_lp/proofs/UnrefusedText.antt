@@ -1,0 +1,346 @@
+-- Nothing that the canonical text of a sound model declares is refused, and it goes together.
+use Rattle.std.proofs.Common.{◌≡◌, refl, sym, ap, ◌∙◌, ℕ, ◌<◌, List, [], ◌∷◌, ◌++◌, Bool, true, false, not, length, suc, subst, map}
+use Rattle.std.specs.Prelude.{Option, Some, None, is_some, ◌&&◌, ◌||◌, filter, if◌then◌else◌}
+use Rattle.std.specs.List.{list_all, list_any, flat_map}
+use Rattle.std.specs.Option.{option_map_or}
+use Rattle.std.specs.Cmp.{first_so, second_so}
+use Rattle.std.specs.Cmp.Lexicographic.{nat_list_eq_equiv}
+use Rattle.std.specs.FinMap.{is_sorted, entries, entries_sorted}
+use Rattle.mpslp_decimal.specs.Decimal.{Number, is_decimal, is_infinite_size, is_zero}
+use Rattle.mpslp_types.specs.Name.{same_bytes, bytes_cmp, is_mps_name, is_one_of}
+use Rattle.mpslp_types.specs.Sides.{limit_of, is_plus_infinite, is_minus_infinite, is_bounded_decimal, are_sides, is_lower_side, is_upper_side, is_at_most, has_bounded_distance}
+use Rattle.mpslp_types.specs.declared.kinds.Kind.{Kind}
+use Rattle.mpslp_types.specs.declared.kinds.Kind.TheVariants.{Continuous, Integer, Semi}
+use Rattle.mpslp_types.specs.declared.kinds.Limit.{Limit}
+use Rattle.mpslp_types.specs.declared.kinds.Limit.TheVariants.{MinusInf, Finite, PlusInf}
+use Rattle.mpslp_types.proofs.BoolLemmas.{both_false, so_not, true_from, nor}
+use Rattle.mpslp_types.proofs.EachLemmas.{Each, Each-weaker, Each-filter, Each-all, Each-from_list_all, list_all-from_Each}
+use Rattle.mpslp_core.specs.Model.{LinearModel, Row, Column, suits, is_sound_row, is_sound_column, IsSound}
+use Rattle.mpslp_core.proofs.PutsLemmas.{puts, finds_own}
+use Rattle.mpslp_builder.specs.Declaration.{Declaration, declare_marked, declare_integer, declare_binary, declare_semi, bounds_declared, Declarations, Draft, draft_of, empty_draft, adding, adding_all, at_name, has_name, names_in, is_integer, is_semi, have_infinite_side}
+use Rattle.mpslp_builder.specs.Refusal.{refusals_in_turn}
+use Rattle.mpslp_builder.specs.Consistency.{is_allowed, has_objective_rhs, has_one_constant, AreConsistent}
+use Rattle.mpslp_builder.proofs.DraftLemmas.{rhs_part, rhs_values-all}
+use Rattle.mpslp_builder.proofs.SlotLemmas.{has-put, same_name}
+use Rattle.mpslp_builder.proofs.SortedDrafts.{bytes_total, tied_names}
+use Rattle.mpslp_builder.proofs.WellFormed.{fresh-from_once}
+use Rattle.mpslp_builder.proofs.RefusalLemmas.{consistent-from_none, none-from_fine_in_turn}
+use Rattle.mpslp_lp.specs.Sides.{limits_by}
+use Rattle.mpslp_lp.specs.declared.relations.Relation.TheVariants.{AtMost, AtLeast, EqualTo}
+use Rattle.mpslp_canonical_lp.specs.Listing.{Listing, listing_of}
+use Rattle.mpslp_canonical_lp.specs.CanonicalLp.{have_same_value, row_terms, is_integer_kind, is_semi_kind, is_integer_column, is_semi_column}
+use Rattle.mpslp_canonical_lp.specs.Unfit.{unfit}
+use Rattle.mpslp_canonical_lp.proofs.PrintableLemmas.{fit-from_sound}
+use Rattle.mpslp_canonical_lp.proofs.PhraseLemmas.{column_and}
+use Rattle.mpslp_canonical_lp.proofs.BoundsWalk.{bound_made, column_made}
+use Rattle.mpslp_canonical_lp.proofs.TextWalk.{IsRow, listed_declarations}
+use Rattle.mpslp_canonical_lp.proofs.CanonicalText.{IsPlainText}
+use Rattle.mpslp_canonical_lp.proofs.RankedSlots.{AreOther, other-from_sorted}
+use Rattle.mpslp_canonical_lp.proofs.NamedTerms.{plain-row}
+use Rattle.mpslp_canonical_lp.proofs.KnownInTurn.{listed-known}
+use Rattle.mpslp_canonical_lp.proofs.SlotsOfText.{listed-once}
+use Rattle.mpslp_canonical_lp.proofs.ListedEach.{form_by, form_made, each-listed, each-of_kind, none-any, flat-none}
+
+abbrev drafted : Listing → Draft
+drafted m = draft_of (listed_declarations m)
+
+-- ---- sides
+
+lower-bounded : (a : Number) (u : Limit) → are_sides (Finite a) u ≡ true → is_bounded_decimal a ≡ true
+lower-bounded a u h = first_so (is_bounded_decimal a) (is_upper_side u && is_at_most (Finite a) u) h
+
+upper-side : (l u : Limit) → are_sides l u ≡ true → is_upper_side u ≡ true
+upper-side l u h = first_so (is_upper_side u) (is_at_most l u) (second_so (is_lower_side l) (is_upper_side u && is_at_most l u) h)
+
+bounded-finite : (d : Number) → is_bounded_decimal d ≡ true → limit_of d ≡ Finite d
+bounded-finite d h = by (is_infinite_size d) refl (second_so (is_decimal d) (not (is_infinite_size d)) h)
+  where
+    by : (b : Bool) → is_infinite_size d ≡ b → not b ≡ true → limit_of d ≡ Finite d
+    by true e n = cc
+    by false e n = rw e refl
+
+is-below : (d : Number) → is_bounded_decimal d ≡ true → is_plus_infinite (limit_of d) ≡ false
+is-below d h = ap is_plus_infinite (bounded-finite d h)
+
+is-above : (d : Number) → is_bounded_decimal d ≡ true → is_minus_infinite (limit_of d) ≡ false
+is-above d h = ap is_minus_infinite (bounded-finite d h)
+
+-- ---- rows and bounds have no infinite side that no value meets
+
+neither : (l u : Limit) → is_plus_infinite l ≡ false → is_minus_infinite u ≡ false → not (is_plus_infinite l || is_minus_infinite u) ≡ true
+neither l u a b = ap not (both_false (is_plus_infinite l) (is_minus_infinite u) a b)
+
+row-allowed : (l u : Limit) → are_sides l u ≡ true → not (have_infinite_side (form_made l u)) ≡ true
+row-allowed (Finite a) (Finite b) h =
+    let low = lower-bounded a (Finite b) h in
+    let up : is_bounded_decimal b ≡ true = upper-side (Finite a) (Finite b) h in
+    elim (have_same_value a b) as (λ t. not (have_infinite_side (form_by (if t then None else Some a) (if t then EqualTo else AtMost) b)) ≡ true) [
+      | true ↦ neither (limit_of b) (limit_of b) (is-below b up) (is-above b up)
+      | false ↦ neither (limit_of a) (limit_of b) (is-below a low) (is-above b up)
+    ]
+row-allowed MinusInf (Finite b) h = neither MinusInf (limit_of b) refl (is-above b (upper-side MinusInf (Finite b) h))
+row-allowed (Finite a) PlusInf h = neither (limit_of a) PlusInf (is-below a (lower-bounded a PlusInf h)) refl
+row-allowed (Finite a) MinusInf h = neither (limit_of a) PlusInf (is-below a (lower-bounded a MinusInf h)) refl
+row-allowed MinusInf PlusInf h = refl
+row-allowed MinusInf MinusInf h = cc
+row-allowed PlusInf MinusInf h = cc
+row-allowed PlusInf (Finite b) h = cc
+row-allowed PlusInf PlusInf h = cc
+
+bound-allowed : (all : Draft) (name : List ℕ) (l u : Limit) → are_sides l u ≡ true → Each (λ d. is_allowed all d ≡ true) (bound_made name l u)
+bound-allowed all name MinusInf (Finite b) h = (refl, (refl, (so_not (is_minus_infinite (limit_of b)) (is-above b (upper-side MinusInf (Finite b) h)), tt)))
+bound-allowed all name (Finite a) (Finite b) h =
+    let low = lower-bounded a (Finite b) h in
+    let up : is_bounded_decimal b ≡ true = upper-side (Finite a) (Finite b) h in
+    let last = so_not (is_minus_infinite (limit_of b)) (is-above b up) in
+    elim (have_same_value a b) as (λ t. Each (λ d. is_allowed all d ≡ true) (if t then column_and name (limits_by EqualTo (limit_of b)) else column_and name (limits_by AtLeast (limit_of a)) ++ bounds_declared name None (Some (limit_of b)))) [
+      | true ↦ (refl, (so_not (is_plus_infinite (limit_of b)) (is-below b up), (last, tt)))
+      | false ↦ (refl, (so_not (is_plus_infinite (limit_of a)) (is-below a low), (last, tt)))
+    ]
+bound-allowed all name (Finite a) MinusInf h = one-allowed (is_zero a)
+  where
+    one-allowed : (t : Bool) → Each (λ d. is_allowed all d ≡ true) (if t then [] else column_and name (limits_by AtLeast (limit_of a)))
+    one-allowed true = tt
+    one-allowed false = (refl, (so_not (is_plus_infinite (limit_of a)) (is-below a (lower-bounded a MinusInf h)), tt))
+bound-allowed all name (Finite a) PlusInf h = one-allowed (is_zero a)
+  where
+    one-allowed : (t : Bool) → Each (λ d. is_allowed all d ≡ true) (if t then [] else column_and name (limits_by AtLeast (limit_of a)))
+    one-allowed true = tt
+    one-allowed false = (refl, (so_not (is_plus_infinite (limit_of a)) (is-below a (lower-bounded a PlusInf h)), tt))
+bound-allowed all name MinusInf PlusInf h = (refl, (refl, (refl, tt)))
+bound-allowed all name MinusInf MinusInf h = cc
+bound-allowed all name PlusInf MinusInf h = cc
+bound-allowed all name PlusInf (Finite b) h = cc
+bound-allowed all name PlusInf PlusInf h = cc
+
+-- ---- kinds
+
+or_in : (a b c : Bool) → (b || (a || c)) ≡ ((a || b) || c)
+or_in true true c = refl
+or_in true false c = refl
+or_in false b c = refl
+
+abbrev says_semi : List ℕ → Declaration → Bool
+says_semi q (declare_semi column) = same_bytes q column
+says_semi q _ = false
+
+semi-one : (all : Draft) (d : Declaration) (q : List ℕ) → is_semi (adding all d) q ≡ (says_semi q d || is_semi all q)
+semi-one all (declare_semi column) q = has-put q column tt all.semis
+semi-one all _ q = refl
+
+semis-said : (ds : Declarations) (all : Draft) (q : List ℕ) → is_semi (adding_all all ds) q ≡ (list_any (says_semi q) ds || is_semi all q)
+semis-said [] all q = refl
+semis-said (d ∷ ds) all q =
+    semis-said ds (adding all d) q ∙ ap (λ (b : Bool). list_any (says_semi q) ds || b) (semi-one all d q) ∙ or_in (says_semi q d) (list_any (says_semi q) ds) (is_semi all q)
+
+abbrev says_integer : List ℕ → Declaration → Bool
+says_integer q (declare_marked column) = same_bytes q column
+says_integer q (declare_integer column) = same_bytes q column
+says_integer q (declare_binary column) = same_bytes q column
+says_integer q _ = false
+
+in_first : (s a b c : Bool) → ((s || a) || (b || c)) ≡ (s || (a || (b || c)))
+in_first true a b c = refl
+in_first false a b c = refl
+
+in_second : (s a b c : Bool) → (a || ((s || b) || c)) ≡ (s || (a || (b || c)))
+in_second true true b c = refl
+in_second true false b c = refl
+in_second false a b c = refl
+
+in_third : (s a b c : Bool) → (a || (b || (s || c))) ≡ (s || (a || (b || c)))
+in_third true true b c = refl
+in_third true false true c = refl
+in_third true false false c = refl
+in_third false a b c = refl
+
+integer-one : (all : Draft) (d : Declaration) (q : List ℕ) → is_integer (adding all d) q ≡ (says_integer q d || is_integer all q)
+integer-one all (declare_marked column) q =
+    ap (λ (b : Bool). b || (has_name all.integers q || has_name all.binaries q)) (has-put q column tt all.marked)
+    ∙ in_first (same_bytes q column) (has_name all.marked q) (has_name all.integers q) (has_name all.binaries q)
+integer-one all (declare_integer column) q =
+    ap (λ (b : Bool). has_name all.marked q || (b || has_name all.binaries q)) (has-put q column tt all.integers)
+    ∙ in_second (same_bytes q column) (has_name all.marked q) (has_name all.integers q) (has_name all.binaries q)
+integer-one all (declare_binary column) q =
+    ap (λ (b : Bool). has_name all.marked q || (has_name all.integers q || b)) (has-put q column tt all.binaries)
+    ∙ in_third (same_bytes q column) (has_name all.marked q) (has_name all.integers q) (has_name all.binaries q)
+integer-one all _ q = refl
+
+integers-said : (ds : Declarations) (all : Draft) (q : List ℕ) → is_integer (adding_all all ds) q ≡ (list_any (says_integer q) ds || is_integer all q)
+integers-said [] all q = refl
+integers-said (d ∷ ds) all q =
+    integers-said ds (adding all d) q
+    ∙ ap (λ (b : Bool). list_any (says_integer q) ds || b) (integer-one all d q) ∙ or_in (says_integer q d) (list_any (says_integer q) ds) (is_integer all q)
+
+-- ---- a name has one column, of one kind
+
+abbrev IsFound : Listing → List ℕ × Column → Type 0
+IsFound m column = at_name m.columns column.0 ≡ Some column.1
+
+abbrev found_semi : Option Column → Bool
+found_semi o = option_map_or (λ (column : Column). is_semi_kind column.kind) o false
+
+one_kind : (kind : Kind) → is_integer_kind kind ≡ true → is_semi_kind kind ≡ false
+one_kind Continuous h = refl
+one_kind Integer h = refl
+one_kind Semi h = cc
+
+kinds-apart : (m : Listing) (x y : List ℕ × Column) → IsFound m x → is_integer_column x ≡ true → IsFound m y → is_semi_column y ≡ true → (same_bytes x.0 y.0 ≡ false) × (same_bytes y.0 x.0 ≡ false)
+kinds-apart m x y found whole there partly = (by x.0 y.0 (λ same. same) (same_bytes x.0 y.0) refl, by y.0 x.0 (λ same. sym same) (same_bytes y.0 x.0) refl)
+  where
+    no_truth : false ≡ true → ⊥
+    no_truth e = cc
+
+    apart : x.0 ≡ y.0 → ⊥
+    apart same =
+        no_truth (sym (one_kind x.1.kind whole) ∙ ap found_semi (sym found ∙ ap (at_name m.columns) same ∙ there) ∙ partly)
+
+    by : (a b : List ℕ) → (a ≡ b → x.0 ≡ y.0) → (t : Bool) → same_bytes a b ≡ t → t ≡ false
+    by a b turn true e = absurd (apart (turn (same_name a b e)))
+    by a b turn false e = refl
+
+-- each integer column is apart from each semi-continuous one
+abbrev Apart : List ℕ × Column → List ℕ × Column → Type 0
+Apart x y = (same_bytes x.0 y.0 ≡ false) × (same_bytes y.0 x.0 ≡ false)
+
+module _ (m : Listing) (own : Each (IsFound m) m.columns) where
+  whole-apart : Each (λ x. Each (λ y. same_bytes x.0 y.0 ≡ false) (filter is_semi_column m.columns)) (filter is_integer_column m.columns)
+  whole-apart =
+      Each-filter (λ x. Each (λ y. same_bytes x.0 y.0 ≡ false) (filter is_semi_column m.columns)) is_integer_column m.columns
+      (Each-weaker (IsFound m) (λ x. is_integer_column x ≡ true → Each (λ y. same_bytes x.0 y.0 ≡ false) (filter is_semi_column m.columns))
+      (λ x found whole.
+      Each-filter (λ y. same_bytes x.0 y.0 ≡ false) is_semi_column m.columns
+      (Each-weaker (IsFound m) (λ y. is_semi_column y ≡ true → same_bytes x.0 y.0 ≡ false) (λ y there partly. (kinds-apart m x y found whole there partly).0) m.columns own)) m.columns own)
+
+  partly-apart : Each (λ y. Each (λ x. same_bytes y.0 x.0 ≡ false) (filter is_integer_column m.columns)) (filter is_semi_column m.columns)
+  partly-apart =
+      Each-filter (λ y. Each (λ x. same_bytes y.0 x.0 ≡ false) (filter is_integer_column m.columns)) is_semi_column m.columns
+      (Each-weaker (IsFound m) (λ y. is_semi_column y ≡ true → Each (λ x. same_bytes y.0 x.0 ≡ false) (filter is_integer_column m.columns))
+      (λ y there partly.
+      Each-filter (λ x. same_bytes y.0 x.0 ≡ false) is_integer_column m.columns
+      (Each-weaker (IsFound m) (λ x. is_integer_column x ≡ true → same_bytes y.0 x.0 ≡ false) (λ x found whole. (kinds-apart m x y found whole there partly).1) m.columns own)) m.columns own)
+
+  -- so no integer column is told to be semi-continuous
+  general-allowed : Each (λ x. is_allowed (drafted m) (declare_integer x.0) ≡ true) (filter is_integer_column m.columns)
+  general-allowed =
+      Each-weaker (λ x. Each (λ y. same_bytes x.0 y.0 ≡ false) (filter is_semi_column m.columns)) (λ x. is_allowed (drafted m) (declare_integer x.0) ≡ true)
+      (λ x apart.
+      so_not (is_semi (drafted m) x.0)
+      (semis-said (listed_declarations m) empty_draft x.0
+      ∙ both_false (list_any (says_semi x.0) (listed_declarations m)) false
+      (none-any (says_semi x.0) (listed_declarations m)
+      (each-of_kind (λ d. says_semi x.0 d ≡ false) m (λ _. refl) (λ _. refl) (λ _. refl) (λ _. refl) (λ _ _. refl) (λ _ _. refl) (λ _ _. refl) (λ _ _. refl)
+      (Each-all (λ c. says_semi x.0 (declare_integer c.0) ≡ false) (λ _. refl) (filter is_integer_column m.columns)) apart)) refl))
+      (filter is_integer_column m.columns) whole-apart
+
+  -- nor one that is semi-continuous to be integer
+  semi-allowed : Each (λ y. is_allowed (drafted m) (declare_semi y.0) ≡ true) (filter is_semi_column m.columns)
+  semi-allowed =
+      Each-weaker (λ y. Each (λ x. same_bytes y.0 x.0 ≡ false) (filter is_integer_column m.columns)) (λ y. is_allowed (drafted m) (declare_semi y.0) ≡ true)
+      (λ y apart.
+      so_not (is_integer (drafted m) y.0)
+      (integers-said (listed_declarations m) empty_draft y.0
+      ∙ both_false (list_any (says_integer y.0) (listed_declarations m)) false
+      (none-any (says_integer y.0) (listed_declarations m)
+      (each-of_kind (λ d. says_integer y.0 d ≡ false) m (λ _. refl) (λ _. refl) (λ _. refl) (λ _. refl) (λ _ _. refl) (λ _ _. refl) (λ _ _. refl) (λ _ _. refl)
+      apart (Each-all (λ c. says_integer y.0 (declare_semi c.0) ≡ false) (λ _. refl) (filter is_semi_column m.columns)))) refl))
+      (filter is_semi_column m.columns) partly-apart
+
+-- ---- the constant
+
+no_rhs : (o : Option (List ℕ)) → option_map_or (λ name. has_name {X = Number} [] name) o false ≡ false
+no_rhs None = refl
+no_rhs (Some name) = refl
+
+not_both : (a b : Bool) → b ≡ false → not (a && b) ≡ true
+not_both true b h = so_not b h
+not_both false b h = refl
+
+one-constant : (m : Listing) → has_one_constant (drafted m) ≡ true
+one-constant m =
+    let none : flat_map rhs_part (listed_declarations m) ≡ [] =
+    flat-none rhs_part (listed_declarations m)
+    (each-of_kind (λ d. rhs_part d ≡ []) m (λ _. refl) (λ _. refl) (λ _. refl) (λ _. refl) (λ _ _. refl) (λ _ _. refl) (λ _ _. refl) (λ _ _. refl)
+    (Each-all (λ c. rhs_part (declare_integer c.0) ≡ []) (λ _. refl) (filter is_integer_column m.columns)) (Each-all (λ c. rhs_part (declare_semi c.0) ≡ []) (λ _. refl) (filter is_semi_column m.columns))) in
+    let empty : (drafted m).rhs_values ≡ [] = rhs_values-all (listed_declarations m) empty_draft ∙ ap (λ (es : List (List ℕ × Number)). puts bytes_cmp es []) none in
+    not_both (is_some (drafted m).constant) (has_objective_rhs (drafted m))
+    (ap (λ (es : List (List ℕ × Number)). option_map_or (λ name. has_name es name) (drafted m).objective false) empty ∙ no_rhs (drafted m).objective)
+
+-- ---- the listing of a sound model
+
+-- what is needed of a listing
+record IsSoundListing (m : Listing) : Type 0 where
+  pub no_row : Each (λ row. same_bytes row.0 m.objective ≡ false) m.rows
+  pub rows : Each (λ row. is_sound_row row ≡ true) m.rows
+  pub columns : Each (λ column. is_sound_column column ≡ true) m.columns
+  pub other_rows : AreOther m.rows
+  pub other_columns : AreOther m.columns
+  pub own : Each (IsFound m) m.columns
+  pub some : 0 < length m.columns
+
+none-named : {X : Type 0} (name : List ℕ) (es : List (List ℕ × X)) → is_one_of (names_in es) name ≡ false → Each (λ e. same_bytes e.0 name ≡ false) es
+none-named name [] h = tt
+none-named name (e ∷ es) h =
+    let parts = nor (same_bytes name e.0) (is_one_of (names_in es) name) h in
+    (sym (nat_list_eq_equiv.symm name e.0) ∙ parts.0, none-named name es parts.1)
+
+same-length : {X Y : Type 0} (f : X → Y) (xs : List X) → length (map f xs) ≡ length xs
+same-length f [] = refl
+same-length f (x ∷ xs) = ap suc (same-length f xs)
+
+sound-listing : (m : LinearModel) → IsSound m → IsSoundListing (listing_of m)
+sound-listing m h = record {
+  no_row = none-named m.objective (entries m.rows) h.objective_is_no_row;
+  rows = Each-from_list_all is_sound_row (entries m.rows) h.rows;
+  columns = Each-from_list_all is_sound_column (entries m.columns) h.columns;
+  other_rows = other-from_sorted (entries m.rows) (true_from (is_sorted bytes_cmp (entries m.rows)) (entries_sorted m.rows));
+  other_columns = other-from_sorted (entries m.columns) (true_from (is_sorted bytes_cmp (entries m.columns)) (entries_sorted m.columns));
+  own = finds_own bytes_cmp bytes_total tied_names (entries m.columns) (entries_sorted m.columns);
+  some = subst (λ (n : ℕ). 0 < n) (same-length (λ (e : List ℕ × Column). e.0) (entries m.columns)) h.has_column;
+}
+
+row_sides : (row : List ℕ × Row) → is_sound_row row ≡ true → are_sides row.1.lower row.1.upper ≡ true
+row_sides row h =
+    first_so (are_sides row.1.lower row.1.upper) (has_bounded_distance row.1.lower row.1.upper)
+    (second_so (is_mps_name row.0) (are_sides row.1.lower row.1.upper && has_bounded_distance row.1.lower row.1.upper) h)
+
+column_sides : (column : List ℕ × Column) → is_sound_column column ≡ true → are_sides column.1.lower column.1.upper ≡ true
+column_sides column h =
+    first_so (are_sides column.1.lower column.1.upper) (suits column.1.kind column.1.lower column.1.upper)
+    (second_so (is_mps_name column.0) (are_sides column.1.lower column.1.upper && suits column.1.kind column.1.lower column.1.upper) h)
+
+all-allowed : (m : Listing) → IsSoundListing m → list_all (is_allowed (drafted m)) (listed_declarations m) ≡ true
+all-allowed m h = list_all-from_Each (is_allowed (drafted m)) (listed_declarations m) (each-listed (λ d. is_allowed (drafted m) d ≡ true) m (record {
+  sense = λ _. refl;
+  objective = λ _. refl;
+  constant = λ _. refl;
+  column = λ _. refl;
+  coefficient = λ _ _. refl;
+  rows = Each-weaker (λ row. is_sound_row row ≡ true) (λ row. not (have_infinite_side (form_made row.1.lower row.1.upper)) ≡ true) (λ row s. row-allowed row.1.lower row.1.upper (row_sides row s)) m.rows h.rows;
+  bounds = Each-weaker (λ column. is_sound_column column ≡ true) (λ column. Each (λ d. is_allowed (drafted m) d ≡ true) (column_made column))
+      (λ column s. bound-allowed (drafted m) column.0 column.1.lower column.1.upper (column_sides column s)) m.columns h.columns;
+  generals = general-allowed m h.own;
+  semis = semi-allowed m h.own;
+}))
+
+-- ---- the lemmas
+
+-- Nothing that is printed of a sound model is refused.
+pub listed-unrefused : (m : LinearModel) → IsSound m → refusals_in_turn empty_draft (listed_declarations (listing_of m)) ≡ []
+listed-unrefused m sound =
+    let h = sound-listing m sound in
+    let made = listed_declarations (listing_of m) in
+    none-from_fine_in_turn made empty_draft (fresh-from_once made (listed-once (listing_of m) h.other_columns h.other_rows h.no_row)) (listed-known (listing_of m)) (all-allowed (listing_of m) h) (one-constant (listing_of m))
+
+-- It goes together.
+pub listed-consistent : (m : LinearModel) → IsSound m → AreConsistent (listed_declarations (listing_of m))
+listed-consistent m sound = consistent-from_none (listed_declarations (listing_of m)) refl (listed-unrefused m sound)
+
+-- The rows of a sound model with LP names are printed with terms, and nothing of its text is refused.
+pub plain-text : (m : LinearModel) → IsSound m → unfit m ≡ None → IsPlainText m
+plain-text m sound fits =
+    let h = sound-listing m sound in
+    record {
+      rows = Each-all (λ row. IsRow (row_terms (listing_of m) row.0)) (λ row. plain-row (listing_of m) (fit-from_sound m sound fits) h.other_columns h.some row.0) (entries m.rows);
+      unrefused = listed-unrefused m sound;
+    }
