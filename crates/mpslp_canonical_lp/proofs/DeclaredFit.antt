@@ -1,0 +1,112 @@
+-- What LP text declares has LP names alone, so that LP can tell it.
+use Rattle.std.proofs.Common.{◌≡◌, refl, sym, ap, subst, ◌∙◌, ℕ, List, [], ◌∷◌, Bool, true, false, not, map, length, ◌+◌, cond, arith}
+use Rattle.std.proofs.Math.Dec.{T}
+use Rattle.std.specs.Prelude.{Option, Some, None, nat_lt, unwrap_or, if◌then◌else◌}
+use Rattle.std.specs.List.{list_all, prefix_len}
+use Rattle.std.proofs.lemmas.Bool.{le-ltb}
+use Rattle.std.specs.Option.{option_map, option_map_or}
+use Rattle.std.specs.Cmp.{first_so, second_so}
+use Rattle.std.specs.declared.cmp.Ordering.TheVariants as orders
+use Rattle.std.specs.FinMap.{put, entries, entries-from_sorted}
+use Rattle.std.specs.FinMap.Entries.{by_order}
+use Rattle.mpslp_types.specs.Name.{bytes_cmp, is_lp_name, is_mps_name}
+use Rattle.mpslp_types.specs.declared.faults.NameAt.TheVariants.{Objective, Row, Column}
+use Rattle.mpslp_types.proofs.BoolLemmas.{both_so}
+use Rattle.mpslp_types.proofs.EachLemmas.{Each}
+use Rattle.mpslp_decimal.specs.Decimal.{zero_number}
+use Rattle.mpslp_types.specs.declared.kinds.RowType.TheVariants.{Free}
+use Rattle.mpslp_core.specs.Limits.{plain_limits}
+use Rattle.mpslp_core.specs.Model.{LinearModel, Row as Limits, Column as ColumnOf}
+use Rattle.mpslp_builder.specs.Declaration.{Declaration, declare_objective, declare_row, declare_column, Declarations, Draft, draft_of, empty_draft, adding, adding_all}
+use Rattle.mpslp_builder.specs.Declaration.{RowForm}
+use Rattle.mpslp_builder.specs.Bounds.{column_of}
+use Rattle.mpslp_builder.specs.Meaning.{objective_name, row_limits, model_of}
+use Rattle.mpslp_builder.proofs.SortedDrafts.{IsSortedDraft, sorted-draft_of}
+use Rattle.mpslp_builder.proofs.MeaningFromNoFault.{sorted-mapped}
+use Rattle.mpslp_lp.specs.Laws.{has_lp_name}
+use Rattle.mpslp_lp.specs.LpText.{declarations_of, DeclaresLp}
+use Rattle.mpslp_lp.proofs.ModelOrFault.{lp_names-declared}
+use Rattle.mpslp_canonical_lp.specs.Unfit.{is_no_lp_name, first_unfit, or_else, unfit}
+
+-- ---- the names of a draft
+
+named-put : {X : Type 0} (p : List ℕ → Bool) (k : List ℕ) (v : X) (es : List (List ℕ × X)) → p k ≡ true → list_all (λ e. p e.0) es ≡ true → list_all (λ e. p e.0) (put bytes_cmp k v es) ≡ true
+named-put p k v [] h all = both_so (p k) true h refl
+named-put {X} p k v (e ∷ es) h all =
+    elim (bytes_cmp k e.0) as (λ r. list_all (λ (x : List ℕ × X). p x.0) (by_order r ((k, v) ∷ e ∷ es) ((e.0, v) ∷ es) (e ∷ put bytes_cmp k v es)) ≡ true) [
+      | orders.Less ↦ both_so (p k) (list_all (λ (x : List ℕ × X). p x.0) (e ∷ es)) h all
+      | orders.Equal ↦ all
+      | orders.Greater ↦ both_so (p e.0) (list_all (λ (x : List ℕ × X). p x.0) (put bytes_cmp k v es)) (first_so (p e.0) (list_all (λ (x : List ℕ × X). p x.0) es) all)
+          (named-put p k v es h (second_so (p e.0) (list_all (λ (x : List ℕ × X). p x.0) es) all))
+    ]
+
+record HasLpNames (all : Draft) : Type 0 where
+  pub objective : option_map_or is_lp_name all.objective true ≡ true
+  pub rows : list_all (λ row. is_lp_name row.0) all.rows ≡ true
+  pub columns : list_all (λ column. is_lp_name column.0) all.columns ≡ true
+
+names-adding : (all : Draft) (d : Declaration) → has_lp_name d ≡ true → HasLpNames all → HasLpNames (adding all d)
+names-adding all (declare_objective name) h names = record { objective = h; rows = names.rows; columns = names.columns }
+names-adding all (declare_row name form) h names = record { objective = names.objective; rows = named-put is_lp_name name form all.rows h names.rows; columns = names.columns }
+names-adding all (declare_column name) h names = record { objective = names.objective; rows = names.rows; columns = named-put is_lp_name name tt all.columns h names.columns }
+names-adding all _ h names = record { objective = names.objective; rows = names.rows; columns = names.columns }
+
+names-adding_all : (ds : Declarations) (all : Draft) → list_all has_lp_name ds ≡ true → HasLpNames all → HasLpNames (adding_all all ds)
+names-adding_all [] all h names = names
+names-adding_all (d ∷ ds) all h names =
+    names-adding_all ds (adding all d) (second_so (has_lp_name d) (list_all has_lp_name ds) h) (names-adding all d (first_so (has_lp_name d) (list_all has_lp_name ds) h) names)
+
+-- ---- where no name is unfit
+
+whole-front : (names : List (List ℕ)) → Each (λ name. is_lp_name name ≡ true) names → prefix_len (λ name. not (is_no_lp_name name)) names ≡ length names
+whole-front [] h = refl
+whole-front (name ∷ names) h = by (is_lp_name name) h.0 (whole-front names h.1)
+  where
+    front : ℕ
+    front = prefix_len (λ (x : List ℕ). not (is_no_lp_name x)) names
+
+    by : (b : Bool) → b ≡ true → front ≡ length names → cond (not (not b)) (1 + front) 0 ≡ length (name ∷ names)
+    by true _ more = omega (arith, more)
+    by false k more = cc
+
+none-unfit : (names : List (List ℕ)) → Each (λ name. is_lp_name name ≡ true) names → first_unfit names ≡ None
+none-unfit names h =
+    ap (λ (n : ℕ). cond (nat_lt n (length names)) (Some n) None) (whole-front names h)
+    ∙ ap (λ (b : Bool). cond b (Some (length names)) None) (le-ltb (length names) (length names) (omega arith))
+
+lp-named : {X Y : Type 0} (f : List ℕ × X → Y) (es : List (List ℕ × X)) → list_all (λ e. is_lp_name e.0) es ≡ true
+    → Each (λ name. is_lp_name name ≡ true) (map (λ (e : List ℕ × Y). e.0) (map (λ e. (e.0, f e)) es))
+lp-named f [] h = tt
+lp-named {X} f (e ∷ es) h = (
+  first_so (is_lp_name e.0) (list_all (λ (x : List ℕ × X). is_lp_name x.0) es) h,
+  lp-named f es (second_so (is_lp_name e.0) (list_all (λ (x : List ℕ × X). is_lp_name x.0) es) h),
+)
+
+none-found : (objective : List ℕ) (rows columns : List (List ℕ)) → is_lp_name objective ≡ true → first_unfit rows ≡ None → first_unfit columns ≡ None
+    → (if is_no_lp_name objective then Some Objective else or_else (option_map Row (first_unfit rows)) (option_map Column (first_unfit columns))) ≡ None
+none-found objective rows columns h r c = rw h (rw r (rw c refl))
+
+some-lp : (o : Option (List ℕ)) → is_mps_name (unwrap_or o []) ≡ true → option_map_or is_lp_name o true ≡ true → is_lp_name (unwrap_or o []) ≡ true
+some-lp (Some name) s h = h
+some-lp None s h = cc
+
+-- the model of a draft with LP names
+draft-fit : (all : Draft) → is_mps_name (objective_name all) ≡ true → IsSortedDraft all → HasLpNames all → unfit (model_of all) ≡ None
+draft-fit all objective sorted names =
+    let row_values : List ℕ × RowForm → Limits = λ row. unwrap_or (row_limits all row) (plain_limits Free zero_number) in
+    let column_values : List ℕ × Unit {0} → ColumnOf = λ column. column_of all column.0 in
+    let rows = map (λ row. (row.0, row_values row)) all.rows in
+    let columns = map (λ column. (column.0, column_values column)) all.columns in
+    let rows_are : entries (model_of all).rows ≡ rows = entries-from_sorted bytes_cmp rows (subst T (sym (sorted-mapped row_values all.rows)) sorted.rows) in
+    let columns_are : entries (model_of all).columns ≡ columns = entries-from_sorted bytes_cmp columns (subst T (sym (sorted-mapped column_values all.columns)) sorted.columns) in
+    none-found (objective_name all) (map (λ row. row.0) (entries (model_of all).rows)) (map (λ column. column.0) (entries (model_of all).columns)) (some-lp all.objective objective names.objective)
+    (ap (λ (es : List (List ℕ × Limits)). first_unfit (map (λ e. e.0) es)) rows_are ∙ none-unfit (map (λ (e : List ℕ × Limits). e.0) rows) (lp-named row_values all.rows names.rows))
+    (ap (λ (es : List (List ℕ × ColumnOf)). first_unfit (map (λ e. e.0) es)) columns_are ∙ none-unfit (map (λ (e : List ℕ × ColumnOf). e.0) columns) (lp-named column_values all.columns names.columns))
+
+-- What LP text declares, LP can tell.
+pub declared-fit : (bytes : List ℕ) (m : LinearModel) → DeclaresLp bytes m → unfit m ≡ None
+declared-fit bytes m declares =
+    let made = declarations_of bytes in
+    ap unfit declares.means.meant.model
+    ∙ draft-fit (draft_of made) (subst (λ (model : LinearModel). is_mps_name model.objective ≡ true) declares.means.meant.model declares.means.meant.sound.objective) (sorted-draft_of made)
+    (names-adding_all made empty_draft (lp_names-declared bytes) (record { objective = refl; rows = refl; columns = refl }))
