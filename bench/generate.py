@@ -1,9 +1,10 @@
 #!/usr/bin/env python3
-"""Write a large, valid MPS file to standard output.
+"""Write a large, valid MPS or LP file to standard output.
 
 The same options and the same seed give the same file. With --shuffle the file
 declares the same model as without, its rows, columns and entries in another
-order. Sizes are in bytes and are met within a few percent.
+order. Sizes are in bytes and are met within a few percent; with --lp they are
+those of the MPS file of the same model.
 """
 
 import argparse
@@ -393,6 +394,60 @@ def write_usual(out, options):
     out.write("ENDATA\n")
 
 
+class Terms:
+    """Terms on lines of a usual length."""
+
+    MOST_BYTES = 75
+
+    def __init__(self, out):
+        self.out = out
+        self.line = ""
+
+    def put(self, text):
+        if len(self.line) + len(text) >= self.MOST_BYTES:
+            self.end()
+        self.line += " " + text
+
+    def end(self):
+        if self.line:
+            self.out.write(self.line + "\n")
+        self.line = ""
+
+
+def term(name, value):
+    sign, size = ("-", value[1:]) if value.startswith("-") else ("+", value)
+    return f"{sign} {size} {name}"
+
+
+def write_lp_row(out, label, terms, end):
+    out.write(f" {label}:\n")
+    line = Terms(out)
+    for name, value in terms:
+        line.put(term(name, value))
+    line.put(end)
+    line.end()
+
+
+def write_lp(out, options):
+    """The thin model as LP text: no bounds, and each row with the terms of its columns."""
+    model = model_of_size(options)
+    rows = [[] for _ in range(model.row_count)]
+    objective = []
+    for number in range(model.column_count):
+        column = model.column(number)
+        for row, value in column.pairs:
+            (objective if row == OBJECTIVE_NUMBER else rows[row]).append((column.name, value))
+    out.write("Minimize\n")
+    write_lp_row(out, OBJECTIVE, objective, "")
+    out.write("Subject To\n")
+    senses = {"L": "<=", "G": ">=", "E": "="}
+    for number, terms in enumerate(rows):
+        row = model.row(number)
+        terms = terms or [(model.name("column", 0), "0")]
+        write_lp_row(out, row.name, terms, f"{senses[row.kind]} {row.right_side or '0'}")
+    out.write("End\n")
+
+
 def hostile_row_line(name):
     return row_line("L", name)
 
@@ -485,6 +540,8 @@ def arguments():
                         help="no OBJSENSE section, which glpsol does not read")
     parser.add_argument("--shuffle", action="store_true",
                         help="rows, columns, right sides, ranges and bounds in random order")
+    parser.add_argument("--lp", action="store_true",
+                        help="LP text of the thin model of this seed and size")
     parser.add_argument("--sorted", action="store_true",
                         help="the rows of each column in the order of ROWS")
     parser.add_argument("--hostile", choices=sorted(HOSTILE),
@@ -496,7 +553,9 @@ def arguments():
 
 def main():
     options = arguments()
-    write = HOSTILE.get(options.hostile, write_usual)
+    if options.lp:
+        options.thin = True
+    write = write_lp if options.lp else HOSTILE.get(options.hostile, write_usual)
     write(sys.stdout, options)
 
 

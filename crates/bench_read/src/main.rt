@@ -1,13 +1,14 @@
-//! Measures how fast MPS text is read into a model.
+//! Measures how fast the text of a model is read: MPS, or LP where the only argument is `lp`.
 //!
 //! Standard input has the text. Its model's counts, or why it has none, are told on standard output, and the time of
 //! the reader alone, without that of the input, on standard error.
 #![tactic(auto)]
 
+use mpslp_lp::read_lp;
 use mpslp_model::{Fault, ReadFault};
 use mpslp_mps::read_mps;
 use std::alloc::Global;
-use std::io;
+use std::{env, io};
 use std::io::Read;
 use std::rt::Clock;
 use std::time::Instant;
@@ -25,11 +26,19 @@ fn tell(rt: &impl Print, alloc: Global, fault: &Fault) -> io::Result<()> {
     }
 }
 
-fn run<R: Input + Print + Eprint + Clock + AllocGlobal>(rt: &R, alloc: Global) -> io::Result<()> {
+fn run<R: Input + Print + Eprint + Clock + AllocGlobal>(
+    rt: &R,
+    alloc: Global,
+    is_lp: bool,
+) -> io::Result<()> {
     let mut text = Vec::new(alloc);
     rt.reader().read_to_end(&mut text)?;
     let start = Instant::now(rt)?;
-    let answer = read_mps(alloc, text.as_slice());
+    let answer = if is_lp {
+        read_lp(alloc, text.as_slice())
+    } else {
+        read_mps(alloc, text.as_slice())
+    };
     let micros = start.elapsed(rt)?.as_micros().max(1);
     match &answer {
         Ok(model) => println!(rt;
@@ -44,7 +53,7 @@ fn run<R: Input + Print + Eprint + Clock + AllocGlobal>(rt: &R, alloc: Global) -
     }
     let tenths = (text.len() as u128).saturating_mul(10) / micros;
     eprintln!(rt;
-        "read_mps {} bytes, {micros} microseconds, {}.{} MB/s",
+        "read {} bytes, {micros} microseconds, {}.{} MB/s",
         text.len(),
         tenths / 10,
         tenths % 10
@@ -52,5 +61,7 @@ fn run<R: Input + Print + Eprint + Clock + AllocGlobal>(rt: &R, alloc: Global) -
 }
 
 fn main(rt: HostRuntime) -> io::Result<()> {
-    run(&rt, rt.alloc())
+    let alloc = rt.alloc();
+    let is_lp = env::args(&rt)?.nth(1).is_some_and(|word| word.as_str() == "lp");
+    run(&rt, alloc, is_lp)
 }
