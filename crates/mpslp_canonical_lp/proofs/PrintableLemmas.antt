@@ -218,7 +218,7 @@ bound-printable column PlusInf PlusInf w h = (a-line 1 (word column ∷ word (co
 
 -- ---- terms
 
-abbrev Holds : {X : Type 0} → (X → Type 0) → Option X → Type 0
+abbrev pub Holds : {X : Type 0} → (X → Type 0) → Option X → Type 0
 Holds P None = Unit {0}
 Holds P (Some x) = P x
 
@@ -230,7 +230,7 @@ each-found {K} {X} R P k (e ∷ es) h =
       | false ↦ each-found R P k es h.1
     ]
 
-each-filter_map : {X Y : Type 0} (P : Y → Type 0) (f : X → Option Y) (xs : List X) → Each (λ x. Holds P (f x)) xs → Each P (filter_map f xs)
+pub each-filter_map : {X Y : Type 0} (P : Y → Type 0) (f : X → Option Y) (xs : List X) → Each (λ x. Holds P (f x)) xs → Each P (filter_map f xs)
 each-filter_map P f [] h = tt
 each-filter_map {X} {Y} P f (x ∷ xs) h = by (f x) h.0 (each-filter_map P f xs h.1)
   where

@@ -3,26 +3,24 @@ use Rattle.std.proofs.Common.{◌≡◌, refl, sym, ap, ◌∙◌, ℕ, ◌<◌,
 use Rattle.std.specs.Prelude.{Option, Some, None, is_some, ◌&&◌, ◌||◌, filter, if◌then◌else◌}
 use Rattle.std.specs.List.{list_all, list_any, flat_map}
 use Rattle.std.specs.Option.{option_map_or}
-use Rattle.std.specs.Cmp.{first_so, second_so}
 use Rattle.std.specs.Cmp.Lexicographic.{nat_list_eq_equiv}
-use Rattle.std.specs.FinMap.{is_sorted, entries, entries_sorted}
-use Rattle.mpslp_decimal.specs.Decimal.{Number, is_decimal, is_infinite_size, is_zero}
-use Rattle.mpslp_types.specs.Name.{same_bytes, bytes_cmp, is_mps_name, is_one_of}
-use Rattle.mpslp_types.specs.Sides.{limit_of, is_plus_infinite, is_minus_infinite, is_bounded_decimal, are_sides, is_lower_side, is_upper_side, is_at_most, has_bounded_distance}
+use Rattle.std.specs.FinMap.{entries}
+use Rattle.mpslp_decimal.specs.Decimal.{Number, is_zero}
+use Rattle.mpslp_types.specs.Name.{same_bytes, bytes_cmp, is_one_of}
+use Rattle.mpslp_types.specs.Sides.{limit_of, is_plus_infinite, is_minus_infinite, is_bounded_decimal, are_sides}
 use Rattle.mpslp_types.specs.declared.kinds.Kind.{Kind}
 use Rattle.mpslp_types.specs.declared.kinds.Kind.TheVariants.{Continuous, Integer, Semi}
 use Rattle.mpslp_types.specs.declared.kinds.Limit.{Limit}
 use Rattle.mpslp_types.specs.declared.kinds.Limit.TheVariants.{MinusInf, Finite, PlusInf}
-use Rattle.mpslp_types.proofs.BoolLemmas.{both_false, so_not, true_from, nor}
-use Rattle.mpslp_types.proofs.EachLemmas.{Each, Each-weaker, Each-filter, Each-all, Each-from_list_all, list_all-from_Each}
-use Rattle.mpslp_core.specs.Model.{LinearModel, Row, Column, suits, is_sound_row, is_sound_column, IsSound}
-use Rattle.mpslp_core.proofs.PutsLemmas.{puts, finds_own}
+use Rattle.mpslp_types.proofs.BoolLemmas.{both_false, so_not, nor}
+use Rattle.mpslp_types.proofs.EachLemmas.{Each, Each-weaker, Each-filter, Each-all, list_all-from_Each}
+use Rattle.mpslp_core.specs.Model.{LinearModel, Column, is_sound_row, is_sound_column, IsSound}
+use Rattle.mpslp_core.proofs.PutsLemmas.{puts}
 use Rattle.mpslp_builder.specs.Declaration.{Declaration, declare_marked, declare_integer, declare_binary, declare_semi, bounds_declared, Declarations, Draft, draft_of, empty_draft, adding, adding_all, at_name, has_name, names_in, is_integer, is_semi, have_infinite_side}
 use Rattle.mpslp_builder.specs.Refusal.{refusals_in_turn}
 use Rattle.mpslp_builder.specs.Consistency.{is_allowed, has_objective_rhs, has_one_constant, AreConsistent}
 use Rattle.mpslp_builder.proofs.DraftLemmas.{rhs_part, rhs_values-all}
 use Rattle.mpslp_builder.proofs.SlotLemmas.{has-put, same_name}
-use Rattle.mpslp_builder.proofs.SortedDrafts.{bytes_total, tied_names}
 use Rattle.mpslp_builder.proofs.WellFormed.{fresh-from_once}
 use Rattle.mpslp_builder.proofs.RefusalLemmas.{consistent-from_none, none-from_fine_in_turn}
 use Rattle.mpslp_lp.specs.Sides.{limits_by}
@@ -35,6 +33,7 @@ use Rattle.mpslp_canonical_lp.proofs.PhraseLemmas.{column_and}
 use Rattle.mpslp_canonical_lp.proofs.BoundsWalk.{bound_made, column_made}
 use Rattle.mpslp_canonical_lp.proofs.TextWalk.{IsRow, listed_declarations}
 use Rattle.mpslp_canonical_lp.proofs.CanonicalText.{IsPlainText}
+use Rattle.mpslp_canonical_lp.proofs.SoundListing.{IsSoundListing, sound-listing, own-found, row_sides, column_sides, lower_of, upper_of, bounded_finite}
 use Rattle.mpslp_canonical_lp.proofs.RankedSlots.{AreOther, other-from_sorted}
 use Rattle.mpslp_canonical_lp.proofs.NamedTerms.{plain-row}
 use Rattle.mpslp_canonical_lp.proofs.KnownInTurn.{listed-known}
@@ -46,24 +45,11 @@ drafted m = draft_of (listed_declarations m)
 
 -- ---- sides
 
-lower-bounded : (a : Number) (u : Limit) → are_sides (Finite a) u ≡ true → is_bounded_decimal a ≡ true
-lower-bounded a u h = first_so (is_bounded_decimal a) (is_upper_side u && is_at_most (Finite a) u) h
-
-upper-side : (l u : Limit) → are_sides l u ≡ true → is_upper_side u ≡ true
-upper-side l u h = first_so (is_upper_side u) (is_at_most l u) (second_so (is_lower_side l) (is_upper_side u && is_at_most l u) h)
-
-bounded-finite : (d : Number) → is_bounded_decimal d ≡ true → limit_of d ≡ Finite d
-bounded-finite d h = by (is_infinite_size d) refl (second_so (is_decimal d) (not (is_infinite_size d)) h)
-  where
-    by : (b : Bool) → is_infinite_size d ≡ b → not b ≡ true → limit_of d ≡ Finite d
-    by true e n = cc
-    by false e n = rw e refl
-
 is-below : (d : Number) → is_bounded_decimal d ≡ true → is_plus_infinite (limit_of d) ≡ false
-is-below d h = ap is_plus_infinite (bounded-finite d h)
+is-below d h = ap is_plus_infinite (bounded_finite d h)
 
 is-above : (d : Number) → is_bounded_decimal d ≡ true → is_minus_infinite (limit_of d) ≡ false
-is-above d h = ap is_minus_infinite (bounded-finite d h)
+is-above d h = ap is_minus_infinite (bounded_finite d h)
 
 -- ---- rows and bounds have no infinite side that no value meets
 
@@ -72,15 +58,15 @@ neither l u a b = ap not (both_false (is_plus_infinite l) (is_minus_infinite u) 
 
 row-allowed : (l u : Limit) → are_sides l u ≡ true → not (have_infinite_side (form_made l u)) ≡ true
 row-allowed (Finite a) (Finite b) h =
-    let low = lower-bounded a (Finite b) h in
-    let up : is_bounded_decimal b ≡ true = upper-side (Finite a) (Finite b) h in
+    let low : is_bounded_decimal a ≡ true = lower_of (Finite a) (Finite b) h in
+    let up : is_bounded_decimal b ≡ true = upper_of (Finite a) (Finite b) h in
     elim (have_same_value a b) as (λ t. not (have_infinite_side (form_by (if t then None else Some a) (if t then EqualTo else AtMost) b)) ≡ true) [
       | true ↦ neither (limit_of b) (limit_of b) (is-below b up) (is-above b up)
       | false ↦ neither (limit_of a) (limit_of b) (is-below a low) (is-above b up)
     ]
-row-allowed MinusInf (Finite b) h = neither MinusInf (limit_of b) refl (is-above b (upper-side MinusInf (Finite b) h))
-row-allowed (Finite a) PlusInf h = neither (limit_of a) PlusInf (is-below a (lower-bounded a PlusInf h)) refl
-row-allowed (Finite a) MinusInf h = neither (limit_of a) PlusInf (is-below a (lower-bounded a MinusInf h)) refl
+row-allowed MinusInf (Finite b) h = neither MinusInf (limit_of b) refl (is-above b (upper_of MinusInf (Finite b) h))
+row-allowed (Finite a) PlusInf h = neither (limit_of a) PlusInf (is-below a (lower_of (Finite a) PlusInf h)) refl
+row-allowed (Finite a) MinusInf h = neither (limit_of a) PlusInf (is-below a (lower_of (Finite a) MinusInf h)) refl
 row-allowed MinusInf PlusInf h = refl
 row-allowed MinusInf MinusInf h = cc
 row-allowed PlusInf MinusInf h = cc
@@ -88,10 +74,10 @@ row-allowed PlusInf (Finite b) h = cc
 row-allowed PlusInf PlusInf h = cc
 
 bound-allowed : (all : Draft) (name : List ℕ) (l u : Limit) → are_sides l u ≡ true → Each (λ d. is_allowed all d ≡ true) (bound_made name l u)
-bound-allowed all name MinusInf (Finite b) h = (refl, (refl, (so_not (is_minus_infinite (limit_of b)) (is-above b (upper-side MinusInf (Finite b) h)), tt)))
+bound-allowed all name MinusInf (Finite b) h = (refl, (refl, (so_not (is_minus_infinite (limit_of b)) (is-above b (upper_of MinusInf (Finite b) h)), tt)))
 bound-allowed all name (Finite a) (Finite b) h =
-    let low = lower-bounded a (Finite b) h in
-    let up : is_bounded_decimal b ≡ true = upper-side (Finite a) (Finite b) h in
+    let low : is_bounded_decimal a ≡ true = lower_of (Finite a) (Finite b) h in
+    let up : is_bounded_decimal b ≡ true = upper_of (Finite a) (Finite b) h in
     let last = so_not (is_minus_infinite (limit_of b)) (is-above b up) in
     elim (have_same_value a b) as (λ t. Each (λ d. is_allowed all d ≡ true) (if t then column_and name (limits_by EqualTo (limit_of b)) else column_and name (limits_by AtLeast (limit_of a)) ++ bounds_declared name None (Some (limit_of b)))) [
       | true ↦ (refl, (so_not (is_plus_infinite (limit_of b)) (is-below b up), (last, tt)))
@@ -101,12 +87,12 @@ bound-allowed all name (Finite a) MinusInf h = one-allowed (is_zero a)
   where
     one-allowed : (t : Bool) → Each (λ d. is_allowed all d ≡ true) (if t then [] else column_and name (limits_by AtLeast (limit_of a)))
     one-allowed true = tt
-    one-allowed false = (refl, (so_not (is_plus_infinite (limit_of a)) (is-below a (lower-bounded a MinusInf h)), tt))
+    one-allowed false = (refl, (so_not (is_plus_infinite (limit_of a)) (is-below a (lower_of (Finite a) MinusInf h)), tt))
 bound-allowed all name (Finite a) PlusInf h = one-allowed (is_zero a)
   where
     one-allowed : (t : Bool) → Each (λ d. is_allowed all d ≡ true) (if t then [] else column_and name (limits_by AtLeast (limit_of a)))
     one-allowed true = tt
-    one-allowed false = (refl, (so_not (is_plus_infinite (limit_of a)) (is-below a (lower-bounded a PlusInf h)), tt))
+    one-allowed false = (refl, (so_not (is_plus_infinite (limit_of a)) (is-below a (lower_of (Finite a) PlusInf h)), tt))
 bound-allowed all name MinusInf PlusInf h = (refl, (refl, (refl, tt)))
 bound-allowed all name MinusInf MinusInf h = cc
 bound-allowed all name PlusInf MinusInf h = cc
@@ -268,14 +254,11 @@ one-constant m =
 
 -- ---- the listing of a sound model
 
--- what is needed of a listing
-record IsSoundListing (m : Listing) : Type 0 where
+-- what is needed of a listing beside its soundness
+record HasOtherNames (m : Listing) : Type 0 where
   pub no_row : Each (λ row. same_bytes row.0 m.objective ≡ false) m.rows
-  pub rows : Each (λ row. is_sound_row row ≡ true) m.rows
-  pub columns : Each (λ column. is_sound_column column ≡ true) m.columns
-  pub other_rows : AreOther m.rows
-  pub other_columns : AreOther m.columns
-  pub own : Each (IsFound m) m.columns
+  pub rows : AreOther m.rows
+  pub columns : AreOther m.columns
   pub some : 0 < length m.columns
 
 none-named : {X : Type 0} (name : List ℕ) (es : List (List ℕ × X)) → is_one_of (names_in es) name ≡ false → Each (λ e. same_bytes e.0 name ≡ false) es
@@ -288,26 +271,15 @@ same-length : {X Y : Type 0} (f : X → Y) (xs : List X) → length (map f xs) �
 same-length f [] = refl
 same-length f (x ∷ xs) = ap suc (same-length f xs)
 
-sound-listing : (m : LinearModel) → IsSound m → IsSoundListing (listing_of m)
-sound-listing m h = record {
-  no_row = none-named m.objective (entries m.rows) h.objective_is_no_row;
-  rows = Each-from_list_all is_sound_row (entries m.rows) h.rows;
-  columns = Each-from_list_all is_sound_column (entries m.columns) h.columns;
-  other_rows = other-from_sorted (entries m.rows) (true_from (is_sorted bytes_cmp (entries m.rows)) (entries_sorted m.rows));
-  other_columns = other-from_sorted (entries m.columns) (true_from (is_sorted bytes_cmp (entries m.columns)) (entries_sorted m.columns));
-  own = finds_own bytes_cmp bytes_total tied_names (entries m.columns) (entries_sorted m.columns);
-  some = subst (λ (n : ℕ). 0 < n) (same-length (λ (e : List ℕ × Column). e.0) (entries m.columns)) h.has_column;
-}
-
-row_sides : (row : List ℕ × Row) → is_sound_row row ≡ true → are_sides row.1.lower row.1.upper ≡ true
-row_sides row h =
-    first_so (are_sides row.1.lower row.1.upper) (has_bounded_distance row.1.lower row.1.upper)
-    (second_so (is_mps_name row.0) (are_sides row.1.lower row.1.upper && has_bounded_distance row.1.lower row.1.upper) h)
-
-column_sides : (column : List ℕ × Column) → is_sound_column column ≡ true → are_sides column.1.lower column.1.upper ≡ true
-column_sides column h =
-    first_so (are_sides column.1.lower column.1.upper) (suits column.1.kind column.1.lower column.1.upper)
-    (second_so (is_mps_name column.0) (are_sides column.1.lower column.1.upper && suits column.1.kind column.1.lower column.1.upper) h)
+other-names : (m : LinearModel) → IsSound m → HasOtherNames (listing_of m)
+other-names m sound =
+    let h = sound-listing m sound in
+    record {
+      no_row = none-named m.objective (entries m.rows) sound.objective_is_no_row;
+      rows = other-from_sorted (entries m.rows) h.rows_sorted;
+      columns = other-from_sorted (entries m.columns) h.columns_sorted;
+      some = subst (λ (n : ℕ). 0 < n) (same-length (λ (e : List ℕ × Column). e.0) (entries m.columns)) sound.has_column;
+    }
 
 all-allowed : (m : Listing) → IsSoundListing m → list_all (is_allowed (drafted m)) (listed_declarations m) ≡ true
 all-allowed m h = list_all-from_Each (is_allowed (drafted m)) (listed_declarations m) (each-listed (λ d. is_allowed (drafted m) d ≡ true) m (record {
@@ -319,8 +291,8 @@ all-allowed m h = list_all-from_Each (is_allowed (drafted m)) (listed_declaratio
   rows = Each-weaker (λ row. is_sound_row row ≡ true) (λ row. not (have_infinite_side (form_made row.1.lower row.1.upper)) ≡ true) (λ row s. row-allowed row.1.lower row.1.upper (row_sides row s)) m.rows h.rows;
   bounds = Each-weaker (λ column. is_sound_column column ≡ true) (λ column. Each (λ d. is_allowed (drafted m) d ≡ true) (column_made column))
       (λ column s. bound-allowed (drafted m) column.0 column.1.lower column.1.upper (column_sides column s)) m.columns h.columns;
-  generals = general-allowed m h.own;
-  semis = semi-allowed m h.own;
+  generals = general-allowed m (own-found m.columns h.columns_sorted);
+  semis = semi-allowed m (own-found m.columns h.columns_sorted);
 }))
 
 -- ---- the lemmas
@@ -328,9 +300,10 @@ all-allowed m h = list_all-from_Each (is_allowed (drafted m)) (listed_declaratio
 -- Nothing that is printed of a sound model is refused.
 pub listed-unrefused : (m : LinearModel) → IsSound m → refusals_in_turn empty_draft (listed_declarations (listing_of m)) ≡ []
 listed-unrefused m sound =
-    let h = sound-listing m sound in
+    let names = other-names m sound in
     let made = listed_declarations (listing_of m) in
-    none-from_fine_in_turn made empty_draft (fresh-from_once made (listed-once (listing_of m) h.other_columns h.other_rows h.no_row)) (listed-known (listing_of m)) (all-allowed (listing_of m) h) (one-constant (listing_of m))
+    none-from_fine_in_turn made empty_draft (fresh-from_once made (listed-once (listing_of m) names.columns names.rows names.no_row)) (listed-known (listing_of m))
+    (all-allowed (listing_of m) (sound-listing m sound)) (one-constant (listing_of m))
 
 -- It goes together.
 pub listed-consistent : (m : LinearModel) → IsSound m → AreConsistent (listed_declarations (listing_of m))
@@ -339,8 +312,8 @@ listed-consistent m sound = consistent-from_none (listed_declarations (listing_o
 -- The rows of a sound model with LP names are printed with terms, and nothing of its text is refused.
 pub plain-text : (m : LinearModel) → IsSound m → unfit m ≡ None → IsPlainText m
 plain-text m sound fits =
-    let h = sound-listing m sound in
+    let names = other-names m sound in
     record {
-      rows = Each-all (λ row. IsRow (row_terms (listing_of m) row.0)) (λ row. plain-row (listing_of m) (fit-from_sound m sound fits) h.other_columns h.some row.0) (entries m.rows);
+      rows = Each-all (λ row. IsRow (row_terms (listing_of m) row.0)) (λ row. plain-row (listing_of m) (fit-from_sound m sound fits) names.columns names.some row.0) (entries m.rows);
       unrefused = listed-unrefused m sound;
     }

@@ -1,10 +1,11 @@
 -- Laws of canonical LP texts.
-use Rattle.std.specs.Prelude.{◌≡◌, ℕ, List, map, None, IsTrue, is_none}
+use Rattle.std.specs.Prelude.{◌≡◌, ◌↔◌, ℕ, List, map, None, IsTrue, is_none}
 use Rattle.std.specs.List.{list_all}
 use Rattle.std.specs.Str.Lines.{lines}
 use Rattle.mpslp_core.specs.Model.{LinearModel, IsSound}
 use Rattle.mpslp_lp.specs.Token.{Token, tokens}
 use Rattle.mpslp_lp.specs.OwnFault.{own_fault}
+use Rattle.mpslp_lp.specs.LpText.{DeclaresLp}
 use Rattle.mpslp_canonical_lp.specs.Printed.{SeenToken, printed, line_tokens}
 use Rattle.mpslp_canonical_lp.specs.CanonicalLp.{canonical_lines, canonical_lp}
 use Rattle.mpslp_canonical_lp.specs.Unfit.{unfit}
@@ -23,3 +24,15 @@ pub record IsReadAsPrinted (m : LinearModel) : Type 0 where
 -- So it is read where the model is sound and all its names are LP names.
 abbrev pub AreReadAsPrinted : Type 0
 AreReadAsPrinted = (m : LinearModel) → IsSound m → unfit m ≡ None → IsReadAsPrinted m
+
+-- The canonical text of a sound model with LP names declares it.
+abbrev pub DeclareTheirModels : Type 0
+DeclareTheirModels = (m : LinearModel) → IsSound m → unfit m ≡ None → DeclaresLp (canonical_lp m) m
+
+-- Sound models with LP names have the same canonical text exactly if they are the same.
+abbrev pub TellModelsApart : Type 0
+TellModelsApart = (m n : LinearModel) → IsSound m → unfit m ≡ None → IsSound n → unfit n ≡ None → (canonical_lp m ≡ canonical_lp n) ↔ (m ≡ n)
+
+-- What LP text declares is sound, and LP can tell it.
+abbrev pub DeclareWhatFits : Type 0
+DeclareWhatFits = (bytes : List ℕ) (m : LinearModel) → DeclaresLp bytes m → IsSound m × (unfit m ≡ None)

@@ -1,0 +1,262 @@
+-- Entries in the order of their keys: put one after another, made of what some elements have, and filtered.
+use Rattle.std.proofs.Common.{◌≡◌, refl, sym, ap, subst, ◌∙◌, List, [], ◌∷◌, ◌++◌, Bool, true, false, not, cond}
+use Rattle.std.specs.Prelude.{Option, Some, None, is_some, filter, ◌||◌}
+use Rattle.std.specs.List.{flat_map, list_any}
+use Rattle.std.specs.Ordering.{is_eq, is_lt, eq_by_cmp}
+use Rattle.std.specs.Cmp.{IsTotalOrder, first_so, second_so}
+use Rattle.std.specs.declared.cmp.Ordering.{Ordering}
+use Rattle.std.specs.declared.cmp.Ordering.TheVariants.{Less, Equal, Greater}
+use Rattle.std.specs.FinMap.{find, put, is_sorted}
+use Rattle.std.specs.FinMap.Entries.{find-put, same_entries, below_all}
+use Rattle.mpslp_types.proofs.BoolLemmas.{both_so, or_left, or_right, T_from, true_from}
+use Rattle.mpslp_types.proofs.EachLemmas.{Each, Each-weaker}
+use Rattle.mpslp_core.proofs.PutsLemmas.{equal_from, puts, is_sorted-puts, puts-give, finds_own, some_append_left, some_append_right}
+
+-- the first if it is there, else the second
+abbrev pub first_there : {X : Type 0} → Option X → Option X → Option X
+first_there (Some x) other = Some x
+first_there None other = other
+
+-- what a value makes, if there is one
+abbrev pub then_told : {X V : Type 0} → (X → Option V) → Option X → Option V
+then_told f None = None
+then_told f (Some x) = f x
+
+-- an entry, if there is a value
+abbrev pub told : {K V : Type 0} → K → Option V → List (K × V)
+told key None = []
+told key (Some value) = (key, value) ∷ []
+
+below_not_tied : (r : Ordering) → is_lt r ≡ true → is_eq r ≡ false
+below_not_tied Less h = refl
+below_not_tied Equal h = cc
+below_not_tied Greater h = cc
+
+module _ {K X : Type 0} (R : K → K → Ordering) where
+  pub find-join : (q : K) (xs ys : List (K × X)) → find R q (xs ++ ys) ≡ first_there (find R q xs) (find R q ys)
+  find-join q [] ys = refl
+  find-join q (x ∷ xs) ys =
+      elim (eq_by_cmp R q x.0) as (λ b. cond b (Some x.1) (find R q (xs ++ ys)) ≡ first_there (cond b (Some x.1) (find R q xs)) (find R q ys)) [
+        | true ↦ refl
+        | false ↦ find-join q xs ys
+      ]
+
+  -- a key that is below all is not found
+  none-later : (x : K) (es : List (K × X)) → below_all R x es ≡ true → find R x es ≡ None
+  none-later x [] h = refl
+  none-later x (e ∷ es) h =
+      ap (λ (b : Bool). cond b (Some e.1) (find R x es)) (below_not_tied (R x e.0) (first_so (is_lt (R x e.0)) (below_all R x es) h))
+      ∙ none-later x es (second_so (is_lt (R x e.0)) (below_all R x es) h)
+
+  below-kept : (p : K × X → Bool) (x : K) (es : List (K × X)) → below_all R x es ≡ true → below_all R x (filter p es) ≡ true
+  below-kept p x [] h = refl
+  below-kept p x (e ∷ es) h =
+      let rest = below-kept p x es (second_so (is_lt (R x e.0)) (below_all R x es) h) in
+      elim (p e) as (λ b. below_all R x (cond b (e ∷ filter p es) (filter p es)) ≡ true) [
+        | true ↦ both_so (is_lt (R x e.0)) (below_all R x (filter p es)) (first_so (is_lt (R x e.0)) (below_all R x es) h) rest
+        | false ↦ rest
+      ]
+
+  pub sorted-kept : (p : K × X → Bool) (es : List (K × X)) → is_sorted R es ≡ true → is_sorted R (filter p es) ≡ true
+  sorted-kept p [] h = refl
+  sorted-kept p (e ∷ es) h =
+      let rest = sorted-kept p es (second_so (below_all R e.0 es) (is_sorted R es) h) in
+      elim (p e) as (λ b. is_sorted R (cond b (e ∷ filter p es) (filter p es)) ≡ true) [
+        | true ↦ both_so (below_all R e.0 (filter p es)) (is_sorted R (filter p es)) (below-kept p e.0 es (first_so (below_all R e.0 es) (is_sorted R es) h)) rest
+        | false ↦ rest
+      ]
+
+  module _ (o : IsTotalOrder R) (same : (x y : K) → R x y ≡ Equal → x ≡ y) where
+    -- a key that ties with one that is below all is not found
+    none-tied : (q x : K) (es : List (K × X)) → eq_by_cmp R q x ≡ true → below_all R x es ≡ true → find R q es ≡ None
+    none-tied q x es tie below = ap (λ (k : K). find R k es) (same q x (equal_from (R q x) tie)) ∙ none-later x es below
+
+    -- what is found after entries in order were put
+    pub find-puts : (q : K) (es base : List (K × X)) → is_sorted R es ≡ true → find R q (puts R es base) ≡ first_there (find R q es) (find R q base)
+    find-puts q [] base h = refl
+    find-puts q (e ∷ es) base h =
+        find-puts q es (put R e.0 e.1 base) (second_so (below_all R e.0 es) (is_sorted R es) h)
+        ∙ ap (first_there (find R q es)) (find-put R o q e.0 e.1 base)
+        ∙ by (eq_by_cmp R q e.0) refl
+      where
+        by : (b : Bool) → eq_by_cmp R q e.0 ≡ b → first_there (find R q es) (cond b (Some e.1) (find R q base)) ≡ first_there (cond b (Some e.1) (find R q es)) (find R q base)
+        by true tie = ap (λ (f : Option X). first_there f (Some e.1)) (none-tied q e.0 es tie (first_so (below_all R e.0 es) (is_sorted R es) h))
+        by false tie = refl
+
+    -- entries in order, put, stay as they are
+    pub puts-own : (es : List (K × X)) → is_sorted R es ≡ true → puts R es [] ≡ es
+    puts-own es h =
+        let own = finds_own R o same es (T_from (is_sorted R es) h) in
+        puts-give R o same es es (T_from (is_sorted R es) h) own
+        (Each-weaker (λ e. find R e.0 es ≡ Some e.1) (λ e. is_some (find R e.0 es) ≡ true) (λ e is. ap is_some is) es own)
+
+    -- what holds of all entries that are put holds of each that is found
+    pub found-puts : (Q : K → X → Type 0) (es base : List (K × X)) → Each (λ e. Q e.0 e.1) es → ((q : K) (x : X) → find R q base ≡ Some x → Q q x)
+        → (q : K) (x : X) → find R q (puts R es base) ≡ Some x → Q q x
+    found-puts Q [] base h was q x is = was q x is
+    found-puts Q (e ∷ es) base h was q x is = found-puts Q es (put R e.0 e.1 base) h.1 now q x is
+      where
+        unwrap : (v y : X) → ◌≡◌ {A = Option X} (Some v) (Some y) → v ≡ y
+        unwrap v y e = cc
+
+        now : (k : K) (y : X) → find R k (put R e.0 e.1 base) ≡ Some y → Q k y
+        now k y here = by (eq_by_cmp R k e.0) refl (sym (find-put R o k e.0 e.1 base) ∙ here)
+          where
+            by : (b : Bool) → eq_by_cmp R k e.0 ≡ b → cond b (Some e.1) (find R k base) ≡ Some y → Q k y
+            by true tie at =
+                let key : e.0 ≡ k = sym (same k e.0 (equal_from (R k e.0) tie)) in
+                subst (λ (j : K). Q j y) key (subst (λ (v : X). Q e.0 v) (unwrap e.1 y at) h.0)
+            by false tie at = was k y at
+
+    -- what holds of each entry holds of each that is found
+    pub found-each : (P : K → X → Type 0) (es : List (K × X)) → Each (λ e. P e.0 e.1) es → (q : K) (v : X) → find R q es ≡ Some v → P q v
+    found-each P [] h q v is = absurd (nothing v is)
+      where
+        nothing : (y : X) → ◌≡◌ {A = Option X} None (Some y) → ⊥
+        nothing y e = cc
+    found-each P (e ∷ es) h q v is = by (eq_by_cmp R q e.0) refl is (λ more. found-each P es h.1 q v more)
+      where
+        unwrap : (x y : X) → ◌≡◌ {A = Option X} (Some x) (Some y) → x ≡ y
+        unwrap x y e = cc
+
+        by : (b : Bool) → eq_by_cmp R q e.0 ≡ b → cond b (Some e.1) (find R q es) ≡ Some v → (find R q es ≡ Some v → P q v) → P q v
+        by true tie at more = subst (λ (k : K). P k v) (sym (same q e.0 (equal_from (R q e.0) tie))) (subst (λ (x : X). P e.0 x) (unwrap e.1 v at) h.0)
+        by false tie at more = more at
+
+    kept_put : (q k : K) (v : X) (base : List (K × X)) → is_some (find R q base) ≡ true → is_some (find R q (put R k v base)) ≡ true
+    kept_put q k v base h = ap is_some (find-put R o q k v base) ∙ by (eq_by_cmp R q k)
+      where
+        by : (b : Bool) → is_some (cond b (Some v) (find R q base)) ≡ true
+        by true = refl
+        by false = h
+
+    kept_puts : (q : K) (es base : List (K × X)) → is_some (find R q base) ≡ true → is_some (find R q (puts R es base)) ≡ true
+    kept_puts q [] base h = h
+    kept_puts q (e ∷ es) base h = kept_puts q es (put R e.0 e.1 base) (kept_put q e.0 e.1 base h)
+
+    -- what is among the entries is found after they are put
+    pub some-puts : (q : K) (es base : List (K × X)) → is_some (find R q es) ≡ true → is_some (find R q (puts R es base)) ≡ true
+    some-puts q [] base h = cc
+    some-puts q (e ∷ es) base h = by (eq_by_cmp R q e.0) refl (λ is. some-puts q es (put R e.0 e.1 base) is) h
+      where
+        by : (b : Bool) → eq_by_cmp R q e.0 ≡ b → (is_some (find R q es) ≡ true → is_some (find R q (puts R es (put R e.0 e.1 base))) ≡ true) → is_some (cond b (Some e.1) (find R q es)) ≡ true
+            → is_some (find R q (puts R es (put R e.0 e.1 base))) ≡ true
+        by true tie more is = kept_puts q es (put R e.0 e.1 base) (ap is_some (find-put R o q e.0 e.1 base) ∙ ap (λ (b : Bool). is_some (cond b (Some e.1) (find R q base))) tie)
+        by false tie more is = more is
+
+    -- what is found among the entries whose values are kept
+    pub find-kept : (keep : X → Bool) (q : K) (es : List (K × X)) → is_sorted R es ≡ true
+        → find R q (filter (λ e. keep e.1) es) ≡ then_told (λ x. cond (keep x) (Some x) None) (find R q es)
+    find-kept keep q [] h = refl
+    find-kept keep q (e ∷ es) h = by (eq_by_cmp R q e.0) refl (find-kept keep q es (second_so (below_all R e.0 es) (is_sorted R es) h))
+      where
+        by : (b : Bool) → eq_by_cmp R q e.0 ≡ b → find R q (filter (λ x. keep x.1) es) ≡ then_told (λ x. cond (keep x) (Some x) None) (find R q es)
+            → find R q (cond (keep e.1) (e ∷ filter (λ x. keep x.1) es) (filter (λ x. keep x.1) es)) ≡ then_told (λ x. cond (keep x) (Some x) None) (cond b (Some e.1) (find R q es))
+        by true tie more = elim (keep e.1) as (λ k. find R q (cond k (e ∷ filter (λ x. keep x.1) es) (filter (λ x. keep x.1) es)) ≡ cond k (Some e.1) None) [
+          | true ↦ ap (λ (b : Bool). cond b (Some e.1) (find R q (filter (λ x. keep x.1) es))) tie
+          | false ↦ more ∙ ap (then_told (λ x. cond (keep x) (Some x) None)) (none-tied q e.0 es tie (first_so (below_all R e.0 es) (is_sorted R es) h))
+        ]
+        by false tie more = elim (keep e.1) as (λ k. find R q (cond k (e ∷ filter (λ x. keep x.1) es) (filter (λ x. keep x.1) es)) ≡ then_told (λ x. cond (keep x) (Some x) None) (find R q es)) [
+          | true ↦ ap (λ (b : Bool). cond b (Some e.1) (find R q (filter (λ x. keep x.1) es))) tie ∙ more
+          | false ↦ more
+        ]
+
+    -- Entries of which those kept are the target's, and the others are at none of its keys, give the target when they are put and filtered.
+    pub puts-kept : (keep : X → Bool) (target es : List (K × X)) → is_sorted R target ≡ true → Each (λ e. find R e.0 target ≡ cond (keep e.1) (Some e.1) None) es
+        → ((q : K) → is_some (find R q target) ≡ true → is_some (find R q es) ≡ true) → filter (λ e. keep e.1) (puts R es []) ≡ target
+    puts-kept keep target es sorted own all =
+        let drafted = puts R es [] in
+        let in_order : is_sorted R drafted ≡ true = true_from (is_sorted R drafted) (is_sorted-puts R o same es [] tt) in
+        same_entries R o same (filter (λ e. keep e.1) drafted) target (T_from _ (sorted-kept (λ e. keep e.1) drafted in_order)) (T_from (is_sorted R target) sorted)
+        (λ q. find-kept keep q drafted in_order ∙ alike q (find R q drafted) refl)
+      where
+        never : (y : X) → ◌≡◌ {A = Option X} None (Some y) → ⊥
+        never y e = cc
+
+        none_of : (t : Option X) → (is_some t ≡ true → ⊥) → None ≡ t
+        none_of None h = refl
+        none_of (Some x) h = absurd (h refl)
+
+        no_none : false ≡ true → ⊥
+        no_none e = cc
+
+        alike : (q : K) (f : Option X) → find R q (puts R es []) ≡ f → then_told (λ x. cond (keep x) (Some x) None) f ≡ find R q target
+        alike q (Some x) is = sym (found-puts (λ k v. find R k target ≡ cond (keep v) (Some v) None) es [] own (λ k y none. absurd (never y none)) q x is)
+        alike q None is = none_of (find R q target) (λ there. no_none (sym (ap is_some is) ∙ some-puts q es [] (all q there)))
+
+-- what some of the entries make
+abbrev pub all_told : {K X V : Type 0} → (X → Option V) → List (K × X) → List (K × V)
+all_told f xs = flat_map (λ x. told x.0 (f x.1)) xs
+
+module _ {K X V : Type 0} (R : K → K → Ordering) (f : X → Option V) where
+  below-told : (k : K) (xs : List (K × X)) → below_all R k xs ≡ true → below_all R k (all_told f xs) ≡ true
+  below-told k [] h = refl
+  below-told k (x ∷ xs) h =
+      let rest = below-told k xs (second_so (is_lt (R k x.0)) (below_all R k xs) h) in
+      elim (f x.1) as (λ v. below_all R k (told x.0 v ++ all_told f xs) ≡ true) [
+        | None ↦ rest
+        | Some v ↦ both_so (is_lt (R k x.0)) (below_all R k (all_told f xs)) (first_so (is_lt (R k x.0)) (below_all R k xs) h) rest
+      ]
+
+  -- entries that some of sorted ones make are sorted
+  pub sorted-told : (xs : List (K × X)) → is_sorted R xs ≡ true → is_sorted R (all_told f xs) ≡ true
+  sorted-told [] h = refl
+  sorted-told (x ∷ xs) h =
+      let rest = sorted-told xs (second_so (below_all R x.0 xs) (is_sorted R xs) h) in
+      elim (f x.1) as (λ v. is_sorted R (told x.0 v ++ all_told f xs) ≡ true) [
+        | None ↦ rest
+        | Some v ↦ both_so (below_all R x.0 (all_told f xs)) (is_sorted R (all_told f xs)) (below-told x.0 xs (first_so (below_all R x.0 xs) (is_sorted R xs) h)) rest
+      ]
+
+  -- what is found among them
+  pub find-told : (o : IsTotalOrder R) (same : (x y : K) → R x y ≡ Equal → x ≡ y) (q : K) (xs : List (K × X)) → is_sorted R xs ≡ true → find R q (all_told f xs) ≡ then_told f (find R q xs)
+  find-told o same q [] h = refl
+  find-told o same q (x ∷ xs) h = by (eq_by_cmp R q x.0) refl (f x.1) refl (find-told o same q xs (second_so (below_all R x.0 xs) (is_sorted R xs) h))
+    where
+      by : (b : Bool) → eq_by_cmp R q x.0 ≡ b → (v : Option V) → f x.1 ≡ v → find R q (all_told f xs) ≡ then_told f (find R q xs)
+          → find R q (told x.0 v ++ all_told f xs) ≡ then_told f (cond b (Some x.1) (find R q xs))
+      by true tie (Some v) is more = ap (λ (b : Bool). cond b (Some v) (find R q (all_told f xs))) tie ∙ sym is
+      by true tie None is more = more ∙ ap (then_told f) (none-tied R o same q x.0 xs tie (first_so (below_all R x.0 xs) (is_sorted R xs) h)) ∙ sym is
+      by false tie (Some v) is more = ap (λ (b : Bool). cond b (Some v) (find R q (all_told f xs))) tie ∙ more
+      by false tie None is more = more
+
+-- ---- lists in two parts
+
+pub filter-not_not : {X : Type 0} (p : X → Bool) (xs : List X) → filter (λ x. not (not (p x))) xs ≡ filter p xs
+filter-not_not p [] = refl
+filter-not_not p (x ∷ xs) =
+    elim (p x) as (λ b. cond (not (not b)) (x ∷ filter (λ y. not (not (p y))) xs) (filter (λ y. not (not (p y))) xs) ≡ cond b (x ∷ filter p xs) (filter p xs)) [
+      | true ↦ ap (λ (ys : List _). x ∷ ys) (filter-not_not p xs)
+      | false ↦ filter-not_not p xs
+    ]
+
+module _ {K X Y : Type 0} (R : K → K → Ordering) (o : IsTotalOrder R) (same : (x y : K) → R x y ≡ Equal → x ≡ y) (f : Y → List (K × X)) where
+  abbrev SomeIn : K → List (K × X) → List (K × X) → Type 0
+  SomeIn q left right = (is_some (find R q left) || is_some (find R q right)) ≡ true
+
+  wider_left : (q : K) (own left right : List (K × X)) → SomeIn q left right → SomeIn q (own ++ left) right
+  wider_left q own left right h = by (is_some (find R q left)) refl h
+    where
+      by : (a : Bool) → is_some (find R q left) ≡ a → (a || is_some (find R q right)) ≡ true → SomeIn q (own ++ left) right
+      by true e k = or_left (is_some (find R q (own ++ left))) (is_some (find R q right)) (some_append_right R o same q own left e)
+      by false e k = or_right (is_some (find R q (own ++ left))) (is_some (find R q right)) k
+
+  wider_right : (q : K) (own left right : List (K × X)) → SomeIn q left right → SomeIn q left (own ++ right)
+  wider_right q own left right h = by (is_some (find R q left)) refl h
+    where
+      by : (a : Bool) → is_some (find R q left) ≡ a → (a || is_some (find R q right)) ≡ true → SomeIn q left (own ++ right)
+      by true e k = or_left (is_some (find R q left)) (is_some (find R q (own ++ right))) e
+      by false e k = or_right (is_some (find R q left)) (is_some (find R q (own ++ right))) (some_append_right R o same q own right k)
+
+  -- what is found among an element's own is found in one of the two parts
+  pub found-either : (p hit : Y → Bool) (q : K) (xs : List Y) → list_any hit xs ≡ true → ((y : Y) → hit y ≡ true → is_some (find R q (f y)) ≡ true)
+      → SomeIn q (flat_map f (filter p xs)) (flat_map f (filter (λ y. not (p y)) xs))
+  found-either p hit q [] h some = cc
+  found-either p hit q (x ∷ xs) h some = by (hit x) refl h (λ k. found-either p hit q xs k some) (p x)
+    where
+      by : (b : Bool) → hit x ≡ b → (b || list_any hit xs) ≡ true → (list_any hit xs ≡ true → SomeIn q (flat_map f (filter p xs)) (flat_map f (filter (λ y. not (p y)) xs))) → (c : Bool)
+          → SomeIn q (flat_map f (cond c (x ∷ filter p xs) (filter p xs))) (flat_map f (cond (not c) (x ∷ filter (λ y. not (p y)) xs) (filter (λ y. not (p y)) xs)))
+      by true e k more true = or_left (is_some (find R q (f x ++ flat_map f (filter p xs)))) _ (some_append_left R o same q (f x) (flat_map f (filter p xs)) (some x e))
+      by true e k more false = or_right (is_some (find R q (flat_map f (filter p xs)))) _ (some_append_left R o same q (f x) (flat_map f (filter (λ y. not (p y)) xs)) (some x e))
+      by false e k more true = wider_left q (f x) (flat_map f (filter p xs)) (flat_map f (filter (λ y. not (p y)) xs)) (more k)
+      by false e k more false = wider_right q (f x) (flat_map f (filter p xs)) (flat_map f (filter (λ y. not (p y)) xs)) (more k)

@@ -1,0 +1,249 @@
+-- Each map of what the declarations of a listing's canonical text put into a draft.
+use Rattle.std.proofs.Common.{◌≡◌, refl, ap, ◌∙◌, List, [], ◌∷◌, ◌++◌, ℕ, true, false, map}
+use Rattle.std.specs.Prelude.{Some, None, filter, if◌then◌else◌}
+use Rattle.std.specs.List.{flat_map}
+use Rattle.std.proofs.lemmas.List.{append-nil}
+use Rattle.mpslp_decimal.specs.Decimal.{Number, is_zero}
+use Rattle.mpslp_core.specs.Model.{Row, Column, CoefficientKey}
+use Rattle.mpslp_types.specs.Sides.{limit_of}
+use Rattle.mpslp_builder.specs.Declaration.{RowForm, Declaration, declare_column, declare_lower, declare_upper, bounds_declared}
+use Rattle.mpslp_types.specs.declared.kinds.Limit.{Limit}
+use Rattle.mpslp_types.specs.declared.kinds.Limit.TheVariants.{MinusInf, Finite, PlusInf}
+use Rattle.mpslp_builder.proofs.CoefficientLemmas.{flat_map-none}
+use Rattle.mpslp_builder.proofs.DraftLemmas.{row_part, rhs_part, range_part, column_part, coefficient_part, lower_part, upper_part, marked_part, integer_part, binary_part, semi_part}
+use Rattle.mpslp_lp.specs.Sides.{limits_by}
+use Rattle.mpslp_lp.specs.declared.relations.Relation.TheVariants.{AtLeast, EqualTo}
+use Rattle.mpslp_canonical_lp.specs.Listing.{Listing}
+use Rattle.mpslp_canonical_lp.specs.CanonicalLp.{Term, have_same_value, objective_terms, row_terms, is_integer_column, is_semi_column}
+use Rattle.mpslp_canonical_lp.proofs.PhraseLemmas.{column_and}
+use Rattle.mpslp_canonical_lp.proofs.BoundsWalk.{bound_made, column_made}
+use Rattle.mpslp_canonical_lp.proofs.TextWalk.{listed_declarations}
+use Rattle.mpslp_canonical_lp.proofs.EntryLemmas.{told, all_told}
+use Rattle.mpslp_canonical_lp.proofs.ListedParts.{form_told, lower_told, upper_told, column_lower, column_upper, flat-singles, PartsOf, all_parts, listed-parts, nothing, nothing_of, named, own_name, without-terms, columns-parts, bounds-parts}
+
+bounds-none : {Y : Type 0} (part : Declaration → List Y) → ((x : List ℕ) → part (declare_column x) ≡ []) → ((x : List ℕ) (l : Limit) → part (declare_lower x l) ≡ []) → ((x : List ℕ) (l : Limit) → part (declare_upper x l) ≡ [])
+    → (column : List ℕ × Column) → flat_map part (column_made column) ≡ []
+bounds-none {Y} part c l u column = by column.1.lower column.1.upper
+  where
+    lower_alone : (a : Limit) → flat_map part (column_and column.0 (limits_by AtLeast a)) ≡ []
+    lower_alone a = λ i. c column.0 i ++ (l column.0 a i ++ [])
+
+    both : (a b : Limit) → flat_map part (column_and column.0 (record { lower = Some a; upper = Some b })) ≡ []
+    both a b = λ i. c column.0 i ++ (l column.0 a i ++ (u column.0 b i ++ []))
+
+    in_turn : (a b : Limit) → flat_map part (column_and column.0 (limits_by AtLeast a) ++ bounds_declared column.0 None (Some b)) ≡ []
+    in_turn a b = λ i. c column.0 i ++ (l column.0 a i ++ (u column.0 b i ++ []))
+
+    by : (lower upper : Limit) → flat_map part (bound_made column.0 lower upper) ≡ []
+    by MinusInf (Finite b) = in_turn MinusInf (limit_of b)
+    by (Finite a) (Finite b) =
+        elim (have_same_value a b) as (λ t. flat_map part (if t then column_and column.0 (limits_by EqualTo (limit_of b)) else column_and column.0 (limits_by AtLeast (limit_of a)) ++ bounds_declared column.0 None (Some (limit_of b))) ≡ []) [
+          | true ↦ both (limit_of b) (limit_of b)
+          | false ↦ in_turn (limit_of a) (limit_of b)
+        ]
+    by (Finite a) MinusInf = elim (is_zero a) as (λ t. flat_map part (if t then [] else column_and column.0 (limits_by AtLeast (limit_of a))) ≡ []) [ true ↦ refl | false ↦ lower_alone (limit_of a) ]
+    by (Finite a) PlusInf = elim (is_zero a) as (λ t. flat_map part (if t then [] else column_and column.0 (limits_by AtLeast (limit_of a))) ≡ []) [ true ↦ refl | false ↦ lower_alone (limit_of a) ]
+    by MinusInf MinusInf = both MinusInf PlusInf
+    by MinusInf PlusInf = both MinusInf PlusInf
+    by PlusInf MinusInf = both MinusInf PlusInf
+    by PlusInf (Finite b) = both MinusInf PlusInf
+    by PlusInf PlusInf = both MinusInf PlusInf
+
+-- ---- rows
+
+abbrev pub row_forms : List (List ℕ × Row) → List (List ℕ × RowForm)
+row_forms rows = map (λ row. (row.0, form_told row.1)) rows
+
+pub rows-part : (m : Listing) → flat_map row_part (listed_declarations m) ≡ row_forms m.rows
+rows-part m =
+    listed-parts row_part (λ row. (row.0, form_told row.1) ∷ []) nothing_of nothing nothing nothing (record {
+      of_sense = λ _. refl;
+      of_objective = λ _. refl;
+      of_constant = λ _. refl;
+      of_row = λ _. refl;
+      of_term = λ _ _. refl;
+      of_bound = bounds-none row_part (λ _. refl) (λ _ _. refl) (λ _ _. refl);
+      of_general = λ _. refl;
+      of_semi = λ _. refl;
+    }) m
+    ∙ without-terms (λ row. (row.0, form_told row.1) ∷ []) m _
+    ∙ (λ i. flat-singles (λ row. (row.0, form_told row.1)) m.rows i ++ (flat_map-none m.columns i ++ (flat_map-none (filter is_integer_column m.columns) i ++ flat_map-none (filter is_semi_column m.columns) i)))
+    ∙ append-nil (row_forms m.rows)
+
+-- ---- bounds
+
+lower-made : (name : List ℕ) (l u : Limit) → flat_map lower_part (bound_made name l u) ≡ told name (lower_told l u)
+lower-made name MinusInf (Finite b) = refl
+lower-made name (Finite a) (Finite b) =
+    elim (have_same_value a b) as (λ t. flat_map lower_part (if t then column_and name (limits_by EqualTo (limit_of b)) else column_and name (limits_by AtLeast (limit_of a)) ++ bounds_declared name None (Some (limit_of b)))
+    ≡ told name (if t then Some (limit_of b) else Some (limit_of a))) [ true ↦ refl | false ↦ refl ]
+lower-made name (Finite a) MinusInf =
+    elim (is_zero a) as (λ t. flat_map lower_part (if t then [] else column_and name (limits_by AtLeast (limit_of a))) ≡ told name (if t then None else Some (limit_of a))) [ true ↦ refl | false ↦ refl ]
+lower-made name (Finite a) PlusInf =
+    elim (is_zero a) as (λ t. flat_map lower_part (if t then [] else column_and name (limits_by AtLeast (limit_of a))) ≡ told name (if t then None else Some (limit_of a))) [ true ↦ refl | false ↦ refl ]
+lower-made name MinusInf MinusInf = refl
+lower-made name MinusInf PlusInf = refl
+lower-made name PlusInf MinusInf = refl
+lower-made name PlusInf (Finite b) = refl
+lower-made name PlusInf PlusInf = refl
+
+upper-made : (name : List ℕ) (l u : Limit) → flat_map upper_part (bound_made name l u) ≡ told name (upper_told l u)
+upper-made name MinusInf (Finite b) = refl
+upper-made name (Finite a) (Finite b) =
+    elim (have_same_value a b) as (λ t. flat_map upper_part (if t then column_and name (limits_by EqualTo (limit_of b)) else column_and name (limits_by AtLeast (limit_of a)) ++ bounds_declared name None (Some (limit_of b)))
+    ≡ told name (Some (limit_of b))) [ true ↦ refl | false ↦ refl ]
+upper-made name (Finite a) MinusInf = elim (is_zero a) as (λ t. flat_map upper_part (if t then [] else column_and name (limits_by AtLeast (limit_of a))) ≡ []) [ true ↦ refl | false ↦ refl ]
+upper-made name (Finite a) PlusInf = elim (is_zero a) as (λ t. flat_map upper_part (if t then [] else column_and name (limits_by AtLeast (limit_of a))) ≡ []) [ true ↦ refl | false ↦ refl ]
+upper-made name MinusInf MinusInf = refl
+upper-made name MinusInf PlusInf = refl
+upper-made name PlusInf MinusInf = refl
+upper-made name PlusInf (Finite b) = refl
+upper-made name PlusInf PlusInf = refl
+
+pub lowers-part : (m : Listing) → flat_map lower_part (listed_declarations m) ≡ all_told column_lower m.columns
+lowers-part =
+    bounds-parts lower_part (λ column. told column.0 (column_lower column.1)) (record {
+      of_sense = λ _. refl;
+      of_objective = λ _. refl;
+      of_constant = λ _. refl;
+      of_row = λ _. refl;
+      of_term = λ _ _. refl;
+      of_bound = λ column. lower-made column.0 column.1.lower column.1.upper;
+      of_general = λ _. refl;
+      of_semi = λ _. refl;
+    })
+
+pub uppers-part : (m : Listing) → flat_map upper_part (listed_declarations m) ≡ all_told column_upper m.columns
+uppers-part =
+    bounds-parts upper_part (λ column. told column.0 (column_upper column.1)) (record {
+      of_sense = λ _. refl;
+      of_objective = λ _. refl;
+      of_constant = λ _. refl;
+      of_row = λ _. refl;
+      of_term = λ _ _. refl;
+      of_bound = λ column. upper-made column.0 column.1.lower column.1.upper;
+      of_general = λ _. refl;
+      of_semi = λ _. refl;
+    })
+
+pub integers-part : (m : Listing) → flat_map integer_part (listed_declarations m) ≡ map named (filter is_integer_column m.columns)
+integers-part m =
+    columns-parts integer_part nothing own_name nothing (record {
+      of_sense = λ _. refl;
+      of_objective = λ _. refl;
+      of_constant = λ _. refl;
+      of_row = λ _. refl;
+      of_term = λ _ _. refl;
+      of_bound = bounds-none integer_part (λ _. refl) (λ _ _. refl) (λ _ _. refl);
+      of_general = λ _. refl;
+      of_semi = λ _. refl;
+    }) m
+    ∙ (λ i. flat_map-none m.columns i ++ (flat-singles named (filter is_integer_column m.columns) i ++ flat_map-none (filter is_semi_column m.columns) i))
+    ∙ append-nil (map named (filter is_integer_column m.columns))
+
+pub semis-part : (m : Listing) → flat_map semi_part (listed_declarations m) ≡ map named (filter is_semi_column m.columns)
+semis-part m =
+    columns-parts semi_part nothing nothing own_name (record {
+      of_sense = λ _. refl;
+      of_objective = λ _. refl;
+      of_constant = λ _. refl;
+      of_row = λ _. refl;
+      of_term = λ _ _. refl;
+      of_bound = bounds-none semi_part (λ _. refl) (λ _ _. refl) (λ _ _. refl);
+      of_general = λ _. refl;
+      of_semi = λ _. refl;
+    }) m
+    ∙ (λ i. flat_map-none m.columns i ++ (flat_map-none (filter is_integer_column m.columns) i ++ flat-singles named (filter is_semi_column m.columns) i))
+
+-- the names that the bounds of a column tell
+abbrev pub bound_names : List ℕ × Column → List (List ℕ × Unit {0})
+bound_names column = flat_map column_part (column_made column)
+
+-- columns are named by terms, by bounds and by their kinds
+pub columns-part : (m : Listing) → flat_map column_part (listed_declarations m) ≡ all_parts column_part nothing (λ _. own_name) bound_names own_name own_name m
+columns-part =
+    listed-parts column_part nothing (λ _. own_name) bound_names own_name own_name (record {
+      of_sense = λ _. refl;
+      of_objective = λ _. refl;
+      of_constant = λ _. refl;
+      of_row = λ _. refl;
+      of_term = λ _ _. refl;
+      of_bound = λ _. refl;
+      of_general = λ _. refl;
+      of_semi = λ _. refl;
+    })
+
+abbrev pub own_coefficient : List ℕ → Term → List (CoefficientKey × Number)
+own_coefficient row term = (record { row = row; column = term.0 }, term.1) ∷ []
+
+pub coefficients-part : (m : Listing)
+    → flat_map coefficient_part (listed_declarations m) ≡ flat_map (own_coefficient m.objective) (objective_terms m) ++ flat_map (λ row. flat_map (own_coefficient row.0) (row_terms m row.0)) m.rows
+coefficients-part m =
+    let rows = flat_map (λ row. flat_map (own_coefficient row.0) (row_terms m row.0)) m.rows in
+    listed-parts coefficient_part nothing own_coefficient nothing nothing nothing (record {
+      of_sense = λ _. refl;
+      of_objective = λ _. refl;
+      of_constant = λ _. refl;
+      of_row = λ _. refl;
+      of_term = λ _ _. refl;
+      of_bound = bounds-none coefficient_part (λ _. refl) (λ _ _. refl) (λ _ _. refl);
+      of_general = λ _. refl;
+      of_semi = λ _. refl;
+    }) m
+    ∙ (λ i. flat_map (own_coefficient m.objective) (objective_terms m) ++ (rows ++ (flat_map-none m.columns i ++ (flat_map-none (filter is_integer_column m.columns) i ++ flat_map-none (filter is_semi_column m.columns) i))))
+    ∙ ap (λ (es : List (CoefficientKey × Number)). flat_map (own_coefficient m.objective) (objective_terms m) ++ es) (append-nil rows)
+
+-- nothing is declared of these kinds
+abbrev HasNoPart : {Y : Type 0} → (Declaration → List Y) → Type 0
+HasNoPart part = PartsOf part nothing nothing_of nothing nothing nothing
+
+no-part : {Y : Type 0} (part : Declaration → List Y) → HasNoPart part → (m : Listing) → flat_map part (listed_declarations m) ≡ []
+no-part part h m = bounds-parts part nothing h m ∙ flat_map-none m.columns
+
+pub no-right_sides : (m : Listing) → flat_map rhs_part (listed_declarations m) ≡ []
+no-right_sides = no-part rhs_part (record {
+  of_sense = λ _. refl;
+  of_objective = λ _. refl;
+  of_constant = λ _. refl;
+  of_row = λ _. refl;
+  of_term = λ _ _. refl;
+  of_bound = bounds-none rhs_part (λ _. refl) (λ _ _. refl) (λ _ _. refl);
+  of_general = λ _. refl;
+  of_semi = λ _. refl;
+})
+
+pub no-ranges : (m : Listing) → flat_map range_part (listed_declarations m) ≡ []
+no-ranges = no-part range_part (record {
+  of_sense = λ _. refl;
+  of_objective = λ _. refl;
+  of_constant = λ _. refl;
+  of_row = λ _. refl;
+  of_term = λ _ _. refl;
+  of_bound = bounds-none range_part (λ _. refl) (λ _ _. refl) (λ _ _. refl);
+  of_general = λ _. refl;
+  of_semi = λ _. refl;
+})
+
+pub no-marks : (m : Listing) → flat_map marked_part (listed_declarations m) ≡ []
+no-marks = no-part marked_part (record {
+  of_sense = λ _. refl;
+  of_objective = λ _. refl;
+  of_constant = λ _. refl;
+  of_row = λ _. refl;
+  of_term = λ _ _. refl;
+  of_bound = bounds-none marked_part (λ _. refl) (λ _ _. refl) (λ _ _. refl);
+  of_general = λ _. refl;
+  of_semi = λ _. refl;
+})
+
+pub no-binaries : (m : Listing) → flat_map binary_part (listed_declarations m) ≡ []
+no-binaries = no-part binary_part (record {
+  of_sense = λ _. refl;
+  of_objective = λ _. refl;
+  of_constant = λ _. refl;
+  of_row = λ _. refl;
+  of_term = λ _ _. refl;
+  of_bound = bounds-none binary_part (λ _. refl) (λ _ _. refl) (λ _ _. refl);
+  of_general = λ _. refl;
+  of_semi = λ _. refl;
+})

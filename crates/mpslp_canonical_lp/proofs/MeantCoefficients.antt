@@ -1,0 +1,103 @@
+-- The coefficients that are declared, but for the zeros, are the listing's.
+use Rattle.std.proofs.Common.{◌≡◌, refl, sym, ap, ◌∙◌, List, [], ◌∷◌, ◌++◌, ℕ, Bool, true, false, not, cond}
+use Rattle.std.specs.Prelude.{Option, Some, None, filter, filter_map, if◌then◌else◌}
+use Rattle.std.specs.List.{flat_map, cons_option}
+use Rattle.std.specs.Option.{option_map}
+use Rattle.std.specs.Cmp.{first_so, second_so}
+use Rattle.std.specs.FinMap.{find}
+use Rattle.mpslp_decimal.specs.Decimal.{Number, is_decimal, is_zero, zero_number}
+use Rattle.mpslp_core.specs.Model.{Row, Column, CoefficientKey, key_cmp}
+use Rattle.mpslp_builder.specs.Declaration.{empty_draft}
+use Rattle.mpslp_types.proofs.EachLemmas.{Each, Each-weaker, Each-append, Each-flat_map, Each-all}
+use Rattle.mpslp_core.proofs.PutsLemmas.{puts}
+use Rattle.mpslp_builder.proofs.DraftLemmas.{coefficients-all}
+use Rattle.mpslp_builder.proofs.DraftEntries.{same_key}
+use Rattle.mpslp_builder.proofs.LaterDrafts.{value_in}
+use Rattle.mpslp_builder.proofs.SortedDrafts.{key_total}
+use Rattle.mpslp_canonical_lp.specs.Listing.{Listing}
+use Rattle.mpslp_canonical_lp.specs.CanonicalLp.{Term, term_in, has_coefficients, objective_term, objective_terms, some_term, row_terms}
+use Rattle.mpslp_canonical_lp.proofs.PrintableLemmas.{Holds, each-filter_map}
+use Rattle.mpslp_canonical_lp.proofs.TextWalk.{listed_declarations}
+use Rattle.mpslp_canonical_lp.proofs.EntryLemmas.{puts-kept, found-each}
+use Rattle.mpslp_canonical_lp.proofs.SoundListing.{is_sound_entry, IsSoundListing}
+use Rattle.mpslp_canonical_lp.proofs.ListedParts.{drafted}
+use Rattle.mpslp_canonical_lp.proofs.ListedMaps.{own_coefficient, coefficients-part}
+use Rattle.mpslp_canonical_lp.proofs.PrintedTerms.{place_at, no-coefficient, each-printed}
+
+abbrev is_kept : Number → Bool
+is_kept value = not (is_zero value)
+
+-- what is printed at a key is what is there; 0 is printed where nothing is
+abbrev IsTrueEntry : Listing → CoefficientKey × Number → Type 0
+IsTrueEntry m entry = find key_cmp entry.0 m.coefficients ≡ cond (is_kept entry.1) (Some entry.1) None
+
+abbrev IsTrueTerm : Listing → List ℕ → Term → Type 0
+IsTrueTerm m row term = IsTrueEntry m (place_at row term.0, term.1)
+
+module _ (m : Listing) (h : IsSoundListing m) where
+  kept : (key : CoefficientKey) (value : Number) → find key_cmp key m.coefficients ≡ Some value → is_kept value ≡ true
+  kept key value is =
+      first_so (is_kept value) _ (second_so (is_decimal value) _ (found-each key_cmp key_total same_key (λ k v. is_sound_entry m (k, v) ≡ true) m.coefficients h.coefficients key value is))
+
+  term-true : (row : List ℕ) (column : List ℕ × Column) → Holds (IsTrueTerm m row) (term_in m row column)
+  term-true row column = by (find key_cmp (place_at row column.0) m.coefficients) refl
+    where
+      by : (o : Option Number) → find key_cmp (place_at row column.0) m.coefficients ≡ o → Holds (IsTrueTerm m row) (option_map (λ (value : Number). (column.0, value)) o)
+      by None is = tt
+      by (Some d) is = is ∙ sym (ap (λ (b : Bool). cond b (Some d) None) (kept (place_at row column.0) d is))
+
+  terms-true : (row : List ℕ) (columns : List (List ℕ × Column)) → Each (IsTrueTerm m row) (filter_map (term_in m row) columns)
+  terms-true row columns = each-filter_map (IsTrueTerm m row) (term_in m row) columns (Each-all (λ column. Holds (IsTrueTerm m row) (term_in m row column)) (term-true row) columns)
+
+  -- ---- the objective
+
+  objective-term-true : (column : List ℕ × Column) → Holds (IsTrueTerm m m.objective) (objective_term m column)
+  objective-term-true column = by (has_coefficients m column) refl
+    where
+      by : (b : Bool) → has_coefficients m column ≡ b → Holds (IsTrueTerm m m.objective) (if b then term_in m m.objective column else Some (column.0, zero_number))
+      by true e = term-true m.objective column
+      by false e = no-coefficient m m.objective column e
+
+  objective-true : Each (IsTrueTerm m m.objective) (objective_terms m)
+  objective-true = each-filter_map (IsTrueTerm m m.objective) (objective_term m) m.columns (Each-all (λ column. Holds (IsTrueTerm m m.objective) (objective_term m column)) objective-term-true m.columns)
+
+  -- ---- rows
+
+  none-first : (row : List ℕ) (column : List ℕ × Column) (terms : List Term) → cons_option (term_in m row column) terms ≡ [] → find key_cmp (place_at row column.0) m.coefficients ≡ None
+  none-first row column terms is = by (find key_cmp (place_at row column.0) m.coefficients) is
+    where
+      by : (o : Option Number) → cons_option (option_map (λ (value : Number). (column.0, value)) o) terms ≡ [] → o ≡ None
+      by None k = refl
+      by (Some d) k = cc
+
+  row-true : (row : List ℕ) (columns : List (List ℕ × Column)) → Each (IsTrueTerm m row) (some_term columns (filter_map (term_in m row) columns))
+  row-true row [] = tt
+  row-true row (column ∷ columns) = by (filter_map (term_in m row) (column ∷ columns)) refl (terms-true row (column ∷ columns))
+    where
+      by : (terms : List Term) → filter_map (term_in m row) (column ∷ columns) ≡ terms → Each (IsTrueTerm m row) terms → Each (IsTrueTerm m row) (some_term (column ∷ columns) terms)
+      by [] is k = (none-first row column (filter_map (term_in m row) columns) is, tt)
+      by (term ∷ terms) is k = k
+
+  -- ---- all entries
+
+  entries-true : (row : List ℕ) (terms : List Term) → Each (IsTrueTerm m row) terms → Each (IsTrueEntry m) (flat_map (own_coefficient row) terms)
+  entries-true row terms k = Each-flat_map (IsTrueEntry m) (own_coefficient row) terms (Each-weaker (IsTrueTerm m row) (λ term. Each (IsTrueEntry m) (own_coefficient row term)) (λ term is. (is, tt)) terms k)
+
+  abbrev row_coefficients : List ℕ × Row → List (CoefficientKey × Number)
+  row_coefficients row = flat_map (own_coefficient row.0) (row_terms m row.0)
+
+  all-true : Each (IsTrueEntry m) (flat_map (own_coefficient m.objective) (objective_terms m) ++ flat_map row_coefficients m.rows)
+  all-true =
+      Each-append (IsTrueEntry m) (flat_map (own_coefficient m.objective) (objective_terms m)) (flat_map row_coefficients m.rows)
+      (entries-true m.objective (objective_terms m) objective-true)
+      (Each-flat_map (IsTrueEntry m) row_coefficients m.rows (Each-all (λ row. Each (IsTrueEntry m) (row_coefficients row)) (λ row. entries-true row.0 (row_terms m row.0) (row-true row.0 m.columns)) m.rows))
+
+  -- The coefficients that are declared, but for the zeros, are the listing's.
+  pub coefficients-kept : filter (λ entry. not (is_zero entry.1)) (drafted m).coefficients ≡ m.coefficients
+  coefficients-kept =
+      ap (filter (λ (entry : CoefficientKey × Number). not (is_zero entry.1)))
+      (coefficients-all (listed_declarations m) empty_draft ∙ ap (λ (es : List (CoefficientKey × Number)). puts key_cmp es []) (coefficients-part m))
+      ∙ puts-kept key_cmp key_total same_key is_kept m.coefficients (flat_map (own_coefficient m.objective) (objective_terms m) ++ flat_map row_coefficients m.rows) h.coefficients_sorted all-true
+      (λ key some.
+      let found = value_in (find key_cmp key m.coefficients) some in
+      each-printed key_cmp key_total same_key place_at (λ (term : Term). term.1) m h key found.0 found.1)

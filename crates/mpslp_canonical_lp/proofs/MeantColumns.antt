@@ -1,0 +1,201 @@
+-- The columns that are declared are the listing's: each has its kind and its bounds.
+use Rattle.std.proofs.Common.{◌≡◌, refl, sym, ap, ◌∙◌, List, [], ◌∷◌, ℕ, Bool, true, false, not, cond, map}
+use Rattle.std.specs.Prelude.{Option, Some, None, is_some, is_none, unwrap_or, filter, ◌&&◌, ◌||◌, if◌then◌else◌}
+use Rattle.std.specs.List.{list_all}
+use Rattle.std.specs.Ordering.{eq_by_cmp}
+use Rattle.mpslp_decimal.specs.Decimal.{Number, is_zero}
+use Rattle.mpslp_decimal.proofs.NumberTextLemmas.{zero-is}
+use Rattle.mpslp_decimal.proofs.OrderLemmas.{same_decimal}
+use Rattle.mpslp_core.specs.Model.{Column}
+use Rattle.mpslp_types.specs.Name.{bytes_cmp}
+use Rattle.mpslp_types.specs.Sides.{limit_of, is_at_most, is_bounded_decimal, is_lower_side, is_upper_side}
+use Rattle.mpslp_types.specs.declared.kinds.Kind.{Kind}
+use Rattle.mpslp_types.specs.declared.kinds.Kind.TheVariants.{Continuous, Integer, Semi}
+use Rattle.mpslp_types.specs.declared.kinds.Limit.{Limit}
+use Rattle.mpslp_types.specs.declared.kinds.Limit.TheVariants.{MinusInf, Finite, PlusInf}
+use Rattle.mpslp_builder.specs.Declaration.{empty_draft, at_name, has_name, names_in}
+use Rattle.mpslp_builder.specs.Bounds.{zero_limit, one_limit, lower_bound, upper_bound, column_of, has_negative_upper, has_binary_bounds}
+use Rattle.mpslp_types.proofs.EachLemmas.{Each, Each-weaker, Each-map, Each-all, list_all-from_Each}
+use Rattle.mpslp_core.proofs.PutsLemmas.{puts}
+use Rattle.mpslp_builder.proofs.BoundsLemmas as kinds
+use Rattle.mpslp_builder.proofs.BoundsLemmas.{column_of-is}
+use Rattle.mpslp_builder.proofs.DraftLemmas.{lowers-all, uppers-all, marked-all, integers-all, binaries-all, semis-all}
+use Rattle.mpslp_builder.proofs.MeaningFromNoFault.{sorted-mapped}
+use Rattle.mpslp_builder.proofs.SortedDrafts.{bytes_total, tied_names}
+use Rattle.mpslp_canonical_lp.specs.Listing.{Listing}
+use Rattle.mpslp_canonical_lp.specs.CanonicalLp.{have_same_value, is_integer_kind, is_semi_kind, is_integer_column, is_semi_column}
+use Rattle.mpslp_canonical_lp.proofs.TextWalk.{listed_declarations}
+use Rattle.mpslp_canonical_lp.proofs.EntryLemmas.{then_told, all_told, puts-own, find-kept, find-told, sorted-told, sorted-kept}
+use Rattle.mpslp_canonical_lp.proofs.SoundListing.{IsSoundListing, IsOwnColumn, own-columns, column_sides, lower_of, upper_of, straight_of, bounded_so, bounded_finite}
+use Rattle.mpslp_canonical_lp.proofs.ListedParts.{lower_told, upper_told, column_lower, column_upper, named, drafted}
+use Rattle.mpslp_canonical_lp.proofs.ListedMaps.{lowers-part, uppers-part, integers-part, semis-part, no-marks, no-binaries}
+use Rattle.mpslp_canonical_lp.proofs.NamedColumns.{columns-drafted}
+
+-- ---- sides, kinds
+
+pub lower-at : (m : Listing) → IsSoundListing m → (q : List ℕ) → at_name (drafted m).lowers q ≡ then_told column_lower (at_name m.columns q)
+lower-at m h q =
+    ap (λ (es : List (List ℕ × Limit)). at_name es q)
+    (lowers-all (listed_declarations m) empty_draft ∙ ap (λ (es : List (List ℕ × Limit)). puts bytes_cmp es []) (lowers-part m)
+    ∙ puts-own bytes_cmp bytes_total tied_names (all_told column_lower m.columns) (sorted-told bytes_cmp column_lower m.columns h.columns_sorted))
+    ∙ find-told bytes_cmp column_lower bytes_total tied_names q m.columns h.columns_sorted
+
+pub upper-at : (m : Listing) → IsSoundListing m → (q : List ℕ) → at_name (drafted m).uppers q ≡ then_told column_upper (at_name m.columns q)
+upper-at m h q =
+    ap (λ (es : List (List ℕ × Limit)). at_name es q)
+    (uppers-all (listed_declarations m) empty_draft ∙ ap (λ (es : List (List ℕ × Limit)). puts bytes_cmp es []) (uppers-part m)
+    ∙ puts-own bytes_cmp bytes_total tied_names (all_told column_upper m.columns) (sorted-told bytes_cmp column_upper m.columns h.columns_sorted))
+    ∙ find-told bytes_cmp column_upper bytes_total tied_names q m.columns h.columns_sorted
+
+-- the names of the columns that pass a test
+named-own : (m : Listing) → IsSoundListing m → (p : List ℕ × Column → Bool) → puts bytes_cmp (map named (filter p m.columns)) [] ≡ map named (filter p m.columns)
+named-own m h p =
+    puts-own bytes_cmp bytes_total tied_names (map named (filter p m.columns)) (sorted-mapped (λ _. tt) (filter p m.columns) ∙ sorted-kept bytes_cmp p m.columns h.columns_sorted)
+
+at-named : (q : List ℕ) (columns : List (List ℕ × Column)) → has_name (map named columns) q ≡ is_some (at_name columns q)
+at-named q [] = refl
+at-named q (column ∷ columns) =
+    elim (eq_by_cmp bytes_cmp q column.0) as (λ b. is_some (cond b (Some tt) (at_name (map named columns) q)) ≡ is_some (cond b (Some column.1) (at_name columns q))) [
+      | true ↦ refl
+      | false ↦ at-named q columns
+    ]
+
+-- whether a column is among those whose kind passes
+kind-at : (m : Listing) → IsSoundListing m → (p : Kind → Bool) (q : List ℕ) (column : Column) → at_name m.columns q ≡ Some column → has_name (map named (filter (λ (c : List ℕ × Column). p c.1.kind) m.columns)) q ≡ p column.kind
+kind-at m h p q column is =
+    at-named q (filter (λ (c : List ℕ × Column). p c.1.kind) m.columns)
+    ∙ ap is_some (find-kept bytes_cmp bytes_total tied_names (λ (c : Column). p c.kind) q m.columns h.columns_sorted ∙ ap (then_told (λ (c : Column). cond (p c.kind) (Some c) None)) is)
+    ∙ by (p column.kind)
+  where
+    by : (b : Bool) → is_some (cond b (Some column) None) ≡ b
+    by true = refl
+    by false = refl
+
+integers-drafted : (m : Listing) → IsSoundListing m → (drafted m).integers ≡ map named (filter is_integer_column m.columns)
+integers-drafted m h =
+    integers-all (listed_declarations m) empty_draft ∙ ap (λ (es : List (List ℕ × Unit {0})). puts bytes_cmp es []) (integers-part m) ∙ named-own m h is_integer_column
+
+semis-drafted : (m : Listing) → IsSoundListing m → (drafted m).semis ≡ map named (filter is_semi_column m.columns)
+semis-drafted m h =
+    semis-all (listed_declarations m) empty_draft ∙ ap (λ (es : List (List ℕ × Unit {0})). puts bytes_cmp es []) (semis-part m) ∙ named-own m h is_semi_column
+
+marked-none : (m : Listing) → (drafted m).marked ≡ []
+marked-none m = marked-all (listed_declarations m) empty_draft ∙ ap (λ (es : List (List ℕ × Unit {0})). puts bytes_cmp es []) (no-marks m)
+
+binaries-none : (m : Listing) → (drafted m).binaries ≡ []
+binaries-none m = binaries-all (listed_declarations m) empty_draft ∙ ap (λ (es : List (List ℕ × Unit {0})). puts bytes_cmp es []) (no-binaries m)
+
+-- ---- bounds come back from what is told and the defaults
+
+unless-zero : (a : Number) → is_bounded_decimal a ≡ true → unwrap_or (if is_zero a then None else Some (limit_of a)) zero_limit ≡ Finite a
+unless-zero a p = by (is_zero a) refl
+  where
+    by : (b : Bool) → is_zero a ≡ b → unwrap_or (if b then None else Some (limit_of a)) zero_limit ≡ Finite a
+    by true e = ap (λ (d : Number). Finite d) (sym (zero-is a (bounded_so a p) e))
+    by false e = bounded_finite a p
+
+either-same : (a b : Number) → is_bounded_decimal a ≡ true → is_bounded_decimal b ≡ true → unwrap_or (if have_same_value a b then Some (limit_of b) else Some (limit_of a)) zero_limit ≡ Finite a
+either-same a b p q = by (have_same_value a b) refl
+  where
+    by : (t : Bool) → have_same_value a b ≡ t → unwrap_or (if t then Some (limit_of b) else Some (limit_of a)) zero_limit ≡ Finite a
+    by true e = bounded_finite b q ∙ ap (λ (d : Number). Finite d) (sym (same_decimal a b (bounded_so a p) (bounded_so b q) e))
+    by false e = bounded_finite a p
+
+no_side : false ≡ true → ⊥
+no_side e = cc
+
+lower-back : (l u : Limit) → is_lower_side l ≡ true → is_upper_side u ≡ true → unwrap_or (lower_told l u) zero_limit ≡ l
+lower-back MinusInf (Finite b) p q = refl
+lower-back MinusInf PlusInf p q = refl
+lower-back (Finite a) (Finite b) p q = either-same a b p q
+lower-back (Finite a) PlusInf p q = unless-zero a p
+lower-back MinusInf MinusInf p q = absurd (no_side q)
+lower-back (Finite a) MinusInf p q = absurd (no_side q)
+lower-back PlusInf u p q = absurd (no_side p)
+
+upper-back : (l u : Limit) → is_lower_side l ≡ true → is_upper_side u ≡ true → unwrap_or (upper_told l u) PlusInf ≡ u
+upper-back MinusInf (Finite b) p q = bounded_finite b q
+upper-back MinusInf PlusInf p q = refl
+upper-back (Finite a) (Finite b) p q = bounded_finite b q
+upper-back (Finite a) PlusInf p q = refl
+upper-back MinusInf MinusInf p q = absurd (no_side q)
+upper-back (Finite a) MinusInf p q = absurd (no_side q)
+upper-back PlusInf u p q = absurd (no_side p)
+
+same_integer : (k : Kind) → is_integer_kind k ≡ kinds.is_integer_kind k
+same_integer Integer = refl
+same_integer Continuous = refl
+same_integer Semi = refl
+
+same_semi : (k : Kind) → is_semi_kind k ≡ kinds.is_semi_kind k
+same_semi Integer = refl
+same_semi Continuous = refl
+same_semi Semi = refl
+
+or_none : (b : Bool) → (false || (b || false)) ≡ b
+or_none true = refl
+or_none false = refl
+
+-- each column has its kind and bounds
+pub bounds-back : (m : Listing) → IsSoundListing m → (column : List ℕ × Column) → IsOwnColumn m column → column_of (drafted m) column.0 ≡ column.1
+bounds-back m h column k =
+    let name = column.0 in
+    let l = column.1.lower in
+    let u = column.1.upper in
+    let sides = column_sides column k.0 in
+    let marked = marked-none m in
+    let binaries = binaries-none m in
+    column_of-is (drafted m) name column.1
+    ((λ i. has_name (marked i) name || (has_name (integers-drafted m h i) name || has_name (binaries i) name))
+    ∙ or_none (has_name (map named (filter is_integer_column m.columns)) name)
+    ∙ kind-at m h is_integer_kind name column.1 k.1 ∙ same_integer column.1.kind)
+    (ap (λ (es : List (List ℕ × Unit {0})). has_name es name) (semis-drafted m h) ∙ kind-at m h is_semi_kind name column.1 k.1 ∙ same_semi column.1.kind)
+    (ap (λ (o : Option Limit). unwrap_or o zero_limit) (lower-at m h name ∙ ap (then_told column_lower) k.1) ∙ lower-back l u (lower_of l u sides) (upper_of l u sides))
+    ((λ i. unwrap_or ((upper-at m h name ∙ ap (then_told column_upper) k.1) i)
+    (if has_name (binaries i) name || (has_name (marked i) name && (is_none (at_name (drafted m).lowers name) && is_none (at_name (drafted m).uppers name))) then one_limit else PlusInf))
+    ∙ upper-back l u (lower_of l u sides) (upper_of l u sides))
+
+pub columns-back : (m : Listing) → IsSoundListing m → map (λ column. (column.0, column_of (drafted m) column.0)) (drafted m).columns ≡ m.columns
+columns-back m h =
+    ap (map (λ (column : List ℕ × Unit {0}). (column.0, column_of (drafted m) column.0))) (columns-drafted m h)
+    ∙ each-back m.columns (own-columns m h)
+  where
+    each-back : (columns : List (List ℕ × Column)) → Each (IsOwnColumn m) columns → map (λ (column : List ℕ × Unit {0}). (column.0, column_of (drafted m) column.0)) (map named columns) ≡ columns
+    each-back [] k = refl
+    each-back (column ∷ columns) k = λ i. (column.0, bounds-back m h column k.0 i) ∷ each-back columns k.1 i
+
+-- ---- no upper bound below 0 without a lower one, and nothing binary
+
+nonnegative-upper : (m : Listing) → IsSoundListing m → (column : List ℕ × Column) → IsOwnColumn m column → not (has_negative_upper (drafted m) column.0) ≡ true
+nonnegative-upper m h column k = by (at_name (drafted m).lowers column.0) refl
+  where
+    ordered : is_at_most (lower_bound (drafted m) column.0) (upper_bound (drafted m) column.0) ≡ true
+    ordered = ap (λ (c : Column). is_at_most c.lower c.upper) (bounds-back m h column k) ∙ straight_of column.1.lower column.1.upper (column_sides column k.0)
+
+    fine : (b : Bool) → b ≡ true → not (true && not b) ≡ true
+    fine true e = refl
+    fine false e = e
+
+    by : (o : Option Limit) → at_name (drafted m).lowers column.0 ≡ o → not (is_none (at_name (drafted m).lowers column.0) && not (is_at_most zero_limit (upper_bound (drafted m) column.0))) ≡ true
+    by (Some l) is = ap (λ (o : Option Limit). not (is_none o && not (is_at_most zero_limit (upper_bound (drafted m) column.0)))) is
+    by None is =
+        ap (λ (o : Option Limit). not (is_none o && not (is_at_most zero_limit (upper_bound (drafted m) column.0)))) is
+        ∙ fine (is_at_most zero_limit (upper_bound (drafted m) column.0)) (ap (λ (o : Option Limit). is_at_most (unwrap_or o zero_limit) (upper_bound (drafted m) column.0)) (sym is) ∙ ordered)
+
+no-binary : (m : Listing) (name : List ℕ) → not (has_binary_bounds (drafted m) name) ≡ true
+no-binary m name =
+    ap (λ (es : List (List ℕ × Unit {0})). not (has_name es name && not (is_at_most zero_limit (lower_bound (drafted m) name) && is_at_most (upper_bound (drafted m) name) one_limit))) (binaries-none m)
+
+column-names : (m : Listing) → IsSoundListing m → (p : List ℕ → Bool) → Each (λ column. p column.0 ≡ true) m.columns → list_all p (names_in (drafted m).columns) ≡ true
+column-names m h p each =
+    ap (λ (es : List (List ℕ × Unit {0})). list_all p (names_in es)) (columns-drafted m h)
+    ∙ list_all-from_Each p (names_in (map named m.columns)) (Each-map (λ name. p name ≡ true) (λ (e : List ℕ × Unit {0}). e.0) (map named m.columns) (Each-map (λ (e : List ℕ × Unit {0}). p e.0 ≡ true) named m.columns each))
+
+pub no-negative_upper : (m : Listing) → IsSoundListing m → list_all (λ name. not (has_negative_upper (drafted m) name)) (names_in (drafted m).columns) ≡ true
+no-negative_upper m h =
+    column-names m h (λ name. not (has_negative_upper (drafted m) name))
+    (Each-weaker (IsOwnColumn m) (λ column. not (has_negative_upper (drafted m) column.0) ≡ true) (nonnegative-upper m h) m.columns (own-columns m h))
+
+pub binary-within : (m : Listing) → IsSoundListing m → list_all (λ name. not (has_binary_bounds (drafted m) name)) (names_in (drafted m).columns) ≡ true
+binary-within m h =
+    column-names m h (λ name. not (has_binary_bounds (drafted m) name)) (Each-all (λ column. not (has_binary_bounds (drafted m) column.0) ≡ true) (λ column. no-binary m column.0) m.columns)

@@ -1,0 +1,179 @@
+-- The sense, the objective and the constant that are declared are the listing's.
+use Rattle.std.proofs.Common.{◌≡◌, refl, sym, ap, ◌∙◌, List, [], ◌∷◌, ◌++◌, ℕ, Bool, true, false}
+use Rattle.std.specs.Prelude.{Option, Some, None, filter, unwrap_or, if◌then◌else◌}
+use Rattle.std.specs.List.{flat_map}
+use Rattle.mpslp_decimal.specs.Decimal.{Number, IsDecimal, is_zero, zero_number, negated}
+use Rattle.mpslp_decimal.proofs.NumberTextLemmas.{zero-is}
+use Rattle.mpslp_core.specs.Model.{Row, CoefficientKey}
+use Rattle.mpslp_types.specs.Name.{bytes_cmp}
+use Rattle.mpslp_types.specs.Sides.{limit_of}
+use Rattle.mpslp_types.specs.declared.kinds.Limit.{Limit}
+use Rattle.mpslp_types.specs.declared.kinds.Limit.TheVariants.{MinusInf, Finite, PlusInf}
+use Rattle.mpslp_builder.specs.Declaration.{RowForm, Declaration, declare_constant, declare_row, declare_column, declare_coefficient, declare_lower, declare_upper, declare_integer, declare_semi, Declarations, Draft, empty_draft, adding, adding_all, at_name, bounds_declared}
+use Rattle.mpslp_builder.specs.Meaning.{objective_name, constant_of}
+use Rattle.mpslp_types.proofs.EachLemmas.{Each, Each-append, Each-flat_map, Each-all}
+use Rattle.mpslp_core.proofs.PutsLemmas.{puts}
+use Rattle.mpslp_builder.proofs.DraftLemmas.{rhs_values-all}
+use Rattle.mpslp_builder.proofs.MadeDrafts.{adding_all-append}
+use Rattle.mpslp_lp.specs.Sides.{limits_by}
+use Rattle.mpslp_lp.specs.Objective.{term_declared, objective_declared}
+use Rattle.mpslp_lp.specs.declared.relations.Relation.TheVariants.{AtLeast, EqualTo}
+use Rattle.mpslp_canonical_lp.specs.Listing.{Listing}
+use Rattle.mpslp_canonical_lp.specs.CanonicalLp.{Term, have_same_value, objective_terms, row_terms, is_integer_column, is_semi_column}
+use Rattle.mpslp_canonical_lp.proofs.PhraseLemmas.{column_and}
+use Rattle.mpslp_canonical_lp.proofs.ObjectiveWalk.{terms_declared, constant_declared}
+use Rattle.mpslp_canonical_lp.proofs.TailWalk.{general_made, semi_made}
+use Rattle.mpslp_canonical_lp.proofs.BoundsWalk.{bound_made, column_made}
+use Rattle.mpslp_canonical_lp.proofs.TextWalk.{row_made, listed_declarations}
+use Rattle.mpslp_canonical_lp.proofs.ListedParts.{form_told, drafted}
+use Rattle.mpslp_canonical_lp.proofs.ListedMaps.{no-right_sides}
+
+-- ---- what is declared once, or not at all
+
+abbrev Stays : {X : Type 0} → (Draft → X) → X → Declaration → Type 0
+Stays part value d = (all : Draft) → part all ≡ value → part (adding all d) ≡ value
+
+stays-all : {X : Type 0} (part : Draft → X) (value : X) (ds : Declarations) → Each (Stays part value) ds → (all : Draft) → part all ≡ value → part (adding_all all ds) ≡ value
+stays-all part value [] h all is = is
+stays-all part value (d ∷ ds) h all is = stays-all part value ds h.1 (adding all d) (h.0 all is)
+
+-- ---- the declarations of terms, rows and columns, by their kinds
+
+record EachKind (P : Declaration → Type 0) : Type 0 where
+  pub of_row : (x : List ℕ) (form : RowForm) → P (declare_row x form)
+  pub of_column : (x : List ℕ) → P (declare_column x)
+  pub of_coefficient : (key : CoefficientKey) (v : Number) → P (declare_coefficient key v)
+  pub of_lower : (x : List ℕ) (l : Limit) → P (declare_lower x l)
+  pub of_upper : (x : List ℕ) (l : Limit) → P (declare_upper x l)
+  pub of_integer : (x : List ℕ) → P (declare_integer x)
+  pub of_semi : (x : List ℕ) → P (declare_semi x)
+
+-- what is declared behind the objective
+abbrev rest_declared : Listing → Declarations
+rest_declared m =
+    flat_map (row_made m) m.rows ++ (flat_map column_made m.columns ++ (flat_map general_made (filter is_integer_column m.columns) ++ flat_map semi_made (filter is_semi_column m.columns)))
+
+module _ (P : Declaration → Type 0) (h : EachKind P) where
+  each-terms : (row : List ℕ) (terms : List Term) → Each P (terms_declared row terms)
+  each-terms row terms =
+      Each-flat_map P (term_declared row) terms
+      (Each-all (λ (term : Term). Each P (term_declared row term)) (λ term. (h.of_column term.0, (h.of_coefficient (record { row = row; column = term.0 }) term.1, tt))) terms)
+
+  each-row : (m : Listing) (row : List ℕ × Row) → Each P (row_made m row)
+  each-row m row = (h.of_row row.0 (form_told row.1), each-terms row.0 (row_terms m row.0))
+
+  both : (x : List ℕ) (a b : Limit) → Each P (column_and x (record { lower = Some a; upper = Some b }))
+  both x a b = (h.of_column x, (h.of_lower x a, (h.of_upper x b, tt)))
+
+  in_turn : (x : List ℕ) (a b : Limit) → Each P (column_and x (limits_by AtLeast a) ++ bounds_declared x None (Some b))
+  in_turn x a b = (h.of_column x, (h.of_lower x a, (h.of_upper x b, tt)))
+
+  unless_default : (x : List ℕ) (a : Number) → Each P (if is_zero a then [] else column_and x (limits_by AtLeast (limit_of a)))
+  unless_default x a = elim (is_zero a) as (λ t. Each P (if t then [] else column_and x (limits_by AtLeast (limit_of a)))) [ true ↦ tt | false ↦ (h.of_column x, (h.of_lower x (limit_of a), tt)) ]
+
+  each-bound : (x : List ℕ) (lower upper : Limit) → Each P (bound_made x lower upper)
+  each-bound x MinusInf (Finite b) = in_turn x MinusInf (limit_of b)
+  each-bound x (Finite a) (Finite b) =
+      elim (have_same_value a b) as (λ t. Each P (if t then column_and x (limits_by EqualTo (limit_of b)) else column_and x (limits_by AtLeast (limit_of a)) ++ bounds_declared x None (Some (limit_of b)))) [
+        | true ↦ both x (limit_of b) (limit_of b)
+        | false ↦ in_turn x (limit_of a) (limit_of b)
+      ]
+  each-bound x (Finite a) MinusInf = unless_default x a
+  each-bound x (Finite a) PlusInf = unless_default x a
+  each-bound x MinusInf MinusInf = both x MinusInf PlusInf
+  each-bound x MinusInf PlusInf = both x MinusInf PlusInf
+  each-bound x PlusInf MinusInf = both x MinusInf PlusInf
+  each-bound x PlusInf (Finite b) = both x MinusInf PlusInf
+  each-bound x PlusInf PlusInf = both x MinusInf PlusInf
+
+  each-rest : (m : Listing) → Each P (rest_declared m)
+  each-rest m =
+      Each-append P (flat_map (row_made m) m.rows) _ (Each-flat_map P (row_made m) m.rows (Each-all (λ row. Each P (row_made m row)) (each-row m) m.rows))
+      (Each-append P (flat_map column_made m.columns) _
+      (Each-flat_map P column_made m.columns (Each-all (λ column. Each P (column_made column)) (λ column. each-bound column.0 column.1.lower column.1.upper) m.columns))
+      (Each-append P (flat_map general_made (filter is_integer_column m.columns)) (flat_map semi_made (filter is_semi_column m.columns))
+      (Each-flat_map P general_made (filter is_integer_column m.columns) (Each-all (λ column. Each P (general_made column)) (λ column. (h.of_column column.0, (h.of_integer column.0, tt))) (filter is_integer_column m.columns)))
+      (Each-flat_map P semi_made (filter is_semi_column m.columns) (Each-all (λ column. Each P (semi_made column)) (λ column. (h.of_column column.0, (h.of_semi column.0, tt))) (filter is_semi_column m.columns)))))
+
+  -- and in its items
+  each-behind : ((v : Number) → P (declare_constant v)) → (m : Listing) → Each P ((terms_declared m.objective (objective_terms m) ++ constant_declared m.constant) ++ rest_declared m)
+  each-behind k m =
+      Each-append P (terms_declared m.objective (objective_terms m) ++ constant_declared m.constant) (rest_declared m)
+      (Each-append P (terms_declared m.objective (objective_terms m)) (constant_declared m.constant) (each-terms m.objective (objective_terms m))
+      (elim (is_zero m.constant) as (λ t. Each P (if t then [] else declare_constant m.constant ∷ [])) [ true ↦ tt | false ↦ (k m.constant, tt) ]))
+      (each-rest m)
+
+-- ---- the sense and the objective
+
+abbrev begun : Listing → Draft
+begun m = adding_all empty_draft (objective_declared m.sense m.objective)
+
+pub sense-drafted : (m : Listing) → (drafted m).sense ≡ Some m.sense
+sense-drafted m =
+    stays-all (λ d. d.sense) (Some m.sense) _
+    (each-behind (Stays (λ d. d.sense) (Some m.sense)) (record {
+      of_row = λ _ _ all is. is;
+      of_column = λ _ all is. is;
+      of_coefficient = λ _ _ all is. is;
+      of_lower = λ _ _ all is. is;
+      of_upper = λ _ _ all is. is;
+      of_integer = λ _ all is. is;
+      of_semi = λ _ all is. is;
+    }) (λ _ all is. is) m) (begun m) refl
+
+pub objective-drafted : (m : Listing) → (drafted m).objective ≡ Some m.objective
+objective-drafted m =
+    stays-all (λ d. d.objective) (Some m.objective) _
+    (each-behind (Stays (λ d. d.objective) (Some m.objective)) (record {
+      of_row = λ _ _ all is. is;
+      of_column = λ _ all is. is;
+      of_coefficient = λ _ _ all is. is;
+      of_lower = λ _ _ all is. is;
+      of_upper = λ _ _ all is. is;
+      of_integer = λ _ all is. is;
+      of_semi = λ _ all is. is;
+    }) (λ _ all is. is) m) (begun m) refl
+
+-- ---- the constant
+
+keeps-constant : (value : Option Number) → EachKind (Stays (λ d. d.constant) value)
+keeps-constant value = record {
+  of_row = λ _ _ all is. is;
+  of_column = λ _ all is. is;
+  of_coefficient = λ _ _ all is. is;
+  of_lower = λ _ _ all is. is;
+  of_upper = λ _ _ all is. is;
+  of_integer = λ _ all is. is;
+  of_semi = λ _ all is. is;
+}
+
+-- it is told unless it is 0
+abbrev told_constant : Number → Option Number
+told_constant value = if is_zero value then None else Some value
+
+constant-added : (all : Draft) (value : Number) → all.constant ≡ None → (adding_all all (constant_declared value)).constant ≡ told_constant value
+constant-added all value none =
+    elim (is_zero value) as (λ t. (adding_all all (if t then [] else declare_constant value ∷ [])).constant ≡ (if t then None else Some value)) [ true ↦ none | false ↦ refl ]
+
+constant-drafted : (m : Listing) → (drafted m).constant ≡ told_constant m.constant
+constant-drafted m =
+    let terms = terms_declared m.objective (objective_terms m) in
+    let constant = constant_declared m.constant in
+    ap (λ (all : Draft). all.constant) (adding_all-append (terms ++ constant) (rest_declared m) (begun m))
+    ∙ stays-all (λ d. d.constant) (told_constant m.constant) (rest_declared m) (each-rest (Stays (λ d. d.constant) (told_constant m.constant)) (keeps-constant (told_constant m.constant)) m)
+    (adding_all (begun m) (terms ++ constant))
+    (ap (λ (all : Draft). all.constant) (adding_all-append terms constant (begun m))
+    ∙ constant-added (adding_all (begun m) terms) m.constant
+    (stays-all (λ d. d.constant) None terms (each-terms (Stays (λ d. d.constant) None) (keeps-constant None) m.objective (objective_terms m)) (begun m) refl))
+
+no-right_side : (m : Listing) → (drafted m).rhs_values ≡ []
+no-right_side m = rhs_values-all (listed_declarations m) empty_draft ∙ ap (λ (es : List (List ℕ × Number)). puts bytes_cmp es []) (no-right_sides m)
+
+pub constant-back : (m : Listing) → IsDecimal m.constant → constant_of (drafted m) ≡ m.constant
+constant-back m h =
+    (λ i. unwrap_or (constant-drafted m i) (negated (unwrap_or (at_name (no-right_side m i) (objective_name (drafted m))) zero_number)))
+    ∙ by (is_zero m.constant) refl
+  where
+    by : (b : Bool) → is_zero m.constant ≡ b → unwrap_or (if b then None else Some m.constant) zero_number ≡ m.constant
+    by true e = sym (zero-is m.constant h e)
+    by false e = refl

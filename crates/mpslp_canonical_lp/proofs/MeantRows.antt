@@ -1,0 +1,87 @@
+-- The rows that are declared are the listing's: each has its limits.
+use Rattle.std.proofs.Common.{◌≡◌, refl, sym, ap, ◌∙◌, List, [], ◌∷◌, ℕ, Bool, true, false, not, map}
+use Rattle.std.specs.Prelude.{Some, None, is_some, if◌then◌else◌}
+use Rattle.std.specs.List.{list_all}
+use Rattle.mpslp_decimal.specs.Decimal.{Number}
+use Rattle.mpslp_decimal.proofs.OrderLemmas.{same_decimal}
+use Rattle.mpslp_core.specs.Model.{Row, is_sound_row}
+use Rattle.mpslp_core.specs.Limits.{has_infinite_rhs}
+use Rattle.mpslp_types.specs.Name.{bytes_cmp}
+use Rattle.mpslp_types.specs.Sides.{limit_of, is_bounded_decimal, is_lower_side, is_upper_side, are_sides}
+use Rattle.mpslp_types.specs.declared.kinds.Limit.{Limit}
+use Rattle.mpslp_types.specs.declared.kinds.Limit.TheVariants.{MinusInf, Finite, PlusInf}
+use Rattle.mpslp_builder.specs.Declaration.{RowForm, by_limits, empty_draft}
+use Rattle.mpslp_builder.specs.Meaning.{row_limits, row_entry, row_passes}
+use Rattle.mpslp_types.proofs.EachLemmas.{Each, Each-map, Each-all, list_all-from_Each}
+use Rattle.mpslp_core.proofs.PutsLemmas.{puts}
+use Rattle.mpslp_builder.proofs.DraftLemmas.{rows-all}
+use Rattle.mpslp_builder.proofs.MeaningFromNoFault.{sorted-mapped}
+use Rattle.mpslp_builder.proofs.SortedDrafts.{bytes_total, tied_names}
+use Rattle.mpslp_lp.specs.Rows.{row_limits as limits_between}
+use Rattle.mpslp_lp.specs.declared.relations.Relation.TheVariants.{AtMost, EqualTo}
+use Rattle.mpslp_canonical_lp.specs.Listing.{Listing}
+use Rattle.mpslp_canonical_lp.specs.CanonicalLp.{have_same_value}
+use Rattle.mpslp_canonical_lp.proofs.RowWalk.{left_of}
+use Rattle.mpslp_canonical_lp.proofs.TextWalk.{listed_declarations}
+use Rattle.mpslp_canonical_lp.proofs.EntryLemmas.{puts-own}
+use Rattle.mpslp_canonical_lp.proofs.SoundListing.{IsSoundListing, row_sides, lower_of, upper_of, bounded_so, bounded_finite}
+use Rattle.mpslp_canonical_lp.proofs.ListedParts.{limits_told, form_of, drafted}
+use Rattle.mpslp_canonical_lp.proofs.ListedMaps.{row_forms, rows-part}
+
+-- limits that are equal are one decimal
+between-told : (a b : Number) → is_bounded_decimal a ≡ true → is_bounded_decimal b ≡ true → form_of (limits_told (Finite a) (Finite b)) ≡ by_limits (Finite a) (Finite b)
+between-told a b p q = by (have_same_value a b) refl
+  where
+    by : (t : Bool) → have_same_value a b ≡ t
+        → form_of (limits_between (left_of (if t then None else Some a)) (if t then EqualTo else AtMost) (limit_of b)) ≡ by_limits (Finite a) (Finite b)
+    by true e = λ i. by_limits ((bounded_finite b q ∙ ap (λ (d : Number). Finite d) (sym (same_decimal a b (bounded_so a p) (bounded_so b q) e))) i) (bounded_finite b q i)
+    by false e = λ i. by_limits (bounded_finite a p i) (bounded_finite b q i)
+
+-- what is told of a row are its limits
+pub limits-back : (lower upper : Limit) → are_sides lower upper ≡ true → form_of (limits_told lower upper) ≡ by_limits lower upper
+limits-back lower upper h = by lower upper (lower_of lower upper h) (upper_of lower upper h)
+  where
+    open_side : false ≡ true → ⊥
+    open_side e = cc
+
+    by : (l u : Limit) → is_lower_side l ≡ true → is_upper_side u ≡ true → form_of (limits_told l u) ≡ by_limits l u
+    by MinusInf (Finite b) p q = ap (by_limits MinusInf) (bounded_finite b q)
+    by MinusInf PlusInf p q = refl
+    by (Finite a) (Finite b) p q = between-told a b p q
+    by (Finite a) PlusInf p q = ap (λ (l : Limit). by_limits l PlusInf) (bounded_finite a p)
+    by MinusInf MinusInf p q = absurd (open_side q)
+    by (Finite a) MinusInf p q = absurd (open_side q)
+    by PlusInf u p q = absurd (open_side p)
+
+abbrev own_form : List ℕ × Row → List ℕ × RowForm
+own_form row = (row.0, by_limits row.1.lower row.1.upper)
+
+forms-own : (rows : List (List ℕ × Row)) → Each (λ row. is_sound_row row ≡ true) rows → row_forms rows ≡ map own_form rows
+forms-own [] h = refl
+forms-own (row ∷ rows) h = λ i. (row.0, limits-back row.1.lower row.1.upper (row_sides row h.0) i) ∷ forms-own rows h.1 i
+
+rows-drafted : (m : Listing) → IsSoundListing m → (drafted m).rows ≡ map own_form m.rows
+rows-drafted m h =
+    rows-all (listed_declarations m) empty_draft
+    ∙ ap (λ (es : List (List ℕ × RowForm)). puts bytes_cmp es []) (rows-part m ∙ forms-own m.rows h.rows)
+    ∙ puts-own bytes_cmp bytes_total tied_names (map own_form m.rows) (sorted-mapped (λ row. by_limits row.1.lower row.1.upper) m.rows ∙ h.rows_sorted)
+
+pub rows-back : (m : Listing) → IsSoundListing m → map (row_entry (drafted m)) (drafted m).rows ≡ m.rows
+rows-back m h = ap (map (row_entry (drafted m))) (rows-drafted m h) ∙ each-back m.rows
+  where
+    each-back : (rows : List (List ℕ × Row)) → map (row_entry (drafted m)) (map own_form rows) ≡ rows
+    each-back [] = refl
+    each-back (row ∷ rows) = ap (λ (more : List (List ℕ × Row)). row ∷ more) (each-back rows)
+
+-- a row by limits has no right side, and its limits are decimals
+pub finite-rows : (m : Listing) → IsSoundListing m → list_all (λ row. not (row_passes (drafted m) has_infinite_rhs row)) (drafted m).rows ≡ true
+finite-rows m h =
+    ap (list_all (λ row. not (row_passes (drafted m) has_infinite_rhs row))) (rows-drafted m h)
+    ∙ list_all-from_Each (λ row. not (row_passes (drafted m) has_infinite_rhs row)) (map own_form m.rows)
+    (Each-map (λ row. not (row_passes (drafted m) has_infinite_rhs row) ≡ true) own_form m.rows (Each-all (λ row. not (row_passes (drafted m) has_infinite_rhs (own_form row)) ≡ true) (λ _. refl) m.rows))
+
+pub exact-rows : (m : Listing) → IsSoundListing m → list_all (λ row. is_some (row_limits (drafted m) row)) (drafted m).rows ≡ true
+exact-rows m h =
+    ap (list_all (λ row. is_some (row_limits (drafted m) row))) (rows-drafted m h)
+    ∙ list_all-from_Each (λ row. is_some (row_limits (drafted m) row)) (map own_form m.rows)
+    (Each-map (λ row. is_some (row_limits (drafted m) row) ≡ true) own_form m.rows (Each-all (λ row. is_some (row_limits (drafted m) (own_form row)) ≡ true) (λ _. refl) m.rows))

@@ -1,0 +1,173 @@
+-- The columns that are declared are those of a sound listing, however often each is named.
+use Rattle.std.proofs.Common.{◌≡◌, refl, sym, ap, ◌∙◌, List, [], ◌∷◌, ◌++◌, ℕ, Bool, true, false, map, append_assoc}
+use Rattle.std.specs.Prelude.{Option, Some, None, is_some, filter, filter_map, ◌||◌, if◌then◌else◌}
+use Rattle.std.specs.List.{flat_map, list_any}
+use Rattle.std.specs.Option.{option_map}
+use Rattle.std.specs.FinMap.{find, is_sorted}
+use Rattle.mpslp_decimal.specs.Decimal.{Number, is_zero, zero_number}
+use Rattle.mpslp_core.specs.Model.{Column, CoefficientKey, key_cmp}
+use Rattle.mpslp_types.specs.Name.{same_bytes, bytes_cmp}
+use Rattle.mpslp_types.specs.Sides.{limit_of}
+use Rattle.mpslp_types.specs.declared.kinds.Limit.{Limit}
+use Rattle.mpslp_types.specs.declared.kinds.Limit.TheVariants.{MinusInf, Finite, PlusInf}
+use Rattle.mpslp_builder.specs.Declaration.{empty_draft, at_name, bounds_declared}
+use Rattle.mpslp_types.proofs.BoolLemmas.{T_from}
+use Rattle.mpslp_types.proofs.EachLemmas.{Each, Each-weaker, Each-append, Each-map, Each-flat_map, Each-filter, Each-all}
+use Rattle.mpslp_core.proofs.PutsLemmas.{puts, puts-give, finds_own, some_append_left}
+use Rattle.mpslp_builder.proofs.DraftEntries.{same_key}
+use Rattle.mpslp_builder.proofs.DraftLemmas.{column_part, columns-all}
+use Rattle.mpslp_builder.proofs.MeaningFromNoFault.{sorted-mapped}
+use Rattle.mpslp_builder.proofs.SlotLemmas.{same_name}
+use Rattle.mpslp_builder.proofs.SortedDrafts.{bytes_total, tied_names, key_total}
+use Rattle.mpslp_lp.specs.Sides.{limits_by}
+use Rattle.mpslp_lp.specs.declared.relations.Relation.TheVariants.{AtLeast, EqualTo}
+use Rattle.mpslp_canonical_lp.specs.Listing.{Listing}
+use Rattle.mpslp_canonical_lp.specs.CanonicalLp.{Term, have_same_value, term_in, has_coefficients, objective_term, objective_terms, some_term, row_terms, is_integer_column, is_semi_column}
+use Rattle.mpslp_canonical_lp.proofs.PhraseLemmas.{column_and}
+use Rattle.mpslp_canonical_lp.proofs.PrintableLemmas.{Holds, each-filter_map}
+use Rattle.mpslp_canonical_lp.proofs.BoundsWalk.{bound_made}
+use Rattle.mpslp_canonical_lp.proofs.TextWalk.{listed_declarations}
+use Rattle.mpslp_canonical_lp.proofs.SoundListing.{IsSoundListing, IsOwnColumn, own-columns}
+use Rattle.mpslp_canonical_lp.proofs.ListedParts.{all_parts, nothing, named, own_name, drafted}
+use Rattle.mpslp_canonical_lp.proofs.ListedMaps.{bound_names, columns-part}
+use Rattle.mpslp_canonical_lp.proofs.PrintedTerms.{found-any, hit, each-printed}
+
+abbrev Names : Type 0
+Names = List (List ℕ × Unit {0})
+
+-- the names that are declared: of terms, of bounds, and of integer and semi-continuous columns
+abbrev listed_names : Listing → Names
+listed_names m = all_parts column_part nothing (λ _. own_name) bound_names own_name own_name m
+
+-- ---- all of them are columns'
+
+module _ (P : List ℕ × Unit {0} → Type 0) where
+  bound-names-hold : (name : List ℕ) (l u : Limit) → P (name, tt) → Each P (flat_map column_part (bound_made name l u))
+  bound-names-hold name MinusInf (Finite b) h = (h, tt)
+  bound-names-hold name (Finite a) (Finite b) h =
+      elim (have_same_value a b) as (λ t. Each P (flat_map column_part (if t then column_and name (limits_by EqualTo (limit_of b)) else column_and name (limits_by AtLeast (limit_of a)) ++ bounds_declared name None (Some (limit_of b))))) [
+        | true ↦ (h, tt)
+        | false ↦ (h, tt)
+      ]
+  bound-names-hold name (Finite a) MinusInf h = elim (is_zero a) as (λ t. Each P (flat_map column_part (if t then [] else column_and name (limits_by AtLeast (limit_of a))))) [ true ↦ tt | false ↦ (h, tt) ]
+  bound-names-hold name (Finite a) PlusInf h = elim (is_zero a) as (λ t. Each P (flat_map column_part (if t then [] else column_and name (limits_by AtLeast (limit_of a))))) [ true ↦ tt | false ↦ (h, tt) ]
+  bound-names-hold name MinusInf MinusInf h = (h, tt)
+  bound-names-hold name MinusInf PlusInf h = (h, tt)
+  bound-names-hold name PlusInf MinusInf h = (h, tt)
+  bound-names-hold name PlusInf (Finite b) h = (h, tt)
+  bound-names-hold name PlusInf PlusInf h = (h, tt)
+
+  abbrev HoldsOfColumn : List ℕ × Column → Type 0
+  HoldsOfColumn column = P (named column)
+
+  abbrev HoldsOfTerm : Term → Type 0
+  HoldsOfTerm term = P (named term)
+
+  term-holds : (m : Listing) (row : List ℕ) (column : List ℕ × Column) → HoldsOfColumn column → Holds HoldsOfTerm (term_in m row column)
+  term-holds m row column h = by (find key_cmp (record { row = row; column = column.0 }) m.coefficients)
+    where
+      by : (o : Option Number) → Holds HoldsOfTerm (option_map (λ (value : Number). (column.0, value)) o)
+      by None = tt
+      by (Some d) = h
+
+  objective-term-holds : (m : Listing) (column : List ℕ × Column) → HoldsOfColumn column → Holds HoldsOfTerm (objective_term m column)
+  objective-term-holds m column h =
+      elim (has_coefficients m column) as (λ b. Holds HoldsOfTerm (if b then term_in m m.objective column else Some (column.0, zero_number))) [
+        | true ↦ term-holds m m.objective column h
+        | false ↦ h
+      ]
+
+  some-holds : (columns : List (List ℕ × Column)) (terms : List Term) → Each HoldsOfColumn columns → Each HoldsOfTerm terms → Each HoldsOfTerm (some_term columns terms)
+  some-holds [] [] c h = tt
+  some-holds [] (term ∷ terms) c h = h
+  some-holds (column ∷ columns) [] c h = (c.0, tt)
+  some-holds (column ∷ columns) (term ∷ terms) c h = h
+
+  terms-named : (terms : List Term) → Each HoldsOfTerm terms → Each P (flat_map own_name terms)
+  terms-named terms h = Each-flat_map P own_name terms (Each-weaker HoldsOfTerm (λ term. Each P (own_name term)) (λ term is. (is, tt)) terms h)
+
+  kept-named : (p : List ℕ × Column → Bool) (columns : List (List ℕ × Column)) → Each HoldsOfColumn columns → Each P (flat_map own_name (filter p columns))
+  kept-named p columns h =
+      Each-flat_map P own_name (filter p columns)
+      (Each-filter (λ column. Each P (own_name column)) p columns (Each-weaker HoldsOfColumn (λ column. p column ≡ true → Each P (own_name column)) (λ column is _. (is, tt)) columns h))
+
+  listed-named : (m : Listing) → Each HoldsOfColumn m.columns → Each P (listed_names m)
+  listed-named m h =
+      Each-append P (flat_map own_name (objective_terms m)) _
+      (terms-named (objective_terms m) (each-filter_map HoldsOfTerm (objective_term m) m.columns (Each-weaker HoldsOfColumn (λ column. Holds HoldsOfTerm (objective_term m column)) (objective-term-holds m) m.columns h)))
+      (Each-append P (flat_map (λ row. flat_map own_name (row_terms m row.0)) m.rows) _
+      (Each-flat_map P (λ row. flat_map own_name (row_terms m row.0)) m.rows
+      (Each-all (λ row. Each P (flat_map own_name (row_terms m row.0))) (λ row.
+      terms-named (row_terms m row.0) (some-holds m.columns (filter_map (term_in m row.0) m.columns) h
+      (each-filter_map HoldsOfTerm (term_in m row.0) m.columns (Each-weaker HoldsOfColumn (λ column. Holds HoldsOfTerm (term_in m row.0 column)) (term-holds m row.0) m.columns h)))) m.rows))
+      (Each-append P (flat_map bound_names m.columns) _
+      (Each-flat_map P bound_names m.columns (Each-weaker HoldsOfColumn (λ column. Each P (bound_names column)) (λ column is. bound-names-hold column.0 column.1.lower column.1.upper is) m.columns h))
+      (Each-append P (flat_map own_name (filter is_integer_column m.columns)) (flat_map own_name (filter is_semi_column m.columns)) (kept-named is_integer_column m.columns h) (kept-named is_semi_column m.columns h))))
+
+-- ---- and each column is there
+
+any-each : {X : Type 0} (p : X → Bool) (Q : X → Type 0) (Goal : Type 0) → ((x : X) → p x ≡ true → Q x → Goal) → (xs : List X) → list_any p xs ≡ true → Each Q xs → Goal
+any-each p Q Goal f [] h k = absurd (no_truth h)
+  where
+    no_truth : false ≡ true → ⊥
+    no_truth e = cc
+any-each p Q Goal f (x ∷ xs) h k = by (p x) refl h (λ there. any-each p Q Goal f xs there k.1)
+  where
+    by : (b : Bool) → p x ≡ b → (b || list_any p xs) ≡ true → (list_any p xs ≡ true → Goal) → Goal
+    by true e _ more = f x e k.0
+    by false e there more = more there
+
+module _ (m : Listing) (h : IsSoundListing m) where
+  abbrev IsNamed : List ℕ → Names → Type 0
+  IsNamed name names = is_some (at_name names name) ≡ true
+
+  abbrev term_names : Names
+  term_names = flat_map own_name (objective_terms m) ++ flat_map (λ row. flat_map own_name (row_terms m row.0)) m.rows
+
+  -- a term stands before all else
+  in-listed : (name : List ℕ) → IsNamed name term_names → IsNamed name (listed_names m)
+  in-listed name is =
+      let more = flat_map bound_names m.columns ++ (flat_map own_name (filter is_integer_column m.columns) ++ flat_map own_name (filter is_semi_column m.columns)) in
+      ap (λ (names : Names). is_some (at_name names name)) (sym (append_assoc (flat_map own_name (objective_terms m)) (flat_map (λ row. flat_map own_name (row_terms m row.0)) m.rows) more))
+      ∙ some_append_left bytes_cmp bytes_total tied_names name term_names more is
+
+  with-coefficient : (column : List ℕ × Column) → has_coefficients m column ≡ true → IsNamed column.0 term_names
+  with-coefficient column some =
+      any-each (λ (entry : CoefficientKey × Number). same_bytes entry.0.column column.0) (λ entry. find key_cmp entry.0 m.coefficients ≡ Some entry.1) (IsNamed column.0 term_names)
+      (λ entry e is.
+      ap (λ (name : List ℕ). is_some (at_name term_names name)) (sym (same_name entry.0.column column.0 e))
+      ∙ each-printed bytes_cmp bytes_total tied_names (λ _ name. name) (λ _. tt) m h entry.0 entry.1 is)
+      m.coefficients some (finds_own key_cmp key_total same_key m.coefficients (T_from (is_sorted key_cmp m.coefficients) h.coefficients_sorted))
+
+  -- one without coefficients is in the objective
+  without-coefficients : (column : List ℕ × Column) → IsOwnColumn m column → has_coefficients m column ≡ false → IsNamed column.0 term_names
+  without-coefficients column own none =
+      some_append_left bytes_cmp bytes_total tied_names column.0 (flat_map own_name (objective_terms m)) (flat_map (λ row. flat_map own_name (row_terms m row.0)) m.rows)
+      (hit bytes_cmp bytes_total tied_names (λ _ name. name) (λ _. tt) m.objective column.0 (objective_term m) m.columns (found-any column.0 column.1 m.columns own.1)
+      (λ c e. (zero_number, ap (λ (b : Bool). if b then term_in m m.objective c else Some (c.0, zero_number)) (alike c e ∙ none))))
+    where
+      alike : (c : List ℕ × Column) → same_bytes column.0 c.0 ≡ true → has_coefficients m c ≡ has_coefficients m column
+      alike c e = ap (λ (name : List ℕ). list_any (λ (entry : CoefficientKey × Number). same_bytes entry.0.column name) m.coefficients) (sym (same_name column.0 c.0 e))
+
+  each-named : (column : List ℕ × Column) → IsOwnColumn m column → IsNamed column.0 (listed_names m)
+  each-named column own = in-listed column.0 (by (has_coefficients m column) refl)
+    where
+      by : (b : Bool) → has_coefficients m column ≡ b → IsNamed column.0 term_names
+      by true e = with-coefficient column e
+      by false e = without-coefficients column own e
+
+-- ---- the columns of the draft
+
+unmapped : (Q : List ℕ × Unit {0} → Type 0) (columns : List (List ℕ × Column)) → Each Q (map named columns) → Each (λ column. Q (named column)) columns
+unmapped Q [] h = tt
+unmapped Q (column ∷ columns) h = (h.0, unmapped Q columns h.1)
+
+pub columns-drafted : (m : Listing) → IsSoundListing m → (drafted m).columns ≡ map named m.columns
+columns-drafted m h =
+    let target = map named m.columns in
+    let sorted = T_from (is_sorted bytes_cmp target) (sorted-mapped (λ _. tt) m.columns ∙ h.columns_sorted) in
+    columns-all (listed_declarations m) empty_draft ∙ ap (λ (es : Names). puts bytes_cmp es []) (columns-part m)
+    ∙ puts-give bytes_cmp bytes_total tied_names target (listed_names m) sorted
+    (listed-named (λ e. find bytes_cmp e.0 target ≡ Some e.1) m (unmapped (λ e. find bytes_cmp e.0 target ≡ Some e.1) m.columns (finds_own bytes_cmp bytes_total tied_names target sorted)))
+    (Each-map (λ e. is_some (find bytes_cmp e.0 (listed_names m)) ≡ true) named m.columns
+    (Each-weaker (IsOwnColumn m) (λ column. is_some (at_name (listed_names m) column.0) ≡ true) (λ column own. each-named m h column own) m.columns (own-columns m h)))
