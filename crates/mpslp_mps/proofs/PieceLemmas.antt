@@ -14,7 +14,7 @@ use Rattle.mpslp_reading.specs.declared.lines.TheConstants.{MAX_LINE_LEN}
 use Rattle.mpslp_mps.specs.Section.{is_section}
 use Rattle.mpslp_mps.specs.MpsText.{is_end}
 use Rattle.mpslp_mps.specs.FirstFault.{whole_mps_fault}
-use Rattle.mpslp_mps.specs.OpenLine.{KeptLine, Keeps, is_beyond}
+use Rattle.mpslp_reading.specs.OpenLine.{KeptLine, Keeps, is_beyond}
 use Rattle.mpslp_mps.specs.Fed.{lines_fault, IsFaultOfComplete, HasRead, IsReader, RefusesLines, ReadsOn, unread, IsFed, WasFed, RefusesPiece, Feeds, RefusesText, EndsText}
 use Rattle.mpslp_mps.specs.FedLaws.{lines_fault-stays}
 use Rattle.mpslp_mps.specs.declared.piece_reader.PieceReader.{PieceReader}

@@ -14,7 +14,7 @@ use Rattle.mpslp_mps.specs.FirstFault.{first_line_fault, IsFirstMpsFault}
 use Rattle.mpslp_mps.specs.Reading.{draft_from, context_from}
 use Rattle.mpslp_mps.specs.ReadingAnswer.{lines_to_end}
 use Rattle.mpslp_mps.specs.declared.line_reader.LineReader.{LineReader}
-use Rattle.mpslp_mps.specs.OpenLine.{Keeps}
+use Rattle.mpslp_reading.specs.OpenLine.{Keeps}
 use Rattle.mpslp_mps.specs.declared.piece_reader.PieceReader.{PieceReader}
 use Rattle.mpslp_mps.specs.declared.sections.Section.TheVariants.{EndData}
 

@@ -5,13 +5,12 @@ ghost use Rattle.mpslp_model.specs.CompleteLines.{HasNoFeed};
 ghost use Rattle.mpslp_mps.specs.Section.{is_section};
 ghost use Rattle.mpslp_mps.specs.declared.sections.Section.{Section};
 ghost use Rattle.mpslp_mps.specs.ReadingAnswer.{ReadsMps};
-ghost use Rattle.mpslp_mps.specs.OpenLine.{Keeps};
+ghost use Rattle.mpslp_reading.specs.OpenLine.{Keeps};
 ghost use Rattle.mpslp_mps.specs.Fed.{IsFed, WasFed, Feeds, EndsText};
 
-use crate::line_ends::{split_at_first_feed, split_behind_last_feed, without_return};
 use crate::line_reader::LineReader;
-use crate::open_line::OpenLine;
 use mpslp_model::{Model, ReadFault};
+use mpslp_reading::{OpenLine, split_at_first_feed, split_behind_last_feed, without_return};
 use std::alloc::Global;
 
 /// Reads a text that comes in pieces. Lines that are complete in a piece are read where they lie, and a line that crosses

@@ -8,3 +8,5 @@ pub mod FieldLemmas
 pub mod ObjectiveLemmas
 pub mod AnswerLemmas
 pub mod UnchangedLemmas
+pub mod LineLemmas
+pub mod LineEndLemmas

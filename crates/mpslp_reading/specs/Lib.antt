@@ -4,3 +4,4 @@ pub mod Field
 pub mod Declaring
 pub mod ErrorOf
 pub mod LineAnswer
+pub mod OpenLine

@@ -5,7 +5,7 @@ use Rattle.mpslp_lp.specs.LpText.{numbered_lines}
 use Rattle.mpslp_lp.specs.ReadingLines.{read_from}
 use Rattle.mpslp_lp.specs.declared.states.State.TheVariants.{Between}
 use Rattle.mpslp_lp.specs.declared.states.Place.TheVariants.{AtStart}
-use Rattle.mpslp_lp.proofs.LineLemmas.{bstr-lines}
+use Rattle.mpslp_reading.proofs.LineLemmas.{bstr-lines}
 use Rattle.mpslp_lp.proofs.LoopLemmas.{line-next, line-last, line-fails, none-left}
 use Rattle.mpslp_lp.proofs.reading.read_lines.Goals as goal
 

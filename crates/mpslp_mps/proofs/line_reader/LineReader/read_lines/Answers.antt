@@ -1,6 +1,6 @@
 use Rattle.std.proofs.Common.{◌≡◌, sym, ◌∙◌}
 use Rattle.std.specs.Str.Lines.{lines}
-use Rattle.mpslp_mps.proofs.LineLemmas.{bstr-lines}
+use Rattle.mpslp_reading.proofs.LineLemmas.{bstr-lines}
 use Rattle.mpslp_mps.proofs.LineReaderLemmas.{passed-none, passed-line, passed-end, ends-refused}
 use Rattle.mpslp_mps.proofs.line_reader.LineReader.read_lines.Goals as goal
 

@@ -1,7 +1,7 @@
 use Rattle.std.proofs.Common.{◌+◌, ap, subst, sym, ◌∙◌}
 use Rattle.mpslp_model.specs.CompleteLines.{unfinished, HasNoFeed}
-use Rattle.mpslp_mps.proofs.LineEndLemmas.{cut-lines, cut-rest, uncut}
-use Rattle.mpslp_mps.proofs.line_ends.split_behind_last_feed.Goals as goal
+use Rattle.mpslp_reading.proofs.LineEndLemmas.{cut-lines, cut-rest, uncut}
+use Rattle.mpslp_reading.proofs.line_ends.split_behind_last_feed.Goals as goal
 
 pub returns-in-Some-clause-lines : goal.returns-in-Some-clause-lines
 returns-in-Some-clause-lines c =
