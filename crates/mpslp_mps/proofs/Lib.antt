@@ -57,4 +57,3 @@ pub mod RepeatsOfNames
 pub mod WorkedSentences
 pub mod FedLemmas
 pub mod LineReaderLemmas
-pub mod PieceLemmas

@@ -19,7 +19,6 @@ mod items;
 pub mod laws;
 mod line_reader;
 mod lines;
-mod piece_reader;
 mod reader;
 mod reading;
 mod sections;

@@ -10,3 +10,5 @@ pub mod AnswerLemmas
 pub mod UnchangedLemmas
 pub mod LineLemmas
 pub mod LineEndLemmas
+pub mod PieceLemmas
+pub mod ReadLinesLemmas

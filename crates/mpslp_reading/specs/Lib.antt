@@ -5,3 +5,5 @@ pub mod Declaring
 pub mod ErrorOf
 pub mod LineAnswer
 pub mod OpenLine
+pub mod LinesRead
+pub mod Pieces

@@ -7,7 +7,7 @@ ghost use Rattle.mpslp_model.specs.CompleteLines.{unfinished, HasNoFeed};
 use bstr::ByteSlice;
 
 /// The line without the carriage return at its end, if it has one.
-pub fn without_return(line: &[u8]) -> &[u8]
+pub(crate) fn without_return(line: &[u8]) -> &[u8]
     ensures { result.now ≡ strip_carriage_return line.now }
 {
     match line {
@@ -17,7 +17,7 @@ pub fn without_return(line: &[u8]) -> &[u8]
 }
 
 /// What stands before the first line feed and what follows it, if there is one.
-pub fn split_at_first_feed(piece: &[u8]) -> Option<(&[u8], &[u8])>
+pub(crate) fn split_at_first_feed(piece: &[u8]) -> Option<(&[u8], &[u8])>
     ensures { MatchOption result (HasNoFeed piece.now) (λ parts. HasNoFeed parts.0.now × ((parts.0.now ++ 10 ∷ []) ++ parts.1.now ≡ piece.now)) }
 {
     match piece.find_byte(b'\n') {
@@ -27,7 +27,7 @@ pub fn split_at_first_feed(piece: &[u8]) -> Option<(&[u8], &[u8])>
 }
 
 /// The lines up to the last line feed, with it, and what follows.
-pub fn split_behind_last_feed(piece: &[u8]) -> (&[u8], &[u8])
+pub(crate) fn split_behind_last_feed(piece: &[u8]) -> (&[u8], &[u8])
     ensures parts { result.0.now ++ result.1.now ≡ piece.now }
     ensures lines { unfinished result.0.now ≡ [] }
     ensures rest { HasNoFeed result.1.now }

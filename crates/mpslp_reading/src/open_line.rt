@@ -12,7 +12,7 @@ const MAX_OPEN_LEN: usize = MAX_LINE_LEN + 1;
 
 /// The bytes of a line of which the end has not come yet. Of a longer line than may be it keeps only that it is too long.
 #[derive(Drop)]
-pub struct OpenLine {
+pub(crate) struct OpenLine {
     bytes: Vec<u8>,
     is_too_long: bool,
     ghost few: { length bytes.items ≤ 1048577 },
@@ -28,7 +28,7 @@ impl Model for OpenLine {
 
 impl OpenLine {
     /// No bytes. No memory is taken.
-    pub fn new(alloc: Global) -> OpenLine
+    pub(crate) fn new(alloc: Global) -> OpenLine
         ensures { Keeps result [] }
     {
         OpenLine {
@@ -38,14 +38,14 @@ impl OpenLine {
     }
 
     /// Whether there are no bytes of a line.
-    pub fn is_empty(&self) -> bool
+    pub(crate) fn is_empty(&self) -> bool
         ensures { IsTrue result ↔ Keeps self.now [] }
     {
         !self.is_too_long && self.bytes.is_empty()
     }
 
     /// The bytes of the line, unless it is too long even without a carriage return at its end.
-    pub fn bytes(&self) -> Option<&[u8]>
+    pub(crate) fn bytes(&self) -> Option<&[u8]>
         ensures { (line : List ℕ) → Keeps self.now line → MatchOption result (MAX_LINE_LEN + 1 < length line) (λ bytes. bytes.now ≡ line) }
     {
         if self.is_too_long {
@@ -55,11 +55,7 @@ impl OpenLine {
     }
 
     /// Puts more bytes of the line behind those that are there.
-    ///
-    /// # Errors
-    ///
-    /// Where a growth was refused; what is kept then is not told.
-    pub fn push(&mut self, piece: &[u8]) -> Result<(), AllocError>
+    pub(crate) fn push(&mut self, piece: &[u8]) -> Result<(), AllocError>
         ensures { OnOk result ((line : List ℕ) → Keeps self.old line → Keeps self.new (line ++ piece.now)) }
     {
         if self.is_too_long {
@@ -74,7 +70,7 @@ impl OpenLine {
     }
 
     /// Begins a line anew.
-    pub fn clear(&mut self)
+    pub(crate) fn clear(&mut self)
         ensures { Keeps self.new [] }
     {
         self.bytes.clear();

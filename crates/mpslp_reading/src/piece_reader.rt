@@ -2,41 +2,43 @@
 
 ghost use Rattle.std.specs.Prelude.{◌≡◌, ◌∷◌, ℕ, List, [], false, OnOk};
 ghost use Rattle.mpslp_model.specs.CompleteLines.{HasNoFeed};
-ghost use Rattle.mpslp_mps.specs.Section.{is_section};
-ghost use Rattle.mpslp_mps.specs.declared.sections.Section.{Section};
-ghost use Rattle.mpslp_mps.specs.ReadingAnswer.{ReadsMps};
+ghost use Rattle.mpslp_model.specs.Formats.{IsAnswerTo};
 ghost use Rattle.mpslp_reading.specs.OpenLine.{Keeps};
-ghost use Rattle.mpslp_mps.specs.Fed.{IsFed, WasFed, Feeds, EndsText};
+ghost use Rattle.mpslp_reading.specs.Pieces.{IsFed, WasFed, Feeds, EndsText};
 
-use crate::line_reader::LineReader;
+use crate::line_ends::{split_at_first_feed, split_behind_last_feed, without_return};
+use crate::open_line::OpenLine;
+use crate::read_lines::{ReadLines, read_lines};
 use mpslp_model::{Model, ReadFault};
-use mpslp_reading::{OpenLine, split_at_first_feed, split_behind_last_feed, without_return};
 use std::alloc::Global;
 
 /// Reads a text that comes in pieces. Lines that are complete in a piece are read where they lie, and a line that crosses
 /// pieces is put together. After an error it is not to be used any more.
+///
+/// Beside the reader of lines it keeps at most 1,048,577 bytes of the line that is not complete, none where the line that
+/// ends the text was read. Then each piece is taken, and not looked at.
 #[derive(Drop)]
-pub(crate) struct PieceReader {
-    lines: LineReader,
+pub struct PieceReader<L> {
+    lines: L,
     open_line: OpenLine,
 }
 
-impl PieceReader {
+impl<L: ReadLines> PieceReader<L> {
     /// Nothing was fed. No memory is taken.
-    pub(crate) fn new(alloc: Global) -> PieceReader
-        ensures { IsFed result [] }
+    pub fn new(alloc: Global) -> PieceReader<L>
+        ensures { IsFed L.has_read L.at_end result [] }
     {
         PieceReader {
-            lines: LineReader::new(alloc),
+            lines: L::new(alloc),
             open_line: OpenLine::new(alloc),
         }
     }
 
     /// Keeps bytes of a line that does not end in them.
     fn keep(&mut self, part: &[u8]) -> Result<(), ReadFault>
-        requires unended { is_section Section.EndData self.old.lines.context.section ≡ false }
+        requires unended { L.at_end self.old.lines ≡ false }
         requires one_line { HasNoFeed part.now }
-        ensures answer { Feeds self.old part.now self.new result }
+        ensures answer { Feeds L.has_read L.at_end L.lines_fault self.old part.now self.new result }
         ensures same { self.new.lines ≡ self.old.lines }
     {
         match self.open_line.push(part) {
@@ -47,9 +49,9 @@ impl PieceReader {
 
     /// Reads the line that is kept, whose line feed has come.
     fn end_line(&mut self) -> Result<(), ReadFault>
-        requires fed { WasFed self.old }
-        requires unended { is_section Section.EndData self.old.lines.context.section ≡ false }
-        ensures answer { Feeds self.old (10 ∷ []) self.new result }
+        requires fed { WasFed L.has_read L.at_end self.old }
+        requires unended { L.at_end self.old.lines ≡ false }
+        ensures answer { Feeds L.has_read L.at_end L.lines_fault self.old (10 ∷ []) self.new result }
         ensures anew { OnOk result (Keeps self.new.open_line []) }
     {
         match self.open_line.bytes() {
@@ -62,13 +64,13 @@ impl PieceReader {
 
     /// Reads a piece that begins with a line.
     fn feed_lines(&mut self, piece: &[u8]) -> Result<(), ReadFault>
-        requires fed { WasFed self.old }
-        requires unended { is_section Section.EndData self.old.lines.context.section ≡ false }
+        requires fed { WasFed L.has_read L.at_end self.old }
+        requires unended { L.at_end self.old.lines ≡ false }
         requires anew { Keeps self.old.open_line [] }
-        ensures { Feeds self.old piece.now self.new result }
+        ensures { Feeds L.has_read L.at_end L.lines_fault self.old piece.now self.new result }
     {
         let (complete, rest) = split_behind_last_feed(piece);
-        self.lines.read_lines(complete)?;
+        read_lines(&mut self.lines, complete)?;
         if self.lines.is_at_end() {
             return Ok(());
         }
@@ -76,9 +78,14 @@ impl PieceReader {
     }
 
     /// Reads the next piece.
-    pub(crate) fn feed(&mut self, piece: &[u8]) -> Result<(), ReadFault>
-        requires { WasFed self.old }
-        ensures { Feeds self.old piece.now self.new result }
+    ///
+    /// # Errors
+    ///
+    /// `File` of the fault of the first line that has one, at the piece that completes it; `OutOfMemory` where a growth was
+    /// refused.
+    pub fn feed(&mut self, piece: &[u8]) -> Result<(), ReadFault>
+        requires { WasFed L.has_read L.at_end self.old }
+        ensures { Feeds L.has_read L.at_end L.lines_fault self.old piece.now self.new result }
     {
         if self.lines.is_at_end() {
             return Ok(());
@@ -99,8 +106,8 @@ impl PieceReader {
 
     /// Reads the last line where no line feed ends it.
     fn end_text(&mut self) -> Result<(), ReadFault>
-        requires { WasFed self.old }
-        ensures { EndsText self.old self.new result }
+        requires { WasFed L.has_read L.at_end self.old }
+        ensures { EndsText L.has_read L.at_end L.first_fault self.old self.new result }
     {
         if self.lines.is_at_end() {
             return Ok(());
@@ -115,9 +122,13 @@ impl PieceReader {
     }
 
     /// What all pieces together declare.
-    pub(crate) fn finish(mut self) -> Result<Model, ReadFault>
-        requires { WasFed self }
-        ensures { (bytes : List ℕ) → IsFed self bytes → ReadsMps bytes result }
+    ///
+    /// # Errors
+    ///
+    /// `File` of their first fault; `OutOfMemory` where a growth was refused.
+    pub fn finish(mut self) -> Result<Model, ReadFault>
+        requires { WasFed L.has_read L.at_end self }
+        ensures { (bytes : List ℕ) → IsFed L.has_read L.at_end self bytes → IsAnswerTo L.declares L.first_fault bytes result }
     {
         self.end_text()?;
         let PieceReader { lines, .. } = self;
