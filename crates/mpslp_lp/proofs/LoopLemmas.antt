@@ -1,13 +1,11 @@
 -- Lines read one after another: what is left to be read decides.
-use Rattle.std.proofs.Common.{◌≡◌, ◌≤◌, refl, sym, ap, subst, ◌∙◌, ℕ, ◌+◌, ◌-◌, ◌^◌, min, List, [], ◌∷◌, Bool, true, false, arith}
-use Rattle.std.specs.Prelude.{None, Ok, Err}
+use Rattle.std.proofs.Common.{◌≡◌, ◌≤◌, refl, ap, ◌∙◌, ℕ, ◌+◌, ◌-◌, ◌^◌, min, List, [], ◌∷◌, Bool, true, false, arith}
+use Rattle.std.specs.Prelude.{None}
 use Rattle.std.specs.List.{enumerate_from}
 use Rattle.mpslp_builder.specs.Declaration.{Draft}
 use Rattle.mpslp_types.specs.declared.faults.Fault.{Fault}
-use Rattle.mpslp_types.specs.declared.faults.ReadFault.{ReadFault}
-use Rattle.mpslp_reading.specs.LineAnswer.{fault_on_line, IsFaultOn}
-use Rattle.mpslp_reading.specs.declared.errors.LineError.{LineError}
-use Rattle.mpslp_reading.specs.declared.errors.LineError.TheVariants as errors
+use Rattle.mpslp_types.specs.declared.faults.FaultKind.{FaultKind}
+use Rattle.mpslp_reading.specs.LineAnswer.{fault_on_line}
 use Rattle.mpslp_lp.specs.Rules.{Outcome}
 use Rattle.mpslp_lp.specs.Rules.Outcome.{Finished, Refused, Open}
 use Rattle.mpslp_lp.specs.declared.before.Before.{Before}
@@ -15,7 +13,6 @@ use Rattle.mpslp_lp.specs.declared.states.State.{State}
 use Rattle.mpslp_lp.specs.declared.states.State.TheVariants.{AfterEnd}
 use Rattle.mpslp_lp.specs.Taken.{Taken, Goes, Refuses}
 use Rattle.mpslp_lp.specs.ReadingLines.{take_line, is_at_end, read_from}
-use Rattle.mpslp_lp.specs.Declares.{Takes, ReadsLines}
 
 abbrev pub last_number : ℕ
 last_number = 2 ^ 64 - 1
@@ -51,40 +48,15 @@ line-next n before after state next line more unended goes =
     line-read n before state line more unended ∙ ap (λ (taken : Taken). after_line n taken (enumerate_from (n + 1) more)) goes
     ∙ counted-alike more (n + 1) (min (n + 1) last_number) after next same
 
--- the line of `end`
-pub line-last : (n : ℕ) (before after : Before) (state next : State) (line : List ℕ) (more : List (List ℕ)) → is_at_end state ≡ false → take_line before state line ≡ Goes after next
-    → is_at_end next ≡ true → read_from before state (enumerate_from n (line ∷ more)) ≡ Finished after.earlier
-line-last n before after state next line more unended goes ends =
-    line-read n before state line more unended ∙ ap (λ (taken : Taken). after_line n taken (enumerate_from (n + 1) more)) goes ∙ by next ends more
-  where
-    by : (s : State) → is_at_end s ≡ true → (ls : List (List ℕ)) → read_from after s (enumerate_from (n + 1) ls) ≡ Finished after.earlier
-    by AfterEnd e [] = refl
-    by AfterEnd e (l ∷ ls) = refl
-    by _ e ls = cc
-
--- a line with an error
-pub line-fails : (n : ℕ) (before after : Before) (state : State) (line : List ℕ) (more : List (List ℕ)) (error : LineError) (answer : ReadFault) (later : Draft) (said : Outcome Fault Draft)
-    → is_at_end state ≡ false → n ≤ last_number → Takes (take_line before state line) (Err error) after → IsFaultOn n error answer
-    → read_from before state (enumerate_from n (line ∷ more)) ≡ said → ReadsLines said (Err answer) later
-line-fails n before after state line more (errors.Fault kind) answer later said unended counted refused told is =
+-- a line with a fault
+pub line-refused : (n : ℕ) (before : Before) (state : State) (line : List ℕ) (more : List (List ℕ)) (kind : FaultKind) → is_at_end state ≡ false → n ≤ last_number
+    → take_line before state line ≡ Refuses kind → read_from before state (enumerate_from n (line ∷ more)) ≡ Refused (record { kind = kind; line = n; name = None })
+line-refused n before state line more kind unended counted refused =
     let number : min n last_number ≡ n = omega (arith, counted) in
-    subst (λ (a : ReadFault). ReadsLines said (Err a) later) (sym told)
-    (sym is ∙ line-read n before state line more unended ∙ ap (λ (taken : Taken). after_line n taken (enumerate_from (n + 1) more)) refused
-    ∙ ap (λ (k : ℕ). Refused (record { kind = kind; line = k; name = None })) number)
-line-fails n before after state line more errors.OutOfMemory answer later said unended counted refused told is =
-    subst (λ (a : ReadFault). ReadsLines said (Err a) later) (sym told) tt
+    line-read n before state line more unended ∙ ap (λ (taken : Taken). after_line n taken (enumerate_from (n + 1) more)) refused
+    ∙ ap (λ (k : ℕ). Refused (record { kind = kind; line = k; name = None })) number
 
 -- no line is left
 pub none-left : (n : ℕ) (before : Before) (state : State) → is_at_end state ≡ false → read_from before state (enumerate_from n []) ≡ Open
 none-left n before AfterEnd unended = cc
 none-left n before _ unended = refl
-
--- ---- what was answered of all lines
-
-pub lines-ended : (b : Bool) (said : Outcome Fault Draft) (later : Draft) → b ≡ true → ReadsLines said (Ok b) later → said ≡ Finished later
-lines-ended true said later e h = h
-lines-ended false said later e h = cc
-
-pub lines-open : (b : Bool) (said : Outcome Fault Draft) (later : Draft) → b ≡ false → ReadsLines said (Ok b) later → said ≡ Open
-lines-open false said later e h = h
-lines-open true said later e h = cc

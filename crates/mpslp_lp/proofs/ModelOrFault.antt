@@ -17,9 +17,9 @@ use Rattle.mpslp_lp.specs.Rules.{Outcome}
 use Rattle.mpslp_lp.specs.Rules.Outcome.{Finished, Refused, Open}
 use Rattle.mpslp_lp.specs.Point.{start}
 use Rattle.mpslp_reading.specs.LineAnswer.{fault_on_line}
-use Rattle.mpslp_lp.specs.Grammar.{text_says}
+use Rattle.mpslp_lp.specs.Grammar.{text_says, text_declares}
 use Rattle.mpslp_lp.specs.OwnFault.{own_fault}
-use Rattle.mpslp_lp.specs.LpText.{numbered_lines, sound_terminals, first_own_fault, or_else, outcome, is_finished, declarations_of, DeclaresLp}
+use Rattle.mpslp_lp.specs.LpText.{numbered_lines, sound_terminals, first_own_fault, or_else, lines_say, outcome, is_finished, declarations_of, DeclaresLp}
 use Rattle.mpslp_lp.specs.FirstFault.{fault_of, first_lp_fault}
 use Rattle.mpslp_lp.specs.Laws.{has_lp_name, DeclareLpNames, DeclareOrFail, DeclareUnlessFaulty}
 use Rattle.mpslp_lp.proofs.SoundTokens.{text-sound}
@@ -45,13 +45,19 @@ never_whole (line ∷ more) all h = by (own_fault line.1) h (never_whole more al
     by None e later = later e
 
 -- so the tokens make it whole
-whole-by_tokens : (bytes : List ℕ) (all : Draft) → outcome bytes ≡ Finished all → text_says (sound_terminals (numbered_lines bytes)) ≡ Finished all
-whole-by_tokens bytes all h = by (text_says (sound_terminals (numbered_lines bytes))) h
+whole-by_tokens : (numbered : List (ℕ × List ℕ)) (all : Draft) → lines_say numbered ≡ Finished all → text_says (sound_terminals numbered) ≡ Finished all
+whole-by_tokens numbered all h = by (text_says (sound_terminals numbered)) h
   where
-    by : (o : Outcome Fault Draft) → or_else o (first_own_fault (numbered_lines bytes)) ≡ Finished all → o ≡ Finished all
+    by : (o : Outcome Fault Draft) → or_else o (first_own_fault numbered) ≡ Finished all → o ≡ Finished all
     by (Finished other) e = e
     by (Refused fault) e = e
-    by Open e = absurd (never_whole (numbered_lines bytes) all e)
+    by Open e = absurd (never_whole numbered all e)
+
+-- lines that come to `end` name the objective
+pub named-at_end : (numbered : List (ℕ × List ℕ)) (all : Draft) → lines_say numbered ≡ Finished all → is_some all.objective ≡ true
+named-at_end numbered all h =
+    (subst (IsDraftAtEnd empty_draft (text_declares (sound_terminals numbered))) (whole-by_tokens numbered all h)
+    (text-fine (sound_terminals numbered) 0 start (text-sound numbered) refl).draft).1
 
 pub record IsWhole (bytes : List ℕ) (all : Draft) : Type 0 where
   pub draft : all ≡ draft_of (declarations_of bytes)
@@ -60,7 +66,7 @@ pub record IsWhole (bytes : List ℕ) (all : Draft) : Type 0 where
 -- the draft that whole text ends with is that of its declarations
 pub whole-draft : (bytes : List ℕ) (all : Draft) → outcome bytes ≡ Finished all → IsWhole bytes all
 whole-draft bytes all h =
-    let end = subst (IsDraftAtEnd empty_draft (declarations_of bytes)) (whole-by_tokens bytes all h) (whole-fine bytes).draft in
+    let end = subst (IsDraftAtEnd empty_draft (declarations_of bytes)) (whole-by_tokens (numbered_lines bytes) all h) (whole-fine bytes).draft in
     record { draft = end.0; named = end.1 }
 
 -- ---- bytes without a fault

@@ -1,5 +1,5 @@
 -- What the code answers of declarations that a token completes, and of a token.
-use Rattle.std.specs.Prelude.{◌≡◌, nat_lt, if◌then◌else◌, ℕ, List, [], ◌∷◌, ◌++◌, true, false, Option, Some, Result, Ok, Err, Bool, None, is_some}
+use Rattle.std.specs.Prelude.{◌≡◌, nat_lt, if◌then◌else◌, ℕ, List, [], ◌∷◌, ◌++◌, true, false, Option, Some, Result, Ok, Err, None}
 use Rattle.std.specs.Option.{option_map}
 use Rattle.mpslp_builder.specs.Declaration.{Declarations, Draft, adding_all, bounds_declared}
 use Rattle.mpslp_core.specs.Lists.{head_of}
@@ -21,13 +21,6 @@ use Rattle.mpslp_lp.specs.declared.states.State.{State}
 use Rattle.mpslp_lp.specs.declared.states.State.TheVariants.{Between}
 use Rattle.mpslp_types.specs.FaultOrder.{kind_rank, least_kind}
 use Rattle.mpslp_types.specs.declared.faults.FaultKind.{FaultKind}
-use Rattle.mpslp_types.specs.declared.faults.Fault.{Fault as TextFault}
-use Rattle.mpslp_types.specs.declared.faults.ReadFault.{ReadFault}
-use Rattle.mpslp_types.specs.declared.faults.ReadFault.TheVariants as reads
-use Rattle.mpslp_lp.specs.Rules.{Outcome}
-use Rattle.mpslp_lp.specs.Rules.Outcome.{Finished, Refused, Open}
-use Rattle.mpslp_lp.specs.LpText.{outcome}
-use Rattle.mpslp_lp.specs.FirstFault.{first_lp_fault}
 use Rattle.mpslp_lp.specs.Taken.{Taken}
 use Rattle.mpslp_lp.specs.Taken.Taken.{Goes, Refuses}
 
@@ -95,20 +88,3 @@ lesser_of (Some first) second = if nat_lt (kind_rank second) (kind_rank first) t
 abbrev pub IsLeastError : List FaultKind → LineError → Type 0
 IsLeastError faults (Fault kind) = least_kind faults ≡ Some kind
 IsLeastError faults OutOfMemory = ⊥
-
--- ---- all lines
-
--- It is answered whether the lines come to `end`, and then this is declared; or their first fault, or there was no memory.
-abbrev pub ReadsLines : Outcome TextFault Draft → Result Bool ReadFault → Draft → Type 0
-ReadsLines said (Ok true) later = said ≡ Finished later
-ReadsLines said (Ok false) later = said ≡ Open
-ReadsLines said (Err (reads.File fault)) later = said ≡ Refused fault
-ReadsLines said (Err reads.Failed) later = ⊥
-ReadsLines said (Err reads.OutOfMemory) later = Unit {0}
-
--- There is what the text declares, and its objective has a name; or its first fault, or there was no memory.
-abbrev pub ReadsText : List ℕ → Result Draft ReadFault → Type 0
-ReadsText bytes (Ok draft) = (outcome bytes ≡ Finished draft) × (is_some draft.objective ≡ true)
-ReadsText bytes (Err (reads.File fault)) = first_lp_fault bytes ≡ Some fault
-ReadsText bytes (Err reads.Failed) = ⊥
-ReadsText bytes (Err reads.OutOfMemory) = Unit {0}

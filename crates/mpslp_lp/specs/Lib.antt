@@ -25,3 +25,5 @@ pub mod LpText
 pub mod FirstFault
 pub mod Laws
 pub mod ReadingAnswer
+pub mod Fed
+pub mod FedLaws

@@ -4,10 +4,10 @@
 //! their tokens (`Token`), reserved words (`Words`), what the grammar sees of a token (`Terminal`), the faults of a line by
 //! itself (`OwnFault`), the grammar by its rules (`Rules`, `Point`, `Phrase`, `Sides`, `Items`, `Objective`, `Rows`,
 //! `Bounds`, `Grammar`), and the whole text (`LpText`, `FirstFault`). The same one token after another, by what a reader
-//! keeps: `Reading`, `Taken`, `Begun`, `Taking`, `ReadingLines`.
+//! keeps: `Reading`, `Taken`, `Begun`, `Taking`, `ReadingLines`; and what was read of text that comes in pieces: `Fed`.
 //!
-//! [`read_lp`] reads a text: it takes the tokens of each line (`lines`, `taking`) from a state to the next (`states`), and
-//! tells the builder what they declare (`declared`). [`tokens_of`] cuts a line.
+//! [`LpReader`] reads a text that comes in pieces: it takes the tokens of each line (`lines`, `taking`) from a state to the next
+//! (`states`), and tells the builder what they declare (`declared`). [`read_lp`] reads a whole text. [`tokens_of`] cuts a line.
 #![tactic(auto)]
 
 mod answers;
@@ -18,8 +18,10 @@ mod declared;
 mod items;
 pub mod laws;
 mod limits;
+mod line_reader;
 mod lines;
 mod opened;
+mod reader;
 mod reading;
 #[cfg(test)]
 mod reading_tests;
@@ -36,6 +38,7 @@ mod tokens;
 mod words;
 
 pub use mpslp_reading::MAX_LINE_LEN;
+pub use reader::LpReader;
 pub use reading::read_lp;
 pub use tokens::{Token, TokenKind, Tokens, next_token, tokens_of};
 pub use words::Section;

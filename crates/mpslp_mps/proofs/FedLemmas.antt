@@ -79,15 +79,6 @@ one-read line =
       | false ↦ λ e. to_end-more line [] e
     ] refl
 
--- of lines with one none behind them is read
-ended-more : (xs ys : List (List ℕ)) → list_any is_end xs ≡ true → lines_to_end (xs ++ ys) ≡ lines_to_end xs
-ended-more [] ys h = cc
-ended-more (line ∷ xs) ys h =
-    elim (is_end line) as (λ b. is_end line ≡ b → (b || list_any is_end xs) ≡ true → lines_to_end (line ∷ (xs ++ ys)) ≡ lines_to_end (line ∷ xs)) [
-      | true ↦ λ e k. to_end-last line (xs ++ ys) e ∙ sym (to_end-last line xs e)
-      | false ↦ λ e k. to_end-more line (xs ++ ys) e ∙ ap (λ (read : List (List ℕ)). line ∷ read) (ended-more xs ys k) ∙ sym (to_end-more line xs e)
-    ] refl h
-
 -- ---- one line more
 
 pub lines_fault-is : (text : List (List ℕ)) → lines_fault text ≡ fault_from 1 (context_of []) empty_draft (lines_to_end text)
@@ -164,21 +155,6 @@ module _ (text : List (List ℕ)) (context : Context) (earlier : Draft) (number 
         or_false : (b : Bool) → (b || false) ≡ b
         or_false true = refl
         or_false false = refl
-
-  -- ---- lines behind that of ENDATA
-
-  pub led-behind : (more : List (List ℕ)) → is_section EndData context.section ≡ true → LedTo (text ++ more) context earlier number
-  led-behind more at_end =
-      let ended = sym led.ended ∙ at_end in
-      let same = ended-more text more ended in
-      let any : list_any is_end (text ++ more) ≡ true = list_any-append is_end text more ∙ ap (λ (b : Bool). b || list_any is_end more) ended in
-      record {
-        clean = lines_fault-is (text ++ more) ∙ ap (fault_from 1 (context_of []) empty_draft) same ∙ sym (lines_fault-is text) ∙ led.clean;
-        context_is = led.context_is ∙ ap (context_from (context_of [])) (sym same);
-        draft = led.draft ∙ ap (draft_from (context_of []) empty_draft) (sym same);
-        ended = at_end ∙ sym any;
-        counted = λ h. let both : true ≡ false = sym any ∙ h in cc;
-      }
 
   -- ---- what is known of a reader
 

@@ -12,7 +12,6 @@ pub mod ModelFromNoFault
 pub mod ReadingLemmas
 pub mod FieldsLemmas
 pub mod StepLemmas
-pub mod LineLemmas
 pub mod FrontLemmas
 pub mod RisingTests
 pub mod EndLemmas
@@ -58,5 +57,3 @@ pub mod RepeatsOfNames
 pub mod WorkedSentences
 pub mod FedLemmas
 pub mod LineReaderLemmas
-pub mod LineEndLemmas
-pub mod PieceLemmas

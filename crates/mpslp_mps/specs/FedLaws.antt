@@ -1,21 +1,24 @@
 -- Laws of a reader that is fed MPS text in pieces. They stand here since its `impl` cites them.
 use Rattle.std.proofs.Common.{◌≡◌, refl, sym, ap, ◌∙◌, ℕ, ◌+◌, suc, List, [], ◌∷◌, ◌++◌, take, Bool, true, false, cond, arith}
-use Rattle.std.specs.Prelude.{not, is_some, Option, Some, None}
-use Rattle.std.specs.List.{position_or_len}
+use Rattle.std.specs.Prelude.{◌||◌, not, is_some, Option, Some, None}
+use Rattle.std.specs.List.{position_or_len, list_any}
+use Rattle.std.proofs.lemmas.List.Folds.{list_any-append}
 use Rattle.std.specs.Option.{option_or, option_map}
 use Rattle.std.specs.Str.Lines.{lines}
 use Rattle.mpslp_builder.specs.Declaration.{Draft, empty_draft, adding_all}
 use Rattle.mpslp_types.specs.declared.faults.Fault.{Fault}
 use Rattle.mpslp_model.specs.CompleteLines.{complete_lines, unfinished}
 use Rattle.mpslp_model.proofs.CompleteLineLemmas.{lines-more}
+use Rattle.mpslp_reading.specs.declared.piece_reader.PieceReader.{PieceReader}
 use Rattle.mpslp_reading.specs.LineAnswer.{fault_on_line}
 use Rattle.mpslp_mps.specs.Line.{Item, item_of}
 use Rattle.mpslp_mps.specs.Context.{context_of}
 use Rattle.mpslp_mps.specs.MpsText.{Placed, is_end, placed_after, declared_at}
 use Rattle.mpslp_mps.specs.FirstFault.{line_fault, first_line_fault, whole_mps_fault, IsFirstMpsFault}
+use Rattle.mpslp_mps.specs.Reading.{draft_from, context_from}
 use Rattle.mpslp_mps.specs.ReadingAnswer.{lines_to_end}
-use Rattle.mpslp_mps.specs.Fed.{lines_fault, IsFaultOfComplete, IsFedAll}
-use Rattle.mpslp_mps.specs.declared.piece_reader.PieceReader.{PieceReader}
+use Rattle.mpslp_mps.specs.Fed.{lines_fault, IsFaultOfLines, IsFaultOfComplete, HasRead, is_ended, IsFedAll}
+use Rattle.mpslp_mps.specs.declared.line_reader.LineReader.{LineReader}
 
 -- ---- the lines up to that of ENDATA
 
@@ -71,20 +74,48 @@ first_fault-stays (line ∷ text) more n before earlier fault h =
 pub lines_fault-stays : (text more : List (List ℕ)) (fault : Fault) → lines_fault text ≡ Some fault → lines_fault (text ++ more) ≡ Some fault
 lines_fault-stays text more fault h = first_fault-stays text more 1 [] empty_draft fault h
 
+-- Where it is that of all lines, it is that of the text.
+pub lines_fault-is_first : (bytes : List ℕ) (fault : Fault) → IsFaultOfLines (lines bytes) fault → IsFirstMpsFault bytes fault
+lines_fault-is_first bytes fault h = ap (λ (o : Option Fault). option_or o (whole_mps_fault bytes)) h
+
 -- The first fault of the lines that are complete is that of the whole text, whatever follows.
 pub complete-is_first : (bytes more : List ℕ) (fault : Fault) → IsFaultOfComplete bytes fault → IsFirstMpsFault (bytes ++ more) fault
 complete-is_first bytes more fault h =
     ap (λ (o : Option Fault). option_or o (whole_mps_fault (bytes ++ more)))
     (ap lines_fault (lines-more bytes more) ∙ lines_fault-stays (complete_lines bytes) (lines (unfinished bytes ++ more)) fault h)
 
+-- ---- lines behind that of ENDATA
+
+-- of lines with one none behind them is read
+ended-more : (xs ys : List (List ℕ)) → list_any is_end xs ≡ true → lines_to_end (xs ++ ys) ≡ lines_to_end xs
+ended-more [] ys h = cc
+ended-more (line ∷ xs) ys h =
+    elim (is_end line) as (λ b. is_end line ≡ b → (b || list_any is_end xs) ≡ true → lines_to_end (line ∷ (xs ++ ys)) ≡ lines_to_end (line ∷ xs)) [
+      | true ↦ λ e k. to_end-last line (xs ++ ys) e ∙ sym (to_end-last line xs e)
+      | false ↦ λ e k. to_end-more line (xs ++ ys) e ∙ ap (λ (read : List (List ℕ)). line ∷ read) (ended-more xs ys k) ∙ sym (to_end-more line xs e)
+    ] refl h
+
+pub read-behind_end : (reader : LineReader) (text more : List (List ℕ)) → HasRead reader text → is_ended reader ≡ true → HasRead reader (text ++ more)
+read-behind_end reader text more led at_end =
+    let ended = sym led.ended ∙ at_end in
+    let same = ended-more text more ended in
+    let any : list_any is_end (text ++ more) ≡ true = list_any-append is_end text more ∙ ap (λ (b : Bool). b || list_any is_end more) ended in
+    record {
+      clean = ap (λ (read : List (List ℕ)). first_line_fault 1 (placed_after [] empty_draft read)) same ∙ led.clean;
+      context_is = led.context_is ∙ ap (context_from (context_of [])) (sym same);
+      draft = led.draft ∙ ap (draft_from (context_of []) empty_draft) (sym same);
+      ended = at_end ∙ sym any;
+      counted = λ h. let both : true ≡ false = sym any ∙ h in cc;
+    }
+
 -- ---- a reader
 
 -- A reader that was fed bytes still reads.
-pub fed-works : (reader : Option PieceReader) (bytes : List ℕ) → IsFedAll reader bytes → not (is_some reader) ≡ false
+pub fed-works : (reader : Option (PieceReader LineReader)) (bytes : List ℕ) → IsFedAll reader bytes → not (is_some reader) ≡ false
 fed-works None bytes h = absurd h
 fed-works (Some reader) bytes h = refl
 
 -- No line that is complete in the bytes that it was fed has a fault.
-pub fed-is_clean : (reader : Option PieceReader) (bytes : List ℕ) (fault : Fault) → IsFedAll reader bytes → IsFaultOfComplete bytes fault → ⊥
+pub fed-is_clean : (reader : Option (PieceReader LineReader)) (bytes : List ℕ) (fault : Fault) → IsFedAll reader bytes → IsFaultOfComplete bytes fault → ⊥
 fed-is_clean None bytes fault h found = h
 fed-is_clean (Some reader) bytes fault h found = let both : None ≡ Some fault = sym h.complete.clean ∙ found in cc

@@ -22,6 +22,5 @@ pub mod VectorDeclared
 pub mod ColumnDeclared
 pub mod KindClash
 pub mod ReadingAnswer
-pub mod OpenLine
 pub mod Fed
 pub mod FedLaws

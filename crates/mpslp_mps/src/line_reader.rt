@@ -1,21 +1,14 @@
-//! The lines of a text, read one after another.
+//! The lines of MPS text, read one after another.
 
-ghost use Rattle.std.specs.Prelude.{◌≡◌, ◌∷◌, ℕ, List, [], false};
-ghost use Rattle.std.specs.Str.Lines.{lines};
-ghost use Rattle.mpslp_reading.specs.LegalLine.{has_legal_length};
-ghost use Rattle.mpslp_mps.specs.Section.{is_section};
-ghost use Rattle.mpslp_mps.specs.declared.sections.Section.{Section};
-ghost use Rattle.mpslp_mps.specs.ReadingAnswer.{ReadsMps};
-ghost use Rattle.mpslp_mps.specs.Fed.{HasRead, IsReader, RefusesLines, ReadsOn};
+ghost use Rattle.std.specs.Prelude.{◌≡◌};
 
 use crate::context::LineContext;
 use crate::items::read_line;
-use bstr::ByteSlice;
 use mpslp_model::{Builder, Fault, FaultKind, Model, ReadFault};
-use mpslp_reading::{LineError, read_fault};
+use mpslp_reading::{LineError, ReadLines, read_fault};
 use std::alloc::Global;
 
-/// Reads the lines of a text one after another, and keeps none of them. After an error it is not to be used any more.
+/// Reads the lines of MPS text one after another.
 #[derive(Drop)]
 pub(crate) struct LineReader {
     alloc: Global,
@@ -25,11 +18,23 @@ pub(crate) struct LineReader {
     number: u64,
 }
 
-impl LineReader {
-    /// No line was read. No memory is taken.
-    pub(crate) fn new(alloc: Global) -> LineReader
-        ensures { HasRead result [] }
-    {
+impl ReadLines for LineReader {
+    ghost use Rattle.mpslp_mps.specs.MpsText.{DeclaresMps};
+    ghost use Rattle.mpslp_mps.specs.FirstFault.{IsFirstMpsFault};
+    ghost use Rattle.mpslp_mps.specs.Fed.{HasRead, is_ended, IsFaultOfLines};
+    ghost use Rattle.mpslp_mps.specs.FedLaws.{read-behind_end, lines_fault-stays, lines_fault-is_first};
+
+    ghost has_read = { HasRead };
+
+    ghost at_end = { is_ended };
+
+    ghost lines_fault = { IsFaultOfLines };
+
+    ghost declares = { DeclaresMps };
+
+    ghost first_fault = { IsFirstMpsFault };
+
+    fn new(alloc: Global) -> LineReader {
         LineReader {
             alloc,
             context: LineContext::new(alloc),
@@ -38,27 +43,15 @@ impl LineReader {
         }
     }
 
-    /// Whether the line of ENDATA has been read.
-    pub(crate) fn is_at_end(&self) -> bool
-        ensures { result ≡ is_section Section.EndData self.now.context.section }
-    {
+    fn is_at_end(&self) -> bool {
         self.context.is_at_end()
     }
 
-    /// Why the next line is not read, where it is longer than a line may be.
-    pub(crate) fn refuse_long(&self) -> ReadFault
-        requires unended { is_section Section.EndData self.now.context.section ≡ false }
-        ensures { (line : List ℕ) → has_legal_length line ≡ false → RefusesLines self.now (line ∷ []) result }
-    {
+    fn refuse_long(&self) -> ReadFault {
         read_fault(self.number, LineError::Fault(FaultKind::LineTooLong))
     }
 
-    /// Reads the next line.
-    pub(crate) fn read_line(&mut self, line: &[u8]) -> Result<(), ReadFault>
-        requires reader { IsReader self.old }
-        requires unended { is_section Section.EndData self.old.context.section ≡ false }
-        ensures { ReadsOn self.old (line.now ∷ []) self.new result }
-    {
+    fn read_line(&mut self, line: &[u8]) -> Result<(), ReadFault> {
         match read_line(&mut self.context, &mut self.builder, self.alloc, line) {
             Ok(()) => {}
             Err(error) => return Err(read_fault(self.number, error)),
@@ -67,26 +60,7 @@ impl LineReader {
         Ok(())
     }
 
-    /// Reads the lines of the next part of the text, up to that of ENDATA.
-    pub(crate) fn read_lines(&mut self, part: &[u8]) -> Result<(), ReadFault>
-        requires reader { IsReader self.old }
-        requires unended { is_section Section.EndData self.old.context.section ≡ false }
-        ensures { ReadsOn self.old (lines part.now) self.new result }
-    {
-        for line in part.lines() {
-            self.read_line(line)?;
-            if self.is_at_end() {
-                return Ok(());
-            }
-        }
-        Ok(())
-    }
-
-    /// What the text declares, of which all lines were read.
-    pub(crate) fn finish(self) -> Result<Model, ReadFault>
-        requires { IsReader self }
-        ensures { (bytes : List ℕ) → HasRead self (lines bytes) → ReadsMps bytes result }
-    {
+    fn finish(self) -> Result<Model, ReadFault> {
         if !self.is_at_end() {
             return Err(ReadFault::File(Fault {
                 kind: FaultKind::MissingEnd,
@@ -96,4 +70,10 @@ impl LineReader {
         }
         self.builder.finish()
     }
+
+    ghost behind_end = { read-behind_end };
+
+    ghost fault_stays = { lines_fault-stays };
+
+    ghost fault_is_first = { lines_fault-is_first };
 }

@@ -1,7 +1,8 @@
 //! A reader of MPS text that comes in pieces.
 
-use crate::piece_reader::PieceReader;
+use crate::line_reader::LineReader;
 use mpslp_model::{ModelReader, ReadFault};
+use mpslp_reading::PieceReader;
 use std::alloc::Global;
 use std::marker::Model;
 
@@ -15,19 +16,21 @@ use std::marker::Model;
 #[derive(Drop)]
 pub struct MpsReader {
     /// There is none after a piece was refused.
-    pieces: Option<PieceReader>,
+    pieces: Option<PieceReader<LineReader>>,
 }
 
 impl Model for MpsReader {
     ghost use Rattle.std.specs.Prelude.{Option, IfSome};
-    ghost use Rattle.mpslp_mps.specs.declared.piece_reader.PieceReader.{PieceReader};
-    ghost use Rattle.mpslp_mps.specs.Fed.{WasFed, KeepsNoneBehindEnd};
+    ghost use Rattle.mpslp_reading.specs.declared.piece_reader.PieceReader.{PieceReader};
+    ghost use Rattle.mpslp_reading.specs.Pieces.{WasFed, KeepsNoneBehindEnd};
+    ghost use Rattle.mpslp_mps.specs.declared.line_reader.LineReader.{LineReader};
+    ghost use Rattle.mpslp_mps.specs.Fed.{HasRead, is_ended};
 
-    ghost Value = { Option PieceReader };
+    ghost Value = { Option (PieceReader LineReader) };
 
     ghost view = { λ reader. reader.pieces };
 
-    ghost invariant = { λ reader. IfSome reader.pieces (λ pieces. WasFed pieces × KeepsNoneBehindEnd pieces) };
+    ghost invariant = { λ reader. IfSome reader.pieces (λ pieces. WasFed HasRead is_ended pieces × KeepsNoneBehindEnd is_ended pieces) };
 }
 
 impl ModelReader for MpsReader {

@@ -8,3 +8,7 @@ pub mod FieldLemmas
 pub mod ObjectiveLemmas
 pub mod AnswerLemmas
 pub mod UnchangedLemmas
+pub mod LineLemmas
+pub mod LineEndLemmas
+pub mod PieceLemmas
+pub mod ReadLinesLemmas

@@ -4,3 +4,6 @@ pub mod Field
 pub mod Declaring
 pub mod ErrorOf
 pub mod LineAnswer
+pub mod OpenLine
+pub mod LinesRead
+pub mod Pieces

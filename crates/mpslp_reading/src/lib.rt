@@ -1,17 +1,26 @@
 //! What a reader of either text format shares: the limits of a line, the faults of names and number literals, the first
-//! fault of a line after the lines before it, and why a line is not read.
+//! fault of a line after the lines before it, why a line is not read, and texts that come in pieces.
 //!
 //! Each format has its own lines, tokens and grammar. The definitions are in `specs/`: tests in the order of the kinds of
 //! faults (`Tests`), lines of legal length and bytes (`LegalLine`), names and literals (`Field`), the faults of what is
-//! declared (`Declaring`), and what is answered of a line (`LineAnswer`).
+//! declared (`Declaring`), what is answered of a line (`LineAnswer`) and of lines behind others (`LinesRead`), what is kept of
+//! a line that is not complete (`OpenLine`), and what was read of a text in pieces (`Pieces`).
+//!
+//! A format gives [`ReadLines`], what reads its lines one after another, and [`PieceReader`] cuts pieces into lines for it.
 #![tactic(auto)]
 
 mod errors;
 mod kinds;
+mod line_ends;
 mod lines;
 mod literals;
+mod open_line;
+mod piece_reader;
+mod read_lines;
 
 pub use errors::{LineError, read_fault};
 pub use kinds::lesser_kind;
 pub use lines::{MAX_LINE_LEN, are_legal_bytes, has_legal_length};
 pub use literals::{kind_of_number, lesser_fault, value_of};
+pub use piece_reader::PieceReader;
+pub use read_lines::ReadLines;

@@ -1,0 +1,19 @@
+use Rattle.std.proofs.Common.{sym, subst, ap, ◌∙◌}
+use Rattle.std.specs.Prelude.{is_some}
+use Rattle.mpslp_builder.specs.Declaration.{Draft}
+use Rattle.mpslp_builder.specs.Finish.{Finishes}
+use Rattle.mpslp_lp.proofs.LineReaderLemmas.{led-named, ends-missing, ends-text}
+use Rattle.mpslp_lp.proofs.line_reader.LineReaderReadLines.finish.Goals as goal
+
+pub finish-requires : goal.finish-requires
+finish-requires c =
+    ap (λ (draft : Draft). is_some draft.objective) c.into_builder.ensures
+    ∙ led-named c.requires.text c.args.self c.requires.read (sym c.is_at_end.ensures ∙ c.if-not-is_at_end.false)
+
+pub returns-then-not-is_at_end : goal.returns-then-not-is_at_end
+returns-then-not-is_at_end c = λ bytes read. ends-missing bytes c.args.self read (sym c.is_at_end.ensures ∙ c.if-not-is_at_end.true)
+
+pub returns : goal.returns
+returns c = λ bytes read.
+    ends-text bytes c.args.self c.finish.result read (sym c.is_at_end.ensures ∙ c.if-not-is_at_end.false)
+    (subst (λ (draft : Draft). Finishes draft c.finish.result) c.into_builder.ensures c.finish.ensures)

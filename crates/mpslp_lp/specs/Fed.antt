@@ -1,0 +1,45 @@
+-- What is known of LP text that is fed in pieces.
+use Rattle.std.specs.Prelude.{◌≡◌, ℕ, ◌-◌, ◌^◌, ◌≤◌, Bool, List, ◌++◌, Option, None, Some}
+use Rattle.std.specs.List.{enumerate_from}
+use Rattle.mpslp_builder.specs.Declaration.{Draft}
+use Rattle.mpslp_types.specs.declared.faults.Fault.{Fault}
+use Rattle.mpslp_model.specs.CompleteLines.{complete_lines}
+use Rattle.mpslp_reading.specs.Pieces.{IsFed}
+use Rattle.mpslp_reading.specs.declared.piece_reader.PieceReader.{PieceReader}
+use Rattle.mpslp_lp.specs.Rules.{Outcome}
+use Rattle.mpslp_lp.specs.Rules.Outcome.{Refused}
+use Rattle.mpslp_lp.specs.LpText.{lines_say}
+use Rattle.mpslp_lp.specs.ReadingLines.{is_at_end, read_from}
+use Rattle.mpslp_lp.specs.declared.before.Before.{Before}
+use Rattle.mpslp_lp.specs.declared.line_reader.LineReader.{LineReader}
+use Rattle.mpslp_lp.specs.declared.states.State.{State}
+
+-- what a text of these lines says
+abbrev pub lines_outcome : List (List ℕ) → Outcome Fault Draft
+lines_outcome text = lines_say (enumerate_from 1 text)
+
+-- A text that begins with these lines has this fault on one of them, whatever lines follow.
+abbrev pub IsFaultOfLines : List (List ℕ) → Fault → Type 0
+IsFaultOfLines text fault = (more : List (List ℕ)) → lines_outcome (text ++ more) ≡ Refused fault
+
+-- This is the fault of the first complete line that has one.
+abbrev pub IsFaultOfComplete : List ℕ → Fault → Type 0
+IsFaultOfComplete bytes fault = IsFaultOfLines (complete_lines bytes) fault
+
+-- Lines were read from the first on, and none has a fault: whatever lines follow, they decide from what stands before them,
+-- the state that the lines led to, and the number of the next line.
+pub record LedTo (text : List (List ℕ)) (before : Before) (state : State) (number : ℕ) : Type 0 where
+  pub counted : number ≤ 2 ^ 64 - 1
+  pub decides : (more : List (List ℕ)) → lines_outcome (text ++ more) ≡ read_from before state (enumerate_from number more)
+
+abbrev pub HasRead : LineReader → List (List ℕ) → Type 0
+HasRead reader text = LedTo text reader.before reader.state reader.number
+
+-- the line of `end` was read
+abbrev pub is_ended : LineReader → Bool
+is_ended reader = is_at_end reader.state
+
+-- These bytes were fed, and none of them was refused.
+abbrev pub IsFedAll : Option (PieceReader LineReader) → List ℕ → Type 0
+IsFedAll None bytes = ⊥
+IsFedAll (Some reader) bytes = IsFed HasRead is_ended reader bytes

@@ -1,0 +1,125 @@
+//! The lines of LP text, read one after another.
+
+ghost use Rattle.std.specs.Prelude.{◌≡◌};
+ghost use Rattle.mpslp_lp.specs.Point.{none_opened, start};
+ghost use Rattle.mpslp_lp.specs.ReadingLines.{is_at_end};
+
+use crate::before::Before;
+use crate::declared::Declared;
+use crate::lines::read_line;
+use crate::opened::Opened;
+use crate::states::{Place, State};
+use mpslp_model::{Fault, FaultKind, Model, ReadFault};
+use mpslp_reading::{LineError, ReadLines, read_fault};
+use std::alloc::Global;
+use std::mem::replace;
+
+impl Opened {
+    /// No section was opened.
+    fn none() -> Opened
+        ensures { result ≡ none_opened }
+    {
+        Opened {
+            objective: false,
+            rows: false,
+            bounds: false,
+            generals: false,
+            binaries: false,
+            semis: false,
+            end: false,
+        }
+    }
+}
+
+impl Before {
+    /// What stands before a text.
+    fn start(alloc: Global) -> Before
+        ensures { result ≡ start.before }
+    {
+        Before {
+            opened: Opened::none(),
+            earlier: Declared::new(alloc),
+        }
+    }
+}
+
+impl State {
+    /// Whether `end` was the last token.
+    fn is_at_end(&self) -> bool
+        ensures { result ≡ is_at_end self.now }
+    {
+        match self {
+            State::AfterEnd => true,
+            _ => false,
+        }
+    }
+}
+
+/// Reads the lines of LP text one after another.
+#[derive(Drop)]
+pub(crate) struct LineReader {
+    before: Before,
+    state: State,
+    /// The number of the next line, up to 2^64 - 1.
+    number: u64,
+}
+
+impl ReadLines for LineReader {
+    ghost use Rattle.mpslp_lp.specs.LpText.{DeclaresLp};
+    ghost use Rattle.mpslp_lp.specs.FirstFault.{IsFirstLpFault};
+    ghost use Rattle.mpslp_lp.specs.Fed.{HasRead, is_ended, IsFaultOfLines};
+    ghost use Rattle.mpslp_lp.specs.FedLaws.{read-behind_end, lines_fault-stays, lines_fault-is_first};
+
+    ghost has_read = { HasRead };
+
+    ghost at_end = { is_ended };
+
+    ghost lines_fault = { IsFaultOfLines };
+
+    ghost declares = { DeclaresLp };
+
+    ghost first_fault = { IsFirstLpFault };
+
+    fn new(alloc: Global) -> LineReader {
+        LineReader {
+            before: Before::start(alloc),
+            state: State::Between(Place::AtStart),
+            number: 1,
+        }
+    }
+
+    fn is_at_end(&self) -> bool {
+        self.state.is_at_end()
+    }
+
+    fn refuse_long(&self) -> ReadFault {
+        read_fault(self.number, LineError::Fault(FaultKind::LineTooLong))
+    }
+
+    fn read_line(&mut self, line: &[u8]) -> Result<(), ReadFault> {
+        let state = replace(&mut self.state, State::AfterEnd);
+        match read_line(&mut self.before, state, line) {
+            Ok(next) => self.state = next,
+            Err(error) => return Err(read_fault(self.number, error)),
+        }
+        self.number = self.number.saturating_add(1);
+        Ok(())
+    }
+
+    fn finish(self) -> Result<Model, ReadFault> {
+        if !self.is_at_end() {
+            return Err(ReadFault::File(Fault {
+                kind: FaultKind::MissingEnd,
+                line: 0,
+                name: None,
+            }));
+        }
+        self.before.earlier.into_builder().finish()
+    }
+
+    ghost behind_end = { read-behind_end };
+
+    ghost fault_stays = { lines_fault-stays };
+
+    ghost fault_is_first = { lines_fault-is_first };
+}

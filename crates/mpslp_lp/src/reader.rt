@@ -1,0 +1,81 @@
+//! A reader of LP text that comes in pieces.
+
+use crate::line_reader::LineReader;
+use mpslp_model::{ModelReader, ReadFault};
+use mpslp_reading::PieceReader;
+use std::alloc::Global;
+use std::marker::Model;
+
+/// A reader of LP text that comes in pieces of any length. What the pieces were does not matter: it answers of all of them
+/// together what [`read_lp`](crate::read_lp) answers of the whole text.
+///
+/// It keeps what is declared, the row that is not complete, and of the text only the line that is not complete: at most
+/// 1,048,577 bytes of it, none where the line of `end` is complete. A line is completed by its line feed, the last one perhaps
+/// by the end of the text. Lines that are complete in a piece are not copied. After the line of `end` each piece is taken, and
+/// not looked at.
+#[derive(Drop)]
+pub struct LpReader {
+    /// There is none after a piece was refused.
+    pieces: Option<PieceReader<LineReader>>,
+}
+
+impl Model for LpReader {
+    ghost use Rattle.std.specs.Prelude.{Option, IfSome};
+    ghost use Rattle.mpslp_reading.specs.declared.piece_reader.PieceReader.{PieceReader};
+    ghost use Rattle.mpslp_reading.specs.Pieces.{WasFed, KeepsNoneBehindEnd};
+    ghost use Rattle.mpslp_lp.specs.declared.line_reader.LineReader.{LineReader};
+    ghost use Rattle.mpslp_lp.specs.Fed.{HasRead, is_ended};
+
+    ghost Value = { Option (PieceReader LineReader) };
+
+    ghost view = { λ reader. reader.pieces };
+
+    ghost invariant = { λ reader. IfSome reader.pieces (λ pieces. WasFed HasRead is_ended pieces × KeepsNoneBehindEnd is_ended pieces) };
+}
+
+impl ModelReader for LpReader {
+    ghost use Rattle.std.specs.Prelude.{is_some, not};
+    ghost use Rattle.mpslp_lp.specs.LpText.{DeclaresLp};
+    ghost use Rattle.mpslp_lp.specs.FirstFault.{IsFirstLpFault};
+    ghost use Rattle.mpslp_lp.specs.Fed.{IsFedAll, IsFaultOfComplete};
+    ghost use Rattle.mpslp_lp.specs.FedLaws.{fed-works, fed-is_clean, complete-is_first};
+
+    ghost after = { IsFedAll };
+
+    ghost refused = { λ reader. not (is_some reader) };
+
+    ghost declares = { DeclaresLp };
+
+    ghost first_fault = { IsFirstLpFault };
+
+    ghost early_fault = { IsFaultOfComplete };
+
+    fn new(alloc: Global) -> LpReader {
+        LpReader {
+            pieces: Some(PieceReader::new(alloc)),
+        }
+    }
+
+    fn feed(&mut self, piece: &[u8]) -> Result<(), ReadFault> {
+        let Some(mut pieces) = self.pieces.take() else {
+            return Err(ReadFault::Failed);
+        };
+        pieces.feed(piece)?;
+        self.pieces = Some(pieces);
+        Ok(())
+    }
+
+    fn finish(self) -> Result<mpslp_model::Model, ReadFault> {
+        let LpReader { pieces } = self;
+        match pieces {
+            Some(pieces) => pieces.finish(),
+            None => Err(ReadFault::Failed),
+        }
+    }
+
+    ghost after_works = { fed-works };
+
+    ghost after_is_clean = { fed-is_clean };
+
+    ghost early_is_first = { complete-is_first };
+}

@@ -1,0 +1,18 @@
+use Rattle.mpslp_mps.proofs.FedLemmas.{led-sides, led-line}
+use Rattle.mpslp_mps.proofs.LineReaderLemmas.{refuses-line}
+use Rattle.mpslp_mps.proofs.line_reader.LineReaderReadLines.read_line.Goals as goal
+
+pub read_line-requires : goal.read_line-requires
+read_line-requires c =
+    let reader = c.args.self.now in
+    led-sides c.requires.reader.text reader.context reader.builder reader.number c.requires.reader.read
+
+pub returns-in-Err : goal.returns-in-Err
+returns-in-Err c = refuses-line c.args.self.now c.args.line.now c.in-Err.error c.read_fault.result c.requires.unended c.in-Err.ensures.answers c.read_fault.ensures
+
+pub returns : goal.returns
+returns c = λ before led.
+    let reader = c.args.self.now in
+    let answers = c.in-Ok.ensures.answers in
+    led-line before reader.context reader.builder reader.number led c.requires.unended c.args.line.now c.read_line.new.context c.read_line.new.builder c.saturating_add-self.result
+    answers.0 answers.1 answers.2 c.saturating_add-self.ensures

@@ -1,0 +1,21 @@
+-- What a reader answers of lines that it reads behind others.
+use Rattle.std.specs.Prelude.{ℕ, List, ◌++◌, Result, MatchResult}
+use Rattle.mpslp_types.specs.declared.faults.Fault.{Fault}
+use Rattle.mpslp_types.specs.declared.faults.ReadFault.{ReadFault}
+use Rattle.mpslp_types.specs.declared.faults.ReadFault.TheVariants.{File, Failed, OutOfMemory}
+
+-- It has read some lines.
+pub record IsReader {L : Type 0} (has_read : L → List (List ℕ) → Type 0) (reader : L) : Type 0 where
+  pub text : List (List ℕ)
+  pub read : has_read reader text
+
+-- One of these lines, read behind others, has the first fault; or there was no memory.
+abbrev pub RefusesLines : {L : Type 0} → (L → List (List ℕ) → Type 0) → (List (List ℕ) → Fault → Type 0) → L → List (List ℕ) → ReadFault → Type 0
+RefusesLines has_read lines_fault old text (File fault) = (before : List (List ℕ)) → has_read old before → lines_fault (before ++ text) fault
+RefusesLines has_read lines_fault old text Failed = ⊥
+RefusesLines has_read lines_fault old text OutOfMemory = Unit {0}
+
+-- These lines were read behind others, or why not.
+abbrev pub ReadsOn : {L : Type 0} → (L → List (List ℕ) → Type 0) → (List (List ℕ) → Fault → Type 0) → L → List (List ℕ) → L → Result (Unit {0}) ReadFault → Type 0
+ReadsOn has_read lines_fault old text new answer =
+    MatchResult answer (λ _. (before : List (List ℕ)) → has_read old before → has_read new (before ++ text)) (RefusesLines has_read lines_fault old text)
