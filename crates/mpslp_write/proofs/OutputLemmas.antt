@@ -1,7 +1,8 @@
 -- How what was put grows piece by piece, and by what is handed to the sink.
 use Rattle.std.proofs.Common.{◌≡◌, refl, sym, ap, subst, ◌∙◌, ℕ, ◌+◌, ◌-◌, ◌^◌, ◌<◌, ◌≤◌, min, Bool, true, false, inl, inr, List, [], ◌∷◌, ◌++◌, length, take, append_assoc, append-nil, arith}
-use Rattle.std.specs.Prelude.{Result, Ok, Err, None, IsOk}
+use Rattle.std.specs.Prelude.{Option, Some, None, Result, Ok, Err, IsOk}
 use Rattle.mpslp_core.specs.Model.{LinearModel}
+use Rattle.mpslp_types.specs.declared.faults.NameAt.{NameAt}
 use Rattle.mpslp_types.specs.declared.faults.WriteFault.{WriteFault}
 use Rattle.mpslp_types.specs.declared.faults.WriteFault.TheVariants.{Write, NotLp}
 use Rattle.std.proofs.Math.Seq.{take-append-add}
@@ -258,14 +259,19 @@ module _ {S L : Type 0} {printed : L → List ℕ} {holds : S → List ℕ → T
 
 -- ---- what a caller is told
 
-pub taken-written : {S : Type 0} (holds : S → List ℕ → Type 0) (failed : S → Bool) (text : LinearModel → List ℕ) (m : LinearModel) (first now : S) (r : Result (Unit {0}) WriteFault)
-    → IsTaken holds failed first now (text m) r → IsWritten (λ _. None) text holds failed m first now r
-taken-written holds failed text m first now (Ok _) h = (refl, h)
-taken-written holds failed text m first now (Err (Write written)) h = (refl, h.0, h.1)
-taken-written holds failed text m first now (Err (NotLp place)) h = absurd h
+pub taken-written : {S : Type 0} (holds : S → List ℕ → Type 0) (failed : S → Bool) (unfit : LinearModel → Option NameAt) (text : LinearModel → List ℕ) (m : LinearModel) (first now : S)
+    (r : Result (Unit {0}) WriteFault) → unfit m ≡ None → IsTaken holds failed first now (text m) r → IsWritten unfit text holds failed m first now r
+taken-written holds failed unfit text m first now (Ok _) fits h = (fits, h)
+taken-written holds failed unfit text m first now (Err (Write written)) fits h = (fits, h.0, h.1)
+taken-written holds failed unfit text m first now (Err (NotLp place)) fits h = absurd h
 
 pub taken-succeeds : {S : Type 0} (holds : S → List ℕ → Type 0) (failed : S → Bool) (first now : S) (text : List ℕ) (r : Result (Unit {0}) WriteFault)
     → IsTaken holds failed first now text r → failed now ≡ false → IsOk r
 taken-succeeds holds failed first now text (Ok _) h works = refl
 taken-succeeds holds failed first now text (Err (Write written)) h works = absurd (not_both h.0 works)
 taken-succeeds holds failed first now text (Err (NotLp place)) h works = absurd h
+
+-- where each answer with a place was taken, none is left
+pub none-left : {X : Type 0} (o : Option X) → ((x : X) → o ≡ Some x → ⊥) → o ≡ None
+none-left None never = refl
+none-left (Some x) never = absurd (never x refl)
