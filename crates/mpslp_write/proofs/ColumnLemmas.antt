@@ -58,7 +58,7 @@ part-lines part f es j b is =
 -- ---- the lines of one column
 
 -- what is printed by the name of an entry
-pub named-lines : {X : Type 0} (g : List ℕ → Lines) (es : List (List ℕ × X)) (j : ℕ) → j < length (map (λ e. e.0) es) → g (slice_index_or (map (λ e. e.0) es) j []) ≡ lines_at (λ e. g e.0) es j
+pub named-lines : {X L : Type 0} (g : List ℕ → List L) (es : List (List ℕ × X)) (j : ℕ) → j < length (map (λ e. e.0) es) → g (slice_index_or (map (λ e. e.0) es) j []) ≡ lines_at (λ e. g e.0) es j
 named-lines {X} g es j h = by (slice_get es j) (sym (slice_get-map (λ (e : List ℕ × X). e.0) es j) ∙ slice_get-get_or (map (λ (e : List ℕ × X). e.0) es) j [] h)
   where
     by : (o : Option (List ℕ × X)) → option_map (λ (e : List ℕ × X). e.0) o ≡ Some (slice_index_or (map (λ (e : List ℕ × X). e.0) es) j [])
@@ -73,18 +73,19 @@ elements-lines : (column : List ℕ) (es : List (CoefficientKey × Number)) → 
 elements-lines column [] = refl
 elements-lines column (e ∷ es) = ap (λ (l : Lines). cell_line column (e.0.row, e.1) ∷ l) (elements-lines column es)
 
+pub coefficient-not_zero : (m : LinearModel) → IsSound m → (row column : List ℕ) (v : Number)
+    → find key_cmp (place_at row column) (entries m.coefficients) ≡ Some v → is_zero v ≡ false
+coefficient-not_zero m sound row column v is =
+    let h = sound-listing m sound in
+    let at = found-each key_cmp key_total same_key (λ key value. is_sound_entry (listing_of m) (key, value) ≡ true) (listing_of m).coefficients h.coefficients (place_at row column) v is in
+    not_so (is_zero v) (first_so (not (is_zero v)) _ (second_so (is_decimal v) _ at))
+
 module _ (m : LinearModel) (sound : IsSound m) (column : List ℕ) where
   abbrev here : Option Number
   here = find key_cmp (place_at m.objective column) (entries m.coefficients)
 
   abbrev row_lines : Lines
   row_lines = flat_map (element_lines column) (column_elements m column)
-
-  not-zero : (v : Number) → here ≡ Some v → is_zero v ≡ false
-  not-zero v is =
-      let h = sound-listing m sound in
-      let at = found-each key_cmp key_total same_key (λ key value. is_sound_entry (listing_of m) (key, value) ≡ true) (listing_of m).coefficients h.coefficients (place_at m.objective column) v is in
-      not_so (is_zero v) (first_so (not (is_zero v)) _ (second_so (is_decimal v) _ at))
 
   joined : (o : Option Number) (es : List (CoefficientKey × Number)) → ((v : Number) → o ≡ Some v → is_zero v ≡ false)
       → objective_line_at m.objective column (unwrap_or o zero_number) es ++ map (cell_line column) (map by_row es)
@@ -98,7 +99,7 @@ module _ (m : LinearModel) (sound : IsSound m) (column : List ℕ) where
   pub column-joined : objective_lines m column ++ row_lines ≡ map (cell_line column) (printed_cells m.objective (column_cells (listing_of m) column))
   column-joined =
       ap (λ (l : Lines). objective_lines m column ++ l) (elements-lines column (column_elements m column))
-      ∙ joined here (column_elements m column) not-zero
+      ∙ joined here (column_elements m column) (coefficient-not_zero m sound m.objective column)
       ∙ ap (λ (cells : List (List ℕ × Number)). map (cell_line column) (printed_cells m.objective cells)) (sym (column-cells m sound column))
 
 -- ---- the objective's line, and that of an element

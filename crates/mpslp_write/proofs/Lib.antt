@@ -7,3 +7,6 @@ pub mod BoundLines
 pub mod RowLines
 pub mod IntegerPart
 pub mod DifferenceLemmas
+pub mod LpLineTexts
+pub mod LpTerms
+pub mod FirstPlace

@@ -5,38 +5,37 @@ use Rattle.std.specs.List.{flat_map}
 use Rattle.std.specs.Option.{option_map, option_map_or}
 use Rattle.std.proofs.lemmas.List.{length-map}
 use Rattle.std.proofs.lemmas.Option.{slice_get-map}
-use Rattle.mpslp_canonical.specs.CanonicalMps.{Lines}
 use Rattle.mpslp_write.specs.LinesAt.{lines_at}
 
 -- ---- one entry more
 
-pub flat_map-more : {X : Type 0} (f : X → Lines) (xs : List X) (i : ℕ) → flat_map f (take (suc i) xs) ≡ flat_map f (take i xs) ++ lines_at f xs i
+pub flat_map-more : {X L : Type 0} (f : X → List L) (xs : List X) (i : ℕ) → flat_map f (take (suc i) xs) ≡ flat_map f (take i xs) ++ lines_at f xs i
 flat_map-more f [] zero = refl
 flat_map-more f [] (suc i) = refl
 flat_map-more f (x ∷ xs) zero = append-nil (f x)
-flat_map-more f (x ∷ xs) (suc i) = ap (λ (l : Lines). f x ++ l) (flat_map-more f xs i) ∙ sym (append_assoc (f x) (flat_map f (take i xs)) (lines_at f xs i))
+flat_map-more f (x ∷ xs) (suc i) = ap (λ (l : List _). f x ++ l) (flat_map-more f xs i) ∙ sym (append_assoc (f x) (flat_map f (take i xs)) (lines_at f xs i))
 
-pub flat_map-all : {X : Type 0} (f : X → Lines) (xs : List X) (n : ℕ) → length xs ≤ n → flat_map f (take n xs) ≡ flat_map f xs
+pub flat_map-all : {X L : Type 0} (f : X → List L) (xs : List X) (n : ℕ) → length xs ≤ n → flat_map f (take n xs) ≡ flat_map f xs
 flat_map-all f [] zero h = refl
 flat_map-all f [] (suc n) h = refl
 flat_map-all f (x ∷ xs) zero h = absurd (omega arith)
-flat_map-all f (x ∷ xs) (suc n) h = ap (λ (l : Lines). f x ++ l) (flat_map-all f xs n (omega arith))
+flat_map-all f (x ∷ xs) (suc n) h = ap (λ (l : List _). f x ++ l) (flat_map-all f xs n (omega arith))
 
-pub flat_map-rest : {X : Type 0} (f : X → Lines) (xs : List X) (i : ℕ) → flat_map f (take i xs) ++ flat_map f (drop i xs) ≡ flat_map f xs
+pub flat_map-rest : {X L : Type 0} (f : X → List L) (xs : List X) (i : ℕ) → flat_map f (take i xs) ++ flat_map f (drop i xs) ≡ flat_map f xs
 flat_map-rest f [] zero = refl
 flat_map-rest f [] (suc i) = refl
 flat_map-rest f (x ∷ xs) zero = refl
-flat_map-rest f (x ∷ xs) (suc i) = append_assoc (f x) (flat_map f (take i xs)) (flat_map f (drop i xs)) ∙ ap (λ (l : Lines). f x ++ l) (flat_map-rest f xs i)
+flat_map-rest f (x ∷ xs) (suc i) = append_assoc (f x) (flat_map f (take i xs)) (flat_map f (drop i xs)) ∙ ap (λ (l : List _). f x ++ l) (flat_map-rest f xs i)
 
 pub map-flat_map : {X Y : Type 0} (f : X → Y) (xs : List X) → flat_map (λ x. f x ∷ []) xs ≡ map f xs
 map-flat_map f [] = refl
 map-flat_map f (x ∷ xs) = ap (λ (l : List _). f x ∷ l) (map-flat_map f xs)
 
-pub flat_map-filter : {X : Type 0} (f : X → Lines) (p : X → Bool) (xs : List X) → flat_map (λ x. cond (p x) (f x) []) xs ≡ flat_map f (filter p xs)
+pub flat_map-filter : {X L : Type 0} (f : X → List L) (p : X → Bool) (xs : List X) → flat_map (λ x. cond (p x) (f x) []) xs ≡ flat_map f (filter p xs)
 flat_map-filter f p [] = refl
 flat_map-filter {X} f p (x ∷ xs) =
     elim (p x) as (λ b. cond b (f x) [] ++ flat_map (λ x. cond (p x) (f x) []) xs ≡ flat_map f (cond b (x ∷ filter p xs) (filter p xs))) [
-      | true ↦ ap (λ (l : Lines). f x ++ l) (flat_map-filter f p xs)
+      | true ↦ ap (λ (l : List _). f x ++ l) (flat_map-filter f p xs)
       | false ↦ flat_map-filter f p xs
     ]
 
@@ -52,7 +51,7 @@ both_seen {X} {A} {B} {C} f g h (Some x) a b p q =
     λ i. Some (h (left i) (right i))
 
 -- the lines of an entry, by its name and what a view tells of it
-pub lines_seen : {X Y : Type 0} (es : List (List ℕ × X)) (i : ℕ) (f : X → Y) (h : List ℕ → Y → Lines) (name : List ℕ) (seen : Y) → slice_get (map (λ e. e.0) es) i ≡ Some name
+pub lines_seen : {X Y L : Type 0} (es : List (List ℕ × X)) (i : ℕ) (f : X → Y) (h : List ℕ → Y → List L) (name : List ℕ) (seen : Y) → slice_get (map (λ e. e.0) es) i ≡ Some name
     → option_map f (slice_get (map (λ e. e.1) es) i) ≡ Some seen → h name seen ≡ lines_at (λ e. h e.0 (f e.1)) es i
 lines_seen {X} {Y} es i f h name seen named is =
     by (slice_get es i) (sym (slice_get-map (λ (e : List ℕ × X). e.0) es i) ∙ named) (ap (option_map f) (sym (slice_get-map (λ (e : List ℕ × X). e.1) es i)) ∙ is)
@@ -70,15 +69,15 @@ lines_seen {X} {Y} es i f h name seen named is =
 
 -- ---- one entry more, where the number goes on by 1
 
-pub flat_map-next : {X : Type 0} (f : X → Lines) (xs : List X) (i : ℕ) → flat_map f (take i xs) ++ lines_at f xs i ≡ flat_map f (take (i + 1) xs)
+pub flat_map-next : {X L : Type 0} (f : X → List L) (xs : List X) (i : ℕ) → flat_map f (take i xs) ++ lines_at f xs i ≡ flat_map f (take (i + 1) xs)
 flat_map-next f xs i = sym (ap (λ (n : ℕ). flat_map f (take n xs)) (add-one i) ∙ flat_map-more f xs i)
 
 -- the number of entries, by their names
-pub all-taken : {X : Type 0} (f : List ℕ × X → Lines) (es : List (List ℕ × X)) (n : ℕ) → length (map (λ e. e.0) es) ≤ n → flat_map f (take n es) ≡ flat_map f es
+pub all-taken : {X L : Type 0} (f : List ℕ × X → List L) (es : List (List ℕ × X)) (n : ℕ) → length (map (λ e. e.0) es) ≤ n → flat_map f (take n es) ≡ flat_map f es
 all-taken {X} f es n h = let named = length-map es (λ (e : List ℕ × X). e.0) in flat_map-all f es n (omega (arith, named, h))
 
 -- an entry of whose name nothing is printed
-pub nothing_seen : {X Y : Type 0} (es : List (List ℕ × X)) (i : ℕ) (f : X → Y) (h : List ℕ → Y → Lines) (seen : Y)
+pub nothing_seen : {X Y L : Type 0} (es : List (List ℕ × X)) (i : ℕ) (f : X → Y) (h : List ℕ → Y → List L) (seen : Y)
     → option_map f (slice_get (map (λ e. e.1) es) i) ≡ Some seen → ((name : List ℕ) → h name seen ≡ []) → [] ≡ lines_at (λ e. h e.0 (f e.1)) es i
 nothing_seen {X} {Y} es i f h seen is none = by (slice_get es i) (ap (option_map f) (sym (slice_get-map (λ (e : List ℕ × X). e.1) es i)) ∙ is)
   where

@@ -1,7 +1,8 @@
 -- How what was put grows piece by piece, and by what is handed to the sink.
 use Rattle.std.proofs.Common.{◌≡◌, refl, sym, ap, subst, ◌∙◌, ℕ, ◌+◌, ◌-◌, ◌^◌, ◌<◌, ◌≤◌, min, Bool, true, false, inl, inr, List, [], ◌∷◌, ◌++◌, length, take, append_assoc, append-nil, arith}
-use Rattle.std.specs.Prelude.{Result, Ok, Err, None, IsOk}
+use Rattle.std.specs.Prelude.{Option, Some, None, Result, Ok, Err, IsOk}
 use Rattle.mpslp_core.specs.Model.{LinearModel}
+use Rattle.mpslp_types.specs.declared.faults.NameAt.{NameAt}
 use Rattle.mpslp_types.specs.declared.faults.WriteFault.{WriteFault}
 use Rattle.mpslp_types.specs.declared.faults.WriteFault.TheVariants.{Write, NotLp}
 use Rattle.std.proofs.Math.Seq.{take-append-add}
@@ -15,43 +16,46 @@ use Rattle.mpslp_mps.specs.Section.{keyword_of}
 use Rattle.mpslp_mps.specs.declared.sections.Section.{Section}
 use Rattle.mpslp_canonical.specs.CanonicalMps.{Lines, under_header}
 use Rattle.mpslp_write.proofs.LinesAtLemmas.{flat_map-rest}
-use Rattle.mpslp_write.specs.Output.{Gathered, gathered, nothing_gathered, with_header, HasPut, Emits, PutsHeader, Prints, PrintsSection, text_under, header_behind}
-use Rattle.mpslp_canonical.specs.Printed.{PrintedLine, printed, text_of}
+use Rattle.mpslp_write.specs.Output.{Gathered, gathered, nothing_gathered, with_header, HasPut, Emits, PutsHeader, text_by, text_under, header_behind, Prints, PrintsSection}
+use Rattle.mpslp_canonical.specs.Printed.{printed, text_of}
 
-pub text_of-append : (front back : List PrintedLine) → text_of (front ++ back) ≡ text_of front ++ text_of back
-text_of-append [] back = refl
-text_of-append (line ∷ front) back =
+pub text_by-append : {L : Type 0} (printed : L → List ℕ) (front back : List L) → text_by printed (front ++ back) ≡ text_by printed front ++ text_by printed back
+text_by-append printed [] back = refl
+text_by-append printed (line ∷ front) back =
     let one = printed line ++ 10 ∷ [] in
-    ap (λ (l : List ℕ). one ++ l) (text_of-append front back) ∙ sym (append_assoc one (text_of front) (text_of back))
+    ap (λ (l : List ℕ). one ++ l) (text_by-append printed front back) ∙ sym (append_assoc one (text_by printed front) (text_by printed back))
 
 not_both : {b : Bool} → b ≡ true → b ≡ false → ⊥
 not_both p q = absurd cc
 
 -- ---- lines below a header
 
-no-header : (lines : List PrintedLine) → text_under [] lines ≡ text_of lines
-no-header [] = refl
-no-header (line ∷ lines) = refl
+module _ {L : Type 0} (printed : L → List ℕ) where
+  no-header : (lines : List L) → text_under printed [] lines ≡ text_by printed lines
+  no-header [] = refl
+  no-header (line ∷ lines) = refl
 
-none-behind : (lines : List PrintedLine) → header_behind [] lines ≡ []
+  -- part by part
+  text_under-append : (header : List ℕ) (front back : List L)
+      → text_under printed header front ++ text_under printed (header_behind header front) back ≡ text_under printed header (front ++ back)
+  text_under-append header [] back = refl
+  text_under-append header (line ∷ front) back =
+      ap (λ (l : List ℕ). (header ++ text_by printed (line ∷ front)) ++ l) (no-header back) ∙ append_assoc header (text_by printed (line ∷ front)) (text_by printed back)
+      ∙ ap (λ (l : List ℕ). header ++ l) (sym (text_by-append printed (line ∷ front) back))
+
+none-behind : {L : Type 0} (lines : List L) → header_behind [] lines ≡ []
 none-behind [] = refl
 none-behind (line ∷ lines) = refl
 
-pub under-text : (section : Section) (header : List ℕ) (lines : Lines) → header ≡ keyword_of section ++ 10 ∷ [] → text_under header lines ≡ text_of (under_header section lines)
-under-text section header [] is = refl
-under-text section header (line ∷ lines) is = ap (λ (l : List ℕ). l ++ text_of (line ∷ lines)) is
-
--- part by part
-text_under-append : (header : List ℕ) (front back : List PrintedLine)
-    → text_under header front ++ text_under (header_behind header front) back ≡ text_under header (front ++ back)
-text_under-append header [] back = refl
-text_under-append header (line ∷ front) back =
-    ap (λ (l : List ℕ). (header ++ text_of (line ∷ front)) ++ l) (no-header back) ∙ append_assoc header (text_of (line ∷ front)) (text_of back)
-    ∙ ap (λ (l : List ℕ). header ++ l) (sym (text_of-append (line ∷ front) back))
-
-header_behind-append : (header : List ℕ) (front back : List PrintedLine) → header_behind (header_behind header front) back ≡ header_behind header (front ++ back)
+header_behind-append : {L : Type 0} (header : List ℕ) (front back : List L) → header_behind (header_behind header front) back ≡ header_behind header (front ++ back)
 header_behind-append header [] back = refl
 header_behind-append header (line ∷ front) back = none-behind back
+
+-- of a section of MPS
+pub under-text : (section : Section) (header : List ℕ) (lines : Lines) → header ≡ keyword_of section ++ 10 ∷ []
+    → text_under printed header lines ≡ text_of (under_header section lines)
+under-text section header [] is = refl
+under-text section header (line ∷ lines) is = ap (λ (l : List ℕ). l ++ text_of (line ∷ lines)) is
 
 module _ {S : Type 0} (holds : S → List ℕ → Type 0) (failed : S → Bool) (count : S → ℕ) where
   -- what a sink took first is a first part of any longer text
@@ -175,66 +179,8 @@ module _ {S : Type 0} {holds : S → List ℕ → Type 0} {failed : S → Bool} 
     puts = λ first text header h. put_same (append_assoc text front back) refl (two.puts first (text ++ front) header (one.puts first text header h));
   }
 
-  emits_same : {a b : S} {x y : Gathered} {piece other : List ℕ} → piece ≡ other → Emits holds failed count a b x y piece → Emits holds failed count a b x y other
+  pub emits_same : {a b : S} {x y : Gathered} {piece other : List ℕ} → piece ≡ other → Emits holds failed count a b x y piece → Emits holds failed count a b x y other
   emits_same {a} {b} {x} {y} same h = subst (Emits holds failed count a b x y) same h
-
-  pub prints_nothing : (s : S) (buffer : Gathered) → Prints holds failed count s s buffer buffer []
-  prints_nothing s buffer = record { puts = λ first text header h. put_same (sym (append-nil text)) refl h }
-
-  pub prints_then : {a b c : S} {x y z : Gathered} {front back : List PrintedLine} → Prints holds failed count a b x y front → Prints holds failed count b c y z back
-      → Prints holds failed count a c x z (front ++ back)
-  prints_then {front = front} {back = back} one two = record {
-    puts = λ first text header h.
-        put_same (append_assoc text (text_under header front) (text_under (header_behind header front) back) ∙ ap (λ (l : List ℕ). text ++ l) (text_under-append header front back))
-        (header_behind-append header front back) (two.puts first _ _ (one.puts first text header h));
-  }
-
-  pub prints_same : {a b : S} {x y : Gathered} {lines other : List PrintedLine} → lines ≡ other → Prints holds failed count a b x y lines → Prints holds failed count a b x y other
-  prints_same {a} {b} {x} {y} same h = subst (Prints holds failed count a b x y) same h
-
-  -- pieces that are the text of a line, below the header
-  pub prints_line : {a b c : S} {x y z : Gathered} {piece : List ℕ} {line : PrintedLine} → piece ≡ text_of (line ∷ []) → PutsHeader holds failed count a b x y
-      → Emits holds failed count b c y z piece → Prints holds failed count a c x z (line ∷ [])
-  prints_line {line = line} same opens emits = record {
-    puts = λ first text header h.
-        put_same (append_assoc text header (text_of (line ∷ []))) refl ((emits_same same emits).puts first (text ++ header) [] (opens.puts first text header h));
-  }
-
-  -- so the entries after it need not be looked at
-  pub prints_cut : {X : Type 0} {a b : S} {x y : Gathered} (f : X → Lines) (xs : List X) (i : ℕ) → y.has_failed ≡ true
-      → Prints holds failed count a b x y (flat_map f (take i xs)) → Prints holds failed count a b x y (flat_map f xs)
-  prints_cut {b = b} {y = y} f xs i fails h =
-      prints_same (flat_map-rest f xs i) (prints_then h (record { puts = λ first text header g. HasPut-cut holds failed count first b y text _ header _ fails g }))
-
-  -- ---- sections one after another
-
-  -- lines before which no header waits
-  pub section_of : {a b : S} {x y : Gathered} {lines : List PrintedLine} → Prints holds failed count a b x y lines → PrintsSection holds failed count a b x y lines
-  section_of {lines = lines} h = record { puts = λ first text g. put_same (ap (λ (l : List ℕ). text ++ l) (no-header lines)) (none-behind lines) (h.puts first text [] g) }
-
-  pub section_then : {a b c : S} {x y z : Gathered} {front back : List PrintedLine} → PrintsSection holds failed count a b x y front
-      → PrintsSection holds failed count b c y z back → PrintsSection holds failed count a c x z (front ++ back)
-  section_then {front = front} {back = back} one two = record {
-    puts = λ first text h.
-        put_same (append_assoc text (text_of front) (text_of back) ∙ ap (λ (l : List ℕ). text ++ l) (sym (text_of-append front back))) refl
-        (two.puts first _ (one.puts first text h));
-  }
-
-  pub section_same : {a b : S} {x y : Gathered} {lines other : List PrintedLine} → lines ≡ other → PrintsSection holds failed count a b x y lines
-      → PrintsSection holds failed count a b x y other
-  section_same {a} {b} {x} {y} same h = subst (PrintsSection holds failed count a b x y) same h
-
-  -- pieces that are the text of lines
-  pub section_text : {a b : S} {x y : Gathered} {piece : List ℕ} {lines : List PrintedLine} → piece ≡ text_of lines → Emits holds failed count a b x y piece
-      → PrintsSection holds failed count a b x y lines
-  section_text same h = record { puts = λ first text g. (emits_same same h).puts first text [] g }
-
-  -- a header waits from now on, and lines are put below it
-  pub opened_put : {first a b : S} {x opened y : Gathered} {text header : List ℕ} {lines : List PrintedLine} → opened ≡ with_header header x
-      → Prints holds failed count a b opened y lines → HasPut holds failed count first a x text []
-      → HasPut holds failed count first b y (text ++ text_under header lines) (header_behind header lines)
-  opened_put {first} {a} {x = x} {text = text} {header} opens h g =
-      h.puts first text header (subst (λ buffer. HasPut holds failed count first a buffer text header) (sym opens) (HasPut-header holds failed count first a x text [] header g))
 
   -- no header waits any more
   pub closed_put : {first b : S} {y closed : Gathered} {text other header : List ℕ} → closed ≡ with_header [] y → text ≡ other
@@ -242,24 +188,90 @@ module _ {S : Type 0} {holds : S → List ℕ → Type 0} {failed : S → Bool} 
   closed_put {first} {b} {y} {text = text} {other} {header} closes same h =
       subst (λ buffer. HasPut holds failed count first b buffer other []) (sym closes) (put_same same refl (HasPut-header holds failed count first b y text header [] h))
 
+-- ---- lines one after another
+
+module _ {S L : Type 0} {printed : L → List ℕ} {holds : S → List ℕ → Type 0} {failed : S → Bool} {count : S → ℕ} where
+  pub prints_nothing : (s : S) (buffer : Gathered) → Prints printed holds failed count s s buffer buffer []
+  prints_nothing s buffer = record { puts = λ first text header h. put_same (sym (append-nil text)) refl h }
+
+  pub prints_then : {a b c : S} {x y z : Gathered} {front back : List L} → Prints printed holds failed count a b x y front → Prints printed holds failed count b c y z back
+      → Prints printed holds failed count a c x z (front ++ back)
+  prints_then {front = front} {back = back} one two = record {
+    puts = λ first text header h.
+        put_same (append_assoc text (text_under printed header front) (text_under printed (header_behind header front) back) ∙ ap (λ (l : List ℕ). text ++ l) (text_under-append printed header front back))
+        (header_behind-append header front back) (two.puts first _ _ (one.puts first text header h));
+  }
+
+  pub prints_same : {a b : S} {x y : Gathered} {lines other : List L} → lines ≡ other → Prints printed holds failed count a b x y lines → Prints printed holds failed count a b x y other
+  prints_same {a} {b} {x} {y} same h = subst (Prints printed holds failed count a b x y) same h
+
+  -- pieces that are the text of a line, below the header
+  pub prints_line : {a b c : S} {x y z : Gathered} {piece : List ℕ} {line : L} → piece ≡ text_by printed (line ∷ []) → PutsHeader holds failed count a b x y
+      → Emits holds failed count b c y z piece → Prints printed holds failed count a c x z (line ∷ [])
+  prints_line {line = line} same opens emits = record {
+    puts = λ first text header h.
+        put_same (append_assoc text header (text_by printed (line ∷ []))) refl ((emits_same same emits).puts first (text ++ header) [] (opens.puts first text header h));
+  }
+
+  -- so the entries after it need not be looked at
+  pub prints_cut : {X : Type 0} {a b : S} {x y : Gathered} (f : X → List L) (xs : List X) (i : ℕ) → y.has_failed ≡ true
+      → Prints printed holds failed count a b x y (flat_map f (take i xs)) → Prints printed holds failed count a b x y (flat_map f xs)
+  prints_cut {b = b} {y = y} f xs i fails h =
+      prints_same (flat_map-rest f xs i) (prints_then h (record { puts = λ first text header g. HasPut-cut holds failed count first b y text _ header _ fails g }))
+
+  -- ---- sections one after another
+
+  -- lines before which no header waits
+  pub section_of : {a b : S} {x y : Gathered} {lines : List L} → Prints printed holds failed count a b x y lines → PrintsSection printed holds failed count a b x y lines
+  section_of {lines = lines} h = record { puts = λ first text g. put_same (ap (λ (l : List ℕ). text ++ l) (no-header printed lines)) (none-behind lines) (h.puts first text [] g) }
+
+  pub section_then : {a b c : S} {x y z : Gathered} {front back : List L} → PrintsSection printed holds failed count a b x y front
+      → PrintsSection printed holds failed count b c y z back → PrintsSection printed holds failed count a c x z (front ++ back)
+  section_then {front = front} {back = back} one two = record {
+    puts = λ first text h.
+        put_same (append_assoc text (text_by printed front) (text_by printed back) ∙ ap (λ (l : List ℕ). text ++ l) (sym (text_by-append printed front back))) refl
+        (two.puts first _ (one.puts first text h));
+  }
+
+  pub section_same : {a b : S} {x y : Gathered} {lines other : List L} → lines ≡ other → PrintsSection printed holds failed count a b x y lines
+      → PrintsSection printed holds failed count a b x y other
+  section_same {a} {b} {x} {y} same h = subst (PrintsSection printed holds failed count a b x y) same h
+
+  -- pieces that are the text of lines
+  pub section_text : {a b : S} {x y : Gathered} {piece : List ℕ} {lines : List L} → piece ≡ text_by printed lines → Emits holds failed count a b x y piece
+      → PrintsSection printed holds failed count a b x y lines
+  section_text same h = record { puts = λ first text g. (emits_same same h).puts first text [] g }
+
+  -- a header waits from now on, and lines are put below it
+  pub opened_put : {first a b : S} {x opened y : Gathered} {text header : List ℕ} {lines : List L} → opened ≡ with_header header x
+      → Prints printed holds failed count a b opened y lines → HasPut holds failed count first a x text []
+      → HasPut holds failed count first b y (text ++ text_under printed header lines) (header_behind header lines)
+  opened_put {first} {a} {x = x} {text = text} {header} opens h g =
+      h.puts first text header (subst (λ buffer. HasPut holds failed count first a buffer text header) (sym opens) (HasPut-header holds failed count first a x text [] header g))
+
   -- lines below a header that waits from now on, until none waits
-  pub section_under : {a b : S} {x opened y closed : Gathered} {lines other : List PrintedLine} (header : List ℕ) → text_under header lines ≡ text_of other
-      → opened ≡ with_header header x → Prints holds failed count a b opened y lines → closed ≡ with_header [] y
-      → PrintsSection holds failed count a b x closed other
+  pub section_under : {a b : S} {x opened y closed : Gathered} {lines other : List L} (header : List ℕ) → text_under printed header lines ≡ text_by printed other
+      → opened ≡ with_header header x → Prints printed holds failed count a b opened y lines → closed ≡ with_header [] y
+      → PrintsSection printed holds failed count a b x closed other
   section_under header same opens h closes = record {
     puts = λ first text g. closed_put closes (ap (λ (l : List ℕ). text ++ l) same) (opened_put opens h g);
   }
 
 -- ---- what a caller is told
 
-pub taken-written : {S : Type 0} (holds : S → List ℕ → Type 0) (failed : S → Bool) (text : LinearModel → List ℕ) (m : LinearModel) (first now : S) (r : Result (Unit {0}) WriteFault)
-    → IsTaken holds failed first now (text m) r → IsWritten (λ _. None) text holds failed m first now r
-taken-written holds failed text m first now (Ok _) h = (refl, h)
-taken-written holds failed text m first now (Err (Write written)) h = (refl, h.0, h.1)
-taken-written holds failed text m first now (Err (NotLp place)) h = absurd h
+pub taken-written : {S : Type 0} (holds : S → List ℕ → Type 0) (failed : S → Bool) (unfit : LinearModel → Option NameAt) (text : LinearModel → List ℕ) (m : LinearModel) (first now : S)
+    (r : Result (Unit {0}) WriteFault) → unfit m ≡ None → IsTaken holds failed first now (text m) r → IsWritten unfit text holds failed m first now r
+taken-written holds failed unfit text m first now (Ok _) fits h = (fits, h)
+taken-written holds failed unfit text m first now (Err (Write written)) fits h = (fits, h.0, h.1)
+taken-written holds failed unfit text m first now (Err (NotLp place)) fits h = absurd h
 
 pub taken-succeeds : {S : Type 0} (holds : S → List ℕ → Type 0) (failed : S → Bool) (first now : S) (text : List ℕ) (r : Result (Unit {0}) WriteFault)
     → IsTaken holds failed first now text r → failed now ≡ false → IsOk r
 taken-succeeds holds failed first now text (Ok _) h works = refl
 taken-succeeds holds failed first now text (Err (Write written)) h works = absurd (not_both h.0 works)
 taken-succeeds holds failed first now text (Err (NotLp place)) h works = absurd h
+
+-- where each answer with a place was taken, none is left
+pub none-left : {X : Type 0} (o : Option X) → ((x : X) → o ≡ Some x → ⊥) → o ≡ None
+none-left None never = refl
+none-left (Some x) never = absurd (never x refl)

@@ -1,2 +1,3 @@
 pub mod Output
 pub mod LinesAt
+pub mod LpLinesAt

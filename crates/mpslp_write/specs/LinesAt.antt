@@ -13,7 +13,7 @@ use Rattle.mpslp_write.specs.declared.columns.Part.{Part}
 use Rattle.mpslp_write.specs.declared.columns.Part.TheVariants.{Plain, Integers}
 
 -- the lines of the entry of this number, if there is one
-abbrev pub lines_at : {X : Type 0} → (X → Lines) → List X → ℕ → Lines
+abbrev pub lines_at : {X L : Type 0} → (X → List L) → List X → ℕ → List L
 lines_at lines_of entries i = option_map_or lines_of (slice_get entries i) []
 
 -- the letter of a row by its sense: R, where two limits differ, is printed as G

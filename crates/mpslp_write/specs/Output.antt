@@ -1,8 +1,8 @@
 -- What a writer has put so far: a sink took the first bytes of the text, and the others wait in a buffer.
-use Rattle.std.specs.Prelude.{◌≡◌, ℕ, ◌+◌, ◌-◌, ◌^◌, ◌<◌, ◌≤◌, min, Bool, true, false, List, [], ◌∷◌, ◌++◌, length, refl, Result, Ok, Err, if◌then◌else◌}
+use Rattle.std.specs.Prelude.{◌≡◌, ℕ, ◌+◌, ◌-◌, ◌^◌, ◌<◌, ◌≤◌, min, Bool, true, false, List, [], ◌∷◌, ◌++◌, length, map, refl, Result, Ok, Err, if◌then◌else◌}
 use Rattle.std.specs.Coded.{Coded, code_by, coded×, coded_list, coded_ℕ, coded_bool}
 use Rattle.mpslp_io.specs.Devices.{Grows}
-use Rattle.mpslp_canonical.specs.Printed.{PrintedLine, text_of}
+use Rattle.mpslp_canonical.specs.Printed.{ended}
 use Rattle.mpslp_model.specs.Formats.{TookFirst}
 use Rattle.mpslp_types.specs.declared.faults.WriteFault.{WriteFault}
 use Rattle.mpslp_types.specs.declared.faults.WriteFault.TheVariants.{Write}
@@ -71,26 +71,33 @@ pub record Emits {S : Type 0} (holds : S → List ℕ → Type 0) (failed : S �
 pub record PutsHeader {S : Type 0} (holds : S → List ℕ → Type 0) (failed : S → Bool) (count : S → ℕ) (old new : S) (before after : Gathered) : Type 0 where
   pub puts : (first : S) (text header : List ℕ) → HasPut holds failed count first old before text header → HasPut holds failed count first new after (text ++ header) []
 
+-- ---- lines of any kind, by how one is printed
+
+-- their text, each line ended by a line feed
+abbrev pub text_by : {L : Type 0} → (L → List ℕ) → List L → List ℕ
+text_by printed lines = ended (map printed lines)
+
 -- the text of lines and of the header that waits: it goes before the first of them
-abbrev pub text_under : List ℕ → List PrintedLine → List ℕ
-text_under header [] = []
-text_under header (line ∷ lines) = header ++ text_of (line ∷ lines)
+abbrev pub text_under : {L : Type 0} → (L → List ℕ) → List ℕ → List L → List ℕ
+text_under printed header [] = []
+text_under printed header (line ∷ lines) = header ++ text_by printed (line ∷ lines)
 
 -- the header that waits behind them: it still does where there are none
-abbrev pub header_behind : List ℕ → List PrintedLine → List ℕ
+abbrev pub header_behind : {L : Type 0} → List ℕ → List L → List ℕ
 header_behind header [] = header
 header_behind header (line ∷ lines) = []
 
 -- Whatever was put, and whatever header waited, it was put with the lines behind it, below the header.
-pub record Prints {S : Type 0} (holds : S → List ℕ → Type 0) (failed : S → Bool) (count : S → ℕ) (old new : S) (before after : Gathered)
-    (lines : List PrintedLine) : Type 0 where
+pub record Prints {S L : Type 0} (printed : L → List ℕ) (holds : S → List ℕ → Type 0) (failed : S → Bool) (count : S → ℕ) (old new : S) (before after : Gathered)
+    (lines : List L) : Type 0 where
   pub puts : (first : S) (text header : List ℕ) → HasPut holds failed count first old before text header
-      → HasPut holds failed count first new after (text ++ text_under header lines) (header_behind header lines)
+      → HasPut holds failed count first new after (text ++ text_under printed header lines) (header_behind header lines)
 
 -- Whatever was put while no header waited, it was put with the lines behind it, their headers among them, and none waits.
-pub record PrintsSection {S : Type 0} (holds : S → List ℕ → Type 0) (failed : S → Bool) (count : S → ℕ) (old new : S) (before after : Gathered)
-    (lines : List PrintedLine) : Type 0 where
-  pub puts : (first : S) (text : List ℕ) → HasPut holds failed count first old before text [] → HasPut holds failed count first new after (text ++ text_of lines) []
+pub record PrintsSection {S L : Type 0} (printed : L → List ℕ) (holds : S → List ℕ → Type 0) (failed : S → Bool) (count : S → ℕ) (old new : S) (before after : Gathered)
+    (lines : List L) : Type 0 where
+  pub puts : (first : S) (text : List ℕ) → HasPut holds failed count first old before text []
+      → HasPut holds failed count first new after (text ++ text_by printed lines) []
 
 -- what is told of a sink that took all that it was handed, or failed
 abbrev pub answer_of : Gathered → Result (Unit {0}) WriteFault

@@ -4,6 +4,7 @@ ghost use Rattle.std.specs.Prelude.{◌≡◌, ◌<◌, [], ◌∷◌, ◌++◌,
 ghost use Rattle.std.specs.List.{flat_map};
 ghost use Rattle.std.specs.FinMap.{entries};
 ghost use Rattle.mpslp_core.specs.Views.{num_columns};
+ghost use Rattle.mpslp_canonical.specs.Printed.{printed};
 ghost use Rattle.mpslp_canonical.specs.PrintedValues.{have_same_value, is_fixed, printed_lower, printed_upper, printed_bounds};
 ghost use Rattle.mpslp_canonical.specs.CanonicalMps.{bound_line, column_bound_lines, bounds_section};
 ghost use Rattle.mpslp_canonical.specs.Listing.{listing_of};
@@ -18,7 +19,7 @@ use mpslp_model::{Kind, Limit, Model, Sink};
 
 /// Puts the line of a lower bound, unless it is 0.
 fn put_lower<W: Sink>(sink: &mut W, buffer: &mut Buffer, column: &[u8], lower: &Limit)
-    ensures { Prints W.holds W.failed W.count sink.old sink.new buffer.old buffer.new (map (bound_line column.now) (printed_lower lower.now)) }
+    ensures { Prints printed W.holds W.failed W.count sink.old sink.new buffer.old buffer.new (map (bound_line column.now) (printed_lower lower.now)) }
 {
     match lower {
         Limit::MinusInf => put_bare_bound(sink, buffer, b"MI", column),
@@ -39,7 +40,7 @@ fn put_finite_upper<W: Sink>(
     kind: Kind,
     value: Decimal,
 )
-    ensures { Prints W.holds W.failed W.count sink.old sink.new buffer.old buffer.new (map (bound_line column.now) (printed_upper kind (Limit.Finite value))) }
+    ensures { Prints printed W.holds W.failed W.count sink.old sink.new buffer.old buffer.new (map (bound_line column.now) (printed_upper kind (Limit.Finite value))) }
 {
     match kind {
         Kind::Continuous | Kind::Integer => put_valued_bound(sink, buffer, b"UP", column, value),
@@ -50,7 +51,7 @@ fn put_finite_upper<W: Sink>(
 /// Puts the line of an upper bound. Plus infinity has one for an integer column alone, which would end
 /// at 1 without it.
 fn put_upper<W: Sink>(sink: &mut W, buffer: &mut Buffer, column: &[u8], kind: Kind, upper: &Limit)
-    ensures { Prints W.holds W.failed W.count sink.old sink.new buffer.old buffer.new (map (bound_line column.now) (printed_upper kind upper.now)) }
+    ensures { Prints printed W.holds W.failed W.count sink.old sink.new buffer.old buffer.new (map (bound_line column.now) (printed_upper kind upper.now)) }
 {
     match upper {
         Limit::MinusInf => {}
@@ -71,14 +72,14 @@ fn put_both<W: Sink>(
     lower: &Limit,
     upper: &Limit,
 )
-    ensures { Prints W.holds W.failed W.count sink.old sink.new buffer.old buffer.new (map (bound_line column.now) (printed_lower lower.now ++ printed_upper kind upper.now)) }
+    ensures { Prints printed W.holds W.failed W.count sink.old sink.new buffer.old buffer.new (map (bound_line column.now) (printed_lower lower.now ++ printed_upper kind upper.now)) }
 {
     put_lower(sink, buffer, column, lower);
     put_upper(sink, buffer, column, kind, upper);
 }
 
 /// Whether the numbers have the same value.
-fn have_same_value(a: Decimal, b: Decimal) -> bool
+pub(crate) fn have_same_value(a: Decimal, b: Decimal) -> bool
     ensures { result ≡ have_same_value a b }
 {
     each_value_is_a_decimal(a);
@@ -143,7 +144,7 @@ fn put_bounds_of<W: Sink>(
     lower: &Limit,
     upper: &Limit,
 )
-    ensures { Prints W.holds W.failed W.count sink.old sink.new buffer.old buffer.new (map (bound_line column.now) (printed_bounds kind lower.now upper.now)) }
+    ensures { Prints printed W.holds W.failed W.count sink.old sink.new buffer.old buffer.new (map (bound_line column.now) (printed_bounds kind lower.now upper.now)) }
 {
     if are_free(lower, upper) {
         put_bare_bound(sink, buffer, b"FR", column);
@@ -158,7 +159,7 @@ fn put_bounds_of<W: Sink>(
 /// Puts the lines of the bounds of the column of number `j`.
 fn put_bounds<W: Sink>(model: &Model, j: usize, sink: &mut W, buffer: &mut Buffer)
     requires { j < num_columns model.now }
-    ensures { Prints W.holds W.failed W.count sink.old sink.new buffer.old buffer.new (lines_at column_bound_lines (entries model.now.columns) j) }
+    ensures { Prints printed W.holds W.failed W.count sink.old sink.new buffer.old buffer.new (lines_at column_bound_lines (entries model.now.columns) j) }
 {
     let lower = model.col_lower(j);
     let upper = model.col_upper(j);
@@ -175,7 +176,7 @@ fn put_bounds<W: Sink>(model: &Model, j: usize, sink: &mut W, buffer: &mut Buffe
 
 /// Puts the lines of the bounds of all columns.
 fn put_all_bounds<W: Sink>(model: &Model, sink: &mut W, buffer: &mut Buffer)
-    ensures { Prints W.holds W.failed W.count sink.old sink.new buffer.old buffer.new (flat_map column_bound_lines (entries model.now.columns)) }
+    ensures { Prints printed W.holds W.failed W.count sink.old sink.new buffer.old buffer.new (flat_map column_bound_lines (entries model.now.columns)) }
 {
     for j in 0..model.num_cols() {
         if buffer.has_failed() {
@@ -187,7 +188,7 @@ fn put_all_bounds<W: Sink>(model: &Model, sink: &mut W, buffer: &mut Buffer)
 
 /// Puts the section BOUNDS, or nothing where all bounds are those that a column has without a line.
 pub(crate) fn put_bounds_section<W: Sink>(model: &Model, sink: &mut W, buffer: &mut Buffer)
-    ensures { PrintsSection W.holds W.failed W.count sink.old sink.new buffer.old buffer.new (bounds_section (listing_of model.now)) }
+    ensures { PrintsSection printed W.holds W.failed W.count sink.old sink.new buffer.old buffer.new (bounds_section (listing_of model.now)) }
 {
     buffer.open_section(b"BOUNDS\n");
     put_all_bounds(model, sink, buffer);

@@ -4,6 +4,7 @@ ghost use Rattle.std.specs.Prelude.{◌≡◌, ◌<◌, [], ◌∷◌, length};
 ghost use Rattle.std.specs.List.{flat_map};
 ghost use Rattle.std.specs.FinMap.{entries};
 ghost use Rattle.mpslp_core.specs.Views.{num_columns, column_name, column_elements};
+ghost use Rattle.mpslp_canonical.specs.Printed.{printed};
 ghost use Rattle.mpslp_canonical.specs.CanonicalMps.{column_lines, columns_section, integer_part};
 ghost use Rattle.mpslp_canonical.specs.Listing.{listing_of};
 ghost use Rattle.mpslp_write.specs.LinesAt.{lines_at, is_wanted, of_part, element_lines, objective_lines};
@@ -27,7 +28,7 @@ enum Part {
 fn put_element<W: Sink>(model: &Model, j: usize, k: usize, sink: &mut W, buffer: &mut Buffer)
     requires column { j < num_columns model.now }
     requires element { k < length (column_elements model.now (column_name model.now j)) }
-    ensures { Prints W.holds W.failed W.count sink.old sink.new buffer.old buffer.new (lines_at (element_lines (column_name model.now j)) (column_elements model.now (column_name model.now j)) k) }
+    ensures { Prints printed W.holds W.failed W.count sink.old sink.new buffer.old buffer.new (lines_at (element_lines (column_name model.now j)) (column_elements model.now (column_name model.now j)) k) }
 {
     let (i, value) = model.entry(j, k);
     put_value_line(
@@ -42,7 +43,7 @@ fn put_element<W: Sink>(model: &Model, j: usize, k: usize, sink: &mut W, buffer:
 /// Puts the lines of the coefficients of rows in the column of number `j`.
 fn put_elements<W: Sink>(model: &Model, j: usize, sink: &mut W, buffer: &mut Buffer)
     requires { j < num_columns model.now }
-    ensures { Prints W.holds W.failed W.count sink.old sink.new buffer.old buffer.new (flat_map (element_lines (column_name model.now j)) (column_elements model.now (column_name model.now j))) }
+    ensures { Prints printed W.holds W.failed W.count sink.old sink.new buffer.old buffer.new (flat_map (element_lines (column_name model.now j)) (column_elements model.now (column_name model.now j))) }
 {
     for k in 0..model.column_len(j) {
         put_element(model, j, k, sink, buffer);
@@ -53,7 +54,7 @@ fn put_elements<W: Sink>(model: &Model, j: usize, sink: &mut W, buffer: &mut Buf
 /// coefficient of a row.
 fn put_objective_cell<W: Sink>(model: &Model, j: usize, sink: &mut W, buffer: &mut Buffer)
     requires { j < num_columns model.now }
-    ensures { Prints W.holds W.failed W.count sink.old sink.new buffer.old buffer.new (objective_lines model.now (column_name model.now j)) }
+    ensures { Prints printed W.holds W.failed W.count sink.old sink.new buffer.old buffer.new (objective_lines model.now (column_name model.now j)) }
 {
     let value = model.objective_coefficient(j);
     if value.is_zero() && model.column_len(j) > 0 {
@@ -72,7 +73,7 @@ fn put_objective_cell<W: Sink>(model: &Model, j: usize, sink: &mut W, buffer: &m
 /// Puts the lines of the column of number `j`: the objective, and then the rows.
 fn put_column<W: Sink>(model: &Model, j: usize, sink: &mut W, buffer: &mut Buffer)
     requires { j < num_columns model.now }
-    ensures { Prints W.holds W.failed W.count sink.old sink.new buffer.old buffer.new (lines_at (column_lines (listing_of model.now)) (entries model.now.columns) j) }
+    ensures { Prints printed W.holds W.failed W.count sink.old sink.new buffer.old buffer.new (lines_at (column_lines (listing_of model.now)) (entries model.now.columns) j) }
 {
     each_model_is_sound(model);
     put_objective_cell(model, j, sink, buffer);
@@ -98,7 +99,7 @@ fn put_column_of_part<W: Sink>(
     buffer: &mut Buffer,
 )
     requires { j < num_columns model.now }
-    ensures { Prints W.holds W.failed W.count sink.old sink.new buffer.old buffer.new (lines_at (of_part part (column_lines (listing_of model.now))) (entries model.now.columns) j) }
+    ensures { Prints printed W.holds W.failed W.count sink.old sink.new buffer.old buffer.new (lines_at (of_part part (column_lines (listing_of model.now))) (entries model.now.columns) j) }
 {
     if is_wanted(part, model.is_integer(j)) {
         put_column(model, j, sink, buffer);
@@ -107,7 +108,7 @@ fn put_column_of_part<W: Sink>(
 
 /// Puts the lines of all columns of the part.
 fn put_columns<W: Sink>(model: &Model, part: Part, sink: &mut W, buffer: &mut Buffer)
-    ensures { Prints W.holds W.failed W.count sink.old sink.new buffer.old buffer.new (flat_map (of_part part (column_lines (listing_of model.now))) (entries model.now.columns)) }
+    ensures { Prints printed W.holds W.failed W.count sink.old sink.new buffer.old buffer.new (flat_map (of_part part (column_lines (listing_of model.now))) (entries model.now.columns)) }
 {
     for j in 0..model.num_cols() {
         if buffer.has_failed() {
@@ -119,7 +120,7 @@ fn put_columns<W: Sink>(model: &Model, part: Part, sink: &mut W, buffer: &mut Bu
 
 /// Puts the lines of the integer columns between marker lines, or nothing where no column is integer.
 fn put_integer_part<W: Sink>(model: &Model, sink: &mut W, buffer: &mut Buffer)
-    ensures { PrintsSection W.holds W.failed W.count sink.old sink.new buffer.old buffer.new (integer_part (flat_map (of_part Part.Integers (column_lines (listing_of model.now))) (entries model.now.columns))) }
+    ensures { PrintsSection printed W.holds W.failed W.count sink.old sink.new buffer.old buffer.new (integer_part (flat_map (of_part Part.Integers (column_lines (listing_of model.now))) (entries model.now.columns))) }
 {
     buffer.open_section(b"    MARKER  'MARKER'  'INTORG'\n");
     put_columns(model, Part::Integers, sink, buffer);
@@ -131,7 +132,7 @@ fn put_integer_part<W: Sink>(model: &Model, sink: &mut W, buffer: &mut Buffer)
 /// Puts the section COLUMNS: the columns that are not integer, and then the integer ones between marker
 /// lines.
 pub(crate) fn put_columns_section<W: Sink>(model: &Model, sink: &mut W, buffer: &mut Buffer)
-    ensures { PrintsSection W.holds W.failed W.count sink.old sink.new buffer.old buffer.new (columns_section (listing_of model.now)) }
+    ensures { PrintsSection printed W.holds W.failed W.count sink.old sink.new buffer.old buffer.new (columns_section (listing_of model.now)) }
 {
     buffer.put(sink, b"COLUMNS\n");
     put_columns(model, Part::Plain, sink, buffer);

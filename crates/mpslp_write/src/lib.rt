@@ -1,6 +1,8 @@
 //! The writers of canonical texts, and the formats of model files.
 //!
-//! [`write_mps`] writes the canonical MPS text of a model, which mpslp_canonical defines, to a sink.
+//! [`write_mps`] writes the canonical MPS text of a model, which mpslp_canonical defines, to a sink, and
+//! [`write_lp`] its canonical LP text, which mpslp_canonical_lp defines; [`first_unfit_name`] tells where
+//! a model first has a name that LP cannot tell.
 //! [`Mps`] is MPS as a format: reader, writer, and the laws that hold the two together.
 #![tactic(auto)]
 
@@ -8,11 +10,20 @@ mod bounds;
 mod columns;
 mod formats;
 mod lines;
+mod lp;
+mod lp_bounds;
+mod lp_fit;
+mod lp_kinds;
+mod lp_lines;
+mod lp_objective;
+mod lp_rows;
 mod mps;
 mod output;
 mod rows;
 
 pub use formats::Mps;
+pub use lp::write_lp;
+pub use lp_fit::first_unfit_name;
 pub use mps::write_mps;
 
 #[cfg(test)]

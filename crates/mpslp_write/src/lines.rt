@@ -2,7 +2,7 @@
 
 ghost use Rattle.std.specs.Prelude.{[], ◌∷◌, ◌++◌, codes};
 ghost use Rattle.mpslp_decimal.specs.NumberText.{number_text};
-ghost use Rattle.mpslp_canonical.specs.Printed.{short_line, long_line};
+ghost use Rattle.mpslp_canonical.specs.Printed.{printed, short_line, long_line};
 ghost use Rattle.mpslp_write.specs.Output.{Emits, Prints};
 
 use crate::output::Buffer;
@@ -33,7 +33,7 @@ pub(crate) fn put_short_line<W: Sink>(
     first: &[u8],
     second: &[u8],
 )
-    ensures { Prints W.holds W.failed W.count sink.old sink.new buffer.old buffer.new (short_line (first.now ∷ second.now ∷ []) ∷ []) }
+    ensures { Prints printed W.holds W.failed W.count sink.old sink.new buffer.old buffer.new (short_line (first.now ∷ second.now ∷ []) ∷ []) }
 {
     buffer.put_header(sink);
     buffer.put(sink, b" ");
@@ -50,7 +50,7 @@ pub(crate) fn put_value_line<W: Sink>(
     second: &[u8],
     value: Decimal,
 )
-    ensures { Prints W.holds W.failed W.count sink.old sink.new buffer.old buffer.new (long_line (first.now ∷ second.now ∷ number_text value ∷ []) ∷ []) }
+    ensures { Prints printed W.holds W.failed W.count sink.old sink.new buffer.old buffer.new (long_line (first.now ∷ second.now ∷ number_text value ∷ []) ∷ []) }
 {
     buffer.put_header(sink);
     buffer.put(sink, b"    ");
@@ -66,7 +66,7 @@ pub(crate) fn put_bare_bound<W: Sink>(
     letters: &[u8],
     column: &[u8],
 )
-    ensures { Prints W.holds W.failed W.count sink.old sink.new buffer.old buffer.new (short_line (letters.now ∷ codes "BND" ∷ column.now ∷ []) ∷ []) }
+    ensures { Prints printed W.holds W.failed W.count sink.old sink.new buffer.old buffer.new (short_line (letters.now ∷ codes "BND" ∷ column.now ∷ []) ∷ []) }
 {
     buffer.put_header(sink);
     buffer.put(sink, b" ");
@@ -84,7 +84,7 @@ pub(crate) fn put_valued_bound<W: Sink>(
     column: &[u8],
     value: Decimal,
 )
-    ensures { Prints W.holds W.failed W.count sink.old sink.new buffer.old buffer.new (short_line (letters.now ∷ codes "BND" ∷ column.now ∷ number_text value ∷ []) ∷ []) }
+    ensures { Prints printed W.holds W.failed W.count sink.old sink.new buffer.old buffer.new (short_line (letters.now ∷ codes "BND" ∷ column.now ∷ number_text value ∷ []) ∷ []) }
 {
     buffer.put_header(sink);
     buffer.put(sink, b" ");

@@ -2,6 +2,7 @@
 
 ghost use Rattle.std.specs.Prelude.{◌≡◌, ◌+◌, ◌≤◌, true, false, None, length, IsOk};
 ghost use Rattle.mpslp_model.specs.Formats.{IsWritten};
+ghost use Rattle.mpslp_canonical.specs.Printed.{printed};
 ghost use Rattle.mpslp_canonical.specs.CanonicalMps.{canonical_mps, canonical_lines, sense_lines};
 ghost use Rattle.mpslp_write.specs.Output.{PrintsSection};
 
@@ -13,7 +14,7 @@ use mpslp_model::{Model, Sense, Sink, WriteFault};
 
 /// Puts the section OBJSENSE, where the objective is maximized.
 fn put_sense<W: Sink>(sense: Sense, sink: &mut W, buffer: &mut Buffer)
-    ensures { PrintsSection W.holds W.failed W.count sink.old sink.new buffer.old buffer.new (sense_lines sense) }
+    ensures { PrintsSection printed W.holds W.failed W.count sink.old sink.new buffer.old buffer.new (sense_lines sense) }
 {
     match sense {
         Sense::Minimize => {}
@@ -23,7 +24,7 @@ fn put_sense<W: Sink>(sense: Sense, sink: &mut W, buffer: &mut Buffer)
 
 /// Puts the canonical lines of a model.
 fn put_lines<W: Sink>(model: &Model, sink: &mut W, buffer: &mut Buffer)
-    ensures { PrintsSection W.holds W.failed W.count sink.old sink.new buffer.old buffer.new (canonical_lines model.now) }
+    ensures { PrintsSection printed W.holds W.failed W.count sink.old sink.new buffer.old buffer.new (canonical_lines model.now) }
 {
     buffer.put(sink, b"NAME\n");
     put_sense(model.objective_sense(), sink, buffer);

@@ -5,6 +5,7 @@ ghost use Rattle.std.specs.List.{flat_map};
 ghost use Rattle.std.specs.Option.{option_map};
 ghost use Rattle.std.specs.FinMap.{entries};
 ghost use Rattle.mpslp_core.specs.Views.{num_rows, rows_of};
+ghost use Rattle.mpslp_canonical.specs.Printed.{printed};
 ghost use Rattle.mpslp_canonical.specs.PrintedValues.{printed_side};
 ghost use Rattle.mpslp_canonical.specs.CanonicalMps.{row_line, side_lines, row_side_lines, range_lines, rows_section, right_sides_section, ranges_section};
 ghost use Rattle.mpslp_canonical.specs.Listing.{listing_of};
@@ -27,7 +28,7 @@ fn printed_letter(sense: u8) -> u8
 /// Puts the line of the row of number `i` in ROWS.
 fn put_row<W: Sink>(model: &Model, i: usize, sink: &mut W, buffer: &mut Buffer)
     requires { i < num_rows model.now }
-    ensures { Prints W.holds W.failed W.count sink.old sink.new buffer.old buffer.new (lines_at (λ row. row_line row ∷ []) (entries model.now.rows) i) }
+    ensures { Prints printed W.holds W.failed W.count sink.old sink.new buffer.old buffer.new (lines_at (λ row. row_line row ∷ []) (entries model.now.rows) i) }
 {
     each_model_is_sound(model);
     let letter = printed_letter(model.row_sense(i));
@@ -41,7 +42,7 @@ fn put_row<W: Sink>(model: &Model, i: usize, sink: &mut W, buffer: &mut Buffer)
 
 /// Puts the lines of all rows in ROWS.
 fn put_rows<W: Sink>(model: &Model, sink: &mut W, buffer: &mut Buffer)
-    ensures { Prints W.holds W.failed W.count sink.old sink.new buffer.old buffer.new (flat_map (λ row. row_line row ∷ []) (entries model.now.rows)) }
+    ensures { Prints printed W.holds W.failed W.count sink.old sink.new buffer.old buffer.new (flat_map (λ row. row_line row ∷ []) (entries model.now.rows)) }
 {
     for i in 0..model.num_rows() {
         if buffer.has_failed() {
@@ -53,7 +54,7 @@ fn put_rows<W: Sink>(model: &Model, sink: &mut W, buffer: &mut Buffer)
 
 /// Puts the section ROWS: the objective, and then the rows.
 pub(crate) fn put_rows_section<W: Sink>(model: &Model, sink: &mut W, buffer: &mut Buffer)
-    ensures { PrintsSection W.holds W.failed W.count sink.old sink.new buffer.old buffer.new (rows_section (listing_of model.now)) }
+    ensures { PrintsSection printed W.holds W.failed W.count sink.old sink.new buffer.old buffer.new (rows_section (listing_of model.now)) }
 {
     buffer.put(sink, b"ROWS\n");
     put_short_line(sink, buffer, b"N", model.objective_name().as_bytes());
@@ -73,7 +74,7 @@ fn side_at(model: &Model, i: usize) -> Decimal
 
 /// Puts the line of a right side, unless it is 0.
 fn put_side<W: Sink>(sink: &mut W, buffer: &mut Buffer, row: &[u8], value: Decimal)
-    ensures { Prints W.holds W.failed W.count sink.old sink.new buffer.old buffer.new (side_lines row.now value) }
+    ensures { Prints printed W.holds W.failed W.count sink.old sink.new buffer.old buffer.new (side_lines row.now value) }
 {
     if !value.is_zero() {
         put_value_line(sink, buffer, b"RHS", row, value);
@@ -83,7 +84,7 @@ fn put_side<W: Sink>(sink: &mut W, buffer: &mut Buffer, row: &[u8], value: Decim
 /// Puts the right side of the row of number `i`.
 fn put_row_side<W: Sink>(model: &Model, i: usize, sink: &mut W, buffer: &mut Buffer)
     requires { i < num_rows model.now }
-    ensures { Prints W.holds W.failed W.count sink.old sink.new buffer.old buffer.new (lines_at row_side_lines (entries model.now.rows) i) }
+    ensures { Prints printed W.holds W.failed W.count sink.old sink.new buffer.old buffer.new (lines_at row_side_lines (entries model.now.rows) i) }
 {
     let side = side_at(model, i);
     put_side(sink, buffer, model.row_name(i).as_bytes(), side);
@@ -91,7 +92,7 @@ fn put_row_side<W: Sink>(model: &Model, i: usize, sink: &mut W, buffer: &mut Buf
 
 /// Puts the right sides of all rows.
 fn put_row_sides<W: Sink>(model: &Model, sink: &mut W, buffer: &mut Buffer)
-    ensures { Prints W.holds W.failed W.count sink.old sink.new buffer.old buffer.new (flat_map row_side_lines (entries model.now.rows)) }
+    ensures { Prints printed W.holds W.failed W.count sink.old sink.new buffer.old buffer.new (flat_map row_side_lines (entries model.now.rows)) }
 {
     for i in 0..model.num_rows() {
         if buffer.has_failed() {
@@ -104,7 +105,7 @@ fn put_row_sides<W: Sink>(model: &Model, sink: &mut W, buffer: &mut Buffer)
 /// Puts the section RHS: the negated constant of the objective, and then the right sides of the rows,
 /// without those that are 0. Where all are, nothing is put.
 pub(crate) fn put_right_sides_section<W: Sink>(model: &Model, sink: &mut W, buffer: &mut Buffer)
-    ensures { PrintsSection W.holds W.failed W.count sink.old sink.new buffer.old buffer.new (right_sides_section (listing_of model.now)) }
+    ensures { PrintsSection printed W.holds W.failed W.count sink.old sink.new buffer.old buffer.new (right_sides_section (listing_of model.now)) }
 {
     buffer.open_section(b"RHS\n");
     let objective = model.objective_name().as_bytes();
@@ -116,7 +117,7 @@ pub(crate) fn put_right_sides_section<W: Sink>(model: &Model, sink: &mut W, buff
 /// Puts the range of the row of number `i`, unless it is 0.
 fn put_range<W: Sink>(model: &Model, i: usize, sink: &mut W, buffer: &mut Buffer)
     requires { i < num_rows model.now }
-    ensures { Prints W.holds W.failed W.count sink.old sink.new buffer.old buffer.new (lines_at range_lines (entries model.now.rows) i) }
+    ensures { Prints printed W.holds W.failed W.count sink.old sink.new buffer.old buffer.new (lines_at range_lines (entries model.now.rows) i) }
 {
     let range = model.row_range(i);
     if !range.is_zero() {
@@ -126,7 +127,7 @@ fn put_range<W: Sink>(model: &Model, i: usize, sink: &mut W, buffer: &mut Buffer
 
 /// Puts the ranges of all rows.
 fn put_ranges<W: Sink>(model: &Model, sink: &mut W, buffer: &mut Buffer)
-    ensures { Prints W.holds W.failed W.count sink.old sink.new buffer.old buffer.new (flat_map range_lines (entries model.now.rows)) }
+    ensures { Prints printed W.holds W.failed W.count sink.old sink.new buffer.old buffer.new (flat_map range_lines (entries model.now.rows)) }
 {
     for i in 0..model.num_rows() {
         if buffer.has_failed() {
@@ -138,7 +139,7 @@ fn put_ranges<W: Sink>(model: &Model, sink: &mut W, buffer: &mut Buffer)
 
 /// Puts the section RANGES, or nothing where no row has a range.
 pub(crate) fn put_ranges_section<W: Sink>(model: &Model, sink: &mut W, buffer: &mut Buffer)
-    ensures { PrintsSection W.holds W.failed W.count sink.old sink.new buffer.old buffer.new (ranges_section (listing_of model.now)) }
+    ensures { PrintsSection printed W.holds W.failed W.count sink.old sink.new buffer.old buffer.new (ranges_section (listing_of model.now)) }
 {
     buffer.open_section(b"RANGES\n");
     put_ranges(model, sink, buffer);

@@ -4,10 +4,11 @@ use Rattle.std.specs.FinMap.{entries}
 use Rattle.mpslp_canonical.specs.CanonicalMps.{column_lines}
 use Rattle.mpslp_canonical.specs.Listing.{listing_of}
 use Rattle.mpslp_write.specs.LinesAt.{of_part}
+use Rattle.mpslp_canonical.specs.Printed.{printed}
 use Rattle.mpslp_write.specs.Output.{Prints}
 use Rattle.mpslp_write.proofs.columns.put_columns.Given as goal
 
 -- the lines of the entries so far were put
 abbrev pub invariant-loop-j : goal.invariant-loop-j
 invariant-loop-j g l =
-    Prints g.W.Sink.holds g.W.Sink.failed g.W.Sink.count l.fn.sink l.sink l.fn.buffer l.buffer (flat_map (of_part l.part (column_lines (listing_of l.model))) (take l.j (entries l.model.columns)))
+    Prints printed g.W.Sink.holds g.W.Sink.failed g.W.Sink.count l.fn.sink l.sink l.fn.buffer l.buffer (flat_map (of_part l.part (column_lines (listing_of l.model))) (take l.j (entries l.model.columns)))

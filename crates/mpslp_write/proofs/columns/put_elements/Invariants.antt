@@ -2,6 +2,7 @@ use Rattle.std.proofs.Common.{take}
 use Rattle.std.specs.List.{flat_map}
 use Rattle.mpslp_core.specs.Views.{column_name, column_elements}
 use Rattle.mpslp_write.specs.LinesAt.{element_lines}
+use Rattle.mpslp_canonical.specs.Printed.{printed}
 use Rattle.mpslp_write.specs.Output.{Prints}
 use Rattle.mpslp_write.proofs.columns.put_elements.Given as goal
 
@@ -9,4 +10,4 @@ use Rattle.mpslp_write.proofs.columns.put_elements.Given as goal
 abbrev pub invariant-loop-k : goal.invariant-loop-k
 invariant-loop-k g l =
     let name = column_name l.model l.j in
-    Prints g.W.Sink.holds g.W.Sink.failed g.W.Sink.count l.fn.sink l.sink l.fn.buffer l.buffer (flat_map (element_lines name) (take l.k (column_elements l.model name)))
+    Prints printed g.W.Sink.holds g.W.Sink.failed g.W.Sink.count l.fn.sink l.sink l.fn.buffer l.buffer (flat_map (element_lines name) (take l.k (column_elements l.model name)))

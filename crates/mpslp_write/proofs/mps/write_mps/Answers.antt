@@ -1,4 +1,5 @@
-use Rattle.std.proofs.Common.{sym, subst, []}
+use Rattle.std.proofs.Common.{refl, sym, subst, []}
+use Rattle.std.specs.Prelude.{None}
 use Rattle.mpslp_write.specs.Output.{Gathered, HasPut}
 use Rattle.mpslp_canonical.specs.CanonicalMps.{canonical_mps}
 use Rattle.mpslp_write.proofs.OutputLemmas.{HasPut-nothing, taken-written, taken-succeeds}
@@ -13,7 +14,7 @@ returns g c =
     let nothing = subst (λ (b : Gathered). HasPut sink.holds sink.failed sink.count first first b [] []) (sym c.new-buffer.ensures) (HasPut-nothing sink.holds sink.failed sink.count first) in
     let put = c.put_lines.ensures.puts first [] nothing in
     record {
-      answer = taken-written sink.holds sink.failed canonical_mps c.args.model.now first c.finish.new.sink c.finish.result (c.finish.ensures.answer first text [] put);
+      answer = taken-written sink.holds sink.failed (λ _. None) canonical_mps c.args.model.now first c.finish.new.sink c.finish.result refl (c.finish.ensures.answer first text [] put);
       succeeds = taken-succeeds sink.holds sink.failed first c.finish.new.sink text c.finish.result (c.finish.ensures.answer first text [] put);
       works = c.finish.ensures.works first text [] put (canonical_mps-some c.args.model.now);
       calls = c.finish.ensures.calls first text [] put;

@@ -2,10 +2,11 @@ use Rattle.std.proofs.Common.{take}
 use Rattle.std.specs.List.{flat_map}
 use Rattle.std.specs.FinMap.{entries}
 use Rattle.mpslp_canonical.specs.CanonicalMps.{range_lines}
+use Rattle.mpslp_canonical.specs.Printed.{printed}
 use Rattle.mpslp_write.specs.Output.{Prints}
 use Rattle.mpslp_write.proofs.rows.put_ranges.Given as goal
 
 -- the lines of the entries so far were put
 abbrev pub invariant-loop-i : goal.invariant-loop-i
 invariant-loop-i g l =
-    Prints g.W.Sink.holds g.W.Sink.failed g.W.Sink.count l.fn.sink l.sink l.fn.buffer l.buffer (flat_map range_lines (take l.i (entries l.model.rows)))
+    Prints printed g.W.Sink.holds g.W.Sink.failed g.W.Sink.count l.fn.sink l.sink l.fn.buffer l.buffer (flat_map range_lines (take l.i (entries l.model.rows)))

@@ -1,0 +1,83 @@
+-- The pieces of a line of LP, one after another, are its text.
+use Rattle.std.proofs.Common.{◌≡◌, refl, sym, ap, ◌∙◌, ℕ, ◌<◌, Bool, true, false, List, [], ◌∷◌, ◌++◌, length, append_assoc, append-nil, arith}
+use Rattle.std.specs.Prelude.{codes, replicate}
+use Rattle.std.specs.List.{flat_map}
+use Rattle.std.specs.Fmt.{digits}
+use Rattle.mpslp_decimal.specs.Decimal.{Number, is_negative, size_of, trailing_zeros}
+use Rattle.mpslp_decimal.specs.NumberText.{number_text}
+use Rattle.mpslp_core.specs.Model.{LinearModel}
+use Rattle.mpslp_types.specs.declared.kinds.Sense.{Sense}
+use Rattle.mpslp_types.specs.declared.kinds.Sense.TheVariants.{Minimize, Maximize}
+use Rattle.mpslp_lp.specs.declared.relations.Relation.TheVariants.{AtLeast}
+use Rattle.mpslp_canonical_lp.specs.Printed.{Piece, word, label, number, sign, piece_text, sign_bytes, printed}
+use Rattle.mpslp_canonical_lp.specs.CanonicalLp.{Lines, heading, under_heading, semi_heading, under_semi_heading, label_line, long_line, term_line, signed_pieces, right_line, minus_large, canonical_lp}
+use Rattle.mpslp_write.specs.Output.{text_by, text_under}
+
+-- ---- one line
+
+-- pieces behind another one, and the end of the line
+abbrev behind : List Piece → List ℕ
+behind [] = 10 ∷ []
+behind (piece ∷ pieces) = codes " " ++ (piece_text piece ++ behind pieces)
+
+abbrev spaced : List Piece → List ℕ
+spaced pieces = flat_map (λ piece. codes " " ++ piece_text piece) pieces
+
+behind-spaced : (pieces : List Piece) → spaced pieces ++ 10 ∷ [] ≡ behind pieces
+behind-spaced [] = refl
+behind-spaced (piece ∷ pieces) =
+    append_assoc (codes " " ++ piece_text piece) (spaced pieces) (10 ∷ []) ∙ ap (λ (l : List ℕ). codes " " ++ (piece_text piece ++ l)) (behind-spaced pieces)
+
+pub line-text : (indent : ℕ) (piece : Piece) (pieces : List Piece)
+    → replicate indent 32 ++ (piece_text piece ++ behind pieces) ≡ text_by printed (record { indent = indent; pieces = piece ∷ pieces } ∷ [])
+line-text indent piece pieces =
+    let blanks = replicate indent 32 in
+    sym (append-nil ((blanks ++ (piece_text piece ++ spaced pieces)) ++ 10 ∷ [])
+    ∙ append_assoc blanks (piece_text piece ++ spaced pieces) (10 ∷ [])
+    ∙ ap (λ (l : List ℕ). blanks ++ l) (append_assoc (piece_text piece) (spaced pieces) (10 ∷ []) ∙ ap (λ (l : List ℕ). piece_text piece ++ l) (behind-spaced pieces)))
+
+pub label-text : (name : List ℕ) → codes " " ++ (name ++ codes ":\n") ≡ text_by printed (label_line name ∷ [])
+label-text name = ap (λ (l : List ℕ). codes " " ++ l) (sym (append_assoc name (codes ":") (10 ∷ []))) ∙ line-text 1 (label name) []
+
+-- a sign behind two blanks and before one, and what follows
+signed : (minus : Bool) (size rest : List ℕ) → ((codes "  " ++ (sign_bytes minus ++ codes " ")) ++ size) ++ rest ≡ codes "  " ++ (sign_bytes minus ++ (codes " " ++ (size ++ rest)))
+signed true size rest = refl
+signed false size rest = refl
+
+-- the sign of a number, and its size
+abbrev pub signed_text : Number → List ℕ
+signed_text value = (codes "  " ++ (sign_bytes (is_negative value) ++ codes " ")) ++ number_text (size_of value)
+
+pub term-text : (column : List ℕ) (value : Number) → signed_text value ++ (codes " " ++ (column ++ codes "\n")) ≡ text_by printed (term_line (column, value) ∷ [])
+term-text column value =
+    signed (is_negative value) (number_text (size_of value)) (codes " " ++ (column ++ codes "\n"))
+    ∙ line-text 2 (sign (is_negative value)) (number (size_of value) ∷ word column ∷ [])
+
+pub constant-text : (value : Number) → signed_text value ++ codes "\n" ≡ text_by printed (long_line (signed_pieces value) ∷ [])
+constant-text value =
+    signed (is_negative value) (number_text (size_of value)) (codes "\n") ∙ line-text 2 (sign (is_negative value)) (number (size_of value) ∷ [])
+
+pub unlimited-text : codes "  >= -1e20\n" ≡ text_by printed (right_line AtLeast minus_large ∷ [])
+unfolding digits trailing_zeros
+unlimited-text = refl
+
+-- ---- lines under a heading
+
+pub under-heading : (section header : List ℕ) (lines : Lines) → header ≡ printed (heading (section ∷ [])) ++ 10 ∷ []
+    → text_under printed header lines ≡ text_by printed (under_heading section lines)
+under-heading section header [] is = refl
+under-heading section header (line ∷ lines) is = ap (λ (l : List ℕ). l ++ text_by printed (line ∷ lines)) is
+
+pub under-semi-heading : (header : List ℕ) (lines : Lines) → header ≡ printed semi_heading ++ 10 ∷ []
+    → text_under printed header lines ≡ text_by printed (under_semi_heading lines)
+under-semi-heading header [] is = refl
+under-semi-heading header (line ∷ lines) is = ap (λ (l : List ℕ). l ++ text_by printed (line ∷ lines)) is
+
+-- ---- the whole
+
+pub canonical_lp-some : (m : LinearModel) → 0 < length (canonical_lp m)
+canonical_lp-some m = by m.sense
+  where
+    by : (sense : Sense) → 0 < length (canonical_lp (record m { sense = sense }))
+    by Minimize = omega arith
+    by Maximize = omega arith

@@ -1,0 +1,63 @@
+-- Lines of canonical LP that are printed of one entry after another.
+use Rattle.std.specs.Prelude.{ℕ, Bool, true, false, List, [], ◌∷◌, Option, Some, None, if◌then◌else◌}
+use Rattle.mpslp_core.specs.Model.{Column}
+use Rattle.mpslp_types.specs.declared.kinds.Kind.{Kind}
+use Rattle.mpslp_decimal.specs.Decimal.{Number}
+use Rattle.mpslp_types.specs.declared.kinds.Sense.{Sense}
+use Rattle.mpslp_types.specs.declared.kinds.Limit.TheVariants.{Finite, PlusInf}
+use Rattle.mpslp_lp.specs.declared.relations.Relation.TheVariants.{AtMost, EqualTo}
+use Rattle.mpslp_canonical_lp.specs.Printed.{number, sense}
+use Rattle.mpslp_canonical_lp.specs.Listing.{Listing}
+use Rattle.mpslp_canonical_lp.specs.CanonicalLp.{Lines, heading, long_line, sense_word, Term, term_line, term_in, objective_term, have_same_value, right_line, bound_pieces, line_of_some, is_integer_kind, is_semi_kind, name_line}
+use Rattle.mpslp_write.specs.declared.lp_kinds.KindSection.{KindSection}
+use Rattle.mpslp_write.specs.declared.lp_kinds.KindSection.TheVariants.{Generals, SemiContinuous}
+
+-- ---- terms
+
+-- the line of a term, if there is one
+abbrev pub term_lines : Option Term → Lines
+term_lines None = []
+term_lines (Some term) = term_line term ∷ []
+
+-- of a column in the objective
+abbrev pub objective_term_lines : Listing → List ℕ × Column → Lines
+objective_term_lines m column = term_lines (objective_term m column)
+
+-- of a column in the row of this name
+abbrev pub row_term_lines : Listing → List ℕ → List ℕ × Column → Lines
+row_term_lines m row column = term_lines (term_in m row column)
+
+abbrev pub has_lines : Lines → Bool
+has_lines [] = false
+has_lines (line ∷ lines) = true
+
+-- ---- the objective's sense
+
+abbrev pub sense_lines : Sense → Lines
+sense_lines wanted = heading (sense_word wanted ∷ []) ∷ []
+
+-- ---- two finite limits or bounds
+
+-- what stands before the terms of a row
+abbrev pub left_between : Number → Number → Lines
+left_between lower upper = if have_same_value lower upper then [] else long_line (number lower ∷ sense AtMost ∷ []) ∷ []
+
+-- what stands behind them
+abbrev pub last_between : Number → Number → Lines
+last_between lower upper = (if have_same_value lower upper then right_line EqualTo upper else right_line AtMost upper) ∷ []
+
+abbrev pub lines_between : List ℕ → Number → Number → Lines
+lines_between column lower upper = line_of_some (bound_pieces column (Finite lower) (Finite upper))
+
+-- a lower bound alone
+abbrev pub lines_from : List ℕ → Number → Lines
+lines_from column lower = line_of_some (bound_pieces column (Finite lower) PlusInf)
+
+-- ---- sections that name the columns of a kind
+
+abbrev pub is_of_section : KindSection → Kind → Bool
+is_of_section Generals kind = is_integer_kind kind
+is_of_section SemiContinuous kind = is_semi_kind kind
+
+abbrev pub name_lines : KindSection → List ℕ × Column → Lines
+name_lines section column = if is_of_section section column.1.kind then name_line column ∷ [] else []

@@ -1,0 +1,57 @@
+//! The canonical LP text of a model, written to a sink.
+
+ghost use Rattle.std.specs.Prelude.{◌≡◌, ◌+◌, ◌≤◌, true, false, None, Some, Err, length, IsOk};
+ghost use Rattle.mpslp_model.specs.Formats.{IsWritten};
+ghost use Rattle.mpslp_types.specs.declared.faults.NameAt.{NameAt};
+ghost use Rattle.mpslp_types.specs.declared.faults.WriteFault.TheVariants.{NotLp};
+ghost use Rattle.mpslp_canonical_lp.specs.Printed.{printed};
+ghost use Rattle.mpslp_canonical_lp.specs.CanonicalLp.{canonical_lp, canonical_lines};
+ghost use Rattle.mpslp_canonical_lp.specs.Unfit.{unfit};
+ghost use Rattle.mpslp_write.specs.Output.{PrintsSection};
+
+use crate::lp_bounds::put_bounds_section;
+use crate::lp_fit::first_unfit_name;
+use crate::lp_kinds::{put_generals_section, put_semis_section};
+use crate::lp_objective::put_objective_section;
+use crate::lp_rows::put_rows_section;
+use crate::output::Buffer;
+use mpslp_model::{Model, Sink, WriteFault};
+
+/// Puts the canonical lines of a model.
+fn put_lines<W: Sink>(model: &Model, sink: &mut W, buffer: &mut Buffer)
+    ensures { PrintsSection printed W.holds W.failed W.count sink.old sink.new buffer.old buffer.new (canonical_lines model.now) }
+{
+    put_objective_section(model, sink, buffer);
+    put_rows_section(model, sink, buffer);
+    put_bounds_section(model, sink, buffer);
+    put_generals_section(model, sink, buffer);
+    put_semis_section(model, sink, buffer);
+    buffer.put(sink, b"End\n");
+}
+
+/// Writes the canonical LP text of a model to a sink, in as many calls as it has bytes at most, and does
+/// not flush. The text waits in a buffer of 65,536 bytes between calls; no memory is taken.
+///
+/// The rows are found by a search in each column, so the time grows as rows times columns.
+///
+/// # Errors
+///
+/// [`NotLp`](WriteFault::NotLp) exactly where a name of the model is no LP name, with the place of the
+/// first: the sink is not called. [`Write`](WriteFault::Write) exactly where all are, and the sink has
+/// failed when the call ends: it has taken that many first bytes of the text, a number that stays at
+/// 2^64 - 1, and nothing else, and it is not called again.
+pub fn write_lp<W: Sink>(model: &Model, sink: &mut W) -> Result<(), WriteFault>
+    ensures answer { IsWritten unfit canonical_lp W.holds W.failed model.now sink.old sink.new result }
+    ensures refuses { (place : NameAt) → unfit model.now ≡ Some place → (result ≡ Err (NotLp place)) × (sink.new ≡ sink.old) }
+    ensures succeeds { unfit model.now ≡ None → W.failed sink.new ≡ false → IsOk result }
+    ensures works { IsOk result → W.failed sink.new ≡ false }
+    ensures calls { W.count sink.new ≤ W.count sink.old + length (canonical_lp model.now) }
+    ensures stays { W.failed sink.old ≡ true → W.failed sink.new ≡ true }
+{
+    if let Some(place) = first_unfit_name(model) {
+        return Err(WriteFault::NotLp(place));
+    }
+    let mut buffer = Buffer::new();
+    put_lines(model, sink, &mut buffer);
+    buffer.finish(sink)
+}

@@ -1,0 +1,149 @@
+//! The rows of canonical LP.
+//!
+//! A model keeps its coefficients by columns, and LP is written by rows: the terms of a row are found by
+//! a search in each column, in [`put_terms`] alone.
+
+ghost use Rattle.std.specs.Prelude.{◌≡◌, ◌<◌, [], ◌∷◌, map};
+ghost use Rattle.std.specs.List.{flat_map};
+ghost use Rattle.std.specs.FinMap.{entries};
+ghost use Rattle.mpslp_core.specs.Views.{num_rows, num_columns, row_name};
+ghost use Rattle.mpslp_canonical_lp.specs.Printed.{printed};
+ghost use Rattle.mpslp_canonical_lp.specs.Listing.{listing_of};
+ghost use Rattle.mpslp_canonical_lp.specs.CanonicalLp.{term_line, row_terms, left_lines, last_line, row_lines, rows_section};
+ghost use Rattle.mpslp_write.specs.LinesAt.{lines_at};
+ghost use Rattle.mpslp_write.specs.LpLinesAt.{row_term_lines, has_lines, left_between, last_between};
+ghost use Rattle.mpslp_write.specs.Output.{Prints, PrintsSection};
+
+use crate::bounds::have_same_value;
+use crate::lp_lines::{
+    put_at_least_line, put_at_most_line, put_equal_line, put_label_line, put_left_line,
+    put_term_line, put_unlimited_line,
+};
+use crate::output::Buffer;
+use mpslp_decimal::Decimal;
+use mpslp_model::laws::each_model_is_sound;
+use mpslp_model::{Limit, Model, Sink};
+
+/// Puts the term of the column of number `j` in the row of number `i`, and tells whether it has one.
+fn put_term<W: Sink>(model: &Model, i: usize, j: usize, sink: &mut W, buffer: &mut Buffer) -> bool
+    requires row { i < num_rows model.now }
+    requires column { j < num_columns model.now }
+    ensures put { Prints printed W.holds W.failed W.count sink.old sink.new buffer.old buffer.new (lines_at (row_term_lines (listing_of model.now) (row_name model.now i)) (entries model.now.columns) j) }
+    ensures some { result ≡ has_lines (lines_at (row_term_lines (listing_of model.now) (row_name model.now i)) (entries model.now.columns) j) }
+{
+    each_model_is_sound(model);
+    let value = model.coefficient(i, j);
+    if value.is_zero() {
+        return false;
+    }
+    put_term_line(sink, buffer, model.column_name(j).as_bytes(), value);
+    true
+}
+
+/// Puts the terms of the row of number `i`, and tells whether it has any.
+fn put_terms<W: Sink>(model: &Model, i: usize, sink: &mut W, buffer: &mut Buffer) -> bool
+    requires { i < num_rows model.now }
+    ensures put { Prints printed W.holds W.failed W.count sink.old sink.new buffer.old buffer.new (flat_map (row_term_lines (listing_of model.now) (row_name model.now i)) (entries model.now.columns)) }
+    ensures some { result ≡ has_lines (flat_map (row_term_lines (listing_of model.now) (row_name model.now i)) (entries model.now.columns)) }
+{
+    let mut has_terms = false;
+    for j in 0..model.num_cols() {
+        has_terms |= put_term(model, i, j, sink, buffer);
+    }
+    has_terms
+}
+
+/// Puts the terms of the row of number `i`: one without any has the first column, with 0.
+fn put_row_terms<W: Sink>(model: &Model, i: usize, sink: &mut W, buffer: &mut Buffer)
+    requires { i < num_rows model.now }
+    ensures { Prints printed W.holds W.failed W.count sink.old sink.new buffer.old buffer.new (map term_line (row_terms (listing_of model.now) (row_name model.now i))) }
+{
+    each_model_is_sound(model);
+    if !put_terms(model, i, sink, buffer) {
+        let first = model.column_name(0).as_bytes();
+        put_term_line(sink, buffer, first, Decimal::zero());
+    }
+}
+
+/// Puts the lower one of two limits that differ.
+fn put_left_between<W: Sink>(sink: &mut W, buffer: &mut Buffer, lower: Decimal, upper: Decimal)
+    ensures { Prints printed W.holds W.failed W.count sink.old sink.new buffer.old buffer.new (left_between lower upper) }
+{
+    if !have_same_value(lower, upper) {
+        put_left_line(sink, buffer, lower);
+    }
+}
+
+/// Puts what stands before the terms of a row: the lower one of two limits that differ.
+fn put_left_limit<W: Sink>(sink: &mut W, buffer: &mut Buffer, lower: &Limit, upper: &Limit)
+    ensures { Prints printed W.holds W.failed W.count sink.old sink.new buffer.old buffer.new (left_lines lower.now upper.now) }
+{
+    match lower {
+        Limit::Finite(lower) => match upper {
+            Limit::Finite(upper) => put_left_between(sink, buffer, *lower, *upper),
+            Limit::MinusInf | Limit::PlusInf => {}
+        },
+        Limit::MinusInf | Limit::PlusInf => {}
+    }
+}
+
+/// Puts the upper one of two limits, as the only one where both are the same.
+fn put_last_between<W: Sink>(sink: &mut W, buffer: &mut Buffer, lower: Decimal, upper: Decimal)
+    ensures { Prints printed W.holds W.failed W.count sink.old sink.new buffer.old buffer.new (last_between lower upper) }
+{
+    if have_same_value(lower, upper) {
+        put_equal_line(sink, buffer, upper);
+    } else {
+        put_at_most_line(sink, buffer, upper);
+    }
+}
+
+/// Puts what stands behind the terms of a row: its upper limit, or else its lower one. One without
+/// limits is at least minus infinity.
+fn put_last_limit<W: Sink>(sink: &mut W, buffer: &mut Buffer, lower: &Limit, upper: &Limit)
+    ensures { Prints printed W.holds W.failed W.count sink.old sink.new buffer.old buffer.new (last_line lower.now upper.now ∷ []) }
+{
+    match lower {
+        Limit::Finite(lower) => match upper {
+            Limit::Finite(upper) => put_last_between(sink, buffer, *lower, *upper),
+            Limit::MinusInf | Limit::PlusInf => put_at_least_line(sink, buffer, *lower),
+        },
+        Limit::MinusInf | Limit::PlusInf => match upper {
+            Limit::Finite(upper) => put_at_most_line(sink, buffer, *upper),
+            Limit::MinusInf | Limit::PlusInf => put_unlimited_line(sink, buffer),
+        },
+    }
+}
+
+/// Puts the row of number `i`.
+fn put_row<W: Sink>(model: &Model, i: usize, sink: &mut W, buffer: &mut Buffer)
+    requires { i < num_rows model.now }
+    ensures { Prints printed W.holds W.failed W.count sink.old sink.new buffer.old buffer.new (lines_at (row_lines (listing_of model.now)) (entries model.now.rows) i) }
+{
+    let lower = model.row_lower(i);
+    let upper = model.row_upper(i);
+    put_label_line(sink, buffer, model.row_name(i).as_bytes());
+    put_left_limit(sink, buffer, &lower, &upper);
+    put_row_terms(model, i, sink, buffer);
+    put_last_limit(sink, buffer, &lower, &upper);
+}
+
+/// Puts all rows.
+fn put_rows<W: Sink>(model: &Model, sink: &mut W, buffer: &mut Buffer)
+    ensures { Prints printed W.holds W.failed W.count sink.old sink.new buffer.old buffer.new (flat_map (row_lines (listing_of model.now)) (entries model.now.rows)) }
+{
+    for i in 0..model.num_rows() {
+        if buffer.has_failed() {
+            return;
+        }
+        put_row(model, i, sink, buffer);
+    }
+}
+
+/// Puts the rows under their heading.
+pub(crate) fn put_rows_section<W: Sink>(model: &Model, sink: &mut W, buffer: &mut Buffer)
+    ensures { PrintsSection printed W.holds W.failed W.count sink.old sink.new buffer.old buffer.new (rows_section (listing_of model.now)) }
+{
+    buffer.put(sink, b"Subject To\n");
+    put_rows(model, sink, buffer);
+}
