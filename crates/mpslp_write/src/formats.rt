@@ -3,10 +3,18 @@
 ghost use Rattle.std.specs.Prelude.{None};
 ghost use Rattle.mpslp_mps.specs.MpsText.{DeclaresMps};
 ghost use Rattle.mpslp_mps.specs.FirstFault.{IsFirstMpsFault};
+ghost use Rattle.mpslp_lp.specs.LpText.{DeclaresLp};
+ghost use Rattle.mpslp_lp.specs.FirstFault.{IsFirstLpFault};
 ghost use Rattle.mpslp_canonical.specs.CanonicalMps.{canonical_mps};
-ghost use Rattle.mpslp_canonical.proofs.MpsFormat as laws;
+ghost use Rattle.mpslp_canonical.proofs.MpsFormat as mps_laws;
+ghost use Rattle.mpslp_canonical_lp.specs.CanonicalLp.{canonical_lp};
+ghost use Rattle.mpslp_canonical_lp.specs.Unfit.{unfit};
+ghost use Rattle.mpslp_canonical_lp.proofs.LpFormat as lp_laws;
 
+use crate::lp::write_lp;
+use crate::lp_fit::first_unfit_name;
 use crate::mps::write_mps;
+use mpslp_lp::{LpReader, read_lp};
 use mpslp_model::{Format, Model, ReadFault, Sink, WriteFault};
 use mpslp_mps::{MpsReader, read_mps};
 use std::alloc::Global;
@@ -42,15 +50,60 @@ impl Format for Mps {
         write_mps(model, sink)
     }
 
-    ghost text_declares = { laws.text_declares };
+    ghost text_declares = { mps_laws.text_declares };
 
-    ghost one_model = { laws.one_model };
+    ghost one_model = { mps_laws.one_model };
 
-    ghost declared_sound = { laws.declared_sound };
+    ghost declared_sound = { mps_laws.declared_sound };
 
-    ghost no_fault = { laws.no_fault };
+    ghost no_fault = { mps_laws.no_fault };
 
-    ghost one_fault = { laws.one_fault };
+    ghost one_fault = { mps_laws.one_fault };
+
+    ghost reader_declares = { λ bytes m declared. declared };
+
+    ghost reader_faults = { λ bytes fault first. first };
+}
+
+/// LP, as the CPLEX file format reference has it, in this profile (`docs/FORMATS.md`). It can tell each
+/// model whose names are all LP names.
+#[derive(Clone, Copy, Debug)]
+pub struct Lp;
+
+/// Bytes declare models by `DeclaresLp` and have first faults by `IsFirstLpFault`, and the text of a
+/// model is `canonical_lp`. The first name that is no LP name is what LP cannot tell (`unfit`).
+impl Format for Lp {
+    ghost declares = { DeclaresLp };
+
+    ghost first_fault = { IsFirstLpFault };
+
+    ghost text = { canonical_lp };
+
+    ghost unfit = { unfit };
+
+    type Reader = LpReader;
+
+    fn read(alloc: Global, bytes: &[u8]) -> Result<Model, ReadFault> {
+        read_lp(alloc, bytes)
+    }
+
+    fn expressible(model: &Model) -> bool {
+        first_unfit_name(model).is_none()
+    }
+
+    fn write<W: Sink>(model: &Model, sink: &mut W) -> Result<(), WriteFault> {
+        write_lp(model, sink)
+    }
+
+    ghost text_declares = { lp_laws.text_declares };
+
+    ghost one_model = { lp_laws.one_model };
+
+    ghost declared_sound = { lp_laws.declared_sound };
+
+    ghost no_fault = { lp_laws.no_fault };
+
+    ghost one_fault = { lp_laws.one_fault };
 
     ghost reader_declares = { λ bytes m declared. declared };
 

@@ -3,7 +3,7 @@
 //! [`write_mps`] writes the canonical MPS text of a model, which mpslp_canonical defines, to a sink, and
 //! [`write_lp`] its canonical LP text, which mpslp_canonical_lp defines; [`first_unfit_name`] tells where
 //! a model first has a name that LP cannot tell.
-//! [`Mps`] is MPS as a format: reader, writer, and the laws that hold the two together.
+//! [`Mps`] and [`Lp`] are the formats: reader, writer, and the laws that hold the two together.
 #![tactic(auto)]
 
 mod bounds;
@@ -21,7 +21,7 @@ mod mps;
 mod output;
 mod rows;
 
-pub use formats::Mps;
+pub use formats::{Lp, Mps};
 pub use lp::write_lp;
 pub use lp_fit::first_unfit_name;
 pub use mps::write_mps;
