@@ -1,7 +1,7 @@
 //! The canonical text of worked files, and a sink that fails. Memory is ample.
 
-use crate::write_mps;
-use mpslp_model::{Sink, ToWrite, WriteFault};
+use crate::{write_lp, write_mps};
+use mpslp_model::{NameAt, Sink, ToWrite, WriteFault};
 use mpslp_mps::read_mps;
 use std::alloc::Global;
 use std::io;
@@ -17,7 +17,7 @@ ROWS
  G  MYG
  E  EQ
  G  BETWEEN
- N  FREE
+ N  LAX
 COLUMNS
     Y  COST  2  MYG  1.50
     M  'MARKER'  'INTORG'
@@ -50,7 +50,7 @@ ROWS
  N  COST
  G  BETWEEN
  E  EQ
- N  FREE
+ N  LAX
  L  LIM
  G  MYG
 COLUMNS
@@ -82,6 +82,44 @@ BOUNDS
 ENDATA
 ";
 
+const LP_TEXT: &str = "Maximize
+ COST:
+  - 1 B
+  + 0 EMPTY
+  + 1 S
+  + 2 Y
+  - 5
+Subject To
+ BETWEEN:
+  1 <=
+  + 0 B
+  <= 3.5
+ EQ:
+  + 2 X
+  = 7
+ LAX:
+  + 0 B
+  >= -1e20
+ LIM:
+  + 1 K
+  + 3 X
+  <= 4
+ MYG:
+  + 1.5 Y
+  >= 0
+Bounds
+ 0 <= B <= 1
+ S = 4
+ -1 <= X <= 10
+ Y free
+Generals
+ B
+ K
+Semi-Continuous
+ S
+End
+";
+
 /// A file, and its text, in which no row has a right side or a range, and no column a bound of its own.
 const PLAIN_FILE: &str = "ROWS
  N  C
@@ -101,6 +139,37 @@ ROWS
 COLUMNS
     X  C  1
     X  D  10
+ENDATA
+";
+
+const PLAIN_LP_TEXT: &str = "Minimize
+ C:
+  + 1 X
+Subject To
+ D:
+  + 10 X
+  >= -1e20
+End
+";
+
+/// A file with a row and columns whose names are no LP names.
+const BRACKETS: &str = "ROWS
+ N  C
+ L  D
+ L  E1
+COLUMNS
+    X  C  1
+    Y[1]  C  1
+ENDATA
+";
+
+/// A file with columns whose names are no LP names: the second is a reserved word.
+const FREE: &str = "ROWS
+ N  C
+COLUMNS
+    X  C  1
+    free  C  1
+    x-1  C  1
 ENDATA
 ";
 
@@ -130,6 +199,18 @@ fn write_file<W: Sink>(alloc: Global, file: &str, sink: &mut W) -> Option<Result
     }
 }
 
+/// What is answered where the model of a file is written as LP; `None` where the file has none.
+fn write_lp_file<W: Sink>(
+    alloc: Global,
+    file: &str,
+    sink: &mut W,
+) -> Option<Result<(), WriteFault>> {
+    match read_mps(alloc, file.as_bytes()) {
+        Ok(model) => Some(write_lp(&model, sink)),
+        Err(_) => None,
+    }
+}
+
 #[test]
 fn writes_canonical_texts_in_one_call(rt: HostRuntime) {
     for (file, text) in [(FILE, TEXT), (PLAIN_FILE, PLAIN_TEXT), (TEXT, TEXT)] {
@@ -147,4 +228,25 @@ fn a_sink_that_fails_is_told(rt: HostRuntime) {
     let answer = write_file(rt.alloc(), FILE, &mut sink);
     assert!(rt; matches!(answer, Some(Err(WriteFault::Write { written: 9 }))));
     assert_eq!(rt; sink.calls(), 6);
+}
+
+#[test]
+fn writes_canonical_lp_texts_in_one_call(rt: HostRuntime) {
+    for (file, text) in [(FILE, LP_TEXT), (PLAIN_FILE, PLAIN_LP_TEXT)] {
+        let mut held = Vec::new(rt.alloc());
+        let mut sink = ToWrite::new(&mut held);
+        assert!(rt; matches!(write_lp_file(rt.alloc(), file, &mut sink), Some(Ok(()))));
+        assert_eq!(rt; sink.calls(), 1);
+        assert_eq!(rt; held.as_slice(), text.as_bytes());
+    }
+}
+
+#[test]
+fn a_name_that_lp_cannot_tell_is_told_before_any_byte(rt: HostRuntime) {
+    for (file, place) in [(BRACKETS, NameAt::Row(1)), (FREE, NameAt::Column(1))] {
+        let mut sink = ToWrite::new(SmallWriter { room: 9 });
+        let answer = write_lp_file(rt.alloc(), file, &mut sink);
+        assert_eq!(rt; answer, Some(Err(WriteFault::NotLp(place))));
+        assert_eq!(rt; sink.calls(), 0);
+    }
 }
