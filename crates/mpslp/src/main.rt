@@ -3,7 +3,8 @@
 
 use mpslp_convert::{ConvertFault, RunFault, load, report, run, same_model};
 use mpslp_model::{FromRead, Sink, Source, ToWrite, put_all};
-use mpslp_write::Mps;
+use mpslp_write::{Lp, Mps};
+use std::alloc::Global;
 use std::io::ErrorKind;
 use std::process::ExitCode;
 use std::rt::{Env, Files};
@@ -12,13 +13,53 @@ use std::{env, fs, io};
 /// The most bytes that an input may have.
 const MAX_BYTES: u64 = 1_073_741_824;
 
-const USAGE: &[u8] = b"usage: mpslp canon mps mps PATH | mpslp same mps PATH mps PATH\n";
+const USAGE: &[u8] = b"usage: mpslp canon FROM TO PATH | mpslp same FORMAT PATH FORMAT PATH (formats: mps, lp)\n";
 
-/// What the words of the command line ask for. A path of `-` is standard input.
+/// A format of model files.
+#[derive(Clone, Copy, Debug, PartialEq)]
+enum Form {
+    Mps,
+    Lp,
+}
+
+impl Form {
+    /// The format that a word of the command line names.
+    fn of(word: &str) -> Option<Form> {
+        match word {
+            "mps" => Some(Form::Mps),
+            "lp" => Some(Form::Lp),
+            _ => None,
+        }
+    }
+}
+
+/// A model file: its path, where `-` is standard input, and its format.
+#[derive(Clone, Copy, Debug, PartialEq)]
+struct ModelFile<'a> {
+    form: Form,
+    path: &'a str,
+}
+
+impl<'a> ModelFile<'a> {
+    fn of(form: &'a String, path: &'a String) -> Option<ModelFile<'a>> {
+        Some(ModelFile {
+            form: Form::of(form.as_str())?,
+            path: path.as_str(),
+        })
+    }
+}
+
+/// What the words of the command line ask for.
 #[derive(Clone, Copy, Debug, PartialEq)]
 enum Job<'a> {
-    Canon { path: &'a str },
-    Same { first: &'a str, second: &'a str },
+    Canon {
+        file: ModelFile<'a>,
+        to: Form,
+    },
+    Same {
+        first: ModelFile<'a>,
+        second: ModelFile<'a>,
+    },
 }
 
 /// How a job ends.
@@ -42,23 +83,17 @@ impl From<RunFault> for End {
 /// The job that the words behind the program's name ask for.
 fn job_of<'a>(words: &'a [String]) -> Option<Job<'a>> {
     match words {
-        [word, from, to, path] => {
-            let is_canon = word.as_str() == "canon"
-                && from.as_str() == "mps"
-                && to.as_str() == "mps";
-            is_canon.then_some(Job::Canon {
-                path: path.as_str(),
-            })
-        }
-        [word, from, first, other, second] => {
-            let is_same = word.as_str() == "same"
-                && from.as_str() == "mps"
-                && other.as_str() == "mps";
-            let is_twice_input = first.as_str() == "-" && second.as_str() == "-";
-            (is_same && !is_twice_input).then_some(Job::Same {
-                first: first.as_str(),
-                second: second.as_str(),
-            })
+        [word, from, to, path] if word.as_str() == "canon" => Some(Job::Canon {
+            file: ModelFile::of(from, path)?,
+            to: Form::of(to.as_str())?,
+        }),
+        [word, form, path, other, second] if word.as_str() == "same" => {
+            let is_twice_input = path.as_str() == "-" && second.as_str() == "-";
+            let job = Job::Same {
+                first: ModelFile::of(form, path)?,
+                second: ModelFile::of(other, second)?,
+            };
+            (!is_twice_input).then_some(job)
         }
         _ => None,
     }
@@ -81,20 +116,44 @@ fn load_path<R: Input + Files + AllocGlobal>(rt: &R, path: &str) -> Result<Vec<u
     }
 }
 
+/// Writes the canonical text of what a source gives.
+fn convert<I: Source, W: Sink>(
+    alloc: Global,
+    from: Form,
+    to: Form,
+    source: &mut I,
+    output: &mut W,
+) -> Result<(), RunFault> {
+    match (from, to) {
+        (Form::Mps, Form::Mps) => run::<Mps, Mps, I, W>(alloc, MAX_BYTES, source, output),
+        (Form::Mps, Form::Lp) => run::<Mps, Lp, I, W>(alloc, MAX_BYTES, source, output),
+        (Form::Lp, Form::Mps) => run::<Lp, Mps, I, W>(alloc, MAX_BYTES, source, output),
+        (Form::Lp, Form::Lp) => run::<Lp, Lp, I, W>(alloc, MAX_BYTES, source, output),
+    }
+}
+
 /// Writes the canonical text of what standard input or a file has.
 fn canon<R: Input + Files + AllocGlobal, W: Sink>(
     rt: &R,
-    path: &str,
+    file: ModelFile<'_>,
+    to: Form,
     output: &mut W,
 ) -> Result<(), RunFault> {
     let alloc = rt.alloc();
-    if path == "-" {
-        run::<Mps, Mps, _, W>(alloc, MAX_BYTES, &mut FromRead::new(rt.reader()), output)
-    } else {
-        run::<Mps, Mps, _, W>(
+    if file.path == "-" {
+        convert(
             alloc,
-            MAX_BYTES,
-            &mut FromRead::new(open(rt, path)?),
+            file.form,
+            to,
+            &mut FromRead::new(rt.reader()),
+            output,
+        )
+    } else {
+        convert(
+            alloc,
+            file.form,
+            to,
+            &mut FromRead::new(open(rt, file.path)?),
             output,
         )
     }
@@ -109,16 +168,32 @@ fn print<W: Sink>(output: &mut W, line: &[u8]) -> Result<(), RunFault> {
     }
 }
 
+/// Whether two texts declare the same model.
+fn compare(
+    alloc: Global,
+    first: Form,
+    second: Form,
+    one: &[u8],
+    other: &[u8],
+) -> Result<bool, ConvertFault> {
+    match (first, second) {
+        (Form::Mps, Form::Mps) => same_model::<Mps, Mps>(alloc, one, other),
+        (Form::Mps, Form::Lp) => same_model::<Mps, Lp>(alloc, one, other),
+        (Form::Lp, Form::Mps) => same_model::<Lp, Mps>(alloc, one, other),
+        (Form::Lp, Form::Lp) => same_model::<Lp, Lp>(alloc, one, other),
+    }
+}
+
 /// Prints whether two inputs declare the same model.
 fn same<R: Input + Files + AllocGlobal, W: Sink>(
     rt: &R,
-    first: &str,
-    second: &str,
+    first: ModelFile<'_>,
+    second: ModelFile<'_>,
     output: &mut W,
 ) -> Result<End, End> {
-    let one = load_path(rt, first).map_err(End::FaultOfFirst)?;
-    let other = load_path(rt, second).map_err(End::FaultOfSecond)?;
-    match same_model::<Mps, Mps>(rt.alloc(), &one, &other) {
+    let one = load_path(rt, first.path).map_err(End::FaultOfFirst)?;
+    let other = load_path(rt, second.path).map_err(End::FaultOfSecond)?;
+    match compare(rt.alloc(), first.form, second.form, &one, &other) {
         Ok(true) => {
             print(output, b"same\n")?;
             Ok(End::Done)
@@ -148,8 +223,8 @@ fn perform<R: Input + Files + Print + Env + AllocGlobal>(rt: &R) -> Result<End, 
     };
     let mut output = ToWrite::new(io::writer(rt));
     match job_of(&words) {
-        Some(Job::Canon { path }) => {
-            canon(rt, path, &mut output)?;
+        Some(Job::Canon { file, to }) => {
+            canon(rt, file, to, &mut output)?;
             Ok(End::Done)
         }
         Some(Job::Same { first, second }) => same(rt, first, second, &mut output),

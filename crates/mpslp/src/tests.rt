@@ -1,6 +1,6 @@
 //! The parts of the program: words and their jobs, ends and how they are told, files and which is which.
 
-use crate::{End, Job, canon, finish, job_of, same};
+use crate::{End, Form, Job, ModelFile, canon, finish, job_of, same};
 use mpslp_convert::RunFault;
 use mpslp_model::{Fault, FaultKind, NameAt, ToWrite};
 use std::alloc::{AllocError, Global};
@@ -8,40 +8,48 @@ use std::rt::Files;
 use std::test::Fail;
 use std::{fs, io};
 
+const fn mps(path: &'static str) -> ModelFile<'static> {
+    ModelFile {
+        form: Form::Mps,
+        path,
+    }
+}
+
+const fn lp(path: &'static str) -> ModelFile<'static> {
+    ModelFile {
+        form: Form::Lp,
+        path,
+    }
+}
+
+const fn canon_of(file: ModelFile<'static>, to: Form) -> Option<Job<'static>> {
+    Some(Job::Canon { file, to })
+}
+
+const fn same_of(first: ModelFile<'static>, second: ModelFile<'static>) -> Option<Job<'static>> {
+    Some(Job::Same { first, second })
+}
+
 /// Words behind the program's name, and the job that they ask for.
-const JOBS: [(&str, Option<Job<'static>>); 14] = [
-    ("canon mps mps -", Some(Job::Canon { path: "-" })),
-    ("canon mps mps a.mps", Some(Job::Canon { path: "a.mps" })),
-    (
-        "same mps a mps b",
-        Some(Job::Same {
-            first: "a",
-            second: "b",
-        }),
-    ),
-    (
-        "same mps - mps b",
-        Some(Job::Same {
-            first: "-",
-            second: "b",
-        }),
-    ),
-    (
-        "same mps a mps -",
-        Some(Job::Same {
-            first: "a",
-            second: "-",
-        }),
-    ),
-    ("same mps - mps -", None),
+const JOBS: [(&str, Option<Job<'static>>); 18] = [
+    ("canon mps mps -", canon_of(mps("-"), Form::Mps)),
+    ("canon mps mps a.mps", canon_of(mps("a.mps"), Form::Mps)),
+    ("canon lp mps a", canon_of(lp("a"), Form::Mps)),
+    ("canon mps lp a", canon_of(mps("a"), Form::Lp)),
+    ("canon lp lp -", canon_of(lp("-"), Form::Lp)),
+    ("same mps a mps b", same_of(mps("a"), mps("b"))),
+    ("same mps - mps b", same_of(mps("-"), mps("b"))),
+    ("same mps a lp -", same_of(mps("a"), lp("-"))),
+    ("same lp a mps b", same_of(lp("a"), mps("b"))),
+    ("same mps - lp -", None),
     ("", None),
     ("canon", None),
     ("canon mps mps", None),
     ("canon mps mps a b", None),
-    ("canon lp mps a", None),
-    ("canon mps lp a", None),
     ("canon mps a mps b", None),
-    ("same lp a mps b", None),
+    ("canon MPS mps a", None),
+    ("same mps a b c", None),
+    ("show mps a", None),
 ];
 
 /// The words of a line, between blanks.
@@ -70,7 +78,7 @@ fn ends() -> [(End, u8, &'static str); 14] {
         (
             End::Usage,
             3,
-            "usage: mpslp canon mps mps PATH | mpslp same mps PATH mps PATH\n",
+            "usage: mpslp canon FROM TO PATH | mpslp same FORMAT PATH FORMAT PATH (formats: mps, lp)\n",
         ),
         (End::Fault(RunFault::Read), 4, "read failed\n"),
         (End::Fault(RunFault::TooLong), 2, "file: TooLong\n"),
@@ -137,13 +145,18 @@ fn ends_are_told(rt: HostRuntime) {
 
 const SMALL: &str = "ROWS\n N C\nCOLUMNS\n X C 1.0\nENDATA\n";
 
+const SMALL_LP: &str = "min\nC: 1.0 X\nst\nend\n";
+
+const SMALL_CANONICAL_LP: &str = "Minimize\n C:\n  + 1 X\nSubject To\nEnd\n";
+
 const SMALL_CANONICAL: &str = "NAME\nROWS\n N  C\nCOLUMNS\n    X  C  1\nENDATA\n";
 
 const OTHER: &str = "ROWS\n N C\nCOLUMNS\n X C 2\nENDATA\n";
 
 /// The files of these tests, in the folder where they run.
-const FILES: [(&str, &str); 4] = [
+const FILES: [(&str, &str); 5] = [
     ("test-small.mps", SMALL),
+    ("test-small.lp", SMALL_LP),
     ("test-canonical.mps", SMALL_CANONICAL),
     ("test-other.mps", OTHER),
     ("test-cut.mps", "ROWS\n"),
@@ -163,43 +176,52 @@ fn remove_files(rt: &impl Files) -> io::Result<()> {
     Ok(())
 }
 
-/// Two paths, and what `same` tells of them: on standard output, the exit status, and on standard error.
-const COMPARED: [(&str, &str, &str, u8, &str); 9] = [
-    ("test-small.mps", "test-canonical.mps", "same\n", 0, ""),
-    ("test-canonical.mps", "test-small.mps", "same\n", 0, ""),
-    ("test-small.mps", "test-other.mps", "not the same\n", 1, ""),
-    ("test-other.mps", "test-small.mps", "not the same\n", 1, ""),
+/// Two files, and what `same` tells of them: on standard output, the exit status, and on standard error.
+const COMPARED: [(ModelFile<'static>, ModelFile<'static>, &str, u8, &str); 12] = [
+    (mps("test-small.mps"), mps("test-canonical.mps"), "same\n", 0, ""),
+    (mps("test-canonical.mps"), mps("test-small.mps"), "same\n", 0, ""),
+    (mps("test-small.mps"), lp("test-small.lp"), "same\n", 0, ""),
+    (lp("test-small.lp"), mps("test-small.mps"), "same\n", 0, ""),
+    (lp("test-small.lp"), mps("test-other.mps"), "not the same\n", 1, ""),
+    (mps("test-small.mps"), mps("test-other.mps"), "not the same\n", 1, ""),
     (
-        "test-absent.mps",
-        "test-small.mps",
+        mps("test-absent.mps"),
+        mps("test-small.mps"),
         "",
         4,
         "first: read failed\n",
     ),
     (
-        "test-small.mps",
-        "test-absent.mps",
+        mps("test-small.mps"),
+        mps("test-absent.mps"),
         "",
         4,
         "second: read failed\n",
     ),
     (
-        "test-cut.mps",
-        "test-small.mps",
+        mps("test-cut.mps"),
+        mps("test-small.mps"),
         "",
         2,
         "first: file: MissingEnd\n",
     ),
     (
-        "test-small.mps",
-        "test-cut.mps",
+        mps("test-small.mps"),
+        mps("test-cut.mps"),
         "",
         2,
         "second: file: MissingEnd\n",
     ),
     (
-        "test-cut.mps",
-        "test-absent.mps",
+        mps("test-small.mps"),
+        lp("test-small.mps"),
+        "",
+        2,
+        "second: line 1: BadToken\n",
+    ),
+    (
+        mps("test-cut.mps"),
+        mps("test-absent.mps"),
         "",
         4,
         "second: read failed\n",
@@ -219,24 +241,36 @@ fn two_files_are_compared(rt: HostRuntime) -> Result<(), Fail> {
         assert_eq!(rt;
             finish(&mut ToWrite::new(&mut told), &end),
             status,
-            "at {first} {second}"
+            "at {first:?} {second:?}"
         );
-        assert_eq!(rt; output.as_slice(), line.as_bytes(), "at {first} {second}");
-        assert_eq!(rt; told.as_slice(), fault.as_bytes(), "at {first} {second}");
+        assert_eq!(rt; output.as_slice(), line.as_bytes(), "at {first:?} {second:?}");
+        assert_eq!(rt; told.as_slice(), fault.as_bytes(), "at {first:?} {second:?}");
     }
     remove_files(&rt)?;
     Ok(())
 }
 
+/// What a file has and its format, and the canonical text in another one.
+const CONVERTED: [(&str, Form, Form, &str); 4] = [
+    (SMALL, Form::Mps, Form::Mps, SMALL_CANONICAL),
+    (SMALL, Form::Mps, Form::Lp, SMALL_CANONICAL_LP),
+    (SMALL_LP, Form::Lp, Form::Mps, SMALL_CANONICAL),
+    (SMALL_LP, Form::Lp, Form::Lp, SMALL_CANONICAL_LP),
+];
+
 #[test]
 fn a_file_is_converted(rt: HostRuntime) -> Result<(), Fail> {
-    fs::write(&rt, "test-converted.mps", SMALL)?;
+    let path = "test-converted";
+    for (text, form, to, canonical) in CONVERTED {
+        fs::write(&rt, path, text)?;
+        let mut output = Vec::new(rt.alloc());
+        let answer = canon(&rt, ModelFile { form, path }, to, &mut ToWrite::new(&mut output));
+        assert!(rt; matches!(answer, Ok(())), "at {form:?} {to:?}");
+        assert_eq!(rt; output.as_slice(), canonical.as_bytes(), "at {form:?} {to:?}");
+        fs::remove_file(&rt, path)?;
+    }
     let mut output = Vec::new(rt.alloc());
-    let answer = canon(&rt, "test-converted.mps", &mut ToWrite::new(&mut output));
-    assert!(rt; matches!(answer, Ok(())));
-    assert_eq!(rt; output.as_slice(), SMALL_CANONICAL.as_bytes());
-    fs::remove_file(&rt, "test-converted.mps")?;
-    let answer = canon(&rt, "test-converted.mps", &mut ToWrite::new(&mut output));
+    let answer = canon(&rt, mps(path), Form::Mps, &mut ToWrite::new(&mut output));
     assert!(rt; matches!(answer, Err(RunFault::Read)));
     Ok(())
 }
