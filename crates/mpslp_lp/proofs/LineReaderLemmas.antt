@@ -29,13 +29,14 @@ use Rattle.mpslp_lp.specs.FirstFault.{fault_of, first_lp_fault}
 use Rattle.mpslp_lp.specs.Declares.{Takes}
 use Rattle.mpslp_lp.specs.Fed.{lines_outcome, IsFaultOfLines, LedTo, HasRead}
 use Rattle.mpslp_lp.specs.FedLaws.{ended-reads}
+use Rattle.mpslp_lp.specs.Laws.{FaultsOfLinesStay}
 use Rattle.mpslp_lp.specs.declared.before.Before.{Before}
 use Rattle.mpslp_lp.specs.declared.line_reader.LineReader.{LineReader}
 use Rattle.mpslp_lp.specs.declared.states.State.{State}
 use Rattle.mpslp_lp.specs.declared.states.State.TheVariants.{Between}
 use Rattle.mpslp_lp.specs.declared.states.Place.TheVariants.{AtStart}
 use Rattle.mpslp_lp.proofs.ReadingLemmas.{lines-read}
-use Rattle.mpslp_lp.proofs.LoopLemmas.{line-next, line-refused, none-left}
+use Rattle.mpslp_lp.proofs.LoopLemmas.{line-next, line-refused, none-left, refused-stays}
 use Rattle.mpslp_lp.proofs.ModelOrFault.{named-at_end}
 use Rattle.mpslp_lp.proofs.ReadLemmas.{finished-reads}
 
@@ -105,3 +106,10 @@ ends-missing bytes reader led unended = ap fault_of (led-open (lines bytes) read
 pub ends-text : (bytes : List ℕ) (reader : LineReader) (answer : Result LinearModel ReadFault) → HasRead reader (lines bytes) → is_at_end reader.state ≡ true
     → Finishes reader.before.earlier answer → ReadsLp bytes answer
 ends-text bytes reader answer led ended = finished-reads bytes reader.before.earlier answer (led-ended (lines bytes) reader led ended)
+
+-- ---- a fault of some lines
+
+pub faults-stay : FaultsOfLinesStay
+faults-stay text fault h = λ more.
+    lines-read (text ++ more) 0 1 start.before (Between AtStart) (omega arith)
+    ∙ refused-stays text more 1 start.before (Between AtStart) fault (sym (lines-read text 0 1 start.before (Between AtStart) (omega arith)) ∙ h)

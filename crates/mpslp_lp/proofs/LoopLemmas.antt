@@ -1,5 +1,5 @@
 -- Lines read one after another: what is left to be read decides.
-use Rattle.std.proofs.Common.{◌≡◌, ◌≤◌, refl, ap, ◌∙◌, ℕ, ◌+◌, ◌-◌, ◌^◌, min, List, [], ◌∷◌, Bool, true, false, arith}
+use Rattle.std.proofs.Common.{◌≡◌, ◌≤◌, refl, ap, ◌∙◌, ℕ, ◌+◌, ◌-◌, ◌^◌, min, List, [], ◌∷◌, ◌++◌, Bool, true, false, arith}
 use Rattle.std.specs.Prelude.{None}
 use Rattle.std.specs.List.{enumerate_from}
 use Rattle.mpslp_builder.specs.Declaration.{Draft}
@@ -13,6 +13,7 @@ use Rattle.mpslp_lp.specs.declared.states.State.{State}
 use Rattle.mpslp_lp.specs.declared.states.State.TheVariants.{AfterEnd}
 use Rattle.mpslp_lp.specs.Taken.{Taken, Goes, Refuses}
 use Rattle.mpslp_lp.specs.ReadingLines.{take_line, is_at_end, read_from}
+use Rattle.mpslp_lp.specs.FedLaws.{never_refused}
 
 abbrev pub last_number : ℕ
 last_number = 2 ^ 64 - 1
@@ -60,3 +61,18 @@ line-refused n before state line more kind unended counted refused =
 pub none-left : (n : ℕ) (before : Before) (state : State) → is_at_end state ≡ false → read_from before state (enumerate_from n []) ≡ Open
 none-left n before AfterEnd unended = cc
 none-left n before _ unended = refl
+
+-- what is refused of some lines is refused of more
+pub refused-stays : (ls more : List (List ℕ)) (n : ℕ) (before : Before) (state : State) (fault : Fault) → read_from before state (enumerate_from n ls) ≡ Refused fault
+    → read_from before state (enumerate_from n (ls ++ more)) ≡ Refused fault
+refused-stays [] more n before state fault h = absurd (never_refused before state fault h)
+refused-stays (line ∷ ls) more n before state fault h =
+    by (is_at_end state) (take_line before state line) h (λ after next. refused-stays ls more (n + 1) after next fault)
+  where
+    by : (b : Bool) (taken : Taken)
+        → elim b as (λ _. Outcome Fault Draft) [ true ↦ Finished before.earlier | false ↦ after_line n taken (enumerate_from (n + 1) ls) ] ≡ Refused fault
+        → ((after : Before) (next : State) → read_from after next (enumerate_from (n + 1) ls) ≡ Refused fault → read_from after next (enumerate_from (n + 1) (ls ++ more)) ≡ Refused fault)
+        → elim b as (λ _. Outcome Fault Draft) [ true ↦ Finished before.earlier | false ↦ after_line n taken (enumerate_from (n + 1) (ls ++ more)) ] ≡ Refused fault
+    by true taken e later = cc
+    by false (Goes after next) e later = later after next e
+    by false (Refuses kind) e later = e

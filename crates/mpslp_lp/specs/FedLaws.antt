@@ -56,7 +56,7 @@ fed-works None bytes h = absurd h
 fed-works (Some reader) bytes h = refl
 
 -- lines that were read have no fault
-never_refused : (before : Before) (state : State) (fault : Fault) → at_end before state ≡ Refused fault → ⊥
+pub never_refused : (before : Before) (state : State) (fault : Fault) → at_end before state ≡ Refused fault → ⊥
 never_refused before AfterEnd fault h = cc
 never_refused before _ fault h = cc
 

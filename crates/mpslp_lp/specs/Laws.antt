@@ -10,6 +10,8 @@ use Rattle.mpslp_lp.specs.Token.{Token, tokens}
 use Rattle.mpslp_lp.specs.Scan.{is_known}
 use Rattle.mpslp_lp.specs.LpText.{declarations_of, DeclaresLp}
 use Rattle.mpslp_lp.specs.FirstFault.{IsFirstLpFault}
+use Rattle.mpslp_lp.specs.Rules.Outcome.{Refused}
+use Rattle.mpslp_lp.specs.Fed.{lines_outcome, IsFaultOfLines}
 
 -- From a place of a line on, each text is the slice of the line at its start and has a byte at least, and no token begins
 -- before the one before it ends.
@@ -53,3 +55,7 @@ DeclareUnlessFaulty = (bytes : List ℕ) → ((fault : Fault) → IsFirstLpFault
 -- The bytes of a line are legal exactly where each of its tokens is known.
 abbrev pub UnknownAreIllegal : Type 0
 UnknownAreIllegal = (line : List ℕ) → has_legal_bytes line ≡ list_all (λ (token : Token). is_known token.kind) (tokens line)
+
+-- A fault of a text of these lines is that of every text that begins with them.
+abbrev pub FaultsOfLinesStay : Type 0
+FaultsOfLinesStay = (text : List (List ℕ)) (fault : Fault) → lines_outcome text ≡ Refused fault → IsFaultOfLines text fault

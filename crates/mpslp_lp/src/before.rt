@@ -15,7 +15,7 @@ use mpslp_model::FaultKind;
 use mpslp_reading::LineError;
 
 /// What stands before a phrase.
-#[derive(Debug, Drop)]
+#[derive(Drop)]
 pub struct Before {
     /// The sections that were opened.
     pub(crate) opened: Opened,

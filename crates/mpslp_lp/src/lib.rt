@@ -22,6 +22,8 @@ mod line_reader;
 mod lines;
 mod opened;
 mod reader;
+#[cfg(test)]
+mod reader_tests;
 mod reading;
 #[cfg(test)]
 mod reading_tests;

@@ -9,7 +9,7 @@ use mpslp_model::Limit;
 use std::marker::Model;
 
 /// A limit that a text gives: a finite one is of size below 10^20. Contracts see the limit.
-#[derive(Debug, Drop)]
+#[derive(Drop)]
 pub(crate) struct GivenLimit {
     limit: Limit,
 }

@@ -1,7 +1,7 @@
 //! The lines of LP text, read one after another.
 
 ghost use Rattle.std.specs.Prelude.{◌≡◌};
-ghost use Rattle.mpslp_lp.specs.Point.{none_opened, start};
+ghost use Rattle.mpslp_lp.specs.Point.{start};
 ghost use Rattle.mpslp_lp.specs.ReadingLines.{is_at_end};
 
 use crate::before::Before;
@@ -14,30 +14,21 @@ use mpslp_reading::{LineError, ReadLines, read_fault};
 use std::alloc::Global;
 use std::mem::replace;
 
-impl Opened {
-    /// No section was opened.
-    fn none() -> Opened
-        ensures { result ≡ none_opened }
-    {
-        Opened {
-            objective: false,
-            rows: false,
-            bounds: false,
-            generals: false,
-            binaries: false,
-            semis: false,
-            end: false,
-        }
-    }
-}
-
 impl Before {
     /// What stands before a text.
     fn start(alloc: Global) -> Before
         ensures { result ≡ start.before }
     {
         Before {
-            opened: Opened::none(),
+            opened: Opened {
+                objective: false,
+                rows: false,
+                bounds: false,
+                generals: false,
+                binaries: false,
+                semis: false,
+                end: false,
+            },
             earlier: Declared::new(alloc),
         }
     }

@@ -1,7 +1,7 @@
 //! The sections that were opened.
 
 /// Which sections were opened before a phrase.
-#[derive(Clone, Copy, Debug)]
+#[derive(Clone, Copy)]
 pub struct Opened {
     pub(crate) objective: bool,
     pub(crate) rows: bool,

@@ -108,12 +108,15 @@ impl Telling {
     }
 }
 
-/// The views of the model that the text declares: the objective with constant and offset; each row with its letter, limits,
-/// right side and range; each column with its bounds, its objective coefficient and its elements. Or the first fault, as the
-/// program tells it.
-fn told(alloc: Global, text: &[u8]) -> Result<Vec<u8>, AllocError> {
+/// The views of the model that was answered: the objective with constant and offset; each row with its letter, limits, right
+/// side and range; each column with its bounds, its objective coefficient and its elements. Or the first fault, as the program
+/// tells it.
+pub(crate) fn told_of(
+    alloc: Global,
+    answer: Result<Model, ReadFault>,
+) -> Result<Vec<u8>, AllocError> {
     let mut telling = Telling::new(alloc);
-    match read_lp(alloc, text) {
+    match answer {
         Ok(model) => telling.put_model(&model)?,
         Err(ReadFault::File(fault)) => {
             if fault.line == 0 {
@@ -190,7 +193,7 @@ fn reads_worked_files(rt: HostRuntime) -> Result<(), Fail> {
     let alloc = rt.alloc();
     for (text, expected) in FILES {
         assert_eq!(rt;
-            told(alloc, text.as_bytes())?.as_slice(),
+            told_of(alloc, read_lp(alloc, text.as_bytes()))?.as_slice(),
             expected.as_bytes(),
             "at {text}"
         );

@@ -14,7 +14,7 @@ use mpslp_model::{FaultKind, Name, NameFault};
 use mpslp_reading::value_of;
 
 /// What the grammar sees of a token, without the text of a name.
-#[derive(Clone, Copy, Debug)]
+#[derive(Clone, Copy)]
 pub(crate) enum SeenKind {
     /// It opens a section.
     Opens(SectionWord),
@@ -37,7 +37,7 @@ pub(crate) enum SeenKind {
 }
 
 /// What the grammar sees of a token.
-#[derive(Clone, Copy, Debug)]
+#[derive(Clone, Copy)]
 pub(crate) struct Seen<'a> {
     pub(crate) kind: SeenKind,
     pub(crate) text: &'a [u8],

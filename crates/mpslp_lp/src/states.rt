@@ -8,7 +8,7 @@ use mpslp_model::{Name, Sense};
 use std::marker::Model;
 
 /// A row whose last token is still to come.
-#[derive(Debug, Drop)]
+#[derive(Drop)]
 pub struct PartialRow {
     pub(crate) name: Name,
     /// The left side and the sense after it, where there is one.
@@ -26,7 +26,7 @@ impl Model for PartialRow {
 }
 
 /// Where in the text a phrase begins.
-#[derive(Debug, Drop)]
+#[derive(Drop)]
 pub enum Place {
     /// Before the word of the objective.
     AtStart,
@@ -49,7 +49,7 @@ pub enum Place {
 }
 
 /// Whose item it is.
-#[derive(Debug, Drop)]
+#[derive(Drop)]
 pub enum Owner {
     /// The objective's, of this name.
     OfObjective(Name),
@@ -58,7 +58,7 @@ pub enum Owner {
 }
 
 /// What stands before a sense that a right side follows.
-#[derive(Debug, Drop)]
+#[derive(Drop)]
 pub enum Sided {
     /// The terms of a row.
     SideOfRow(PartialRow, Relation),
@@ -67,7 +67,7 @@ pub enum Sided {
 }
 
 /// The last word of a section's opening that has several.
-#[derive(Clone, Copy, Debug)]
+#[derive(Clone, Copy)]
 pub enum LastWord {
     /// Of `subject to`.
     To,
@@ -78,7 +78,7 @@ pub enum LastWord {
 }
 
 /// How far a phrase has come.
-#[derive(Debug, Drop)]
+#[derive(Drop)]
 pub enum State {
     /// A phrase begins.
     Between(Place),
