@@ -16,7 +16,8 @@ returns-then-column_len-gt0 g c =
     let m = c.args.model.now in
     let some = c.if-column_len-gt0.true in
     let count = c.column_len.ensures in
-    let zero = sym (c.is_zero.ensures ∙ (λ i. is_zero (c.objective_coefficient-value.ensures i))) ∙ c.if-is_zero.true in
+    let told : c.is_zero.result ≡ is_zero (coefficient_at m m.objective (column_name m c.args.j)) = c.is_zero.ensures ∙ (λ i. is_zero (c.objective_coefficient-value.ensures i)) in
+    let zero = sym told ∙ c.if-is_zero.true in
     prints_same (objective-left m c.each_model_is_sound.ensures (column_name m c.args.j) zero (omega arith)
     ∙ named-lines (objective_lines_of (listing_of m)) (entries m.columns) c.args.j c.requires)
     (prints_nothing c.args.sink.now c.args.buffer.now)

@@ -2,7 +2,7 @@ use Rattle.std.proofs.Common.{◌≡◌, sym, ap, ◌∙◌, [], ◌∷◌}
 use Rattle.std.specs.FinMap.{entries}
 use Rattle.std.proofs.lemmas.Option.{get_or_from_slice_get}
 use Rattle.mpslp_decimal.specs.Decimal.{is_zero}
-use Rattle.mpslp_core.specs.Views.{row_name, column_name, column_names}
+use Rattle.mpslp_core.specs.Views.{row_name, column_name, column_names, coefficient_at}
 use Rattle.mpslp_canonical_lp.specs.Listing.{listing_of}
 use Rattle.mpslp_canonical_lp.specs.CanonicalLp.{term_line}
 use Rattle.mpslp_write.specs.LpLinesAt.{has_lines}
@@ -15,7 +15,8 @@ pub returns-then-is_zero-clause-put : goal.returns-then-is_zero-clause-put
 returns-then-is_zero-clause-put g c =
     let m = c.args.model.now in
     let row = row_name m c.args.i in
-    let zero = sym (c.is_zero.ensures ∙ (λ i. is_zero (c.coefficient-value.ensures i))) ∙ c.if-is_zero.true in
+    let told : c.is_zero.result ≡ is_zero (coefficient_at m row (column_name m c.args.j)) = c.is_zero.ensures ∙ (λ i. is_zero (c.coefficient-value.ensures i)) in
+    let zero = sym told ∙ c.if-is_zero.true in
     prints_same (row-left m c.each_model_is_sound.ensures row (column_name m c.args.j) zero
     ∙ named-lines (row_lines_of (listing_of m) row) (entries m.columns) c.args.j c.requires.column)
     (prints_nothing c.args.sink.now c.args.buffer.now)
@@ -24,7 +25,8 @@ pub returns-then-is_zero-clause-some : goal.returns-then-is_zero-clause-some
 returns-then-is_zero-clause-some g c =
     let m = c.args.model.now in
     let row = row_name m c.args.i in
-    let zero = sym (c.is_zero.ensures ∙ (λ i. is_zero (c.coefficient-value.ensures i))) ∙ c.if-is_zero.true in
+    let told : c.is_zero.result ≡ is_zero (coefficient_at m row (column_name m c.args.j)) = c.is_zero.ensures ∙ (λ i. is_zero (c.coefficient-value.ensures i)) in
+    let zero = sym told ∙ c.if-is_zero.true in
     ap has_lines (row-left m c.each_model_is_sound.ensures row (column_name m c.args.j) zero
     ∙ named-lines (row_lines_of (listing_of m) row) (entries m.columns) c.args.j c.requires.column)
 
@@ -34,7 +36,8 @@ returns-clause-put g c =
     let row = row_name m c.args.i in
     let name = column_name m c.args.j in
     let column : c.as_bytes.result.now ≡ name = c.as_bytes.ensures ∙ sym (get_or_from_slice_get (column_names m) c.args.j _ [] c.column_name.ensures) in
-    let some = sym (c.is_zero.ensures ∙ (λ i. is_zero (c.coefficient-value.ensures i))) ∙ c.if-is_zero.false in
+    let told : c.is_zero.result ≡ is_zero (coefficient_at m row (column_name m c.args.j)) = c.is_zero.ensures ∙ (λ i. is_zero (c.coefficient-value.ensures i)) in
+    let some = sym told ∙ c.if-is_zero.false in
     prints_same ((λ i. term_line (column i, c.coefficient-value.ensures i) ∷ []) ∙ row-needed m c.each_model_is_sound.ensures row name some
     ∙ named-lines (row_lines_of (listing_of m) row) (entries m.columns) c.args.j c.requires.column)
     c.put_term_line.ensures
@@ -43,6 +46,7 @@ pub returns-clause-some : goal.returns-clause-some
 returns-clause-some g c =
     let m = c.args.model.now in
     let row = row_name m c.args.i in
-    let some = sym (c.is_zero.ensures ∙ (λ i. is_zero (c.coefficient-value.ensures i))) ∙ c.if-is_zero.false in
+    let told : c.is_zero.result ≡ is_zero (coefficient_at m row (column_name m c.args.j)) = c.is_zero.ensures ∙ (λ i. is_zero (c.coefficient-value.ensures i)) in
+    let some = sym told ∙ c.if-is_zero.false in
     ap has_lines (row-needed m c.each_model_is_sound.ensures row (column_name m c.args.j) some
     ∙ named-lines (row_lines_of (listing_of m) row) (entries m.columns) c.args.j c.requires.column)
