@@ -34,5 +34,11 @@ pub mod TableParts
 pub mod ModelOfTables
 pub mod FinishLemmas
 pub mod EndLemmas
+pub mod EntryLemmas
+pub mod NamedEntries
+pub mod SoundParts
+pub mod FlatLemmas
+pub mod KeptParts
+pub mod GivenBack
 mod WorkedRows
 mod WorkedModels

@@ -1,7 +1,7 @@
 -- The coefficients of a sound listing's canonical declarations: with the zeros left out they are the listing's.
 use Rattle.std.proofs.Common.{◌≡◌, refl, sym, ap, ◌∙◌, List, [], ◌∷◌, ◌++◌, ℕ, Bool, true, false, not, cond, map}
 use Rattle.std.specs.Prelude.{Option, Some, None, is_some, filter, filter_map, ◌&&◌, ◌||◌}
-use Rattle.std.specs.List.{flat_map, list_any, cons_option}
+use Rattle.std.specs.List.{flat_map, cons_option}
 use Rattle.std.specs.Option.{option_map}
 use Rattle.std.specs.Cmp.{first_so, second_so}
 use Rattle.std.specs.FinMap.{find}
@@ -16,10 +16,11 @@ use Rattle.mpslp_builder.proofs.DraftEntries.{same_key}
 use Rattle.mpslp_builder.proofs.LaterDrafts.{value_in}
 use Rattle.mpslp_builder.proofs.SlotLemmas.{same_name}
 use Rattle.mpslp_builder.proofs.SortedDrafts.{key_total}
+use Rattle.mpslp_builder.proofs.NamedEntries.{any-name}
 use Rattle.mpslp_canonical.specs.Listing.{Listing}
 use Rattle.mpslp_canonical.specs.CanonicalMps.{cell_at, column_cells, printed_cells, is_integer_column, is_plain_column}
 use Rattle.mpslp_canonical.proofs.CanonicalItems.{to_cell, cells_in}
-use Rattle.mpslp_canonical.proofs.EntryLemmas.{puts-kept, found-each, filter-not_not, found-either}
+use Rattle.mpslp_builder.proofs.EntryLemmas.{puts-kept, found-each, filter-not_not, found-either}
 use Rattle.mpslp_canonical.proofs.ListedParts.{own_coefficient, listed_decl, from_cells, coefficients-part}
 use Rattle.mpslp_canonical.proofs.DraftMaps.{is_sound_entry, IsSoundListing, drafted}
 
@@ -99,10 +100,6 @@ printed-hit : (key : CoefficientKey) (column objective : List ℕ) (cells : List
     → SomeAt key (flat_map own_coefficient (map (to_cell column) (printed_cells objective cells)))
 printed-hit key column objective [] h = cc
 printed-hit key column objective (cell ∷ cells) h = h
-
-any-name : (name : List ℕ) (columns : List (List ℕ × Column)) → is_one_of (names_in columns) name ≡ list_any (λ column. same_bytes name column.0) columns
-any-name name [] = refl
-any-name name (column ∷ columns) = ap (λ (b : Bool). same_bytes name column.0 || b) (any-name name columns)
 
 join-some : (key : CoefficientKey) (left right : List (CoefficientKey × Number)) → (is_some (find key_cmp key left) || is_some (find key_cmp key right)) ≡ true → SomeAt key (left ++ right)
 join-some key left right h = by (is_some (find key_cmp key left)) refl h

@@ -1,11 +1,9 @@
 -- The draft of a sound listing's canonical declarations, map by map.
 use Rattle.std.proofs.Common.{◌≡◌, refl, sym, ap, ◌∙◌, List, [], ◌∷◌, ◌++◌, ℕ, Bool, true, false, not, cond, map, append_assoc}
-use Rattle.std.specs.Prelude.{Option, Some, None, is_some, filter, ◌&&◌, ◌||◌}
+use Rattle.std.specs.Prelude.{Option, Some, None, is_some, filter, ◌&&◌}
 use Rattle.std.specs.List.{flat_map}
-use Rattle.std.specs.Ordering.{eq_by_cmp}
-use Rattle.std.specs.Cmp.Lexicographic.{texts_ties}
 use Rattle.std.specs.Cmp.{second_so}
-use Rattle.std.specs.FinMap.{find, is_sorted}
+use Rattle.std.specs.FinMap.{is_sorted}
 use Rattle.std.proofs.lemmas.List.{append-nil}
 use Rattle.mpslp_decimal.specs.Decimal.{Number, IsDecimal, is_decimal, is_zero, negated}
 use Rattle.mpslp_types.specs.Name.{is_mps_name, is_one_of, bytes_cmp}
@@ -19,16 +17,16 @@ use Rattle.mpslp_types.specs.declared.kinds.Limit.TheVariants.{MinusInf, Finite,
 use Rattle.mpslp_builder.specs.Declaration.{RowForm, Draft, draft_of, empty_draft, at_name, has_name, names_in}
 use Rattle.mpslp_types.proofs.EachLemmas.{Each, Each-all}
 use Rattle.mpslp_types.proofs.BoolLemmas.{T_from}
-use Rattle.mpslp_core.proofs.PutsLemmas.{puts, puts-append, find-front, finds_own}
+use Rattle.mpslp_core.proofs.PutsLemmas.{puts, puts-append, find-front}
 use Rattle.mpslp_builder.proofs.BoundsLemmas.{is_semi_kind}
 use Rattle.mpslp_builder.proofs.PartedLemmas.{parted-give}
 use Rattle.mpslp_builder.proofs.DraftLemmas.{rows-all, rhs_values-all, ranges-all, columns-all, lowers-all, uppers-all, marked-all, integers-all, binaries-all, semis-all}
-use Rattle.mpslp_builder.proofs.MeaningFromNoFault.{sorted-mapped}
 use Rattle.mpslp_builder.proofs.SortedDrafts.{bytes_total, tied_names}
+use Rattle.mpslp_builder.proofs.NamedEntries.{names_sorted, at-mapped, named}
 use Rattle.mpslp_canonical.specs.Listing.{Listing}
 use Rattle.mpslp_canonical.specs.CanonicalMps.{column_cells, printed_cells, is_integer_column, is_plain_column}
 use Rattle.mpslp_canonical.proofs.CanonicalItems.{to_cell, cells_in}
-use Rattle.mpslp_canonical.proofs.EntryLemmas.{first_there, then_told, told, all_told, sorted-kept, find-puts, puts-own, find-kept, sorted-told, find-told, filter-not_not}
+use Rattle.mpslp_builder.proofs.EntryLemmas.{first_there, then_told, told, all_told, sorted-kept, find-puts, puts-own, find-kept, sorted-told, find-told, filter-not_not}
 use Rattle.mpslp_canonical.proofs.ListedParts.{form_told, value_told, side_told, range_told, column_lower, column_upper, semi_told, column_semi, row_forms, own_column, listed_decl, from_cells, rows-part, rhs_values-part, ranges-part, columns-part, marked-part, integers-part, binaries-part, lowers-part, uppers-part, semis-part}
 
 -- ---- a sound listing
@@ -54,30 +52,9 @@ drafted m = draft_of (listed_decl m)
 
 -- ---- small facts on entries
 
-pub one_of-names : {X : Type 0} (q : List ℕ) (es : List (List ℕ × X)) → is_one_of (names_in es) q ≡ has_name es q
-one_of-names q [] = refl
-one_of-names {X} q (e ∷ es) =
-    ap (λ (b : Bool). b || is_one_of (names_in es) q) (texts_ties q e.0)
-    ∙ elim (eq_by_cmp bytes_cmp q e.0) as (λ b. (b || is_one_of (names_in es) q) ≡ is_some (cond b (Some e.1) (find bytes_cmp q es))) [ true ↦ refl | false ↦ one_of-names q es ]
-
 pub none_is : {X : Type 0} (o : Option X) → is_some o ≡ false → o ≡ None
 none_is None h = refl
 none_is (Some x) h = cc
-
--- a sorted list finds its own entries
-pub own-found : {X : Type 0} (es : List (List ℕ × X)) → is_sorted bytes_cmp es ≡ true → Each (λ e. at_name es e.0 ≡ Some e.1) es
-own-found es h = finds_own bytes_cmp bytes_total tied_names es (T_from (is_sorted bytes_cmp es) h)
-
-pub names_sorted : {X Y : Type 0} (g : X → Y) (es : List (List ℕ × X)) → is_sorted bytes_cmp es ≡ true → is_sorted bytes_cmp (map (λ e. (e.0, g e.1)) es) ≡ true
-names_sorted g es h = sorted-mapped (λ e. g e.1) es ∙ h
-
-pub at-mapped : {X Y : Type 0} (g : X → Y) (q : List ℕ) (es : List (List ℕ × X)) → at_name (map (λ e. (e.0, g e.1)) es) q ≡ then_told (λ x. Some (g x)) (at_name es q)
-at-mapped g q [] = refl
-at-mapped {X} {Y} g q (e ∷ es) =
-    elim (eq_by_cmp bytes_cmp q e.0) as (λ b. cond b (Some (g e.1)) (at_name (map (λ d. (d.0, g d.1)) es) q) ≡ then_told (λ x. Some (g x)) (cond b (Some e.1) (at_name es q))) [
-      | true ↦ refl
-      | false ↦ at-mapped g q es
-    ]
 
 -- ---- rows
 
@@ -150,9 +127,6 @@ pub semis-at : (m : Listing) → IsSoundListing m → (q : List ℕ) (column : C
     → has_name (drafted m).semis q ≡ is_semi_kind column.kind
 semis-at m h q column suited is =
     ap is_some (semi-at m h q ∙ ap (then_told column_semi) is) ∙ semi-suited column.kind column.lower column.upper suited
-
-abbrev pub named : {X : Type 0} → List ℕ × X → List ℕ × Unit {0}
-named entry = (entry.0, tt)
 
 -- each cell of a column names it, and there is one
 own-all : (name : List ℕ) (cells : List (List ℕ × Number)) → Each (λ e. e ≡ (name, tt)) (flat_map own_column (map (to_cell name) cells))

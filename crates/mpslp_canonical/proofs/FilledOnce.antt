@@ -23,11 +23,13 @@ use Rattle.mpslp_canonical.specs.Listing.{Listing}
 use Rattle.mpslp_canonical.specs.CanonicalMps.{is_integer_column, is_plain_column}
 use Rattle.mpslp_canonical.proofs.CanonicalItems.{group_in, cells_in, bounds_in}
 use Rattle.mpslp_canonical.proofs.EarlyWalk.{sense_decl}
-use Rattle.mpslp_canonical.proofs.EntryLemmas.{all_told, sorted-kept}
+use Rattle.mpslp_builder.proofs.EntryLemmas.{all_told, sorted-kept}
 use Rattle.mpslp_canonical.proofs.ListedItems.{whole_of}
-use Rattle.mpslp_canonical.proofs.WholeParts.{made_of, whole-parts, flat-same}
+use Rattle.mpslp_builder.proofs.FlatLemmas.{flat-same}
+use Rattle.mpslp_canonical.proofs.WholeParts.{made_of, whole-parts}
 use Rattle.mpslp_canonical.proofs.ListedParts.{range_told, listed_decl, cells-made}
-use Rattle.mpslp_canonical.proofs.DraftMaps.{IsSoundListing, own-found}
+use Rattle.mpslp_builder.proofs.NamedEntries.{own-found}
+use Rattle.mpslp_canonical.proofs.DraftMaps.{IsSoundListing}
 use Rattle.mpslp_canonical.proofs.ListedSlots.{rank, AllOf, NoneOf, join-ranks, cell_slot, slots-flat}
 use Rattle.mpslp_canonical.proofs.ListedOnce.{AreOther, sorted-other, other-append, column_slots, coefficients-distinct}
 use Rattle.mpslp_canonical.proofs.BoundSlots.{bound_slots, each-bound_slot, bounds-distinct}

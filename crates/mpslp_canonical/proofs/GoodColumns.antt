@@ -29,12 +29,13 @@ use Rattle.mpslp_canonical.proofs.CanonicalItems.{to_row, to_cell, cells_in, gro
 use Rattle.mpslp_canonical.proofs.EarlyWalk.{sense_decl, AreColumns}
 use Rattle.mpslp_canonical.proofs.WholeWalk.{draft_at_columns}
 use Rattle.mpslp_canonical.proofs.ListedItems.{whole_of}
-use Rattle.mpslp_canonical.proofs.EntryLemmas.{then_told, find-kept, found-each, sorted-kept}
-use Rattle.mpslp_canonical.proofs.WholeParts.{kept-all}
+use Rattle.mpslp_builder.proofs.EntryLemmas.{then_told, find-kept, found-each, sorted-kept}
+use Rattle.mpslp_builder.proofs.KeptParts.{kept-all}
 use Rattle.mpslp_canonical.proofs.ListedParts.{own_column, from_cells, cells-made}
-use Rattle.mpslp_canonical.proofs.DraftMaps.{is_sound_entry, IsSoundListing, own-found, at-mapped, named, plain-alone}
+use Rattle.mpslp_builder.proofs.NamedEntries.{own-found, at-mapped, named}
+use Rattle.mpslp_canonical.proofs.DraftMaps.{is_sound_entry, IsSoundListing, plain-alone}
 use Rattle.mpslp_canonical.proofs.CoefficientMap.{place_at}
-use Rattle.mpslp_canonical.proofs.ListingFacts.{row_named, column_named, no_marker, later_differ}
+use Rattle.mpslp_builder.proofs.SoundParts.{row_named, column_named, no_marker, later_differ}
 
 -- ---- columns
 

@@ -31,11 +31,12 @@ use Rattle.mpslp_canonical.proofs.CanonicalItems.{to_row, to_side, side_unless_z
 use Rattle.mpslp_canonical.proofs.EarlyWalk.{sense_decl}
 use Rattle.mpslp_canonical.proofs.WholeWalk.{IsGoodWhole, draft_at_columns, draft_at_sides}
 use Rattle.mpslp_canonical.proofs.ListedItems.{whole_of}
-use Rattle.mpslp_canonical.proofs.EntryLemmas.{then_told, puts-own}
-use Rattle.mpslp_canonical.proofs.WholeParts.{kept-all}
+use Rattle.mpslp_builder.proofs.EntryLemmas.{then_told, puts-own}
+use Rattle.mpslp_builder.proofs.KeptParts.{kept-all}
 use Rattle.mpslp_canonical.proofs.ListedParts.{form_told, row_forms, rows-made}
-use Rattle.mpslp_canonical.proofs.DraftMaps.{IsSoundListing, one_of-names, none_is, own-found, names_sorted, at-mapped}
-use Rattle.mpslp_canonical.proofs.ListingFacts.{row_named, row_sides, row_distance, column_sides, bounded_so, bounded_finite, lower_of, upper_of}
+use Rattle.mpslp_builder.proofs.NamedEntries.{one_of-names, own-found, names_sorted, at-mapped}
+use Rattle.mpslp_canonical.proofs.DraftMaps.{IsSoundListing, none_is}
+use Rattle.mpslp_builder.proofs.SoundParts.{row_named, row_sides, row_distance, column_sides, bounded_so, bounded_finite, lower_of, upper_of}
 use Rattle.mpslp_types.specs.declared.kinds.RowType.TheVariants.{AtLeast, Equal}
 use Rattle.mpslp_canonical.proofs.PrintableLemmas.{Holds, side-decimal, range-decimal, negated-decimal}
 use Rattle.mpslp_canonical.proofs.GoodColumns.{are-columns}

@@ -13,7 +13,6 @@ pub mod EarlyWalk
 pub mod WholeWalk
 pub mod ListedItems
 pub mod DraftText
-pub mod EntryLemmas
 pub mod WholeParts
 pub mod ListedParts
 pub mod DraftMaps

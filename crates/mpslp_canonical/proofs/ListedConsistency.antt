@@ -36,12 +36,13 @@ use Rattle.mpslp_canonical.proofs.PrintableLemmas.{Holds}
 use Rattle.mpslp_canonical.proofs.CanonicalItems.{to_cell, cells_in, group_in, to_side, side_unless_zero, row_side, sides_in, row_range, form_of, value_in, to_bound, bounds_in}
 use Rattle.mpslp_canonical.proofs.EarlyWalk.{sense_decl}
 use Rattle.mpslp_canonical.proofs.ListedItems.{whole_of}
-use Rattle.mpslp_canonical.proofs.EntryLemmas.{then_told}
+use Rattle.mpslp_builder.proofs.EntryLemmas.{then_told}
 use Rattle.mpslp_canonical.proofs.WholeParts.{each-whole}
 use Rattle.mpslp_canonical.proofs.ListedParts.{form_told, listed_decl}
-use Rattle.mpslp_canonical.proofs.DraftMaps.{IsSoundListing, drafted, at-mapped, row-at, columns-drafted, marked-at, integers-drafted, binaries-drafted, semis-at}
+use Rattle.mpslp_builder.proofs.NamedEntries.{at-mapped}
+use Rattle.mpslp_canonical.proofs.DraftMaps.{IsSoundListing, drafted, row-at, columns-drafted, marked-at, integers-drafted, binaries-drafted, semis-at}
 use Rattle.mpslp_canonical.proofs.CoefficientMap.{place_at}
-use Rattle.mpslp_canonical.proofs.ListingFacts.{row_distance, column_suited}
+use Rattle.mpslp_builder.proofs.SoundParts.{row_distance, column_suited}
 use Rattle.mpslp_canonical.proofs.ListedMeaning.{constant-drafted, objective-drafted, other-name, IsOwnRow, own-rows, IsOwnColumn, own-columns}
 
 -- ---- what is there

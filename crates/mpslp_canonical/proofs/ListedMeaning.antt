@@ -1,23 +1,20 @@
 -- The draft of a sound model's canonical declarations means the model.
-use Rattle.std.proofs.Common.{◌≡◌, refl, sym, ap, subst, ◌∙◌, List, [], ◌∷◌, ◌++◌, ℕ, zero, suc, Bool, true, false, not, cond, map}
-use Rattle.std.specs.Prelude.{ℤ, pos, negsuc, neg_ℤ, Option, Some, None, is_some, is_none, unwrap_or, filter, ◌&&◌}
+use Rattle.std.proofs.Common.{◌≡◌, refl, sym, ap, ◌∙◌, List, [], ◌∷◌, ◌++◌, ℕ, zero, suc, Bool, true, false, not, cond, map}
+use Rattle.std.specs.Prelude.{ℤ, pos, negsuc, neg_ℤ, Option, Some, None, is_some, unwrap_or, ◌&&◌}
 use Rattle.std.specs.List.{list_all}
 use Rattle.std.specs.Ordering.{eq_by_cmp, is_eq}
 use Rattle.std.specs.declared.cmp.Ordering.{Ordering}
 use Rattle.std.specs.Cmp.{first_so, second_so, tied_itself}
-use Rattle.std.specs.FinMap as maps
-use Rattle.std.specs.FinMap.{FinMap, is_sorted}
-use Rattle.std.proofs.Math.Dec.{T}
-use Rattle.mpslp_decimal.specs.Decimal.{Number, IsDecimal, is_decimal, is_zero, is_infinite_size, zero_number, negated, difference_of}
+use Rattle.mpslp_decimal.specs.Decimal.{Number, IsDecimal, is_decimal, is_infinite_size, zero_number, negated, difference_of}
 use Rattle.mpslp_decimal.proofs.NumberTextLemmas.{zero-is}
 use Rattle.mpslp_decimal.proofs.OrderLemmas.{same_decimal}
 use Rattle.mpslp_core.specs.Model.{LinearModel, Row, Column, is_sound_row, is_sound_column, IsSound}
 use Rattle.mpslp_types.specs.Name.{bytes_cmp}
-use Rattle.mpslp_types.specs.Sides.{is_at_most, is_bounded_decimal, is_lower_side, is_upper_side, are_sides}
-use Rattle.mpslp_builder.specs.Declaration.{RowForm, by_type, Declaration, declare_sense, declare_objective, declare_row, declare_rhs, declare_range, declare_column, declare_coefficient, declare_lower, declare_upper, declare_marked, declare_semi, Declarations, Draft, empty_draft, adding, adding_all, at_name, has_name, names_in}
+use Rattle.mpslp_types.specs.Sides.{is_bounded_decimal, is_lower_side, is_upper_side, are_sides}
+use Rattle.mpslp_builder.specs.Declaration.{RowForm, by_type, Declaration, declare_sense, declare_objective, declare_row, declare_rhs, declare_range, declare_column, declare_coefficient, declare_lower, declare_upper, declare_marked, declare_semi, Declarations, Draft, empty_draft, adding, adding_all, at_name, has_name}
 use Rattle.mpslp_core.specs.Limits.{limits_of, plain_limits, has_infinite_rhs}
-use Rattle.mpslp_builder.specs.Bounds.{zero_limit, one_limit, lower_bound, upper_bound, column_of, has_negative_upper, has_binary_bounds}
-use Rattle.mpslp_builder.specs.Meaning.{objective_name, constant_of, rhs_or_zero, row_limits, row_entry, row_passes, model_of, DraftMeans}
+use Rattle.mpslp_builder.specs.Bounds.{column_of}
+use Rattle.mpslp_builder.specs.Meaning.{objective_name, constant_of, rhs_or_zero, row_limits, row_entry, row_passes, DraftMeans}
 use Rattle.mpslp_types.specs.declared.kinds.Sense.{Sense}
 use Rattle.mpslp_types.specs.declared.kinds.Sense.TheVariants.{Minimize, Maximize}
 use Rattle.mpslp_types.specs.declared.kinds.Limit.{Limit}
@@ -29,6 +26,8 @@ use Rattle.mpslp_core.proofs.PutsLemmas.{equal_from}
 use Rattle.mpslp_builder.proofs.RowLemmas.{row_back, side-told}
 use Rattle.mpslp_builder.proofs.BoundsLemmas.{column_back}
 use Rattle.mpslp_builder.proofs.SortedDrafts.{bytes_total, tied_names}
+use Rattle.mpslp_builder.proofs.GivenBack.{model-back, columns-back, no-negative_upper, binary-within}
+use Rattle.mpslp_builder.proofs.KeptParts.{Stays, stays-all}
 use Rattle.mpslp_canonical.proofs.RowsWalk.{RowItem, row_decl, Side, side_decl, range_decl}
 use Rattle.mpslp_canonical.proofs.ColumnsWalk.{Cell, cell_decl, cells_of}
 use Rattle.mpslp_canonical.proofs.BoundsWalk.{BoundForm, fixed, free, no_lower, no_upper, semi_upper, Bound, bound_decl, decl_at}
@@ -39,22 +38,17 @@ use Rattle.mpslp_canonical.proofs.PrintableLemmas.{side-decimal, negated-decimal
 use Rattle.mpslp_canonical.proofs.EarlyWalk.{sense_decl}
 use Rattle.mpslp_canonical.proofs.WholeWalk.{Whole, whole_decl}
 use Rattle.mpslp_canonical.proofs.ListedItems.{whole_of}
-use Rattle.mpslp_canonical.proofs.EntryLemmas.{first_there, then_told, told}
+use Rattle.mpslp_builder.proofs.EntryLemmas.{first_there, then_told, told}
 use Rattle.mpslp_canonical.proofs.WholeParts.{each-whole}
 use Rattle.mpslp_canonical.proofs.ListedParts.{form_told, value_told, side_told, range_told, column_lower, column_upper, row_forms, listed_decl}
-use Rattle.mpslp_canonical.proofs.DraftMaps.{IsSoundListing, drafted, own-found, named, rows-drafted, right_side-at, range-at, lower-at, upper-at, columns-drafted, marked-at, integers-drafted, binaries-drafted, semis-at}
+use Rattle.mpslp_builder.proofs.NamedEntries.{own-found}
+use Rattle.mpslp_canonical.proofs.DraftMaps.{IsSoundListing, drafted, rows-drafted, right_side-at, range-at, lower-at, upper-at, columns-drafted, marked-at, integers-drafted, binaries-drafted, semis-at}
 use Rattle.mpslp_canonical.proofs.CoefficientMap.{coefficients-kept}
-use Rattle.mpslp_canonical.proofs.ListingFacts.{sound-listing, row_sides, row_distance, column_sides, column_suited, bounded_so, lower_of, upper_of, straight_of}
+use Rattle.mpslp_builder.proofs.SoundParts.{row_sides, row_distance, column_sides, column_suited, bounded_so, lower_of, upper_of}
+use Rattle.mpslp_canonical.proofs.ListingFacts.{sound-listing}
 use Rattle.mpslp_canonical.proofs.GoodWhole.{objective-no-row}
 
 -- ---- what is declared once, or not at all
-
-abbrev Stays : {X : Type 0} → (Draft → X) → X → Declaration → Type 0
-Stays part value d = (all : Draft) → part all ≡ value → part (adding all d) ≡ value
-
-stays-all : {X : Type 0} (part : Draft → X) (value : X) (ds : Declarations) → Each (Stays part value) ds → (all : Draft) → part all ≡ value → part (adding_all all ds) ≡ value
-stays-all part value [] h all is = is
-stays-all part value (d ∷ ds) h all is = stays-all part value ds h.1 (adding all d) (h.0 all is)
 
 -- what each kind of declaration after the sense does
 pub record EachKind (P : Declaration → Type 0) (objective : List ℕ) : Type 0 where
@@ -283,31 +277,10 @@ bounds-back m h column k =
     (λ a b p q e. same_decimal a b (finite-lower l a lower_side p) (finite-upper u b upper_side q) e)
     (λ a p z. zero-is a (finite-lower l a lower_side p) z)
 
-pub columns-back : (m : Listing) → IsSoundListing m → map (λ column. (column.0, column_of (drafted m) column.0)) (drafted m).columns ≡ m.columns
-columns-back m h =
-    ap (map (λ column. (column.0, column_of (drafted m) column.0))) (columns-drafted m h)
-    ∙ each-back named (λ column. (column.0, column_of (drafted m) column.0)) m.columns
-    (Each-weaker (IsOwnColumn m) (λ column. (column.0, column_of (drafted m) column.0) ≡ column) (λ column k. ap (λ (c : Column). (column.0, c)) (bounds-back m h column k)) m.columns (own-columns m h))
+each-column_back : (m : Listing) → IsSoundListing m → Each (λ column. column_of (drafted m) column.0 ≡ column.1) m.columns
+each-column_back m h = Each-weaker (IsOwnColumn m) (λ column. column_of (drafted m) column.0 ≡ column.1) (bounds-back m h) m.columns (own-columns m h)
 
--- ---- the model
-
-from_sorted-back : {K X : Type 0} {R : K → K → Ordering} (m : FinMap R X) (es : List (K × X)) → es ≡ maps.entries m → m ≡ maps.from_sorted es
-from_sorted-back {K} {X} {R} m es e =
-    maps.same_entries_map m (maps.from_sorted es) (sym (maps.entries-from_sorted R es (subst (λ (xs : List (K × X)). T (is_sorted R xs)) (sym e) (maps.entries_sorted m)) ∙ e))
-
-pub model-back : (m : LinearModel) → IsSoundListing (listing_of m) → m ≡ model_of (drafted (listing_of m))
-model-back m h =
-    let listing = listing_of m in
-    let all = drafted listing in
-    let sense = sense-drafted listing in
-    let objective : objective_name all ≡ m.objective = ap (λ (o : Option (List ℕ)). unwrap_or o []) (objective-drafted listing) in
-    let constant = constant-back listing h in
-    let rows = from_sorted-back m.rows (map (row_entry all) all.rows) (rows-back listing h) in
-    let columns = from_sorted-back m.columns (map (λ column. (column.0, column_of all column.0)) all.columns) (columns-back listing h) in
-    let coefficients = from_sorted-back m.coefficients (filter (λ entry. not (is_zero entry.1)) all.coefficients) (coefficients-kept listing h) in
-    λ i. record { sense = sym sense i; objective = sym objective i; constant = sym constant i; rows = rows i; columns = columns i; coefficients = coefficients i }
-
--- ---- the other fields
+-- ---- right sides
 
 and_false : (a b : Bool) → a ≡ false → (a && b) ≡ false
 and_false true b h = cc
@@ -339,37 +312,14 @@ finite-row m h row k =
     so_not (row_passes (drafted m) has_infinite_rhs (told_row row))
     ((λ i. has_infinite_rhs (form_told row.1) (side-back m h row k.0 k.1 i) (range-back m h row k.1 i)) ∙ finite-side row.1.lower row.1.upper (row_sides row k.0))
 
-nonnegative-upper : (m : Listing) → IsSoundListing m → (column : List ℕ × Column) → IsOwnColumn m column → not (has_negative_upper (drafted m) column.0) ≡ true
-nonnegative-upper m h column k = by (at_name (drafted m).lowers column.0) refl
-  where
-    ordered : is_at_most (lower_bound (drafted m) column.0) (upper_bound (drafted m) column.0) ≡ true
-    ordered = ap (λ (c : Column). is_at_most c.lower c.upper) (bounds-back m h column k) ∙ straight_of column.1.lower column.1.upper (column_sides column k.0)
-
-    fine : (b : Bool) → b ≡ true → not (true && not b) ≡ true
-    fine true e = refl
-    fine false e = e
-
-    by : (o : Option Limit) → at_name (drafted m).lowers column.0 ≡ o → not (is_none (at_name (drafted m).lowers column.0) && not (is_at_most zero_limit (upper_bound (drafted m) column.0))) ≡ true
-    by (Some l) is = ap (λ (o : Option Limit). not (is_none o && not (is_at_most zero_limit (upper_bound (drafted m) column.0)))) is
-    by None is =
-        ap (λ (o : Option Limit). not (is_none o && not (is_at_most zero_limit (upper_bound (drafted m) column.0)))) is
-        ∙ fine (is_at_most zero_limit (upper_bound (drafted m) column.0)) (ap (λ (o : Option Limit). is_at_most (unwrap_or o zero_limit) (upper_bound (drafted m) column.0)) (sym is) ∙ ordered)
-
-no-binary : (m : Listing) (name : List ℕ) → not (has_binary_bounds (drafted m) name) ≡ true
-no-binary m name =
-    ap (λ (es : List (List ℕ × Unit {0})). not (has_name es name && not (is_at_most zero_limit (lower_bound (drafted m) name) && is_at_most (upper_bound (drafted m) name) one_limit))) (binaries-drafted m)
-
-column-names : (m : Listing) → IsSoundListing m → (p : List ℕ → Bool) → Each (λ column. p column.0 ≡ true) m.columns → list_all p (names_in (drafted m).columns) ≡ true
-column-names m h p each =
-    ap (λ (es : List (List ℕ × Unit {0})). list_all p (names_in es)) (columns-drafted m h)
-    ∙ list_all-from_Each p (names_in (map named m.columns)) (Each-map (λ name. p name ≡ true) (λ e. e.0) (map named m.columns) (Each-map (λ (e : List ℕ × Unit {0}). p e.0 ≡ true) named m.columns each))
-
 -- The draft of the canonical declarations of a sound model means it.
 pub draft-means : (m : LinearModel) → IsSound m → DraftMeans (drafted (listing_of m)) m
 draft-means m sound =
     let listing = listing_of m in
     let h = sound-listing m sound in
     let all = drafted listing in
+    let declared = columns-drafted listing h in
+    let back = each-column_back listing h in
     record {
       finite_rhs_values = ap (list_all (λ row. not (row_passes all has_infinite_rhs row))) (rows-drafted listing h)
           ∙ list_all-from_Each (λ row. not (row_passes all has_infinite_rhs row)) (row_forms listing.rows)
@@ -379,9 +329,15 @@ draft-means m sound =
           ∙ list_all-from_Each (λ row. is_some (row_limits all row)) (row_forms listing.rows)
           (Each-map (λ row. is_some (row_limits all row) ≡ true) told_row listing.rows
           (Each-weaker (IsOwnRow listing) (λ row. is_some (row_limits all (told_row row)) ≡ true) (λ row k. ap is_some (limits-back listing h row k.0 k.1)) listing.rows (own-rows listing h)));
-      model = model-back m h;
+      model = model-back all m (record {
+        sense = sense-drafted listing;
+        objective = ap (λ (o : Option (List ℕ)). unwrap_or o []) (objective-drafted listing);
+        constant = constant-back listing h;
+        rows = rows-back listing h;
+        columns = columns-back all listing.columns declared back;
+        coefficients = coefficients-kept listing h;
+      });
       sound = sound;
-      no_negative_upper = column-names listing h (λ name. not (has_negative_upper all name))
-          (Each-weaker (IsOwnColumn listing) (λ column. not (has_negative_upper all column.0) ≡ true) (nonnegative-upper listing h) listing.columns (own-columns listing h));
-      binary_within = column-names listing h (λ name. not (has_binary_bounds all name)) (Each-all (λ column. not (has_binary_bounds all column.0) ≡ true) (λ column. no-binary listing column.0) listing.columns);
+      no_negative_upper = no-negative_upper all listing.columns declared back h.columns;
+      binary_within = binary-within all listing.columns declared back (binaries-drafted listing);
     }

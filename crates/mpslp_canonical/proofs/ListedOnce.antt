@@ -22,7 +22,7 @@ use Rattle.mpslp_canonical.specs.Listing.{Listing}
 use Rattle.mpslp_canonical.specs.CanonicalMps.{column_cells, printed_cells}
 use Rattle.mpslp_canonical.proofs.CanonicalItems.{to_cell, cells_in}
 use Rattle.mpslp_canonical.proofs.DraftMaps.{IsSoundListing}
-use Rattle.mpslp_canonical.proofs.ListingFacts.{later_differ}
+use Rattle.mpslp_builder.proofs.SoundParts.{later_differ}
 use Rattle.mpslp_canonical.proofs.ListedSlots.{cell_slot, column-new, column-distinct}
 
 pub any-turned : (q : List ℕ) (names : List (List ℕ)) → list_any (λ later. same_bytes later q) names ≡ is_one_of names q

@@ -26,8 +26,9 @@ use Rattle.mpslp_canonical.specs.CanonicalMps.{is_integer_column, is_plain_colum
 use Rattle.mpslp_canonical.proofs.CanonicalItems.{to_row, cells_in, group_in, to_side, side_unless_zero, row_side, sides_in, row_range, to_bound, bounds_in}
 use Rattle.mpslp_canonical.proofs.WholeWalk.{whole_decl}
 use Rattle.mpslp_canonical.proofs.ListedItems.{whole_of}
-use Rattle.mpslp_canonical.proofs.EntryLemmas.{told, all_told}
-use Rattle.mpslp_canonical.proofs.WholeParts.{made_of, flat-none, flat-same, sense-none, bound-none, joined-parts}
+use Rattle.mpslp_builder.proofs.EntryLemmas.{told, all_told}
+use Rattle.mpslp_builder.proofs.FlatLemmas.{flat-none, flat-same}
+use Rattle.mpslp_canonical.proofs.WholeParts.{made_of, sense-none, bound-none, joined-parts}
 
 -- ---- what is told of a row and of a column
 

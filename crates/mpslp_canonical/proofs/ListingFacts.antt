@@ -1,21 +1,9 @@
 -- What the soundness of a model says of its listing.
-use Rattle.std.proofs.Common.{◌≡◌, refl, sym, ap, ◌∙◌, List, [], ◌∷◌, ℕ, Bool, true, false, not}
-use Rattle.std.specs.Prelude.{◌&&◌}
-use Rattle.std.specs.List.{list_all}
-use Rattle.std.specs.Ordering.{is_lt}
-use Rattle.std.specs.Cmp.{first_so, second_so, tied_itself}
 use Rattle.std.specs.FinMap.{is_sorted, entries, entries_sorted}
-use Rattle.std.specs.FinMap.Entries.{below_all}
-use Rattle.mpslp_decimal.specs.Decimal.{Number, IsDecimal, is_decimal, is_infinite_size}
-use Rattle.mpslp_types.specs.Name.{is_mps_name, has_name_length, is_visible, same_bytes, marker, bytes_cmp}
-use Rattle.mpslp_core.specs.Model.{LinearModel, Row, Column, key_cmp, suits, is_sound_row, is_sound_column, is_sound_coefficient, IsSound}
-use Rattle.mpslp_types.specs.Sides.{limit_of, is_bounded_decimal, is_lower_side, is_upper_side, is_at_most, are_sides, has_bounded_distance}
-use Rattle.mpslp_types.specs.declared.kinds.Limit.{Limit}
-use Rattle.mpslp_types.specs.declared.kinds.Limit.TheVariants.{Finite}
-use Rattle.mpslp_types.proofs.BoolLemmas.{not_so, true_from}
-use Rattle.mpslp_types.proofs.EachLemmas.{Each, Each-from_list_all}
-use Rattle.mpslp_builder.proofs.SlotLemmas.{same_name}
-use Rattle.mpslp_builder.proofs.SortedDrafts.{bytes_total}
+use Rattle.mpslp_types.specs.Name.{bytes_cmp}
+use Rattle.mpslp_core.specs.Model.{LinearModel, key_cmp, is_sound_row, is_sound_column, is_sound_coefficient, IsSound}
+use Rattle.mpslp_types.proofs.BoolLemmas.{true_from}
+use Rattle.mpslp_types.proofs.EachLemmas.{Each-from_list_all}
 use Rattle.mpslp_canonical.specs.Listing.{listing_of}
 use Rattle.mpslp_canonical.proofs.DraftMaps.{IsSoundListing}
 
@@ -33,72 +21,3 @@ sound-listing m h = record {
   columns_sorted = true_from (is_sorted bytes_cmp (entries m.columns)) (entries_sorted m.columns);
   coefficients_sorted = true_from (is_sorted key_cmp (entries m.coefficients)) (entries_sorted m.coefficients);
 }
-
--- ---- what soundness gives
-
-pub row_named : (row : List ℕ × Row) → is_sound_row row ≡ true → is_mps_name row.0 ≡ true
-row_named row h = first_so (is_mps_name row.0) (are_sides row.1.lower row.1.upper && has_bounded_distance row.1.lower row.1.upper) h
-
-pub row_sides : (row : List ℕ × Row) → is_sound_row row ≡ true → are_sides row.1.lower row.1.upper ≡ true
-row_sides row h =
-    first_so (are_sides row.1.lower row.1.upper) (has_bounded_distance row.1.lower row.1.upper)
-    (second_so (is_mps_name row.0) (are_sides row.1.lower row.1.upper && has_bounded_distance row.1.lower row.1.upper) h)
-
-pub row_distance : (row : List ℕ × Row) → is_sound_row row ≡ true → has_bounded_distance row.1.lower row.1.upper ≡ true
-row_distance row h =
-    second_so (are_sides row.1.lower row.1.upper) (has_bounded_distance row.1.lower row.1.upper)
-    (second_so (is_mps_name row.0) (are_sides row.1.lower row.1.upper && has_bounded_distance row.1.lower row.1.upper) h)
-
-pub column_named : (column : List ℕ × Column) → is_sound_column column ≡ true → is_mps_name column.0 ≡ true
-column_named column h = first_so (is_mps_name column.0) (are_sides column.1.lower column.1.upper && suits column.1.kind column.1.lower column.1.upper) h
-
-pub column_sides : (column : List ℕ × Column) → is_sound_column column ≡ true → are_sides column.1.lower column.1.upper ≡ true
-column_sides column h =
-    first_so (are_sides column.1.lower column.1.upper) (suits column.1.kind column.1.lower column.1.upper)
-    (second_so (is_mps_name column.0) (are_sides column.1.lower column.1.upper && suits column.1.kind column.1.lower column.1.upper) h)
-
-pub column_suited : (column : List ℕ × Column) → is_sound_column column ≡ true → suits column.1.kind column.1.lower column.1.upper ≡ true
-column_suited column h =
-    second_so (are_sides column.1.lower column.1.upper) (suits column.1.kind column.1.lower column.1.upper)
-    (second_so (is_mps_name column.0) (are_sides column.1.lower column.1.upper && suits column.1.kind column.1.lower column.1.upper) h)
-
-pub lower_of : (l u : Limit) → are_sides l u ≡ true → is_lower_side l ≡ true
-lower_of l u h = first_so (is_lower_side l) (is_upper_side u && is_at_most l u) h
-
-pub upper_of : (l u : Limit) → are_sides l u ≡ true → is_upper_side u ≡ true
-upper_of l u h = first_so (is_upper_side u) (is_at_most l u) (second_so (is_lower_side l) (is_upper_side u && is_at_most l u) h)
-
-pub straight_of : (l u : Limit) → are_sides l u ≡ true → is_at_most l u ≡ true
-straight_of l u h = second_so (is_upper_side u) (is_at_most l u) (second_so (is_lower_side l) (is_upper_side u && is_at_most l u) h)
-
-pub no_marker : (name : List ℕ) → is_mps_name name ≡ true → same_bytes name marker ≡ false
-no_marker name h =
-    let sized = has_name_length name in
-    let seen = list_all is_visible name in
-    not_so (same_bytes name marker) (second_so seen (not (same_bytes name marker)) (second_so sized (seen && not (same_bytes name marker)) h))
-
-pub bounded_so : (d : Number) → is_bounded_decimal d ≡ true → IsDecimal d
-bounded_so d h = first_so (is_decimal d) (not (is_infinite_size d)) h
-
-pub bounded_finite : (d : Number) → is_bounded_decimal d ≡ true → limit_of d ≡ Finite d
-bounded_finite d h = by (is_infinite_size d) refl (second_so (is_decimal d) (not (is_infinite_size d)) h)
-  where
-    by : (b : Bool) → is_infinite_size d ≡ b → not b ≡ true → limit_of d ≡ Finite d
-    by true e n = cc
-    by false e n = rw e refl
-
--- ---- names that differ
-
-no_truth : false ≡ true → ⊥
-no_truth e = cc
-
-pub differs : (x y : List ℕ) → is_lt (bytes_cmp x y) ≡ true → same_bytes y x ≡ false
-differs x y below = by (same_bytes y x) refl
-  where
-    by : (b : Bool) → same_bytes y x ≡ b → b ≡ false
-    by true e = absurd (no_truth (ap is_lt (sym (ap (bytes_cmp x) (same_name y x e) ∙ tied_itself bytes_total x)) ∙ below))
-    by false e = refl
-
-pub later_differ : {X : Type 0} (x : List ℕ) (es : List (List ℕ × X)) → below_all bytes_cmp x es ≡ true → Each (λ e. same_bytes e.0 x ≡ false) es
-later_differ x [] h = tt
-later_differ x (e ∷ es) h = (differs x e.0 (first_so (is_lt (bytes_cmp x e.0)) (below_all bytes_cmp x es) h), later_differ x es (second_so (is_lt (bytes_cmp x e.0)) (below_all bytes_cmp x es) h))

@@ -15,10 +15,11 @@ use Rattle.mpslp_builder.proofs.SortedDrafts.{bytes_total, tied_names}
 use Rattle.mpslp_canonical.proofs.RowsWalk.{row_decl, Side, side_decl, range_decl}
 use Rattle.mpslp_canonical.specs.Listing.{Listing}
 use Rattle.mpslp_canonical.proofs.CanonicalItems.{to_row, sides_in, row_range}
-use Rattle.mpslp_canonical.proofs.EntryLemmas.{then_told, told, all_told, sorted-told, find-told}
+use Rattle.mpslp_builder.proofs.EntryLemmas.{then_told, told, all_told, sorted-told, find-told}
 use Rattle.mpslp_canonical.proofs.WholeParts.{made_of}
 use Rattle.mpslp_canonical.proofs.ListedParts.{value_told, side_told, range_told, own_side, sides-made, ranges-made}
-use Rattle.mpslp_canonical.proofs.DraftMaps.{IsSoundListing, one_of-names, none_is}
+use Rattle.mpslp_builder.proofs.NamedEntries.{one_of-names}
+use Rattle.mpslp_canonical.proofs.DraftMaps.{IsSoundListing, none_is}
 use Rattle.mpslp_canonical.proofs.ListedSlots.{rank, AllOf, distinct-map, distinct-names}
 use Rattle.mpslp_canonical.proofs.ListedOnce.{any-turned, rows-distinct}
 

@@ -3,7 +3,7 @@ use Rattle.std.proofs.Common.{◌≡◌, refl, ap, ◌∙◌, List, [], ◌∷�
 use Rattle.std.specs.List.{flat_map}
 use Rattle.std.proofs.lemmas.List.{append-nil}
 use Rattle.std.proofs.lemmas.List.Concat.{flat_map-append}
-use Rattle.mpslp_builder.specs.Declaration.{Declaration, declare_sense, declare_objective, declare_lower, declare_upper, declare_semi, Declarations, Draft, adding, adding_all}
+use Rattle.mpslp_builder.specs.Declaration.{Declaration, declare_sense, declare_objective, declare_lower, declare_upper, declare_semi, Declarations}
 use Rattle.mpslp_types.specs.declared.kinds.Sense.{Sense}
 use Rattle.mpslp_types.specs.declared.kinds.Sense.TheVariants.{Minimize, Maximize}
 use Rattle.mpslp_types.specs.declared.kinds.Limit.{Limit}
@@ -75,20 +75,6 @@ whole-parts part w =
     (follow part sides (ranges ++ (bounds ++ [])) _ _ (flat_map-flat_map part side_decl w.late.sides)
     (follow part ranges (bounds ++ []) _ _ (flat_map-flat_map part range_decl w.late.ranges)
     (ap (flat_map part) (append-nil bounds) ∙ flat_map-flat_map part bound_decl w.late.bounds)))))
-
-pub flat-none : {X Y : Type 0} (f : X → List Y) → ((x : X) → f x ≡ []) → (xs : List X) → flat_map f xs ≡ []
-flat-none f h [] = refl
-flat-none f h (x ∷ xs) = λ i. h x i ++ flat-none f h xs i
-
-pub flat-same : {X Y : Type 0} (f g : X → List Y) → ((x : X) → f x ≡ g x) → (xs : List X) → flat_map f xs ≡ flat_map g xs
-flat-same f g h [] = refl
-flat-same f g h (x ∷ xs) = λ i. h x i ++ flat-same f g h xs i
-
--- ---- what no declaration of some changes
-
-pub kept-all : {X : Type 0} (part : Draft → X) (ds : Declarations) → Each (λ d. (all : Draft) → part (adding all d) ≡ part all) ds → (all : Draft) → part (adding_all all ds) ≡ part all
-kept-all part [] h all = refl
-kept-all part (d ∷ ds) h all = kept-all part ds h.1 (adding all d) ∙ h.0 all
 
 -- ---- parts that are empty, and those that are not
 

@@ -18,8 +18,10 @@ use Rattle.mpslp_canonical_lp.specs.CanonicalLp.{Term, have_same_value, objectiv
 use Rattle.mpslp_canonical_lp.proofs.PhraseLemmas.{column_and}
 use Rattle.mpslp_canonical_lp.proofs.BoundsWalk.{bound_made, column_made}
 use Rattle.mpslp_canonical_lp.proofs.TextWalk.{listed_declarations}
-use Rattle.mpslp_canonical_lp.proofs.EntryLemmas.{told, all_told}
-use Rattle.mpslp_canonical_lp.proofs.ListedParts.{form_told, lower_told, upper_told, column_lower, column_upper, flat-singles, PartsOf, all_parts, listed-parts, nothing, nothing_of, named, own_name, without-terms, columns-parts, bounds-parts}
+use Rattle.mpslp_builder.proofs.EntryLemmas.{told, all_told}
+use Rattle.std.proofs.lemmas.List.Concat.{flat_map_single}
+use Rattle.mpslp_builder.proofs.NamedEntries.{named}
+use Rattle.mpslp_canonical_lp.proofs.ListedParts.{form_told, lower_told, upper_told, column_lower, column_upper, PartsOf, all_parts, listed-parts, nothing, nothing_of, own_name, without-terms, columns-parts, bounds-parts}
 
 bounds-none : {Y : Type 0} (part : Declaration → List Y) → ((x : List ℕ) → part (declare_column x) ≡ []) → ((x : List ℕ) (l : Limit) → part (declare_lower x l) ≡ []) → ((x : List ℕ) (l : Limit) → part (declare_upper x l) ≡ [])
     → (column : List ℕ × Column) → flat_map part (column_made column) ≡ []
@@ -67,7 +69,7 @@ rows-part m =
       of_semi = λ _. refl;
     }) m
     ∙ without-terms (λ row. (row.0, form_told row.1) ∷ []) m _
-    ∙ (λ i. flat-singles (λ row. (row.0, form_told row.1)) m.rows i ++ (flat_map-none m.columns i ++ (flat_map-none (filter is_integer_column m.columns) i ++ flat_map-none (filter is_semi_column m.columns) i)))
+    ∙ (λ i. flat_map_single (λ row. (row.0, form_told row.1)) m.rows i ++ (flat_map-none m.columns i ++ (flat_map-none (filter is_integer_column m.columns) i ++ flat_map-none (filter is_semi_column m.columns) i)))
     ∙ append-nil (row_forms m.rows)
 
 -- ---- bounds
@@ -138,7 +140,7 @@ integers-part m =
       of_general = λ _. refl;
       of_semi = λ _. refl;
     }) m
-    ∙ (λ i. flat_map-none m.columns i ++ (flat-singles named (filter is_integer_column m.columns) i ++ flat_map-none (filter is_semi_column m.columns) i))
+    ∙ (λ i. flat_map-none m.columns i ++ (flat_map_single named (filter is_integer_column m.columns) i ++ flat_map-none (filter is_semi_column m.columns) i))
     ∙ append-nil (map named (filter is_integer_column m.columns))
 
 pub semis-part : (m : Listing) → flat_map semi_part (listed_declarations m) ≡ map named (filter is_semi_column m.columns)
@@ -153,7 +155,7 @@ semis-part m =
       of_general = λ _. refl;
       of_semi = λ _. refl;
     }) m
-    ∙ (λ i. flat_map-none m.columns i ++ (flat_map-none (filter is_integer_column m.columns) i ++ flat-singles named (filter is_semi_column m.columns) i))
+    ∙ (λ i. flat_map-none m.columns i ++ (flat_map-none (filter is_integer_column m.columns) i ++ flat_map_single named (filter is_semi_column m.columns) i))
 
 -- the names that the bounds of a column tell
 abbrev pub bound_names : List ℕ × Column → List (List ℕ × Unit {0})

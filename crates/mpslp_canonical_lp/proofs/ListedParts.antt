@@ -1,5 +1,5 @@
 -- What the declarations of a listing's canonical text put into each map.
-use Rattle.std.proofs.Common.{◌≡◌, refl, ap, ◌∙◌, List, [], ◌∷◌, ◌++◌, ℕ, true, false, map}
+use Rattle.std.proofs.Common.{◌≡◌, refl, ap, ◌∙◌, List, [], ◌∷◌, ◌++◌, ℕ, true, false}
 use Rattle.std.specs.Prelude.{Option, Some, None, filter, unwrap_or, if◌then◌else◌}
 use Rattle.std.specs.List.{flat_map}
 use Rattle.std.proofs.lemmas.List.{append-nil}
@@ -12,6 +12,8 @@ use Rattle.mpslp_types.specs.declared.kinds.Sense.{Sense}
 use Rattle.mpslp_types.specs.declared.kinds.Limit.{Limit}
 use Rattle.mpslp_types.specs.declared.kinds.Limit.TheVariants.{MinusInf, Finite, PlusInf}
 use Rattle.mpslp_builder.proofs.CoefficientLemmas.{flat_map-flat_map, flat_map-none}
+use Rattle.mpslp_builder.proofs.FlatLemmas.{flat-same}
+use Rattle.mpslp_builder.proofs.NamedEntries.{named}
 use Rattle.mpslp_lp.specs.Sides.{Limits}
 use Rattle.mpslp_lp.specs.Rows.{row_limits}
 use Rattle.mpslp_lp.specs.Objective.{term_declared, objective_declared}
@@ -55,20 +57,6 @@ column_upper column = upper_told column.lower column.upper
 -- the draft of what the canonical text of these lists declares
 abbrev pub drafted : Listing → Draft
 drafted m = draft_of (listed_declarations m)
-
--- ---- lists of lists
-
-pub flat-none : {X Y : Type 0} (f : X → List Y) → ((x : X) → f x ≡ []) → (xs : List X) → flat_map f xs ≡ []
-flat-none f h [] = refl
-flat-none f h (x ∷ xs) = λ i. h x i ++ flat-none f h xs i
-
-pub flat-same : {X Y : Type 0} (f g : X → List Y) → ((x : X) → f x ≡ g x) → (xs : List X) → flat_map f xs ≡ flat_map g xs
-flat-same f g h [] = refl
-flat-same f g h (x ∷ xs) = λ i. h x i ++ flat-same f g h xs i
-
-pub flat-singles : {X Y : Type 0} (f : X → Y) (xs : List X) → flat_map (λ x. f x ∷ []) xs ≡ map f xs
-flat-singles f [] = refl
-flat-singles f (x ∷ xs) = ap (λ (ys : List _). f x ∷ ys) (flat-singles f xs)
 
 -- ---- all sections
 
@@ -130,9 +118,6 @@ nothing x = []
 
 abbrev pub nothing_of : {Y : Type 0} → List ℕ → Term → List Y
 nothing_of name term = []
-
-abbrev pub named : {X : Type 0} → List ℕ × X → List ℕ × Unit {0}
-named entry = (entry.0, tt)
 
 abbrev pub own_name : {X : Type 0} → List ℕ × X → List (List ℕ × Unit {0})
 own_name entry = named entry ∷ []

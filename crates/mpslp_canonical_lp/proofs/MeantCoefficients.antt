@@ -18,7 +18,7 @@ use Rattle.mpslp_canonical_lp.specs.Listing.{Listing}
 use Rattle.mpslp_canonical_lp.specs.CanonicalLp.{Term, term_in, has_coefficients, objective_term, objective_terms, some_term, row_terms}
 use Rattle.mpslp_canonical_lp.proofs.PrintableLemmas.{Holds, each-filter_map}
 use Rattle.mpslp_canonical_lp.proofs.TextWalk.{listed_declarations}
-use Rattle.mpslp_canonical_lp.proofs.EntryLemmas.{puts-kept, found-each}
+use Rattle.mpslp_builder.proofs.EntryLemmas.{puts-kept, found-each}
 use Rattle.mpslp_canonical_lp.proofs.SoundListing.{is_sound_entry, IsSoundListing}
 use Rattle.mpslp_canonical_lp.proofs.ListedParts.{drafted}
 use Rattle.mpslp_canonical_lp.proofs.ListedMaps.{own_coefficient, coefficients-part}

@@ -1,21 +1,20 @@
 -- The columns that are declared are the listing's: each has its kind and its bounds.
-use Rattle.std.proofs.Common.{◌≡◌, refl, sym, ap, ◌∙◌, List, [], ◌∷◌, ℕ, Bool, true, false, not, cond, map}
+use Rattle.std.proofs.Common.{◌≡◌, refl, sym, ap, ◌∙◌, List, [], ◌∷◌, ℕ, Bool, true, false, cond, map}
 use Rattle.std.specs.Prelude.{Option, Some, None, is_some, is_none, unwrap_or, filter, ◌&&◌, ◌||◌, if◌then◌else◌}
-use Rattle.std.specs.List.{list_all}
 use Rattle.std.specs.Ordering.{eq_by_cmp}
 use Rattle.mpslp_decimal.specs.Decimal.{Number, is_zero}
 use Rattle.mpslp_decimal.proofs.NumberTextLemmas.{zero-is}
 use Rattle.mpslp_decimal.proofs.OrderLemmas.{same_decimal}
 use Rattle.mpslp_core.specs.Model.{Column}
 use Rattle.mpslp_types.specs.Name.{bytes_cmp}
-use Rattle.mpslp_types.specs.Sides.{limit_of, is_at_most, is_bounded_decimal, is_lower_side, is_upper_side}
+use Rattle.mpslp_types.specs.Sides.{limit_of, is_bounded_decimal, is_lower_side, is_upper_side}
 use Rattle.mpslp_types.specs.declared.kinds.Kind.{Kind}
 use Rattle.mpslp_types.specs.declared.kinds.Kind.TheVariants.{Continuous, Integer, Semi}
 use Rattle.mpslp_types.specs.declared.kinds.Limit.{Limit}
 use Rattle.mpslp_types.specs.declared.kinds.Limit.TheVariants.{MinusInf, Finite, PlusInf}
-use Rattle.mpslp_builder.specs.Declaration.{empty_draft, at_name, has_name, names_in}
-use Rattle.mpslp_builder.specs.Bounds.{zero_limit, one_limit, lower_bound, upper_bound, column_of, has_negative_upper, has_binary_bounds}
-use Rattle.mpslp_types.proofs.EachLemmas.{Each, Each-weaker, Each-map, Each-all, list_all-from_Each}
+use Rattle.mpslp_builder.specs.Declaration.{empty_draft, at_name, has_name}
+use Rattle.mpslp_builder.specs.Bounds.{zero_limit, one_limit, column_of}
+use Rattle.mpslp_types.proofs.EachLemmas.{Each, Each-weaker}
 use Rattle.mpslp_core.proofs.PutsLemmas.{puts}
 use Rattle.mpslp_builder.proofs.BoundsLemmas as kinds
 use Rattle.mpslp_builder.proofs.BoundsLemmas.{column_of-is}
@@ -25,22 +24,23 @@ use Rattle.mpslp_builder.proofs.SortedDrafts.{bytes_total, tied_names}
 use Rattle.mpslp_canonical_lp.specs.Listing.{Listing}
 use Rattle.mpslp_canonical_lp.specs.CanonicalLp.{have_same_value, is_integer_kind, is_semi_kind, is_integer_column, is_semi_column}
 use Rattle.mpslp_canonical_lp.proofs.TextWalk.{listed_declarations}
-use Rattle.mpslp_canonical_lp.proofs.EntryLemmas.{then_told, all_told, puts-own, find-kept, find-told, sorted-told, sorted-kept}
-use Rattle.mpslp_canonical_lp.proofs.SoundListing.{IsSoundListing, IsOwnColumn, own-columns, column_sides, lower_of, upper_of, straight_of, bounded_so, bounded_finite}
-use Rattle.mpslp_canonical_lp.proofs.ListedParts.{lower_told, upper_told, column_lower, column_upper, named, drafted}
+use Rattle.mpslp_builder.proofs.EntryLemmas.{then_told, all_told, puts-own, find-kept, find-told, sorted-told, sorted-kept}
+use Rattle.mpslp_builder.proofs.SoundParts.{column_sides, lower_of, upper_of, bounded_so, bounded_finite}
+use Rattle.mpslp_canonical_lp.proofs.SoundListing.{IsSoundListing, IsOwnColumn, own-columns}
+use Rattle.mpslp_builder.proofs.NamedEntries.{named}
+use Rattle.mpslp_canonical_lp.proofs.ListedParts.{lower_told, upper_told, column_lower, column_upper, drafted}
 use Rattle.mpslp_canonical_lp.proofs.ListedMaps.{lowers-part, uppers-part, integers-part, semis-part, no-marks, no-binaries}
-use Rattle.mpslp_canonical_lp.proofs.NamedColumns.{columns-drafted}
 
 -- ---- sides, kinds
 
-pub lower-at : (m : Listing) → IsSoundListing m → (q : List ℕ) → at_name (drafted m).lowers q ≡ then_told column_lower (at_name m.columns q)
+lower-at : (m : Listing) → IsSoundListing m → (q : List ℕ) → at_name (drafted m).lowers q ≡ then_told column_lower (at_name m.columns q)
 lower-at m h q =
     ap (λ (es : List (List ℕ × Limit)). at_name es q)
     (lowers-all (listed_declarations m) empty_draft ∙ ap (λ (es : List (List ℕ × Limit)). puts bytes_cmp es []) (lowers-part m)
     ∙ puts-own bytes_cmp bytes_total tied_names (all_told column_lower m.columns) (sorted-told bytes_cmp column_lower m.columns h.columns_sorted))
     ∙ find-told bytes_cmp column_lower bytes_total tied_names q m.columns h.columns_sorted
 
-pub upper-at : (m : Listing) → IsSoundListing m → (q : List ℕ) → at_name (drafted m).uppers q ≡ then_told column_upper (at_name m.columns q)
+upper-at : (m : Listing) → IsSoundListing m → (q : List ℕ) → at_name (drafted m).uppers q ≡ then_told column_upper (at_name m.columns q)
 upper-at m h q =
     ap (λ (es : List (List ℕ × Limit)). at_name es q)
     (uppers-all (listed_declarations m) empty_draft ∙ ap (λ (es : List (List ℕ × Limit)). puts bytes_cmp es []) (uppers-part m)
@@ -82,7 +82,7 @@ semis-drafted m h =
 marked-none : (m : Listing) → (drafted m).marked ≡ []
 marked-none m = marked-all (listed_declarations m) empty_draft ∙ ap (λ (es : List (List ℕ × Unit {0})). puts bytes_cmp es []) (no-marks m)
 
-binaries-none : (m : Listing) → (drafted m).binaries ≡ []
+pub binaries-none : (m : Listing) → (drafted m).binaries ≡ []
 binaries-none m = binaries-all (listed_declarations m) empty_draft ∙ ap (λ (es : List (List ℕ × Unit {0})). puts bytes_cmp es []) (no-binaries m)
 
 -- ---- bounds come back from what is told and the defaults
@@ -137,7 +137,7 @@ or_none true = refl
 or_none false = refl
 
 -- each column has its kind and bounds
-pub bounds-back : (m : Listing) → IsSoundListing m → (column : List ℕ × Column) → IsOwnColumn m column → column_of (drafted m) column.0 ≡ column.1
+bounds-back : (m : Listing) → IsSoundListing m → (column : List ℕ × Column) → IsOwnColumn m column → column_of (drafted m) column.0 ≡ column.1
 bounds-back m h column k =
     let name = column.0 in
     let l = column.1.lower in
@@ -155,47 +155,5 @@ bounds-back m h column k =
     (if has_name (binaries i) name || (has_name (marked i) name && (is_none (at_name (drafted m).lowers name) && is_none (at_name (drafted m).uppers name))) then one_limit else PlusInf))
     ∙ upper-back l u (lower_of l u sides) (upper_of l u sides))
 
-pub columns-back : (m : Listing) → IsSoundListing m → map (λ column. (column.0, column_of (drafted m) column.0)) (drafted m).columns ≡ m.columns
-columns-back m h =
-    ap (map (λ (column : List ℕ × Unit {0}). (column.0, column_of (drafted m) column.0))) (columns-drafted m h)
-    ∙ each-back m.columns (own-columns m h)
-  where
-    each-back : (columns : List (List ℕ × Column)) → Each (IsOwnColumn m) columns → map (λ (column : List ℕ × Unit {0}). (column.0, column_of (drafted m) column.0)) (map named columns) ≡ columns
-    each-back [] k = refl
-    each-back (column ∷ columns) k = λ i. (column.0, bounds-back m h column k.0 i) ∷ each-back columns k.1 i
-
--- ---- no upper bound below 0 without a lower one, and nothing binary
-
-nonnegative-upper : (m : Listing) → IsSoundListing m → (column : List ℕ × Column) → IsOwnColumn m column → not (has_negative_upper (drafted m) column.0) ≡ true
-nonnegative-upper m h column k = by (at_name (drafted m).lowers column.0) refl
-  where
-    ordered : is_at_most (lower_bound (drafted m) column.0) (upper_bound (drafted m) column.0) ≡ true
-    ordered = ap (λ (c : Column). is_at_most c.lower c.upper) (bounds-back m h column k) ∙ straight_of column.1.lower column.1.upper (column_sides column k.0)
-
-    fine : (b : Bool) → b ≡ true → not (true && not b) ≡ true
-    fine true e = refl
-    fine false e = e
-
-    by : (o : Option Limit) → at_name (drafted m).lowers column.0 ≡ o → not (is_none (at_name (drafted m).lowers column.0) && not (is_at_most zero_limit (upper_bound (drafted m) column.0))) ≡ true
-    by (Some l) is = ap (λ (o : Option Limit). not (is_none o && not (is_at_most zero_limit (upper_bound (drafted m) column.0)))) is
-    by None is =
-        ap (λ (o : Option Limit). not (is_none o && not (is_at_most zero_limit (upper_bound (drafted m) column.0)))) is
-        ∙ fine (is_at_most zero_limit (upper_bound (drafted m) column.0)) (ap (λ (o : Option Limit). is_at_most (unwrap_or o zero_limit) (upper_bound (drafted m) column.0)) (sym is) ∙ ordered)
-
-no-binary : (m : Listing) (name : List ℕ) → not (has_binary_bounds (drafted m) name) ≡ true
-no-binary m name =
-    ap (λ (es : List (List ℕ × Unit {0})). not (has_name es name && not (is_at_most zero_limit (lower_bound (drafted m) name) && is_at_most (upper_bound (drafted m) name) one_limit))) (binaries-none m)
-
-column-names : (m : Listing) → IsSoundListing m → (p : List ℕ → Bool) → Each (λ column. p column.0 ≡ true) m.columns → list_all p (names_in (drafted m).columns) ≡ true
-column-names m h p each =
-    ap (λ (es : List (List ℕ × Unit {0})). list_all p (names_in es)) (columns-drafted m h)
-    ∙ list_all-from_Each p (names_in (map named m.columns)) (Each-map (λ name. p name ≡ true) (λ (e : List ℕ × Unit {0}). e.0) (map named m.columns) (Each-map (λ (e : List ℕ × Unit {0}). p e.0 ≡ true) named m.columns each))
-
-pub no-negative_upper : (m : Listing) → IsSoundListing m → list_all (λ name. not (has_negative_upper (drafted m) name)) (names_in (drafted m).columns) ≡ true
-no-negative_upper m h =
-    column-names m h (λ name. not (has_negative_upper (drafted m) name))
-    (Each-weaker (IsOwnColumn m) (λ column. not (has_negative_upper (drafted m) column.0) ≡ true) (nonnegative-upper m h) m.columns (own-columns m h))
-
-pub binary-within : (m : Listing) → IsSoundListing m → list_all (λ name. not (has_binary_bounds (drafted m) name)) (names_in (drafted m).columns) ≡ true
-binary-within m h =
-    column-names m h (λ name. not (has_binary_bounds (drafted m) name)) (Each-all (λ column. not (has_binary_bounds (drafted m) column.0) ≡ true) (λ column. no-binary m column.0) m.columns)
+pub each-back : (m : Listing) → IsSoundListing m → Each (λ column. column_of (drafted m) column.0 ≡ column.1) m.columns
+each-back m h = Each-weaker (IsOwnColumn m) (λ column. column_of (drafted m) column.0 ≡ column.1) (bounds-back m h) m.columns (own-columns m h)

@@ -9,11 +9,12 @@ use Rattle.mpslp_types.specs.Name.{bytes_cmp}
 use Rattle.mpslp_types.specs.Sides.{limit_of}
 use Rattle.mpslp_types.specs.declared.kinds.Limit.{Limit}
 use Rattle.mpslp_types.specs.declared.kinds.Limit.TheVariants.{MinusInf, Finite, PlusInf}
-use Rattle.mpslp_builder.specs.Declaration.{RowForm, Declaration, declare_constant, declare_row, declare_column, declare_coefficient, declare_lower, declare_upper, declare_integer, declare_semi, Declarations, Draft, empty_draft, adding, adding_all, at_name, bounds_declared}
+use Rattle.mpslp_builder.specs.Declaration.{RowForm, Declaration, declare_constant, declare_row, declare_column, declare_coefficient, declare_lower, declare_upper, declare_integer, declare_semi, Declarations, Draft, empty_draft, adding_all, at_name, bounds_declared}
 use Rattle.mpslp_builder.specs.Meaning.{objective_name, constant_of}
 use Rattle.mpslp_types.proofs.EachLemmas.{Each, Each-append, Each-flat_map, Each-all}
 use Rattle.mpslp_core.proofs.PutsLemmas.{puts}
 use Rattle.mpslp_builder.proofs.DraftLemmas.{rhs_values-all}
+use Rattle.mpslp_builder.proofs.KeptParts.{Stays, stays-all}
 use Rattle.mpslp_builder.proofs.MadeDrafts.{adding_all-append}
 use Rattle.mpslp_lp.specs.Sides.{limits_by}
 use Rattle.mpslp_lp.specs.Objective.{term_declared, objective_declared}
@@ -27,15 +28,6 @@ use Rattle.mpslp_canonical_lp.proofs.BoundsWalk.{bound_made, column_made}
 use Rattle.mpslp_canonical_lp.proofs.TextWalk.{row_made, listed_declarations}
 use Rattle.mpslp_canonical_lp.proofs.ListedParts.{form_told, drafted}
 use Rattle.mpslp_canonical_lp.proofs.ListedMaps.{no-right_sides}
-
--- ---- what is declared once, or not at all
-
-abbrev Stays : {X : Type 0} → (Draft → X) → X → Declaration → Type 0
-Stays part value d = (all : Draft) → part all ≡ value → part (adding all d) ≡ value
-
-stays-all : {X : Type 0} (part : Draft → X) (value : X) (ds : Declarations) → Each (Stays part value) ds → (all : Draft) → part all ≡ value → part (adding_all all ds) ≡ value
-stays-all part value [] h all is = is
-stays-all part value (d ∷ ds) h all is = stays-all part value ds h.1 (adding all d) (h.0 all is)
 
 -- ---- the declarations of terms, rows and columns, by their kinds
 

@@ -23,8 +23,9 @@ use Rattle.mpslp_canonical_lp.specs.Listing.{Listing}
 use Rattle.mpslp_canonical_lp.specs.CanonicalLp.{have_same_value}
 use Rattle.mpslp_canonical_lp.proofs.RowWalk.{left_of}
 use Rattle.mpslp_canonical_lp.proofs.TextWalk.{listed_declarations}
-use Rattle.mpslp_canonical_lp.proofs.EntryLemmas.{puts-own}
-use Rattle.mpslp_canonical_lp.proofs.SoundListing.{IsSoundListing, row_sides, lower_of, upper_of, bounded_so, bounded_finite}
+use Rattle.mpslp_builder.proofs.EntryLemmas.{puts-own}
+use Rattle.mpslp_builder.proofs.SoundParts.{row_sides, lower_of, upper_of, bounded_so, bounded_finite}
+use Rattle.mpslp_canonical_lp.proofs.SoundListing.{IsSoundListing}
 use Rattle.mpslp_canonical_lp.proofs.ListedParts.{limits_told, form_of, drafted}
 use Rattle.mpslp_canonical_lp.proofs.ListedMaps.{row_forms, rows-part}
 

@@ -28,9 +28,10 @@ use Rattle.mpslp_canonical_lp.proofs.PrintableLemmas.{Holds, each-filter_map}
 use Rattle.mpslp_canonical_lp.proofs.BoundsWalk.{bound_made}
 use Rattle.mpslp_canonical_lp.proofs.TextWalk.{listed_declarations}
 use Rattle.mpslp_canonical_lp.proofs.SoundListing.{IsSoundListing, IsOwnColumn, own-columns}
-use Rattle.mpslp_canonical_lp.proofs.ListedParts.{all_parts, nothing, named, own_name, drafted}
+use Rattle.mpslp_builder.proofs.NamedEntries.{named, found-any}
+use Rattle.mpslp_canonical_lp.proofs.ListedParts.{all_parts, nothing, own_name, drafted}
 use Rattle.mpslp_canonical_lp.proofs.ListedMaps.{bound_names, columns-part}
-use Rattle.mpslp_canonical_lp.proofs.PrintedTerms.{found-any, hit, each-printed}
+use Rattle.mpslp_canonical_lp.proofs.PrintedTerms.{hit, each-printed}
 
 abbrev Names : Type 0
 Names = List (List ℕ × Unit {0})

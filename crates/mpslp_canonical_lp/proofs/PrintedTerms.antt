@@ -5,45 +5,27 @@ use Rattle.std.specs.List.{flat_map, list_any, cons_option}
 use Rattle.std.specs.Option.{option_map}
 use Rattle.std.specs.Ordering.{eq_by_cmp}
 use Rattle.std.specs.Cmp.{IsTotalOrder, first_so, second_so}
-use Rattle.std.specs.Cmp.Lexicographic.{texts_ties}
 use Rattle.std.specs.declared.cmp.Ordering.{Ordering}
 use Rattle.std.specs.declared.cmp.Ordering.TheVariants.{Equal}
 use Rattle.std.specs.FinMap.{find}
 use Rattle.mpslp_decimal.specs.Decimal.{Number, is_decimal, is_zero, zero_number}
-use Rattle.mpslp_types.specs.Name.{same_bytes, is_one_of, bytes_cmp}
+use Rattle.mpslp_types.specs.Name.{same_bytes, is_one_of}
 use Rattle.mpslp_core.specs.Model.{Row, Column, CoefficientKey, key_cmp}
-use Rattle.mpslp_builder.specs.Declaration.{at_name, names_in}
+use Rattle.mpslp_builder.specs.Declaration.{names_in}
 use Rattle.mpslp_types.proofs.BoolLemmas.{or_left, or_right}
 use Rattle.mpslp_core.proofs.PutsLemmas.{equal_from, find-front, some_cons, some_append_left, some_append_right}
 use Rattle.mpslp_builder.proofs.DraftEntries.{same_key}
 use Rattle.mpslp_builder.proofs.LaterDrafts.{itself_named}
+use Rattle.mpslp_builder.proofs.NamedEntries.{any-name}
 use Rattle.mpslp_builder.proofs.SlotLemmas.{same_name}
 use Rattle.mpslp_builder.proofs.SortedDrafts.{key_total}
 use Rattle.mpslp_canonical_lp.specs.Listing.{Listing}
 use Rattle.mpslp_canonical_lp.specs.CanonicalLp.{Term, term_in, has_coefficients, objective_term, objective_terms, some_term, row_terms}
-use Rattle.mpslp_canonical_lp.proofs.EntryLemmas.{found-each}
+use Rattle.mpslp_builder.proofs.EntryLemmas.{found-each}
 use Rattle.mpslp_canonical_lp.proofs.SoundListing.{is_sound_entry, IsSoundListing}
 
 abbrev pub place_at : List ℕ → List ℕ → CoefficientKey
 place_at row column = record { row = row; column = column }
-
--- ---- names among entries
-
-pub any-name : {X : Type 0} (q : List ℕ) (es : List (List ℕ × X)) → is_one_of (names_in es) q ≡ list_any (λ e. same_bytes q e.0) es
-any-name q [] = refl
-any-name q (e ∷ es) = ap (λ (b : Bool). same_bytes q e.0 || b) (any-name q es)
-
--- an entry that is found stands there
-pub found-any : {X : Type 0} (q : List ℕ) (x : X) (es : List (List ℕ × X)) → at_name es q ≡ Some x → list_any (λ e. same_bytes q e.0) es ≡ true
-found-any {X} q x [] is = absurd (never is)
-  where
-    never : ◌≡◌ {A = Option X} None (Some x) → ⊥
-    never e = cc
-found-any {X} q x (e ∷ es) is = by (eq_by_cmp bytes_cmp q e.0) refl is (λ more. found-any q x es more)
-  where
-    by : (b : Bool) → eq_by_cmp bytes_cmp q e.0 ≡ b → cond b (Some e.1) (at_name es q) ≡ Some x → (at_name es q ≡ Some x → list_any (λ d. same_bytes q d.0) es ≡ true) → (same_bytes q e.0 || list_any (λ d. same_bytes q d.0) es) ≡ true
-    by true tie at more = or_left (same_bytes q e.0) _ (texts_ties q e.0 ∙ tie)
-    by false tie at more = or_right (same_bytes q e.0) _ (more at)
 
 -- ---- columns without coefficients
 

@@ -33,15 +33,15 @@ use Rattle.mpslp_canonical_lp.proofs.PhraseLemmas.{column_and}
 use Rattle.mpslp_canonical_lp.proofs.BoundsWalk.{bound_made, column_made}
 use Rattle.mpslp_canonical_lp.proofs.TextWalk.{IsRow, listed_declarations}
 use Rattle.mpslp_canonical_lp.proofs.CanonicalText.{IsPlainText}
-use Rattle.mpslp_canonical_lp.proofs.SoundListing.{IsSoundListing, sound-listing, own-found, row_sides, column_sides, lower_of, upper_of, bounded_finite}
+use Rattle.mpslp_builder.proofs.NamedEntries.{own-found}
+use Rattle.mpslp_builder.proofs.SoundParts.{row_sides, column_sides, lower_of, upper_of, bounded_finite}
+use Rattle.mpslp_canonical_lp.proofs.SoundListing.{IsSoundListing, sound-listing}
+use Rattle.mpslp_canonical_lp.proofs.ListedParts.{drafted}
 use Rattle.mpslp_canonical_lp.proofs.RankedSlots.{AreOther, other-from_sorted}
 use Rattle.mpslp_canonical_lp.proofs.NamedTerms.{plain-row}
 use Rattle.mpslp_canonical_lp.proofs.KnownInTurn.{listed-known}
 use Rattle.mpslp_canonical_lp.proofs.SlotsOfText.{listed-once}
 use Rattle.mpslp_canonical_lp.proofs.ListedEach.{form_by, form_made, each-listed, each-of_kind, none-any, flat-none}
-
-abbrev drafted : Listing → Draft
-drafted m = draft_of (listed_declarations m)
 
 -- ---- sides
 

@@ -22,7 +22,7 @@ use Rattle.mpslp_builder.proofs.SlotLemmas.{same_name}
 use Rattle.mpslp_builder.proofs.SortedDrafts.{bytes_total, key_total, tied_names}
 use Rattle.mpslp_canonical.specs.Listing.{Listing, listing_of}
 use Rattle.mpslp_canonical.specs.CanonicalMps.{cell_at, column_cells}
-use Rattle.mpslp_canonical.proofs.EntryLemmas.{found-each}
+use Rattle.mpslp_builder.proofs.EntryLemmas.{found-each}
 use Rattle.mpslp_canonical.proofs.CoefficientMap.{place_at}
 use Rattle.mpslp_canonical.proofs.DraftMaps.{is_sound_entry, IsSoundListing}
 use Rattle.mpslp_canonical.proofs.ListingFacts.{sound-listing}

@@ -24,7 +24,7 @@ use Rattle.mpslp_write.specs.LinesAt.{lines_at, is_wanted, of_part, element_line
 use Rattle.mpslp_write.specs.declared.columns.Part.{Part}
 use Rattle.mpslp_canonical.specs.PrintedValues.{PrintedBound, printed_bounds}
 use Rattle.mpslp_write.proofs.LinesAtLemmas.{both_seen, lines_seen}
-use Rattle.mpslp_canonical.proofs.EntryLemmas.{found-each}
+use Rattle.mpslp_builder.proofs.EntryLemmas.{found-each}
 use Rattle.mpslp_canonical.proofs.CoefficientMap.{place_at}
 use Rattle.mpslp_canonical.proofs.DraftMaps.{is_sound_entry}
 use Rattle.mpslp_canonical.proofs.ListingFacts.{sound-listing}
