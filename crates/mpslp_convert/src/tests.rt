@@ -3,6 +3,7 @@
 mod devices;
 mod faults;
 mod large;
+mod lp;
 mod pieces;
 
 ghost use Rattle.std.specs.Prelude.{◌≡◌, IfOk};
