@@ -38,6 +38,8 @@ mod taking;
 mod tests;
 mod tokens;
 mod words;
+#[cfg(test)]
+mod worked_tests;
 
 pub use mpslp_reading::MAX_LINE_LEN;
 pub use reader::LpReader;
