@@ -8,10 +8,10 @@ use mpslp_lp::read_lp;
 use mpslp_model::{Fault, ReadFault};
 use mpslp_mps::read_mps;
 use std::alloc::Global;
-use std::{env, io};
 use std::io::Read;
 use std::rt::Clock;
 use std::time::Instant;
+use std::{env, io};
 
 /// Tells a fault as the program does: its line, or the file, its kind, and the row or column where there is one.
 fn tell(rt: &impl Print, alloc: Global, fault: &Fault) -> io::Result<()> {
@@ -62,6 +62,8 @@ fn run<R: Input + Print + Eprint + Clock + AllocGlobal>(
 
 fn main(rt: HostRuntime) -> io::Result<()> {
     let alloc = rt.alloc();
-    let is_lp = env::args(&rt)?.nth(1).is_some_and(|word| word.as_str() == "lp");
+    let is_lp = env::args(&rt)?
+        .nth(1)
+        .is_some_and(|word| word.as_str() == "lp");
     run(&rt, alloc, is_lp)
 }

@@ -13,7 +13,8 @@ use std::{env, fs, io};
 /// The most bytes that an input may have.
 const MAX_BYTES: u64 = 1_073_741_824;
 
-const USAGE: &[u8] = b"usage: mpslp canon FROM TO PATH | mpslp same FORMAT PATH FORMAT PATH (formats: mps, lp)\n";
+const USAGE: &[u8] =
+    b"usage: mpslp canon FROM TO PATH | mpslp same FORMAT PATH FORMAT PATH (formats: mps, lp)\n";
 
 /// A format of model files.
 #[derive(Clone, Copy, Debug, PartialEq)]

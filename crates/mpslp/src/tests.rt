@@ -178,12 +178,36 @@ fn remove_files(rt: &impl Files) -> io::Result<()> {
 
 /// Two files, and what `same` tells of them: on standard output, the exit status, and on standard error.
 const COMPARED: [(ModelFile<'static>, ModelFile<'static>, &str, u8, &str); 12] = [
-    (mps("test-small.mps"), mps("test-canonical.mps"), "same\n", 0, ""),
-    (mps("test-canonical.mps"), mps("test-small.mps"), "same\n", 0, ""),
+    (
+        mps("test-small.mps"),
+        mps("test-canonical.mps"),
+        "same\n",
+        0,
+        "",
+    ),
+    (
+        mps("test-canonical.mps"),
+        mps("test-small.mps"),
+        "same\n",
+        0,
+        "",
+    ),
     (mps("test-small.mps"), lp("test-small.lp"), "same\n", 0, ""),
     (lp("test-small.lp"), mps("test-small.mps"), "same\n", 0, ""),
-    (lp("test-small.lp"), mps("test-other.mps"), "not the same\n", 1, ""),
-    (mps("test-small.mps"), mps("test-other.mps"), "not the same\n", 1, ""),
+    (
+        lp("test-small.lp"),
+        mps("test-other.mps"),
+        "not the same\n",
+        1,
+        "",
+    ),
+    (
+        mps("test-small.mps"),
+        mps("test-other.mps"),
+        "not the same\n",
+        1,
+        "",
+    ),
     (
         mps("test-absent.mps"),
         mps("test-small.mps"),
@@ -243,8 +267,16 @@ fn two_files_are_compared(rt: HostRuntime) -> Result<(), Fail> {
             status,
             "at {first:?} {second:?}"
         );
-        assert_eq!(rt; output.as_slice(), line.as_bytes(), "at {first:?} {second:?}");
-        assert_eq!(rt; told.as_slice(), fault.as_bytes(), "at {first:?} {second:?}");
+        assert_eq!(rt;
+            output.as_slice(),
+            line.as_bytes(),
+            "at {first:?} {second:?}"
+        );
+        assert_eq!(rt;
+            told.as_slice(),
+            fault.as_bytes(),
+            "at {first:?} {second:?}"
+        );
     }
     remove_files(&rt)?;
     Ok(())
@@ -264,9 +296,18 @@ fn a_file_is_converted(rt: HostRuntime) -> Result<(), Fail> {
     for (text, form, to, canonical) in CONVERTED {
         fs::write(&rt, path, text)?;
         let mut output = Vec::new(rt.alloc());
-        let answer = canon(&rt, ModelFile { form, path }, to, &mut ToWrite::new(&mut output));
+        let answer = canon(
+            &rt,
+            ModelFile { form, path },
+            to,
+            &mut ToWrite::new(&mut output),
+        );
         assert!(rt; matches!(answer, Ok(())), "at {form:?} {to:?}");
-        assert_eq!(rt; output.as_slice(), canonical.as_bytes(), "at {form:?} {to:?}");
+        assert_eq!(rt;
+            output.as_slice(),
+            canonical.as_bytes(),
+            "at {form:?} {to:?}"
+        );
         fs::remove_file(&rt, path)?;
     }
     let mut output = Vec::new(rt.alloc());

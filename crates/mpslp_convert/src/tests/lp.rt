@@ -1,8 +1,8 @@
 //! Conversions between MPS and LP, and from LP to LP.
 
 use super::{
-    FREE_ROW, MARKED, MARKED_CANONICAL, MUCH, PRODUCTION, RANGES_FIRST, SEMI, SEMI_CANONICAL, SMALL, SMALL_CANONICAL,
-    ShortReads, joined,
+    FREE_ROW, MARKED, MARKED_CANONICAL, MUCH, PRODUCTION, RANGES_FIRST, SEMI, SEMI_CANONICAL,
+    SMALL, SMALL_CANONICAL, ShortReads, joined,
 };
 use crate::{ConvertFault, canonical, is_canonical, laws, report, run, same_model};
 use mpslp_model::{Format, FromRead, NameAt, ToWrite};
@@ -169,10 +169,16 @@ const TO_MPS: [(&str, &str); 16] = [
         "min\nst\n9e19 >= x + y >= -9e19\nend\n",
         "file: LimitTooLarge c1\n",
     ),
-    ("min\nst\n5 <= x + y <= 3\nend\n", "file: LimitsCrossed c1\n"),
+    (
+        "min\nst\n5 <= x + y <= 3\nend\n",
+        "file: LimitsCrossed c1\n",
+    ),
     ("min\nst\nx + y >= inf\nend\n", "line 3: InfiniteValue\n"),
     ("min e9\nst\nend\n", "line 1: NameLikeExponent\n"),
-    ("min x\nst\nx >= 1\nc2: x <= 5\nx <= 4\nc3: x <= 9\nend\n", "line 6: DuplicateRow\n"),
+    (
+        "min x\nst\nx >= 1\nc2: x <= 5\nx <= 4\nc3: x <= 9\nend\n",
+        "line 6: DuplicateRow\n",
+    ),
     ("", "file: MissingEnd\n"),
     (SMALL, "line 1: BadToken\n"),
 ];
@@ -238,11 +244,24 @@ fn formats_are_compared(rt: HostRuntime) {
     let (mps, lp) = (SMALL.as_bytes(), SMALL_LP.as_bytes());
     assert!(rt; matches!(same_model::<Mps, Lp>(alloc, mps, lp), Ok(true)));
     assert!(rt; matches!(same_model::<Lp, Mps>(alloc, lp, mps), Ok(true)));
-    assert!(rt; matches!(same_model::<Lp, Lp>(alloc, lp, MARKED_LP.as_bytes()), Ok(false)));
-    assert!(rt; matches!(is_canonical::<Lp>(alloc, lp), Ok(false)));
-    assert!(rt; matches!(is_canonical::<Lp>(alloc, SMALL_CANONICAL_LP.as_bytes()), Ok(true)));
     assert!(rt;
-        matches!(canonical::<Mps, Lp>(alloc, RANGES_FIRST.as_bytes()), Err(ConvertFault::NotLp(NameAt::Row(0))))
+        matches!(
+            same_model::<Lp, Lp>(alloc, lp, MARKED_LP.as_bytes()),
+            Ok(false)
+        )
+    );
+    assert!(rt; matches!(is_canonical::<Lp>(alloc, lp), Ok(false)));
+    assert!(rt;
+        matches!(
+            is_canonical::<Lp>(alloc, SMALL_CANONICAL_LP.as_bytes()),
+            Ok(true)
+        )
+    );
+    assert!(rt;
+        matches!(
+            canonical::<Mps, Lp>(alloc, RANGES_FIRST.as_bytes()),
+            Err(ConvertFault::NotLp(NameAt::Row(0)))
+        )
     );
 }
 
