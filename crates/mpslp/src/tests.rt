@@ -8,48 +8,35 @@ use std::rt::Files;
 use std::test::Fail;
 use std::{fs, io};
 
-const fn mps(path: &'static str) -> ModelFile<'static> {
-    ModelFile {
-        form: Form::Mps,
-        path,
-    }
-}
+/// Words behind the program's name, and the conversion that they ask for: the format and the path of the file, and the
+/// format of the text.
+const CONVERSIONS: [(&str, Form, &str, Form); 5] = [
+    ("canon mps mps -", Form::Mps, "-", Form::Mps),
+    ("canon mps mps a.mps", Form::Mps, "a.mps", Form::Mps),
+    ("canon lp mps a", Form::Lp, "a", Form::Mps),
+    ("canon mps lp a", Form::Mps, "a", Form::Lp),
+    ("canon lp lp -", Form::Lp, "-", Form::Lp),
+];
 
-const fn lp(path: &'static str) -> ModelFile<'static> {
-    ModelFile {
-        form: Form::Lp,
-        path,
-    }
-}
+/// Words, and the comparison that they ask for: the format and the path of each file.
+const COMPARISONS: [(&str, Form, &str, Form, &str); 4] = [
+    ("same mps a mps b", Form::Mps, "a", Form::Mps, "b"),
+    ("same mps - mps b", Form::Mps, "-", Form::Mps, "b"),
+    ("same mps a lp -", Form::Mps, "a", Form::Lp, "-"),
+    ("same lp a mps b", Form::Lp, "a", Form::Mps, "b"),
+];
 
-const fn canon_of(file: ModelFile<'static>, to: Form) -> Option<Job<'static>> {
-    Some(Job::Canon { file, to })
-}
-
-const fn same_of(first: ModelFile<'static>, second: ModelFile<'static>) -> Option<Job<'static>> {
-    Some(Job::Same { first, second })
-}
-
-/// Words behind the program's name, and the job that they ask for.
-const JOBS: [(&str, Option<Job<'static>>); 18] = [
-    ("canon mps mps -", canon_of(mps("-"), Form::Mps)),
-    ("canon mps mps a.mps", canon_of(mps("a.mps"), Form::Mps)),
-    ("canon lp mps a", canon_of(lp("a"), Form::Mps)),
-    ("canon mps lp a", canon_of(mps("a"), Form::Lp)),
-    ("canon lp lp -", canon_of(lp("-"), Form::Lp)),
-    ("same mps a mps b", same_of(mps("a"), mps("b"))),
-    ("same mps - mps b", same_of(mps("-"), mps("b"))),
-    ("same mps a lp -", same_of(mps("a"), lp("-"))),
-    ("same lp a mps b", same_of(lp("a"), mps("b"))),
-    ("same mps - lp -", None),
-    ("", None),
-    ("canon", None),
-    ("canon mps mps", None),
-    ("canon mps mps a b", None),
-    ("canon mps a mps b", None),
-    ("canon MPS mps a", None),
-    ("same mps a b c", None),
-    ("show mps a", None),
+/// Words that ask for nothing.
+const OTHERS: [&str; 9] = [
+    "same mps - lp -",
+    "",
+    "canon",
+    "canon mps mps",
+    "canon mps mps a b",
+    "canon mps a mps b",
+    "canon MPS mps a",
+    "same mps a b c",
+    "show mps a",
 ];
 
 /// The words of a line, between blanks.
@@ -62,10 +49,40 @@ fn words_of(alloc: Global, line: &str) -> Result<Vec<String>, AllocError> {
 }
 
 #[test]
-fn words_ask_for_jobs(rt: HostRuntime) -> Result<(), Fail> {
-    for (line, expected) in JOBS {
+fn words_ask_for_conversions(rt: HostRuntime) -> Result<(), Fail> {
+    for (line, form, path, to) in CONVERSIONS {
         let words = words_of(rt.alloc(), line)?;
-        assert!(rt; job_of(&words) == expected, "at {line}");
+        let file = ModelFile { form, path };
+        assert!(rt;
+            job_of(&words) == Some(Job::Canon { file, to }),
+            "at {line}"
+        );
+    }
+    Ok(())
+}
+
+#[test]
+fn words_ask_for_comparisons(rt: HostRuntime) -> Result<(), Fail> {
+    for (line, form, path, other, second) in COMPARISONS {
+        let words = words_of(rt.alloc(), line)?;
+        let first = ModelFile { form, path };
+        let second = ModelFile {
+            form: other,
+            path: second,
+        };
+        assert!(rt;
+            job_of(&words) == Some(Job::Same { first, second }),
+            "at {line}"
+        );
+    }
+    Ok(())
+}
+
+#[test]
+fn other_words_ask_for_nothing(rt: HostRuntime) -> Result<(), Fail> {
+    for line in OTHERS {
+        let words = words_of(rt.alloc(), line)?;
+        assert!(rt; job_of(&words).is_none(), "at {line}");
     }
     Ok(())
 }
@@ -154,9 +171,10 @@ const SMALL_CANONICAL: &str = "NAME\nROWS\n N  C\nCOLUMNS\n    X  C  1\nENDATA\n
 const OTHER: &str = "ROWS\n N C\nCOLUMNS\n X C 2\nENDATA\n";
 
 /// The files of these tests, in the folder where they run.
-const FILES: [(&str, &str); 5] = [
+const FILES: [(&str, &str); 6] = [
     ("test-small.mps", SMALL),
     ("test-small.lp", SMALL_LP),
+    ("test-mps.lp", SMALL),
     ("test-canonical.mps", SMALL_CANONICAL),
     ("test-other.mps", OTHER),
     ("test-cut.mps", "ROWS\n"),
@@ -177,80 +195,66 @@ fn remove_files(rt: &impl Files) -> io::Result<()> {
 }
 
 /// Two files, and what `same` tells of them: on standard output, the exit status, and on standard error.
-const COMPARED: [(ModelFile<'static>, ModelFile<'static>, &str, u8, &str); 12] = [
+const COMPARED: [(&str, &str, &str, u8, &str); 12] = [
+    ("test-small.mps", "test-canonical.mps", "same\n", 0, ""),
+    ("test-canonical.mps", "test-small.mps", "same\n", 0, ""),
+    ("test-small.mps", "test-small.lp", "same\n", 0, ""),
+    ("test-small.lp", "test-small.mps", "same\n", 0, ""),
+    ("test-small.lp", "test-other.mps", "not the same\n", 1, ""),
+    ("test-small.mps", "test-other.mps", "not the same\n", 1, ""),
     (
-        mps("test-small.mps"),
-        mps("test-canonical.mps"),
-        "same\n",
-        0,
-        "",
-    ),
-    (
-        mps("test-canonical.mps"),
-        mps("test-small.mps"),
-        "same\n",
-        0,
-        "",
-    ),
-    (mps("test-small.mps"), lp("test-small.lp"), "same\n", 0, ""),
-    (lp("test-small.lp"), mps("test-small.mps"), "same\n", 0, ""),
-    (
-        lp("test-small.lp"),
-        mps("test-other.mps"),
-        "not the same\n",
-        1,
-        "",
-    ),
-    (
-        mps("test-small.mps"),
-        mps("test-other.mps"),
-        "not the same\n",
-        1,
-        "",
-    ),
-    (
-        mps("test-absent.mps"),
-        mps("test-small.mps"),
+        "test-absent.mps",
+        "test-small.mps",
         "",
         4,
         "first: read failed\n",
     ),
     (
-        mps("test-small.mps"),
-        mps("test-absent.mps"),
+        "test-small.mps",
+        "test-absent.mps",
         "",
         4,
         "second: read failed\n",
     ),
     (
-        mps("test-cut.mps"),
-        mps("test-small.mps"),
+        "test-cut.mps",
+        "test-small.mps",
         "",
         2,
         "first: file: MissingEnd\n",
     ),
     (
-        mps("test-small.mps"),
-        mps("test-cut.mps"),
+        "test-small.mps",
+        "test-cut.mps",
         "",
         2,
         "second: file: MissingEnd\n",
     ),
     (
-        mps("test-small.mps"),
-        lp("test-small.mps"),
+        "test-small.mps",
+        "test-mps.lp",
         "",
         2,
         "second: line 1: BadToken\n",
     ),
     (
-        mps("test-cut.mps"),
-        mps("test-absent.mps"),
+        "test-cut.mps",
+        "test-absent.mps",
         "",
         4,
         "second: read failed\n",
     ),
 ];
+
+/// A file whose format is told by the end of its name.
+fn file_of(path: &str) -> ModelFile<'_> {
+    let form = if path.ends_with(".lp") {
+        Form::Lp
+    } else {
+        Form::Mps
+    };
+    ModelFile { form, path }
+}
 
 #[test]
 fn two_files_are_compared(rt: HostRuntime) -> Result<(), Fail> {
@@ -258,25 +262,22 @@ fn two_files_are_compared(rt: HostRuntime) -> Result<(), Fail> {
     for (first, second, line, status, fault) in COMPARED {
         let mut output = Vec::new(rt.alloc());
         let mut told = Vec::new(rt.alloc());
-        let end = match same(&rt, first, second, &mut ToWrite::new(&mut output)) {
+        let end = match same(
+            &rt,
+            file_of(first),
+            file_of(second),
+            &mut ToWrite::new(&mut output),
+        ) {
             Ok(end) => end,
             Err(end) => end,
         };
         assert_eq!(rt;
             finish(&mut ToWrite::new(&mut told), &end),
             status,
-            "at {first:?} {second:?}"
+            "at {first} {second}"
         );
-        assert_eq!(rt;
-            output.as_slice(),
-            line.as_bytes(),
-            "at {first:?} {second:?}"
-        );
-        assert_eq!(rt;
-            told.as_slice(),
-            fault.as_bytes(),
-            "at {first:?} {second:?}"
-        );
+        assert_eq!(rt; output.as_slice(), line.as_bytes(), "at {first} {second}");
+        assert_eq!(rt; told.as_slice(), fault.as_bytes(), "at {first} {second}");
     }
     remove_files(&rt)?;
     Ok(())
@@ -311,7 +312,12 @@ fn a_file_is_converted(rt: HostRuntime) -> Result<(), Fail> {
         fs::remove_file(&rt, path)?;
     }
     let mut output = Vec::new(rt.alloc());
-    let answer = canon(&rt, mps(path), Form::Mps, &mut ToWrite::new(&mut output));
+    let answer = canon(
+        &rt,
+        file_of(path),
+        Form::Mps,
+        &mut ToWrite::new(&mut output),
+    );
     assert!(rt; matches!(answer, Err(RunFault::Read)));
     Ok(())
 }
