@@ -2,7 +2,7 @@
 
 PREFIX ?= /usr/local
 
-.PHONY: run test install bench refused
+.PHONY: run test install bench refused random
 
 # Builds the program, proved, and prints the canonical text of an example.
 run:
@@ -27,3 +27,7 @@ bench:
 refused: run
 	cd crates/bench_memory && rt run > /dev/null
 	python3 bench/refused.py
+
+# Checks the program on random models in many spellings of both formats, and on broken files.
+random: run
+	python3 tests/random_files.py
