@@ -12,4 +12,5 @@ pub mod ElementLemmas
 pub mod NumberLemmas
 pub mod CountLemmas
 pub mod ViewLemmas
+pub mod ByRowLemmas
 pub mod SameModels

@@ -1,6 +1,6 @@
 -- Coefficients under the later numbers of their rows.
-use Rattle.std.proofs.Common.{◌≡◌, refl, sym, ap, subst, ◌∙◌, ℕ, zero, suc, ◌<◌, List, [], ◌∷◌, ◌++◌, length, Bool, true, false, cond, map, not, arith, IsPermutation}
-use Rattle.std.specs.Prelude.{Option, Some, None, filter, slice_index}
+use Rattle.std.proofs.Common.{◌≡◌, refl, sym, ap, subst, ◌∙◌, ℕ, zero, suc, ◌<◌, List, [], ◌∷◌, true, false, cond, map, not, arith, IsPermutation}
+use Rattle.std.specs.Prelude.{Option, Some, None, filter}
 use Rattle.std.specs.Cmp.{nat_cmp_total, both_ways}
 use Rattle.std.specs.Ordering.{nat_cmp, is_lt, eq_by_cmp}
 use Rattle.std.specs.List.{All}

@@ -158,18 +158,20 @@ module _ (m : ModelParts) (parts : AreModelParts m) where
   cells_here v seen j columns cells same at =
       cells_seen v seen j cells (ap (λ (cs : List (List ℕ × ModelColumn)). option_map (λ (column : List ℕ × ModelColumn). column.1.cells.items) (slice_get cs j)) (sym same) ∙ at)
 
-  -- a coefficient by the number of its row
-  pub value_seen : (v : LinearModel) → linear_model m ≡ v → (j : ℕ) (cells : List (ℕ × Number)) → AreCellsAt v j cells → (n : ℕ) (r : List ℕ) → number_name m n ≡ Some r
-      → unwrap_or (find nat_cmp n cells) zero_number ≡ coefficient_at v r (column_name v j)
-  value_seen v seen j cells are n r named =
+  -- what is found by the number of a row
+  pub found_seen : (v : LinearModel) → linear_model m ≡ v → (j : ℕ) (cells : List (ℕ × Number)) → AreCellsAt v j cells → (n : ℕ) (r : List ℕ) → number_name m n ≡ Some r
+      → maps.find key_cmp (at r (column_name v j)) (maps.entries v.coefficients) ≡ find nat_cmp n cells
+  found_seen v seen j cells are n r named =
       let all = all_cells (number_name m) (cells_by_name m) in
-      ap (λ (o : Option Number). unwrap_or o zero_number)
-      (sym (
       ap (find key_cmp (at r (column_name v j))) (coefficients_seen m seen)
       ∙ find-sorted_of key_cmp key_total (at r (column_name v j)) all
       ∙ find-all_cells (number_name m) apart_in n r (column_name v j) (cells_by_name m) named once_in
       ∙ ap (option_and_then (find nat_cmp n)) are.found
-      ))
+
+  -- a coefficient by the number of its row
+  pub value_seen : (v : LinearModel) → linear_model m ≡ v → (j : ℕ) (cells : List (ℕ × Number)) → AreCellsAt v j cells → (n : ℕ) (r : List ℕ) → number_name m n ≡ Some r
+      → unwrap_or (find nat_cmp n cells) zero_number ≡ coefficient_at v r (column_name v j)
+  value_seen v seen j cells are n r named = ap (λ (o : Option Number). unwrap_or o zero_number) (sym (found_seen v seen j cells are n r named))
 
   -- the elements of a column
   pub elements_seen : (v : LinearModel) → linear_model m ≡ v → (j : ℕ) (cells : List (ℕ × Number)) → AreCellsAt v j cells

@@ -7,6 +7,7 @@ pub mod Views
 pub mod ModelCode
 pub mod Columned
 pub mod ModelParts
+pub mod ByRow
 pub mod Same
 pub mod SameLaws
 pub mod Numbered

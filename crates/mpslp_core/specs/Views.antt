@@ -1,5 +1,6 @@
 -- What is asked of a model. Rows and columns are numbered from 0, in byte order of their names.
-use Rattle.std.specs.Prelude.{ℕ, Bool, true, false, ◌&&◌, not, List, [], length, map, filter, position, Option, unwrap_or, slice_index_or, if◌then◌else◌}
+use Rattle.std.specs.Prelude.{ℕ, Bool, true, false, ◌&&◌, not, List, [], length, map, filter, position, Option, is_some, unwrap_or, slice_index_or, if◌then◌else◌}
+use Rattle.std.specs.List.{range_with_len}
 use Rattle.std.specs.Ordering.{is_eq}
 use Rattle.std.specs.FinMap as maps
 use Rattle.mpslp_decimal.specs.Decimal.{Number, zero_number, decimal_cmp, difference_of}
@@ -99,3 +100,11 @@ column_elements m column = filter (λ coefficient. is_element m coefficient && s
 -- each of them by the number of its row
 abbrev pub numbered_elements : LinearModel → List ℕ → List (Option ℕ × Number)
 numbered_elements m column = map (λ coefficient. (row_index m coefficient.0.row, coefficient.1)) (column_elements m column)
+
+-- whether this row has a coefficient in this column; none is 0
+abbrev pub has_coefficient : LinearModel → List ℕ → List ℕ → Bool
+has_coefficient m row column = is_some (maps.find key_cmp (record { row = row; column = column }) (maps.entries m.coefficients))
+
+-- the numbers of the columns in which this row has a coefficient, in their order
+abbrev pub row_columns : LinearModel → List ℕ → List ℕ
+row_columns m row = filter (λ j. has_coefficient m row (column_name m j)) (range_with_len 0 (num_columns m))

@@ -9,6 +9,7 @@
 #![tactic(auto)]
 
 mod bounds;
+mod by_row;
 mod columns;
 mod forms;
 pub mod laws;

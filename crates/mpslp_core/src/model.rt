@@ -1,6 +1,6 @@
 //! Models, and what is asked of them.
 
-ghost use Rattle.std.specs.Prelude.{◌≡◌, ◌<◌, IsTrue, Some, length, position, slice_get, unwrap_or, if◌then◌else◌};
+ghost use Rattle.std.specs.Prelude.{◌≡◌, ◌<◌, IfOk, IsTrue, Some, length, position, slice_get, unwrap_or, if◌then◌else◌};
 ghost use Rattle.std.specs.Option.{option_map};
 ghost use Rattle.mpslp_decimal.specs.Decimal.{negated, zero_number, decimal_cmp, difference_of};
 ghost use Rattle.std.specs.Bool.{Decides};
@@ -9,8 +9,9 @@ ghost use Rattle.std.specs.FinMap.{is_sorted};
 ghost use Rattle.mpslp_types.specs.Name.{same_bytes, bytes_cmp};
 ghost use Rattle.mpslp_core.specs.Same.{IsSameObjective};
 ghost use Rattle.mpslp_core.specs.ModelParts.{linear_model, AreModelParts};
-ghost use Rattle.mpslp_core.specs.Views.{row_names, column_names, rows_of, columns_of, num_rows, num_columns, num_elements, row_name, column_name, row_index, column_index, row_sense, right_hand_side, row_range, is_integer_column, coefficient_at, column_elements, numbered_elements};
+ghost use Rattle.mpslp_core.specs.Views.{row_names, column_names, rows_of, columns_of, num_rows, num_columns, num_elements, row_name, column_name, row_index, column_index, row_sense, right_hand_side, row_range, is_integer_column, coefficient_at, column_elements, numbered_elements, row_columns};
 
+use crate::by_row::{columns_by_row, list_of};
 use crate::columns::{
     cells_at, count_elements, first_value, row_cells, row_of, same_columns, value_at,
 };
@@ -20,6 +21,7 @@ use mpslp_decimal::laws::each_value_is_a_decimal;
 use mpslp_decimal::{Decimal, PackedDecimal};
 use mpslp_maps::{entry_at, index_of_entry};
 use mpslp_types::{Kind, Limit, Name, Sense};
+use std::alloc::{AllocError, Global};
 use std::cmp::Ordering;
 use std::marker;
 
@@ -63,6 +65,8 @@ pub struct ModelParts {
 #[derive(Debug, Drop)]
 pub struct Model {
     pub(crate) parts: ModelParts,
+    /// The numbers of the columns that have a coefficient in each row, rising.
+    by_row: Vec<Vec<u32>>,
 }
 
 impl marker::Model for Model {
@@ -73,11 +77,12 @@ impl marker::Model for Model {
 
     ghost coded = { linear_model_code };
 
-    ghost use Rattle.mpslp_core.specs.ModelParts.{linear_model, AreModelParts};
+    ghost use Rattle.mpslp_core.specs.ModelParts.{linear_model};
+    ghost use Rattle.mpslp_core.specs.ByRow.{AreIndexed};
 
     ghost view = { λ m. linear_model m.parts };
 
-    ghost invariant = { λ m. AreModelParts m.parts };
+    ghost invariant = { λ m. AreIndexed m.parts m.by_row.items };
 }
 
 /// The number of the entry of this name. Entries stand in the order of their names.
@@ -154,12 +159,17 @@ fn range_between(row: RowLimits) -> Decimal
 }
 
 impl Model {
-    /// The model of these parts.
-    pub fn of_parts(parts: ModelParts) -> Model
+    /// The model of these parts, with lists of the columns that have a coefficient in each row.
+    ///
+    /// # Errors
+    ///
+    /// [`AllocError`] where there is no memory for the lists, or there are more than 4,294,967,296 columns.
+    pub fn of_parts(alloc: Global, parts: ModelParts) -> Result<Model, AllocError>
         requires { AreModelParts parts }
-        ensures { result ≡ linear_model parts }
+        ensures { IfOk result (λ model. model ≡ linear_model parts) }
     {
-        Model { parts }
+        let by_row = columns_by_row(alloc, parts.rows.as_slice().len(), &parts.columns)?;
+        Ok(Model { parts, by_row })
     }
 
     /// How many rows there are; the objective is none.
@@ -386,5 +396,32 @@ impl Model {
     {
         let cell = entry_at(row_cells(cells_at(&self.parts.columns, j)), k);
         (row_of(cell.0), cell.1.value())
+    }
+    /// The columns that have a coefficient in the row of number `i`.
+    fn columns_of_row(&self, i: usize) -> &[u32]
+        requires { i < num_rows self.now }
+        ensures { result.now ≡ row_columns self.now (row_name self.now i) }
+    {
+        list_of(&self.by_row, i)
+    }
+
+    /// In how many columns the row of number `i` has a coefficient that is not 0. It takes constant time and no memory.
+    pub fn row_len(&self, i: usize) -> usize
+        requires { i < num_rows self.now }
+        ensures { result ≡ length (row_columns self.now (row_name self.now i)) }
+    {
+        self.columns_of_row(i).len()
+    }
+
+    /// The coefficient of number `k` among those of the row of number `i` that are not 0, in the order of columns: the
+    /// column's number, and the value. It takes no memory, and a search by halves in that column.
+    pub fn row_entry(&self, i: usize, k: usize) -> (usize, Decimal)
+        requires row { i < num_rows self.now }
+        requires entry { k < length (row_columns self.now (row_name self.now i)) }
+        ensures column { slice_get (row_columns self.now (row_name self.now i)) k ≡ Some result.0 }
+        ensures value { result.1 ≡ coefficient_at self.now (row_name self.now i) (column_name self.now result.0) }
+    {
+        let j = self.columns_of_row(i)[k] as usize;
+        (j, self.coefficient(i, j))
     }
 }

@@ -3,4 +3,4 @@ use Rattle.mpslp_core.specs.Model.{IsSound}
 use Rattle.mpslp_core.proofs.laws.each_model_is_sound.Goals as goal
 
 pub returns : goal.returns
-returns c = subst IsSound c.model.view_is c.model.invariant.sound
+returns c = subst IsSound c.model.view_is c.model.invariant.parts.sound

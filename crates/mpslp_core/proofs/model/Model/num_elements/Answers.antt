@@ -9,7 +9,7 @@ use Rattle.mpslp_core.proofs.model.Model.num_elements.Goals as goal
 
 pub count_elements-requires : goal.count_elements-requires
 count_elements-requires c =
-    subst (λ (columns : List (List ℕ × ModelColumn)). list_all (λ column. is_sorted nat_cmp column.1.cells.items) columns ≡ true) (sym c.deref.ensures.value) (all_sorted c.self.inside.parts.columns.items c.self.invariant.cells)
+    subst (λ (columns : List (List ℕ × ModelColumn)). list_all (λ column. is_sorted nat_cmp column.1.cells.items) columns ≡ true) (sym c.deref.ensures.value) (all_sorted c.self.inside.parts.columns.items c.self.invariant.parts.cells)
 
 pub returns : goal.returns
-returns c = c.count_elements.ensures ∙ ap count_row_cells c.deref.ensures.value ∙ elements_counted c.self.inside.parts c.self.invariant c.args.self.now c.self.view_is
+returns c = c.count_elements.ensures ∙ ap count_row_cells c.deref.ensures.value ∙ elements_counted c.self.inside.parts c.self.invariant.parts c.args.self.now c.self.view_is

@@ -3,4 +3,4 @@ use Rattle.mpslp_core.proofs.ViewLemmas.{rows_seen, count_seen}
 use Rattle.mpslp_core.proofs.model.Model.num_rows.Goals as goal
 
 pub returns : goal.returns
-returns c = ap length c.as_slice.ensures.value ∙ count_seen (rows_seen c.self.view_is c.self.invariant)
+returns c = ap length c.as_slice.ensures.value ∙ count_seen (rows_seen c.self.view_is c.self.invariant.parts)

@@ -18,11 +18,11 @@ returns-then-same_rows c =
         rows = sym c.deref.ensures.value ∙ c.same_rows.ensures.0 c.if-same_rows.true ∙ c.deref-then-has_same_objective.ensures.value;
         columns = tells.0 (sym tested ∙ h);
       })),
-      (λ same. tested ∙ tells.1 (parts-same {m = m} {n = n} c.self.view_is c.self.invariant c.other.view_is c.other.invariant same).columns),
+      (λ same. tested ∙ tells.1 (parts-same {m = m} {n = n} c.self.view_is c.self.invariant.parts c.other.view_is c.other.invariant.parts same).columns),
     )
 
 pub returns-else-same_rows : goal.returns-else-same_rows
 returns-else-same_rows c =
     let one : c.args.self.now ≡ c.args.other.now → c.same_rows.result ≡ true = λ same.
-    c.same_rows.ensures.1 (c.deref.ensures.value ∙ (parts-same {m = c.self.inside.parts} {n = c.other.inside.parts} c.self.view_is c.self.invariant c.other.view_is c.other.invariant same).rows ∙ sym c.deref-then-has_same_objective.ensures.value) in
+    c.same_rows.ensures.1 (c.deref.ensures.value ∙ (parts-same {m = c.self.inside.parts} {n = c.other.inside.parts} c.self.view_is c.self.invariant.parts c.other.view_is c.other.invariant.parts same).rows ∙ sym c.deref-then-has_same_objective.ensures.value) in
     ((λ h. let other = c.if-same_rows.false in absurd cc), one)
