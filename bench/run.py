@@ -1,8 +1,9 @@
 #!/usr/bin/env python3
-"""Compare mpslp with other programs that read and write MPS files.
+"""Compare mpslp with other programs that read and write MPS and LP files.
 
-Each program reads a generated file and writes the same model as MPS again,
-without solving it; with --read it only reads the file. The table has the least
+Each program reads a generated file and writes the same model again, without
+solving it; with --read it only reads the file. Files are MPS, or LP where
+--source or --target say so. The table has the least
 wall time of some runs, how many times as fast mpslp is as each other program,
 and the largest resident memory of any run, also by the size of the file. The
 runs of a file's programs take turns, so that what else the machine does falls on
@@ -25,7 +26,7 @@ from generate import HOSTILE, size_in_bytes
 
 HERE = Path(__file__).resolve().parent
 DATA = HERE / "data"
-OUTPUT = DATA / "output.mps"
+FORMATS = ("mps", "lp")
 GENERATOR = HERE / "generate.py"
 SOURCES = (GENERATOR, HERE / "literals.py")
 CRATES = HERE.parent / "crates"
@@ -46,8 +47,12 @@ OURS = "mpslp"
 MOST_GROWTH = 14
 
 
+def output_path():
+    return DATA / "output"
+
+
 class Program:
-    """A program, and its words for reading the input and writing OUTPUT."""
+    """A program, and its words for reading the input and writing the output."""
 
     def __init__(self, name, path, words, by_streams=False):
         self.name = name
@@ -62,27 +67,36 @@ class Program:
         if not self.by_streams:
             return subprocess.Popen(self.command(source), stdin=subprocess.DEVNULL,
                                     stdout=subprocess.DEVNULL, stderr=subprocess.DEVNULL)
-        with open(source, "rb") as reader, open(OUTPUT, "wb") as writer:
+        with open(source, "rb") as reader, open(output_path(), "wb") as writer:
             return subprocess.Popen(self.command(source), stdin=reader, stdout=writer,
                                     stderr=subprocess.DEVNULL)
 
 
-def programs(path_of_ours):
-    output = str(OUTPUT)
-    return [
-        Program(OURS, found(path_of_ours), ("canon", "mps", "mps", "-"), by_streams=True),
-        Program("glpsol", found("glpsol"), ("--freemps", "INPUT", "--check", "--wfreemps", output)),
-        # Without "presolve off" clp writes the presolved model. Its format 4
-        # keeps all digits of a double; its usual one keeps fewer.
-        Program("clp", found("clp"), (
-            "INPUT", "-presolve", "off", "-outputFormat", "4", "-export", output, "-quit")),
+# The options of glpsol for files of each format.
+GLPSOL_READS = {"mps": "--freemps", "lp": "--lp"}
+GLPSOL_WRITES = {"mps": "--wfreemps", "lp": "--wlp"}
+
+
+def programs(path_of_ours, source, target):
+    output = str(output_path())
+    chosen = [
+        Program(OURS, found(path_of_ours), ("canon", source, target, "-"), by_streams=True),
+        Program("glpsol", found("glpsol"), (
+            GLPSOL_READS[source], "INPUT", "--check", GLPSOL_WRITES[target], output)),
     ]
+    if target == "mps":
+        # It writes no LP. Without "presolve off" clp writes the presolved model.
+        # Its format 4 keeps all digits of a double; its usual one keeps fewer.
+        chosen.append(Program("clp", found("clp"), (
+            "INPUT", "-presolve", "off", "-outputFormat", "4", "-export", output, "-quit")))
+    return chosen
 
 
-def readers(path_of_ours):
+def readers(path_of_ours, source):
+    own_words = ("lp",) if source == "lp" else ()
     return [
-        Program(OURS, found(path_of_ours), (), by_streams=True),
-        Program("glpsol", found("glpsol"), ("--freemps", "INPUT", "--check"), by_streams=True),
+        Program(OURS, found(path_of_ours), own_words, by_streams=True),
+        Program("glpsol", found("glpsol"), (GLPSOL_READS[source], "INPUT", "--check"), by_streams=True),
         Program("clp", found("clp"), ("INPUT", "-quit"), by_streams=True),
     ]
 
@@ -101,7 +115,7 @@ class Result:
 
 
 def run_once(program, source, limit):
-    OUTPUT.unlink(missing_ok=True)
+    output_path().unlink(missing_ok=True)
     start = time.perf_counter()
     process = program.start(source)
     timer = threading.Timer(limit, process.kill)
@@ -122,7 +136,8 @@ def failure_of(code):
     if code > 0:
         return f"failed with status {code}"
     # clp answers 0 for a file that it refuses too, but then it writes none.
-    if not OUTPUT.exists() or OUTPUT.stat().st_size == 0:
+    output = output_path()
+    if not output.exists() or output.stat().st_size == 0:
         return "wrote nothing"
     return None
 
@@ -149,7 +164,7 @@ def together(results):
 def generated(name, words):
     """The cached file of this name, made anew where the generator has changed."""
     DATA.mkdir(exist_ok=True)
-    path = DATA / (name + ".mps")
+    path = DATA / name
     newest_source = max(source.stat().st_mtime for source in SOURCES)
     if path.exists() and path.stat().st_mtime > newest_source:
         return path
@@ -157,7 +172,7 @@ def generated(name, words):
     # Under another name first, so that a stopped run leaves no half file. In
     # another process, because the memory of this one would be counted into
     # that of each program it starts.
-    part = path.with_suffix(".part")
+    part = path.with_name(path.name + ".part")
     with open(part, "wb") as writer:
         subprocess.run([sys.executable, str(GENERATOR), *words], stdout=writer, check=True)
     part.replace(path)
@@ -203,7 +218,8 @@ def compare(sources, candidates, runs, limit):
     print("|---|---|---|---|---|---|---|---|")
     seconds = {}
     for shape, size, words in sources:
-        source = generated(f"{shape}-{size}-seed-{words[-1]}", words)
+        ending = "lp" if "--lp" in words else "mps"
+        source = generated(f"{shape}-{size}-seed-{words[-1]}.{ending}", words)
         read_once(source)
         results = best_of(candidates, source, runs, limit)
         ours = results.get(OURS)
@@ -211,7 +227,7 @@ def compare(sources, candidates, runs, limit):
             print(table_line(source, program, results[program.name], ours), flush=True)
         if ours and not ours.failure:
             seconds.setdefault(shape, []).append((source.stat().st_size, ours.seconds))
-    OUTPUT.unlink(missing_ok=True)
+    output_path().unlink(missing_ok=True)
     return seconds
 
 
@@ -233,8 +249,12 @@ def present(candidates):
 
 def wanted_files(options):
     """Shapes and sizes of files, and the generator's words for them."""
-    hostile = {name: ("--hostile", name) for name in sorted(HOSTILE)}
-    shapes = hostile if options.hostile else {kind: KINDS[kind] for kind in options.kinds}
+    if options.source == "lp":
+        shapes = {"thin": ("--lp",)}
+    elif options.hostile:
+        shapes = {name: ("--hostile", name) for name in sorted(HOSTILE)}
+    else:
+        shapes = {kind: KINDS[kind] for kind in options.kinds}
     return [
         (name, size, words + ("--size", size, "--seed", str(options.seed)))
         for name, words in shapes.items() for size in sorted(options.sizes, key=size_in_bytes)
@@ -253,6 +273,10 @@ def arguments():
                         help="some of " + ", ".join(KINDS) + "; default thin,full,thin-shuffled")
     parser.add_argument("--hostile", action="store_true",
                         help="the hostile files in place of the kinds")
+    parser.add_argument("--source", choices=FORMATS, default="mps",
+                        help="the format that is read; of lp there is one kind, thin, and a size is that "
+                        "of the same model as MPS")
+    parser.add_argument("--target", choices=FORMATS, default="mps", help="the format that is written")
     parser.add_argument("--seed", type=int, default=1)
     parser.add_argument("--runs", type=int, default=5)
     parser.add_argument("--limit", type=int, default=600, help="seconds after which a run is stopped")
@@ -279,7 +303,10 @@ def check(parser, options):
 
 def main():
     options = arguments()
-    candidates = readers(options.reader) if options.read else programs(options.program)
+    if options.read:
+        candidates = readers(options.reader, options.source)
+    else:
+        candidates = programs(options.program, options.source, options.target)
     print_growth(compare(wanted_files(options), present(candidates), options.runs, options.limit))
 
 

@@ -110,7 +110,7 @@ pub(crate) fn into_model(
     let ranks = ranks_of(alloc, &row_order)?;
     let rows = rows_of(alloc, rows)?;
     let (_column_order, columns) = ordered_columns(alloc, entries_of(alloc, columns)?, &ranks)?;
-    Ok(Model::of_parts(parts_of(sense, constant, objective, rows, columns)))
+    Model::of_parts(alloc, parts_of(sense, constant, objective, rows, columns))
 }
 
 /// The name at an index, taken out and not copied.

@@ -1,5 +1,8 @@
 //! Each public call with ample memory, on worked examples.
 
+mod lp;
+mod rows;
+
 ghost use Rattle.std.specs.Prelude.{IsTrue};
 ghost use Rattle.mpslp_types.specs.Sides.{is_given};
 
@@ -205,7 +208,26 @@ impl Shown {
         self.put_number(model.right_hand_side(i))?;
         self.put(b" range ".as_slice())?;
         self.put_number(model.row_range(i))?;
-        self.put(b"\n".as_slice())
+        self.put(b"\n".as_slice())?;
+        self.put_terms(model, i)
+    }
+
+    /// The terms of a row: which of its coefficients are told by rows.
+    fn put_terms(&mut self, model: &Model, i: usize) -> Result<(), AllocError> {
+        if i >= model.num_rows() {
+            return Ok(());
+        }
+        for k in 0..model.row_len(i) {
+            let (j, value) = model.row_entry(i, k);
+            if j < model.num_cols() {
+                self.put(b"term ".as_slice())?;
+                self.put(model.column_name(j).as_bytes())?;
+                self.put(b" ".as_slice())?;
+                self.put_number(value)?;
+                self.put(b"\n".as_slice())?;
+            }
+        }
+        Ok(())
     }
 
     fn put_column(&mut self, model: &Model, j: usize) -> Result<(), AllocError> {
@@ -357,59 +379,6 @@ const KINDS: [(Call<'static>, Result<(), BuildFault>); 11] = [
     (Call::Marked("z"), Ok(())),
 ];
 
-/// Calls that files of LP make, one after another, and what each answers.
-const OF_LP: [(Call<'static>, Result<(), BuildFault>); 23] = [
-    (Call::Objective("f"), Ok(())),
-    (Call::Constant("5"), Ok(())),
-    (Call::Constant("5"), Err(BuildFault::DuplicateRhs)),
-    (Call::Rhs("f", "-5"), Err(BuildFault::DuplicateRhs)),
-    (
-        Call::RowLimits("f", "1e20", "4"),
-        Err(BuildFault::DuplicateRow),
-    ),
-    (
-        Call::RowLimits("r", "1e20", "1e20"),
-        Err(BuildFault::InfiniteValue),
-    ),
-    (
-        Call::RowLimits("r", "-1e20", "-1e20"),
-        Err(BuildFault::InfiniteValue),
-    ),
-    (Call::RowLimits("r", "-1e20", "4"), Ok(())),
-    (
-        Call::RowLimits("r", "-1e20", "4"),
-        Err(BuildFault::DuplicateRow),
-    ),
-    (
-        Call::Row("r", RowType::AtMost),
-        Err(BuildFault::DuplicateRow),
-    ),
-    (Call::Rhs("r", "4"), Err(BuildFault::DuplicateRhs)),
-    (Call::Range("r", "1"), Err(BuildFault::DuplicateRange)),
-    (Call::Row("n", RowType::Free), Ok(())),
-    (
-        Call::RowLimits("n", "0", "4"),
-        Err(BuildFault::DuplicateRow),
-    ),
-    (Call::Binary("x"), Err(BuildFault::UnknownColumn)),
-    (Call::Column("x"), Ok(())),
-    (Call::Binary("x"), Ok(())),
-    (Call::Binary("x"), Ok(())),
-    (Call::Integer("x"), Ok(())),
-    (Call::Semi("x"), Err(BuildFault::SemiContinuous)),
-    (Call::Column("y"), Ok(())),
-    (Call::Semi("y"), Ok(())),
-    (Call::Binary("y"), Err(BuildFault::SemiContinuous)),
-];
-
-/// Calls after which the constant is declared by the right side of the objective.
-const CONSTANTS: [(Call<'static>, Result<(), BuildFault>); 4] = [
-    (Call::Objective("f"), Ok(())),
-    (Call::Rhs("f", "-5"), Ok(())),
-    (Call::Constant("5"), Err(BuildFault::DuplicateRhs)),
-    (Call::Rhs("f", "-5"), Err(BuildFault::DuplicateRhs)),
-];
-
 /// The first of these calls that is not answered so, or whose question is not, counted from 0.
 fn first_other_answer(
     builder: &mut Builder,
@@ -445,20 +414,6 @@ fn answers_in_order(rt: HostRuntime) {
 fn refuses_a_second_kind(rt: HostRuntime) {
     let mut builder = Builder::new(rt.alloc());
     let other_answer = first_other_answer(&mut builder, rt.alloc(), &KINDS);
-    assert_eq!(rt; other_answer, None);
-}
-
-#[test]
-fn answers_what_lp_declares(rt: HostRuntime) {
-    let mut builder = Builder::new(rt.alloc());
-    let other_answer = first_other_answer(&mut builder, rt.alloc(), &OF_LP);
-    assert_eq!(rt; other_answer, None);
-}
-
-#[test]
-fn takes_one_constant(rt: HostRuntime) {
-    let mut builder = Builder::new(rt.alloc());
-    let other_answer = first_other_answer(&mut builder, rt.alloc(), &CONSTANTS);
     assert_eq!(rt; other_answer, None);
 }
 
@@ -525,7 +480,9 @@ fn shows_a_model_built_by_calls(rt: HostRuntime) -> Result<(), Fail> {
     };
     let expected = b"minimize COST constant 0 offset 0
 row LIM1 L -inf 4 rhs 4 range 0
+term X 1
 row MYG G 1 inf rhs 1 range 0
+term Y 1.5
 column X continuous 0 inf objective 1
 entry LIM1 1 1
 column Y continuous 0 inf objective 2
@@ -566,121 +523,6 @@ fn models_of_two_senses_differ(rt: HostRuntime) -> Result<(), Fail> {
         return Ok(());
     };
     assert!(rt; !one.same(&other));
-    Ok(())
-}
-
-/// The views of a model with the row R of this type, right side and range, the range declared first.
-fn of_row<'a>(
-    alloc: Global,
-    row_type: RowType,
-    right_side: &'a str,
-    range: Option<&'a str>,
-) -> Result<Vec<u8>, BuildFault> {
-    let range = match range {
-        Some(range) => Call::Range("R", range),
-        None => Call::NoBounds("X"),
-    };
-    let calls = [
-        Call::Objective("C"),
-        Call::Row("R", row_type),
-        Call::Column("X"),
-        range,
-        Call::Rhs("R", right_side),
-    ];
-    outcome(alloc, &calls)
-}
-
-/// Rows by type, right side and range, and what their views tell.
-const ROWS: [(RowType, &str, Option<&str>, &str); 13] = [
-    (
-        RowType::Equal,
-        "10",
-        Some("3"),
-        "row R R 10 13 rhs 13 range 3",
-    ),
-    (
-        RowType::Equal,
-        "10",
-        Some("-3"),
-        "row R R 7 10 rhs 10 range 3",
-    ),
-    (
-        RowType::Equal,
-        "10",
-        Some("0"),
-        "row R E 10 10 rhs 10 range 0",
-    ),
-    (
-        RowType::AtLeast,
-        "10",
-        Some("-2"),
-        "row R R 10 12 rhs 12 range 2",
-    ),
-    (
-        RowType::AtMost,
-        "10",
-        Some("-2"),
-        "row R R 8 10 rhs 10 range 2",
-    ),
-    (
-        RowType::AtMost,
-        "1e20",
-        None,
-        "row R N -inf inf rhs 0 range 0",
-    ),
-    (RowType::Free, "1", None, "row R N -inf inf rhs 0 range 0"),
-    (RowType::AtMost, "-1e20", None, "InfiniteLimit R"),
-    (RowType::AtLeast, "1e20", None, "InfiniteLimit R"),
-    (RowType::Equal, "1e20", None, "InfiniteLimit R"),
-    (RowType::AtLeast, "9e19", Some("9e19"), "LimitTooLarge R"),
-    (RowType::AtLeast, "1e19", Some("1e-20"), "RangeInexact R"),
-    (
-        RowType::AtLeast,
-        "1e19",
-        Some("1e-10"),
-        "row R R 1e19 10000000000000000000.0000000001 rhs 10000000000000000000.0000000001 range 0.0000000001",
-    ),
-];
-
-#[test]
-fn limits_rows_by_type_right_side_and_range(rt: HostRuntime) -> Result<(), Fail> {
-    for (row_type, right_side, range, expected) in ROWS {
-        let answer = of_row(rt.alloc(), row_type, right_side, range)?;
-        assert!(rt; tells(&answer, expected), "at {right_side} {expected}");
-    }
-    Ok(())
-}
-
-/// Rows by their limits, and what their views tell.
-const LIMITED: [(&str, &str, &str); 11] = [
-    ("-1e20", "4", "row R L -inf 4 rhs 4 range 0"),
-    ("4.0", "1e20", "row R G 4 inf rhs 4 range 0"),
-    ("-1e20", "1e20", "row R N -inf inf rhs 0 range 0"),
-    ("4", "4.0", "row R E 4 4 rhs 4 range 0"),
-    ("-2", "4", "row R R -2 4 rhs 4 range 6"),
-    ("4", "3", "LimitsCrossed R"),
-    ("-9e19", "9e19", "LimitTooLarge R"),
-    ("9e19", "-9e19", "LimitTooLarge R"),
-    ("1e-20", "1e19", "RangeInexact R"),
-    ("1e19", "1e-20", "RangeInexact R"),
-    (
-        "1e-10",
-        "1e19",
-        "row R R 0.0000000001 1e19 rhs 1e19 range 9999999999999999999.9999999999",
-    ),
-];
-
-#[test]
-fn limits_rows_by_their_limits(rt: HostRuntime) -> Result<(), Fail> {
-    for (lower, upper, expected) in LIMITED {
-        let calls = [
-            Call::Objective("C"),
-            Call::RowLimits("R", lower, upper),
-            Call::Column("X"),
-        ];
-        let answer = outcome(rt.alloc(), &calls)?;
-        assert!(rt; tells(&answer, expected), "at {lower} {upper}");
-    }
     Ok(())
 }
 
@@ -807,23 +649,6 @@ fn tells_the_first_fault_of_the_whole(rt: HostRuntime) -> Result<(), Fail> {
     Ok(())
 }
 
-#[test]
-fn tells_the_constant_as_declared(rt: HostRuntime) -> Result<(), Fail> {
-    let calls = [
-        Call::Objective("f"),
-        Call::Constant("-2.50"),
-        Call::Column("x"),
-    ];
-    let expected = b"minimize f constant -2.5 offset 2.5
-column x continuous 0 inf objective 0
-";
-    assert_eq!(rt;
-        outcome(rt.alloc(), &calls)?.as_slice(),
-        expected.as_slice()
-    );
-    Ok(())
-}
-
 /// A whole model; the last four calls change defaults.
 const WHOLE: [Call<'static>; 11] = [
     Call::Objective("f"),
@@ -843,11 +668,13 @@ const WHOLE: [Call<'static>; 11] = [
 fn ends_in_the_model_of_its_calls(rt: HostRuntime) -> Result<(), Fail> {
     let bounded = b"maximize f constant 5 offset -5
 row r R 2 4 rhs 4 range 2
+term x 1
 column x integer -inf inf objective 0
 entry r 1 1
 ";
     let plain = b"maximize f constant 5 offset -5
 row r L -inf 4 rhs 4 range 0
+term x 1
 column x continuous 0 inf objective 0
 entry r 1 1
 ";

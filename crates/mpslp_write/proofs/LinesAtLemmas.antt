@@ -1,10 +1,12 @@
 -- Lines of one entry after another, and of an entry as it is seen through a model's views.
 use Rattle.std.proofs.Common.{◌≡◌, refl, sym, ap, ◌∙◌, ℕ, zero, suc, ◌≤◌, ◌+◌, add-one, Bool, true, false, cond, List, [], ◌∷◌, ◌++◌, length, map, take, drop, append_assoc, append-nil, arith}
 use Rattle.std.specs.Prelude.{Option, Some, None, slice_get, filter}
-use Rattle.std.specs.List.{flat_map}
+use Rattle.std.specs.List.{All, flat_map, range_with_len}
 use Rattle.std.specs.Option.{option_map, option_map_or}
+use Rattle.std.proofs.lemmas.Grind.{flat_map-append}
 use Rattle.std.proofs.lemmas.List.{length-map}
 use Rattle.std.proofs.lemmas.Option.{slice_get-map}
+use Rattle.mpslp_core.proofs.ByRowLemmas.{range_more}
 use Rattle.mpslp_write.specs.LinesAt.{lines_at}
 
 -- ---- one entry more
@@ -38,6 +40,27 @@ flat_map-filter {X} f p (x ∷ xs) =
       | true ↦ ap (λ (l : List _). f x ++ l) (flat_map-filter f p xs)
       | false ↦ flat_map-filter f p xs
     ]
+
+-- where what does not pass has no lines
+pub flat_map-kept : {X L : Type 0} (p : X → Bool) (f : X → List L) (xs : List X) → All (λ (x : X). p x ≡ false → f x ≡ []) xs → flat_map f (filter p xs) ≡ flat_map f xs
+flat_map-kept p f [] none = refl
+flat_map-kept {X} {L} p f (x ∷ xs) none =
+    let rest = flat_map-kept p f xs (λ k d below. none (suc k) d (omega arith)) in
+    elim (p x) as (λ b. p x ≡ b → flat_map f (cond b (x ∷ filter p xs) (filter p xs)) ≡ f x ++ flat_map f xs) [
+      | true ↦ λ _. ap (λ (l : List L). f x ++ l) rest
+      | false ↦ λ fails. rest ∙ ap (λ (l : List L). l ++ flat_map f xs) (sym (none 0 x (omega arith) fails))
+    ] refl
+
+-- the lines of the first entries, by their numbers
+pub flat_map-numbers : {X L : Type 0} (f : X → List L) (xs : List X) (n : ℕ) → flat_map (lines_at f xs) (range_with_len 0 n) ≡ flat_map f (take n xs)
+flat_map-numbers f xs zero = refl
+flat_map-numbers {X} {L} f xs (suc n) =
+    let more : suc n ≡ n + 1 = omega arith in
+    ap (λ (count : ℕ). flat_map (lines_at f xs) (range_with_len 0 count)) more
+    ∙ ap (flat_map (lines_at f xs)) (range_more n)
+    ∙ flat_map-append (lines_at f xs) (range_with_len 0 n) (n ∷ [])
+    ∙ (λ i. flat_map-numbers f xs n i ++ append-nil (lines_at f xs n) i)
+    ∙ sym (flat_map-more f xs n)
 
 -- ---- an entry by its views
 

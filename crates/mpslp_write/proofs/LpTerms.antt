@@ -1,26 +1,32 @@
 -- Terms of the objective and of rows, as the views of a model tell them.
-use Rattle.std.proofs.Common.{◌≡◌, refl, sym, ap, ◌∙◌, ℕ, ◌<◌, ◌≤◌, Bool, true, false, not, cond, List, [], ◌∷◌, ◌++◌, length, map, arith}
-use Rattle.std.specs.Prelude.{Option, Some, None, unwrap_or, filter, filter_map, slice_get, ◌&&◌, ◌||◌, if◌then◌else◌}
-use Rattle.std.specs.List.{flat_map, list_any, cons_option}
+use Rattle.std.proofs.Common.{◌≡◌, refl, sym, ap, subst, ◌∙◌, ℕ, ◌+◌, ◌<◌, ◌≤◌, Bool, true, false, not, cond, List, [], ◌∷◌, ◌++◌, length, map, get_or, arith}
+use Rattle.std.specs.Prelude.{Option, Some, None, is_some, unwrap_or, filter, filter_map, slice_get, ◌&&◌, ◌||◌, if◌then◌else◌}
+use Rattle.std.specs.List.{All, flat_map, list_any, cons_option, range_with_len}
 use Rattle.std.specs.Option.{option_map}
 use Rattle.std.specs.Ordering.{is_eq, eq_by_cmp}
 use Rattle.std.specs.Cmp.{second_so, tied_itself}
 use Rattle.std.specs.Cmp.Lexicographic.{nat_list_eq_equiv}
 use Rattle.std.specs.FinMap.{find, entries}
+use Rattle.std.proofs.lemmas.List.{length-map}
+use Rattle.std.proofs.lemmas.List.Elements.{filter_passes}
+use Rattle.std.proofs.lemmas.List.FromFn.{length-range_with_len, get_or-range_with_len}
+use Rattle.std.proofs.lemmas.Option.{slice_get_within, slice_get-get_or, get_or_from_slice_get}
 use Rattle.mpslp_decimal.specs.Decimal.{Number, is_zero, zero_number}
 use Rattle.mpslp_types.specs.Name.{same_bytes}
 use Rattle.mpslp_core.specs.Model.{LinearModel, CoefficientKey, Column, key_cmp, IsSound}
-use Rattle.mpslp_core.specs.Views.{coefficient_at, column_elements}
+use Rattle.mpslp_core.specs.Views.{num_columns, column_name, coefficient_at, column_elements, has_coefficient, row_columns}
 use Rattle.mpslp_types.proofs.BoolLemmas.{or_left, or_right, both_false}
 use Rattle.mpslp_builder.proofs.DraftEntries.{same_key}
 use Rattle.mpslp_core.proofs.PutsLemmas.{equal_from}
+use Rattle.mpslp_core.proofs.ByRowLemmas.{listed_below}
 use Rattle.mpslp_builder.proofs.SlotLemmas.{same_name}
 use Rattle.mpslp_builder.proofs.SortedDrafts.{key_total}
 use Rattle.mpslp_canonical.proofs.CoefficientMap.{place_at}
 use Rattle.mpslp_canonical_lp.specs.Listing.{Listing, listing_of}
 use Rattle.mpslp_canonical_lp.specs.CanonicalLp.{Lines, Term, term_line, some_term}
-use Rattle.mpslp_write.specs.LpLinesAt.{term_lines, has_lines}
-use Rattle.mpslp_write.proofs.ColumnLemmas.{coefficient-not_zero}
+use Rattle.mpslp_write.specs.LpLinesAt.{term_lines, row_term_lines, numbered_term_lines, has_lines}
+use Rattle.mpslp_write.proofs.ColumnLemmas.{coefficient-not_zero, named-lines}
+use Rattle.mpslp_write.proofs.LinesAtLemmas.{flat_map-all, flat_map-kept, flat_map-numbers}
 
 abbrev Coefficients : Type 0
 Coefficients = List (CoefficientKey × Number)
@@ -148,24 +154,80 @@ module _ (m : LinearModel) (sound : IsSound m) (column : List ℕ) where
 abbrev pub row_lines_of : Listing → List ℕ → List ℕ → Lines
 row_lines_of m row column = term_lines (option_map (λ (value : Number). (column, value)) (find key_cmp (place_at row column) m.coefficients))
 
-module _ (m : LinearModel) (sound : IsSound m) (row column : List ℕ) where
-  abbrev there : Option Number
-  there = find key_cmp (place_at row column) (entries m.coefficients)
+has_lines-append : (front back : Lines) → has_lines (front ++ back) ≡ (has_lines front || has_lines back)
+has_lines-append [] back = refl
+has_lines-append (line ∷ front) back = refl
 
-  pub row-needed : is_zero (coefficient_at m row column) ≡ false → term_line (column, coefficient_at m row column) ∷ [] ≡ row_lines_of (listing_of m) row column
-  row-needed some = by there some
-    where
-      by : (o : Option Number) → is_zero (unwrap_or o zero_number) ≡ false
-          → term_line (column, unwrap_or o zero_number) ∷ [] ≡ term_lines (option_map (λ (value : Number). (column, value)) o)
-      by None h = absurd (not_both refl h)
-      by (Some v) h = refl
+row-listed : (m : LinearModel) (row column : List ℕ) → has_coefficient m row column ≡ true
+    → term_line (column, coefficient_at m row column) ∷ [] ≡ row_lines_of (listing_of m) row column
+row-listed m row column has = by (find key_cmp (place_at row column) (entries m.coefficients)) has
+  where
+    by : (o : Option Number) → is_some o ≡ true
+        → term_line (column, unwrap_or o zero_number) ∷ [] ≡ term_lines (option_map (λ (value : Number). (column, value)) o)
+    by None h = absurd (not_both h refl)
+    by (Some v) h = refl
 
-  pub row-left : is_zero (coefficient_at m row column) ≡ true → [] ≡ row_lines_of (listing_of m) row column
-  row-left none = by there refl none
+row-unlisted : (m : LinearModel) (row column : List ℕ) → has_coefficient m row column ≡ false → row_lines_of (listing_of m) row column ≡ []
+row-unlisted m row column none = by (find key_cmp (place_at row column) (entries m.coefficients)) none
+  where
+    by : (o : Option Number) → is_some o ≡ false → term_lines (option_map (λ (value : Number). (column, value)) o) ≡ []
+    by None h = refl
+    by (Some v) h = absurd (not_both refl h)
+
+module _ (m : LinearModel) (row : List ℕ) where
+  abbrev lines_of : List ℕ → Lines
+  lines_of column = row_lines_of (listing_of m) row column
+
+  abbrev has : ℕ → Bool
+  has j = has_coefficient m row (column_name m j)
+
+  abbrev numbers : List ℕ
+  numbers = range_with_len 0 (num_columns m)
+
+  -- the line of a column in which the row has a coefficient
+  pub term-listed : (k j : ℕ) → slice_get (row_columns m row) k ≡ Some j
+      → term_line (column_name m j, coefficient_at m row (column_name m j)) ∷ [] ≡ numbered_term_lines m row j
+  term-listed k j at =
+      let below : j < num_columns m = listed_below has (num_columns m) k j at in
+      let within : k < length (row_columns m row) = slice_get_within (row_columns m row) k j at in
+      let passes : has (get_or (row_columns m row) k j) ≡ true = filter_passes has numbers k j within in
+      let same : get_or (row_columns m row) k j ≡ j = get_or_from_slice_get (row_columns m row) k j j at in
+      row-listed m row (column_name m j) (ap has (sym same) ∙ passes) ∙ named-lines lines_of (entries m.columns) j below
+
+  -- the others have none
+  none-unlisted : All (λ (j : ℕ). has j ≡ false → numbered_term_lines m row j ≡ []) numbers
+  none-unlisted k d below none =
+      let within : k < num_columns m = subst (λ (n : ℕ). k < n) (length-range_with_len 0 (num_columns m)) below in
+      let same : get_or numbers k d ≡ 0 + k = get_or-range_with_len 0 (num_columns m) k d within in
+      let under : get_or numbers k d < num_columns m = omega arith in
+      sym (named-lines lines_of (entries m.columns) (get_or numbers k d) under) ∙ row-unlisted m row (column_name m (get_or numbers k d)) none
+
+  -- the lines of all columns are those of the listed ones
+  pub terms-listed : flat_map (numbered_term_lines m row) (row_columns m row) ≡ flat_map (row_term_lines (listing_of m) row) (entries m.columns)
+  terms-listed =
+      let told = row_term_lines (listing_of m) row in
+      let columns = entries m.columns in
+      flat_map-kept has (numbered_term_lines m row) numbers none-unlisted
+      ∙ flat_map-numbers told columns (num_columns m)
+      ∙ flat_map-all told columns (num_columns m) (subst (λ (n : ℕ). length columns ≤ n) (sym (length-map columns (λ (e : List ℕ × Column). e.0))) (omega arith))
+
+  pub some-listed : 0 < length (row_columns m row) → has_lines (flat_map (numbered_term_lines m row) (row_columns m row)) ≡ true
+  some-listed some =
+      by (row_columns m row)
+      (λ k d within. ap has_lines (sym (term-listed k (get_or (row_columns m row) k d) (slice_get-get_or (row_columns m row) k d within)))) some
     where
-      by : (o : Option Number) → there ≡ o → is_zero (unwrap_or o zero_number) ≡ true → [] ≡ term_lines (option_map (λ (value : Number). (column, value)) o)
-      by None is h = refl
-      by (Some v) is h = absurd (not_both h (coefficient-not_zero m sound row column v is))
+      by : (js : List ℕ) → All (λ (j : ℕ). has_lines (numbered_term_lines m row j) ≡ true) js → 0 < length js → has_lines (flat_map (numbered_term_lines m row) js) ≡ true
+      by [] each h = absurd (omega arith)
+      by (j ∷ js) each h =
+          has_lines-append (numbered_term_lines m row j) (flat_map (numbered_term_lines m row) js)
+          ∙ ap (λ (b : Bool). b || has_lines (flat_map (numbered_term_lines m row) js)) (each 0 j (omega arith))
+
+  pub none-listed : length (row_columns m row) ≤ 0 → has_lines (flat_map (numbered_term_lines m row) (row_columns m row)) ≡ false
+  none-listed none = by (row_columns m row) none
+    where
+      by : (js : List ℕ) → length js ≤ 0 → has_lines (flat_map (numbered_term_lines m row) js) ≡ false
+      by [] h = refl
+      by (j ∷ js) h = absurd (omega arith)
 
 -- ---- all terms of a row
 
@@ -176,10 +238,6 @@ terms-joined {X} f (x ∷ xs) =
       | None ↦ terms-joined f xs
       | Some term ↦ ap (λ (l : Lines). term_line term ∷ l) (terms-joined f xs)
     ]
-
-pub has_lines-append : (front back : Lines) → has_lines (front ++ back) ≡ (has_lines front || has_lines back)
-has_lines-append [] back = refl
-has_lines-append (line ∷ front) back = refl
 
 pub some-terms : (columns : List (List ℕ × Column)) (terms : List Term) → has_lines (map term_line terms) ≡ true
     → map term_line terms ≡ map term_line (some_term columns terms)

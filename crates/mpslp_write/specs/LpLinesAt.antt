@@ -1,14 +1,16 @@
 -- Lines of canonical LP that are printed of one entry after another.
 use Rattle.std.specs.Prelude.{ℕ, Bool, true, false, List, [], ◌∷◌, Option, Some, None, if◌then◌else◌}
-use Rattle.mpslp_core.specs.Model.{Column}
+use Rattle.std.specs.FinMap.{entries}
+use Rattle.mpslp_core.specs.Model.{LinearModel, Column}
 use Rattle.mpslp_types.specs.declared.kinds.Kind.{Kind}
 use Rattle.mpslp_decimal.specs.Decimal.{Number}
 use Rattle.mpslp_types.specs.declared.kinds.Sense.{Sense}
 use Rattle.mpslp_types.specs.declared.kinds.Limit.TheVariants.{Finite, PlusInf}
 use Rattle.mpslp_lp.specs.declared.relations.Relation.TheVariants.{AtMost, EqualTo}
 use Rattle.mpslp_canonical_lp.specs.Printed.{number, sense}
-use Rattle.mpslp_canonical_lp.specs.Listing.{Listing}
+use Rattle.mpslp_canonical_lp.specs.Listing.{Listing, listing_of}
 use Rattle.mpslp_canonical_lp.specs.CanonicalLp.{Lines, heading, long_line, sense_word, Term, term_line, term_in, objective_term, have_same_value, right_line, bound_pieces, line_of_some, is_integer_kind, is_semi_kind, name_line}
+use Rattle.mpslp_write.specs.LinesAt.{lines_at}
 use Rattle.mpslp_write.specs.declared.lp_kinds.KindSection.{KindSection}
 use Rattle.mpslp_write.specs.declared.lp_kinds.KindSection.TheVariants.{Generals, SemiContinuous}
 
@@ -26,6 +28,10 @@ objective_term_lines m column = term_lines (objective_term m column)
 -- of a column in the row of this name
 abbrev pub row_term_lines : Listing → List ℕ → List ℕ × Column → Lines
 row_term_lines m row column = term_lines (term_in m row column)
+
+-- of the column of a number in the row of this name
+abbrev pub numbered_term_lines : LinearModel → List ℕ → ℕ → Lines
+numbered_term_lines m row j = lines_at (row_term_lines (listing_of m) row) (entries m.columns) j
 
 abbrev pub has_lines : Lines → Bool
 has_lines [] = false

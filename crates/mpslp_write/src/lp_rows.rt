@@ -1,17 +1,14 @@
 //! The rows of canonical LP.
-//!
-//! A model keeps its coefficients by columns, and LP is written by rows: the terms of a row are found by
-//! a search in each column, in [`put_terms`] alone.
 
-ghost use Rattle.std.specs.Prelude.{◌≡◌, ◌<◌, [], ◌∷◌, map};
+ghost use Rattle.std.specs.Prelude.{◌<◌, [], ◌∷◌, length, map};
 ghost use Rattle.std.specs.List.{flat_map};
 ghost use Rattle.std.specs.FinMap.{entries};
-ghost use Rattle.mpslp_core.specs.Views.{num_rows, num_columns, row_name};
+ghost use Rattle.mpslp_core.specs.Views.{num_rows, row_name, row_columns};
 ghost use Rattle.mpslp_canonical_lp.specs.Printed.{printed};
 ghost use Rattle.mpslp_canonical_lp.specs.Listing.{listing_of};
 ghost use Rattle.mpslp_canonical_lp.specs.CanonicalLp.{term_line, row_terms, left_lines, last_line, row_lines, rows_section};
 ghost use Rattle.mpslp_write.specs.LinesAt.{lines_at};
-ghost use Rattle.mpslp_write.specs.LpLinesAt.{row_term_lines, has_lines, left_between, last_between};
+ghost use Rattle.mpslp_write.specs.LpLinesAt.{numbered_term_lines, left_between, last_between};
 ghost use Rattle.mpslp_write.specs.Output.{Prints, PrintsSection};
 
 use crate::bounds::have_same_value;
@@ -24,33 +21,24 @@ use mpslp_decimal::Decimal;
 use mpslp_model::laws::each_model_is_sound;
 use mpslp_model::{Limit, Model, Sink};
 
-/// Puts the term of the column of number `j` in the row of number `i`, and tells whether it has one.
-fn put_term<W: Sink>(model: &Model, i: usize, j: usize, sink: &mut W, buffer: &mut Buffer) -> bool
+/// Puts the term of number `k` of the row of number `i`.
+fn put_term<W: Sink>(model: &Model, i: usize, k: usize, sink: &mut W, buffer: &mut Buffer)
     requires row { i < num_rows model.now }
-    requires column { j < num_columns model.now }
-    ensures put { Prints printed W.holds W.failed W.count sink.old sink.new buffer.old buffer.new (lines_at (row_term_lines (listing_of model.now) (row_name model.now i)) (entries model.now.columns) j) }
-    ensures some { result ≡ has_lines (lines_at (row_term_lines (listing_of model.now) (row_name model.now i)) (entries model.now.columns) j) }
+    requires term { k < length (row_columns model.now (row_name model.now i)) }
+    ensures { Prints printed W.holds W.failed W.count sink.old sink.new buffer.old buffer.new (lines_at (numbered_term_lines model.now (row_name model.now i)) (row_columns model.now (row_name model.now i)) k) }
 {
-    each_model_is_sound(model);
-    let value = model.coefficient(i, j);
-    if value.is_zero() {
-        return false;
-    }
+    let (j, value) = model.row_entry(i, k);
     put_term_line(sink, buffer, model.column_name(j).as_bytes(), value);
-    true
 }
 
-/// Puts the terms of the row of number `i`, and tells whether it has any.
-fn put_terms<W: Sink>(model: &Model, i: usize, sink: &mut W, buffer: &mut Buffer) -> bool
+/// Puts the terms of the row of number `i`.
+fn put_terms<W: Sink>(model: &Model, i: usize, sink: &mut W, buffer: &mut Buffer)
     requires { i < num_rows model.now }
-    ensures put { Prints printed W.holds W.failed W.count sink.old sink.new buffer.old buffer.new (flat_map (row_term_lines (listing_of model.now) (row_name model.now i)) (entries model.now.columns)) }
-    ensures some { result ≡ has_lines (flat_map (row_term_lines (listing_of model.now) (row_name model.now i)) (entries model.now.columns)) }
+    ensures { Prints printed W.holds W.failed W.count sink.old sink.new buffer.old buffer.new (flat_map (numbered_term_lines model.now (row_name model.now i)) (row_columns model.now (row_name model.now i))) }
 {
-    let mut has_terms = false;
-    for j in 0..model.num_cols() {
-        has_terms |= put_term(model, i, j, sink, buffer);
+    for k in 0..model.row_len(i) {
+        put_term(model, i, k, sink, buffer);
     }
-    has_terms
 }
 
 /// Puts the terms of the row of number `i`: one without any has the first column, with 0.
@@ -59,7 +47,8 @@ fn put_row_terms<W: Sink>(model: &Model, i: usize, sink: &mut W, buffer: &mut Bu
     ensures { Prints printed W.holds W.failed W.count sink.old sink.new buffer.old buffer.new (map term_line (row_terms (listing_of model.now) (row_name model.now i))) }
 {
     each_model_is_sound(model);
-    if !put_terms(model, i, sink, buffer) {
+    put_terms(model, i, sink, buffer);
+    if model.row_len(i) == 0 {
         let first = model.column_name(0).as_bytes();
         put_term_line(sink, buffer, first, Decimal::zero());
     }

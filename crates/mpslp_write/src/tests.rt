@@ -250,3 +250,11 @@ fn a_name_that_lp_cannot_tell_is_told_before_any_byte(rt: HostRuntime) {
         assert_eq!(rt; sink.calls(), 0);
     }
 }
+
+#[test]
+fn a_sink_that_fails_within_lp_is_told(rt: HostRuntime) {
+    let mut sink = ToWrite::new(SmallWriter { room: 9 });
+    let answer = write_lp_file(rt.alloc(), FILE, &mut sink);
+    assert!(rt; matches!(answer, Some(Err(WriteFault::Write { written: 9 }))));
+    assert_eq!(rt; sink.calls(), 6);
+}

@@ -9,6 +9,7 @@ use Rattle.mpslp_builder.specs.Meaning.{DraftMeans}
 use Rattle.mpslp_builder.specs.Tables.{bytes, no_part, cells_of, draft}
 use Rattle.mpslp_numbered.specs.Parts.{limits_in, bounds_of, moved_in}
 use Rattle.mpslp_builder.proofs.OrderedParts.{once-part}
+use Rattle.mpslp_numbered.proofs.OrderLemmas.{if_ok}
 use Rattle.mpslp_numbered.proofs.RankLemmas.{AreRanks, ranks_length, ranks_apart}
 use Rattle.mpslp_builder.proofs.ModelOfTables.{AreFinished}
 use Rattle.mpslp_builder.proofs.FinishLemmas.{meant_parts, meant_draft, finished_parts, finished_cells}
@@ -136,5 +137,6 @@ returns c =
     let meant = finished_parts objective rows columns m finished c.args.sense c.args.constant c.requires.numbered
     c.each_name_stands_once.ensures.rows (once-part no_part cells_of columns c.each_name_stands_once.ensures.columns)
     c.parts_of.ensures.sense (c.parts_of.ensures.constant ∙ constant_is c.args.sense c.args.constant objective rows columns c.requires.objective c.requires.numbered.apart) in
-    subst (DraftMeans (draft c.args.sense c.args.constant c.args.tables)) (sym c.of_parts.ensures)
-    (meant_draft (draft c.args.sense c.args.constant c.args.tables) m c.requires.made (named_there objective c.requires.objective) c.requires.fault meant)
+    if_ok c.of_parts.result (λ model is.
+    subst (DraftMeans (draft c.args.sense c.args.constant c.args.tables)) (sym is)
+    (meant_draft (draft c.args.sense c.args.constant c.args.tables) m c.requires.made (named_there objective c.requires.objective) c.requires.fault meant)) c.of_parts.ensures

@@ -1,0 +1,123 @@
+//! What files of LP declare, with ample memory.
+
+use super::{Call, first_other_answer, outcome, tells};
+use crate::Builder;
+use mpslp_types::{BuildFault, RowType};
+use std::test::Fail;
+
+/// Calls that files of LP make, one after another, and what each answers.
+const OF_LP: [(Call<'static>, Result<(), BuildFault>); 23] = [
+    (Call::Objective("f"), Ok(())),
+    (Call::Constant("5"), Ok(())),
+    (Call::Constant("5"), Err(BuildFault::DuplicateRhs)),
+    (Call::Rhs("f", "-5"), Err(BuildFault::DuplicateRhs)),
+    (
+        Call::RowLimits("f", "1e20", "4"),
+        Err(BuildFault::DuplicateRow),
+    ),
+    (
+        Call::RowLimits("r", "1e20", "1e20"),
+        Err(BuildFault::InfiniteValue),
+    ),
+    (
+        Call::RowLimits("r", "-1e20", "-1e20"),
+        Err(BuildFault::InfiniteValue),
+    ),
+    (Call::RowLimits("r", "-1e20", "4"), Ok(())),
+    (
+        Call::RowLimits("r", "-1e20", "4"),
+        Err(BuildFault::DuplicateRow),
+    ),
+    (
+        Call::Row("r", RowType::AtMost),
+        Err(BuildFault::DuplicateRow),
+    ),
+    (Call::Rhs("r", "4"), Err(BuildFault::DuplicateRhs)),
+    (Call::Range("r", "1"), Err(BuildFault::DuplicateRange)),
+    (Call::Row("n", RowType::Free), Ok(())),
+    (
+        Call::RowLimits("n", "0", "4"),
+        Err(BuildFault::DuplicateRow),
+    ),
+    (Call::Binary("x"), Err(BuildFault::UnknownColumn)),
+    (Call::Column("x"), Ok(())),
+    (Call::Binary("x"), Ok(())),
+    (Call::Binary("x"), Ok(())),
+    (Call::Integer("x"), Ok(())),
+    (Call::Semi("x"), Err(BuildFault::SemiContinuous)),
+    (Call::Column("y"), Ok(())),
+    (Call::Semi("y"), Ok(())),
+    (Call::Binary("y"), Err(BuildFault::SemiContinuous)),
+];
+
+/// Calls after which the constant is declared by the right side of the objective.
+const CONSTANTS: [(Call<'static>, Result<(), BuildFault>); 4] = [
+    (Call::Objective("f"), Ok(())),
+    (Call::Rhs("f", "-5"), Ok(())),
+    (Call::Constant("5"), Err(BuildFault::DuplicateRhs)),
+    (Call::Rhs("f", "-5"), Err(BuildFault::DuplicateRhs)),
+];
+
+#[test]
+fn answers_what_lp_declares(rt: HostRuntime) {
+    let mut builder = Builder::new(rt.alloc());
+    let other_answer = first_other_answer(&mut builder, rt.alloc(), &OF_LP);
+    assert_eq!(rt; other_answer, None);
+}
+
+#[test]
+fn takes_one_constant(rt: HostRuntime) {
+    let mut builder = Builder::new(rt.alloc());
+    let other_answer = first_other_answer(&mut builder, rt.alloc(), &CONSTANTS);
+    assert_eq!(rt; other_answer, None);
+}
+
+/// Rows by their limits, and what their views tell.
+const LIMITED: [(&str, &str, &str); 11] = [
+    ("-1e20", "4", "row R L -inf 4 rhs 4 range 0"),
+    ("4.0", "1e20", "row R G 4 inf rhs 4 range 0"),
+    ("-1e20", "1e20", "row R N -inf inf rhs 0 range 0"),
+    ("4", "4.0", "row R E 4 4 rhs 4 range 0"),
+    ("-2", "4", "row R R -2 4 rhs 4 range 6"),
+    ("4", "3", "LimitsCrossed R"),
+    ("-9e19", "9e19", "LimitTooLarge R"),
+    ("9e19", "-9e19", "LimitTooLarge R"),
+    ("1e-20", "1e19", "RangeInexact R"),
+    ("1e19", "1e-20", "RangeInexact R"),
+    (
+        "1e-10",
+        "1e19",
+        "row R R 0.0000000001 1e19 rhs 1e19 range 9999999999999999999.9999999999",
+    ),
+];
+
+#[test]
+fn limits_rows_by_their_limits(rt: HostRuntime) -> Result<(), Fail> {
+    for (lower, upper, expected) in LIMITED {
+        let calls = [
+            Call::Objective("C"),
+            Call::RowLimits("R", lower, upper),
+            Call::Column("X"),
+        ];
+        let answer = outcome(rt.alloc(), &calls)?;
+        assert!(rt; tells(&answer, expected), "at {lower} {upper}");
+    }
+    Ok(())
+}
+
+#[test]
+fn tells_the_constant_as_declared(rt: HostRuntime) -> Result<(), Fail> {
+    let calls = [
+        Call::Objective("f"),
+        Call::Constant("-2.50"),
+        Call::Column("x"),
+    ];
+    let expected = b"minimize f constant -2.5 offset 2.5
+column x continuous 0 inf objective 0
+";
+    assert_eq!(rt;
+        outcome(rt.alloc(), &calls)?.as_slice(),
+        expected.as_slice()
+    );
+    Ok(())
+}
