@@ -138,11 +138,15 @@ impl Declared {
         Ok(())
     }
 
-    /// Declares a column.
+    /// Declares a column. The name of one that is there is not copied.
     fn declare_column(&mut self, column: &[u8]) -> Result<(), LineError>
         requires { IsMpsName column.now }
         ensures { Declares self.old (declare_column column.now ∷ []) result self.new }
     {
+        if self.builder.has_column(column) {
+            each_builder_is_made(&self.builder);
+            return Ok(());
+        }
         let name = self.copied(column)?;
         self.builder.column(name)?;
         Ok(())
