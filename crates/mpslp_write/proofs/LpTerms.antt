@@ -178,8 +178,8 @@ module _ (m : LinearModel) (row : List ℕ) where
   abbrev lines_of : List ℕ → Lines
   lines_of column = row_lines_of (listing_of m) row column
 
-  abbrev has : ℕ → Bool
-  has j = has_coefficient m row (column_name m j)
+  abbrev in_row : ℕ → Bool
+  in_row j = has_coefficient m row (column_name m j)
 
   abbrev numbers : List ℕ
   numbers = range_with_len 0 (num_columns m)
@@ -188,14 +188,14 @@ module _ (m : LinearModel) (row : List ℕ) where
   pub term-listed : (k j : ℕ) → slice_get (row_columns m row) k ≡ Some j
       → term_line (column_name m j, coefficient_at m row (column_name m j)) ∷ [] ≡ numbered_term_lines m row j
   term-listed k j at =
-      let below : j < num_columns m = listed_below has (num_columns m) k j at in
+      let below : j < num_columns m = listed_below in_row (num_columns m) k j at in
       let within : k < length (row_columns m row) = slice_get_within (row_columns m row) k j at in
-      let passes : has (get_or (row_columns m row) k j) ≡ true = filter_passes has numbers k j within in
+      let passes : in_row (get_or (row_columns m row) k j) ≡ true = filter_passes in_row numbers k j within in
       let same : get_or (row_columns m row) k j ≡ j = get_or_from_slice_get (row_columns m row) k j j at in
-      row-listed m row (column_name m j) (ap has (sym same) ∙ passes) ∙ named-lines lines_of (entries m.columns) j below
+      row-listed m row (column_name m j) (ap in_row (sym same) ∙ passes) ∙ named-lines lines_of (entries m.columns) j below
 
   -- the others have none
-  none-unlisted : All (λ (j : ℕ). has j ≡ false → numbered_term_lines m row j ≡ []) numbers
+  none-unlisted : All (λ (j : ℕ). in_row j ≡ false → numbered_term_lines m row j ≡ []) numbers
   none-unlisted k d below none =
       let within : k < num_columns m = subst (λ (n : ℕ). k < n) (length-range_with_len 0 (num_columns m)) below in
       let same : get_or numbers k d ≡ 0 + k = get_or-range_with_len 0 (num_columns m) k d within in
@@ -207,7 +207,7 @@ module _ (m : LinearModel) (row : List ℕ) where
   terms-listed =
       let told = row_term_lines (listing_of m) row in
       let columns = entries m.columns in
-      flat_map-kept has (numbered_term_lines m row) numbers none-unlisted
+      flat_map-kept in_row (numbered_term_lines m row) numbers none-unlisted
       ∙ flat_map-numbers told columns (num_columns m)
       ∙ flat_map-all told columns (num_columns m) (subst (λ (n : ℕ). length columns ≤ n) (sym (length-map columns (λ (e : List ℕ × Column). e.0))) (omega arith))
 

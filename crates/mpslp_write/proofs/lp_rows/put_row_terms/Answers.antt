@@ -11,8 +11,8 @@ use Rattle.mpslp_write.proofs.lp_rows.put_row_terms.Goals as goal
 pub column_name-requires : goal.column_name-requires
 column_name-requires g c = c.each_model_is_sound.ensures.has_column
 
-pub returns-then-row_len-eq : goal.returns-then-row_len-eq
-returns-then-row_len-eq g c =
+pub returns-then-row_len-eq0 : goal.returns-then-row_len-eq0
+returns-then-row_len-eq0 g c =
     let model = c.args.model.now in
     let row = row_name model c.args.i in
     let m = listing_of model in
@@ -22,8 +22,8 @@ returns-then-row_len-eq g c =
     prints_same ((λ i. joined i ++ term_line (c.as_bytes-first.ensures i, c.zero.ensures i) ∷ []) ∙ no-terms m.columns (filter_map find_term m.columns) _ c.column_name.ensures none)
     (prints_then c.put_terms.ensures c.put_term_line.ensures)
 
-pub returns-else-row_len-eq : goal.returns-else-row_len-eq
-returns-else-row_len-eq g c =
+pub returns-else-row_len-eq0 : goal.returns-else-row_len-eq0
+returns-else-row_len-eq0 g c =
     let model = c.args.model.now in
     let row = row_name model c.args.i in
     let m = listing_of model in

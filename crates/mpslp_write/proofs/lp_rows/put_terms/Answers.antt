@@ -1,7 +1,7 @@
 use Rattle.std.proofs.Common.{arith}
 use Rattle.mpslp_core.specs.Views.{row_name, row_columns}
 use Rattle.mpslp_write.specs.LpLinesAt.{numbered_term_lines}
-use Rattle.mpslp_write.proofs.LinesAtLemmas.{flat_map-next, all-taken}
+use Rattle.mpslp_write.proofs.LinesAtLemmas.{flat_map-next, flat_map-all}
 use Rattle.mpslp_write.proofs.OutputLemmas.{prints_nothing, prints_then, prints_same}
 use Rattle.mpslp_write.proofs.lp_rows.put_terms.Goals as goal
 
@@ -16,4 +16,4 @@ loop-k-preserved g c =
 pub returns : goal.returns
 returns g c =
     let row = row_name c.args.model.now c.args.i in
-    prints_same (all-taken (numbered_term_lines c.args.model.now row) (row_columns c.args.model.now row) c.loop-k.k (omega arith)) c.loop-k.invariant
+    prints_same (flat_map-all (numbered_term_lines c.args.model.now row) (row_columns c.args.model.now row) c.loop-k.k (omega arith)) c.loop-k.invariant
