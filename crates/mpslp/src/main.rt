@@ -1,7 +1,7 @@
-//! Writes the canonical text of a model file, or tells whether two files declare the same model.
+//! Writes the canonical text of a model file, shows its model, or tells whether two files declare the same model.
 #![tactic(auto)]
 
-use mpslp_convert::{ConvertFault, RunFault, load, report, run, same_model};
+use mpslp_convert::{ConvertFault, RunFault, load, report, run, same_model, show};
 use mpslp_model::{FromRead, Sink, Source, ToWrite, put_all};
 use mpslp_write::{Lp, Mps};
 use std::alloc::Global;
@@ -14,7 +14,7 @@ use std::{env, fs, io};
 const MAX_BYTES: u64 = 1_073_741_824;
 
 const USAGE: &[u8] =
-    b"usage: mpslp canon FROM TO PATH | mpslp same FORMAT PATH FORMAT PATH (formats: mps, lp)\n";
+    b"usage: mpslp canon FROM TO PATH | mpslp same FORMAT PATH FORMAT PATH | mpslp show FORMAT PATH (formats: mps, lp)\n";
 
 /// A format of model files.
 #[derive(Clone, Copy, Debug, PartialEq)]
@@ -61,6 +61,9 @@ enum Job<'a> {
         first: ModelFile<'a>,
         second: ModelFile<'a>,
     },
+    Show {
+        file: ModelFile<'a>,
+    },
 }
 
 /// How a job ends.
@@ -96,6 +99,9 @@ fn job_of<'a>(words: &'a [String]) -> Option<Job<'a>> {
             };
             (!is_twice_input).then_some(job)
         }
+        [word, form, path] if word.as_str() == "show" => Some(Job::Show {
+            file: ModelFile::of(form, path)?,
+        }),
         _ => None,
     }
 }
@@ -157,6 +163,34 @@ fn canon<R: Input + Files + AllocGlobal, W: Sink>(
             &mut FromRead::new(open(rt, file.path)?),
             output,
         )
+    }
+}
+
+/// Writes what is asked of the model that a source declares.
+fn show_source<I: Source, W: Sink>(
+    alloc: Global,
+    form: Form,
+    source: &mut I,
+    output: &mut W,
+) -> Result<(), RunFault> {
+    match form {
+        Form::Mps => show::<Mps, I, W>(alloc, MAX_BYTES, source, output),
+        Form::Lp => show::<Lp, I, W>(alloc, MAX_BYTES, source, output),
+    }
+}
+
+/// Writes what is asked of the model of standard input or a file.
+fn show_file<R: Input + Files + AllocGlobal, W: Sink>(
+    rt: &R,
+    file: ModelFile<'_>,
+    output: &mut W,
+) -> Result<(), RunFault> {
+    let alloc = rt.alloc();
+    if file.path == "-" {
+        show_source(alloc, file.form, &mut FromRead::new(rt.reader()), output)
+    } else {
+        let mut source = FromRead::new(open(rt, file.path)?);
+        show_source(alloc, file.form, &mut source, output)
     }
 }
 
@@ -229,6 +263,10 @@ fn perform<R: Input + Files + Print + Env + AllocGlobal>(rt: &R) -> Result<End, 
             Ok(End::Done)
         }
         Some(Job::Same { first, second }) => same(rt, first, second, &mut output),
+        Some(Job::Show { file }) => {
+            show_file(rt, file, &mut output)?;
+            Ok(End::Done)
+        }
         None => Err(End::Usage),
     }
 }

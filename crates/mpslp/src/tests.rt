@@ -1,6 +1,6 @@
 //! The parts of the program: words and their jobs, ends and how they are told, files and which is which.
 
-use crate::{End, Form, Job, ModelFile, canon, finish, job_of, same};
+use crate::{End, Form, Job, ModelFile, canon, finish, job_of, same, show_file};
 use mpslp_convert::RunFault;
 use mpslp_model::{Fault, FaultKind, NameAt, ToWrite};
 use std::alloc::{AllocError, Global};
@@ -27,7 +27,7 @@ const COMPARISONS: [(&str, Form, &str, Form, &str); 4] = [
 ];
 
 /// Words that ask for nothing.
-const OTHERS: [&str; 9] = [
+const OTHERS: [&str; 11] = [
     "same mps - lp -",
     "",
     "canon",
@@ -36,7 +36,9 @@ const OTHERS: [&str; 9] = [
     "canon mps a mps b",
     "canon MPS mps a",
     "same mps a b c",
-    "show mps a",
+    "show mps",
+    "show mps a b",
+    "show a",
 ];
 
 /// The words of a line, between blanks.
@@ -87,6 +89,19 @@ fn other_words_ask_for_nothing(rt: HostRuntime) -> Result<(), Fail> {
     Ok(())
 }
 
+#[test]
+fn words_ask_to_show_models(rt: HostRuntime) -> Result<(), Fail> {
+    for (line, form, path) in [
+        ("show mps a.mps", Form::Mps, "a.mps"),
+        ("show lp -", Form::Lp, "-"),
+    ] {
+        let words = words_of(rt.alloc(), line)?;
+        let file = ModelFile { form, path };
+        assert!(rt; job_of(&words) == Some(Job::Show { file }), "at {line}");
+    }
+    Ok(())
+}
+
 /// How a run may end, with the exit status and what standard error is told.
 fn ends() -> [(End, u8, &'static str); 14] {
     [
@@ -95,7 +110,7 @@ fn ends() -> [(End, u8, &'static str); 14] {
         (
             End::Usage,
             3,
-            "usage: mpslp canon FROM TO PATH | mpslp same FORMAT PATH FORMAT PATH (formats: mps, lp)\n",
+            "usage: mpslp canon FROM TO PATH | mpslp same FORMAT PATH FORMAT PATH | mpslp show FORMAT PATH (formats: mps, lp)\n",
         ),
         (End::Fault(RunFault::Read), 4, "read failed\n"),
         (End::Fault(RunFault::TooLong), 2, "file: TooLong\n"),
@@ -167,6 +182,12 @@ const SMALL_LP: &str = "min\nC: 1.0 X\nst\nend\n";
 const SMALL_CANONICAL_LP: &str = "Minimize\n C:\n  + 1 X\nSubject To\nEnd\n";
 
 const SMALL_CANONICAL: &str = "NAME\nROWS\n N  C\nCOLUMNS\n    X  C  1\nENDATA\n";
+
+const SMALL_SHOWN: &str = "sense minimize
+objective C constant 0 offset 0
+rows 0 columns 1 elements 0
+column 0 X continuous 0 inf objective 1
+";
 
 const OTHER: &str = "ROWS\n N C\nCOLUMNS\n X C 2\nENDATA\n";
 
@@ -319,5 +340,23 @@ fn a_file_is_converted(rt: HostRuntime) -> Result<(), Fail> {
         &mut ToWrite::new(&mut output),
     );
     assert!(rt; matches!(answer, Err(RunFault::Read)));
+    Ok(())
+}
+
+#[test]
+fn a_file_is_shown(rt: HostRuntime) -> Result<(), Fail> {
+    let path = "test-shown";
+    for (text, form) in [(SMALL, Form::Mps), (SMALL_LP, Form::Lp)] {
+        fs::write(&rt, path, text)?;
+        let mut output = Vec::new(rt.alloc());
+        let answer = show_file(
+            &rt,
+            ModelFile { form, path },
+            &mut ToWrite::new(&mut output),
+        );
+        assert!(rt; matches!(answer, Ok(())), "at {form:?}");
+        assert_eq!(rt; output.as_slice(), SMALL_SHOWN.as_bytes());
+        fs::remove_file(&rt, path)?;
+    }
     Ok(())
 }

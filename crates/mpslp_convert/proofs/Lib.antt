@@ -4,3 +4,4 @@ pub mod LoadLemmas
 pub mod RunLemmas
 pub mod FaultLineLemmas
 pub mod FeedingLemmas
+pub mod ShownLemmas

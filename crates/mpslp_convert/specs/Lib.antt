@@ -4,3 +4,4 @@ pub mod Runs
 pub mod FaultLine
 pub mod Laws
 pub mod Feeding
+pub mod ShownText

@@ -2,7 +2,7 @@
 //!
 //! Everything here is written over the trait [`Format`](mpslp_model::Format), and proved once of all
 //! formats that keep its contract: [`canonical`], [`same_model`] and [`is_canonical`] on bytes in
-//! memory; [`load`] and [`run`] between a source and a sink, and [`report`] of what went wrong.
+//! memory; [`load`], [`run`] and [`show`] between a source and a sink, and [`report`] of what went wrong.
 #![tactic(auto)]
 
 mod collected;
@@ -14,11 +14,15 @@ mod feeding;
 pub mod laws;
 mod reporting;
 mod running;
+mod showing;
+mod shown;
+mod words;
 
 pub use conversion::{canonical, is_canonical, same_model};
 pub use faults::{ConvertFault, RunFault};
 pub use reporting::report;
 pub use running::{load, run};
+pub use showing::show;
 
 #[cfg(test)]
 mod tests;

@@ -5,6 +5,7 @@ mod faults;
 mod large;
 mod lp;
 mod pieces;
+mod shown;
 
 ghost use Rattle.std.specs.Prelude.{◌≡◌, IfOk};
 ghost use Rattle.mpslp_core.specs.Model.{LinearModel};

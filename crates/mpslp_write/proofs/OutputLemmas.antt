@@ -182,6 +182,15 @@ module _ {S : Type 0} {holds : S → List ℕ → Type 0} {failed : S → Bool} 
   pub emits_same : {a b : S} {x y : Gathered} {piece other : List ℕ} → piece ≡ other → Emits holds failed count a b x y piece → Emits holds failed count a b x y other
   emits_same {a} {b} {x} {y} same h = subst (Emits holds failed count a b x y) same h
 
+  pub emits_nothing : (s : S) (buffer : Gathered) → Emits holds failed count s s buffer buffer []
+  emits_nothing s buffer = record { puts = λ first text header h. put_same (sym (append-nil text)) refl h }
+
+  -- what is put of a sink that has failed need not be looked at
+  pub emits_cut : {a b : S} {x y : Gathered} {front : List ℕ} (back : List ℕ) → y.has_failed ≡ true → Emits holds failed count a b x y front
+      → Emits holds failed count a b x y (front ++ back)
+  emits_cut {b = b} {y = y} back fails h =
+      emits_then h (record { puts = λ first text header g. HasPut-cut holds failed count first b y text back header header fails g })
+
   -- no header waits any more
   pub closed_put : {first b : S} {y closed : Gathered} {text other header : List ℕ} → closed ≡ with_header [] y → text ≡ other
       → HasPut holds failed count first b y text header → HasPut holds failed count first b closed other []

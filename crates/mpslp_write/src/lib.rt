@@ -4,6 +4,7 @@
 //! [`write_lp`] its canonical LP text, which mpslp_canonical_lp defines; [`first_unfit_name`] tells where
 //! a model first has a name that LP cannot tell.
 //! [`Mps`] and [`Lp`] are the formats: reader, writer, and the laws that hold the two together.
+//! A text that is no canonical one is put piece by piece through a [`Buffer`] too.
 #![tactic(auto)]
 
 mod bounds;
@@ -25,6 +26,7 @@ pub use formats::{Lp, Mps};
 pub use lp::write_lp;
 pub use lp_fit::first_unfit_name;
 pub use mps::write_mps;
+pub use output::Buffer;
 
 #[cfg(test)]
 mod tests;

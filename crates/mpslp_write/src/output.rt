@@ -40,7 +40,7 @@ impl Sent {
 ///
 /// The header of a section that may have no line waits here too, and is put with the first line.
 #[derive(Drop)]
-pub(crate) struct Buffer {
+pub struct Buffer {
     bytes: ArrayVec<u8, CAPACITY>,
     sent: Sent,
     /// The header that waits for the first line of its section. Empty: none does.
@@ -59,7 +59,7 @@ impl Model for Buffer {
 
 impl Buffer {
     /// A buffer in which nothing waits, for a sink that took nothing yet.
-    pub(crate) fn new() -> Buffer
+    pub fn new() -> Buffer
         ensures { result ≡ nothing_gathered }
     {
         Buffer {
@@ -73,7 +73,7 @@ impl Buffer {
     }
 
     /// Puts a piece behind what was put before.
-    pub(crate) fn put<W: Sink>(&mut self, sink: &mut W, piece: &[u8])
+    pub fn put<W: Sink>(&mut self, sink: &mut W, piece: &[u8])
         ensures { Emits W.holds W.failed W.count sink.old sink.new self.old self.new piece.now }
     {
         if piece.len() <= CAPACITY - self.len() {
@@ -119,7 +119,7 @@ impl Buffer {
     }
 
     /// Whether the sink has failed, so that nothing more need be put.
-    pub(crate) fn has_failed(&self) -> bool
+    pub fn has_failed(&self) -> bool
         ensures { result ≡ self.now.has_failed }
     {
         self.sent.has_failed
@@ -128,7 +128,7 @@ impl Buffer {
     /// Hands what waits to the sink, and tells whether that took the whole text. A sink that has failed
     /// is answered by [`Write`](WriteFault::Write), with the number of first bytes of the text that it
     /// has taken.
-    pub(crate) fn finish<W: Sink>(&mut self, sink: &mut W) -> Result<(), WriteFault>
+    pub fn finish<W: Sink>(&mut self, sink: &mut W) -> Result<(), WriteFault>
         ensures answer { (first : W) (text header : List ℕ) → HasPut W.holds W.failed W.count first sink.old self.old text header → IsTaken W.holds W.failed first sink.new text result }
         ensures calls { (first : W) (text header : List ℕ) → HasPut W.holds W.failed W.count first sink.old self.old text header → W.count sink.new ≤ W.count first + length text }
         ensures stays { (first : W) (text header : List ℕ) → HasPut W.holds W.failed W.count first sink.old self.old text header → W.failed first ≡ true → W.failed sink.new ≡ true }

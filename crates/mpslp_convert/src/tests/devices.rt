@@ -32,15 +32,15 @@ impl Read for FailingReader<'_> {
 
 /// Takes a number of bytes in all, and then fails.
 #[derive(Drop)]
-struct FailingWriter {
-    held: Vec<u8>,
+pub(super) struct FailingWriter {
+    pub(super) held: Vec<u8>,
     room: usize,
     flush_fails: bool,
-    flushes: u64,
+    pub(super) flushes: u64,
 }
 
 impl FailingWriter {
-    fn new(alloc: Global, room: usize, flush_fails: bool) -> FailingWriter {
+    pub(super) fn new(alloc: Global, room: usize, flush_fails: bool) -> FailingWriter {
         FailingWriter {
             held: Vec::new(alloc),
             room,
