@@ -188,15 +188,22 @@ const FILES: [(&str, &str); 24] = [
     ("min x end y", "line 1: BadToken"),
 ];
 
+/// The first of these files of which something else is told.
+fn first_told_otherwise<'a>(
+    alloc: Global,
+    files: &[(&'a str, &'a str)],
+) -> Result<Option<&'a str>, AllocError> {
+    for (text, expected) in files {
+        let told = told_of(alloc, read_lp(alloc, text.as_bytes()))?;
+        if told.as_slice() != expected.as_bytes() {
+            return Ok(Some(*text));
+        }
+    }
+    Ok(None)
+}
+
 #[test]
 fn reads_worked_files(rt: HostRuntime) -> Result<(), Fail> {
-    let alloc = rt.alloc();
-    for (text, expected) in FILES {
-        assert_eq!(rt;
-            told_of(alloc, read_lp(alloc, text.as_bytes()))?.as_slice(),
-            expected.as_bytes(),
-            "at {text}"
-        );
-    }
+    assert_eq!(rt; first_told_otherwise(rt.alloc(), &FILES)?, None);
     Ok(())
 }

@@ -219,14 +219,19 @@ fn is_limit(limit: Limit, text: &str) -> bool {
     }
 }
 
+fn are_sides(lower: Limit, upper: Limit, wanted_lower: &str, wanted_upper: &str) -> bool {
+    is_limit(lower, wanted_lower) && is_limit(upper, wanted_upper)
+}
+
 fn is_row(model: &Model, i: usize, row: &Row) -> bool {
     if i >= model.num_rows() {
         return false;
     }
     let (_, letter, lower, upper, range) = *row;
-    let has_limits = is_limit(model.row_lower(i), lower) && is_limit(model.row_upper(i), upper);
-    let has_range = model.row_sense(i) == letter && is_number(model.row_range(i), range);
-    has_limits && has_range
+    let (found_lower, found_upper) = (model.row_lower(i), model.row_upper(i));
+    let (found_letter, found_range) = (model.row_sense(i), model.row_range(i));
+    are_sides(found_lower, found_upper, lower, upper)
+        && (found_letter == letter && is_number(found_range, range))
 }
 
 fn has_row(model: &Model, row: &Row) -> bool {
@@ -241,9 +246,10 @@ fn is_column(model: &Model, j: usize, column: &Column) -> bool {
         return false;
     }
     let (_, kind, lower, upper, cost) = *column;
-    let has_bounds = is_limit(model.col_lower(j), lower) && is_limit(model.col_upper(j), upper);
-    let has_cost = is_number(model.objective_coefficient(j), cost);
-    model.column_kind(j) == kind && (has_bounds && has_cost)
+    let (found_lower, found_upper) = (model.col_lower(j), model.col_upper(j));
+    let (found_kind, found_cost) = (model.column_kind(j), model.objective_coefficient(j));
+    are_sides(found_lower, found_upper, lower, upper)
+        && (found_kind == kind && is_number(found_cost, cost))
 }
 
 fn has_column(model: &Model, column: &Column) -> bool {
