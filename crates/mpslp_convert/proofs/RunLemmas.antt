@@ -1,8 +1,10 @@
 -- What the parts of a run answer together.
-use Rattle.std.proofs.Common.{ℕ, List, Bool, Option, Result, Ok, Err}
+use Rattle.std.proofs.Common.{◌≡◌, sym, ap, ◌∙◌, ℕ, List, Bool, true, false, Option, Some, None, Result, Ok, Err, inl}
+use Rattle.std.specs.Prelude.{IsOkUnless}
+use Rattle.mpslp_types.specs.declared.faults.NameAt.{NameAt}
 use Rattle.mpslp_core.specs.Model.{LinearModel}
-use Rattle.mpslp_convert.specs.Conversions.{Declares, HasFirstFault, Unfit, TextOf}
-use Rattle.mpslp_convert.specs.Runs.{SourceGave, IsPut, IsRun}
+use Rattle.mpslp_convert.specs.Conversions.{Declares, HasFirstFault, Unfit, TextOf, IsErrUnless}
+use Rattle.mpslp_convert.specs.Runs.{SourceGave, SourceHeld, IsPut, IsRun}
 use Rattle.mpslp_convert.specs.declared.faults.RunFault.{RunFault}
 use Rattle.mpslp_convert.specs.declared.faults.RunFault.TheVariants.{Read, TooLong, File, NotLp, Write, OutOfMemory}
 
@@ -19,3 +21,46 @@ run_of declares first_fault unfit text holds failed count left left_now source_f
 run_of declares first_fault unfit text holds failed count left left_now source_failed limit bytes m old new (Err (NotLp place)) gave declared put = (bytes, m, gave, declared, put.0, put.1)
 run_of declares first_fault unfit text holds failed count left left_now source_failed limit bytes m old new (Err (Write written)) gave declared put = (bytes, m, gave, declared, put.0, put.1)
 run_of declares first_fault unfit text holds failed count left left_now source_failed limit bytes m old new (Err OutOfMemory) gave declared put = absurd put
+
+-- a source that had these bytes left gave them
+pub held_bytes : (left left_now : Option (List ℕ)) (failed_now failed : Bool) (limit : ℕ) (gave held : List ℕ)
+    → SourceGave left left_now failed_now limit gave → SourceHeld left failed limit held → held ≡ gave
+held_bytes None left_now failed_now failed limit gave held g h = absurd (none h.left_is)
+  where
+    none : ◌≡◌ {A = Option (List ℕ)} None (Some held) → ⊥
+    none e = cc
+held_bytes (Some all) left_now failed_now failed limit gave held g h = sym (same h.left_is) ∙ g.all
+  where
+    same : ◌≡◌ {A = Option (List ℕ)} (Some all) (Some held) → all ≡ held
+    same e = cc
+
+apart : {X : Type 0} (x : X) → ◌≡◌ {A = Option X} None (Some x) → ⊥
+apart x e = cc
+
+same_place : (place other : NameAt) → ◌≡◌ {A = Option NameAt} (Some place) (Some other) → place ≡ other
+same_place place other e = cc
+
+not_both : {b : Bool} → b ≡ true → b ≡ false → ⊥
+not_both p q = absurd cc
+
+-- a model that the format can tell is put where the sink works
+pub put_of_fit : {S : Type 0} (unfit : Unfit) (text : TextOf) (holds : S → List ℕ → Type 0) (failed : S → Bool) (count : S → ℕ) (m : LinearModel) (old new : S)
+    (result : Result (Unit {0}) RunFault) → unfit m ≡ None → failed new ≡ false → IsPut unfit text holds failed count m old new result → IsOkUnless result OutOfMemory
+put_of_fit unfit text holds failed count m old new (Ok _) fits works put = tt
+put_of_fit unfit text holds failed count m old new (Err Read) fits works put = absurd put
+put_of_fit unfit text holds failed count m old new (Err TooLong) fits works put = absurd put
+put_of_fit unfit text holds failed count m old new (Err (File fault)) fits works put = absurd put
+put_of_fit unfit text holds failed count m old new (Err (NotLp place)) fits works put = absurd (apart place (sym fits ∙ put.0))
+put_of_fit unfit text holds failed count m old new (Err (Write written)) fits works put = absurd (not_both put.1.fails works)
+put_of_fit unfit text holds failed count m old new (Err OutOfMemory) fits works put = absurd put
+
+-- of one that it cannot tell, the first name that it cannot is told
+pub put_of_unfit : {S : Type 0} (unfit : Unfit) (text : TextOf) (holds : S → List ℕ → Type 0) (failed : S → Bool) (count : S → ℕ) (m : LinearModel) (old new : S)
+    (result : Result (Unit {0}) RunFault) (place : NameAt) → unfit m ≡ Some place → IsPut unfit text holds failed count m old new result → IsErrUnless result (NotLp place) OutOfMemory
+put_of_unfit unfit text holds failed count m old new (Ok _) place not_fit put = apart place (sym put.0 ∙ not_fit)
+put_of_unfit unfit text holds failed count m old new (Err Read) place not_fit put = absurd put
+put_of_unfit unfit text holds failed count m old new (Err TooLong) place not_fit put = absurd put
+put_of_unfit unfit text holds failed count m old new (Err (File fault)) place not_fit put = absurd put
+put_of_unfit unfit text holds failed count m old new (Err (NotLp own)) place not_fit put = inl (ap NotLp (same_place own place (sym put.0 ∙ not_fit)))
+put_of_unfit unfit text holds failed count m old new (Err (Write written)) place not_fit put = absurd (apart place (sym put.0 ∙ not_fit))
+put_of_unfit unfit text holds failed count m old new (Err OutOfMemory) place not_fit put = absurd put
