@@ -157,7 +157,8 @@ fn a_sink_that_fails_has_the_front_of_the_text(rt: HostRuntime) {
         let mut sink = ToWrite::new(&mut writer);
         let answer = show::<Mps, _, _>(rt.alloc(), MUCH, &mut source, &mut sink);
         assert!(rt; matches!(&answer, Err(RunFault::Write { written }) if *written == room as u64));
-        assert_eq!(rt; writer.held.as_slice(), &KINDS_SHOWN.as_bytes()[..room]);
+        assert_eq!(rt; writer.held.len(), room);
+        assert!(rt; KINDS_SHOWN.as_bytes().starts_with(&writer.held));
         assert_eq!(rt; writer.flushes, 0);
     }
 }
