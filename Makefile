@@ -2,7 +2,7 @@
 
 PREFIX ?= /usr/local
 
-.PHONY: run test install bench refused random
+.PHONY: run test install bench refused random docs-check
 
 # Builds the program, proved, and prints the canonical text of an example.
 run:
@@ -31,3 +31,7 @@ refused: run
 # Checks the program on random models in many spellings of both formats, and on broken files.
 random: run
 	python3 tests/random_files.py
+
+# Tries the commands, files and tables of the documents, and the pairs of examples.
+docs-check: run
+	python3 tests/docs_check.py

@@ -1,0 +1,260 @@
+#!/usr/bin/env python3
+"""Check the documents and the examples against the built program.
+
+What README.md, examples/README.md and docs/*.md say of a command or a file is
+tried, in a scratch folder with the repository's examples. A comment before a
+fenced block or a table, which a reader of the page does not see, says how:
+
+    <!-- file: NAME -->        the block is the file NAME
+    <!-- prints: COMMAND -->   the block is what the command prints
+    <!-- runs -->              the block is run by sh -e and ends with status 0
+    <!-- table: FORM -->       each row is tried, in the way of docs_tables.py
+    <!-- check: COMMAND -->    without a block: the command ends with status 0
+
+A block in the language console needs no comment: a line that begins with "$ "
+is a command, and the lines up to the next one are what it prints.
+
+Links within the repository have to lead to a file, and to a heading of it. Each
+pair of examples has to give one canonical text, the stated one where there is
+one, and canonical texts have to be fixed points.
+
+One line tells each thing that differs; then they are counted. Exits with 1 where
+one differs.
+"""
+
+import argparse
+import os
+import re
+import shutil
+import subprocess
+import sys
+import tempfile
+from pathlib import Path
+
+import docs_tables
+
+ROOT = Path(__file__).resolve().parent.parent
+PROGRAM = ROOT / "crates" / "mpslp" / "out" / "mpslp"
+DOCUMENTS = ("README.md", "examples/README.md", "docs/*.md")
+MARK = re.compile(r"<!-- (file|prints|table|check): (.+) -->$|<!-- (runs) -->$")
+FENCE = re.compile(r"( *)```(.*)$")
+LINK = re.compile(r"\[[^\]\[]*\]\(([^)#\s]*)(?:#([^)\s]*))?\)")
+SECONDS = 60
+
+
+class Wrong(Exception):
+    """What differs, in words."""
+
+
+class Scratch:
+    """A folder with the examples, in which commands find mpslp and git."""
+
+    def __init__(self, folder, program):
+        self.folder = Path(folder)
+        (self.folder / "bin").mkdir()
+        (self.folder / "work").mkdir()
+        (self.folder / "bin" / "mpslp").symlink_to(program)
+        self.work = self.folder / "work"
+        shutil.copytree(ROOT / "examples", self.work / "examples")
+        names = {"GIT_AUTHOR_NAME": "a", "GIT_AUTHOR_EMAIL": "a@b", "GIT_COMMITTER_NAME": "a", "GIT_COMMITTER_EMAIL": "a@b"}
+        path = f"{self.folder / 'bin'}{os.pathsep}{os.environ['PATH']}"
+        self.environment = {**os.environ, **names, "PATH": path, "HOME": str(self.folder), "GIT_CONFIG_NOSYSTEM": "1",
+                            "GIT_PAGER": "cat", "LC_ALL": "C"}
+
+    def run(self, command):
+        """The exit status, and what was printed on both streams."""
+        try:
+            done = subprocess.run(["sh", "-e", "-c", command], cwd=self.work, env=self.environment, timeout=SECONDS,
+                                  stdout=subprocess.PIPE, stderr=subprocess.STDOUT)
+        except subprocess.TimeoutExpired:
+            raise Wrong(f"`{command}` ran over {SECONDS} seconds") from None
+        return done.returncode, done.stdout
+
+    def mpslp(self, words, text=b""):
+        """Status and text of the program on a file that is its standard input."""
+        done = subprocess.run([self.folder / "bin" / "mpslp", *words.split(), "-"], timeout=SECONDS,
+                              input=text, stdout=subprocess.PIPE, stderr=subprocess.STDOUT)
+        return done.returncode, done.stdout.decode("latin-1")
+
+    def wants(self, command, expected):
+        printed = self.run(command)[1]
+        if printed != expected:
+            raise Wrong(f"`{command}` prints {first_difference(printed, expected)}")
+
+    def succeeds(self, command):
+        status, printed = self.run(command)
+        if status != 0:
+            raise Wrong(f"`{command.splitlines()[0]}` ends with status {status}: {printed.decode('latin-1').strip()[-200:]}")
+
+
+def first_difference(printed, expected):
+    """The first line in which what was printed is not what the document says."""
+    have, want = (text.decode("latin-1").split("\n") for text in (printed, expected))
+    for number in range(max(len(have), len(want))):
+        lines = [repr(text[number]) if number < len(text) else "no more" for text in (have, want)]
+        if lines[0] != lines[1]:
+            return f"{lines[0]} as line {number + 1}, the document has {lines[1]}"
+    return "the same"
+
+
+class Document:
+    """One page, and what of it was tried."""
+
+    def __init__(self, path, scratch):
+        self.path = path
+        self.name = str(path.relative_to(ROOT))
+        self.scratch = scratch
+        self.lines = path.read_text().split("\n")
+        self.tried = 0
+        self.wrong = []
+
+    def attempt(self, number, action, *arguments):
+        self.tried += 1
+        try:
+            action(*arguments)
+        except Wrong as wrong:
+            self.wrong.append(f"{self.name}:{number}: {wrong}")
+
+    def check(self):
+        marks, at = [], 0
+        while at < len(self.lines):
+            line, number = self.lines[at], at + 1
+            mark, fence = MARK.match(line.strip()), FENCE.match(line)
+            if fence:
+                block, at = self.block(at, len(fence[1]))
+                self.check_block(number, marks, fence[2].strip(), block)
+                marks = []
+            elif mark and mark[1] == "check":
+                self.attempt(number, self.scratch.succeeds, mark[2])
+            elif mark:
+                marks.append((mark[1] or mark[3], mark[2]))
+            elif line.startswith("|") and marks:
+                rows, at = self.table(at)
+                self.check_table(number, marks, rows)
+                marks = []
+            elif line.strip() and marks:
+                self.wrong.append(f"{self.name}:{number}: no block and no table behind the comment")
+                marks = []
+            elif not fence:
+                self.check_links(number, line)
+            at += 1
+
+    def block(self, at, indent):
+        """The lines of a fenced block, and the line that ends it."""
+        end = at + 1
+        while not self.lines[end].strip() == "```":
+            end += 1
+        return [line[indent:] for line in self.lines[at + 1:end]], end
+
+    def table(self, at):
+        """The rows of a table with the lines they stand on, without its head, and its last line."""
+        end = at
+        while end + 1 < len(self.lines) and self.lines[end + 1].startswith("|"):
+            end += 1
+        rows = range(at + 2, end + 1)
+        return [(row + 1, [cell.strip() for cell in re.split(r"(?<!\\)\|", self.lines[row])[1:-1]]) for row in rows], end
+
+    def check_block(self, number, marks, language, block):
+        text = "".join(line + "\n" for line in block)
+        for kind, value in marks:
+            if kind == "file":
+                (self.scratch.work / value).write_text(text)
+            elif kind == "prints":
+                self.attempt(number, self.scratch.wants, value, text.encode())
+            elif kind == "runs":
+                self.attempt(number, self.scratch.succeeds, text)
+            else:
+                self.wrong.append(f"{self.name}:{number}: a block where a table is wanted")
+        if language == "console":
+            for part in re.split(r"^\$ ", text, flags=re.M)[1:]:
+                command, _, expected = part.partition("\n")
+                self.attempt(number, self.scratch.wants, command, expected.encode())
+
+    def check_table(self, number, marks, rows):
+        for kind, form in marks:
+            if kind != "table" or form.split()[0] not in docs_tables.FORMS:
+                self.wrong.append(f"{self.name}:{number}: no such form of table: {form}")
+                continue
+            words = form.split()
+            check = docs_tables.FORMS[words[0]](self.scratch, *words[1:])
+            for line, cells in rows:
+                for told in check(cells):
+                    self.tried += 1
+                    if told:
+                        self.wrong.append(f"{self.name}:{line}: {told}")
+            self.wrong += [f"{self.name}:{number}: {told}" for told in check.at_end()]
+
+    def check_links(self, number, line):
+        for target, heading in LINK.findall(re.sub(r"`[^`]*`", "", line)):
+            if re.match(r"[a-z]+:", target):
+                continue
+            path = (self.path.parent / target).resolve() if target else self.path
+            self.attempt(number, leads_somewhere, path, heading, target)
+
+
+def leads_somewhere(path, heading, target):
+    if not path.exists():
+        raise Wrong(f"{target} is not there")
+    if heading and heading not in headings(path):
+        raise Wrong(f"no heading #{heading} in {path.relative_to(ROOT)}")
+
+
+def headings(path):
+    """The anchors of a page's headings, outside fenced blocks."""
+    outside = re.sub(r"^( *)```.*?^\1```$", "", path.read_text(), flags=re.S | re.M)
+    titles = re.findall(r"^#+ (.*)$", outside, flags=re.M)
+    return {re.sub(r"[^\w\- ]", "", title.lower()).replace(" ", "-") for title in titles}
+
+
+def check_examples(scratch, told):
+    """Each pair has one canonical text, and it is the stated one. Answers how many comparisons were made."""
+    folder = ROOT / "examples"
+    files = sorted(path for path in folder.iterdir() if path.suffix in (".mps", ".lp"))
+    stems = sorted({path.stem for path in files if not path.stem.endswith(".canonical")})
+    tried = 0
+    for to in ("mps", "lp"):
+        for stem in stems:
+            stated = folder / f"{stem}.canonical.{to}"
+            sources = [folder / f"{stem}{part}.{form}" for part in ("", ".canonical") for form in ("mps", "lp")]
+            texts = {path.name: scratch.mpslp(f"canon {path.suffix[1:]} {to}", path.read_bytes())
+                     for path in sources if path.exists()}
+            first = next(iter(texts))
+            expected = (0, stated.read_text()) if stated.exists() else texts[first]
+            tried += len(texts)
+            for name, answer in texts.items():
+                if answer != expected:
+                    against = stated.name if stated.exists() else f"that of {first}"
+                    told.append(f"examples/{name}: its canonical {to.upper()} text is not {against}")
+            if scratch.mpslp(f"canon {to} {to}", expected[1].encode()) != expected:
+                told.append(f"examples/{stem}: its canonical {to.upper()} text is no fixed point")
+    return tried
+
+
+def arguments():
+    parser = argparse.ArgumentParser(description=__doc__, formatter_class=argparse.RawDescriptionHelpFormatter)
+    parser.add_argument("--program", type=Path, default=PROGRAM, help="the path of mpslp")
+    return parser.parse_args()
+
+
+def main():
+    program = arguments().program.resolve()
+    if not program.exists():
+        print(f"{program} is not there: make run builds it", file=sys.stderr)
+        return 1
+    tried, told = 0, []
+    for path in sorted(path for pattern in DOCUMENTS for path in ROOT.glob(pattern)):
+        with tempfile.TemporaryDirectory() as folder:
+            document = Document(path, Scratch(folder, program))
+            document.check()
+            tried += document.tried
+            told += document.wrong
+    with tempfile.TemporaryDirectory() as folder:
+        tried += check_examples(Scratch(folder, program), told)
+    for line in told:
+        print(line)
+    print(f"{tried} tried, {len(told)} differ")
+    return 1 if told else 0
+
+
+if __name__ == "__main__":
+    sys.exit(main())

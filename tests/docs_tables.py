@@ -1,0 +1,279 @@
+"""The tables of the documents whose rows are tried, each form in its own way.
+
+A form is made with the scratch folder. Called with the cells of a row it answers,
+for each thing that it tried, what differs, or None. at_end tells what the table
+as a whole lacks.
+"""
+
+import re
+from fractions import Fraction
+
+
+def spans(cell):
+    return re.findall(r"`([^`]*)`", cell)
+
+
+def told(what, answer, expected):
+    return None if answer == expected else f"{what}: {answer.strip()!r}, the document has {expected.strip()!r}"
+
+
+class Form:
+    def __init__(self, scratch, *words):
+        self.scratch = scratch
+        self.words = words
+
+    def at_end(self):
+        return ()
+
+    def answer(self, words, text):
+        """What the program prints of a text; of a fault its line."""
+        return self.scratch.mpslp(words, text.encode())[1]
+
+    def coefficient(self, literal):
+        """The number text of a literal as a coefficient in MPS, or the fault."""
+        answer = self.answer("canon mps mps", f"ROWS\n N  C\nCOLUMNS\n    X  C  {literal}\nENDATA\n")
+        found = re.search(r"^    X  C  (.*)$", answer, flags=re.M)
+        return found[1] if found else answer.strip()
+
+
+class Literals(Form):
+    """Literals, and their values or the kind of their fault."""
+
+    def __call__(self, cells):
+        literals, values = spans(cells[0]), cells[1].split(", ")
+        kinds = spans(cells[1])
+        for number, literal in enumerate(literals):
+            answer = self.coefficient(literal)
+            if kinds:
+                yield told(literal, answer, f"line 4: {kinds[0]}")
+                continue
+            try:
+                wrong = Fraction(answer) != Fraction(literal if "accepted" in cells[1] else values[number % len(values)])
+            except ValueError:
+                wrong = True
+            yield f"{literal}: {answer}, the document has {cells[1]}" if wrong else None
+
+
+class NumberText(Form):
+    """Values, and the text that is printed of them."""
+
+    def __call__(self, cells):
+        for value, text in zip(cells[0].split(", "), spans(cells[1])):
+            factor, _, power = value.rpartition("10^")
+            literal = f"{factor.removesuffix(' * ') or 1}e{power}" if "10^" in value else value
+            yield told(value, self.coefficient(literal), text)
+
+
+class Bounds(Form):
+    """Lines of BOUNDS of a column X, and its bounds or the kind of its fault."""
+
+    def __call__(self, cells):
+        lines = spans(cells[0])
+        choices = [lines]
+        if re.search(r"` or `", cells[0]):
+            choices = [lines[:-2] + [line] for line in lines[-2:]]
+        for lines in choices:
+            yield self.tried(lines, "marked" in cells[0], cells[1])
+
+    def tried(self, lines, marked, expected):
+        column = ["    X  C  1"]
+        if marked:
+            column = ["    M  'MARKER'  'INTORG'", *column, "    M  'MARKER'  'INTEND'"]
+        above = ["ROWS", " N  C", "COLUMNS", *column, "BOUNDS", *lines]
+        answer = self.answer("show mps", "\n".join([*above, "ENDATA", ""])).strip()
+        kinds = spans(expected)
+        if kinds:
+            fits = (f"file: {kinds[0]} X", f"line {len(above)}: {kinds[0]}")
+            return None if answer in fits else f"{lines}: {answer}, the document has {expected}"
+        bounds = re.search(r"(minus infinity|\S+) to (plus infinity|[-\d]+)", expected)
+        lower, upper = (side.replace("minus infinity", "-inf").replace("plus infinity", "inf") for side in bounds.groups())
+        kind = "semi" if "semi" in expected else "integer" if "integer" in expected or marked else "continuous"
+        line = f"column 0 X {kind} {lower} {upper} objective 1"
+        return None if answer.split("\n")[-1] == line else f"{lines}: {answer.split(chr(10))[-1]}, wanted is {line}"
+
+
+class Changes(Form):
+    """Changes of the lines of an MPS file, and the faults that they make."""
+
+    def __init__(self, scratch, name):
+        super().__init__(scratch)
+        self.lines = (scratch.work / name).read_text().split("\n")[:-1]
+
+    def changed(self, change):
+        """The texts of a change."""
+        after = re.fullmatch(r"a line `([^`]*)` after line (\d+)", change)
+        change, _, more = change.partition(", and a line ")
+        missing = re.fullmatch(r"line (\d+) is missing", change)
+        one = re.fullmatch(r"line (\d+) is `[^`]*`(, `[^`]*`)*", change)
+        several = re.fullmatch(r"lines? (\d+)(?: and (\d+))? (?:is|are) `([^`]*)` and `([^`]*)`", change)
+        if after:
+            yield self.lines[:int(after[2])] + [after[1]] + self.lines[int(after[2]):]
+        elif missing:
+            yield self.lines[:int(missing[1]) - 1] + self.lines[int(missing[1]):]
+        elif several:
+            first = int(several[1])
+            yield self.lines[:first - 1] + [several[3], several[4]] + self.lines[int(several[2] or first):]
+        elif one:
+            at = int(one[1])
+            for line in spans(change):
+                yield self.lines[:at - 1] + [line] + (spans(more)[:1] if more else []) + self.lines[at:]
+        else:
+            raise ValueError(f"a change that cannot be read: {change}")
+
+    def __call__(self, cells):
+        answers = spans(cells[1])
+        if len(answers) > 1:
+            place = answers[0].split(": ")[0]
+            answers = [answers[0]] + [f"{place}: {kind}" for kind in answers[1:]]
+        for number, lines in enumerate(self.changed(cells[0])):
+            expected = answers[min(number, len(answers) - 1)]
+            yield told(cells[0], self.answer("canon mps mps", "\n".join(lines) + "\n").strip(), expected)
+
+
+class LpCases(Form):
+    """Texts within an LP file, and the kinds and places of their faults."""
+
+    def whole(self, cell, text):
+        """What stands before the text and behind it."""
+        if text.startswith("min"):
+            return "", "" if "no more" in cell else "\nend\n"
+        if cell.startswith("in bounds"):
+            return "min x\nst\nx >= 1\nbounds\n", "\nend\n"
+        if "first token" in cell:
+            return "", "\n"
+        if "on one line" in cell:
+            return "min x\nst\nx >= 1\n", "\n"
+        return "min x\nst\n", "\nend\n"
+
+    def __call__(self, cells):
+        text = (spans(cells[0]) or ["x"])[0]
+        kind, *places = spans(cells[1])
+        before, behind = self.whole(cells[0], text)
+        answer = self.answer("canon lp lp", before + text + behind).strip()
+        above = before.count("\n")
+        lines = (above + 1, above + 2) if "then `end`" in cells[0] else (above + 1,)
+        fits = ["file: MissingEnd"] if kind == "MissingEnd" else [f"line {line}: {kind}" for line in lines]
+        yield None if answer in fits else f"{text}: {answer}, the document has {cells[1]}"
+        if not places or "at " not in cells[1]:
+            return
+        tokens = text.split() + (["end"] if "end" in behind else [])
+        at = tokens.index(places[0])
+        if "the second" in cells[1]:
+            at = tokens.index(places[0], at + 1)
+        split = self.answer("canon lp lp", before + "\n".join(tokens[:len(text.split())]) + behind).strip()
+        yield told(f"{text}, a token on each line", split, f"line {above + at + 1}: {kind}")
+
+
+class Tokens(Form):
+    """Texts of LP, and their tokens: the text is answered as its tokens with blanks between them."""
+
+    PLACES = ("min {}\nend\n", "min x\nst\n{}\nend\n", "min x\nst\n{} <= 7\nend\n", "min x\nst\nx >= 1\nbounds\n{}\nend\n")
+
+    def __call__(self, cells):
+        text = spans(cells[0])[0]
+        tokens = [token for token in spans(cells[1]) if not token.startswith("Name")]
+        if "".join(tokens) != text.replace(" ", ""):
+            yield f"{text}: the tokens {tokens} are not its bytes"
+        for place in self.PLACES:
+            answers = [self.answer("canon lp lp", place.format(form)) for form in (text, " ".join(tokens))]
+            yield told(f"{text} in {place!r}", *answers)
+
+
+class Reserved(Form):
+    """Reserved words of LP, each tried in three cases of its letters."""
+
+    MEANINGS = (
+        ("minimise", "{} x\nend\n", "Minimize"),
+        ("maximise", "{} x\nend\n", "Maximize"),
+        ("opens the row", "min x\n{}\nx >= 3\nend\n", ">= 3"),
+        ("opens Bounds", "min x\n{}\nx <= 3\nend\n", "<= 3"),
+        ("opens Generals", "min x\n{}\nx\nend\n", "Generals\n x"),
+        ("opens Binaries", "min x\n{}\nx\nend\n", " 0 <= x <= 1\nGenerals\n x"),
+        ("opens the semi", "min x\nbounds\nx <= 3\n{}\nx\nend\n", "Semi-Continuous\n x"),
+        ("ends", "min x\n{}", "End"),
+        ("infinity", "min x\nbounds\nx >= -{}\nend\n", "x free"),
+        ("both bounds", "min x\nbounds\nx {}\nend\n", "x free"),
+        ("refused", "min {}\nend\n", ": Sos"),
+    )
+
+    def __call__(self, cells):
+        words = cells[0]
+        for first, others in (("`subject` followed by `to`", "`subject to`"), ("`such` followed by `that`", "`such that`"),
+                              ("`semi` followed by `-` and `continuous`", "`semi-continuous`, `semi - continuous`")):
+            words = words.replace(first, others)
+        frame = next((frame for frame in self.MEANINGS if cells[1].startswith(frame[0])), None)
+        if not frame:
+            yield f"no such meaning: {cells[1]}"
+            return
+        for word in spans(words):
+            for form in (word, word.upper(), word.title()):
+                answer = self.answer("canon lp lp", frame[1].format(form))
+                yield None if frame[2] in answer else f"{form}: {answer!r}, wanted is {frame[2]!r}"
+
+
+class Keywords(Form):
+    """MPS headers, and the kind that refuses them."""
+
+    def __call__(self, cells):
+        for word in spans(cells[0]) or ["WORD", "rows"]:
+            answer = self.answer("canon mps mps", f"NAME\n{word}\nENDATA\n").strip()
+            yield told(word, answer, f"line 2: {spans(cells[1])[0]}")
+
+
+class Files(Form):
+    """The files of the folder of examples, with the bytes that some have."""
+
+    def __init__(self, scratch):
+        super().__init__(scratch)
+        self.left = {path.name for path in (scratch.work / "examples").iterdir() if path.suffix != ".md"}
+
+    def __call__(self, cells):
+        name = spans(cells[0])[0]
+        path = self.scratch.work / "examples" / name
+        if not path.exists():
+            yield f"{name} is not there"
+            return
+        self.left.discard(name)
+        size = re.search(r"(\d+) bytes", cells[1])
+        yield told(name, str(path.stat().st_size), size[1]) if size else None
+
+    def at_end(self):
+        return [f"{name} is not in the table" for name in sorted(self.left)]
+
+
+class Statuses(Form):
+    """Exit statuses, with runs that answer them; where memory is refused is tried by bench/refused.py."""
+
+    RUNS = {
+        "0": (("canon mps mps examples/small.mps", None), ("same mps examples/small.mps lp examples/small.lp", "same")),
+        "1": (("same mps examples/small.mps lp examples/semi.lp", "not the same"),),
+        "2": (("canon mps mps short", "file: MissingEnd"), ("same mps short mps short", "first: file: MissingEnd"),
+              ("same mps examples/small.mps mps short", "second: file: MissingEnd")),
+        "3": (("", "usage: "), ("canon mps", "usage: "), ("same mps - mps -", "usage: "), ("show free -", "usage: ")),
+        "4": (("canon mps mps nowhere", "read failed"), ("canon mps mps examples/small.mps > /dev/full", "write failed")),
+        "5": (),
+    }
+
+    def __call__(self, cells):
+        (self.scratch.work / "short").write_text("ROWS\n")
+        for words, line in self.RUNS[cells[0]]:
+            status, printed = self.scratch.run(f"exec mpslp {words}")
+            printed = printed.decode()
+            yield told(f"mpslp {words}", str(status), cells[0])
+            yield None if line is None or line in printed else f"mpslp {words}: {printed.strip()!r}, wanted is {line!r}"
+            stated = [span for span in spans(cells[2]) if line and span.split(" ")[0] == line.split(" ")[0]]
+            yield None if cells[0] < "2" or stated or ": file" in line else f"{line!r} is not told"
+
+
+FORMS = {
+    "literals": Literals,
+    "number-text": NumberText,
+    "bounds": Bounds,
+    "changes": Changes,
+    "lp-cases": LpCases,
+    "tokens": Tokens,
+    "reserved": Reserved,
+    "keywords": Keywords,
+    "files": Files,
+    "statuses": Statuses,
+}
