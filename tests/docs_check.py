@@ -104,7 +104,8 @@ class Document:
         self.path = path
         self.name = str(path.relative_to(ROOT))
         self.scratch = scratch
-        self.lines = path.read_text().split("\n")
+        scratch.page = path.read_text()
+        self.lines = scratch.page.split("\n")
         self.tried = 0
         self.wrong = []
 

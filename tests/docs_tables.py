@@ -265,6 +265,38 @@ class Statuses(Form):
             yield None if cells[0] < "2" or stated or ": file" in line else f"{line!r} is not told"
 
 
+class Sections(Form):
+    """Headers and examples of their data lines, which together are a file."""
+
+    def __init__(self, scratch, name):
+        super().__init__(scratch)
+        self.path = scratch.work / name
+        self.lines = []
+
+    def __call__(self, cells):
+        self.lines += [line for line in spans(cells[0])[:1] if line not in self.lines] + spans(cells[3])
+        self.path.write_text("\n".join(self.lines) + "\n")
+        return ()
+
+
+class Index(Form):
+    """Kinds of faults in the order of the alphabet: all of the ranks, NotLp and TooLong."""
+
+    RANK = re.compile(r"^\| \d+ \| `(\w+)` \| (?:both|neither|MPS|LP) \|", flags=re.M)
+
+    def __init__(self, scratch):
+        super().__init__(scratch)
+        self.kinds = []
+        self.ranked = self.RANK.findall(scratch.page)
+
+    def __call__(self, cells):
+        self.kinds += spans(cells[0])
+        yield None if self.kinds == sorted(self.kinds) else f"{self.kinds[-1]} is out of order"
+
+    def at_end(self):
+        return [f"{kind} is in one table alone" for kind in {*self.ranked, "NotLp", "TooLong"} ^ set(self.kinds)]
+
+
 FORMS = {
     "literals": Literals,
     "number-text": NumberText,
@@ -276,4 +308,6 @@ FORMS = {
     "keywords": Keywords,
     "files": Files,
     "statuses": Statuses,
+    "sections": Sections,
+    "index": Index,
 }
