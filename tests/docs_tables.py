@@ -260,8 +260,11 @@ class Statuses(Form):
             status, printed = self.scratch.run(f"exec mpslp {words}")
             printed = printed.decode()
             yield told(f"mpslp {words}", str(status), cells[0])
-            yield None if line is None or line in printed else f"mpslp {words}: {printed.strip()!r}, wanted is {line!r}"
+            fits = printed.strip() == line or line is None or line == "usage: "
+            yield None if fits else f"mpslp {words}: {printed.strip()!r}, wanted is {line!r}"
             stated = [span for span in spans(cells[2]) if line and span.split(" ")[0] == line.split(" ")[0]]
+            if line == "usage: ":
+                yield told(f"mpslp {words}", printed.strip(), stated[0].replace("\\|", "|"))
             yield None if cells[0] < "2" or stated or ": file" in line else f"{line!r} is not told"
 
 
