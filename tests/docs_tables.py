@@ -8,6 +8,8 @@ as a whole lacks.
 import re
 from fractions import Fraction
 
+from fault_examples import EXAMPLES
+
 
 def spans(cell):
     return re.findall(r"`([^`]*)`", cell)
@@ -283,7 +285,11 @@ class Sections(Form):
 
 
 class Index(Form):
-    """Kinds of faults in the order of the alphabet: all of the ranks, NotLp and TooLong."""
+    """Kinds of faults in the order of the alphabet: all of the ranks, NotLp and TooLong.
+
+    The examples of a kind are refused as it says, for NotLp on the way to LP; with
+    the cause changed they are accepted.
+    """
 
     RANK = re.compile(r"^\| \d+ \| `(\w+)` \| (?:both|neither|MPS|LP) \|", flags=re.M)
 
@@ -294,10 +300,23 @@ class Index(Form):
 
     def __call__(self, cells):
         self.kinds += spans(cells[0])
-        yield None if self.kinds == sorted(self.kinds) else f"{self.kinds[-1]} is out of order"
+        kind = self.kinds[-1]
+        yield None if self.kinds == sorted(self.kinds) else f"{kind} is out of order"
+        broken, mended = EXAMPLES.get(kind, ((), ()))
+        for form, text in broken:
+            status, answer = self.converted(form, text, kind)
+            fits = status == 2 and answer.strip().split(": ")[1].split(" ")[0] == kind
+            yield None if fits else f"{kind}: {text[-200:]!r} is answered {answer.strip()!r}"
+        for form, text in mended:
+            status, answer = self.converted(form, text, kind)
+            yield None if status == 0 else f"{kind}, mended: {text[-200:]!r} is answered {answer.strip()!r}"
+
+    def converted(self, form, text, kind):
+        return self.scratch.mpslp(f"canon {form} {'lp' if kind == 'NotLp' else form}", text.encode("latin-1"))
 
     def at_end(self):
-        return [f"{kind} is in one table alone" for kind in {*self.ranked, "NotLp", "TooLong"} ^ set(self.kinds)]
+        return [f"{kind} is in one table alone" for kind in {*self.ranked, "NotLp", "TooLong"} ^ set(self.kinds)] + [
+            f"{kind} has no example" for kind in self.kinds if kind not in EXAMPLES]
 
 
 FORMS = {
