@@ -18,8 +18,8 @@ Links within the repository have to lead to a file, and to a heading of it. Each
 pair of examples has to give one canonical text, the stated one where there is
 one, and canonical texts have to be fixed points.
 
-One line tells each thing that differs; then they are counted. Exits with 1 where
-one differs.
+It needs git, make and gzip. One line tells each thing that differs; then they
+are counted. Exits with 1 where one differs.
 """
 
 import argparse
@@ -179,7 +179,7 @@ class Document:
             words = form.split()
             check = docs_tables.FORMS[words[0]](self.scratch, *words[1:])
             for line, cells in rows:
-                for told in check(cells):
+                for told in answers_of(check, cells):
                     self.tried += 1
                     if told:
                         self.wrong.append(f"{self.name}:{line}: {told}")
@@ -191,6 +191,14 @@ class Document:
                 continue
             path = (self.path.parent / target).resolve() if target else self.path
             self.attempt(number, leads_somewhere, path, heading, target)
+
+
+def answers_of(check, cells):
+    """What a form answers of a row; a row that it cannot read differs, too."""
+    try:
+        return list(check(cells) or ())
+    except (LookupError, ValueError, AttributeError, RuntimeError) as error:
+        return [f"a row that cannot be read: {error}"]
 
 
 def leads_somewhere(path, heading, target):

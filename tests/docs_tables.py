@@ -94,6 +94,50 @@ class Bounds(Form):
         return None if answer.split("\n")[-1] == line else f"{lines}: {answer.split(chr(10))[-1]}, wanted is {line}"
 
 
+class RowTypes(Form):
+    """Types of MPS rows and their ranges, and the limits of a row with right side 4."""
+
+    SIDE = 4
+    RANGES = {"none": (None,), "none, or 0": (None, 0), "any": (0, 3, -3), "above 0": (3,), "below 0": (-3,)}
+
+    def limit(self, cell, size):
+        infinite = {"minus infinity": "-inf", "plus infinity": "inf"}
+        sign = -1 if " - " in cell else 1 if " + " in cell else 0
+        return infinite.get(cell, str(self.SIDE + sign * size))
+
+    def __call__(self, cells):
+        for distance in self.RANGES[cells[1]]:
+            section = "" if distance is None else f"RANGES\n    K  {distance}\n"
+            answer = self.answer("show mps", f"ROWS\n N  C\n {cells[0]}  K\nCOLUMNS\n    X  C  1\n"
+                                 f"RHS\n    K  {self.SIDE}\n{section}ENDATA\n")
+            limits = " ".join(self.limit(cell, abs(distance or 0)) for cell in cells[2:])
+            yield None if re.search(rf"^row 0 K . {limits} ", answer, flags=re.M) else f"{distance}: {answer!r}, wanted is {limits}"
+
+
+class LpForms(Form):
+    """Forms of a row or a bound in LP, and what they declare, with v = 3, l = 1 and u = 7."""
+
+    SPELLINGS = {"<": ("<", "<=", "=<"), ">": (">", ">=", "=>"), "v": ("3",), "l": ("1",), "u": ("7",)}
+    WORDS = (("lower limit l, upper limit u", "1 7"), ("lower bound l, upper bound u", "1 7"), ("upper limit v", "-inf 3"),
+             ("lower limit v", "3 inf"), ("both limits v", "3 3"), ("upper bound v", "0 3"), ("lower bound v", "3 inf"),
+             ("both bounds v", "3 3"), ("lower bound minus infinity, upper bound plus infinity", "-inf inf"))
+
+    def spelled(self, word, number):
+        spellings = self.SPELLINGS.get(word, (word,))
+        return spellings[number % len(spellings)]
+
+    def __call__(self, cells):
+        expected = next(sides for words, sides in self.WORDS if cells[1].startswith(words))
+        for form in spans(cells[0]):
+            form = form.replace("terms", "x + y")
+            place = "min x\nst\n{}\nend\n" if "y" in form else "min x\nbounds\n{}\nend\n"
+            line = "^row 0 c1 . {} " if "y" in form else "^column 0 x continuous {} "
+            for number in range(3):
+                text = " ".join(self.spelled(word, number) for word in form.split())
+                answer = self.answer("show lp", place.format(text))
+                yield None if re.search(line.format(expected), answer, flags=re.M) else f"{text}: {answer!r}, wanted is {expected}"
+
+
 class Changes(Form):
     """Changes of the lines of an MPS file, and the faults that they make."""
 
@@ -323,6 +367,8 @@ FORMS = {
     "literals": Literals,
     "number-text": NumberText,
     "bounds": Bounds,
+    "row-types": RowTypes,
+    "lp-forms": LpForms,
     "changes": Changes,
     "lp-cases": LpCases,
     "tokens": Tokens,
