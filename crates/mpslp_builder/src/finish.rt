@@ -167,7 +167,7 @@ impl Builder {
     /// - `BinaryBounds`: a binary column's bounds do not lie within 0 and 1;
     /// - `SemiBounds`: a semi-continuous column's lower bound is below 0, or its upper one infinite or not above 0.
     ///
-    /// Only where there is none of these, `OutOfMemory`.
+    /// Only where there is none of these, `OutOfMemory`, also for more than 4,294,967,296 columns.
     pub fn finish(self) -> Result<Model, ReadFault>
         requires { IsTrue (is_some self.objective) }
         ensures { Finishes self result }
