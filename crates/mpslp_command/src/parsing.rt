@@ -1,0 +1,219 @@
+//! The words of the command line as a job.
+
+ghost use Rattle.std.specs.Prelude.{◌≡◌, map, IfOk, IfErr, Some, None, true, false, string_bytes, slice_get};
+ghost use Rattle.std.specs.List.{list_all};
+ghost use Rattle.mpslp_command.specs.Commands.{form_text, form_of, words_of, is_plain, reads_input_twice, IsNamedRightly};
+
+use crate::jobs::{Form, Job, JobFault};
+use crate::usage::command;
+use crate::word::Word;
+use clap::error::ErrorKind;
+use clap::{ArgMatches, Error};
+use std::alloc::Global;
+
+/// The job of the words behind the program's name.
+///
+/// `canon FROM TO PATH`, `same FROM PATH FROM PATH` and `show FROM PATH` ask for jobs; FROM and TO are `mps` or `lp`, in
+/// small letters, and a PATH of `-` is standard input. `--help`, `help`, `--version` and `canon --help` ask for a
+/// text. Behind `--` a word that begins with `-` is a path too.
+///
+/// # Errors
+///
+/// What clap refuses ([`Usage`](JobFault::Usage)) or prints ([`Help`](JobFault::Help)), with clap's text; then
+/// [`UnknownFormat`](JobFault::UnknownFormat) with the first word that should name a format and names none; then
+/// [`BothInputs`](JobFault::BothInputs). [`OutOfMemory`](JobFault::OutOfMemory) where memory was refused.
+pub fn job(alloc: Global, words: &[String]) -> Result<Job, JobFault>
+    ensures words { IfOk result (λ job. list_all (λ word. is_plain (string_bytes word)) words.now ≡ true → map string_bytes words.now ≡ words_of job) }
+    ensures one_input { IfOk result (λ job. reads_input_twice job ≡ false) }
+    ensures unknown { IfErr result IsNamedRightly }
+{
+    let Ok(command) = command(alloc) else {
+        return Err(JobFault::OutOfMemory);
+    };
+    let matches = match command.try_get_matches_from(words) {
+        Ok(matches) => matches,
+        Err(error) => return Err(refusal(alloc, error)),
+    };
+    let found = job_of(alloc, &matches)?;
+    // What clap says of its matches does not tell which word became which argument. Words with no `-` in
+    // front can only stand in their places, and that is tried here.
+    if are_words_of(words, &found) || !are_plain(words) {
+        Ok(found)
+    } else {
+        Err(unlike(alloc))
+    }
+}
+
+/// What clap tells of words that it does not take.
+fn refusal(alloc: Global, error: Error) -> JobFault
+    ensures { IsNamedRightly result }
+{
+    if error.kind() == ErrorKind::OutOfMemory {
+        return JobFault::OutOfMemory;
+    }
+    let text = match error.to_string(alloc) {
+        Ok(text) => Word::of(text),
+        Err(_) => return JobFault::OutOfMemory,
+    };
+    if error.use_stderr() {
+        JobFault::Usage(text)
+    } else {
+        JobFault::Help(text)
+    }
+}
+
+/// What is told of words that clap takes and that are no command. There are none such, but it is not proved.
+fn unlike(alloc: Global) -> JobFault
+    ensures { IsNamedRightly result }
+{
+    match Word::new(alloc, "error: these words are no command\n") {
+        Ok(text) => JobFault::Usage(text),
+        Err(fault) => fault,
+    }
+}
+
+/// The job that clap's matches hold.
+fn job_of(alloc: Global, matches: &ArgMatches<'_>) -> Result<Job, JobFault>
+    ensures one_input { IfOk result (λ job. reads_input_twice job ≡ false) }
+    ensures unknown { IfErr result IsNamedRightly }
+{
+    let Some((name, words)) = matches.subcommand() else {
+        return Err(unlike(alloc));
+    };
+    match name {
+        "canon" => Ok(Job::Canon {
+            from: form_at(alloc, words, "from")?,
+            to: form_at(alloc, words, "to")?,
+            path: word_at(alloc, words, "path")?,
+        }),
+        "same" => same_of(alloc, words),
+        _ => Ok(Job::Show {
+            from: form_at(alloc, words, "from")?,
+            path: word_at(alloc, words, "path")?,
+        }),
+    }
+}
+
+/// The comparison that clap's matches hold.
+fn same_of(alloc: Global, words: &ArgMatches<'_>) -> Result<Job, JobFault>
+    ensures one_input { IfOk result (λ job. reads_input_twice job ≡ false) }
+    ensures unknown { IfErr result IsNamedRightly }
+{
+    let first_form = form_at(alloc, words, "first-form")?;
+    let second_form = form_at(alloc, words, "second-form")?;
+    let first = word_at(alloc, words, "first")?;
+    let second = word_at(alloc, words, "second")?;
+    if first.as_str() == "-" && second.as_str() == "-" {
+        return Err(JobFault::BothInputs);
+    }
+    Ok(Job::Same {
+        first_form,
+        first,
+        second_form,
+        second,
+    })
+}
+
+fn text_at<'a>(words: &ArgMatches<'a>, id: &str) -> &'a str {
+    words.get_str(id).unwrap_or("")
+}
+
+fn word_at(alloc: Global, words: &ArgMatches<'_>, id: &str) -> Result<Word, JobFault>
+    ensures { IfErr result IsNamedRightly }
+{
+    Word::new(alloc, text_at(words, id))
+}
+
+fn form_at(alloc: Global, words: &ArgMatches<'_>, id: &str) -> Result<Form, JobFault>
+    ensures { IfErr result IsNamedRightly }
+{
+    let word = text_at(words, id);
+    match form_named(word) {
+        Some(form) => Ok(form),
+        None => Err(JobFault::UnknownFormat(Word::new(alloc, word)?)),
+    }
+}
+
+/// The format that a word names.
+fn form_named(word: &str) -> Option<Form>
+    ensures { result ≡ form_of word.now }
+{
+    if word == "mps" {
+        Some(Form::Mps)
+    } else if word == "lp" {
+        Some(Form::Lp)
+    } else {
+        None
+    }
+}
+
+/// The word that names a format.
+fn name_of(form: Form) -> &'static str
+    ensures { result.now ≡ form_text form }
+{
+    match form {
+        Form::Mps => "mps",
+        Form::Lp => "lp",
+    }
+}
+
+/// Whether no word but `-` itself begins with `-`.
+fn are_plain(words: &[String]) -> bool
+    ensures { result ≡ list_all (λ word. is_plain (string_bytes word)) words.now }
+{
+    words.iter().all(|word| is_plain_word(word.as_str()))
+}
+
+fn is_plain_word(word: &str) -> bool
+    ensures { result ≡ is_plain word.now }
+{
+    word == "-" || !word.starts_with('-')
+}
+
+/// Whether the words are the command that a job holds.
+#[tactic(auto, using(crate::proofs::Words::three_words, crate::proofs::Words::four_words, crate::proofs::Words::five_words, crate::proofs::Words::map_len))]
+fn are_words_of(words: &[String], job: &Job) -> bool
+    ensures { result ≡ true → map string_bytes words.now ≡ words_of job.now }
+{
+    match job {
+        Job::Canon { from, to, path } => {
+            if words.len() != 4 || !is_at(words, 0, "canon") {
+                return false;
+            }
+            if !is_at(words, 1, name_of(*from)) || !is_at(words, 2, name_of(*to)) {
+                return false;
+            }
+            is_at(words, 3, path.as_str())
+        }
+        Job::Same {
+            first_form,
+            first,
+            second_form,
+            second,
+        } => {
+            if words.len() != 5 || !is_at(words, 0, "same") {
+                return false;
+            }
+            if !is_at(words, 1, name_of(*first_form)) || !is_at(words, 2, first.as_str()) {
+                return false;
+            }
+            is_at(words, 3, name_of(*second_form)) && is_at(words, 4, second.as_str())
+        }
+        Job::Show { from, path } => {
+            if words.len() != 3 || !is_at(words, 0, "show") {
+                return false;
+            }
+            is_at(words, 1, name_of(*from)) && is_at(words, 2, path.as_str())
+        }
+    }
+}
+
+/// Whether the word at an index is this text.
+fn is_at(words: &[String], i: usize, text: &str) -> bool
+    ensures { result ≡ true → slice_get (map string_bytes words.now) i ≡ Some text.now }
+{
+    match words.get(i) {
+        Some(word) => word.as_str() == text,
+        None => false,
+    }
+}
