@@ -5,3 +5,4 @@ pub mod FaultLine
 pub mod Laws
 pub mod Feeding
 pub mod ShownText
+pub mod Performed

@@ -17,7 +17,7 @@ const CAPACITY: usize = 384;
 
 /// A line that is being put together, in a place that takes no memory.
 #[derive(Drop)]
-struct Line {
+pub(crate) struct Line {
     bytes: ArrayVec<u8, CAPACITY>,
 }
 
@@ -36,7 +36,7 @@ impl Line {
         }
     }
 
-    fn as_bytes(&self) -> &[u8]
+    pub(crate) fn as_bytes(&self) -> &[u8]
         ensures { result.now ≡ self.now }
     {
         self.bytes.as_slice()
@@ -171,7 +171,7 @@ impl RunFault {
     }
 }
 
-fn line_of(fault: &RunFault) -> Line
+pub(crate) fn line_of(fault: &RunFault) -> Line
     ensures { result ≡ fault_line fault.now }
 {
     let mut line = Line::of_fault(fault);

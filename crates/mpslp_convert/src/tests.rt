@@ -2,6 +2,7 @@
 
 mod devices;
 mod faults;
+mod jobs;
 mod large;
 mod lp;
 mod pieces;
