@@ -2,7 +2,7 @@
 
 PREFIX ?= /usr/local
 
-.PHONY: run test install bench refused random docs-check
+.PHONY: run test install bench refused random docs-check solvers
 
 # Builds the program, proved, and prints the canonical text of an example.
 run:
@@ -35,3 +35,7 @@ random: run
 # Tries the commands, files and tables of the documents, and the pairs of examples.
 docs-check: run
 	python3 tests/docs_check.py
+
+# Feeds canonical texts to the solvers that are installed, as docs/SOLVERS.md says, and compares the optima.
+solvers: run
+	python3 tests/solvers.py

@@ -10,6 +10,8 @@ fenced block or a table, which a reader of the page does not see, says how:
     <!-- runs -->              the block is run by sh -e and ends with status 0
     <!-- table: FORM -->       each row is tried, in the way of docs_tables.py
     <!-- check: COMMAND -->    without a block: the command ends with status 0
+    <!-- needs: PROGRAM -->    where it is missing, what stands from here to the next
+                               paragraph in bold or heading is passed over, and told
 
 A block in the language console needs no comment: a line that begins with "$ "
 is a command, and the lines up to the next one are what it prints.
@@ -35,8 +37,9 @@ import docs_tables
 
 ROOT = Path(__file__).resolve().parent.parent
 PROGRAM = ROOT / "crates" / "mpslp" / "out" / "mpslp"
-DOCUMENTS = ("README.md", "examples/README.md", "docs/*.md")
-MARK = re.compile(r"<!-- (file|prints|table|check): (.+) -->$|<!-- (runs) -->$")
+DOCUMENTS = ("README.md", "CONTRIBUTING.md", "examples/README.md", "docs/*.md")
+MARK = re.compile(r"<!-- (file|prints|table|check|needs): (.+) -->$|<!-- (runs) -->$")
+PARAGRAPH = re.compile(r"#+ |\*\*")
 FENCE = re.compile(r"( *)```(.*)$")
 LINK = re.compile(r"\[[^\]\[]*\]\(([^)#\s]*)(?:#([^)\s]*))?\)")
 SECONDS = 60
@@ -108,8 +111,11 @@ class Document:
         self.lines = scratch.page.split("\n")
         self.tried = 0
         self.wrong = []
+        self.passes_over = False
 
     def attempt(self, number, action, *arguments):
+        if self.passes_over:
+            return
         self.tried += 1
         try:
             action(*arguments)
@@ -121,10 +127,14 @@ class Document:
         while at < len(self.lines):
             line, number = self.lines[at], at + 1
             mark, fence = MARK.match(line.strip()), FENCE.match(line)
+            if PARAGRAPH.match(line):
+                self.passes_over = False
             if fence:
                 block, at = self.block(at, len(fence[1]))
                 self.check_block(number, marks, fence[2].strip(), block)
                 marks = []
+            elif mark and mark[1] == "needs":
+                self.need(number, mark[2])
             elif mark and mark[1] == "check":
                 self.attempt(number, self.scratch.succeeds, mark[2])
             elif mark:
@@ -139,6 +149,11 @@ class Document:
             elif not fence:
                 self.check_links(number, line)
             at += 1
+
+    def need(self, number, program):
+        self.passes_over = not shutil.which(program)
+        if self.passes_over:
+            print(f"{self.name}:{number}: {program} is missing, and what needs it is passed over")
 
     def block(self, at, indent):
         """The lines of a fenced block, and the line that ends it."""

@@ -1,0 +1,208 @@
+#!/usr/bin/env python3
+"""Feed canonical texts to solvers, and compare the optima with those that are known.
+
+The models are the examples, with the optima of examples/README.md, and small ones
+of solver_models.py that have one feature each. Each solver gets the canonical text
+as it is, and then by the recipe of docs/SOLVERS.md: the block of shell behind the
+comment <!-- solver: NAME FORMAT -->, which reads model.mps or model.lp. A block
+behind <!-- file: NAME --> is a file that recipes read.
+
+The tables of that page, each behind a comment <!-- optima: FORMAT -->, say what
+came of it. Cells that differ are told. --tables prints the tables as measured, for
+the solvers that are there.
+
+A solver that is missing is told and passed over. Exits with 1 where a cell
+differs, or a recipe spoils what was right without it.
+"""
+
+import argparse
+import re
+import shutil
+import subprocess
+import sys
+import tempfile
+from dataclasses import dataclass
+from fractions import Fraction
+from pathlib import Path
+
+from solver_models import FEATURES
+
+ROOT = Path(__file__).resolve().parent.parent
+PROGRAM = ROOT / "crates" / "mpslp" / "out" / "mpslp"
+PAGE = ROOT / "docs" / "SOLVERS.md"
+EXAMPLES = ROOT / "examples"
+FORMATS = ("mps", "lp")
+FILE = re.compile(r"^<!-- file: (\S+) -->\n```.*\n((?:.*\n)*?)```$", re.M)
+RECIPE = re.compile(r"^<!-- solver: (\S+) (\S+) -->\n```sh\n((?:.*\n)*?)```$", re.M)
+TABLE = re.compile(r"^<!-- optima: (\S+) -->\n((?:\|.*\n)+)", re.M)
+OPTIMUM = re.compile(r"^\| (\S+) \| (?:minimum|maximum) of \S+ is (\S+) \|$", re.M)
+SECONDS = 60
+CLOSE = 1e-6
+
+
+@dataclass
+class Solver:
+    """A program, its package in Debian, its commands, and how it tells an optimum."""
+
+    package: str
+    commands: dict
+    told: re.Pattern
+
+
+SOLVERS = {
+    "glpsol": Solver("glpk-utils", {"mps": "glpsol --freemps model.mps -o found", "lp": "glpsol --lp model.lp -o found"},
+                     re.compile(r"^Status: +(?:INTEGER )?OPTIMAL\nObjective: .* = (\S+) \(M", re.M)),
+    "clp": Solver("coinor-clp", {"mps": "clp model.mps -solve -quit", "lp": "clp model.lp -solve -quit"},
+                  re.compile(r"^Optimal objective (\S+)", re.M)),
+    "cbc": Solver("coinor-cbc", {"mps": "cbc model.mps -solve -quit", "lp": "cbc model.lp -solve -quit"},
+                  re.compile(r"^(?:Objective value: +|Optimal objective )(\S+)", re.M)),
+    "lp_solve": Solver("lp-solve", {"mps": "lp_solve -fmps model.mps"},
+                       re.compile(r"^Value of objective function: (\S+)", re.M)),
+    "esolver": Solver("qsopt-ex", {"mps": "esolver -O found model.mps", "lp": "esolver -O found -L model.lp"},
+                      re.compile(r"^status OPTIMAL\n\tValue = (\S+)", re.M)),
+}
+
+
+@dataclass
+class Model:
+    name: str
+    texts: dict
+    optimum: Fraction
+
+
+class Page:
+    """The recipes of the page, the files that they read, and its tables."""
+
+    def __init__(self, path):
+        text = path.read_text()
+        self.files = dict(FILE.findall(text))
+        self.recipes = {(name, form): recipe for name, form, recipe in RECIPE.findall(text)}
+        self.tables = {form: cells_of(rows) for form, rows in TABLE.findall(text)}
+
+
+def cells_of(rows):
+    """The cells of a table by the model of their row and the solver of their column."""
+    head, _, *lines = [[cell.strip() for cell in row.split("|")[1:-1]] for row in rows.splitlines()]
+    return {(line[0], name.strip("`")): cell for line in lines for name, cell in zip(head[1:], line[1:])}
+
+
+def canonical(program, form, to, text):
+    """The canonical text, or None where LP cannot tell the model."""
+    done = subprocess.run([program, "canon", form, to, "-"], input=text.encode(), capture_output=True)
+    if done.returncode == 0:
+        return done.stdout.decode()
+    if done.stderr.endswith(b": NotLp\n"):
+        return None
+    sys.exit(f"{program} refuses a model: {done.stderr.decode().strip()}\n{text}")
+
+
+def models(program):
+    optima = dict(OPTIMUM.findall((EXAMPLES / "README.md").read_text()))
+    sources = [(name, form, text, optimum) for name, (form, text, optimum) in FEATURES.items()]
+    sources += [(stem, "mps", (EXAMPLES / f"{stem}.canonical.mps").read_text(), optimum) for stem, optimum in optima.items()]
+    return [Model(name, {to: canonical(program, form, to, text) for to in FORMATS}, Fraction(optimum))
+            for name, form, text, optimum in sources]
+
+
+def answer(solver, form, command, text, files):
+    """The optimum that a command tells of a text, or None."""
+    with tempfile.TemporaryDirectory() as folder:
+        for name, content in {**files, f"model.{form}": text}.items():
+            (Path(folder) / name).write_text(content)
+        try:
+            done = subprocess.run(["sh", "-e", "-c", command], cwd=folder, stdin=subprocess.DEVNULL,
+                                  stdout=subprocess.PIPE, stderr=subprocess.STDOUT, timeout=SECONDS)
+        except subprocess.TimeoutExpired:
+            return None
+        found = Path(folder) / "found"
+        told = solver.told.findall((found.read_bytes() if found.exists() else done.stdout).decode("latin-1"))
+        return float(Fraction(told[-1])) if told else None
+
+
+def verdict(found, optimum):
+    if found is None:
+        return "refused"
+    return "yes" if abs(found - optimum) <= CLOSE * max(1, abs(optimum)) else "other"
+
+
+def cell(name, form, model, page):
+    """What is to stand in a table, and whether the recipe spoils what was right without it."""
+    solver, text = SOLVERS[name], model.texts[form]
+    plain = verdict(answer(solver, form, solver.commands[form], text, {}), model.optimum)
+    recipe = page.recipes.get((name, form))
+    if not recipe:
+        return plain, False
+    mended = verdict(answer(solver, form, recipe, text, page.files), model.optimum)
+    if plain == "yes":
+        return plain, mended != "yes"
+    return f"recipe, else {plain}" if mended == "yes" else mended, False
+
+
+def measured(form, names, chosen, page):
+    """Each model with its cells, and what is wrong with recipes."""
+    rows, told = [], []
+    for model in chosen:
+        if model.texts[form] is None:
+            continue
+        cells = {}
+        for name in names:
+            cells[name], spoiled = cell(name, form, model, page)
+            if spoiled:
+                told.append(f"{name}, {form}, {model.name}: the recipe spoils what was right without it")
+        rows.append((model.name, cells))
+    return rows, told
+
+
+def print_table(form, names, rows):
+    print(f"<!-- optima: {form} -->")
+    print("| " + " | ".join(["model", *(f"`{name}`" for name in names)]) + " |")
+    print("|---" * (len(names) + 1) + "|")
+    for name, cells in rows:
+        print("| " + " | ".join([name, *cells.values()]) + " |")
+    print()
+
+
+def differences(form, rows, stated):
+    """The cells that differ from the page's table, and the rows that are in one of both alone."""
+    for name, cells in rows:
+        for solver, found in cells.items():
+            want = stated.get((name, solver), "nothing")
+            if found != want:
+                yield f"{solver}, {form}, {name}: {found}; the page has {want}"
+    have = {name for name, _ in rows}
+    yield from (f"{form}, {name}: no such model" for name in sorted({name for name, _ in stated} - have))
+
+
+def arguments():
+    parser = argparse.ArgumentParser(description=__doc__, formatter_class=argparse.RawDescriptionHelpFormatter)
+    parser.add_argument("--program", type=Path, default=PROGRAM, help="the path of mpslp")
+    parser.add_argument("--tables", action="store_true", help="print the tables as measured")
+    return parser.parse_args()
+
+
+def main():
+    options = arguments()
+    program = options.program.resolve()
+    if not program.exists():
+        print(f"{program} is not there: make run builds it", file=sys.stderr)
+        return 1
+    page = Page(PAGE)
+    there = [name for name in SOLVERS if shutil.which(name)]
+    for name in SOLVERS.keys() - set(there):
+        print(f"{name} is missing: apt-get install {SOLVERS[name].package}")
+    chosen, tried, told = models(program), 0, []
+    for form in FORMATS:
+        names = [name for name in there if form in SOLVERS[name].commands]
+        rows, spoiled = measured(form, names, chosen, page)
+        tried += sum(len(cells) for _, cells in rows)
+        told += spoiled + list(differences(form, rows, page.tables.get(form, {})))
+        if options.tables:
+            print_table(form, names, rows)
+    for line in told:
+        print(line)
+    print(f"{tried} tried, {len(told)} differ")
+    return 1 if told else 0
+
+
+if __name__ == "__main__":
+    sys.exit(main())
