@@ -12,10 +12,18 @@ run:
 test:
 	rt ci
 
-# Builds the program where it is missing or its sources have changed.
+# Builds the program where it is missing or its sources have changed, and installs it with its man page and completions.
 install: run
 	install -d $(DESTDIR)$(PREFIX)/bin
 	install crates/mpslp/out/mpslp $(DESTDIR)$(PREFIX)/bin/mpslp
+	install -d $(DESTDIR)$(PREFIX)/share/man/man1
+	install -m 644 docs/mpslp.1 $(DESTDIR)$(PREFIX)/share/man/man1/mpslp.1
+	install -d $(DESTDIR)$(PREFIX)/share/bash-completion/completions
+	install -m 644 completions/mpslp.bash $(DESTDIR)$(PREFIX)/share/bash-completion/completions/mpslp
+	install -d $(DESTDIR)$(PREFIX)/share/zsh/site-functions
+	install -m 644 completions/_mpslp $(DESTDIR)$(PREFIX)/share/zsh/site-functions/_mpslp
+	install -d $(DESTDIR)$(PREFIX)/share/fish/vendor_completions.d
+	install -m 644 completions/mpslp.fish $(DESTDIR)$(PREFIX)/share/fish/vendor_completions.d/mpslp.fish
 
 # The speed of numbers, of whole programs, and of files made to be slow; the program has to be built.
 bench:

@@ -37,13 +37,13 @@ column 0 x continuous 0 inf objective 1
 
 /// What a program prints, what it tells, and how it ends.
 #[derive(Drop)]
-struct Performed {
+struct Ended {
     status: u8,
     out: Vec<u8>,
     err: Vec<u8>,
 }
 
-impl Performed {
+impl Ended {
     fn is(&self, status: u8, out: &str, err: &str) -> bool {
         self.status == status
             && self.out.as_slice() == out.as_bytes()
@@ -52,7 +52,7 @@ impl Performed {
 }
 
 /// Does a job, or tells its refusal, where the inputs have these texts.
-fn performed(alloc: Global, job: &Result<Job, JobFault>, first: &str, second: &str) -> Performed {
+fn performed(alloc: Global, job: &Result<Job, JobFault>, first: &str, second: &str) -> Ended {
     let mut out = Vec::new(alloc);
     let mut err = Vec::new(alloc);
     let status = perform(
@@ -64,7 +64,7 @@ fn performed(alloc: Global, job: &Result<Job, JobFault>, first: &str, second: &s
         &mut ToWrite::new(&mut out),
         &mut ToWrite::new(&mut err),
     );
-    Performed { status, out, err }
+    Ended { status, out, err }
 }
 
 fn canon(alloc: Global, from: Form, to: Form) -> Result<Job, JobFault> {

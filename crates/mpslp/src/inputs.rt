@@ -1,0 +1,106 @@
+//! The inputs of a job: files, standard input, and what stands in the place of one that is neither.
+
+use mpslp_convert::{Job, JobFault, perform};
+use mpslp_model::{FromRead, Sink, Source};
+use std::io::{Error, ErrorKind, Read};
+use std::rt::Files;
+use std::{fs, io};
+
+/// The most bytes that an input may have.
+const MAX_BYTES: u64 = 1_073_741_824;
+
+/// An input without a file.
+#[derive(Drop)]
+enum NoFile {
+    /// The job has no such input: there are no bytes.
+    Empty,
+    /// The file did not open: each read fails.
+    Missing,
+}
+
+impl Read for NoFile {
+    fn read(&mut self, _: &mut [u8]) -> io::Result<usize> {
+        match self {
+            NoFile::Empty => Ok(0),
+            NoFile::Missing => Err(Error::from(ErrorKind::NotFound)),
+        }
+    }
+}
+
+/// The paths of a job's first and second input, as far as it has them.
+fn paths(job: &Result<Job, JobFault>) -> (Option<&str>, Option<&str>) {
+    match job {
+        Ok(Job::Canon { path, .. }) => (Some(path.as_str()), None),
+        Ok(Job::Show { path, .. }) => (Some(path.as_str()), None),
+        Ok(Job::Same { first, second, .. }) => (Some(first.as_str()), Some(second.as_str())),
+        Err(_) => (None, None),
+    }
+}
+
+/// Opens the first input and then the second, does the job, and answers the exit status.
+pub(crate) fn end_of<R: Input + Files + AllocGlobal, W: Sink, E: Sink>(
+    rt: &R,
+    job: &Result<Job, JobFault>,
+    out: &mut W,
+    err: &mut E,
+) -> u8 {
+    match paths(job).0 {
+        None => end_from(rt, job, &mut FromRead::new(NoFile::Empty), out, err),
+        Some("-") => end_from(rt, job, &mut FromRead::new(rt.reader()), out, err),
+        Some(path) => match fs::open(rt, path) {
+            Ok(file) => end_from(rt, job, &mut FromRead::new(file), out, err),
+            Err(_) => end_from(rt, job, &mut FromRead::new(NoFile::Missing), out, err),
+        },
+    }
+}
+
+/// Opens the second input, does the job, and answers the exit status.
+fn end_from<R: Input + Files + AllocGlobal, I: Source, W: Sink, E: Sink>(
+    rt: &R,
+    job: &Result<Job, JobFault>,
+    first: &mut I,
+    out: &mut W,
+    err: &mut E,
+) -> u8 {
+    let alloc = rt.alloc();
+    match paths(job).1 {
+        None => perform(
+            alloc,
+            MAX_BYTES,
+            job,
+            first,
+            &mut FromRead::new(NoFile::Empty),
+            out,
+            err,
+        ),
+        Some("-") => perform(
+            alloc,
+            MAX_BYTES,
+            job,
+            first,
+            &mut FromRead::new(rt.reader()),
+            out,
+            err,
+        ),
+        Some(path) => match fs::open(rt, path) {
+            Ok(file) => perform(
+                alloc,
+                MAX_BYTES,
+                job,
+                first,
+                &mut FromRead::new(file),
+                out,
+                err,
+            ),
+            Err(_) => perform(
+                alloc,
+                MAX_BYTES,
+                job,
+                first,
+                &mut FromRead::new(NoFile::Missing),
+                out,
+                err,
+            ),
+        },
+    }
+}
