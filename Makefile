@@ -2,7 +2,7 @@
 
 PREFIX ?= /usr/local
 
-.PHONY: run test install bench refused random docs-check solvers
+.PHONY: run test install bench refused random vectors docs-check solvers
 
 # Builds the program, proved, and prints the canonical text of an example.
 run:
@@ -39,6 +39,10 @@ refused: run
 # Checks the program on random models in many spellings of both formats, and on broken files.
 random: run
 	python3 tests/random_files.py
+
+# Checks the program on the files of vectors/.
+vectors: run
+	python3 tests/vectors.py
 
 # Tries the commands, files and tables of the documents, and the pairs of examples.
 docs-check: run

@@ -1,0 +1,1 @@
+min x + x x <=  end

@@ -1,0 +1,8 @@
+min x + y
+bounds
+x <= 5
+binaries
+x
+generals
+z
+end

@@ -1,0 +1,1 @@
+min C: X binaries X end

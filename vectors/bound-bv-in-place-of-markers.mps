@@ -1,0 +1,7 @@
+ROWS
+ N  C
+COLUMNS
+    X  C  1
+BOUNDS
+ BV BND X 1
+ENDATA

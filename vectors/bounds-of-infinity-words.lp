@@ -1,0 +1,1 @@
+min C: X bounds -inf <= X <= infinity end

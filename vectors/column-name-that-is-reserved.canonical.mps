@@ -1,0 +1,6 @@
+NAME
+ROWS
+ N  C
+COLUMNS
+    free  C  1
+ENDATA

@@ -1,0 +1,6 @@
+NAME
+ROWS
+ N  C
+COLUMNS
+    x[1]  C  1
+ENDATA

@@ -1,0 +1,4 @@
+min x
+st
+x + 3 <= 5
+end

@@ -1,0 +1,6 @@
+Minimize
+ C:
+  + 1 X
+  - 5
+Subject To
+End

@@ -1,0 +1,8 @@
+NAME
+ROWS
+ N  C
+COLUMNS
+    X  C  1
+RHS
+    RHS  C  5
+ENDATA

@@ -1,0 +1,7 @@
+Minimize
+ obj:
+Subject To
+ R:
+  + 1 X
+  <= 0
+End

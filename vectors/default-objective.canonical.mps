@@ -1,0 +1,7 @@
+NAME
+ROWS
+ N  obj
+ L  R
+COLUMNS
+    X  R  1
+ENDATA

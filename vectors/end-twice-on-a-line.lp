@@ -1,0 +1,4 @@
+min x
+st
+x <= 1
+end end

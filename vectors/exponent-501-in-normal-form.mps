@@ -1,0 +1,5 @@
+ROWS
+ N  C
+COLUMNS
+    X  C  10e500
+ENDATA

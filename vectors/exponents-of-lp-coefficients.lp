@@ -1,0 +1,1 @@
+min 3e5x + 3x1 + - 2 y st c: x <= 1 end

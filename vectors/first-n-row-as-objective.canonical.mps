@@ -1,0 +1,10 @@
+NAME
+ROWS
+ N  C
+ L  R
+ N  S
+COLUMNS
+    X  C  1
+    X  R  1
+    X  S  2
+ENDATA

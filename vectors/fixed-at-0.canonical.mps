@@ -1,0 +1,8 @@
+NAME
+ROWS
+ N  C
+COLUMNS
+    X  C  1
+BOUNDS
+ FX  BND  X  0
+ENDATA

@@ -1,0 +1,13 @@
+NAME
+ROWS
+ N  COST
+ N  LIM1
+ G  MYG
+COLUMNS
+    X  COST  1
+    X  LIM1  1
+    Y  COST  2
+    Y  MYG  1.5
+RHS
+    RHS  MYG  1
+ENDATA

@@ -1,0 +1,6 @@
+min x
+gen
+x
+semi
+x
+end

@@ -1,0 +1,8 @@
+ROWS
+ N  C
+COLUMNS
+    M  'MARKER'  'INTORG'
+    X  C  1
+BOUNDS
+ PL BND X
+ENDATA

@@ -1,0 +1,7 @@
+Minimize
+ C:
+  + 1 X
+Subject To
+Bounds
+ X >= 2
+End

@@ -1,0 +1,4 @@
+min x
+st
+1 <= x >= 0
+end

@@ -1,0 +1,1 @@
+min x end y

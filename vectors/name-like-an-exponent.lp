@@ -1,0 +1,1 @@
+min e9 st end

@@ -1,0 +1,5 @@
+Minimize
+ obj:
+  + 1 efficiency
+Subject To
+End

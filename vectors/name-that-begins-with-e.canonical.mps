@@ -1,0 +1,6 @@
+NAME
+ROWS
+ N  obj
+COLUMNS
+    efficiency  obj  1
+ENDATA

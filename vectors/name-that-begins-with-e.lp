@@ -1,0 +1,1 @@
+min efficiency end

@@ -1,0 +1,8 @@
+NAME
+ROWS
+ N  C
+ L  R
+COLUMNS
+RHS
+    A  R  1
+ENDATA

@@ -1,0 +1,5 @@
+ROWS
+ L R
+COLUMNS
+ X R 1
+ENDATA

@@ -1,0 +1,5 @@
+ROWS
+ N  C
+COLUMNS
+    X  C  1d5
+ENDATA

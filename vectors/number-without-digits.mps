@@ -1,0 +1,5 @@
+ROWS
+ N  C
+COLUMNS
+    X  C  e5
+ENDATA

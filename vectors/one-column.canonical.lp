@@ -1,0 +1,5 @@
+Minimize
+ obj:
+  + 1 x
+Subject To
+End

@@ -1,0 +1,1 @@
+minimize COST: X + 2 Y such that LIM1: X < 4 MYG: 1.5 Y > 1 end

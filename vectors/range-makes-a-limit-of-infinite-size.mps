@@ -1,0 +1,13 @@
+NAME          SMALL
+ROWS
+ N  COST
+ L  LIM1
+ G  MYG
+COLUMNS
+    X  COST  1.0  LIM1  1
+    Y  COST  2  MYG  1.50
+RHS
+    RHS  LIM1  4  MYG  9e19
+RANGES
+    R  MYG  9e19
+ENDATA

@@ -1,0 +1,11 @@
+ROWS
+ N  C
+ L  R
+ N  S
+COLUMNS
+    X  C  0
+    Y  S  2
+RHS
+    RHS  R  3  S  7
+    RHS  S  8
+ENDATA

@@ -1,0 +1,7 @@
+ROWS
+ N C
+COLUMNS
+ X C 1
+RHS
+    RHS  C  5
+ENDATA

@@ -1,0 +1,8 @@
+Minimize
+ obj:
+Subject To
+ c1:
+  + 1 x
+  + 1 y
+  >= 1
+End

@@ -1,0 +1,4 @@
+min
+st
+x + y >= inf
+end

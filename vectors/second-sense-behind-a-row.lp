@@ -1,0 +1,4 @@
+min x
+st
+x <= 4 <= 5
+end

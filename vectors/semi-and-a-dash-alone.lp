@@ -1,0 +1,3 @@
+min x
+semi - x
+end

@@ -1,0 +1,3 @@
+min x
+semi continuous
+end

@@ -1,0 +1,13 @@
+NAME
+ROWS
+ N  C
+COLUMNS
+    Y  C  1
+    MARKER  'MARKER'  'INTORG'
+    X  C  1
+    MARKER  'MARKER'  'INTEND'
+BOUNDS
+ UP  BND  X  1
+ LO  BND  Y  1
+ SC  BND  Y  2.5
+ENDATA

@@ -1,0 +1,11 @@
+ROWS
+ N  C
+COLUMNS
+    M  'MARKER'  'INTORG'
+    X  C  1
+    M  'MARKER'  'INTEND'
+    Y  C  1
+BOUNDS
+ SC B Y 2.50
+ LO B Y 1
+ENDATA

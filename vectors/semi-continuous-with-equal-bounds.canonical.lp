@@ -1,0 +1,13 @@
+Minimize
+ C:
+  + 1 X
+  + 1 Y
+Subject To
+ R:
+  + 1 X
+  <= 1
+Bounds
+ X = 4
+Semi-Continuous
+ X
+End

@@ -1,0 +1,4 @@
+min x
+semis
+x
+end

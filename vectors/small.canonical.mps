@@ -1,0 +1,14 @@
+NAME
+ROWS
+ N  COST
+ L  LIM1
+ G  MYG
+COLUMNS
+    X  COST  1
+    X  LIM1  1
+    Y  COST  2
+    Y  MYG  1.5
+RHS
+    RHS  LIM1  4
+    RHS  MYG  1
+ENDATA

@@ -1,0 +1,4 @@
+min x
+st
+sos1
+end

@@ -1,0 +1,4 @@
+min x
+subject that
+x <= 1
+end

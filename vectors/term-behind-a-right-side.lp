@@ -1,0 +1,4 @@
+min x
+st
+x >= 2 y
+end

@@ -1,0 +1,1 @@
+min 3 + 4 st end

@@ -1,0 +1,8 @@
+ROWS
+ N C
+COLUMNS
+ X C 1
+BOUNDS
+ UP B X -1
+ MI B X
+ENDATA

@@ -1,0 +1,9 @@
+NAME
+ROWS
+ N  C
+COLUMNS
+    X  C  1
+BOUNDS
+ MI  BND  X
+ UP  BND  X  -1
+ENDATA

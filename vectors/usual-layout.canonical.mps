@@ -1,0 +1,19 @@
+NAME
+ROWS
+ N  COST
+ E  BAL
+ G  DEM
+COLUMNS
+    B  COST  1
+    B  BAL  -1
+    MARKER  'MARKER'  'INTORG'
+    A  COST  3
+    A  BAL  1
+    A  DEM  1
+    MARKER  'MARKER'  'INTEND'
+RHS
+    RHS  DEM  2.5
+BOUNDS
+ UP  BND  A  10
+ UP  BND  B  4
+ENDATA
