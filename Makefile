@@ -2,15 +2,19 @@
 
 PREFIX ?= /usr/local
 
-.PHONY: run test install bench refused random vectors docs-check solvers
+.PHONY: run test install lib install-lib lib-check bench refused random vectors docs-check solvers
 
 # Builds the program, proved, and prints the canonical text of an example.
 run:
 	cd crates/mpslp && rt run -- canon mps mps - < ../../examples/small.mps
 
-# The merge gate: proves everything from nothing, tries the must-fail edits, and runs tests and programs.
+# The merge gate: proves everything from nothing, tries the must-fail edits, and runs tests and programs. What this builds
+# is then tried: the calls of the library and the program on the files of vectors/, and what the documents say.
 test:
 	rt ci
+	cd vectors && ../crates/try_vectors/out/try_vectors
+	python3 tests/vectors.py
+	python3 tests/docs_check.py
 
 # Builds the program where it is missing or its sources have changed, and installs it with its man page and completions.
 install: run
@@ -24,6 +28,23 @@ install: run
 	install -m 644 completions/_mpslp $(DESTDIR)$(PREFIX)/share/zsh/site-functions/_mpslp
 	install -d $(DESTDIR)$(PREFIX)/share/fish/vendor_completions.d
 	install -m 644 completions/mpslp.fish $(DESTDIR)$(PREFIX)/share/fish/vendor_completions.d/mpslp.fish
+
+# Builds the library for C, proved: build/libmpslp.a and build/libmpslp.so.0.
+lib:
+	sh lib/build.sh
+
+# Installs the library with its header and its pkg-config file.
+install-lib: lib
+	install -d $(DESTDIR)$(PREFIX)/include $(DESTDIR)$(PREFIX)/lib/pkgconfig
+	install -m 644 include/mpslp.h $(DESTDIR)$(PREFIX)/include/mpslp.h
+	install -m 644 build/libmpslp.a $(DESTDIR)$(PREFIX)/lib/libmpslp.a
+	install build/libmpslp.so.0 $(DESTDIR)$(PREFIX)/lib/libmpslp.so.0
+	ln -sf libmpslp.so.0 $(DESTDIR)$(PREFIX)/lib/libmpslp.so
+	sed 's|@PREFIX@|$(PREFIX)|' lib/mpslp.pc.in > $(DESTDIR)$(PREFIX)/lib/pkgconfig/mpslp.pc
+
+# Tries the library from C and C++.
+lib-check: lib
+	sh tests/c/check.sh
 
 # The speed of numbers, of whole programs, and of files made to be slow; the program has to be built.
 bench:

@@ -1,6 +1,6 @@
-/* Preloaded into a program, this refuses one request for memory: the one whose number, counted from 1, the variable
-   REFUSE tells. With REFUSE=0 none is refused. At the end the number of requests is written to the file that
-   REFUSE_COUNT names. Requests are those of malloc, calloc, realloc, posix_memalign and aligned_alloc. */
+/* Preloaded into a program, this refuses requests for memory: as many as the variable REFUSE_MANY tells, from the one whose
+   number, counted from 1, REFUSE tells. With REFUSE=0 none is refused. At the end the number of requests is written to
+   the file that REFUSE_COUNT names. Requests are those of malloc, calloc, realloc, posix_memalign and aligned_alloc. */
 
 #define _GNU_SOURCE
 #include <errno.h>
@@ -17,12 +17,15 @@ extern void *__libc_realloc(void *, size_t);
 extern void *__libc_memalign(size_t, size_t);
 
 static unsigned long refused;
+static unsigned long many;
 static unsigned long requests;
 static int counts;
 
 __attribute__((constructor)) static void begin(void) {
     const char *number = getenv("REFUSE");
+    const char *count = getenv("REFUSE_MANY");
     refused = number ? strtoul(number, NULL, 10) : 0;
+    many = count ? strtoul(count, NULL, 10) : 1;
     requests = 0;
     counts = 1;
 }
@@ -42,7 +45,7 @@ __attribute__((destructor)) static void end(void) {
 }
 
 static int is_refused(void) {
-    return counts && ++requests == refused;
+    return counts && ++requests >= refused && requests - refused < many && refused > 0;
 }
 
 static void *none(void) {

@@ -1,134 +1,104 @@
-//! Makes a model by calls of a builder, and makes each call that is refused for want of memory once more.
+//! Makes calls of the library, so that each request for memory of the calls can be refused.
 //!
-//! Where one allocation alone is refused, the model is the same as where none is: a refused call leaves the builder as it
-//! was. `bench/refused.py` refuses each in turn. Printed is the canonical text, or `out of memory` where the refusal met the
-//! end of the builder, which uses it up.
+//! Without words it makes a model by calls of a builder, and prints its canonical text. Else the words are a call and its
+//! formats: `read mps`, `pieces lp`, `canonical mps lp`, `same lp`, `is-canonical mps`. Standard input has the text of the
+//! call, and `same` compares it with itself. What is answered is told on standard output. `bench/refused.py` refuses each
+//! request in turn.
 #![tactic(auto)]
 
-use mpslp_decimal::Decimal;
-use mpslp_model::{BuildFault, Builder, Limit, Name, ReadFault, RowType, Sense, ToWrite};
-use mpslp_write::write_mps;
+mod building;
+
+use building::declared;
+use mpslp_convert::{ConvertFault, Form, RunFault, canonical, is_canonical, report, same_model};
+use mpslp_model::{Format, Model, ModelReader, ReadFault, ToWrite};
+use mpslp_write::{Lp, Mps, write_mps};
 use std::alloc::Global;
-use std::io;
+use std::io::{Read, Write};
+use std::rt::Env;
+use std::{env, io};
 
-/// A call of a builder. Names and numbers are texts.
+/// A call of the library.
 #[derive(Clone, Copy)]
-enum Call<'a> {
-    Sense,
-    Objective(&'a [u8]),
-    Row(&'a [u8], RowType),
-    Column(&'a [u8]),
-    Coefficient(&'a [u8], &'a [u8], &'a [u8]),
-    Rhs(&'a [u8], &'a [u8]),
-    Range(&'a [u8], &'a [u8]),
-    Bounds(&'a [u8], &'a [u8], &'a [u8]),
-    Marked(&'a [u8]),
-    Integer(&'a [u8]),
-    Semi(&'a [u8]),
+enum Call {
+    Build,
+    Read,
+    Pieces,
+    Canonical,
+    Same,
+    IsCanonical,
 }
 
-/// A legal name.
-fn named(alloc: Global, text: &[u8]) -> Result<Name, BuildFault> {
-    match Name::new(alloc, text) {
-        Ok(name) => Ok(name),
-        Err(_) => Err(BuildFault::OutOfMemory),
+/// How many bytes a piece of a text has at most.
+const PIECE: usize = 7;
+
+/// What a reader answers that is fed the text in pieces, and whether it answers `Failed` to what follows a refusal.
+fn fed<P: ModelReader>(alloc: Global, text: &[u8]) -> (Result<Model, ReadFault>, bool) {
+    let mut reader = P::new(alloc);
+    for piece in text.chunks(PIECE) {
+        if let Err(fault) = reader.feed(piece) {
+            let is_spent = matches!(reader.feed(piece), Err(ReadFault::Failed));
+            return (Err(fault), is_spent);
+        }
+    }
+    (reader.finish(), true)
+}
+
+fn tell_fault(rt: &impl Print, fault: &RunFault) -> io::Result<()> {
+    match report(fault, &mut ToWrite::new(io::writer(rt))) {
+        Ok(()) => Ok(()),
+        Err(_) => println!(rt; "write failed"),
     }
 }
 
-/// The number that a literal spells, and 0 where it spells none.
-fn number(text: &[u8]) -> Decimal {
-    Decimal::parse(text).unwrap_or(Decimal::zero())
-}
-
-/// Makes a call once.
-fn made(builder: &mut Builder, alloc: Global, call: Call<'_>) -> Result<(), BuildFault> {
-    match call {
-        Call::Sense => builder.sense(Sense::Maximize),
-        Call::Objective(name) => builder.objective(named(alloc, name)?),
-        Call::Row(name, row_type) => builder.row(named(alloc, name)?, row_type),
-        Call::Column(name) => builder.column(named(alloc, name)?),
-        Call::Coefficient(row, column, value) => builder.coefficient(row, column, number(value)),
-        Call::Rhs(row, value) => builder.rhs(row, number(value)),
-        Call::Range(row, value) => builder.range(row, number(value)),
-        Call::Bounds(column, lower, upper) => builder.bounds(
-            column,
-            Some(Limit::of(number(lower))),
-            Some(Limit::of(number(upper))),
+fn tell_read(rt: &impl Print, answer: Result<Model, ReadFault>) -> io::Result<()> {
+    match answer {
+        Ok(model) => println!(rt;
+            "rows {} columns {} elements {}",
+            model.num_rows(),
+            model.num_cols(),
+            model.num_elements()
         ),
-        Call::Marked(column) => builder.marked(column),
-        Call::Integer(column) => builder.integer(column),
-        Call::Semi(column) => builder.semi(column),
+        Err(ReadFault::File(fault)) => tell_fault(rt, &RunFault::File(fault)),
+        Err(ReadFault::Failed) => println!(rt; "failed"),
+        Err(ReadFault::OutOfMemory) => tell_fault(rt, &RunFault::OutOfMemory),
     }
 }
 
-/// Makes a call, and makes it once more where there was no memory for it.
-fn made_at_last(builder: &mut Builder, alloc: Global, call: Call<'_>) -> Result<(), BuildFault> {
-    match made(builder, alloc, call) {
-        Err(BuildFault::OutOfMemory) => made(builder, alloc, call),
-        answer => answer,
+fn tell_refusal(rt: &impl Print, fault: ConvertFault) -> io::Result<()> {
+    match fault {
+        ConvertFault::First(fault) => tell_fault(rt, &RunFault::File(fault)),
+        ConvertFault::Second(fault) => tell_fault(rt, &RunFault::File(fault)),
+        ConvertFault::NotLp(place) => tell_fault(rt, &RunFault::NotLp(place)),
+        ConvertFault::OutOfMemory => tell_fault(rt, &RunFault::OutOfMemory),
     }
 }
 
-/// How many rows one column has: they come in falling order, so that most stand in the column's tree.
-const MANY: u16 = 300;
-
-/// A name of a letter and a number of three digits.
-fn numbered(number: u16) -> [u8; 4] {
-    let digit = |place: u16| b'0' + (number / place % 10) as u8;
-    [b'r', digit(100), digit(10), digit(1)]
+fn tell_text(rt: &impl Print, answer: Result<Vec<u8>, ConvertFault>) -> io::Result<()> {
+    match answer {
+        Ok(text) => io::writer(rt).write_all(&text),
+        Err(fault) => tell_refusal(rt, fault),
+    }
 }
 
-/// Declares many rows, and a column that has them all.
-fn declare_many(builder: &mut Builder, alloc: Global) -> Result<(), BuildFault> {
-    for number in 0..MANY {
-        let name = numbered(number);
-        made_at_last(builder, alloc, Call::Row(&name, RowType::AtMost))?;
+fn tell_test(rt: &impl Print, answer: Result<bool, ConvertFault>) -> io::Result<()> {
+    match answer {
+        Ok(holds) => println!(rt; "{holds}"),
+        Err(fault) => tell_refusal(rt, fault),
     }
-    made_at_last(builder, alloc, Call::Column(b"MANY"))?;
-    for number in (0..MANY).rev() {
-        let name = numbered(number);
-        made_at_last(builder, alloc, Call::Coefficient(&name, b"MANY", b"2"))?;
-    }
-    Ok(())
 }
 
-/// What all calls declare.
-fn declared(alloc: Global) -> Result<Builder, BuildFault> {
-    let mut builder = Builder::new(alloc);
-    let calls = [
-        Call::Sense,
-        Call::Objective(b"PROFIT"),
-        Call::Row(b"UP", RowType::AtMost),
-        Call::Row(b"LOW", RowType::AtLeast),
-        Call::Row(b"EVEN", RowType::Equal),
-        Call::Row(b"NOTE", RowType::Free),
-        Call::Rhs(b"PROFIT", b"-12.5"),
-        Call::Rhs(b"UP", b"40"),
-        Call::Range(b"UP", b"15"),
-        Call::Column(b"X"),
-        Call::Coefficient(b"PROFIT", b"X", b"3"),
-        Call::Coefficient(b"UP", b"X", b"1.5"),
-        Call::Coefficient(b"LOW", b"X", b"0"),
-        Call::Marked(b"X"),
-        Call::Column(b"Y"),
-        Call::Coefficient(b"EVEN", b"Y", b"-1"),
-        Call::Coefficient(b"LOW", b"Y", b"1e-3"),
-        Call::Integer(b"Y"),
-        Call::Bounds(b"Y", b"-4", b"9"),
-        Call::Column(b"Z"),
-        Call::Coefficient(b"NOTE", b"Z", b"7"),
-        Call::Bounds(b"Z", b"2", b"8"),
-        Call::Semi(b"Z"),
-        Call::Rhs(b"LOW", b"1"),
-    ];
-    for call in &calls {
-        made_at_last(&mut builder, alloc, *call)?;
+/// Feeds the text in pieces, and tells of a reader that goes on behind a refusal.
+fn tell_pieces<P: ModelReader>(rt: &impl Print, alloc: Global, text: &[u8]) -> io::Result<()> {
+    let (answer, is_spent) = fed::<P>(alloc, text);
+    tell_read(rt, answer)?;
+    if is_spent {
+        return Ok(());
     }
-    declare_many(&mut builder, alloc)?;
-    Ok(builder)
+    println!(rt; "goes on behind a refusal")
 }
 
-fn run<R: Print + AllocGlobal>(rt: &R, alloc: Global) -> io::Result<()> {
+/// Tells the canonical text of the model that calls of a builder make.
+fn tell_built(rt: &impl Print, alloc: Global) -> io::Result<()> {
     let Ok(builder) = declared(alloc) else {
         return println!(rt; "a call was refused");
     };
@@ -136,18 +106,70 @@ fn run<R: Print + AllocGlobal>(rt: &R, alloc: Global) -> io::Result<()> {
         return println!(rt; "no objective");
     }
     match builder.finish() {
-        Ok(model) => {
-            let mut sink = ToWrite::new(io::writer(rt));
-            match write_mps(&model, &mut sink) {
-                Ok(()) => Ok(()),
-                Err(_) => println!(rt; "write failed"),
-            }
-        }
-        Err(ReadFault::OutOfMemory) => println!(rt; "out of memory"),
-        Err(_) => println!(rt; "refused"),
+        Ok(model) => match write_mps(&model, &mut ToWrite::new(io::writer(rt))) {
+            Ok(()) => Ok(()),
+            Err(_) => println!(rt; "write failed"),
+        },
+        Err(fault) => tell_read(rt, Err(fault)),
     }
 }
 
+/// Makes a call whose text is in `A`, and tells its answer.
+fn tell<A: Format>(
+    rt: &impl Print,
+    alloc: Global,
+    call: Call,
+    to: Form,
+    text: &[u8],
+) -> io::Result<()> {
+    match call {
+        Call::Build => tell_built(rt, alloc),
+        Call::Read => tell_read(rt, A::read(alloc, text)),
+        Call::Pieces => tell_pieces::<A::Reader>(rt, alloc, text),
+        Call::Canonical => match to {
+            Form::Mps => tell_text(rt, canonical::<A, Mps>(alloc, text)),
+            Form::Lp => tell_text(rt, canonical::<A, Lp>(alloc, text)),
+        },
+        Call::Same => tell_test(rt, same_model::<A, A>(alloc, text, text)),
+        Call::IsCanonical => tell_test(rt, is_canonical::<A>(alloc, text)),
+    }
+}
+
+fn call_of(word: &str) -> Call {
+    match word {
+        "read" => Call::Read,
+        "pieces" => Call::Pieces,
+        "canonical" => Call::Canonical,
+        "same" => Call::Same,
+        "is-canonical" => Call::IsCanonical,
+        _ => Call::Build,
+    }
+}
+
+fn form_of(word: &str) -> Form {
+    if word == "lp" { Form::Lp } else { Form::Mps }
+}
+
+fn run<R: Input + Print + Env + AllocGlobal>(rt: &R, alloc: Global) -> io::Result<()> {
+    let mut words = env::args(rt)?.skip(1);
+    let call = words.next().map_or(Call::Build, |word| call_of(&word));
+    let from = words.next().map_or(Form::Mps, |word| form_of(&word));
+    let to = words.next().map_or(Form::Mps, |word| form_of(&word));
+    let mut text = Vec::new(alloc);
+    rt.reader().read_to_end(&mut text)?;
+    match from {
+        Form::Mps => tell::<Mps>(rt, alloc, call, to, &text),
+        Form::Lp => tell::<Lp>(rt, alloc, call, to, &text),
+    }
+}
+
+/// Want of memory in reading the words or the text is told like that of a call.
 fn main(rt: HostRuntime) -> io::Result<()> {
-    run(&rt, rt.alloc())
+    match run(&rt, rt.alloc()) {
+        Err(error) if error.kind() == io::ErrorKind::OutOfMemory => tell_fault(
+            &rt,
+            &RunFault::OutOfMemory,
+        ),
+        answer => answer,
+    }
 }

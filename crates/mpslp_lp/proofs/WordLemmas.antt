@@ -1,9 +1,13 @@
 -- The words that mean something are the reserved ones.
-use Rattle.std.proofs.Common.{◌≡◌, refl, ap, ℕ, List, [], ◌∷◌, Bool, true, false, cond, map}
-use Rattle.std.specs.Prelude.{Option, Some, None, ◌||◌}
-use Rattle.std.specs.List.{find, list_any}
+use Rattle.std.proofs.Common.{◌≡◌, refl, sym, ap, subst, ◌∙◌, ℕ, ◌<◌, ◌≤◌, arith, List, [], ◌∷◌, Bool, true, false, cond, map, length}
+use Rattle.std.specs.Prelude.{Option, Some, None, ◌||◌, ◌&&◌}
+use Rattle.std.specs.List.{find, list_all, list_any}
+use Rattle.std.proofs.lemmas.Bool.{leb-true}
+use Rattle.std.proofs.lemmas.List.{length-map}
+use Rattle.std.proofs.Math.Dec.{leb}
 use Rattle.std.specs.Option.{option_map_or}
 use Rattle.mpslp_types.specs.Name.{same_bytes, lower_byte, reserved_words, is_reserved}
+use Rattle.mpslp_builder.proofs.CoefficientLemmas.{same_bytes-true}
 use Rattle.mpslp_lp.specs.Words.{word_meanings, meaning_of}
 use Rattle.mpslp_lp.specs.declared.words.Meaning.{Meaning}
 use Rattle.mpslp_lp.specs.declared.words.Meaning.TheVariants.{Name}
@@ -26,3 +30,28 @@ none-found (entry ∷ table) lower h = by (same_bytes lower entry.0) h (none-fou
 pub meaning-name : (word : List ℕ) → is_reserved word ≡ false → meaning_of word ≡ Name
 meaning-name word h =
     ap (λ (o : Option (List ℕ × Meaning)). option_map_or (λ (entry : List ℕ × Meaning). entry.1) o Name) (none-found word_meanings (map lower_byte word) h)
+
+-- ---- words that are longer than any reserved one
+
+other-length : (a b : List ℕ) → length b < length a → same_bytes a b ≡ false
+other-length a b longer = by (same_bytes a b) refl
+  where
+    by : (c : Bool) → same_bytes a b ≡ c → c ≡ false
+    by false e = refl
+    by true e = absurd (let same : length a ≡ length b = ap length (same_bytes-true a b e) in omega (arith, longer, same))
+
+none-long : (words : List (List ℕ)) (most : ℕ) (word : List ℕ) → list_all (λ (w : List ℕ). leb (length w) most) words ≡ true → most < length word → list_any (same_bytes word) words ≡ false
+none-long [] most word h longer = refl
+none-long (w ∷ words) most word h longer = by (leb (length w) most) refl h (λ rest. none-long words most word rest longer)
+  where
+    by : (b : Bool) → leb (length w) most ≡ b → (b && list_all (λ (v : List ℕ). leb (length v) most) words) ≡ true
+        → (list_all (λ (v : List ℕ). leb (length v) most) words ≡ true → list_any (same_bytes word) words ≡ false)
+        → (same_bytes word w || list_any (same_bytes word) words) ≡ false
+    by true e rest later =
+        let within : length w ≤ most = leb-true (length w) most e in
+        ap (λ (c : Bool). c || list_any (same_bytes word) words) (other-length word w (omega (arith, within, longer))) ∙ later rest
+    by false e rest later = cc
+
+-- no reserved word has over 8 bytes
+pub meaning-long : (word : List ℕ) → 8 < length word → meaning_of word ≡ Name
+meaning-long word longer = meaning-name word (none-long reserved_words 8 (map lower_byte word) refl (subst (λ (n : ℕ). 8 < n) (sym (length-map word lower_byte)) longer))

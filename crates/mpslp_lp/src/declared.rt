@@ -4,7 +4,10 @@ ghost use Rattle.std.specs.Prelude.{◌≡◌, ◌+◌, ◌-◌, ◌^◌, ◌∷
 ghost use Rattle.std.specs.Option.{ForSome};
 ghost use Rattle.mpslp_types.specs.Name.{IsMpsName};
 ghost use Rattle.mpslp_types.specs.Sides.{is_given};
-ghost use Rattle.mpslp_builder.specs.Declaration.{empty_draft, by_limits, declare_sense, declare_objective, declare_constant, declare_row, declare_column, declare_coefficient, declare_integer, declare_binary, declare_semi};
+ghost use Rattle.mpslp_builder.specs.Answer.{Answers};
+ghost use Rattle.mpslp_builder.specs.Made.{IsMade};
+ghost use Rattle.mpslp_builder.specs.Refusal.{refusals};
+ghost use Rattle.mpslp_builder.specs.Declaration.{adding, empty_draft, by_limits, declare_sense, declare_objective, declare_constant, declare_row, declare_column, declare_coefficient, declare_integer, declare_binary, declare_semi};
 ghost use Rattle.mpslp_reading.specs.declared.errors.LineError.{LineError};
 ghost use Rattle.mpslp_lp.specs.Objective.{default_objective, term_declared, objective_declared, first_item_declared};
 ghost use Rattle.mpslp_lp.specs.Rows.{numbered_row};
@@ -21,7 +24,7 @@ use indexmap::IndexMap;
 use itoa::Buffer;
 use mpslp_decimal::Decimal;
 use mpslp_model::laws::{each_builder_is_made, each_name_is_legal};
-use mpslp_model::{Builder, Limit, Name, Sense};
+use mpslp_model::{BuildFault, Builder, Limit, Name, Sense};
 use mpslp_reading::LineError;
 use std::alloc::Global;
 use std::marker::Model;
@@ -165,8 +168,8 @@ impl Declared {
         Ok(())
     }
 
-    /// Declares a coefficient, and its column.
-    pub(crate) fn declare_term(
+    /// Declares a coefficient, and before it its column.
+    fn declare_with_column(
         &mut self,
         row: &[u8],
         column: &[u8],
@@ -177,6 +180,39 @@ impl Declared {
     {
         self.declare_column(column)?;
         self.declare_coefficient(row, column, value)
+    }
+
+    /// Declares a coefficient of a column that is there, or tells the first refusal.
+    fn declare_in_column(
+        &mut self,
+        row: &[u8],
+        column: &[u8],
+        value: Decimal,
+    ) -> Result<(), BuildFault>
+        ensures made { IsMade self.old }
+        ensures answer { let declared = declare_coefficient (record { row = row.now; column = column.now }) value in Answers (refusals self.old declared) result (self.new ≡ adding self.old declared) (self.new ≡ self.old) }
+    {
+        each_builder_is_made(&self.builder);
+        self.builder.coefficient(row, column, value)
+    }
+
+    /// Declares a coefficient, and its column. Most columns are there, so the coefficient is tried first.
+    pub(crate) fn declare_term(
+        &mut self,
+        row: &[u8],
+        column: &[u8],
+        value: Decimal,
+    ) -> Result<(), LineError>
+        requires { IsMpsName column.now }
+        ensures { Declares self.old (term_declared row.now (column.now, value)) result self.new }
+    {
+        match self.declare_in_column(row, column, value) {
+            Ok(()) => Ok(()),
+            Err(fault) => match fault {
+                BuildFault::UnknownColumn => self.declare_with_column(row, column, value),
+                _ => Err(LineError::from(fault)),
+            },
+        }
     }
 
     /// Declares that a column takes whole numbers alone, after the column.

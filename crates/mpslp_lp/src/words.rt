@@ -144,9 +144,15 @@ fn meaning_among(words: &[(&'static [u8], Meaning)], text: &[u8]) -> Meaning
     }
 }
 
-/// What a word means, in upper case, lower case or both.
+/// The length of the longest reserved words.
+const LONGEST_WORD: usize = 8;
+
+/// What a word means, in upper case, lower case or both. Most names are longer than any reserved word.
 pub(crate) fn meaning_of(text: &[u8]) -> Meaning
     ensures { result ≡ meaning_of text.now }
 {
+    if text.len() > LONGEST_WORD {
+        return Meaning::Name;
+    }
     meaning_among(&WORDS, text)
 }

@@ -1,0 +1,91 @@
+-- What the status of an answer says, and the answers of the calls put together.
+use Rattle.std.proofs.Common.{◌≡◌, ℕ, List, Bool, true, false, ◌∙◌, ap, inl, inr, None, Some, Result, Ok, Err, Vec}
+use Rattle.std.specs.Prelude.{IsOkUnless}
+use Rattle.std.specs.declared.alloc.Global.{Global}
+use Rattle.mpslp_core.specs.Model.{LinearModel}
+use Rattle.mpslp_types.specs.declared.faults.Fault.{Fault}
+use Rattle.mpslp_types.specs.declared.faults.NameAt.{NameAt}
+use Rattle.mpslp_convert.specs.Conversions.{Declares, HasFirstFault, Unfit, TextOf, IsConversion, IsComparison, IsTestOfText, IsErrUnless}
+use Rattle.mpslp_convert.specs.declared.faults.ConvertFault.{ConvertFault}
+use Rattle.mpslp_convert.specs.declared.faults.ConvertFault.TheVariants.{First, Second, NotLp, OutOfMemory}
+use Rattle.mpslp_c.specs.Answers.{IsTextTold, IsTruthTold, IsUnless, IsTruthUnless, IsConverted, IsCompared, IsTested, fault_status}
+use Rattle.mpslp_c.specs.declared.answers.TheConstants.{OK}
+use Rattle.mpslp_c.specs.declared.calls.MpslpText.{MpslpText}
+use Rattle.mpslp_c.specs.declared.faults.MpslpFault.{MpslpFault}
+
+-- a text that is not refused is given, unless there was no memory
+text_accepted : (answer : Result (Vec ℕ Global) ConvertFault) (status : ℕ) (out out' : MpslpText) (fault fault' : MpslpFault)
+    → IsOkUnless answer OutOfMemory → IsTextTold answer status out out' fault fault' → IsUnless OK status
+text_accepted (Ok text) status out out' fault fault' accepted told = inl told.0
+text_accepted (Err why) status out out' fault fault' accepted told = inr (told.0 ∙ ap fault_status accepted)
+
+-- a fault that is found gives its status
+text_refused : (answer : Result (Vec ℕ Global) ConvertFault) (why : ConvertFault) (status : ℕ) (out out' : MpslpText) (fault fault' : MpslpFault)
+    → IsErrUnless answer why OutOfMemory → IsTextTold answer status out out' fault fault' → IsUnless (fault_status why) status
+text_refused (Ok text) why status out out' fault fault' refused told = absurd refused
+text_refused (Err found) why status out out' fault fault' (inl same) told = inl (told.0 ∙ ap fault_status same)
+text_refused (Err found) why status out out' fault fault' (inr memory) told = inr (told.0 ∙ ap fault_status memory)
+
+-- the same of yes and no
+truth_accepted : (answer : Result Bool ConvertFault) (status : ℕ) (fault fault' : MpslpFault)
+    → IsOkUnless answer OutOfMemory → IsTruthTold answer status fault fault' → IsTruthUnless status
+truth_accepted (Ok true) status fault fault' accepted told = inl told.0
+truth_accepted (Ok false) status fault fault' accepted told = inr (inl told.0)
+truth_accepted (Err why) status fault fault' accepted told = inr (inr (told.0 ∙ ap fault_status accepted))
+
+truth_refused : (answer : Result Bool ConvertFault) (why : ConvertFault) (status : ℕ) (fault fault' : MpslpFault)
+    → IsErrUnless answer why OutOfMemory → IsTruthTold answer status fault fault' → IsUnless (fault_status why) status
+truth_refused (Ok is_true) why status fault fault' refused told = absurd refused
+truth_refused (Err found) why status fault fault' (inl same) told = inl (told.0 ∙ ap fault_status same)
+truth_refused (Err found) why status fault fault' (inr memory) told = inr (told.0 ∙ ap fault_status memory)
+
+-- ---- the calls
+
+pub converted : (declares : Declares) (first_fault : HasFirstFault) (unfit : Unfit) (text : TextOf) (bytes : List ℕ)
+    (answer : Result (Vec ℕ Global) ConvertFault) (status : ℕ) (out out' : MpslpText) (fault fault' : MpslpFault)
+    → IsConversion declares first_fault unfit text bytes answer
+    → ((m : LinearModel) → declares bytes m → unfit m ≡ None → IsOkUnless answer OutOfMemory)
+    → ((first : Fault) → first_fault bytes first → IsErrUnless answer (First first) OutOfMemory)
+    → ((m : LinearModel) (place : NameAt) → declares bytes m → unfit m ≡ Some place → IsErrUnless answer (NotLp place) OutOfMemory)
+    → IsTextTold answer status out out' fault fault'
+    → IsConverted declares first_fault unfit text bytes status out out' fault fault'
+converted declares first_fault unfit text bytes answer status out out' fault fault' is accepts refuses cannot_tell told = record {
+  answer = answer;
+  is = is;
+  told = told;
+  accepts = λ m declared fits. text_accepted answer status out out' fault fault' (accepts m declared fits) told;
+  refuses = λ first found. text_refused answer (First first) status out out' fault fault' (refuses first found) told;
+  cannot_tell = λ m place declared found. text_refused answer (NotLp place) status out out' fault fault' (cannot_tell m place declared found) told;
+}
+
+pub compared : (declares : Declares) (first_fault : HasFirstFault) (declares' : Declares) (first_fault' : HasFirstFault) (first second : List ℕ)
+    (answer : Result Bool ConvertFault) (status : ℕ) (fault fault' : MpslpFault)
+    → IsComparison declares first_fault declares' first_fault' first second answer
+    → ((m n : LinearModel) → declares first m → declares' second n → IsOkUnless answer OutOfMemory)
+    → ((found : Fault) → first_fault first found → IsErrUnless answer (First found) OutOfMemory)
+    → ((m : LinearModel) (found : Fault) → declares first m → first_fault' second found → IsErrUnless answer (Second found) OutOfMemory)
+    → IsTruthTold answer status fault fault'
+    → IsCompared declares first_fault declares' first_fault' first second status fault fault'
+compared declares first_fault declares' first_fault' first second answer status fault fault' is accepts refuses refuses_second told = record {
+  answer = answer;
+  is = is;
+  told = told;
+  accepts = λ m n one other. truth_accepted answer status fault fault' (accepts m n one other) told;
+  refuses = λ found has. truth_refused answer (First found) status fault fault' (refuses found has) told;
+  refuses_second = λ m found declared has. truth_refused answer (Second found) status fault fault' (refuses_second m found declared has) told;
+}
+
+pub tested : (declares : Declares) (first_fault : HasFirstFault) (text : TextOf) (bytes : List ℕ)
+    (answer : Result Bool ConvertFault) (status : ℕ) (fault fault' : MpslpFault)
+    → IsTestOfText declares first_fault text bytes answer
+    → ((m : LinearModel) → declares bytes m → IsOkUnless answer OutOfMemory)
+    → ((found : Fault) → first_fault bytes found → IsErrUnless answer (First found) OutOfMemory)
+    → IsTruthTold answer status fault fault'
+    → IsTested declares first_fault text bytes status fault fault'
+tested declares first_fault text bytes answer status fault fault' is accepts refuses told = record {
+  answer = answer;
+  is = is;
+  told = told;
+  accepts = λ m declared. truth_accepted answer status fault fault' (accepts m declared) told;
+  refuses = λ found has. truth_refused answer (First found) status fault fault' (refuses found has) told;
+}

@@ -1,0 +1,101 @@
+-- What callers in C are answered.
+use Rattle.std.specs.Prelude.{◌≡◌, ◌⊎◌, ℕ, zero, suc, List, Bool, true, false, Option, None, Some, Result, Ok, Err, Vec}
+use Rattle.std.specs.declared.alloc.Global.{Global}
+use Rattle.mpslp_core.specs.Model.{LinearModel}
+use Rattle.mpslp_types.specs.declared.faults.Fault.{Fault}
+use Rattle.mpslp_types.specs.declared.faults.NameAt.{NameAt}
+use Rattle.mpslp_command.specs.declared.jobs.Form.{Form}
+use Rattle.mpslp_command.specs.declared.jobs.Form.TheVariants.{Mps, Lp}
+use Rattle.mpslp_convert.specs.Conversions.{Declares, HasFirstFault, Unfit, TextOf, IsConversion, IsComparison, IsTestOfText}
+use Rattle.mpslp_convert.specs.Performed.{declares_in, first_fault_in, unfit_in, text_in}
+use Rattle.mpslp_convert.specs.declared.faults.ConvertFault.{ConvertFault}
+use Rattle.mpslp_convert.specs.declared.faults.ConvertFault.TheVariants.{First, Second, NotLp, OutOfMemory}
+use Rattle.mpslp_c.specs.Faults.{IsFaultTold}
+use Rattle.mpslp_c.specs.declared.answers.TheConstants.{OK, DIFFERS, REFUSED, SECOND_REFUSED, NOT_LP, OUT_OF_MEMORY, UNKNOWN_FORMAT}
+use Rattle.mpslp_c.specs.declared.calls.MpslpText.{MpslpText}
+use Rattle.mpslp_c.specs.declared.faults.MpslpFault.{MpslpFault}
+
+-- the format of a number
+abbrev pub form_of : ℕ → Option Form
+form_of zero = Some Mps
+form_of (suc zero) = Some Lp
+form_of (suc (suc n)) = None
+
+-- ---- statuses
+
+abbrev pub fault_status : ConvertFault → ℕ
+fault_status (First fault) = REFUSED
+fault_status (Second fault) = SECOND_REFUSED
+fault_status (NotLp place) = NOT_LP
+fault_status OutOfMemory = OUT_OF_MEMORY
+
+abbrev pub truth_status : Bool → ℕ
+truth_status true = OK
+truth_status false = DIFFERS
+
+-- The status is this one, or that of want of memory.
+abbrev pub IsUnless : ℕ → ℕ → Type 0
+IsUnless status result = (result ≡ status) ⊎ (result ≡ OUT_OF_MEMORY)
+
+-- The status is that of yes, of no, or of want of memory.
+abbrev pub IsTruthUnless : ℕ → Type 0
+IsTruthUnless result = (result ≡ OK) ⊎ ((result ≡ DIFFERS) ⊎ (result ≡ OUT_OF_MEMORY))
+
+-- ---- how answers are handed on
+
+-- A text is given, or it is told why there is none. What is not given or told stays as it is.
+abbrev pub IsTextTold : Result (Vec ℕ Global) ConvertFault → ℕ → MpslpText → MpslpText → MpslpFault → MpslpFault → Type 0
+IsTextTold (Ok text) status out out' fault fault' = (status ≡ OK) × (out'.bytes.now ≡ text.items) × (fault' ≡ fault)
+IsTextTold (Err why) status out out' fault fault' = (status ≡ fault_status why) × (out' ≡ out) × IsFaultTold why fault fault'
+
+-- Yes or no is answered, or it is told why neither is.
+abbrev pub IsTruthTold : Result Bool ConvertFault → ℕ → MpslpFault → MpslpFault → Type 0
+IsTruthTold (Ok is_true) status fault fault' = (status ≡ truth_status is_true) × (fault' ≡ fault)
+IsTruthTold (Err why) status fault fault' = (status ≡ fault_status why) × IsFaultTold why fault fault'
+
+-- ---- the calls
+
+-- A conversion had an answer, and it was handed on. Bytes that declare a model which the format can tell are never
+-- refused, and so on.
+pub record IsConverted (declares : Declares) (first_fault : HasFirstFault) (unfit : Unfit) (text : TextOf) (bytes : List ℕ)
+    (status : ℕ) (out out' : MpslpText) (fault fault' : MpslpFault) : Type 0 where
+  pub answer : Result (Vec ℕ Global) ConvertFault
+  pub is : IsConversion declares first_fault unfit text bytes answer
+  pub told : IsTextTold answer status out out' fault fault'
+  pub accepts : (m : LinearModel) → declares bytes m → unfit m ≡ None → IsUnless OK status
+  pub refuses : (first : Fault) → first_fault bytes first → IsUnless REFUSED status
+  pub cannot_tell : (m : LinearModel) (place : NameAt) → declares bytes m → unfit m ≡ Some place → IsUnless NOT_LP status
+
+abbrev pub IsCanonicalAnswer : Option Form → Option Form → List ℕ → ℕ → MpslpText → MpslpText → MpslpFault → MpslpFault → Type 0
+IsCanonicalAnswer (Some from) (Some to) bytes status out out' fault fault' =
+    IsConverted (declares_in from) (first_fault_in from) (unfit_in to) (text_in to) bytes status out out' fault fault'
+IsCanonicalAnswer _ _ bytes status out out' fault fault' = (status ≡ UNKNOWN_FORMAT) × (out' ≡ out) × (fault' ≡ fault)
+
+-- A comparison of two texts had an answer, and it was handed on.
+pub record IsCompared (declares : Declares) (first_fault : HasFirstFault) (declares' : Declares) (first_fault' : HasFirstFault)
+    (first second : List ℕ) (status : ℕ) (fault fault' : MpslpFault) : Type 0 where
+  pub answer : Result Bool ConvertFault
+  pub is : IsComparison declares first_fault declares' first_fault' first second answer
+  pub told : IsTruthTold answer status fault fault'
+  pub accepts : (m n : LinearModel) → declares first m → declares' second n → IsTruthUnless status
+  pub refuses : (found : Fault) → first_fault first found → IsUnless REFUSED status
+  pub refuses_second : (m : LinearModel) (found : Fault) → declares first m → first_fault' second found → IsUnless SECOND_REFUSED status
+
+abbrev pub IsSameAnswer : Option Form → Option Form → List ℕ → List ℕ → ℕ → MpslpFault → MpslpFault → Type 0
+IsSameAnswer (Some one) (Some other) first second status fault fault' =
+    IsCompared (declares_in one) (first_fault_in one) (declares_in other) (first_fault_in other) first second status fault fault'
+IsSameAnswer _ _ first second status fault fault' = (status ≡ UNKNOWN_FORMAT) × (fault' ≡ fault)
+
+-- A text was compared with that of its model, and the answer handed on.
+pub record IsTested (declares : Declares) (first_fault : HasFirstFault) (text : TextOf) (bytes : List ℕ) (status : ℕ) (fault fault' : MpslpFault)
+    : Type 0 where
+  pub answer : Result Bool ConvertFault
+  pub is : IsTestOfText declares first_fault text bytes answer
+  pub told : IsTruthTold answer status fault fault'
+  pub accepts : (m : LinearModel) → declares bytes m → IsTruthUnless status
+  pub refuses : (found : Fault) → first_fault bytes found → IsUnless REFUSED status
+
+abbrev pub IsTestAnswer : Option Form → List ℕ → ℕ → MpslpFault → MpslpFault → Type 0
+IsTestAnswer (Some form) bytes status fault fault' =
+    IsTested (declares_in form) (first_fault_in form) (text_in form) bytes status fault fault'
+IsTestAnswer None bytes status fault fault' = (status ≡ UNKNOWN_FORMAT) × (fault' ≡ fault)

@@ -1,0 +1,187 @@
+//! What the calls of the library answer of a text: another text, or the line of a fault.
+
+use mpslp_convert::{
+    ConvertFault, Form, RunFault, canonical, is_canonical, report, run, same_model, show,
+};
+use mpslp_model::{Format, Model, ModelReader, ReadFault, Sink, Source, ToWrite};
+use mpslp_vectors::FailingReader;
+use mpslp_write::{Lp, Mps};
+use std::alloc::Global;
+
+/// Room for every text here.
+pub(crate) const MUCH: u64 = 4_000_000;
+
+/// A text, or the line of a fault in its place.
+#[derive(Drop)]
+pub(crate) struct Answer {
+    pub(crate) is_fault: bool,
+    pub(crate) text: Vec<u8>,
+}
+
+impl Answer {
+    pub(crate) fn is(&self, other: &Answer) -> bool {
+        self.is_fault == other.is_fault && self.text.as_slice() == other.text.as_slice()
+    }
+
+    /// Of a run that has written so much.
+    fn of_run(answer: Result<(), RunFault>, written: Vec<u8>) -> Answer {
+        let Err(fault) = answer else {
+            return Answer {
+                is_fault: false,
+                text: written,
+            };
+        };
+        let mut sink = ToWrite::new(written);
+        let _ = report(&fault, &mut sink);
+        Answer {
+            is_fault: true,
+            text: sink.into_inner(),
+        }
+    }
+}
+
+/// The same fault, of a run that has one input.
+fn fault_of_run(fault: ConvertFault) -> RunFault {
+    match fault {
+        ConvertFault::First(fault) => RunFault::File(fault),
+        ConvertFault::Second(fault) => RunFault::File(fault),
+        ConvertFault::NotLp(place) => RunFault::NotLp(place),
+        ConvertFault::OutOfMemory => RunFault::OutOfMemory,
+    }
+}
+
+/// The line of a fault.
+pub(crate) fn line_of(alloc: Global, fault: ConvertFault) -> Answer {
+    Answer::of_run(Err(fault_of_run(fault)), Vec::new(alloc))
+}
+
+fn canonical_of<A: Format, B: Format>(alloc: Global, text: &[u8]) -> Answer {
+    match canonical::<A, B>(alloc, text) {
+        Ok(text) => Answer {
+            is_fault: false,
+            text,
+        },
+        Err(fault) => line_of(alloc, fault),
+    }
+}
+
+/// What `canonical` answers.
+pub(crate) fn canonical_in(alloc: Global, from: Form, to: Form, text: &[u8]) -> Answer {
+    match (from, to) {
+        (Form::Mps, Form::Mps) => canonical_of::<Mps, Mps>(alloc, text),
+        (Form::Mps, Form::Lp) => canonical_of::<Mps, Lp>(alloc, text),
+        (Form::Lp, Form::Mps) => canonical_of::<Lp, Mps>(alloc, text),
+        (Form::Lp, Form::Lp) => canonical_of::<Lp, Lp>(alloc, text),
+    }
+}
+
+/// What `is_canonical` answers.
+pub(crate) fn is_canonical_in(
+    alloc: Global,
+    form: Form,
+    text: &[u8],
+) -> Result<bool, ConvertFault> {
+    match form {
+        Form::Mps => is_canonical::<Mps>(alloc, text),
+        Form::Lp => is_canonical::<Lp>(alloc, text),
+    }
+}
+
+/// What `same_model` answers.
+pub(crate) fn same_in(
+    alloc: Global,
+    first_form: Form,
+    first: &[u8],
+    second_form: Form,
+    second: &[u8],
+) -> Result<bool, ConvertFault> {
+    match (first_form, second_form) {
+        (Form::Mps, Form::Mps) => same_model::<Mps, Mps>(alloc, first, second),
+        (Form::Mps, Form::Lp) => same_model::<Mps, Lp>(alloc, first, second),
+        (Form::Lp, Form::Mps) => same_model::<Lp, Mps>(alloc, first, second),
+        (Form::Lp, Form::Lp) => same_model::<Lp, Lp>(alloc, first, second),
+    }
+}
+
+/// What `run` answers.
+pub(crate) fn run_in<R: Source, W: Sink>(
+    alloc: Global,
+    max_bytes: u64,
+    from: Form,
+    to: Form,
+    source: &mut R,
+    sink: &mut W,
+) -> Result<(), RunFault> {
+    match (from, to) {
+        (Form::Mps, Form::Mps) => run::<Mps, Mps, R, W>(alloc, max_bytes, source, sink),
+        (Form::Mps, Form::Lp) => run::<Mps, Lp, R, W>(alloc, max_bytes, source, sink),
+        (Form::Lp, Form::Mps) => run::<Lp, Mps, R, W>(alloc, max_bytes, source, sink),
+        (Form::Lp, Form::Lp) => run::<Lp, Lp, R, W>(alloc, max_bytes, source, sink),
+    }
+}
+
+/// What `show` answers.
+pub(crate) fn show_in<R: Source, W: Sink>(
+    alloc: Global,
+    from: Form,
+    source: &mut R,
+    sink: &mut W,
+) -> Result<(), RunFault> {
+    match from {
+        Form::Mps => show::<Mps, R, W>(alloc, MUCH, source, sink),
+        Form::Lp => show::<Lp, R, W>(alloc, MUCH, source, sink),
+    }
+}
+
+/// What a run gives whose input comes in pieces of so many bytes at most, and may have so many in all.
+pub(crate) fn run_of(
+    alloc: Global,
+    max_bytes: u64,
+    from: Form,
+    to: Form,
+    text: &[u8],
+    piece: usize,
+) -> Answer {
+    let mut source = FailingReader::new(text, piece, 0);
+    let mut sink = ToWrite::new(Vec::new(alloc));
+    let answer = run_in(alloc, max_bytes, from, to, &mut source, &mut sink);
+    Answer::of_run(answer, sink.into_inner())
+}
+
+/// What shows the model of an input that comes in pieces of so many bytes at most.
+pub(crate) fn shown_of(alloc: Global, from: Form, text: &[u8], piece: usize) -> Answer {
+    let mut source = FailingReader::new(text, piece, 0);
+    let mut sink = ToWrite::new(Vec::new(alloc));
+    let answer = show_in(alloc, from, &mut source, &mut sink);
+    Answer::of_run(answer, sink.into_inner())
+}
+
+/// The model of a text whose reader is fed two pieces.
+fn fed<A: Format>(alloc: Global, first: &[u8], second: &[u8]) -> Result<Model, ReadFault> {
+    let mut reader = <A::Reader as ModelReader>::new(alloc);
+    reader.feed(first)?;
+    reader.feed(second)?;
+    reader.finish()
+}
+
+/// The canonical MPS of a text whose reader is fed two pieces.
+fn fed_of<A: Format>(alloc: Global, first: &[u8], second: &[u8]) -> Answer {
+    let mut sink = ToWrite::new(Vec::new(alloc));
+    let answer = match fed::<A>(alloc, first, second) {
+        Ok(model) => match Mps::write(&model, &mut sink) {
+            Ok(()) => Ok(()),
+            Err(_) => Err(RunFault::OutOfMemory),
+        },
+        Err(ReadFault::File(fault)) => Err(RunFault::File(fault)),
+        Err(_) => Err(RunFault::OutOfMemory),
+    };
+    Answer::of_run(answer, sink.into_inner())
+}
+
+/// The canonical MPS of a text whose reader is fed two pieces.
+pub(crate) fn fed_in(alloc: Global, form: Form, first: &[u8], second: &[u8]) -> Answer {
+    match form {
+        Form::Mps => fed_of::<Mps>(alloc, first, second),
+        Form::Lp => fed_of::<Lp>(alloc, first, second),
+    }
+}

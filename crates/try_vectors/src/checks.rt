@@ -1,0 +1,131 @@
+//! What is checked of an input.
+
+use crate::answers::{
+    MUCH, canonical_in, fed_in, is_canonical_in, line_of, run_of, same_in, shown_of,
+};
+use crate::tables::{Entry, Expected};
+use mpslp_convert::{ConvertFault, Form};
+use std::alloc::Global;
+
+/// Each format of model files.
+const FORMS: [Form; 2] = [Form::Mps, Form::Lp];
+
+/// Whether a text is converted as it should be: as a whole, in memory, and in pieces of 1 and of 7 bytes.
+pub(crate) fn is_converted(alloc: Global, form: Form, text: &[u8], expected: &Expected) -> bool {
+    for to in FORMS {
+        let wanted = expected.answer_in(to);
+        if !canonical_in(alloc, form, to, text).is(wanted) {
+            return false;
+        }
+        for piece in [usize::MAX, 1, 7] {
+            if !run_of(alloc, MUCH, form, to, text, piece).is(wanted) {
+                return false;
+            }
+        }
+    }
+    true
+}
+
+/// Whether a text is converted as it should be where its bytes come as a whole, and in pieces of 4,096 bytes.
+pub(crate) fn is_converted_in_large_pieces(
+    alloc: Global,
+    form: Form,
+    text: &[u8],
+    expected: &Expected,
+) -> bool {
+    for to in FORMS {
+        let wanted = expected.answer_in(to);
+        for piece in [usize::MAX, 4_096] {
+            if !run_of(alloc, MUCH, form, to, text, piece).is(wanted) {
+                return false;
+            }
+        }
+    }
+    true
+}
+
+/// Whether the model of a text is shown as it should be, or its fault told.
+pub(crate) fn is_shown(alloc: Global, form: Form, text: &[u8], expected: &Expected) -> bool {
+    let Some(wanted) = &expected.shown else {
+        return true;
+    };
+    for piece in [usize::MAX, 1, 7] {
+        if !shown_of(alloc, form, text, piece).is(wanted) {
+            return false;
+        }
+    }
+    true
+}
+
+/// Whether a reader that is fed the text in two pieces answers the same, wherever it is cut.
+pub(crate) fn is_read_in_two_pieces(
+    alloc: Global,
+    form: Form,
+    text: &[u8],
+    expected: &Expected,
+) -> bool {
+    for len in 0..text.len() {
+        if !fed_in(alloc, form, &text[..len], &text[len..]).is(&expected.mps) {
+            return false;
+        }
+    }
+    true
+}
+
+/// Whether an input may have as many bytes as it has, and no fewer.
+pub(crate) fn is_too_long_by_one(alloc: Global, entry: &Entry) -> bool {
+    let text = entry.text.as_slice();
+    let len = text.len() as u64;
+    if !run_of(alloc, len, entry.form, Form::Mps, text, 7).is(&entry.expected.mps) {
+        return false;
+    }
+    if len == 0 {
+        return true;
+    }
+    let answer = run_of(alloc, len - 1, entry.form, Form::Mps, text, 7);
+    answer.is_fault && answer.text.as_slice() == b"file: TooLong\n".as_slice()
+}
+
+/// Whether the canonical texts of an entry's model are their own, and come back from the other format.
+pub(crate) fn keeps_its_texts(alloc: Global, entry: &Entry) -> bool {
+    for form in FORMS {
+        let answer = entry.answer_in(form);
+        if !answer.is_fault {
+            let text = answer.text.as_slice();
+            if !is_converted(alloc, form, text, &entry.expected) {
+                return false;
+            }
+            if !matches!(is_canonical_in(alloc, form, text), Ok(true)) {
+                return false;
+            }
+        }
+    }
+    true
+}
+
+/// Whether it is told if an input is its own canonical text, or its fault.
+pub(crate) fn is_judged(alloc: Global, entry: &Entry) -> bool {
+    let wanted = entry.answer_in(entry.form);
+    match is_canonical_in(alloc, entry.form, &entry.text) {
+        Ok(is_own) => is_own == (wanted.text.as_slice() == entry.text.as_slice()),
+        Err(fault) => !entry.is_model() && line_of(alloc, fault).is(wanted),
+    }
+}
+
+/// Whether two inputs compare as their canonical texts do; a fault of the first is told before one of the second.
+pub(crate) fn compares(alloc: Global, first: &Entry, second: &Entry) -> bool {
+    let one = &first.expected.mps;
+    let other = &second.expected.mps;
+    match same_in(alloc, first.form, &first.text, second.form, &second.text) {
+        Ok(is_same) => {
+            first.is_model()
+                && second.is_model()
+                && is_same == (one.text.as_slice() == other.text.as_slice())
+        }
+        Err(ConvertFault::First(fault)) => line_of(alloc, ConvertFault::First(fault)).is(one),
+        Err(ConvertFault::Second(fault)) => {
+            first.is_model() && line_of(alloc, ConvertFault::Second(fault)).is(other)
+        }
+        Err(_) => false,
+    }
+}

@@ -1,0 +1,286 @@
+//! Tries the calls of the library on the files of `vectors/`, whose README says what is to be answered of each.
+//!
+//! It is run in that folder, and ends with 1 where the tables are not there. For each table it prints how many inputs were
+//! tried; each answer that is another one is told on standard error by the name of its input, and then it ends with 1.
+#![tactic(auto)]
+
+mod answers;
+mod checks;
+mod failing;
+mod tables;
+
+use checks::{
+    compares, is_converted, is_converted_in_large_pieces, is_judged, is_read_in_two_pieces,
+    is_shown, is_too_long_by_one, keeps_its_texts,
+};
+use failing::{shows_after_each_byte, stops_after_each_byte, stops_in_each_read};
+use mpslp_convert::Form;
+use std::alloc::Global;
+use std::io;
+use std::process::ExitCode;
+use std::rt::Files;
+use tables::{
+    Entry, Expected, content, entries, entry_named, entry_of_text, field, fields, form_of, number,
+    table,
+};
+
+/// What was tried, and what was answered in another way.
+#[derive(Drop)]
+struct Tally {
+    tried: u64,
+    wrong: u64,
+}
+
+impl Tally {
+    fn new() -> Tally {
+        Tally { tried: 0, wrong: 0 }
+    }
+
+    /// Counts what was tried of an input, and tells it where it is wrong.
+    fn note<R: Eprint>(
+        &mut self,
+        rt: &R,
+        is_right: bool,
+        place: &str,
+        what: &str,
+    ) -> io::Result<()> {
+        self.tried = self.tried.saturating_add(1);
+        if is_right {
+            return Ok(());
+        }
+        self.wrong = self.wrong.saturating_add(1);
+        eprintln!(rt; "{place}: {what}")
+    }
+
+    /// Tells how much was tried of a table, and whether all of it is right.
+    fn end<R: Print>(&self, rt: &R, what: &str) -> io::Result<bool> {
+        println!(rt;
+            "{what}: {} tried, {} answered in another way",
+            self.tried, self.wrong
+        )?;
+        Ok(self.wrong == 0)
+    }
+}
+
+/// Tries an input of the index.
+fn try_entry<R: Eprint>(rt: &R, alloc: Global, tally: &mut Tally, entry: &Entry) -> io::Result<()> {
+    let name = entry.name.as_str();
+    let text = entry.text.as_slice();
+    let expected = &entry.expected;
+    tally.note(
+        rt,
+        is_converted(alloc, entry.form, text, expected),
+        name,
+        "converted",
+    )?;
+    tally.note(
+        rt,
+        is_shown(alloc, entry.form, text, expected),
+        name,
+        "shown",
+    )?;
+    tally.note(
+        rt,
+        is_read_in_two_pieces(alloc, entry.form, text, expected),
+        name,
+        "read in two pieces",
+    )?;
+    tally.note(rt, is_too_long_by_one(alloc, entry), name, "limited")?;
+    tally.note(rt, is_judged(alloc, entry), name, "judged")?;
+    tally.note(
+        rt,
+        keeps_its_texts(alloc, entry),
+        name,
+        "converted and back",
+    )
+}
+
+/// Tries each input of the index.
+fn try_index<R: Print + Eprint>(rt: &R, alloc: Global, entries: &[Entry]) -> io::Result<bool> {
+    let mut tally = Tally::new();
+    for entry in entries {
+        try_entry(rt, alloc, &mut tally, entry)?;
+    }
+    tally.end(rt, "inputs")
+}
+
+/// Tries each two inputs of the index.
+fn try_pairs<R: Print + Eprint>(rt: &R, alloc: Global, entries: &[Entry]) -> io::Result<bool> {
+    let mut tally = Tally::new();
+    for first in entries {
+        for second in entries {
+            let is_right = compares(alloc, first, second);
+            tally.note(rt, is_right, first.name.as_str(), second.name.as_str())?;
+        }
+    }
+    tally.end(rt, "comparisons")
+}
+
+/// Tries each input of the index with devices that fail.
+fn try_failing<R: Print + Eprint>(rt: &R, alloc: Global, entries: &[Entry]) -> io::Result<bool> {
+    let mut tally = Tally::new();
+    for entry in entries {
+        let name = entry.name.as_str();
+        tally.note(rt, stops_in_each_read(alloc, entry), name, "failing reads")?;
+        tally.note(
+            rt,
+            stops_after_each_byte(alloc, entry, Form::Mps),
+            name,
+            "failing writes of MPS",
+        )?;
+        tally.note(
+            rt,
+            stops_after_each_byte(alloc, entry, Form::Lp),
+            name,
+            "failing writes of LP",
+        )?;
+        tally.note(
+            rt,
+            shows_after_each_byte(alloc, entry),
+            name,
+            "failing writes of what is shown",
+        )?;
+    }
+    tally.end(rt, "failing devices")
+}
+
+/// Tries the inputs of a line of `cuts.tsv`.
+fn try_cuts_of<R: Files + Eprint>(
+    rt: &R,
+    alloc: Global,
+    tally: &mut Tally,
+    entries: &[Entry],
+    line: &str,
+) -> io::Result<()> {
+    let fields = fields(alloc, line)?;
+    let name = field(&fields, 0)?;
+    let form = form_of(name);
+    let text = content(rt, alloc, name)?;
+    let answer = field(&fields, 3)?;
+    let refused = Expected::fault(alloc, answer)?;
+    let expected = if answer == "model" {
+        &entry_of_text(entries, form, &text)?.expected
+    } else {
+        &refused
+    };
+    for len in number(&fields, 1)?..=number(&fields, 2)? {
+        let cut = &text[..len.min(text.len())];
+        tally.note(rt, is_converted(alloc, form, cut, expected), name, line)?;
+    }
+    Ok(())
+}
+
+fn try_cuts<R: Files + Print + Eprint>(
+    rt: &R,
+    alloc: Global,
+    entries: &[Entry],
+) -> io::Result<bool> {
+    let mut tally = Tally::new();
+    for line in table(rt, alloc, "cuts.tsv")?.as_str().lines().skip(1) {
+        try_cuts_of(rt, alloc, &mut tally, entries, line)?;
+    }
+    tally.end(rt, "cuts")
+}
+
+/// Tries the inputs of a line of `single-bytes.tsv`.
+fn try_bytes_of<R: Eprint>(rt: &R, alloc: Global, tally: &mut Tally, line: &str) -> io::Result<()> {
+    let fields = fields(alloc, line)?;
+    let form = form_of(field(&fields, 0)?);
+    let expected = Expected::fault(alloc, field(&fields, 3)?)?;
+    for byte in number(&fields, 1)?..=number(&fields, 2)? {
+        let text = [(byte % 256) as u8];
+        tally.note(
+            rt,
+            is_converted(alloc, form, &text, &expected),
+            line,
+            "single byte",
+        )?;
+    }
+    Ok(())
+}
+
+fn try_bytes<R: Files + Print + Eprint>(rt: &R, alloc: Global) -> io::Result<bool> {
+    let mut tally = Tally::new();
+    for line in table(rt, alloc, "single-bytes.tsv")?
+        .as_str()
+        .lines()
+        .skip(1)
+    {
+        try_bytes_of(rt, alloc, &mut tally, line)?;
+    }
+    tally.end(rt, "single bytes")
+}
+
+/// The input of a line of `long-lines.tsv`: a comment, and the text behind it.
+fn behind_comment(alloc: Global, fields: &[&str], text: &[u8]) -> io::Result<Vec<u8>> {
+    let mut bytes = field(fields, 0)?.as_bytes().to_vec(alloc)?;
+    let further = field(fields, 1)?.as_bytes();
+    for _ in 1..number(fields, 2)? {
+        bytes.extend_from_slice(further)?;
+    }
+    let end: &[u8] = if field(fields, 3)? == "LF" {
+        b"\n"
+    } else {
+        b"\r\n"
+    };
+    bytes.extend_from_slice(end)?;
+    bytes.extend_from_slice(text)?;
+    Ok(bytes)
+}
+
+/// Tries the input of a line of `long-lines.tsv`.
+fn try_long_line<R: Eprint>(
+    rt: &R,
+    alloc: Global,
+    tally: &mut Tally,
+    entries: &[Entry],
+    line: &str,
+) -> io::Result<()> {
+    let fields = fields(alloc, line)?;
+    let entry = entry_named(entries, field(&fields, 4)?)?;
+    let text = behind_comment(alloc, &fields, &entry.text)?;
+    let answer = field(&fields, 5)?;
+    let refused = Expected::fault(alloc, answer)?;
+    let expected = if answer == "model" {
+        &entry.expected
+    } else {
+        &refused
+    };
+    tally.note(
+        rt,
+        is_converted_in_large_pieces(alloc, entry.form, &text, expected),
+        line,
+        "long line",
+    )
+}
+
+fn try_long_lines<R: Files + Print + Eprint>(
+    rt: &R,
+    alloc: Global,
+    entries: &[Entry],
+) -> io::Result<bool> {
+    let mut tally = Tally::new();
+    for line in table(rt, alloc, "long-lines.tsv")?.as_str().lines().skip(1) {
+        try_long_line(rt, alloc, &mut tally, entries, line)?;
+    }
+    tally.end(rt, "long lines")
+}
+
+/// Whether all is answered as it should be.
+fn try_all<R: Files + Print + Eprint>(rt: &R, alloc: Global) -> io::Result<bool> {
+    let entries = entries(rt, alloc)?;
+    let parts = [
+        try_index(rt, alloc, &entries)?,
+        try_pairs(rt, alloc, &entries)?,
+        try_failing(rt, alloc, &entries)?,
+        try_cuts(rt, alloc, &entries)?,
+        try_bytes(rt, alloc)?,
+        try_long_lines(rt, alloc, &entries)?,
+    ];
+    Ok(!parts.contains(&false))
+}
+
+fn main(rt: HostRuntime) -> io::Result<ExitCode> {
+    let is_right = try_all(&rt, rt.alloc())?;
+    Ok(ExitCode::from(if is_right { 0 } else { 1 }))
+}

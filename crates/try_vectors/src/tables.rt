@@ -1,0 +1,205 @@
+//! The tables of `vectors/` and the files that they name.
+
+use crate::answers::Answer;
+use mpslp_convert::Form;
+use std::alloc::{AllocError, Global};
+use std::io::{Error, ErrorKind, Read};
+use std::rt::Files;
+use std::{fs, io};
+
+/// What is to be answered of an input.
+#[derive(Drop)]
+pub(crate) struct Expected {
+    /// By a conversion to MPS.
+    pub(crate) mps: Answer,
+    /// By a conversion to LP.
+    pub(crate) lp: Answer,
+    /// By what shows its model, where the tables tell that.
+    pub(crate) shown: Option<Answer>,
+}
+
+/// An input with what is to be answered of it.
+#[derive(Drop)]
+pub(crate) struct Entry {
+    pub(crate) name: String,
+    pub(crate) form: Form,
+    pub(crate) text: Vec<u8>,
+    pub(crate) expected: Expected,
+}
+
+fn bad_table() -> Error {
+    Error::from(ErrorKind::InvalidData)
+}
+
+/// The bytes of a file.
+pub(crate) fn content<R: Files>(rt: &R, alloc: Global, path: &str) -> io::Result<Vec<u8>> {
+    let mut text = Vec::new(alloc);
+    fs::open(rt, path)?.read_to_end(&mut text)?;
+    Ok(text)
+}
+
+/// The text of a table.
+pub(crate) fn table<R: Files>(rt: &R, alloc: Global, path: &str) -> io::Result<String> {
+    let mut text = String::new(alloc);
+    fs::open(rt, path)?.read_to_string(&mut text)?;
+    Ok(text)
+}
+
+/// The fields of a line.
+pub(crate) fn fields(alloc: Global, line: &str) -> Result<Vec<&str>, AllocError> {
+    line.split('\t').collect(alloc)
+}
+
+/// The field of this number.
+pub(crate) fn field<'a>(fields: &[&'a str], number: usize) -> io::Result<&'a str> {
+    match fields.get(number) {
+        Some(field) => Ok(*field),
+        None => Err(bad_table()),
+    }
+}
+
+/// The field of this number, as a number.
+pub(crate) fn number(fields: &[&str], number: usize) -> io::Result<usize> {
+    match field(fields, number)?.parse::<usize>() {
+        Ok(number) => Ok(number),
+        Err(_) => Err(bad_table()),
+    }
+}
+
+/// The format of a file is the end of its name.
+pub(crate) fn form_of(name: &str) -> Form {
+    if name.ends_with("lp") {
+        Form::Lp
+    } else {
+        Form::Mps
+    }
+}
+
+/// The line of a fault.
+fn fault_line(alloc: Global, line: &str) -> Result<Answer, AllocError> {
+    let mut text = line.as_bytes().to_vec(alloc)?;
+    text.extend_from_slice(b"\n")?;
+    Ok(Answer {
+        is_fault: true,
+        text,
+    })
+}
+
+/// The text of a file, or the line of the fault that stands in the place of its name.
+fn named<R: Files>(rt: &R, alloc: Global, name: &str) -> io::Result<Answer> {
+    if name.ends_with(": NotLp") {
+        return Ok(fault_line(alloc, name)?);
+    }
+    Ok(Answer {
+        is_fault: false,
+        text: content(rt, alloc, name)?,
+    })
+}
+
+impl Expected {
+    /// Of an input that is refused.
+    pub(crate) fn fault(alloc: Global, line: &str) -> Result<Expected, AllocError> {
+        Ok(Expected {
+            mps: fault_line(alloc, line)?,
+            lp: fault_line(alloc, line)?,
+            shown: Some(fault_line(alloc, line)?),
+        })
+    }
+
+    fn of_model<R: Files>(
+        rt: &R,
+        alloc: Global,
+        mps: &str,
+        lp: &str,
+        show: &str,
+    ) -> io::Result<Expected> {
+        Ok(Expected {
+            mps: named(rt, alloc, mps)?,
+            lp: named(rt, alloc, lp)?,
+            shown: if show == "-" {
+                None
+            } else {
+                Some(named(rt, alloc, show)?)
+            },
+        })
+    }
+}
+
+impl Entry {
+    fn of_line<R: Files>(rt: &R, alloc: Global, line: &str) -> io::Result<Entry> {
+        let fields = fields(alloc, line)?;
+        let name = field(&fields, 1)?;
+        let answer = field(&fields, 2)?;
+        let expected = if answer == "model" {
+            Expected::of_model(
+                rt,
+                alloc,
+                field(&fields, 3)?,
+                field(&fields, 4)?,
+                field(&fields, 5)?,
+            )?
+        } else {
+            Expected::fault(alloc, answer)?
+        };
+        Ok(Entry {
+            name: String::from_str(alloc, name)?,
+            form: form_of(name),
+            text: content(rt, alloc, name)?,
+            expected,
+        })
+    }
+
+    /// Whether it declares a model.
+    pub(crate) fn is_model(&self) -> bool {
+        !self.expected.mps.is_fault
+    }
+
+    /// The text or the fault that a conversion answers.
+    pub(crate) fn answer_in(&self, form: Form) -> &Answer {
+        self.expected.answer_in(form)
+    }
+}
+
+impl Expected {
+    /// What a conversion to this format answers.
+    pub(crate) fn answer_in(&self, form: Form) -> &Answer {
+        match form {
+            Form::Mps => &self.mps,
+            Form::Lp => &self.lp,
+        }
+    }
+}
+
+/// The entries of the index.
+pub(crate) fn entries<R: Files>(rt: &R, alloc: Global) -> io::Result<Vec<Entry>> {
+    let index = table(rt, alloc, "index.tsv")?;
+    let mut entries = Vec::new(alloc);
+    for line in index.as_str().lines().skip(1) {
+        entries.push(Entry::of_line(rt, alloc, line)?)?;
+    }
+    Ok(entries)
+}
+
+/// The entry of this name.
+pub(crate) fn entry_named<'a>(entries: &'a [Entry], name: &str) -> io::Result<&'a Entry> {
+    for entry in entries {
+        if entry.name.as_str() == name {
+            return Ok(entry);
+        }
+    }
+    Err(bad_table())
+}
+
+/// An entry of the model with this canonical text.
+pub(crate) fn entry_of_text<'a>(
+    entries: &'a [Entry],
+    form: Form,
+    text: &[u8],
+) -> io::Result<&'a Entry> {
+    for entry in entries {
+        if entry.answer_in(form).text.as_slice() == text {
+            return Ok(entry);
+        }
+    }
+    Err(bad_table())
+}

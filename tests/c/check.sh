@@ -1,0 +1,59 @@
+#!/bin/sh
+# tests/c/check.sh: tries build/libmpslp.a and build/libmpslp.so.0 from C and C++. It needs gcc, g++, valgrind and python3.
+set -eu
+cd "$(dirname "$0")/../.."
+tried=build/tests
+warn="-Wall -Wextra -Werror -pedantic"
+checked="valgrind -q --error-exitcode=9 --leak-check=full --show-leak-kinds=all"
+rm -rf $tried
+mkdir -p $tried
+
+die() {
+    echo "$*" >&2
+    exit 1
+}
+
+# The shared library exports the calls of the header, and nothing else.
+sed -n 's/^uint32_t \(mpslp_[a-z_]*\)(.*/\1/p' include/mpslp.h | sort > $tried/declared
+nm -D --defined-only build/libmpslp.so.0 | sed -n 's/^[0-9a-f]* T \([a-z_]*\).*/\1/p' | sort > $tried/exported
+test -s $tried/declared || die "the header declares no call"
+cmp $tried/declared $tried/exported || die "the shared library exports other calls than the header declares"
+
+# Header and crate agree, in C and in C++, with either library.
+gcc -std=c99 $warn -Iinclude -o $tried/layout tests/c/layout.c build/libmpslp.a
+g++ -x c++ $warn -Iinclude -o $tried/layout-shared tests/c/layout.c -x none -Lbuild -lmpslp
+gcc -std=c99 $warn -O2 -Iinclude -o $tried/program tests/c/program.c build/libmpslp.a
+gcc -std=c99 $warn -g -fsanitize=address,undefined -fno-sanitize-recover=all -Iinclude -o $tried/program-sanitized tests/c/program.c build/libmpslp.a
+gcc -std=c99 $warn -g -Iinclude -o $tried/failing tests/c/failing_allocations.c build/libmpslp.a -Wl,--wrap=malloc,--wrap=realloc
+for tool in "" "$checked"; do
+    $tool $tried/layout || die "the layout, or a call with a wrong argument"
+    LD_LIBRARY_PATH=build $tool $tried/layout-shared || die "the layout in C++, or a call with a wrong argument"
+done
+
+# Every example, in both formats, with its canonical text.
+for input in examples/*.mps examples/*.lp; do
+    form=${input##*.}
+    model=${input%.*}
+    for to in mps lp; do
+        wanted=${model%.canonical}.canonical.$to
+        test -f "$wanted" || continue
+        for program in $tried/program $tried/program-sanitized "$checked $tried/program"; do
+            $program canon "$form" "$to" "$input" | cmp - "$wanted" || die "$input to $to"
+        done
+    done
+    case $model in *.canonical) $tried/program is "$form" "$input" || die "$input is canonical" ;; esac
+done
+! $tried/program is mps examples/small.mps || die "examples/small.mps is not canonical"
+
+# The conformance suite, on plain and on checked builds: each text, each fault, and each comparison.
+python3 tests/vectors.py --program $tried/program --without-show
+for format in mps lp; do
+    $tried/failing $format examples/small.$format || die "an allocation that fails, in $format"
+    $checked $tried/failing $format examples/small.$format > /dev/null || die "an allocation that fails, in $format, by valgrind"
+done
+for input in vectors/*.mps vectors/*.lp; do
+    status=0
+    $tried/program-sanitized canon "${input##*.}" lp "$input" > $tried/text 2> $tried/fault || status=$?
+    test $status -le 2 || die "$input: $(cat $tried/fault)"
+done
+echo "the library answers as the program does"
