@@ -8,12 +8,16 @@ PREFIX ?= /usr/local
 run:
 	cd crates/mpslp && rt run -- canon mps mps - < ../../examples/small.mps
 
+# How many proofs run side by side: each takes up to 4 GB of memory.
+PROOFS = $(shell nproc | awk '{ print $$1 < 4 ? $$1 : 4 }')
+
 # The merge gate: proves everything from nothing, tries the must-fail edits, and runs tests and programs. What this builds
-# is then tried: the calls of the library and the program on the files of vectors/, and what the documents say.
+# is then tried: the calls of the library and the program on the files of vectors/ and a large one, and what the documents say.
 test:
-	rt ci
+	RT_JOBS=$(PROOFS) rt ci
 	cd vectors && ../crates/try_vectors/out/try_vectors
 	python3 tests/vectors.py
+	python3 tests/large_file.py
 	python3 tests/docs_check.py
 
 # Builds the program where it is missing or its sources have changed, and installs it with its man page and completions.

@@ -19,7 +19,7 @@ from pathlib import Path
 ROOT = Path(__file__).resolve().parent.parent
 FOLDER = ROOT / "vectors"
 PROGRAM = ROOT / "crates" / "mpslp" / "out" / "mpslp"
-DESCRIBED = {"README.md", "index.tsv", "cuts.tsv", "single-bytes.tsv", "long-lines.tsv"}
+DESCRIBED = {"README.md", "index.tsv", "changed-lines.tsv", "cuts.tsv", "single-bytes.tsv", "long-lines.tsv"}
 LINE_ENDS = {"LF": b"\n", "CR LF": b"\r\n"}
 
 Entry = namedtuple("Entry", "topic input answer mps lp show")
@@ -142,6 +142,19 @@ def check_same_faults(checker, entries, canonical):
         same(checker, entry.input, other.input, (2, b"", b"first: " + fault + b"\n"))
 
 
+def check_changed_lines(checker, entries):
+    inputs = {entry.input for entry in entries}
+    seen = set()
+    for _, name, number, answer, *lines in rows("changed-lines.tsv"):
+        own = content(name).splitlines(keepends=True)
+        own[int(number) - 1] = b"".join(line.encode() + b"\n" for line in lines)
+        text = b"".join(own)
+        place = f"{name} with {lines} for line {number}"
+        checker.wants(f"{place} stands twice, or without an index", text in seen or name not in inputs, False)
+        seen.add(text)
+        checker.answers(place, form_of(name), text, refused(answer))
+
+
 def check_cuts(checker, entries):
     by_text = {entry.mps: entry for entry in entries} | {entry.lp: entry for entry in entries}
     reached = {}
@@ -194,6 +207,7 @@ def check_program(checker):
         check_model(checker, entry)
     check_same(checker, models)
     check_same_faults(checker, entries, next(iter(models)))
+    check_changed_lines(checker, entries)
     check_cuts(checker, entries)
     check_single_bytes(checker)
     check_long_lines(checker, entries)

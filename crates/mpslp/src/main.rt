@@ -4,7 +4,8 @@
 mod inputs;
 
 use inputs::end_of;
-use mpslp_convert::{Job, JobFault, Word, job};
+use mpslp_command::job;
+use mpslp_convert::{Job, JobFault, Word};
 use mpslp_model::ToWrite;
 use std::io::ErrorKind;
 use std::process::ExitCode;

@@ -1,7 +1,7 @@
 //! The program's jobs on files.
 
 use crate::inputs::end_of;
-use mpslp_convert::job;
+use mpslp_command::job;
 use mpslp_model::ToWrite;
 use std::alloc::{AllocError, Global};
 use std::rt::Files;

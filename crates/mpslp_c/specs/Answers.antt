@@ -4,8 +4,8 @@ use Rattle.std.specs.declared.alloc.Global.{Global}
 use Rattle.mpslp_core.specs.Model.{LinearModel}
 use Rattle.mpslp_types.specs.declared.faults.Fault.{Fault}
 use Rattle.mpslp_types.specs.declared.faults.NameAt.{NameAt}
-use Rattle.mpslp_command.specs.declared.jobs.Form.{Form}
-use Rattle.mpslp_command.specs.declared.jobs.Form.TheVariants.{Mps, Lp}
+use Rattle.mpslp_jobs.specs.declared.jobs.Form.{Form}
+use Rattle.mpslp_jobs.specs.declared.jobs.Form.TheVariants.{Mps, Lp}
 use Rattle.mpslp_convert.specs.Conversions.{Declares, HasFirstFault, Unfit, TextOf, IsConversion, IsComparison, IsTestOfText}
 use Rattle.mpslp_convert.specs.Performed.{declares_in, first_fault_in, unfit_in, text_in}
 use Rattle.mpslp_convert.specs.declared.faults.ConvertFault.{ConvertFault}

@@ -4,11 +4,10 @@ ghost use Rattle.std.specs.Prelude.{◌≡◌, map, IfOk, IfErr, Some, None, tru
 ghost use Rattle.std.specs.List.{list_all};
 ghost use Rattle.mpslp_command.specs.Commands.{form_text, form_of, words_of, is_plain, reads_input_twice, IsNamedRightly};
 
-use crate::jobs::{Form, Job, JobFault};
 use crate::usage::command;
-use crate::word::Word;
 use clap::error::ErrorKind;
 use clap::{ArgMatches, Error};
+use mpslp_jobs::{Form, Job, JobFault, Word};
 use std::alloc::Global;
 
 /// The job of the words behind the program's name.

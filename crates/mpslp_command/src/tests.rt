@@ -1,6 +1,7 @@
 //! Words, and the jobs that they ask for.
 
-use crate::{Job, JobFault, Word, job};
+use crate::job;
+use mpslp_jobs::{Job, JobFault, Word};
 use std::alloc::{AllocError, Global};
 use std::test::Fail;
 

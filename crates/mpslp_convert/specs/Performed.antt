@@ -12,12 +12,12 @@ use Rattle.mpslp_lp.specs.FirstFault.{IsFirstLpFault}
 use Rattle.mpslp_canonical.specs.CanonicalMps.{canonical_mps}
 use Rattle.mpslp_canonical_lp.specs.CanonicalLp.{canonical_lp}
 use Rattle.mpslp_canonical_lp.specs.Unfit.{unfit}
-use Rattle.mpslp_command.specs.declared.jobs.Form.{Form}
-use Rattle.mpslp_command.specs.declared.jobs.Form.TheVariants.{Mps, Lp}
-use Rattle.mpslp_command.specs.declared.jobs.Job.{Job}
-use Rattle.mpslp_command.specs.declared.jobs.Job.TheVariants.{Canon, Same, Show}
-use Rattle.mpslp_command.specs.declared.jobs.JobFault.{JobFault}
-use Rattle.mpslp_command.specs.declared.jobs.JobFault.TheVariants as refused
+use Rattle.mpslp_jobs.specs.declared.jobs.Form.{Form}
+use Rattle.mpslp_jobs.specs.declared.jobs.Form.TheVariants.{Mps, Lp}
+use Rattle.mpslp_jobs.specs.declared.jobs.Job.{Job}
+use Rattle.mpslp_jobs.specs.declared.jobs.Job.TheVariants.{Canon, Same, Show}
+use Rattle.mpslp_jobs.specs.declared.jobs.JobFault.{JobFault}
+use Rattle.mpslp_jobs.specs.declared.jobs.JobFault.TheVariants as refused
 use Rattle.mpslp_convert.specs.Conversions.{Declares, HasFirstFault, Unfit, TextOf, IsComparison}
 use Rattle.mpslp_convert.specs.FaultLine.{fault_line, status_of}
 use Rattle.mpslp_convert.specs.Runs.{IsHandedOn, IsCutShort, IsLoad, IsRun}

@@ -6,7 +6,7 @@ ghost use Rattle.mpslp_convert.specs.Performed.{failure_of, input_text, is_of_in
 
 use crate::faults::{ConvertFault, RunFault};
 use crate::reporting::line_of;
-use mpslp_command::JobFault;
+use mpslp_jobs::JobFault;
 use mpslp_model::{Sink, put_all};
 use mpslp_write::Buffer;
 

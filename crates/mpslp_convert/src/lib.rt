@@ -22,11 +22,8 @@ mod words;
 
 pub use conversion::{canonical, is_canonical, same_model};
 pub use faults::{ConvertFault, RunFault};
-pub use mpslp_command::{Form, Job, JobFault, Word, job};
+pub use mpslp_jobs::{Form, Job, JobFault, Word};
 pub use performing::perform;
 pub use reporting::report;
 pub use running::{load, run};
 pub use showing::show;
-
-#[cfg(test)]
-mod tests;

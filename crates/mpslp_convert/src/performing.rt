@@ -9,7 +9,7 @@ use crate::endings::{Failure, Input, ended_by, print, refuse, status_of_end};
 use crate::faults::ConvertFault;
 use crate::running::{load, run};
 use crate::showing::show;
-use mpslp_command::{Form, Job, JobFault};
+use mpslp_jobs::{Form, Job, JobFault};
 use mpslp_model::{Format, Sink, Source};
 use mpslp_write::{Lp, Mps};
 use std::alloc::Global;

@@ -22,11 +22,7 @@ mod line_reader;
 mod lines;
 mod opened;
 mod reader;
-#[cfg(test)]
-mod reader_tests;
 mod reading;
-#[cfg(test)]
-mod reading_tests;
 mod relations;
 mod rows;
 mod scan;
@@ -34,12 +30,8 @@ mod seen;
 mod sides;
 mod states;
 mod taking;
-#[cfg(test)]
-mod tests;
 mod tokens;
 mod words;
-#[cfg(test)]
-mod worked_tests;
 
 pub use mpslp_reading::MAX_LINE_LEN;
 pub use reader::LpReader;

@@ -32,6 +32,3 @@ pub use mpslp_reading::MAX_LINE_LEN;
 pub use reader::MpsReader;
 pub use reading::read_mps;
 pub use sections::Section;
-
-#[cfg(test)]
-mod tests;

@@ -27,6 +27,3 @@ pub use lp::write_lp;
 pub use lp_fit::first_unfit_name;
 pub use mps::write_mps;
 pub use output::Buffer;
-
-#[cfg(test)]
-mod tests;

@@ -15,7 +15,7 @@ use checks::{
 };
 use failing::{shows_after_each_byte, stops_after_each_byte, stops_in_each_read};
 use mpslp_convert::Form;
-use std::alloc::Global;
+use std::alloc::{AllocError, Global};
 use std::io;
 use std::process::ExitCode;
 use std::rt::Files;
@@ -142,6 +142,70 @@ fn try_failing<R: Print + Eprint>(rt: &R, alloc: Global, entries: &[Entry]) -> i
         )?;
     }
     tally.end(rt, "failing devices")
+}
+
+/// A text with these lines in place of the one of a number, counted from 1.
+fn with_lines(
+    alloc: Global,
+    text: &[u8],
+    number: usize,
+    lines: &[&str],
+) -> Result<Vec<u8>, AllocError> {
+    let mut changed = Vec::new(alloc);
+    let mut reached = 1_usize;
+    for byte in text {
+        if reached != number {
+            changed.push(*byte)?;
+        }
+        if *byte == b'\n' {
+            if reached == number {
+                for line in lines {
+                    changed.extend_from_slice(line.as_bytes())?;
+                    changed.push(b'\n')?;
+                }
+            }
+            reached = reached.saturating_add(1);
+        }
+    }
+    Ok(changed)
+}
+
+/// Tries the input of a line of `changed-lines.tsv`.
+fn try_changed_line<R: Eprint>(
+    rt: &R,
+    alloc: Global,
+    tally: &mut Tally,
+    entries: &[Entry],
+    line: &str,
+) -> io::Result<()> {
+    let fields = fields(alloc, line)?;
+    let entry = entry_named(entries, field(&fields, 1)?)?;
+    let lines = &fields[fields.len().min(4)..];
+    let text = with_lines(alloc, &entry.text, number(&fields, 2)?, lines)?;
+    let expected = Expected::fault(alloc, field(&fields, 3)?)?;
+    tally.note(
+        rt,
+        is_converted(alloc, entry.form, &text, &expected)
+            && is_read_in_two_pieces(alloc, entry.form, &text, &expected),
+        line,
+        "changed line",
+    )
+}
+
+fn try_changed_lines<R: Files + Print + Eprint>(
+    rt: &R,
+    alloc: Global,
+    entries: &[Entry],
+) -> io::Result<bool> {
+    let mut tally = Tally::new();
+    for line in table(rt, alloc, "changed-lines.tsv")?
+        .as_str()
+        .lines()
+        .skip(1)
+    {
+        try_changed_line(rt, alloc, &mut tally, entries, line)?;
+    }
+    tally.end(rt, "changed lines")
 }
 
 /// Tries the inputs of a line of `cuts.tsv`.
@@ -273,6 +337,7 @@ fn try_all<R: Files + Print + Eprint>(rt: &R, alloc: Global) -> io::Result<bool>
         try_index(rt, alloc, &entries)?,
         try_pairs(rt, alloc, &entries)?,
         try_failing(rt, alloc, &entries)?,
+        try_changed_lines(rt, alloc, &entries)?,
         try_cuts(rt, alloc, &entries)?,
         try_bytes(rt, alloc)?,
         try_long_lines(rt, alloc, &entries)?,

@@ -1,0 +1,276 @@
+//! Jobs between memory and memory: what is printed, what is told, and the exit status.
+
+use crate::answers::{MUCH, SMALL, SMALL_CANONICAL, SMALL_CANONICAL_LP, SMALL_LP};
+use mpslp_convert::{Form, Job, JobFault, Word, perform};
+use mpslp_model::{FromRead, ToWrite};
+use mpslp_vectors::{FailingReader, FailingWriter};
+use std::alloc::{AllocError, Global};
+use std::test::Fail;
+
+const OTHER_LP: &str = "min COST: X + 2Y st LIM1: X <= 5 MYG: 1.5 Y >= 1 end\n";
+
+const CUT_LP: &str = "min COST: X + 2Y st LIM1: X <= 4 MYG: 1.5 Y >= 1\n";
+
+const TINY_SHOWN: &str = "sense minimize
+objective c constant 0 offset 0
+rows 0 columns 1 elements 0
+column 0 x continuous 0 inf objective 1
+";
+
+/// What a program prints, what it tells, and how it ends.
+#[derive(Drop)]
+struct Ended {
+    status: u8,
+    out: Vec<u8>,
+    err: Vec<u8>,
+}
+
+impl Ended {
+    fn is(&self, status: u8, out: &str, err: &str) -> bool {
+        self.status == status
+            && self.out.as_slice() == out.as_bytes()
+            && self.err.as_slice() == err.as_bytes()
+    }
+}
+
+/// Does a job, or tells its refusal, where the inputs have these texts.
+fn performed(alloc: Global, job: &Result<Job, JobFault>, first: &str, second: &str) -> Ended {
+    let mut out = Vec::new(alloc);
+    let mut err = Vec::new(alloc);
+    let status = perform(
+        alloc,
+        MUCH,
+        job,
+        &mut FromRead::new(first.as_bytes()),
+        &mut FromRead::new(second.as_bytes()),
+        &mut ToWrite::new(&mut out),
+        &mut ToWrite::new(&mut err),
+    );
+    Ended { status, out, err }
+}
+
+fn canon(alloc: Global, from: Form, to: Form) -> Result<Job, JobFault> {
+    Ok(Job::Canon {
+        from,
+        to,
+        path: Word::new(alloc, "-")?,
+    })
+}
+
+fn show(alloc: Global, from: Form) -> Result<Job, JobFault> {
+    Ok(Job::Show {
+        from,
+        path: Word::new(alloc, "-")?,
+    })
+}
+
+fn same(alloc: Global, first_form: Form, second_form: Form) -> Result<Job, JobFault> {
+    Ok(Job::Same {
+        first_form,
+        first: Word::new(alloc, "a")?,
+        second_form,
+        second: Word::new(alloc, "b")?,
+    })
+}
+
+/// Formats of a file and of its text, the file, the exit status, the text, and what is told.
+const CONVERTED: [(Form, Form, &str, u8, &str, &str); 6] = [
+    (Form::Mps, Form::Mps, SMALL, 0, SMALL_CANONICAL, ""),
+    (Form::Mps, Form::Lp, SMALL, 0, SMALL_CANONICAL_LP, ""),
+    (Form::Lp, Form::Mps, SMALL_LP, 0, SMALL_CANONICAL, ""),
+    (Form::Lp, Form::Lp, SMALL_LP, 0, SMALL_CANONICAL_LP, ""),
+    (Form::Lp, Form::Lp, CUT_LP, 2, "", "file: MissingEnd\n"),
+    (
+        Form::Mps,
+        Form::Lp,
+        "ROWS\n N c\nCOLUMNS\n x[1] c 1\nENDATA\n",
+        2,
+        "",
+        "column 0: NotLp\n",
+    ),
+];
+
+#[test]
+fn files_are_converted(rt: HostRuntime) {
+    for (from, to, text, status, out, err) in CONVERTED {
+        let job = canon(rt.alloc(), from, to);
+        assert!(rt;
+            performed(rt.alloc(), &job, text, SMALL).is(status, out, err),
+            "at {text}"
+        );
+    }
+}
+
+/// Two files with their formats, the exit status, the answer, and what is told.
+const COMPARED: [(Form, &str, Form, &str, u8, &str, &str); 7] = [
+    (Form::Mps, SMALL, Form::Lp, SMALL_LP, 0, "same\n", ""),
+    (
+        Form::Lp,
+        SMALL_LP,
+        Form::Mps,
+        SMALL_CANONICAL,
+        0,
+        "same\n",
+        "",
+    ),
+    (
+        Form::Mps,
+        SMALL,
+        Form::Mps,
+        SMALL_CANONICAL,
+        0,
+        "same\n",
+        "",
+    ),
+    (
+        Form::Mps,
+        SMALL,
+        Form::Lp,
+        OTHER_LP,
+        1,
+        "not the same\n",
+        "",
+    ),
+    (
+        Form::Mps,
+        SMALL,
+        Form::Lp,
+        CUT_LP,
+        2,
+        "",
+        "second: file: MissingEnd\n",
+    ),
+    (
+        Form::Lp,
+        CUT_LP,
+        Form::Mps,
+        "ROWS\n",
+        2,
+        "",
+        "first: file: MissingEnd\n",
+    ),
+    (
+        Form::Lp,
+        SMALL_LP,
+        Form::Lp,
+        SMALL,
+        2,
+        "",
+        "second: line 1: BadToken\n",
+    ),
+];
+
+#[test]
+fn two_files_are_compared(rt: HostRuntime) {
+    for (first_form, first, second_form, second, status, out, err) in COMPARED {
+        let job = same(rt.alloc(), first_form, second_form);
+        assert!(rt;
+            performed(rt.alloc(), &job, first, second).is(status, out, err),
+            "at {second}"
+        );
+    }
+}
+
+#[test]
+fn a_file_is_shown(rt: HostRuntime) {
+    let job = show(rt.alloc(), Form::Lp);
+    assert!(rt; performed(rt.alloc(), &job, "min c: x st end\n", "").is(0, TINY_SHOWN, ""));
+}
+
+#[test]
+fn refusals_are_told(rt: HostRuntime) -> Result<(), Fail> {
+    let alloc = rt.alloc();
+    let unknown: Result<Job, JobFault> = Err(JobFault::UnknownFormat(word(alloc, "xml")?));
+    assert!(rt; performed(alloc, &unknown, SMALL, SMALL).is(3, "", "unknown format: xml\n"));
+    let usage: Result<Job, JobFault> = Err(JobFault::Usage(word(alloc, "error\n")?));
+    assert!(rt; performed(alloc, &usage, SMALL, SMALL).is(3, "", "error\n"));
+    let help: Result<Job, JobFault> = Err(JobFault::Help(word(alloc, "h")?));
+    assert!(rt; performed(alloc, &help, SMALL, SMALL).is(0, "h", ""));
+    assert!(rt;
+        performed(alloc, &Err(JobFault::BothInputs), SMALL, SMALL).is(3, "", "both inputs are -\n")
+    );
+    assert!(rt;
+        performed(alloc, &Err(JobFault::OutOfMemory), SMALL, SMALL).is(5, "", "out of memory\n")
+    );
+    Ok(())
+}
+
+fn word(alloc: Global, text: &str) -> Result<Word, AllocError> {
+    match Word::new(alloc, text) {
+        Ok(word) => Ok(word),
+        Err(_) => Err(AllocError),
+    }
+}
+
+/// How much the output takes before it fails, the exit status, and what is told. Where it takes all, its flush fails.
+const OUTPUTS: [(usize, u8, &str); 4] = [
+    (6, 0, ""),
+    (5, 4, "write failed\n"),
+    (4, 4, "write failed\n"),
+    (0, 4, "write failed\n"),
+];
+
+#[test]
+fn an_output_that_fails_is_told(rt: HostRuntime) -> Result<(), Fail> {
+    let alloc = rt.alloc();
+    let job = same(alloc, Form::Mps, Form::Mps);
+    for (room, wanted, line) in OUTPUTS {
+        let mut out = FailingWriter::new(alloc, room)?;
+        let mut err = Vec::new(alloc);
+        let status = perform(
+            alloc,
+            MUCH,
+            &job,
+            &mut FromRead::new(SMALL.as_bytes()),
+            &mut FromRead::new(SMALL.as_bytes()),
+            &mut out,
+            &mut ToWrite::new(&mut err),
+        );
+        assert_eq!(rt; status, wanted, "at {room}");
+        assert_eq!(rt; err.as_slice(), line.as_bytes(), "at {room}");
+        assert!(rt; b"same\n".starts_with(out.bytes()), "at {room}");
+    }
+    Ok(())
+}
+
+#[test]
+fn a_failing_error_stream_changes_no_status(rt: HostRuntime) -> Result<(), Fail> {
+    let alloc = rt.alloc();
+    let job = same(alloc, Form::Mps, Form::Mps);
+    for room in [0, 3, 7] {
+        let mut out = Vec::new(alloc);
+        let mut err = FailingWriter::new(alloc, room)?;
+        let status = perform(
+            alloc,
+            MUCH,
+            &job,
+            &mut FromRead::new(b"ROWS\n".as_slice()),
+            &mut FromRead::new(SMALL.as_bytes()),
+            &mut ToWrite::new(&mut out),
+            &mut err,
+        );
+        assert_eq!(rt; status, 2);
+        assert_eq!(rt; err.bytes().len(), room);
+        assert!(rt; b"first: file: MissingEnd\n".starts_with(err.bytes()));
+    }
+    Ok(())
+}
+
+#[test]
+fn a_second_source_that_fails_is_told(rt: HostRuntime) {
+    let alloc = rt.alloc();
+    let mut out = Vec::new(alloc);
+    let mut err = Vec::new(alloc);
+    let status = perform(
+        alloc,
+        MUCH,
+        &same(alloc, Form::Mps, Form::Mps),
+        &mut FromRead::new(SMALL.as_bytes()),
+        &mut FailingReader::new(b"", 1, 1),
+        &mut ToWrite::new(&mut out),
+        &mut ToWrite::new(&mut err),
+    );
+    assert_eq!(rt; status, 4);
+    assert_eq!(rt; err.as_slice(), b"second: read failed\n".as_slice());
+    assert_eq!(rt; out.is_empty(), true);
+}

@@ -1,0 +1,124 @@
+//! Readers: a text at once, what follows the end, and where a fault is told.
+
+use crate::answers::{SMALL, SMALL_CANONICAL, SMALL_LP, told};
+use mpslp_lp::{LpReader, read_lp};
+use mpslp_model::{FaultKind, Model, ModelReader, ReadFault};
+use mpslp_mps::{MpsReader, read_mps};
+use std::alloc::Global;
+
+/// MPS texts, and the canonical text or the fault of each.
+const MPS: [(&str, &str); 4] = [
+    (SMALL, SMALL_CANONICAL),
+    (SMALL_CANONICAL, SMALL_CANONICAL),
+    ("NAME\nROWS\n N  C\n X  R\n", "line 4: BadType\n"),
+    ("", "file: MissingEnd\n"),
+];
+
+/// LP texts, and the canonical text or the fault of each.
+const LP: [(&str, &str); 4] = [
+    (SMALL_LP, SMALL_CANONICAL),
+    (
+        "min COST: X + 2Y st LIM1: X <= 4 MYG: 1.5 Y >= 1 end",
+        SMALL_CANONICAL,
+    ),
+    ("min x\nst\nx + x <= 1\nend\n", "line 3: DuplicateEntry\n"),
+    ("min x\nsemis\nx\nend\n", "file: SemiBounds x\n"),
+];
+
+#[test]
+fn mps_is_read(rt: HostRuntime) {
+    for (text, wanted) in MPS {
+        let found = told(rt.alloc(), read_mps(rt.alloc(), text.as_bytes()));
+        assert_eq!(rt; found.as_slice(), wanted.as_bytes());
+    }
+}
+
+#[test]
+fn lp_is_read(rt: HostRuntime) {
+    for (text, wanted) in LP {
+        let found = told(rt.alloc(), read_lp(rt.alloc(), text.as_bytes()));
+        assert_eq!(rt; found.as_slice(), wanted.as_bytes());
+    }
+}
+
+/// Feeds pieces until one is refused.
+fn feed_all<T: ModelReader>(reader: &mut T, pieces: &[&[u8]]) -> Result<(), ReadFault> {
+    for piece in pieces {
+        reader.feed(piece)?;
+    }
+    Ok(())
+}
+
+/// What a reader answers of these pieces together.
+fn read_all<T: ModelReader>(alloc: Global, pieces: &[&[u8]]) -> Result<Model, ReadFault> {
+    let mut reader = T::new(alloc);
+    feed_all(&mut reader, pieces)?;
+    reader.finish()
+}
+
+/// Bytes that no text of a model file has.
+const ANYTHING: &[u8] = b"\x80 [ x ^ 2 ] QUADOBJ \xff";
+
+#[test]
+fn what_follows_the_end_is_taken(rt: HostRuntime) {
+    let alloc = rt.alloc();
+    let pieces = [SMALL.as_bytes(), ANYTHING, ANYTHING];
+    let found = told(alloc, read_all::<MpsReader>(alloc, &pieces));
+    assert_eq!(rt; found.as_slice(), SMALL_CANONICAL.as_bytes());
+    let pieces = [SMALL_LP.as_bytes(), ANYTHING, ANYTHING];
+    let found = told(alloc, read_all::<LpReader>(alloc, &pieces));
+    assert_eq!(rt; found.as_slice(), SMALL_CANONICAL.as_bytes());
+}
+
+/// The number of the first byte that a reader refuses, which is fed byte by byte, and why.
+fn first_refused<T: ModelReader>(reader: &mut T, text: &[u8]) -> Option<(usize, ReadFault)> {
+    for (i, byte) in text.iter().enumerate() {
+        if let Err(fault) = reader.feed(&[*byte]) {
+            return Some((i, fault));
+        }
+    }
+    None
+}
+
+/// What a reader answers that is fed a text byte by byte up to one that it refuses: which one and why; and what it answers
+/// of a further piece, and at the end.
+#[derive(Drop)]
+struct Refused {
+    first: Option<(usize, ReadFault)>,
+    further: Result<(), ReadFault>,
+    end: Result<Model, ReadFault>,
+}
+
+fn answers_of<T: ModelReader>(alloc: Global, text: &[u8]) -> Refused {
+    let mut reader = T::new(alloc);
+    let first = first_refused(&mut reader, text);
+    let further = reader.feed(b"\n");
+    Refused {
+        first,
+        further,
+        end: reader.finish(),
+    }
+}
+
+impl Refused {
+    /// Whether the line of this number was refused for this fault at this byte, and nothing else is answered from then on.
+    fn is(&self, at: usize, kind: FaultKind, line: u64) -> bool {
+        let is_first = matches!(&self.first, Some((found, ReadFault::File(fault)))
+            if *found == at && fault.line == line && fault.kind == kind);
+        let has_failed = matches!(&self.further, Err(ReadFault::Failed))
+            && matches!(&self.end, Err(ReadFault::Failed));
+        is_first && has_failed
+    }
+}
+
+#[test]
+fn a_fault_is_told_where_its_line_is_complete(rt: HostRuntime) {
+    let front = "NAME\nROWS\n N  C\n L  R\nCOLUMNS\n    X  C  1\n    X  C  2";
+    let text = "NAME\nROWS\n N  C\n L  R\nCOLUMNS\n    X  C  1\n    X  C  2\nENDATA\n";
+    let answers = answers_of::<MpsReader>(rt.alloc(), text.as_bytes());
+    assert!(rt; answers.is(front.len(), FaultKind::DuplicateEntry, 7));
+    let front = "min x\nst\nx >= 1\nc2: x <= 5\nx <= 4\nc3: x <= 9";
+    let text = "min x\nst\nx >= 1\nc2: x <= 5\nx <= 4\nc3: x <= 9\nend\n";
+    let answers = answers_of::<LpReader>(rt.alloc(), text.as_bytes());
+    assert!(rt; answers.is(front.len(), FaultKind::DuplicateRow, 6));
+}

@@ -1,0 +1,101 @@
+//! Tokens of worked lines of LP.
+
+use mpslp_lp::{TokenKind, next_token, tokens_of};
+use std::test::Fail;
+
+/// A line, and the texts of its tokens with a blank between two.
+const LINES: [(&str, &str); 18] = [
+    ("", ""),
+    (" \t ", ""),
+    ("\\ a comment", ""),
+    (
+        "c1: 3x + 2.5 y >= -1e3 \\ behind",
+        "c1 : 3 x + 2.5 y >= - 1e3",
+    ),
+    ("1e", "1 e"),
+    ("1e+", "1 e +"),
+    ("1e-7x", "1e-7 x"),
+    ("1ex", "1 ex"),
+    ("1.5.5", "1.5 .5"),
+    ("1..", "1. ."),
+    (".e5", ". e5"),
+    (".5E5E5", ".5E5 E5"),
+    ("x.y2z", "x.y2z"),
+    ("a::b:c->d-> -e", "a :: b : c -> d -> - e"),
+    ("<<==<=>>==", "< <= =< => >= ="),
+    ("[x^2*y]/2", "[ x ^ 2 * y ] /2"),
+    ("a\x01=", "a \x01 ="),
+    ("00012.e01", "00012.e01"),
+];
+
+#[test]
+fn cuts_worked_lines(rt: HostRuntime) -> Result<(), Fail> {
+    for (line, want) in LINES {
+        let mut found = String::new(rt.alloc());
+        for token in tokens_of(line.as_bytes()) {
+            if !found.is_empty() {
+                found.push(' ')?;
+            }
+            for byte in token.text {
+                found.push(char::from(*byte))?;
+            }
+        }
+        assert_eq!(rt; found.as_str(), want, "at {line}");
+    }
+    Ok(())
+}
+
+#[test]
+fn names_what_a_token_is(rt: HostRuntime) -> Result<(), Fail> {
+    for (text, kind) in [
+        ("x1", TokenKind::Word),
+        ("1x", TokenKind::Number),
+        (".5", TokenKind::Number),
+        ("<=", TokenKind::Less),
+        ("=>", TokenKind::Greater),
+        ("= <", TokenKind::Equal),
+        ("::", TokenKind::DoubleColon),
+        (": :", TokenKind::Colon),
+        ("->", TokenKind::Arrow),
+        ("+", TokenKind::Plus),
+        ("-1", TokenKind::Minus),
+        ("[", TokenKind::OpenBracket),
+        ("]", TokenKind::CloseBracket),
+        ("^2", TokenKind::Caret),
+        ("*", TokenKind::Star),
+        (".x", TokenKind::Period),
+        ("\x7f", TokenKind::Unknown),
+    ] {
+        match next_token(text.as_bytes(), 0) {
+            Some(token) => assert!(rt; token.kind == kind && token.start == 0, "at {text}"),
+            None => assert!(rt; false, "at {text}"),
+        }
+    }
+    Ok(())
+}
+
+const TOUCHING: [(TokenKind, usize, &str); 4] = [
+    (TokenKind::Number, 2, "3"),
+    (TokenKind::Word, 3, "x1"),
+    (TokenKind::Greater, 5, ">="),
+    (TokenKind::Number, 7, "2"),
+];
+
+/// Whether the tokens of a line are these.
+fn has_tokens(line: &[u8], wanted: &[(TokenKind, usize, &str)]) -> bool {
+    let mut tokens = tokens_of(line);
+    for (kind, start, text) in wanted {
+        let Some(token) = tokens.next() else {
+            return false;
+        };
+        if token.kind != *kind || (token.start != *start || token.text != text.as_bytes()) {
+            return false;
+        }
+    }
+    tokens.next().is_none()
+}
+
+#[test]
+fn tokens_that_touch_are_cut(rt: HostRuntime) {
+    assert!(rt; has_tokens(b"  3x1>=2", &TOUCHING));
+}

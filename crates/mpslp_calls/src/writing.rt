@@ -1,0 +1,213 @@
+//! Writers: the canonical text of a worked file, a name that LP cannot tell, and a sink that fails.
+
+use mpslp_model::{NameAt, Sink, ToWrite, WriteFault};
+use mpslp_mps::read_mps;
+use mpslp_vectors::FailingWriter;
+use mpslp_write::{first_unfit_name, write_lp, write_mps};
+use std::alloc::Global;
+use std::test::Fail;
+
+/// A file in which lines stand in another order and with other words than in the canonical text.
+const FILE: &str = "* sample
+NAME  sample
+OBJSENSE  MAX
+ROWS
+ N  COST
+ L  LIM
+ G  MYG
+ E  EQ
+ G  BETWEEN
+ N  LAX
+COLUMNS
+    Y  COST  2  MYG  1.50
+    M  'MARKER'  'INTORG'
+    K  LIM  1
+    B  COST  -1
+    M  'MARKER'  'INTEND'
+    S  COST  1
+    X  LIM  3e0  EQ  2
+    EMPTY  COST  0
+RHS
+    COST  5  LIM  4
+    MYG  0  EQ  7
+    BETWEEN  1
+RANGES
+    BETWEEN  2.5
+BOUNDS
+ SC  BND  S  4
+ LO  BND  S  4
+ PL  BND  K
+ LO  BND  X  -1
+ UP  BND  X  10
+ FR  BND  Y
+ENDATA
+";
+
+const TEXT: &str = "NAME
+OBJSENSE
+    MAX
+ROWS
+ N  COST
+ G  BETWEEN
+ E  EQ
+ N  LAX
+ L  LIM
+ G  MYG
+COLUMNS
+    EMPTY  COST  0
+    S  COST  1
+    X  EQ  2
+    X  LIM  3
+    Y  COST  2
+    Y  MYG  1.5
+    MARKER  'MARKER'  'INTORG'
+    B  COST  -1
+    K  LIM  1
+    MARKER  'MARKER'  'INTEND'
+RHS
+    RHS  COST  5
+    RHS  BETWEEN  1
+    RHS  EQ  7
+    RHS  LIM  4
+RANGES
+    RNG  BETWEEN  2.5
+BOUNDS
+ UP  BND  B  1
+ PL  BND  K
+ LO  BND  S  4
+ SC  BND  S  4
+ LO  BND  X  -1
+ UP  BND  X  10
+ FR  BND  Y
+ENDATA
+";
+
+const LP_TEXT: &str = "Maximize
+ COST:
+  - 1 B
+  + 0 EMPTY
+  + 1 S
+  + 2 Y
+  - 5
+Subject To
+ BETWEEN:
+  1 <=
+  + 0 B
+  <= 3.5
+ EQ:
+  + 2 X
+  = 7
+ LAX:
+  + 0 B
+  >= -1e20
+ LIM:
+  + 1 K
+  + 3 X
+  <= 4
+ MYG:
+  + 1.5 Y
+  >= 0
+Bounds
+ 0 <= B <= 1
+ S = 4
+ -1 <= X <= 10
+ Y free
+Generals
+ B
+ K
+Semi-Continuous
+ S
+End
+";
+
+/// A file with a row and columns whose names are no LP names.
+const BRACKETS: &str = "ROWS
+ N  C
+ L  D
+ L  E1
+COLUMNS
+    X  C  1
+    Y[1]  C  1
+ENDATA
+";
+
+/// A file with columns whose names are no LP names: the second is a reserved word.
+const FREE: &str = "ROWS
+ N  C
+COLUMNS
+    X  C  1
+    free  C  1
+    x-1  C  1
+ENDATA
+";
+
+/// What is answered where the model of a file is written; `None` where the file has none.
+fn write_file<W: Sink>(alloc: Global, file: &str, sink: &mut W) -> Option<Result<(), WriteFault>> {
+    match read_mps(alloc, file.as_bytes()) {
+        Ok(model) => Some(write_mps(&model, sink)),
+        Err(_) => None,
+    }
+}
+
+/// What is answered where the model of a file is written as LP; `None` where the file has none.
+fn write_lp_file<W: Sink>(
+    alloc: Global,
+    file: &str,
+    sink: &mut W,
+) -> Option<Result<(), WriteFault>> {
+    match read_mps(alloc, file.as_bytes()) {
+        Ok(model) => Some(write_lp(&model, sink)),
+        Err(_) => None,
+    }
+}
+
+#[test]
+fn canonical_texts_are_written_in_one_call(rt: HostRuntime) {
+    let mut held = Vec::new(rt.alloc());
+    let mut sink = ToWrite::new(&mut held);
+    assert!(rt; matches!(write_file(rt.alloc(), FILE, &mut sink), Some(Ok(()))));
+    assert_eq!(rt; sink.calls(), 1);
+    assert_eq!(rt; held.as_slice(), TEXT.as_bytes());
+}
+
+#[test]
+fn canonical_lp_texts_are_written_in_one_call(rt: HostRuntime) {
+    let mut held = Vec::new(rt.alloc());
+    let mut sink = ToWrite::new(&mut held);
+    assert!(rt; matches!(write_lp_file(rt.alloc(), FILE, &mut sink), Some(Ok(()))));
+    assert_eq!(rt; sink.calls(), 1);
+    assert_eq!(rt; held.as_slice(), LP_TEXT.as_bytes());
+}
+
+/// The place of the first name of a file's model that is no LP name.
+fn unfit_name_of(alloc: Global, file: &str) -> Option<NameAt> {
+    match read_mps(alloc, file.as_bytes()) {
+        Ok(model) => first_unfit_name(&model),
+        Err(_) => None,
+    }
+}
+
+#[test]
+fn a_name_that_lp_cannot_tell_is_told_before_any_byte(rt: HostRuntime) -> Result<(), Fail> {
+    for (file, place) in [(BRACKETS, NameAt::Row(1)), (FREE, NameAt::Column(1))] {
+        let mut sink = FailingWriter::new(rt.alloc(), 9)?;
+        let answer = write_lp_file(rt.alloc(), file, &mut sink);
+        assert_eq!(rt; answer, Some(Err(WriteFault::NotLp(place))));
+        assert_eq!(rt; sink.calls(), 0);
+        assert_eq!(rt; unfit_name_of(rt.alloc(), file), Some(place));
+    }
+    Ok(())
+}
+
+#[test]
+fn a_sink_that_fails_is_told(rt: HostRuntime) -> Result<(), Fail> {
+    let mut sink = FailingWriter::new(rt.alloc(), 9)?;
+    let answer = write_file(rt.alloc(), FILE, &mut sink);
+    assert!(rt; matches!(answer, Some(Err(WriteFault::Write { written: 9 }))));
+    assert_eq!(rt; sink.bytes(), &TEXT.as_bytes()[..9]);
+    let mut sink = FailingWriter::new(rt.alloc(), 9)?;
+    let answer = write_lp_file(rt.alloc(), FILE, &mut sink);
+    assert!(rt; matches!(answer, Some(Err(WriteFault::Write { written: 9 }))));
+    assert_eq!(rt; sink.bytes(), &LP_TEXT.as_bytes()[..9]);
+    Ok(())
+}

@@ -1,0 +1,37 @@
+NAME
+OBJSENSE
+    MAX
+ROWS
+ N  COST
+ G  BETWEEN
+ E  EQ
+ N  LAX
+ L  LIM
+ G  MYG
+COLUMNS
+    EMPTY  COST  0
+    S  COST  1
+    X  EQ  2
+    X  LIM  3
+    Y  COST  2
+    Y  MYG  1.5
+    MARKER  'MARKER'  'INTORG'
+    B  COST  -1
+    K  LIM  1
+    MARKER  'MARKER'  'INTEND'
+RHS
+    RHS  COST  5
+    RHS  BETWEEN  1
+    RHS  EQ  7
+    RHS  LIM  4
+RANGES
+    RNG  BETWEEN  2.5
+BOUNDS
+ UP  BND  B  1
+ PL  BND  K
+ LO  BND  S  4
+ SC  BND  S  4
+ LO  BND  X  -1
+ UP  BND  X  10
+ FR  BND  Y
+ENDATA

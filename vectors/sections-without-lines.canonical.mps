@@ -1,0 +1,8 @@
+NAME
+ROWS
+ N  C
+ N  D
+COLUMNS
+    X  C  1
+    X  D  10
+ENDATA

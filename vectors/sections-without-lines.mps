@@ -1,0 +1,9 @@
+ROWS
+ N  C
+ N  D
+COLUMNS
+    X  C  1  D  10
+RHS
+RANGES
+BOUNDS
+ENDATA
