@@ -1,7 +1,7 @@
 //! Words, and the jobs that they ask for.
 
 use crate::job;
-use mpslp_jobs::{Job, JobFault, Word};
+use mpslp_jobs::{Form, Job, JobFault, Word};
 use std::alloc::{AllocError, Global};
 use std::test::Fail;
 
@@ -112,10 +112,10 @@ fn line_of(alloc: Global, job: &Job) -> Result<String, AllocError> {
     }
 }
 
-fn name(form: crate::Form) -> &'static str {
+fn name(form: Form) -> &'static str {
     match form {
-        crate::Form::Mps => "mps",
-        crate::Form::Lp => "lp",
+        Form::Mps => "mps",
+        Form::Lp => "lp",
     }
 }
 
