@@ -3,7 +3,9 @@
 use mpslp_convert::{
     ConvertFault, Form, RunFault, canonical, is_canonical, report, run, same_model, show,
 };
+use mpslp_lp::read_lp;
 use mpslp_model::{Format, Model, ModelReader, ReadFault, Sink, Source, ToWrite};
+use mpslp_mps::read_mps;
 use mpslp_vectors::FailingReader;
 use mpslp_write::{Lp, Mps};
 use std::alloc::Global;
@@ -164,10 +166,10 @@ fn fed<A: Format>(alloc: Global, first: &[u8], second: &[u8]) -> Result<Model, R
     reader.finish()
 }
 
-/// The canonical MPS of a text whose reader is fed two pieces.
-fn fed_of<A: Format>(alloc: Global, first: &[u8], second: &[u8]) -> Answer {
+/// The canonical MPS of what was read, or the line of its fault.
+fn told(alloc: Global, answer: Result<Model, ReadFault>) -> Answer {
     let mut sink = ToWrite::new(Vec::new(alloc));
-    let answer = match fed::<A>(alloc, first, second) {
+    let ended = match answer {
         Ok(model) => match Mps::write(&model, &mut sink) {
             Ok(()) => Ok(()),
             Err(_) => Err(RunFault::OutOfMemory),
@@ -175,13 +177,23 @@ fn fed_of<A: Format>(alloc: Global, first: &[u8], second: &[u8]) -> Answer {
         Err(ReadFault::File(fault)) => Err(RunFault::File(fault)),
         Err(_) => Err(RunFault::OutOfMemory),
     };
-    Answer::of_run(answer, sink.into_inner())
+    Answer::of_run(ended, sink.into_inner())
 }
 
 /// The canonical MPS of a text whose reader is fed two pieces.
 pub(crate) fn fed_in(alloc: Global, form: Form, first: &[u8], second: &[u8]) -> Answer {
-    match form {
-        Form::Mps => fed_of::<Mps>(alloc, first, second),
-        Form::Lp => fed_of::<Lp>(alloc, first, second),
-    }
+    let answer = match form {
+        Form::Mps => fed::<Mps>(alloc, first, second),
+        Form::Lp => fed::<Lp>(alloc, first, second),
+    };
+    told(alloc, answer)
+}
+
+/// The canonical MPS of a text that is read at once.
+pub(crate) fn read_in(alloc: Global, form: Form, text: &[u8]) -> Answer {
+    let answer = match form {
+        Form::Mps => read_mps(alloc, text),
+        Form::Lp => read_lp(alloc, text),
+    };
+    told(alloc, answer)
 }

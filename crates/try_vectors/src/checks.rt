@@ -1,7 +1,7 @@
 //! What is checked of an input.
 
 use crate::answers::{
-    MUCH, canonical_in, fed_in, is_canonical_in, line_of, run_of, same_in, shown_of,
+    MUCH, canonical_in, fed_in, is_canonical_in, line_of, read_in, run_of, same_in, shown_of,
 };
 use crate::tables::{Entry, Expected};
 use mpslp_convert::{ConvertFault, Form};
@@ -10,8 +10,11 @@ use std::alloc::Global;
 /// Each format of model files.
 const FORMS: [Form; 2] = [Form::Mps, Form::Lp];
 
-/// Whether a text is converted as it should be: as a whole, in memory, and in pieces of 1 and of 7 bytes.
+/// Whether a text is read and converted as it should be: as a whole, in memory, and in pieces of 1 and of 7 bytes.
 pub(crate) fn is_converted(alloc: Global, form: Form, text: &[u8], expected: &Expected) -> bool {
+    if !read_in(alloc, form, text).is(&expected.mps) {
+        return false;
+    }
     for to in FORMS {
         let wanted = expected.answer_in(to);
         if !canonical_in(alloc, form, to, text).is(wanted) {
