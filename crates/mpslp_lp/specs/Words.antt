@@ -1,6 +1,6 @@
 -- Reserved words, and what they mean.
-use Rattle.std.specs.Prelude.{ℕ, List, [], ◌∷◌, ◌++◌, map, codes}
-use Rattle.std.specs.List.{find}
+use Rattle.std.specs.Prelude.{ℕ, List, [], ◌∷◌, ◌++◌, ◌&&◌, Bool, false, map, length, codes, nat_eq, nat_le}
+use Rattle.std.specs.List.{find, list_any}
 use Rattle.std.specs.Option.{option_map_or}
 use Rattle.mpslp_types.specs.Name.{same_bytes, lower_byte}
 use Rattle.mpslp_lp.specs.declared.words.Section.{Section}
@@ -36,6 +36,15 @@ abbrev pub meaning_of : List ℕ → Meaning
 meaning_of word =
     let lower = map lower_byte word in
     option_map_or (λ (entry : List ℕ × Meaning). entry.1) (find (λ entry. same_bytes lower entry.0) word_meanings) Name
+
+-- the letters that reserved words begin with, in upper or lower case
+abbrev pub begins_reserved : ℕ → Bool
+begins_reserved letter = list_any (nat_eq (lower_byte letter)) (codes "befgims")
+
+-- a word that is short enough for a reserved one, and begins as one does
+abbrev pub may_be_reserved : List ℕ → Bool
+may_be_reserved [] = false
+may_be_reserved (first ∷ rest) = nat_le (length (first ∷ rest)) 8 && begins_reserved first
 
 abbrev pub section_of : SectionWord → Section
 section_of Minimize = sections.Objective

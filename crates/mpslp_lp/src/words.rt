@@ -5,7 +5,7 @@ ghost use Rattle.std.specs.List.{find};
 ghost use Rattle.std.specs.Option.{option_map_or};
 ghost use Rattle.mpslp_types.specs.Name.{lower_byte, same_bytes};
 ghost use Rattle.mpslp_lp.specs.declared.words.Meaning.{Meaning};
-ghost use Rattle.mpslp_lp.specs.Words.{meaning_of};
+ghost use Rattle.mpslp_lp.specs.Words.{begins_reserved, may_be_reserved, meaning_of};
 
 /// A section of an LP file. They stand in this order, but those from Bounds to SemiContinuous in any order.
 #[derive(Clone, Copy, Debug, PartialEq, Eq)]
@@ -147,12 +147,30 @@ fn meaning_among(words: &[(&'static [u8], Meaning)], text: &[u8]) -> Meaning
 /// The length of the longest reserved words.
 const LONGEST_WORD: usize = 8;
 
-/// What a word means, in upper case, lower case or both. Most names are longer than any reserved word.
+/// Whether reserved words begin with the letter, in upper or lower case.
+fn begins_reserved(letter: u8) -> bool
+    ensures { result ≡ begins_reserved letter }
+{
+    matches!(lower_byte(letter), b'b' | b'e' | b'f' | b'g' | b'i' | b'm' | b's')
+}
+
+/// Whether the text may be a reserved word, by its length and its first letter. Most names are told from them by these.
+fn may_be_reserved(text: &[u8]) -> bool
+    ensures { result ≡ may_be_reserved text.now }
+{
+    match text {
+        [] => false,
+        [first, ..] => text.len() <= LONGEST_WORD && begins_reserved(*first),
+    }
+}
+
+/// What a word means, in upper case, lower case or both.
 pub(crate) fn meaning_of(text: &[u8]) -> Meaning
     ensures { result ≡ meaning_of text.now }
 {
-    if text.len() > LONGEST_WORD {
-        return Meaning::Name;
+    if may_be_reserved(text) {
+        meaning_among(&WORDS, text)
+    } else {
+        Meaning::Name
     }
-    meaning_among(&WORDS, text)
 }

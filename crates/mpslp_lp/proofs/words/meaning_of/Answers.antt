@@ -1,6 +1,6 @@
-use Rattle.std.proofs.Common.{sym, arith}
-use Rattle.mpslp_lp.proofs.WordLemmas.{meaning-long}
+use Rattle.std.proofs.Common.{sym, ◌∙◌}
+use Rattle.mpslp_lp.proofs.WordLemmas.{meaning-other}
 use Rattle.mpslp_lp.proofs.words.meaning_of.Goals as goal
 
-pub returns-then-text-gt-LONGEST_WORD : goal.returns-then-text-gt-LONGEST_WORD
-returns-then-text-gt-LONGEST_WORD c = sym (meaning-long c.args.text.now (omega (arith, c.if-text-gt-LONGEST_WORD.true)))
+pub returns-else-may_be_reserved : goal.returns-else-may_be_reserved
+returns-else-may_be_reserved c = sym (meaning-other c.args.text.now (sym c.may_be_reserved.ensures ∙ c.if-may_be_reserved.false))
