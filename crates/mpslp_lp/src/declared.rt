@@ -19,7 +19,7 @@ ghost use Rattle.mpslp_lp.specs.Declares.{Declares, DeclaresBounds, DeclaresSide
 use crate::items::one;
 use crate::limits::GivenLimit;
 use crate::relations::Relation;
-use crate::states::PartialRow;
+use crate::states::{PartialParts, PartialRow};
 use indexmap::IndexMap;
 use itoa::Buffer;
 use mpslp_decimal::Decimal;
@@ -36,7 +36,12 @@ pub(crate) struct Declared {
     builder: Builder,
     /// How many rows there are; it stays at 2^64 - 1.
     rows: u64,
+    /// How many terms the last row had: the next one gets room for as many.
+    usual_terms: usize,
 }
+
+/// The most terms for which a row gets room before they come, so that short rows behind a long one do not take much.
+const MOST_USUAL_TERMS: usize = 64;
 
 impl Model for Declared {
     ghost use Rattle.std.specs.Prelude.{◌≡◌, ◌-◌, ◌^◌, length, min};
@@ -69,6 +74,7 @@ impl Declared {
             alloc,
             builder: Builder::new(alloc),
             rows: 0,
+            usual_terms: 0,
         }
     }
 
@@ -82,6 +88,11 @@ impl Declared {
     /// Where memory comes from.
     pub(crate) fn alloc(&self) -> Global {
         self.alloc
+    }
+
+    /// For how many terms a row gets room before they come.
+    pub(crate) fn usual_terms(&self) -> usize {
+        self.usual_terms
     }
 
     /// A copy of a name.
@@ -281,8 +292,14 @@ impl Declared {
         Ok(())
     }
 
-    /// Declares a row by its limits.
-    fn declare_row(&mut self, name: Name, lower: Limit, upper: Limit) -> Result<(), LineError>
+    /// Declares a row by its limits, which has so many terms.
+    fn declare_row(
+        &mut self,
+        name: Name,
+        lower: Limit,
+        upper: Limit,
+        terms: usize,
+    ) -> Result<(), LineError>
         requires lower { IsTrue (is_given lower) }
         requires upper { IsTrue (is_given upper) }
         ensures { Declares self.old (declare_row name (by_limits lower upper) ∷ []) result self.new }
@@ -290,6 +307,7 @@ impl Declared {
         each_builder_is_made(&self.builder);
         self.builder.row_limits(name, lower, upper)?;
         self.rows = self.rows.saturating_add(1);
+        self.usual_terms = terms.min(MOST_USUAL_TERMS);
         Ok(())
     }
 
@@ -358,10 +376,11 @@ impl Declared {
         requires upper { IsTrue (is_given upper) }
         ensures { Declares self.old (declare_row row.now.name (by_limits lower upper) ∷ flat_map (term_declared row.now.name) row.now.terms) result self.new }
     {
-        each_name_is_legal(&row.name);
-        let name = self.copied(row.name.as_bytes())?;
-        self.declare_row(name, lower, upper)?;
-        self.declare_terms(row.name.as_bytes(), &row.terms)
+        let parts: &PartialParts = &row.parts;
+        each_name_is_legal(&parts.name);
+        let name = self.copied(parts.name.as_bytes())?;
+        self.declare_row(name, lower, upper, parts.terms.len())?;
+        self.declare_terms(parts.name.as_bytes(), &parts.terms)
     }
 
     /// Declares the objective without a label, and its first term, which is a name alone.

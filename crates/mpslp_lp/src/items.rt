@@ -40,13 +40,9 @@ impl PartialRow {
     pub(crate) fn with_term(self, column: Name, value: Decimal) -> Result<PartialRow, LineError>
         ensures { AddsTerm self column value result }
     {
-        let mut terms = self.terms;
-        match terms.insert(column, value) {
-            Ok(None) => Ok(PartialRow {
-                name: self.name,
-                left: self.left,
-                terms,
-            }),
+        let mut row = self;
+        match row.parts.terms.insert(column, value) {
+            Ok(None) => Ok(row),
             Ok(Some(_)) => Err(LineError::Fault(FaultKind::DuplicateEntry)),
             Err(_) => Err(LineError::OutOfMemory),
         }

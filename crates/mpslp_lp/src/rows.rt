@@ -22,7 +22,7 @@ use crate::items::{one, take_term};
 use crate::limits::GivenLimit;
 use crate::relations::Relation;
 use crate::seen::{Seen, SeenKind};
-use crate::states::{Owner, PartialRow, Place, State};
+use crate::states::{Owner, PartialParts, PartialRow, Place, State};
 use indexmap::IndexMap;
 use mpslp_model::{FaultKind, Limit, Name};
 use mpslp_reading::LineError;
@@ -32,13 +32,14 @@ pub(crate) fn without_terms(
     before: &Before,
     name: Name,
     left: Option<(GivenLimit, Relation)>,
-) -> PartialRow
-    ensures { result ≡ without_terms name left }
+) -> Result<PartialRow, LineError>
+    ensures { MatchResult result (λ row. row ≡ without_terms name left) (λ error. error ≡ LineError.OutOfMemory) }
 {
-    PartialRow {
-        name,
-        left,
-        terms: IndexMap::new(before.earlier.alloc()),
+    let alloc = before.earlier.alloc();
+    let terms = IndexMap::with_capacity(alloc, before.earlier.usual_terms())?;
+    match Box::new(alloc, PartialParts { name, left, terms }) {
+        Ok(parts) => Ok(PartialRow { parts }),
+        Err(_) => Err(LineError::OutOfMemory),
     }
 }
 
@@ -57,7 +58,7 @@ pub(crate) fn fits_second(first: Relation, second: Relation) -> bool
 pub(crate) fn fits_left(row: &PartialRow, relation: Relation) -> bool
     ensures { result ≡ fits_left row.now.left relation }
 {
-    match &row.left {
+    match &row.parts.left {
         Some((_limit, first)) => fits_second(*first, relation),
         None => true,
     }
@@ -76,7 +77,7 @@ pub(crate) fn begin_row(
         SeenKind::Infinity => Ok(State::RowLeft(name, GivenLimit::infinity(false))),
         SeenKind::Number(value) => Ok(State::RowNumber(name, false, value)),
         SeenKind::Name => {
-            let row = without_terms(before, name, None);
+            let row = without_terms(before, name, None)?;
             take_term(before, Owner::OfRow(row), seen.text, one())
         }
         SeenKind::Sign(minus) => Ok(State::RowSign(name, minus)),
@@ -89,7 +90,7 @@ fn lower_limit(row: &PartialRow, relation: Relation, right: &GivenLimit) -> Limi
     ensures value { result ≡ unwrap_or (row_limits row.now.left relation right.now).lower Limit.MinusInf }
     ensures given { IsTrue (is_given result) }
 {
-    match &row.left {
+    match &row.parts.left {
         None => match relation {
             Relation::AtMost => Limit::MinusInf,
             Relation::AtLeast | Relation::EqualTo => right.limit(),
@@ -106,7 +107,7 @@ fn upper_limit(row: &PartialRow, relation: Relation, right: &GivenLimit) -> Limi
     ensures value { result ≡ unwrap_or (row_limits row.now.left relation right.now).upper Limit.PlusInf }
     ensures given { IsTrue (is_given result) }
 {
-    match &row.left {
+    match &row.parts.left {
         None => match relation {
             Relation::AtMost | Relation::EqualTo => right.limit(),
             Relation::AtLeast => Limit::PlusInf,

@@ -7,9 +7,15 @@ use mpslp_decimal::Decimal;
 use mpslp_model::{Name, Sense};
 use std::marker::Model;
 
-/// A row whose last token is still to come.
+/// A row whose last token is still to come. What is known of it stands in a box, since a state is moved with each token.
 #[derive(Drop)]
 pub struct PartialRow {
+    pub(crate) parts: Box<PartialParts>,
+}
+
+/// What is known of a row whose last token is still to come.
+#[derive(Drop)]
+pub struct PartialParts {
     pub(crate) name: Name,
     /// The left side and the sense after it, where there is one.
     pub(crate) left: Option<(GivenLimit, Relation)>,
@@ -22,7 +28,7 @@ impl Model for PartialRow {
 
     ghost Value = { PartialRow };
 
-    ghost view = { λ r. record { name = r.name; left = r.left; terms = r.terms.entries } };
+    ghost view = { λ r. record { name = r.parts.value.name; left = r.parts.value.left; terms = r.parts.value.terms.entries } };
 }
 
 /// Where in the text a phrase begins.

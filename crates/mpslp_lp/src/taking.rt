@@ -205,7 +205,8 @@ fn take_after_row_name(before: &mut Before, name: Name, seen: &Seen<'_>) -> Resu
         SeenKind::Colon => Ok(State::RowLabel(name)),
         _ => {
             let label = before.earlier.next_row()?;
-            let row = without_terms(before, label, None).with_term(name, one())?;
+            let empty = without_terms(before, label, None)?;
+            let row = empty.with_term(name, one())?;
             begin(before, Place::InRow(row), seen)
         }
     }
@@ -225,7 +226,7 @@ fn take_after_row_sign(
         SeenKind::Infinity => Ok(State::RowLeft(name, GivenLimit::infinity(minus))),
         SeenKind::Number(value) => Ok(State::RowNumber(name, minus, value)),
         _ => {
-            let row = without_terms(before, name, None);
+            let row = without_terms(before, name, None)?;
             take_after_signs(before, Owner::OfRow(row), minus, seen)
         }
     }
@@ -244,15 +245,15 @@ fn take_after_row_number(
 {
     match seen.kind {
         SeenKind::Name => {
-            let row = without_terms(before, name, None);
+            let row = without_terms(before, name, None)?;
             take_term(before, Owner::OfRow(row), seen.text, signed(minus, value))
         }
         SeenKind::Compares(relation) => {
             let left = Some((GivenLimit::of(signed(minus, value)), relation));
-            Ok(State::RowLeftSense(without_terms(before, name, left)))
+            Ok(State::RowLeftSense(without_terms(before, name, left)?))
         }
         _ => {
-            let row = without_terms(before, name, None);
+            let row = without_terms(before, name, None)?;
             take_lone(before, Owner::OfRow(row), signed(minus, value), seen)
         }
     }
@@ -270,7 +271,7 @@ fn take_row_sense(
     match seen.kind {
         SeenKind::Compares(relation) => {
             let left = Some((limit, relation));
-            Ok(State::RowLeftSense(without_terms(before, name, left)))
+            Ok(State::RowLeftSense(without_terms(before, name, left)?))
         }
         _ => refuse(before, seen, FaultKind::BadToken),
     }

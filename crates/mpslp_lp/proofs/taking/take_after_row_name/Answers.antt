@@ -19,7 +19,7 @@ returns-in_ok-row-in_default c =
     let row = c.in_ok-row-in_default.row in
     let first : PartialRow → Number → PartialRow = λ r value. record r { terms = r.terms ++ (c.args.name, value) ∷ [] } in
     let same : row ≡ first (without_terms (default_row before) None) one =
-    c.in_ok-row-in_default.ensures.1 ∙ (λ i. first (c.without_terms.ensures i) (c.one.ensures i))
+    c.in_ok-row-in_default.ensures.1 ∙ (λ i. first (c.in_ok-empty-in_default.ensures i) (c.one.ensures i))
     ∙ ap (λ (label : List ℕ). first (without_terms label None) one) c.in_ok-label-in_default.ensures in
     subst (λ (taken : Taken). Takes taken c.begin.result c.begin.new.before) (sym (row_name-other before c.args.name seen.kind seen.text.now c.in_default.not-Colon))
     (subst (λ (r : PartialRow). Takes (begun (InRow r) before (seen_terminal seen)) c.begin.result c.begin.new.before) same c.begin.ensures)

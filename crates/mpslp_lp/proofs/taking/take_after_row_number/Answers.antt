@@ -10,13 +10,13 @@ use Rattle.mpslp_lp.specs.declared.states.Owner.TheVariants.{OfRow}
 use Rattle.mpslp_lp.proofs.OtherTokens.{row_number-other}
 use Rattle.mpslp_lp.proofs.taking.take_after_row_number.Goals as goal
 
-pub returns-in_default : goal.returns-in_default
-returns-in_default c =
+pub returns-in_ok-row-in_default : goal.returns-in_ok-row-in_default
+returns-in_ok-row-in_default c =
     let before = c.args.before.now in
     let seen = c.args.seen.now in
     let result = c.take_lone.result in
     let after = c.take_lone.new.before in
     let value = signed c.args.minus c.args.value in
     subst (λ (taken : Taken). Takes taken result after) (sym (row_number-other before c.args.name c.args.minus c.args.value seen.kind seen.text.now c.in_default.not-Name c.in_default.not-Compares))
-    (subst (λ (row : PartialRow). Takes (lone_taken before (OfRow row) value (seen_terminal seen)) result after) c.without_terms-row-in_default.ensures
-    (subst (λ (number : Number). Takes (lone_taken before (OfRow c.without_terms-row-in_default.result) number (seen_terminal seen)) result after) c.signed-in_default.ensures c.take_lone.ensures))
+    (subst (λ (row : PartialRow). Takes (lone_taken before (OfRow row) value (seen_terminal seen)) result after) c.in_ok-row-in_default.ensures
+    (subst (λ (number : Number). Takes (lone_taken before (OfRow c.in_ok-row-in_default.row) number (seen_terminal seen)) result after) c.signed-in_default.ensures c.take_lone.ensures))

@@ -4,6 +4,7 @@ use Rattle.mpslp_builder.specs.Declaration.{Declarations, by_limits, declare_row
 use Rattle.mpslp_builder.specs.Refusal.{refusals_in_turn}
 use Rattle.mpslp_builder.proofs.MadeDrafts.{refusals_in_turn-append}
 use Rattle.mpslp_lp.specs.PartialRow.{PartialRow}
+use Rattle.mpslp_lp.specs.declared.states.PartialParts.{PartialParts}
 use Rattle.mpslp_lp.specs.Objective.{term_declared}
 use Rattle.mpslp_lp.specs.Declares.{Declares}
 use Rattle.mpslp_lp.proofs.DeclaresLemmas.{refused-here, told-by, declares-then}
@@ -16,7 +17,7 @@ returns-in_err-declare_row c =
     let form = by_limits c.args.lower c.args.upper in
     let row = c.args.row.now in
     let terms = flat_map (term_declared row.name) row.terms in
-    let named : c.in_ok-name.name ≡ row.name = c.in_ok-name.ensures ∙ c.as_bytes.ensures ∙ ap (λ (r : PartialRow). r.name) c.row.view_is in
+    let named : c.in_ok-name.name ≡ row.name = c.in_ok-name.ensures ∙ c.as_bytes.ensures ∙ ap (λ (p : PartialParts). p.name) c.deref-parts.ensures ∙ ap (λ (r : PartialRow). r.name) c.row.view_is in
     let all = declare_row row.name form ∷ terms in
     let first = refusals_in_turn earlier (declare_row c.in_ok-name.name form ∷ []) in
     let behind = refusals_in_turn (adding_all earlier (declare_row c.in_ok-name.name form ∷ [])) terms in
@@ -33,9 +34,12 @@ returns c =
     let form = by_limits c.args.lower c.args.upper in
     let row = c.args.row.now in
     let terms = flat_map (term_declared row.name) row.terms in
-    let named : c.in_ok-name.name ≡ row.name = c.in_ok-name.ensures ∙ c.as_bytes.ensures ∙ ap (λ (r : PartialRow). r.name) c.row.view_is in
-    let same : flat_map (term_declared c.as_bytes-2.result.now) c.row.inside.terms.entries ≡ terms =
-    ap (λ (name : List ℕ). flat_map (term_declared name) c.row.inside.terms.entries) c.as_bytes-2.ensures ∙ ap (λ (r : PartialRow). flat_map (term_declared r.name) r.terms) c.row.view_is in
+    let named : c.in_ok-name.name ≡ row.name = c.in_ok-name.ensures ∙ c.as_bytes.ensures ∙ ap (λ (p : PartialParts). p.name) c.deref-parts.ensures ∙ ap (λ (r : PartialRow). r.name) c.row.view_is in
+    let parts = c.deref-parts.result.now in
+    let same : flat_map (term_declared c.as_bytes-2.result.now) parts.terms.entries ≡ terms =
+    ap (λ (name : List ℕ). flat_map (term_declared name) parts.terms.entries) c.as_bytes-2.ensures
+    ∙ ap (λ (p : PartialParts). flat_map (term_declared p.name) p.terms.entries) c.deref-parts.ensures
+    ∙ ap (λ (r : PartialRow). flat_map (term_declared r.name) r.terms) c.row.view_is in
     subst (λ (name : List ℕ). Declares earlier (declare_row name form ∷ terms) c.declare_terms.result later) named
     (declares-then earlier between later (declare_row c.in_ok-name.name form ∷ []) terms c.declare_terms.result c.in_ok-declare_row.ensures.0 c.in_ok-declare_row.ensures.1
     (subst (λ (ds : Declarations). Declares between ds c.declare_terms.result later) same c.declare_terms.ensures))

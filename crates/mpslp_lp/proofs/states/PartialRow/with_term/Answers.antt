@@ -5,25 +5,33 @@ use Rattle.indexmap.proofs.CallerLemmas.{insert_entry-new}
 use Rattle.mpslp_decimal.specs.Decimal.{Number}
 use Rattle.mpslp_types.specs.Name.{same_bytes}
 use Rattle.mpslp_lp.specs.PartialRow.{PartialRow}
+use Rattle.mpslp_lp.specs.declared.states.PartialParts.{PartialParts}
 use Rattle.mpslp_lp.proofs.TokenAnswers.{looked-up}
 use Rattle.mpslp_lp.proofs.states.PartialRow.with_term.Goals as goal
+
+-- what the parts in the box tell of a row
+abbrev told : PartialParts → PartialRow
+told parts = record { name = parts.name; left = parts.left; terms = parts.terms.entries }
 
 pub returns-in-Ok-None : goal.returns-in-Ok-None
 returns-in-Ok-None c =
     let column = c.args.column in
-    let terms = c.self.inside.terms.entries in
+    let parts = c.deref_mut.result.now in
     let none = sym c.in-Ok-None.ensures.old ∙ c.in-Ok-None.field-0-is in
-    let seen : c.args.self.terms ≡ terms = ap (λ (row : PartialRow). row.terms) (sym c.self.view_is) in (
+    let row_is : told parts ≡ c.args.self = ap told c.deref_mut.ensures.value ∙ c.row.view_is in
+    let seen : c.args.self.terms ≡ parts.terms.entries = ap (λ (row : PartialRow). row.terms) (sym row_is) in (
       looked-up column c.args.self.terms ∙ ap (λ (all : List (List ℕ × Number)). is_some (lookup (same_bytes column) all)) seen ∙ ap is_some none,
-      ap (λ (all : List (List ℕ × Number)). record { name = c.self.inside.name; left = c.self.inside.left; terms = all })
-          (c.in-Ok-None.ensures.entries ∙ insert_entry-new same_bytes c.self.inside.terms column c.args.value none)
-          ∙ ap (λ (row : PartialRow). record row { terms = row.terms ++ (column, c.args.value) ∷ [] }) c.self.view_is,
+      ap (λ (all : List (List ℕ × Number)). record { name = parts.name; left = parts.left; terms = all })
+          (c.in-Ok-None.ensures.entries ∙ insert_entry-new same_bytes parts.terms column c.args.value none)
+          ∙ ap (λ (row : PartialRow). record row { terms = row.terms ++ (column, c.args.value) ∷ [] }) row_is,
     )
 
 pub returns-in-Ok-Some : goal.returns-in-Ok-Some
 returns-in-Ok-Some c =
     let column = c.args.column in
-    let seen : c.args.self.terms ≡ c.self.inside.terms.entries = ap (λ (row : PartialRow). row.terms) (sym c.self.view_is) in (
+    let parts = c.deref_mut.result.now in
+    let row_is : told parts ≡ c.args.self = ap told c.deref_mut.ensures.value ∙ c.row.view_is in
+    let seen : c.args.self.terms ≡ parts.terms.entries = ap (λ (row : PartialRow). row.terms) (sym row_is) in (
       looked-up column c.args.self.terms ∙ ap (λ (all : List (List ℕ × Number)). is_some (lookup (same_bytes column) all)) seen
           ∙ ap is_some (sym c.in-Ok-Some.ensures.old ∙ c.in-Ok-Some.field-0-is),
       refl,
