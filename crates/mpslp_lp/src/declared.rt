@@ -36,12 +36,7 @@ pub(crate) struct Declared {
     builder: Builder,
     /// How many rows there are; it stays at 2^64 - 1.
     rows: u64,
-    /// How many terms the last row had: the next one gets room for as many.
-    usual_terms: usize,
 }
-
-/// The most terms for which a row gets room before they come, so that short rows behind a long one do not take much.
-const MOST_USUAL_TERMS: usize = 64;
 
 impl Model for Declared {
     ghost use Rattle.std.specs.Prelude.{◌≡◌, ◌-◌, ◌^◌, length, min};
@@ -74,7 +69,6 @@ impl Declared {
             alloc,
             builder: Builder::new(alloc),
             rows: 0,
-            usual_terms: 0,
         }
     }
 
@@ -88,11 +82,6 @@ impl Declared {
     /// Where memory comes from.
     pub(crate) fn alloc(&self) -> Global {
         self.alloc
-    }
-
-    /// For how many terms a row gets room before they come.
-    pub(crate) fn usual_terms(&self) -> usize {
-        self.usual_terms
     }
 
     /// A copy of a name.
@@ -292,14 +281,8 @@ impl Declared {
         Ok(())
     }
 
-    /// Declares a row by its limits, which has so many terms.
-    fn declare_row(
-        &mut self,
-        name: Name,
-        lower: Limit,
-        upper: Limit,
-        terms: usize,
-    ) -> Result<(), LineError>
+    /// Declares a row by its limits.
+    fn declare_row(&mut self, name: Name, lower: Limit, upper: Limit) -> Result<(), LineError>
         requires lower { IsTrue (is_given lower) }
         requires upper { IsTrue (is_given upper) }
         ensures { Declares self.old (declare_row name (by_limits lower upper) ∷ []) result self.new }
@@ -307,7 +290,6 @@ impl Declared {
         each_builder_is_made(&self.builder);
         self.builder.row_limits(name, lower, upper)?;
         self.rows = self.rows.saturating_add(1);
-        self.usual_terms = terms.min(MOST_USUAL_TERMS);
         Ok(())
     }
 
@@ -379,7 +361,7 @@ impl Declared {
         let parts: &PartialParts = &row.parts;
         each_name_is_legal(&parts.name);
         let name = self.copied(parts.name.as_bytes())?;
-        self.declare_row(name, lower, upper, parts.terms.len())?;
+        self.declare_row(name, lower, upper)?;
         self.declare_terms(parts.name.as_bytes(), &parts.terms)
     }
 

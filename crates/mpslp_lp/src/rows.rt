@@ -27,6 +27,9 @@ use indexmap::IndexMap;
 use mpslp_model::{FaultKind, Limit, Name};
 use mpslp_reading::LineError;
 
+/// For how many terms a row has room from its beginning: as many as a table of 32 places takes.
+const USUAL_TERMS: usize = 28;
+
 /// A row of which no term was taken.
 pub(crate) fn without_terms(
     before: &Before,
@@ -36,7 +39,7 @@ pub(crate) fn without_terms(
     ensures { MatchResult result (λ row. row ≡ without_terms name left) (λ error. error ≡ LineError.OutOfMemory) }
 {
     let alloc = before.earlier.alloc();
-    let terms = IndexMap::with_capacity(alloc, before.earlier.usual_terms())?;
+    let terms = IndexMap::with_capacity(alloc, USUAL_TERMS)?;
     match Box::new(alloc, PartialParts { name, left, terms }) {
         Ok(parts) => Ok(PartialRow { parts }),
         Err(_) => Err(LineError::OutOfMemory),

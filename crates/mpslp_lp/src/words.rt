@@ -151,7 +151,10 @@ const LONGEST_WORD: usize = 8;
 fn begins_reserved(letter: u8) -> bool
     ensures { result ≡ begins_reserved letter }
 {
-    matches!(lower_byte(letter), b'b' | b'e' | b'f' | b'g' | b'i' | b'm' | b's')
+    matches!(
+        lower_byte(letter),
+        b'b' | b'e' | b'f' | b'g' | b'i' | b'm' | b's'
+    )
 }
 
 /// Whether the text may be a reserved word, by its length and its first letter. Most names are told from them by these.
