@@ -11,8 +11,9 @@ run:
 # How many proofs run side by side: each takes up to 4 GB of memory.
 PROOFS = $(shell nproc | awk '{ print $$1 < 4 ? $$1 : 4 }')
 
-# The merge gate: proves everything from nothing, tries the must-fail edits, and runs tests and programs. What this builds
-# is then tried: the calls of the library and the program on the files of vectors/ and a large one, and what the documents say.
+# The merge gate: proves everything, and on a machine that has done so what changed since and the crates above it; tries the
+# must-fail edits, which are wrong versions that the prover has to refuse; and runs tests and programs. What this builds is
+# then tried: the calls of the library and the program on the files of vectors/ and a large one, and what the documents say.
 test:
 	RT_JOBS=$(PROOFS) rt ci
 	cd vectors && ../crates/try_vectors/out/try_vectors

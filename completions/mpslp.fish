@@ -17,6 +17,7 @@ complete -c mpslp -n 'test (__mpslp_words) = 0' -a show -d 'Show the model of a 
 complete -c mpslp -n 'test (__mpslp_words) = 0' -a help -d 'Print help'
 complete -c mpslp -n 'test (__mpslp_words) = 0' -s h -l help -d 'Print help'
 complete -c mpslp -n 'test (__mpslp_words) = 0' -s V -l version -d 'Print the version'
+complete -c mpslp -n '__mpslp_at canon 1; or __mpslp_at same 1; or __mpslp_at show 1' -l help -d 'Print help'
 complete -c mpslp -n '__mpslp_at canon 1 2; or __mpslp_at same 1 3; or __mpslp_at show 1' -a 'mps lp'
 complete -c mpslp -n '__mpslp_at canon 3; or __mpslp_at same 2 4; or __mpslp_at show 2' -F
 complete -c mpslp -n '__mpslp_at help 1' -a 'canon same show'
