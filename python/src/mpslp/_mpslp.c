@@ -61,7 +61,7 @@ static void raise_fault(PyObject *module, const mpslp_fault *fault, const char *
 }
 
 /* Raises what a status tells that is no answer. It returns null, as a function of Python that raised does. */
-static PyObject *raise(PyObject *module, uint32_t status, const mpslp_fault *fault, const char *which) {
+static PyObject *refuse(PyObject *module, uint32_t status, const mpslp_fault *fault, const char *which) {
     switch (status) {
     case MPSLP_REFUSED:
     case MPSLP_SECOND_REFUSED:
@@ -78,7 +78,7 @@ static PyObject *truth(PyObject *module, uint32_t status, const mpslp_fault *fau
     switch (status) {
     case MPSLP_OK: return Py_NewRef(Py_True);
     case MPSLP_DIFFERS: return Py_NewRef(Py_False);
-    default: return raise(module, status, fault, which);
+    default: return refuse(module, status, fault, which);
     }
 }
 
@@ -93,7 +93,7 @@ static PyObject *canonical(PyObject *module, PyObject *arguments) {
     Py_BEGIN_ALLOW_THREADS
     status = mpslp_canonical(from, to, text.bytes, text.len, &out, &fault);
     Py_END_ALLOW_THREADS
-    if (status != MPSLP_OK) return raise(module, status, &fault, NULL);
+    if (status != MPSLP_OK) return refuse(module, status, &fault, NULL);
     answer = PyBytes_FromStringAndSize((const char *)out.bytes, (Py_ssize_t)out.len);
     mpslp_free(&out);
     return answer;
@@ -127,9 +127,12 @@ static PyObject *is_canonical(PyObject *module, PyObject *arguments) {
 }
 
 static PyMethodDef calls[] = {
-    { "canonical", canonical, METH_VARARGS, "canonical(source: bytes, from_format: int, to_format: int) -> bytes" },
-    { "same", same, METH_VARARGS, "same(first: bytes, first_format: int, second: bytes, second_format: int) -> bool" },
-    { "is_canonical", is_canonical, METH_VARARGS, "is_canonical(source: bytes, format: int) -> bool" },
+    { "canonical", canonical, METH_VARARGS,
+      "canonical($module, source, from_format, to_format, /)\n--\n\nThe canonical text of the model that bytes declare." },
+    { "same", same, METH_VARARGS,
+      "same($module, first, first_format, second, second_format, /)\n--\n\nWhether bytes declare the same model." },
+    { "is_canonical", is_canonical, METH_VARARGS,
+      "is_canonical($module, source, format, /)\n--\n\nWhether bytes are the canonical text of their model." },
     { NULL, NULL, 0, NULL },
 };
 
@@ -144,8 +147,7 @@ static PyObject *imported(const char *module_name, const char *name) {
 
 static int begin(PyObject *module) {
     state *held = state_of(module);
-    held->error = imported("mpslp._faults", "ModelFileError");
-    if (held->error == NULL) return -1;
+    if ((held->error = imported("mpslp._faults", "ModelFileError")) == NULL) return -1;
     if (PyModule_AddIntConstant(module, "MPS", MPSLP_MPS) < 0) return -1;
     return PyModule_AddIntConstant(module, "LP", MPSLP_LP);
 }

@@ -33,20 +33,22 @@ def format_number(format: str) -> int:
 def read(source: Source, format: Format | None) -> tuple[bytes, int]:
     """The bytes of a text and the number of its format. A format that is told goes before the ending of a path."""
     if isinstance(source, (str, os.PathLike)):
-        path = os.fsdecode(source)
-        number = format_number(format if format is not None else _format_of_path(path))
-        with open(source, "rb") as file:
+        path = os.fspath(source)
+        number = format_number(_format_of_path(path) if format is None else format)
+        with open(path, "rb") as file:
             return file.read(), number
     if format is None:
         raise ValueError("the format of bytes has to be told: 'mps' or 'lp'")
-    return _frozen(source), format_number(format)
+    number = format_number(format)
+    return _frozen(source), number
 
 
-def _format_of_path(path: str) -> str:
-    ending = os.path.splitext(path)[1][1:].lower()
-    if ending not in _NUMBERS:
-        raise ValueError(f"the format of {path!r} has to be told, 'mps' or 'lp': its ending is neither .mps nor .lp")
-    return ending
+def _format_of_path(path: str | bytes) -> str:
+    name = os.fsdecode(path)
+    for format in _NUMBERS:
+        if name.lower().endswith("." + format):
+            return format
+    raise ValueError(f"the format of {name!r} has to be told, 'mps' or 'lp': it ends neither in .mps nor in .lp")
 
 
 def _frozen(source: ReadableBuffer) -> bytes:
