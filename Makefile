@@ -2,7 +2,7 @@
 
 PREFIX ?= /usr/local
 
-.PHONY: run test install lib install-lib lib-check bench refused random vectors docs-check solvers
+.PHONY: run test install lib install-lib lib-check python python-check bench refused random vectors docs-check solvers
 
 # Builds the program, proved, and prints the canonical text of an example.
 run:
@@ -50,6 +50,14 @@ install-lib: lib
 # Tries the library from C and C++.
 lib-check: lib
 	sh tests/c/check.sh
+
+# Builds the wheel of the Python package, in build/.
+python: lib
+	sh python/build.sh
+
+# Tries the Python package.
+python-check: python
+	sh python/check.sh
 
 # The speed of numbers, of whole programs, and of files made to be slow; the program has to be built.
 bench:

@@ -1,0 +1,37 @@
+"""Builds the extension module; all else stands in pyproject.toml.
+
+MPSLP_INCLUDE is the folder of mpslp.h and MPSLP_LIBRARY is libmpslp.a, where these are not those of the repository.
+"""
+
+import os
+import sys
+from pathlib import Path
+
+from setuptools import Extension, setup
+
+ROOT = Path(__file__).resolve().parent.parent
+INCLUDE = Path(os.environ.get("MPSLP_INCLUDE", ROOT / "include"))
+LIBRARY = Path(os.environ.get("MPSLP_LIBRARY", ROOT / "build" / "libmpslp.a"))
+
+for part in (INCLUDE / "mpslp.h", LIBRARY):
+    if not part.is_file():
+        sys.exit(f"{part} is missing: make lib builds the library")
+
+setup(
+    ext_modules=[
+        Extension(
+            "mpslp._mpslp",
+            ["src/mpslp/_mpslp.c"],
+            include_dirs=[str(INCLUDE)],
+            extra_objects=[str(LIBRARY)],
+            depends=[str(INCLUDE / "mpslp.h"), str(LIBRARY)],
+            # The stable interface of CPython: one wheel serves 3.10 and all later ones.
+            define_macros=[("Py_LIMITED_API", "0x030A0000")],
+            py_limited_api=True,
+            extra_compile_args=["-std=c11", "-Wall", "-Wextra", "-fvisibility=hidden"],
+            # Other copies of the library in one process do not meet.
+            extra_link_args=["-Wl,--exclude-libs,ALL"],
+        )
+    ],
+    options={"bdist_wheel": {"py_limited_api": "cp310"}},
+)

@@ -1,0 +1,20 @@
+"""One canonical text for each linear or mixed-integer model in an MPS or LP file.
+
+A text is bytes, in any object that has a buffer, or the path of its file, as ``str`` or ``os.PathLike``. A format is
+``"mps"`` or ``"lp"``. Where a path ends in ``.mps`` or ``.lp``, in letters of either case, its format may be left out;
+of bytes, and of other paths, it has to be told. A format that is told goes before the ending.
+
+>>> import mpslp
+>>> mpslp.canonical(b"min 3.0 x + 2e0 y\\nend\\n", "lp")
+b'Minimize\\n obj:\\n  + 3 x\\n  + 2 y\\nSubject To\\nEnd\\n'
+
+Texts that are refused raise ModelFileError, which is a ValueError. Other exceptions: ValueError for a format that is
+unknown or missing, TypeError for what is neither bytes nor a path, OSError where a file does not open or read, and
+MemoryError. Calls may run in many threads at once, and let the others go on meanwhile.
+"""
+
+from mpslp._calls import canonical, is_canonical, same
+from mpslp._faults import ModelFileError
+from mpslp._sources import Format, Source
+
+__all__ = ["Format", "ModelFileError", "Source", "canonical", "is_canonical", "same"]

@@ -1,0 +1,51 @@
+"""Calls of the extension module that take each way out of it; as a program, it makes each of them."""
+
+from functools import partial
+
+from mpslp import _mpslp
+from repository import EXAMPLES
+
+MPS = (EXAMPLES / "small.mps").read_bytes()
+LP = (EXAMPLES / "small.lp").read_bytes()
+OTHER = (EXAMPLES / "semi.lp").read_bytes()
+CANONICAL = (EXAMPLES / "small.canonical.mps").read_bytes()
+ON_A_LINE = b"ROWS\n N  cost\n N  cost\nENDATA\n"
+WITH_A_NAME = b"ROWS\n N  cost\nCOLUMNS\n    x  cost  1\nBOUNDS\n UP  B  x  -1\nENDATA\n"
+NOT_LP = b"ROWS\n N  cost\nCOLUMNS\n    x[1]  cost  1\nENDATA\n"
+
+# Each has all of its arguments, so that nothing but the call itself takes memory.
+CALLS = {
+    "canonical": partial(_mpslp.canonical, MPS, _mpslp.MPS, _mpslp.LP),
+    "canonical, refused on a line": partial(_mpslp.canonical, ON_A_LINE, _mpslp.MPS, _mpslp.MPS),
+    "canonical, refused with a name": partial(_mpslp.canonical, WITH_A_NAME, _mpslp.MPS, _mpslp.MPS),
+    "canonical, not LP": partial(_mpslp.canonical, NOT_LP, _mpslp.MPS, _mpslp.LP),
+    "same": partial(_mpslp.same, MPS, _mpslp.MPS, LP, _mpslp.LP),
+    "same, not": partial(_mpslp.same, MPS, _mpslp.MPS, OTHER, _mpslp.LP),
+    "same, first refused": partial(_mpslp.same, ON_A_LINE, _mpslp.MPS, LP, _mpslp.LP),
+    "same, second refused": partial(_mpslp.same, LP, _mpslp.LP, b"", _mpslp.LP),
+    "is_canonical": partial(_mpslp.is_canonical, CANONICAL, _mpslp.MPS),
+    "is_canonical, not": partial(_mpslp.is_canonical, MPS, _mpslp.MPS),
+    "is_canonical, refused": partial(_mpslp.is_canonical, b"", _mpslp.MPS),
+}
+
+# Arguments that the modules of the package never give.
+WRONG_CALLS = {
+    "an unknown format": partial(_mpslp.canonical, MPS, 2, 2),
+    "no bytes": partial(_mpslp.is_canonical, "NAME", _mpslp.MPS),
+    "an argument too few": partial(_mpslp.same, MPS, _mpslp.MPS, LP),
+}
+
+
+def answer_of(call):
+    """What a call answers, or what it raises but for MemoryError."""
+    try:
+        return call()
+    except MemoryError:
+        raise
+    except Exception as error:
+        return type(error), str(error)
+
+
+if __name__ == "__main__":
+    for each in (CALLS | WRONG_CALLS).values():
+        answer_of(each)

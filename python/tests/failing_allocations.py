@@ -1,0 +1,48 @@
+"""Lets each request for memory of each call fail in turn, with refuse.c preloaded; test_memory.py runs it.
+
+Each call has to raise MemoryError or to answer as ever, and to leave no memory behind. PYTHONMALLOC=malloc makes the
+requests of Python's own objects fail, too.
+"""
+
+import ctypes
+import sys
+from itertools import count
+
+from answers import CALLS, answer_of
+from heap import bytes_in_use
+
+PRELOADED = ctypes.PyDLL(None)
+PRELOADED.call_refusing.restype = ctypes.py_object
+PRELOADED.call_refusing.argtypes = [ctypes.py_object, ctypes.c_long]
+
+
+def fail_in_turn(call, wanted):
+    """Answers how many requests there were, and in how many of their refusals the call raised MemoryError."""
+    raised = 0
+    for number in count():
+        try:
+            answer = answer_of(lambda: PRELOADED.call_refusing(call, number))
+            if answer != wanted:
+                raise SystemExit(f"{call}: {answer!r} where request {number} is refused")
+        except MemoryError:
+            raised += 1
+        if not PRELOADED.was_refused():
+            return number, raised
+
+
+def main():
+    for name, call in CALLS.items():
+        wanted = answer_of(call)
+        grown = []
+        for _ in range(4):
+            before = bytes_in_use()
+            requests, raised = fail_in_turn(call, wanted)
+            grown.append(bytes_in_use() - before)
+        print(f"{name}: {requests} requests, {raised} times MemoryError")
+        # The first turns fill what Python keeps for later.
+        if grown[-1] > 0 and grown[-2] > 0:
+            raise SystemExit(f"{name}: {grown} bytes stay in use")
+
+
+if __name__ == "__main__":
+    sys.exit(main())

@@ -1,0 +1,166 @@
+"""What may be given to the calls: bytes, other buffers and paths, and formats."""
+
+import array
+import mmap
+import os
+import tempfile
+import unittest
+from pathlib import Path
+
+import mpslp
+from repository import EXAMPLES
+
+TEXT = (EXAMPLES / "small.mps").read_bytes()
+CANONICAL = (EXAMPLES / "small.canonical.mps").read_bytes()
+
+
+class BytesPath:
+    """A path whose file system name is bytes."""
+
+    def __init__(self, path):
+        self.path = path
+
+    def __fspath__(self):
+        return os.fsencode(self.path)
+
+
+class Buffers(unittest.TestCase):
+    def test_bytes_and_other_buffers(self):
+        class Named(bytes):
+            pass
+
+        spread = bytearray(2 * len(TEXT))
+        spread[::2] = TEXT
+        for source in (TEXT, Named(TEXT), bytearray(TEXT), memoryview(TEXT), memoryview(bytearray(TEXT)), memoryview(spread)[::2],
+                       array.array("B", TEXT)):
+            with self.subTest(type(source)):
+                self.assertEqual(mpslp.canonical(source, "mps"), CANONICAL)
+                self.assertIs(mpslp.is_canonical(source, "mps"), False)
+                self.assertIs(mpslp.same(source, CANONICAL, "mps", "mps"), True)
+                self.assertIs(mpslp.same(CANONICAL, source, "mps", "mps"), True)
+
+    def test_a_mapped_file(self):
+        with open(EXAMPLES / "small.mps", "rb") as file, mmap.mmap(file.fileno(), 0, access=mmap.ACCESS_READ) as mapped:
+            self.assertEqual(mpslp.canonical(mapped, "mps"), CANONICAL)
+
+    def test_the_answer_is_bytes(self):
+        self.assertIs(type(mpslp.canonical(bytearray(TEXT), "mps")), bytes)
+
+    def test_a_buffer_may_change_after_the_call(self):
+        source = bytearray(TEXT)
+        mpslp.canonical(source, "mps")
+        source.clear()  # a buffer that was kept would refuse this
+        self.assertEqual(source, b"")
+
+    def test_no_bytes(self):
+        with self.assertRaisesRegex(mpslp.ModelFileError, "^file: MissingEnd$"):
+            mpslp.canonical(b"", "lp")
+
+    def test_what_is_no_text(self):
+        for source in (None, 7, 1.5, ["NAME"], object()):
+            with self.subTest(source), self.assertRaisesRegex(TypeError, "^a text is bytes or a path, not "):
+                mpslp.canonical(source, "mps")
+
+
+class Paths(unittest.TestCase):
+    def setUp(self):
+        folder = tempfile.TemporaryDirectory()
+        self.addCleanup(folder.cleanup)
+        self.folder = Path(folder.name)
+
+    def file(self, name, text=TEXT):
+        path = self.folder / name
+        path.write_bytes(text)
+        return path
+
+    def test_kinds_of_paths(self):
+        path = self.file("model.mps")
+        for source in (path, str(path), BytesPath(path)):
+            with self.subTest(type(source)):
+                self.assertEqual(mpslp.canonical(source), CANONICAL)
+                self.assertIs(mpslp.is_canonical(source), False)
+                self.assertIs(mpslp.same(source, source), True)
+
+    def test_the_format_is_known_from_the_ending(self):
+        lp = (EXAMPLES / "small.lp").read_bytes()
+        for name, text in (("a.mps", TEXT), (".mps", TEXT), ("a.MPS", TEXT), ("a.lp.mps", TEXT), ("a.lp", lp), ("a.Lp", lp), ("a.mps.lp", lp)):
+            with self.subTest(name):
+                self.assertEqual(mpslp.canonical(self.file(name, text), to_format="mps"), CANONICAL)
+
+    def test_the_canonical_text_has_the_format_of_the_source(self):
+        self.assertEqual(mpslp.canonical(EXAMPLES / "small.lp"), (EXAMPLES / "small.canonical.lp").read_bytes())
+        self.assertEqual(mpslp.canonical(EXAMPLES / "small.mps"), CANONICAL)
+
+    def test_a_format_that_is_told_goes_before_the_ending(self):
+        self.assertEqual(mpslp.canonical(self.file("model.lp"), "mps"), CANONICAL)
+
+    def test_an_ending_that_tells_no_format(self):
+        for name in ("model", "model.txt", "model.mps.gz", "model.mps ", "mps", "my-lp"):
+            path = self.file(name)
+            with self.subTest(name):
+                self.assertEqual(mpslp.canonical(path, "mps"), CANONICAL)
+                with self.assertRaisesRegex(ValueError, "has to be told"):
+                    mpslp.canonical(path)
+
+    def test_a_name_that_is_no_text(self):
+        path = Path(os.fsdecode(bytes(self.folder) + b"/\xff.mps"))
+        path.write_bytes(TEXT)
+        self.assertEqual(mpslp.canonical(path), CANONICAL)
+
+    def test_paths_that_do_not_open(self):
+        with self.assertRaises(FileNotFoundError) as caught:
+            mpslp.canonical(self.folder / "none.mps")
+        self.assertEqual(Path(caught.exception.filename), self.folder / "none.mps")
+        with self.assertRaises(FileNotFoundError):
+            mpslp.same(EXAMPLES / "small.mps", self.folder / "none.lp")
+        with self.assertRaises(IsADirectoryError):
+            mpslp.is_canonical(self.folder, "lp")
+
+
+class Formats(unittest.TestCase):
+    def test_bytes_want_a_format(self):
+        for call in (
+            lambda: mpslp.canonical(TEXT),
+            lambda: mpslp.canonical(TEXT, to_format="mps"),
+            lambda: mpslp.is_canonical(TEXT),
+            lambda: mpslp.same(TEXT, TEXT, "mps"),
+            lambda: mpslp.same(TEXT, TEXT, second_format="mps"),
+        ):
+            with self.assertRaisesRegex(ValueError, "has to be told") as caught:
+                call()
+            self.assertNotIsInstance(caught.exception, mpslp.ModelFileError)
+
+    def test_unknown_formats(self):
+        for word in ("", "MPS", "Lp", "mps ", ".mps", "qps", 0, 1, b"mps", ["mps"]):
+            for call in (
+                lambda: mpslp.canonical(TEXT, word),
+                lambda: mpslp.canonical(TEXT, "mps", word),
+                lambda: mpslp.canonical(EXAMPLES / "small.mps", word),
+                lambda: mpslp.is_canonical(TEXT, word),
+                lambda: mpslp.same(TEXT, TEXT, word, "mps"),
+                lambda: mpslp.same(TEXT, TEXT, "mps", word),
+            ):
+                with self.subTest(word), self.assertRaisesRegex(ValueError, "^unknown format: ") as caught:
+                    call()
+                self.assertNotIsInstance(caught.exception, mpslp.ModelFileError)
+
+    def test_formats_by_name(self):
+        self.assertEqual(mpslp.canonical(source=TEXT, from_format="mps", to_format="mps"), CANONICAL)
+        self.assertTrue(mpslp.same(first=TEXT, second=TEXT, first_format="mps", second_format="mps"))
+        self.assertTrue(mpslp.is_canonical(source=CANONICAL, format="mps"))
+
+    def test_formats_that_the_library_does_not_know(self):
+        from mpslp import _mpslp
+
+        for call in (
+            lambda: _mpslp.canonical(TEXT, 2, _mpslp.LP),
+            lambda: _mpslp.canonical(TEXT, _mpslp.MPS, 2),
+            lambda: _mpslp.is_canonical(TEXT, 4294967295),
+            lambda: _mpslp.same(TEXT, 2, TEXT, 0),
+        ):
+            with self.assertRaisesRegex(ValueError, "^unknown format$"):
+                call()
+
+
+if __name__ == "__main__":
+    unittest.main()

@@ -1,0 +1,95 @@
+"""The suite of vectors/, whose README says what it is, through the calls of the package."""
+
+import unittest
+
+import mpslp
+from repository import VECTORS, form_of
+
+import vectors  # from tests/ of the repository
+
+
+class Calls(vectors.Checker):
+    """The words of the program, done by the package: what it prints, and its exit status."""
+
+    def __init__(self):
+        super().__init__(program=None, shows=False)
+
+    def run(self, *words, text=b""):
+        self.count += 1
+        try:
+            return 0, self.answer(text, *words), b""
+        except mpslp.ModelFileError as error:
+            return 2, b"", str(error).encode() + b"\n"
+        except Differs:
+            return 1, b"not the same\n", b""
+
+    def answer(self, text, word, *words):
+        if word == "canon":
+            from_format, to_format, path = words
+            assert path == "-"
+            return mpslp.canonical(text, from_format, to_format)
+        assert word == "same"
+        first_format, first, second_format, second = words
+        if not mpslp.same(VECTORS / first, VECTORS / second, first_format, second_format):
+            raise Differs
+        return b"same\n"
+
+
+class Differs(Exception):
+    """Two files declare different models."""
+
+
+def entries():
+    return [vectors.Entry(*fields) for fields in vectors.rows("index.tsv")]
+
+
+class Vectors(unittest.TestCase):
+    def test_the_program_s_bytes_and_faults(self):
+        calls = Calls()
+        vectors.check_program(calls)
+        self.assertEqual(calls.wrong, [])
+        self.assertGreater(calls.count, 1000)
+
+    def test_canonical_texts_are_known(self):
+        for entry in entries():
+            path = VECTORS / entry.input
+            with self.subTest(entry.input):
+                if entry.answer == "model":
+                    own = entry.mps if form_of(path) == "mps" else entry.lp
+                    is_own = not own.endswith(": NotLp") and path.read_bytes() == vectors.content(own)
+                    self.assertIs(mpslp.is_canonical(path), is_own)
+                    continue
+                with self.assertRaises(mpslp.ModelFileError) as caught:
+                    mpslp.is_canonical(path)
+                self.assertEqual(str(caught.exception), entry.answer)
+
+    def test_what_a_fault_tells(self):
+        for entry in entries():
+            if entry.answer == "model" and not entry.lp.endswith(": NotLp"):
+                continue
+            told = entry.lp if entry.answer == "model" else entry.answer
+            with self.subTest(entry.input), self.assertRaises(mpslp.ModelFileError) as caught:
+                mpslp.canonical(VECTORS / entry.input, to_format="lp")
+            error = caught.exception
+            self.assertEqual((error.which, error.kind), (None, told.split(": ")[1].split(" ")[0]))
+            self.assertEqual(parts(error), parts_of_line(told))
+
+
+def parts(error):
+    return error.line, error.name, error.place, error.number
+
+
+def parts_of_line(told):
+    """The line, the name, the place and its number, as the line of a fault tells them."""
+    where, _, what = told.partition(": ")
+    word, _, number = where.partition(" ")
+    name = what.partition(" ")[2] or None
+    if word == "line":
+        return int(number), name, None, None
+    if word == "file":
+        return None, name, None, None
+    return None, name, word, int(number) if number else None
+
+
+if __name__ == "__main__":
+    unittest.main()
