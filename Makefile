@@ -20,6 +20,7 @@ test:
 	python3 tests/vectors.py
 	python3 tests/large_file.py
 	python3 tests/docs_check.py
+	sh tests/callers.sh
 
 # Builds the program where it is missing or its sources have changed, and installs it with its man page and completions.
 install: run
