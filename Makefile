@@ -46,8 +46,8 @@ install-lib: lib
 	ln -sf libmpslp.so.0 $(DESTDIR)$(PREFIX)/lib/libmpslp.so
 	sed 's|@PREFIX@|$(PREFIX)|' lib/mpslp.pc.in > $(DESTDIR)$(PREFIX)/lib/pkgconfig/mpslp.pc
 
-# Tries the library from C and C++.
-lib-check: lib
+# Tries the library from C and C++, beside the program.
+lib-check: lib run
 	sh tests/c/check.sh
 
 # The speed of numbers, of whole programs, and of files made to be slow; the program has to be built.
