@@ -48,8 +48,8 @@ install-lib: lib
 	ln -sf libmpslp.so.0 $(DESTDIR)$(PREFIX)/lib/libmpslp.so
 	sed 's|@PREFIX@|$(PREFIX)|' lib/mpslp.pc.in > $(DESTDIR)$(PREFIX)/lib/pkgconfig/mpslp.pc
 
-# Tries the library from C and C++.
-lib-check: lib
+# Tries the library from C and C++, beside the program.
+lib-check: lib run
 	sh tests/c/check.sh
 
 # Builds the wheel of the Python package, in build/.

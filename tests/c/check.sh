@@ -1,10 +1,12 @@
 #!/bin/sh
-# tests/c/check.sh: tries build/libmpslp.a and build/libmpslp.so.0 from C and C++. It needs gcc, g++, valgrind and python3.
+# tests/c/check.sh: tries build/libmpslp.a and build/libmpslp.so.0 from C and C++. It needs gcc, g++, valgrind and python3,
+# and the program, which shows models as the library has to.
 set -eu
 cd "$(dirname "$0")/../.."
 tried=build/tests
 warn="-Wall -Wextra -Werror -pedantic"
 checked="valgrind -q --error-exitcode=9 --leak-check=full --show-leak-kinds=all"
+mpslp=crates/mpslp/out/mpslp
 rm -rf $tried
 mkdir -p $tried
 
@@ -12,6 +14,8 @@ die() {
     echo "$*" >&2
     exit 1
 }
+
+test -x $mpslp || die "the program is not built: make run"
 
 # The shared library exports the calls of the header, and nothing else.
 sed -n 's/^uint32_t \(mpslp_[a-z_]*\)(.*/\1/p' include/mpslp.h | sort > $tried/declared
@@ -42,11 +46,20 @@ for input in examples/*.mps examples/*.lp; do
         done
     done
     case $model in *.canonical) $tried/program is "$form" "$input" || die "$input is canonical" ;; esac
+    $mpslp show "$form" "$input" > $tried/shown
+    for program in $tried/program $tried/program-sanitized "$checked $tried/program"; do
+        $program show "$form" "$input" | cmp - $tried/shown || die "$input shown"
+    done
 done
 ! $tried/program is mps examples/small.mps || die "examples/small.mps is not canonical"
 
-# The conformance suite, on plain and on checked builds: each text, each fault, and each comparison.
-python3 tests/vectors.py --program $tried/program --without-show
+# Numbers as doubles.
+for program in $tried/program $tried/program-sanitized; do
+    python3 tests/c/doubles.py $program || die "a double"
+done
+
+# The conformance suite, on plain and on checked builds: each text, each fault, each comparison, and each model that is shown.
+python3 tests/vectors.py --program $tried/program
 for format in mps lp; do
     $tried/failing $format examples/small.$format || die "an allocation that fails, in $format"
     $checked $tried/failing $format examples/small.$format > /dev/null || die "an allocation that fails, in $format, by valgrind"
@@ -55,5 +68,9 @@ for input in vectors/*.mps vectors/*.lp; do
     status=0
     $tried/program-sanitized canon "${input##*.}" lp "$input" > $tried/text 2> $tried/fault || status=$?
     test $status -le 2 || die "$input: $(cat $tried/fault)"
+    status=0
+    $tried/program-sanitized show "${input##*.}" "$input" > $tried/text 2> $tried/fault || status=$?
+    test $status -le 2 || die "$input: $(cat $tried/fault)"
+    $mpslp show "${input##*.}" "$input" 2>&1 | cmp - "$(test $status = 0 && echo $tried/text || echo $tried/fault)" || die "$input shown"
 done
 echo "the library answers as the program does"

@@ -18,48 +18,77 @@ static int fails(void) { return left >= 0 && left-- == 0; }
 void *__wrap_malloc(size_t size) { return fails() ? NULL : __real_malloc(size); }
 void *__wrap_realloc(void *at, size_t size) { return fails() ? NULL : __real_realloc(at, size); }
 
-enum { CANONICAL_MPS, CANONICAL_LP, SAME, IS_CANONICAL, CALLS };
-static const char *const names[CALLS] = { "mpslp_canonical to MPS", "mpslp_canonical to LP", "mpslp_same", "mpslp_is_canonical" };
+enum { CANONICAL_MPS, CANONICAL_LP, SAME, IS_CANONICAL, LOAD, CALLS };
+static const char *const names[CALLS] = { "mpslp_canonical to MPS", "mpslp_canonical to LP", "mpslp_same", "mpslp_is_canonical", "mpslp_load" };
 
 static uint8_t bytes[1 << 20];
 static size_t len;
 
-static uint32_t call(int which, uint32_t format, mpslp_text *text, mpslp_fault *fault) {
+/* What a call gives: a text, a model, or a fault. */
+typedef struct {
+    mpslp_text text;
+    mpslp_model model;
+    mpslp_fault fault;
+} answer;
+
+#define NO_ANSWER { MPSLP_NO_TEXT, MPSLP_NO_MODEL, MPSLP_NO_FAULT }
+
+static uint32_t call(int which, uint32_t format, answer *to) {
     switch (which) {
-    case CANONICAL_MPS: return mpslp_canonical(format, MPSLP_MPS, bytes, len, text, fault);
-    case CANONICAL_LP: return mpslp_canonical(format, MPSLP_LP, bytes, len, text, fault);
-    case SAME: return mpslp_same(format, bytes, len, format, bytes, len, fault);
-    default: return mpslp_is_canonical(format, bytes, len, fault);
+    case CANONICAL_MPS: return mpslp_canonical(format, MPSLP_MPS, bytes, len, &to->text, &to->fault);
+    case CANONICAL_LP: return mpslp_canonical(format, MPSLP_LP, bytes, len, &to->text, &to->fault);
+    case SAME: return mpslp_same(format, bytes, len, format, bytes, len, &to->fault);
+    case IS_CANONICAL: return mpslp_is_canonical(format, bytes, len, &to->fault);
+    default: return mpslp_load(format, bytes, len, &to->model, &to->fault);
     }
 }
 
-static int is_untouched(const mpslp_text *text, const mpslp_fault *fault) {
-    return text->len == 0 && fault->kind.len == 0 && fault->line == 0 && fault->place == MPSLP_NOWHERE && fault->name_len == 0;
+static void give_back(answer *it) {
+    mpslp_free(&it->text);
+    mpslp_free_model(&it->model);
 }
 
-/* Whether two answers are alike. */
+static int is_untouched(const answer *it) {
+    const mpslp_fault *fault = &it->fault;
+    return it->text.len == 0 && it->model.names.len == 0 && it->model.num_rows == 0 && it->model.num_columns == 0
+        && it->model.num_elements == 0 && fault->kind.len == 0 && fault->line == 0 && fault->place == MPSLP_NOWHERE && fault->name_len == 0;
+}
+
 static int is_same_text(const mpslp_text *one, const mpslp_text *other) {
     return one->len == other->len && memcmp(one->bytes, other->bytes, one->len) == 0;
 }
 
+/* Whether two columns are the same; behind the kind of a column lies padding. */
+static int is_same_column(const mpslp_column *one, const mpslp_column *other) {
+    return memcmp(one, other, offsetof(mpslp_column, kind) + sizeof one->kind) == 0;
+}
+
+/* Whether two answers are alike. */
+static int is_same(const answer *one, const answer *other) {
+    const mpslp_model *a = &one->model, *b = &other->model;
+    if (a->num_rows != b->num_rows || a->num_columns != b->num_columns || a->num_elements != b->num_elements) return 0;
+    for (size_t j = 0; j < a->num_columns; j++)
+        if (!is_same_column(&a->columns[j], &b->columns[j])) return 0;
+    return is_same_text(&one->text, &other->text) && is_same_text(&a->names, &b->names) && memcmp(a->rows, b->rows, a->num_rows * sizeof *a->rows) == 0
+        && memcmp(a->elements, b->elements, a->num_elements * sizeof *a->elements) == 0;
+}
+
 static int try_call(int which, uint32_t format) {
-    mpslp_text wanted = MPSLP_NO_TEXT;
-    mpslp_fault fault = MPSLP_NO_FAULT;
-    uint32_t answer = call(which, format, &wanted, &fault), status = MPSLP_OUT_OF_MEMORY;
+    answer wanted = NO_ANSWER;
+    uint32_t done = call(which, format, &wanted), status = MPSLP_OUT_OF_MEMORY;
     long n = 0;
     for (; status == MPSLP_OUT_OF_MEMORY; n++) {
-        mpslp_text text = MPSLP_NO_TEXT;
-        mpslp_fault none = MPSLP_NO_FAULT;
+        answer got = NO_ANSWER;
         left = n;
-        status = call(which, format, &text, &none);
+        status = call(which, format, &got);
         left = -1;
-        if (status == MPSLP_OUT_OF_MEMORY ? !is_untouched(&text, &none) : status != answer || !is_same_text(&text, &wanted)) {
+        if (status == MPSLP_OUT_OF_MEMORY ? !is_untouched(&got) : status != done || !is_same(&got, &wanted)) {
             fprintf(stderr, "%s answers %u where allocation %ld fails\n", names[which], (unsigned)status, n);
             return 1;
         }
-        mpslp_free(&text);
+        give_back(&got);
     }
-    mpslp_free(&wanted);
+    give_back(&wanted);
     printf("%s: no memory at each of %ld allocations\n", names[which], n - 1);
     return n == 1;
 }

@@ -1,6 +1,7 @@
 /*
  * The words of the program mpslp, done by the calls of the library: canon, same and show, and beside them
- * `is FORMAT PATH`, which tells whether a text is canonical. So what tests the program tests the library.
+ * `is FORMAT PATH`, which tells whether a text is canonical, and `double FORMAT PATH`, which prints each number of a model in
+ * hexadecimal. So what tests the program tests the library.
  */
 #include "mpslp.h"
 
@@ -99,12 +100,167 @@ static int is(uint32_t format, const char *path) {
     return status == MPSLP_OK ? DONE : NO;
 }
 
+/* ---- a model as the program shows it, through the views */
+
+/* Digits of a number, the lowest first, from 10^-500 on: those of any number, and of the difference of two. */
+enum { LOWEST = -500, DIGITS = 1040 };
+
+/* Adds a finite number to digits, or takes it from them. Digits may be below 0 then. */
+static void add(int digits[DIGITS], mpslp_number number, int sign) {
+    char text[MPSLP_NUMBER_ROOM];
+    size_t len = mpslp_number_text(number, text);
+    const char *first = text + (number.high < 0);
+    const char *at = text + len;
+    int place = number.exponent - LOWEST;
+    while (*--at != 'e') {}
+    while (at-- != first) digits[place++] += (*at - '0') * (number.high < 0 ? -sign : sign);
+}
+
+/* Prints digits with a sign, times ten to a power. */
+static void put_digits(bool is_negative, const char *digits, int len, int exponent) {
+    if (is_negative) putchar('-');
+    if (exponent > 5) printf("%.*se%d", len, digits, exponent);
+    else if (exponent >= 0) printf("%.*s%.*s", len, digits, exponent, "00000");
+    else if (exponent < -18) printf("%.*se%d", len, digits, exponent);
+    else if (len > -exponent) printf("%.*s.%s", len + exponent, digits, digits + len + exponent);
+    else printf("0.%.*s%s", -exponent - len, "00000000000000000", digits);
+}
+
+static void put_number(mpslp_number number) {
+    char text[MPSLP_NUMBER_ROOM];
+    const char *first = text + (number.high < 0);
+    if (number.infinity != 0) {
+        printf(number.infinity < 0 ? "-inf" : "inf");
+        return;
+    }
+    mpslp_number_text(number, text);
+    *strchr(text, 'e') = 0;
+    put_digits(number.high < 0, first, (int)strlen(first), number.exponent);
+}
+
+/* Prints what lies between two finite numbers, the second of which is not below the first. */
+static void put_range(mpslp_number lower, mpslp_number upper) {
+    int digits[DIGITS] = { 0 }, from = 0, to = DIGITS, place;
+    char text[DIGITS + 1];
+    add(digits, upper, 1);
+    add(digits, lower, -1);
+    for (place = 0; place + 1 < DIGITS; place++) {
+        int carry = digits[place] < 0 ? -1 : digits[place] / 10;
+        digits[place] -= 10 * carry;
+        digits[place + 1] += carry;
+    }
+    while (from < to && digits[from] == 0) from++;
+    while (from < to && digits[to - 1] == 0) to--;
+    if (from == to) {
+        putchar('0');
+        return;
+    }
+    for (place = to; place-- > from;) text[to - 1 - place] = (char)('0' + digits[place]);
+    text[to - from] = 0;
+    put_digits(false, text, to - from, from + LOWEST);
+}
+
+static bool is_same_number(mpslp_number one, mpslp_number other) {
+    return one.low == other.low && one.high == other.high && one.exponent == other.exponent && one.infinity == other.infinity;
+}
+
+static mpslp_number negative(mpslp_number number) {
+    number.high = (int64_t)(~(uint64_t)number.high + (number.low == 0));
+    number.low = ~number.low + 1;
+    return number;
+}
+
+/* Prints the letter of a row, its limits, its right side and its range. */
+static void put_limits(mpslp_number lower, mpslp_number upper) {
+    const mpslp_number zero = { 0, 0, 0, 0 };
+    const bool has_lower = lower.infinity == 0, has_upper = upper.infinity == 0;
+    printf(" %c ", !has_lower ? (has_upper ? 'L' : 'N') : !has_upper ? 'G' : is_same_number(lower, upper) ? 'E' : 'R');
+    put_number(lower);
+    putchar(' ');
+    put_number(upper);
+    printf(" rhs ");
+    put_number(has_upper ? upper : has_lower ? lower : zero);
+    printf(" range ");
+    if (has_lower && has_upper) put_range(lower, upper);
+    else putchar('0');
+    putchar('\n');
+}
+
+static void put_model(const mpslp_model *model) {
+    static const char *const kinds[] = { "continuous", "integer", "semi" };
+    printf("sense %s\nobjective ", mpslp_objective_sense(model) == MPSLP_MAXIMIZE ? "maximize" : "minimize");
+    put(stdout, mpslp_objective_name(model));
+    printf(" constant ");
+    put_number(mpslp_objective_constant(model));
+    printf(" offset ");
+    put_number(negative(mpslp_objective_constant(model)));
+    printf("\nrows %zu columns %zu elements %zu\n", mpslp_num_rows(model), mpslp_num_cols(model), mpslp_num_elements(model));
+    for (size_t i = 0; i < mpslp_num_rows(model); i++) {
+        printf("row %zu ", i);
+        put(stdout, mpslp_row_name(model, i));
+        put_limits(mpslp_row_lower(model, i), mpslp_row_upper(model, i));
+    }
+    for (size_t j = 0; j < mpslp_num_cols(model); j++) {
+        printf("column %zu ", j);
+        put(stdout, mpslp_column_name(model, j));
+        printf(" %s ", kinds[mpslp_column_kind(model, j)]);
+        put_number(mpslp_col_lower(model, j));
+        putchar(' ');
+        put_number(mpslp_col_upper(model, j));
+        printf(" objective ");
+        put_number(mpslp_objective_coefficient(model, j));
+        putchar('\n');
+        for (size_t k = 0; k < mpslp_column_len(model, j); k++) {
+            const mpslp_element entry = mpslp_entry(model, j, k);
+            printf("entry %zu %zu ", j, entry.row);
+            put_number(entry.value);
+            putchar('\n');
+        }
+    }
+}
+
+/* Prints a number exactly, and the nearest double with whether it is the number. */
+static void put_double(mpslp_number number) {
+    bool is_exact;
+    const double nearest = mpslp_to_double(number, &is_exact);
+    put_number(number);
+    printf(" %a %s\n", nearest, is_exact ? "exact" : "rounded");
+}
+
+static void put_doubles(const mpslp_model *model) {
+    put_double(mpslp_objective_constant(model));
+    for (size_t i = 0; i < mpslp_num_rows(model); i++) {
+        put_double(mpslp_row_lower(model, i));
+        put_double(mpslp_row_upper(model, i));
+    }
+    for (size_t j = 0; j < mpslp_num_cols(model); j++) {
+        put_double(mpslp_col_lower(model, j));
+        put_double(mpslp_col_upper(model, j));
+        put_double(mpslp_objective_coefficient(model, j));
+        for (size_t k = 0; k < mpslp_column_len(model, j); k++) put_double(mpslp_entry(model, j, k).value);
+    }
+}
+
+static int show(uint32_t format, const char *path, void (*put_it)(const mpslp_model *)) {
+    content all = load(path);
+    mpslp_model model = MPSLP_NO_MODEL;
+    mpslp_fault fault = MPSLP_NO_FAULT;
+    uint32_t status = mpslp_load(format, all.bytes, all.len, &model, &fault);
+    free(all.bytes);
+    if (status != MPSLP_OK) return tell(status, "", &fault);
+    put_it(&model);
+    mpslp_free_model(&model);
+    return DONE;
+}
+
 static int run(int count, char **words) {
     uint32_t format, other;
     if (count < 4 || !format_of(words[2], &format)) return WRONG_WORDS;
     if (count == 5 && strcmp(words[1], "canon") == 0 && format_of(words[3], &other)) return canon(format, other, words[4]);
     if (count == 6 && strcmp(words[1], "same") == 0 && format_of(words[4], &other)) return same(format, words[3], other, words[5]);
     if (count == 4 && strcmp(words[1], "is") == 0) return is(format, words[3]);
+    if (count == 4 && strcmp(words[1], "show") == 0) return show(format, words[3], put_model);
+    if (count == 4 && strcmp(words[1], "double") == 0) return show(format, words[3], put_doubles);
     return WRONG_WORDS;
 }
 

@@ -8,8 +8,9 @@ use Rattle.mpslp_types.specs.declared.faults.NameAt.{NameAt}
 use Rattle.mpslp_convert.specs.Conversions.{Declares, HasFirstFault, Unfit, TextOf, IsConversion, IsComparison, IsTestOfText, IsErrUnless}
 use Rattle.mpslp_convert.specs.declared.faults.ConvertFault.{ConvertFault}
 use Rattle.mpslp_convert.specs.declared.faults.ConvertFault.TheVariants.{First, Second, NotLp, OutOfMemory}
-use Rattle.mpslp_c.specs.Answers.{IsTextTold, IsTruthTold, IsUnless, IsTruthUnless, IsConverted, IsCompared, IsTested, fault_status}
+use Rattle.mpslp_c.specs.Answers.{IsLoading, IsTextTold, IsTruthTold, IsModelTold, IsUnless, IsTruthUnless, IsConverted, IsCompared, IsTested, IsLoaded, fault_status}
 use Rattle.mpslp_c.specs.declared.answers.TheConstants.{OK}
+use Rattle.mpslp_c.specs.declared.arrays.MpslpModel.{MpslpModel}
 use Rattle.mpslp_c.specs.declared.calls.MpslpText.{MpslpText}
 use Rattle.mpslp_c.specs.declared.faults.MpslpFault.{MpslpFault}
 
@@ -38,6 +39,18 @@ truth_refused : (answer : Result Bool ConvertFault) (why : ConvertFault) (status
 truth_refused (Ok is_true) why status fault fault' refused told = absurd refused
 truth_refused (Err found) why status fault fault' (inl same) told = inl (told.0 ∙ ap fault_status same)
 truth_refused (Err found) why status fault fault' (inr memory) told = inr (told.0 ∙ ap fault_status memory)
+
+-- the same of a model
+model_accepted : (answer : Result MpslpModel ConvertFault) (status : ℕ) (out out' : MpslpModel) (fault fault' : MpslpFault)
+    → IsOkUnless answer OutOfMemory → IsModelTold answer status out out' fault fault' → IsUnless OK status
+model_accepted (Ok model) status out out' fault fault' accepted told = inl told.0
+model_accepted (Err why) status out out' fault fault' accepted told = inr (told.0 ∙ ap fault_status accepted)
+
+model_refused : (answer : Result MpslpModel ConvertFault) (why : ConvertFault) (status : ℕ) (out out' : MpslpModel) (fault fault' : MpslpFault)
+    → IsErrUnless answer why OutOfMemory → IsModelTold answer status out out' fault fault' → IsUnless (fault_status why) status
+model_refused (Ok model) why status out out' fault fault' refused told = absurd refused
+model_refused (Err found) why status out out' fault fault' (inl same) told = inl (told.0 ∙ ap fault_status same)
+model_refused (Err found) why status out out' fault fault' (inr memory) told = inr (told.0 ∙ ap fault_status memory)
 
 -- ---- the calls
 
@@ -88,4 +101,19 @@ tested declares first_fault text bytes answer status fault fault' is accepts ref
   told = told;
   accepts = λ m declared. truth_accepted answer status fault fault' (accepts m declared) told;
   refuses = λ found has. truth_refused answer (First found) status fault fault' (refuses found has) told;
+}
+
+pub loaded : (declares : Declares) (first_fault : HasFirstFault) (bytes : List ℕ)
+    (answer : Result MpslpModel ConvertFault) (status : ℕ) (out out' : MpslpModel) (fault fault' : MpslpFault)
+    → IsLoading declares first_fault bytes answer
+    → ((m : LinearModel) → declares bytes m → IsOkUnless answer OutOfMemory)
+    → ((found : Fault) → first_fault bytes found → IsErrUnless answer (First found) OutOfMemory)
+    → IsModelTold answer status out out' fault fault'
+    → IsLoaded declares first_fault bytes status out out' fault fault'
+loaded declares first_fault bytes answer status out out' fault fault' is accepts refuses told = record {
+  answer = answer;
+  is = is;
+  told = told;
+  accepts = λ m declared. model_accepted answer status out out' fault fault' (accepts m declared) told;
+  refuses = λ found has. model_refused answer (First found) status out out' fault fault' (refuses found has) told;
 }

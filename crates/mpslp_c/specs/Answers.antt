@@ -10,8 +10,10 @@ use Rattle.mpslp_convert.specs.Conversions.{Declares, HasFirstFault, Unfit, Text
 use Rattle.mpslp_convert.specs.Performed.{declares_in, first_fault_in, unfit_in, text_in}
 use Rattle.mpslp_convert.specs.declared.faults.ConvertFault.{ConvertFault}
 use Rattle.mpslp_convert.specs.declared.faults.ConvertFault.TheVariants.{First, Second, NotLp, OutOfMemory}
+use Rattle.mpslp_c.specs.Arrays.{TellsModel}
 use Rattle.mpslp_c.specs.Faults.{IsFaultTold}
 use Rattle.mpslp_c.specs.declared.answers.TheConstants.{OK, DIFFERS, REFUSED, SECOND_REFUSED, NOT_LP, OUT_OF_MEMORY, UNKNOWN_FORMAT}
+use Rattle.mpslp_c.specs.declared.arrays.MpslpModel.{MpslpModel}
 use Rattle.mpslp_c.specs.declared.calls.MpslpText.{MpslpText}
 use Rattle.mpslp_c.specs.declared.faults.MpslpFault.{MpslpFault}
 
@@ -41,12 +43,27 @@ IsUnless status result = (result ≡ status) ⊎ (result ≡ OUT_OF_MEMORY)
 abbrev pub IsTruthUnless : ℕ → Type 0
 IsTruthUnless result = (result ≡ OK) ⊎ ((result ≡ DIFFERS) ⊎ (result ≡ OUT_OF_MEMORY))
 
+-- ---- what is answered of one text
+
+-- The bytes declare a model, and the arrays tell it. Or the answer is the first fault of the bytes.
+abbrev pub IsLoading : Declares → HasFirstFault → List ℕ → Result MpslpModel ConvertFault → Type 0
+IsLoading declares first_fault bytes (Ok told) = (m : LinearModel) × declares bytes m × TellsModel m told
+IsLoading declares first_fault bytes (Err (First fault)) = first_fault bytes fault
+IsLoading declares first_fault bytes (Err (Second fault)) = ⊥
+IsLoading declares first_fault bytes (Err (NotLp place)) = ⊥
+IsLoading declares first_fault bytes (Err OutOfMemory) = Unit {0}
+
 -- ---- how answers are handed on
 
 -- A text is given, or it is told why there is none. What is not given or told stays as it is.
 abbrev pub IsTextTold : Result (Vec ℕ Global) ConvertFault → ℕ → MpslpText → MpslpText → MpslpFault → MpslpFault → Type 0
 IsTextTold (Ok text) status out out' fault fault' = (status ≡ OK) × (out'.bytes.now ≡ text.items) × (fault' ≡ fault)
 IsTextTold (Err why) status out out' fault fault' = (status ≡ fault_status why) × (out' ≡ out) × IsFaultTold why fault fault'
+
+-- A model is given, or it is told why there is none. What is not given or told stays as it is.
+abbrev pub IsModelTold : Result MpslpModel ConvertFault → ℕ → MpslpModel → MpslpModel → MpslpFault → MpslpFault → Type 0
+IsModelTold (Ok model) status out out' fault fault' = (status ≡ OK) × (out' ≡ model) × (fault' ≡ fault)
+IsModelTold (Err why) status out out' fault fault' = (status ≡ fault_status why) × (out' ≡ out) × IsFaultTold why fault fault'
 
 -- Yes or no is answered, or it is told why neither is.
 abbrev pub IsTruthTold : Result Bool ConvertFault → ℕ → MpslpFault → MpslpFault → Type 0
@@ -99,3 +116,17 @@ abbrev pub IsTestAnswer : Option Form → List ℕ → ℕ → MpslpFault → Mp
 IsTestAnswer (Some form) bytes status fault fault' =
     IsTested (declares_in form) (first_fault_in form) (text_in form) bytes status fault fault'
 IsTestAnswer None bytes status fault fault' = (status ≡ UNKNOWN_FORMAT) × (fault' ≡ fault)
+
+-- A model was loaded, and the answer handed on. Bytes that declare a model are never refused, and so on.
+pub record IsLoaded (declares : Declares) (first_fault : HasFirstFault) (bytes : List ℕ) (status : ℕ) (out out' : MpslpModel) (fault fault' : MpslpFault)
+    : Type 0 where
+  pub answer : Result MpslpModel ConvertFault
+  pub is : IsLoading declares first_fault bytes answer
+  pub told : IsModelTold answer status out out' fault fault'
+  pub accepts : (m : LinearModel) → declares bytes m → IsUnless OK status
+  pub refuses : (found : Fault) → first_fault bytes found → IsUnless REFUSED status
+
+abbrev pub IsLoadAnswer : Option Form → List ℕ → ℕ → MpslpModel → MpslpModel → MpslpFault → MpslpFault → Type 0
+IsLoadAnswer (Some form) bytes status out out' fault fault' =
+    IsLoaded (declares_in form) (first_fault_in form) bytes status out out' fault fault'
+IsLoadAnswer None bytes status out out' fault fault' = (status ≡ UNKNOWN_FORMAT) × (out' ≡ out) × (fault' ≡ fault)

@@ -5,6 +5,9 @@
 #![tactic(auto)]
 
 mod answers;
+mod arrays;
 mod calls;
 mod faults;
+mod loading;
+mod numbers;
 mod texts;

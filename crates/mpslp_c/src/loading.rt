@@ -1,0 +1,100 @@
+//! The call that gives a whole model.
+
+ghost use Rattle.std.specs.Prelude.{◌≡◌, IsOkUnless};
+ghost use Rattle.mpslp_core.specs.Model.{LinearModel};
+ghost use Rattle.mpslp_types.specs.declared.faults.Fault.{Fault};
+ghost use Rattle.mpslp_convert.specs.Conversions.{IsReadingOfFirst, IsErrUnless};
+ghost use Rattle.mpslp_convert.specs.Performed.{declares_in, first_fault_in};
+ghost use Rattle.mpslp_c.specs.Answers.{form_of, IsLoading, IsModelTold, IsLoadAnswer};
+
+use crate::answers::{OK, UNKNOWN_FORMAT, fault_status};
+use crate::arrays::{MpslpModel, told_model};
+use crate::faults::{MpslpFault, tell};
+use crate::texts::form_of;
+use mpslp_convert::{ConvertFault, Form};
+use mpslp_model::{Format, Model, ReadFault};
+use mpslp_write::{Lp, Mps};
+use std::alloc::Global;
+
+/// The model that the bytes declare.
+fn model_of<A: Format>(alloc: Global, bytes: &[u8]) -> Result<Model, ConvertFault>
+    ensures { IsReadingOfFirst A.declares A.first_fault bytes.now result }
+{
+    match A::read(alloc, bytes) {
+        Ok(model) => Ok(model),
+        Err(ReadFault::File(fault)) => Err(ConvertFault::First(fault)),
+        Err(ReadFault::Failed) => unreachable!(),
+        Err(ReadFault::OutOfMemory) => Err(ConvertFault::OutOfMemory),
+    }
+}
+
+/// The arrays that tell the model which the bytes declare.
+fn arrays_of<A: Format>(alloc: Global, bytes: &[u8]) -> Result<MpslpModel, ConvertFault>
+    ensures answer { IsLoading A.declares A.first_fault bytes.now result }
+    ensures accepts { (m : LinearModel) → A.declares bytes.now m → IsOkUnless result ConvertFault.OutOfMemory }
+    ensures refuses { (fault : Fault) → A.first_fault bytes.now fault
+        → IsErrUnless result (ConvertFault.First fault) ConvertFault.OutOfMemory }
+{
+    let model = model_of::<A>(alloc, bytes)?;
+    match told_model(alloc, &model) {
+        Ok(told) => Ok(told),
+        Err(_) => Err(ConvertFault::OutOfMemory),
+    }
+}
+
+/// The same, by the number of the format.
+fn arrays_in(alloc: Global, form: Form, bytes: &[u8]) -> Result<MpslpModel, ConvertFault>
+    ensures answer { IsLoading (declares_in form) (first_fault_in form) bytes.now result }
+    ensures accepts { (m : LinearModel) → declares_in form bytes.now m → IsOkUnless result ConvertFault.OutOfMemory }
+    ensures refuses { (fault : Fault) → first_fault_in form bytes.now fault
+        → IsErrUnless result (ConvertFault.First fault) ConvertFault.OutOfMemory }
+{
+    match form {
+        Form::Mps => arrays_of::<Mps>(alloc, bytes),
+        Form::Lp => arrays_of::<Lp>(alloc, bytes),
+    }
+}
+
+/// Gives a model, or tells why there is none.
+fn give_model(
+    answer: Result<MpslpModel, ConvertFault>,
+    out: &mut MpslpModel,
+    fault: &mut MpslpFault,
+) -> u32
+    ensures { IsModelTold answer result out.old out.new fault.old fault.new }
+{
+    match answer {
+        Ok(model) => {
+            *out = model;
+            OK
+        }
+        Err(why) => {
+            tell(&why, fault);
+            fault_status(&why)
+        }
+    }
+}
+
+/// Gives the model that the bytes declare in their format: 0 is MPS, 1 is LP.
+///
+/// | status | when |
+/// |---|---|
+/// | 0 | `out` is the model, in memory of the caller's `malloc`, which frees each array that is not empty |
+/// | 2 | the bytes declare no model; `fault` tells their first fault |
+/// | 5 | memory was refused |
+/// | 6 | the format is none |
+#[unsafe(no_mangle)]
+pub extern "C" fn mpslp_load(
+    alloc: Global,
+    format: u32,
+    bytes: &[u8],
+    out: &mut MpslpModel,
+    fault: &mut MpslpFault,
+) -> u32
+    ensures { IsLoadAnswer (form_of format) bytes.now result out.old out.new fault.old fault.new }
+{
+    match form_of(format) {
+        Some(form) => give_model(arrays_in(alloc, form, bytes), out, fault),
+        None => UNKNOWN_FORMAT,
+    }
+}
