@@ -18,20 +18,20 @@ HERE = Path(__file__).resolve().parent
 TURNS = 500
 
 
-def growth(call):
-    """The bytes that many calls leave in use, after some that fill what Python keeps for later."""
+def growth(call, turns=TURNS):
+    """The bytes that many calls leave in use, after some that fill what Python and malloc keep for later."""
     for _ in range(50):
         call()
     gc.collect()
     before = bytes_in_use()
-    for _ in range(TURNS):
+    for _ in range(turns):
         call()
     gc.collect()
     return bytes_in_use() - before
 
 
 class Memory(unittest.TestCase):
-    # Fewer bytes than any block that a call takes, for each call.
+    # Eight for each call: no block is as small.
     MOST = 8 * TURNS
 
     def test_each_way_out_of_the_extension(self):
@@ -51,13 +51,9 @@ class Memory(unittest.TestCase):
             with self.subTest(name):
                 self.assertLess(growth(lambda: answer_of(call)), self.MOST)
 
-    def test_a_large_text_is_given_back(self):
+    def test_large_texts(self):
         text = large_text(5000)
-        mpslp.canonical(text, "mps")
-        before = bytes_in_use()
-        for _ in range(20):
-            mpslp.canonical(text, "mps")
-        self.assertLess(bytes_in_use() - before, len(text) // 10)
+        self.assertLess(growth(lambda: mpslp.canonical(text, "mps"), turns=50), self.MOST)
 
 
 class Checked(unittest.TestCase):

@@ -1,5 +1,6 @@
-"""What README.md shows is what happens: its files are run as tests/docs_check.py says."""
+"""What the documents of the package show is what happens; those of README.md are run as tests/docs_check.py says."""
 
+import doctest
 import importlib.util
 import os
 import shutil
@@ -9,6 +10,7 @@ import unittest
 from pathlib import Path
 from unittest import mock
 
+import mpslp
 from repository import ROOT
 
 import docs_check  # from tests/ of the repository
@@ -24,8 +26,8 @@ class Page(docs_check.Document):
         self.passes_over |= was_over
 
 
-class Readme(unittest.TestCase):
-    def test_what_it_shows(self):
+class Shown(unittest.TestCase):
+    def test_what_the_readme_shows(self):
         # Its commands find this Python first, and call the package alone.
         path = f"{Path(sys.executable).parent}{os.pathsep}{os.environ['PATH']}"
         with tempfile.TemporaryDirectory() as folder, mock.patch.dict(os.environ, PATH=path):
@@ -33,6 +35,11 @@ class Readme(unittest.TestCase):
             page.check()
         self.assertEqual(page.wrong, [])
         self.assertGreater(page.tried, 5)
+
+    def test_what_the_package_shows(self):
+        failed, tried = doctest.testmod(mpslp)
+        self.assertEqual(failed, 0)
+        self.assertGreater(tried, 0)
 
 
 if __name__ == "__main__":
