@@ -1,8 +1,9 @@
 //! Conversions between any two formats of model files.
 //!
-//! Everything here is written over the trait [`Format`](mpslp_model::Format), and proved once of all
+//! The conversions are written over the trait [`Format`](mpslp_model::Format), and proved once of all
 //! formats that keep its contract: [`canonical`], [`same_model`] and [`is_canonical`] on bytes in
 //! memory; [`load`], [`run`] and [`show`] between a source and a sink, and [`report`] of what went wrong.
+//! [`perform`] does the program's jobs by them, on MPS and LP.
 #![tactic(auto)]
 
 mod collected;

@@ -32,7 +32,7 @@ fn put_lines<W: Sink>(model: &Model, sink: &mut W, buffer: &mut Buffer)
 /// Writes the canonical LP text of a model to a sink, in as many calls as it has bytes at most, and does
 /// not flush. The text waits in a buffer of 65,536 bytes between calls; no memory is taken.
 ///
-/// The rows are found by a search in each column, so the time grows as rows times columns.
+/// The columns of a row are those that the model lists, and each coefficient is found by a search by halves in its column.
 ///
 /// # Errors
 ///
