@@ -1,7 +1,7 @@
 /*
  * Lets each allocation of each call fail in turn: failing_allocations FORMAT FILE, linked with
- * -Wl,--wrap=malloc,--wrap=realloc. A call that has no memory says so and leaves what it was given as it was; with
- * memory it answers as ever.
+ * -Wl,--wrap=malloc,--wrap=realloc. A call that has no memory says so and leaves what it was given as it was; else it
+ * answers as ever, also where it can do without the memory that it asked for.
  */
 #include "mpslp.h"
 
@@ -75,22 +75,26 @@ static int is_same(const answer *one, const answer *other) {
 
 static int try_call(int which, uint32_t format) {
     answer wanted = NO_ANSWER;
-    uint32_t done = call(which, format, &wanted), status = MPSLP_OUT_OF_MEMORY;
-    long n = 0;
-    for (; status == MPSLP_OUT_OF_MEMORY; n++) {
+    uint32_t done = call(which, format, &wanted);
+    long n = 0, told = 0;
+    int is_refused = 1;
+    for (; is_refused; n++) {
         answer got = NO_ANSWER;
+        uint32_t status;
         left = n;
         status = call(which, format, &got);
+        is_refused = left < 0;
         left = -1;
-        if (status == MPSLP_OUT_OF_MEMORY ? !is_untouched(&got) : status != done || !is_same(&got, &wanted)) {
+        if (status == MPSLP_OUT_OF_MEMORY ? !is_refused || !is_untouched(&got) : status != done || !is_same(&got, &wanted)) {
             fprintf(stderr, "%s answers %u where allocation %ld fails\n", names[which], (unsigned)status, n);
             return 1;
         }
+        told += status == MPSLP_OUT_OF_MEMORY;
         give_back(&got);
     }
     give_back(&wanted);
-    printf("%s: no memory at each of %ld allocations\n", names[which], n - 1);
-    return n == 1;
+    printf("%s: no memory at %ld of %ld allocations, and without the others it answers\n", names[which], told, n - 1);
+    return told == 0;
 }
 
 int main(int count, char **words) {
