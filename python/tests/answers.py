@@ -26,6 +26,8 @@ CALLS = {
     "is_canonical": partial(_mpslp.is_canonical, CANONICAL, _mpslp.MPS),
     "is_canonical, not": partial(_mpslp.is_canonical, MPS, _mpslp.MPS),
     "is_canonical, refused": partial(_mpslp.is_canonical, b"", _mpslp.MPS),
+    "load": partial(_mpslp.load, OTHER, _mpslp.LP),
+    "load, refused": partial(_mpslp.load, ON_A_LINE, _mpslp.MPS),
 }
 
 # Arguments that the modules of the package never give.

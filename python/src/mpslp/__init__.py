@@ -8,6 +8,10 @@ of bytes, and of other paths, it has to be told. A format that is told goes befo
 >>> mpslp.canonical(b"min 3.0 x + 2e0 y\\nend\\n", "lp")
 b'Minimize\\n obj:\\n  + 3 x\\n  + 2 y\\nSubject To\\nEnd\\n'
 
+>>> model = mpslp.load(b"max 3.0 x + 2e0 y\\nst limit: x + y <= 4\\nend\\n", "lp")
+>>> model.rows["limit"].upper, model.columns["x"].cost
+(Decimal('4'), Decimal('3'))
+
 Texts that are refused raise ModelFileError, which is a ValueError. Other exceptions: ValueError for a format that is
 unknown or missing, TypeError for what is neither bytes nor a path, OSError where a file does not open or read, and
 MemoryError. Calls may run in many threads at once, and let the others go on meanwhile.
@@ -15,6 +19,21 @@ MemoryError. Calls may run in many threads at once, and let the others go on mea
 
 from mpslp._calls import canonical, is_canonical, same
 from mpslp._faults import ModelFileError
+from mpslp._models import Column, Kind, Model, Row, Sense, fraction, load
 from mpslp._sources import Format, Source
 
-__all__ = ["Format", "ModelFileError", "Source", "canonical", "is_canonical", "same"]
+__all__ = [
+    "Column",
+    "Format",
+    "Kind",
+    "Model",
+    "ModelFileError",
+    "Row",
+    "Sense",
+    "Source",
+    "canonical",
+    "fraction",
+    "is_canonical",
+    "load",
+    "same",
+]
