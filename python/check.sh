@@ -13,7 +13,7 @@ export PYTHONDONTWRITEBYTECODE=1
 "$environment/bin/python" -m unittest discover -s tests
 if "$environment/bin/python" -c "import mypy" 2> /dev/null; then
     "$environment/bin/python" -m mypy --cache-dir=/dev/null src tests/typed.py
-    "$environment/bin/python" -m mypy.stubtest mpslp._mpslp
+    (cd "$environment" && bin/python -m mypy.stubtest mpslp._mpslp)
 else
     echo "mypy is missing, and types are not checked"
 fi

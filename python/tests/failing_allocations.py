@@ -11,6 +11,7 @@ from itertools import count
 from answers import CALLS, answer_of
 from heap import bytes_in_use
 
+MOST_TURNS = 20
 PRELOADED = ctypes.PyDLL(None)
 PRELOADED.call_refusing.restype = ctypes.py_object
 PRELOADED.call_refusing.argtypes = [ctypes.py_object, ctypes.c_long]
@@ -30,18 +31,22 @@ def fail_in_turn(call, wanted):
             return number, raised
 
 
+def check(name, call):
+    """Fails in turn until nothing more stays in use: what Python and malloc keep for later is filled by then."""
+    wanted = answer_of(call)
+    grown = []
+    while not grown or grown[-1] > 0:
+        if len(grown) == MOST_TURNS:
+            raise SystemExit(f"{name}: {grown} bytes stay in use")
+        before = bytes_in_use()
+        requests, raised = fail_in_turn(call, wanted)
+        grown.append(bytes_in_use() - before)
+    print(f"{name}: {requests} requests, {raised} times MemoryError")
+
+
 def main():
     for name, call in CALLS.items():
-        wanted = answer_of(call)
-        grown = []
-        for _ in range(4):
-            before = bytes_in_use()
-            requests, raised = fail_in_turn(call, wanted)
-            grown.append(bytes_in_use() - before)
-        print(f"{name}: {requests} requests, {raised} times MemoryError")
-        # The first turns fill what Python keeps for later.
-        if grown[-1] > 0 and grown[-2] > 0:
-            raise SystemExit(f"{name}: {grown} bytes stay in use")
+        check(name, call)
 
 
 if __name__ == "__main__":
