@@ -1,6 +1,7 @@
 -- Entries in the order of their keys, searched by halves: those below a key stand before those that are not.
 use Rattle.std.proofs.Common.{◌≡◌, refl, sym, ap, ◌∙◌, ℕ, suc, zero, ◌+◌, ◌<◌, ◌≤◌, List, [], ◌∷◌, Bool, true, false, cond, not, length, arith, get_or}
-use Rattle.std.specs.Prelude.{Option, Some, None, slice_get, position, nat_lt}
+use Rattle.std.specs.Prelude.{◌-◌, Option, Some, None, slice_get, position, nat_lt}
+use Rattle.std.specs.Option.{option_map_or}
 use Rattle.std.specs.List.{position_or_len}
 use Rattle.std.specs.List.Sorted.{IsPartitionedBy, IsPartitionPoint}
 use Rattle.std.specs.Ordering.{is_lt, is_le, is_gt, is_eq, ordering_reverse}
@@ -43,6 +44,12 @@ not_tied Greater h = refl
 
 pub suc_of : (n : ℕ) → 1 + n ≡ suc n
 suc_of n = omega arith
+
+-- an entry that does not have the place is below the key
+above_first : (r : Ordering) (n m : ℕ) → suc m ≡ cond (not (is_le r)) (1 + n) 0 → is_gt r ≡ true
+above_first Less n m h = cc
+above_first Equal n m h = cc
+above_first Greater n m h = refl
 
 -- ---- the place of a key
 
@@ -106,6 +113,25 @@ module _ {K X : Type 0} (R : K → K → Ordering) where
     -- where the place of the key is the end, it is not found
     pub found_nowhere : (k : K) (es : List (K × X)) (i : ℕ) → is_sorted R es ≡ true → i ≡ position_or_len (λ x. is_le (R k x.0)) es → length es ≤ i → find R k es ≡ None
     found_nowhere k es i sorted at past = find_at_key k es sorted ∙ ap (λ (j : ℕ). value_if k (slice_get es j)) (sym at) ∙ ap (value_if k) (slice_get_past es i past)
+
+    -- a key above the last of these has its place behind all
+    behind_last : (k : K) (e : K × X) (es : List (K × X)) → is_sorted R (e ∷ es) ≡ true → option_map_or (λ last. is_gt (R k last.0)) (slice_get (e ∷ es) (length es)) true ≡ true
+        → suc (length es) ≡ position_or_len (λ x. is_le (R k x.0)) (e ∷ es)
+    behind_last k e [] sorted above = ap (λ (b : Bool). cond (not b) 1 0) (sym (not_le (R k e.0) above))
+    behind_last k e (f ∷ es) sorted above =
+        let n = position_or_len (λ (x : K × X). is_le (R k x.0)) (f ∷ es) in
+        let next : suc (length es) ≡ n = behind_last k f es (second_so (below_all R e.0 (f ∷ es)) (is_sorted R (f ∷ es)) sorted) above in
+        let first_below = less_from (R e.0 f.0) (first_so (is_lt (R e.0 f.0)) (below_all R e.0 es) (first_so (below_all R e.0 (f ∷ es)) (is_sorted R (f ∷ es)) sorted)) in
+        let first_above = below_too R o k e.0 f.0 first_below (above_first (R k f.0) (position_or_len (λ (x : K × X). is_le (R k x.0)) es) (length es) next) in
+        ap suc next ∙ sym (suc_of n) ∙ ap (λ (b : Bool). cond (not b) (1 + n) 0) (sym (not_le (R k e.0) first_above))
+
+    -- a key above the last entry has its place behind all
+    pub place_behind : (k : K) (es : List (K × X)) → is_sorted R es ≡ true → option_map_or (λ last. is_gt (R k last.0)) (slice_get es (length es - 1)) true ≡ true
+        → length es ≡ position_or_len (λ e. is_le (R k e.0)) es
+    place_behind k [] sorted above = refl
+    place_behind k (e ∷ es) sorted above =
+        let last : length es ≡ suc (length es) - 1 = omega arith in
+        behind_last k e es sorted (ap (λ (i : ℕ). option_map_or (λ (x : K × X). is_gt (R k x.0)) (slice_get (e ∷ es) i) true) last ∙ above)
 
   -- the number of the entry that has the key
   pub number_here : (k : K) (es : List (K × X)) (i : ℕ) (e : K × X) → i ≡ position_or_len (λ x. is_le (R k x.0)) es → i < length es → e ≡ get_or es i e → is_eq (R k e.0) ≡ true

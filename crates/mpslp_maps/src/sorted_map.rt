@@ -79,11 +79,25 @@ pub fn entry_at<K, V>(entries: &[(K, V)], i: usize) -> &(K, V)
     &entries[i]
 }
 
-/// The index of the first entry that is not below the key, or else how many entries there are.
+/// Whether the key lies above that of the last entry. It does where there is no entry.
+fn ends_below<K: Key, V, Q: Query<K>>(entries: &[(K, V)], query: &Q) -> bool
+    ensures { result ≡ option_map_or (λ last. is_gt (K.cmp (Q.key query.now) last.0)) (slice_get entries.now (length entries.now - 1)) true }
+{
+    match entries.last() {
+        Some(last) => query.compare(&last.0).is_gt(),
+        None => true,
+    }
+}
+
+/// The index of the first entry that is not below the key, or else how many entries there are. Keys often come in their order,
+/// so the last entry is looked at first.
 fn index_of_key<K: Key, V, Q: Query<K>>(entries: &[(K, V)], query: &Q) -> usize
     requires { IsTrue (is_sorted K.cmp entries.now) }
     ensures { result ≡ position_or_len (λ entry. is_le (K.cmp (Q.key query.now) entry.0)) entries.now }
 {
+    if ends_below(entries, query) {
+        return entries.len();
+    }
     entries.partition_point(|entry| query.compare(&entry.0).is_gt())
 }
 
@@ -187,10 +201,7 @@ impl<K: Key, V> SortedMap<K, V> {
     pub fn ends_below<Q: Query<K>>(&self, query: &Q) -> bool
         ensures { result ≡ option_map_or (λ last. is_gt (K.cmp (Q.key query.now) last.0)) (slice_get self.now (length self.now - 1)) true }
     {
-        match self.as_slice().last() {
-            Some(last) => query.compare(&last.0).is_gt(),
-            None => true,
-        }
+        ends_below(self.as_slice(), query)
     }
 
     /// Whether there is no entry.
