@@ -31,13 +31,13 @@ use Rattle.mpslp_builder.proofs.NameLemmas.{there_found, found_there, find_own, 
 use Rattle.mpslp_builder.proofs.ColumnDrafts.{cell_found}
 use Rattle.mpslp_builder.proofs.RowDrafts.{other_rhs}
 
--- a column that has a number is declared
-pub column_there : (columns : List (Vec ℕ × ColumnParts)) (i : ℕ) (name : List ℕ) → option_map (λ e. bytes e.0) (slice_get columns i) ≡ Some name
-    → true ≡ has_name (sorted_of bytes_cmp (each_part bytes no_part columns)) name
-column_there columns i name is =
-    elim (has_name (sorted_of bytes_cmp (each_part bytes no_part columns)) name) as (λ b. has_name (sorted_of bytes_cmp (each_part bytes no_part columns)) name ≡ b → true ≡ b) [
+-- a row or a column that has a number is declared
+pub number_there : {V X : Type 0} (part : V → X) (es : List (Vec ℕ × V)) (i : ℕ) (name : List ℕ) → option_map (λ e. bytes e.0) (slice_get es i) ≡ Some name
+    → true ≡ has_name (sorted_of bytes_cmp (each_part bytes part es)) name
+number_there part es i name is =
+    elim (has_name (sorted_of bytes_cmp (each_part bytes part es)) name) as (λ b. has_name (sorted_of bytes_cmp (each_part bytes part es)) name ≡ b → true ≡ b) [
       | true ↦ λ _. refl
-      | false ↦ λ absent. absurd (there_found bytes no_part columns i name is (absent-each_part bytes no_part name columns absent))
+      | false ↦ λ absent. absurd (there_found bytes part es i name is (absent-each_part bytes part name es absent))
     ] refl
 
 -- ---- the entry of a number

@@ -131,13 +131,28 @@ impl Tables {
         self.column_number(name).is_some()
     }
 
-    /// Where the row of this name stands, or the objective.
+    /// Whether the row of an index has this name.
+    fn is_row_at(&self, index: usize, name: &[u8]) -> bool
+        ensures { IsTrue result → row_name self.now (suc index) ≡ Some name.now }
+    {
+        match self.rows.get_index(index) {
+            Some((key, _row)) => key.as_slice() == name,
+            None => false,
+        }
+    }
+
+    /// Where the row of this name stands, or the objective. The row that was declared last is tried first, without a look-up: its
+    /// coefficients may come right behind it.
     pub(crate) fn row_place(&self, name: &[u8]) -> Option<RowPlace>
         ensures place { IfSome result (λ place. row_name self.now (number_of place) ≡ Some name.now) }
         ensures found { is_some result ≡ has_row (draft None None self.now) name.now }
     {
         if self.is_objective(name) {
             return Some(RowPlace::Objective);
+        }
+        let last = self.rows.len().saturating_sub(1);
+        if self.is_row_at(last, name) {
+            return Some(RowPlace::Row(last));
         }
         match self.rows.get_full(name) {
             Some((index, _key, _row)) => Some(RowPlace::Row(index)),

@@ -2,7 +2,7 @@ use Rattle.std.proofs.Common.{◌∙◌, ap}
 use Rattle.std.specs.Prelude.{is_some}
 use Rattle.mpslp_builder.specs.Tables.{bytes, no_part}
 use Rattle.mpslp_builder.proofs.PartLemmas.{has_name-each_part, found_name}
-use Rattle.mpslp_builder.proofs.ReadingLemmas.{column_there}
+use Rattle.mpslp_builder.proofs.ReadingLemmas.{number_there}
 use Rattle.mpslp_builder.proofs.tables.Tables.column_number.Goals as goal
 
 pub returns-in-Some-clause-number : goal.returns-in-Some-clause-number
@@ -17,4 +17,4 @@ returns-in-None-clause-found c = ap is_some c.in-None.ensures.value ∙ has_name
 
 pub returns-then-is_column-clause-found : goal.returns-then-is_column-clause-found
 returns-then-is_column-clause-found c =
-    column_there c.args.self.now.columns.entries c.args.self.now.recent c.args.name.now (c.is_column.ensures c.if-is_column.true)
+    number_there no_part c.args.self.now.columns.entries c.args.self.now.recent c.args.name.now (c.is_column.ensures c.if-is_column.true)
