@@ -21,6 +21,7 @@ pub mod Declares
 pub mod OwnFault
 pub mod Seen
 pub mod ReadingLines
+pub mod PlainTerm
 pub mod LpText
 pub mod FirstFault
 pub mod Laws

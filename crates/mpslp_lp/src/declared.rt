@@ -20,6 +20,7 @@ use crate::items::one;
 use crate::limits::GivenLimit;
 use crate::relations::Relation;
 use crate::states::{PartialParts, PartialRow};
+use crate::term_names::TermName;
 use indexmap::IndexMap;
 use itoa::Buffer;
 use mpslp_decimal::Decimal;
@@ -141,6 +142,16 @@ impl Declared {
         Ok(())
     }
 
+    /// Declares a column, which may be there.
+    fn declare_new_column(&mut self, column: &[u8]) -> Result<(), LineError>
+        requires { IsMpsName column.now }
+        ensures { Declares self.old (declare_column column.now ∷ []) result self.new }
+    {
+        let name = self.copied(column)?;
+        self.builder.column(name)?;
+        Ok(())
+    }
+
     /// Declares a column. The name of one that is there is not copied.
     fn declare_column(&mut self, column: &[u8]) -> Result<(), LineError>
         requires { IsMpsName column.now }
@@ -150,9 +161,7 @@ impl Declared {
             each_builder_is_made(&self.builder);
             return Ok(());
         }
-        let name = self.copied(column)?;
-        self.builder.column(name)?;
-        Ok(())
+        self.declare_new_column(column)
     }
 
     /// Declares a coefficient of a row or the objective.
@@ -168,7 +177,7 @@ impl Declared {
         Ok(())
     }
 
-    /// Declares a coefficient, and before it its column.
+    /// Declares a coefficient, and before it its column, which is new.
     fn declare_with_column(
         &mut self,
         row: &[u8],
@@ -178,7 +187,7 @@ impl Declared {
         requires { IsMpsName column.now }
         ensures { Declares self.old (term_declared row.now (column.now, value)) result self.new }
     {
-        self.declare_column(column)?;
+        self.declare_new_column(column)?;
         self.declare_coefficient(row, column, value)
     }
 
@@ -336,12 +345,11 @@ impl Declared {
     fn declare_terms(
         &mut self,
         row: &[u8],
-        terms: &IndexMap<Name, Decimal>,
+        terms: &IndexMap<TermName, Decimal>,
     ) -> Result<(), LineError>
         ensures { Declares self.old (flat_map (term_declared row.now) terms.now.entries) result self.new }
     {
         for (column, value) in terms.iter() {
-            each_name_is_legal(column);
             self.declare_term(row, column.as_bytes(), *value)?;
         }
         Ok(())

@@ -14,6 +14,7 @@ use crate::answers::{at_place, refuse};
 use crate::before::Before;
 use crate::seen::{Seen, SeenKind};
 use crate::states::{Owner, PartialRow, Place, State};
+use crate::term_names::TermName;
 use mpslp_decimal::Decimal;
 use mpslp_model::{FaultKind, Name};
 use mpslp_reading::LineError;
@@ -37,7 +38,7 @@ pub(crate) fn signed(minus: bool, value: Decimal) -> Decimal
 
 impl PartialRow {
     /// The row with one more term, of a column that has none in it.
-    pub(crate) fn with_term(self, column: Name, value: Decimal) -> Result<PartialRow, LineError>
+    pub(crate) fn with_term(self, column: TermName, value: Decimal) -> Result<PartialRow, LineError>
         ensures { AddsTerm self column value result }
     {
         let mut row = self;
@@ -75,7 +76,7 @@ fn take_row_term(
     requires { IsMpsName column.now }
     ensures { Takes (term_taken before.now (Owner.OfRow row) column.now value (Terminal.Name column.now)) result before.now }
 {
-    let column = before.earlier.copied(column)?;
+    let column = TermName::copied(before.earlier.alloc(), column)?;
     match row.with_term(column, value) {
         Ok(row) => Ok(State::Between(Place::InRow(row))),
         Err(error) => Err(error),

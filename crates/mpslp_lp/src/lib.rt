@@ -21,6 +21,7 @@ mod limits;
 mod line_reader;
 mod lines;
 mod opened;
+mod plain_terms;
 mod reader;
 mod reading;
 mod relations;
@@ -30,6 +31,7 @@ mod seen;
 mod sides;
 mod states;
 mod taking;
+mod term_names;
 mod tokens;
 mod words;
 

@@ -9,6 +9,7 @@ ghost use Rattle.mpslp_lp.specs.Declares.{error_before, lesser_of, IsLeastError,
 ghost use Rattle.mpslp_lp.specs.ReadingLines.{token_faults, take_tokens, take_line};
 
 use crate::before::Before;
+use crate::plain_terms::take_terms;
 use crate::seen::{Seen, see};
 use crate::states::State;
 use crate::taking::take;
@@ -40,7 +41,7 @@ fn own_fault_of(tokens: Tokens<'_>) -> Option<FaultKind>
 }
 
 /// The error of a line before these tokens: a fault that one of them has wherever it stands is told before it.
-fn error_before(error: LineError, tokens: Tokens<'_>) -> LineError
+pub(crate) fn error_before(error: LineError, tokens: Tokens<'_>) -> LineError
     ensures { result ≡ error_before (token_faults tokens.entry) error }
 {
     match error {
@@ -53,7 +54,7 @@ fn error_before(error: LineError, tokens: Tokens<'_>) -> LineError
 }
 
 /// The error of a line whose token has this fault wherever it stands, before these tokens.
-fn least_error(kind: FaultKind, tokens: Tokens<'_>) -> LineError
+pub(crate) fn least_error(kind: FaultKind, tokens: Tokens<'_>) -> LineError
     ensures { IsLeastError (kind ∷ token_faults tokens.entry) result }
 {
     match own_fault_of(tokens) {
@@ -67,8 +68,7 @@ fn least_error(kind: FaultKind, tokens: Tokens<'_>) -> LineError
 fn take_tokens(before: &mut Before, state: State, line: &[u8]) -> Result<State, LineError>
     ensures { Takes (take_tokens before.old state (tokens line.now)) result before.new }
 {
-    let mut state = state;
-    let mut tokens = tokens_of(line);
+    let (mut state, mut tokens) = take_terms(before, state, tokens_of(line))?;
     while let Some(token) = tokens.next() {
         let kind = match see(token.kind, token.text) {
             Ok(kind) => kind,
@@ -78,10 +78,13 @@ fn take_tokens(before: &mut Before, state: State, line: &[u8]) -> Result<State, 
             kind,
             text: token.text,
         };
-        match take(before, state, &seen) {
-            Ok(next) => state = next,
+        let next = match take(before, state, &seen) {
+            Ok(next) => next,
             Err(error) => return Err(error_before(error, tokens)),
-        }
+        };
+        let (later, left) = take_terms(before, next, tokens)?;
+        state = later;
+        tokens = left;
     }
     Ok(state)
 }

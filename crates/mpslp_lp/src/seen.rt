@@ -74,6 +74,7 @@ fn name_fault(name: &[u8]) -> Option<FaultKind>
 }
 
 /// What is seen of a word, or its fault wherever it stands.
+#[inline(always)]
 fn see_word(text: &[u8]) -> Result<SeenKind, FaultKind>
     ensures { IsSeenWord text.now result }
 {
@@ -90,6 +91,7 @@ fn see_word(text: &[u8]) -> Result<SeenKind, FaultKind>
 }
 
 /// What is seen of a number, or its fault.
+#[inline(always)]
 fn see_number(literal: &[u8]) -> Result<SeenKind, FaultKind>
     ensures { IsSeenNumber literal.now result }
 {
@@ -100,6 +102,7 @@ fn see_number(literal: &[u8]) -> Result<SeenKind, FaultKind>
 }
 
 /// What is seen of a token, or its fault wherever it stands.
+#[inline(always)]
 pub(crate) fn see(kind: TokenKind, text: &[u8]) -> Result<SeenKind, FaultKind>
     ensures { IsSeen kind text.now result }
 {

@@ -2,6 +2,7 @@
 
 use crate::limits::GivenLimit;
 use crate::relations::Relation;
+use crate::term_names::TermName;
 use indexmap::IndexMap;
 use mpslp_decimal::Decimal;
 use mpslp_model::{Name, Sense};
@@ -20,7 +21,7 @@ pub struct PartialParts {
     /// The left side and the sense after it, where there is one.
     pub(crate) left: Option<(GivenLimit, Relation)>,
     /// By their columns, in the order in which they came.
-    pub(crate) terms: IndexMap<Name, Decimal>,
+    pub(crate) terms: IndexMap<TermName, Decimal>,
 }
 
 impl Model for PartialRow {

@@ -20,6 +20,7 @@ use crate::rows::{begin_row, without_terms};
 use crate::seen::{Seen, SeenKind};
 use crate::sides::limit_seen;
 use crate::states::{LastWord, Owner, PartialRow, Place, Sided, State};
+use crate::term_names::TermName;
 use crate::words::is_word;
 use mpslp_decimal::Decimal;
 use mpslp_model::laws::each_name_is_legal;
@@ -206,7 +207,9 @@ fn take_after_row_name(before: &mut Before, name: Name, seen: &Seen<'_>) -> Resu
         _ => {
             let label = before.earlier.next_row()?;
             let empty = without_terms(before, label, None)?;
-            let row = empty.with_term(name, one())?;
+            each_name_is_legal(&name);
+            let column = TermName::copied(before.earlier.alloc(), name.as_bytes())?;
+            let row = empty.with_term(column, one())?;
             begin(before, Place::InRow(row), seen)
         }
     }
@@ -349,6 +352,7 @@ fn take_at_side(before: &mut Before, sided: Sided, seen: &Seen<'_>) -> Result<St
 }
 
 /// Takes a token.
+#[inline(always)]
 pub(crate) fn take(before: &mut Before, state: State, seen: &Seen<'_>) -> Result<State, LineError>
     requires { IsSound seen.now }
     ensures { Takes (take before.old state (seen_terminal seen.now)) result before.new }

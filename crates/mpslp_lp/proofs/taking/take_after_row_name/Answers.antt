@@ -17,9 +17,10 @@ returns-in_ok-row-in_default c =
     let before = c.args.before.now in
     let seen = c.args.seen.now in
     let row = c.in_ok-row-in_default.row in
-    let first : PartialRow → Number → PartialRow = λ r value. record r { terms = r.terms ++ (c.args.name, value) ∷ [] } in
-    let same : row ≡ first (without_terms (default_row before) None) one =
-    c.in_ok-row-in_default.ensures.1 ∙ (λ i. first (c.in_ok-empty-in_default.ensures i) (c.one.ensures i))
-    ∙ ap (λ (label : List ℕ). first (without_terms label None) one) c.in_ok-label-in_default.ensures in
+    let first : PartialRow → List ℕ → Number → PartialRow = λ r column value. record r { terms = r.terms ++ (column, value) ∷ [] } in
+    let named : c.in_ok-column-in_default.column ≡ c.args.name = c.in_ok-column-in_default.ensures ∙ c.as_bytes.ensures in
+    let same : row ≡ first (without_terms (default_row before) None) c.args.name one =
+    c.in_ok-row-in_default.ensures.1 ∙ (λ i. first (c.in_ok-empty-in_default.ensures i) (named i) (c.one.ensures i))
+    ∙ ap (λ (label : List ℕ). first (without_terms label None) c.args.name one) c.in_ok-label-in_default.ensures in
     subst (λ (taken : Taken). Takes taken c.begin.result c.begin.new.before) (sym (row_name-other before c.args.name seen.kind seen.text.now c.in_default.not-Colon))
     (subst (λ (r : PartialRow). Takes (begun (InRow r) before (seen_terminal seen)) c.begin.result c.begin.new.before) same c.begin.ensures)

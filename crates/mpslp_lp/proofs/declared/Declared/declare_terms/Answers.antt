@@ -21,7 +21,7 @@ returns-in_err-declare_term c =
     let behind = refusals_in_turn (adding_all current (term_declared row term)) (flat_map (term_declared row) more) in
     let split : refusals_in_turn earlier all ≡ first ++ behind =
     sym c.loop-column.invariant.refusals ∙ ap (λ (left : List (List ℕ × Number)). refusals_in_turn current (flat_map (term_declared row) left)) c.in-Some.ensures.steps
-    ∙ ap (λ (name : List ℕ). refusals_in_turn current (term_declared row (name, c.in-Some.value.now) ++ flat_map (term_declared row) more)) (sym c.as_bytes.ensures)
+    ∙ ap (λ (name : List ℕ). refusals_in_turn current (term_declared row (name, c.in-Some.value.now) ++ flat_map (term_declared row) more)) (sym c.as_bytes.ensures.bytes)
     ∙ refusals_in_turn-append (term_declared row term) (flat_map (term_declared row) more) current in
     told-by (refusals_in_turn earlier all) earlier later all c.from_residual.result c.in_err-declare_term.field-0.0 c.from_residual.ensures.1
     (refused-here first behind (refusals_in_turn earlier all) current later earlier later (term_declared row term) all c.in_err-declare_term.field-0.0 split c.in_err-declare_term.ensures)

@@ -1,0 +1,87 @@
+-- A sign, a number and a name that are taken as a whole are taken as they are one after another.
+use Rattle.std.proofs.Common.{◌≡◌, refl, sym, ap, subst, ◌∙◌, ℕ, List, [], ◌∷◌, ◌++◌, Bool}
+use Rattle.std.specs.Prelude.{Option, Some, None, Ok, Err, if◌then◌else◌}
+use Rattle.std.specs.List.{cons_option}
+use Rattle.mpslp_types.specs.declared.faults.FaultKind.{FaultKind}
+use Rattle.mpslp_types.specs.declared.faults.FaultKind.TheVariants.{DuplicateEntry}
+use Rattle.mpslp_reading.specs.Field.{value_of, number_fault}
+use Rattle.mpslp_reading.specs.declared.errors.LineError.{LineError}
+use Rattle.mpslp_reading.specs.declared.errors.LineError.TheVariants.{Fault, OutOfMemory}
+use Rattle.mpslp_lp.specs.PartialRow.{PartialRow}
+use Rattle.mpslp_lp.specs.Token.{Token}
+use Rattle.mpslp_lp.specs.Terminal.{Terminal, as_terminal, terminal_of}
+use Rattle.mpslp_lp.specs.Terminal.Terminal.{Sign, Number, Name}
+use Rattle.mpslp_lp.specs.OwnFault.{token_fault}
+use Rattle.mpslp_lp.specs.Sides.{signed}
+use Rattle.mpslp_lp.specs.ReadingLines.{take_tokens, token_faults}
+use Rattle.mpslp_lp.specs.Declares.{Takes, AddsTerm, IsLeastError, error_before}
+use Rattle.mpslp_lp.specs.PlainTerm.{Begins, BeginsWithNumber, IsPlainTerm}
+use Rattle.mpslp_lp.specs.Taken.{Taken, Goes, Refuses, refused, with_made}
+use Rattle.mpslp_lp.specs.Taking.{take}
+use Rattle.mpslp_lp.specs.declared.before.Before.{Before}
+use Rattle.mpslp_lp.specs.declared.states.Place.TheVariants.{InRow}
+use Rattle.mpslp_lp.specs.declared.states.Owner.TheVariants.{OfRow}
+use Rattle.mpslp_lp.specs.declared.states.State.{State}
+use Rattle.mpslp_lp.specs.declared.states.State.TheVariants.{Between, Signs, ItemNumber}
+use Rattle.mpslp_lp.proofs.LineTokens.{tokens-next, tokens-own, tokens-refused}
+
+-- a terminal that goes on
+step : (before after : Before) (state next : State) (found more : List Token) (terminal : Terminal) → Begins found terminal more → take before state terminal ≡ Goes after next
+    → take_tokens before state found ≡ take_tokens after next more
+step before after state next found more terminal b goes =
+    ap (take_tokens before state) b.tokens ∙ tokens-next before after state next b.token more b.sound (ap (take before state) b.is ∙ goes)
+
+-- a number without a fault is a terminal
+as-begins : (found more : List Token) (literal : List ℕ) → BeginsWithNumber found literal more → number_fault literal ≡ None → Begins found (Number (value_of literal)) more
+as-begins found more literal b none = record {
+  token = b.token;
+  tokens = b.tokens;
+  sound = (λ i. token_fault (b.kind i) (b.text i)) ∙ none;
+  is = λ i. terminal_of (b.kind i) (b.text i);
+}
+
+module _ (before : Before) (row : PartialRow) (found more : List Token) (minus : Bool) (literal column : List ℕ) (p : IsPlainTerm found minus literal column more) where
+  -- up to the number, and up to the name
+  behind-sign : take_tokens before (Between (InRow row)) found ≡ take_tokens before (Signs (OfRow row) minus) p.behind_sign
+  behind-sign = step before before (Between (InRow row)) (Signs (OfRow row) minus) found p.behind_sign (Sign minus) p.sign refl
+
+  behind-number : number_fault literal ≡ None → take_tokens before (Between (InRow row)) found ≡ take_tokens before (ItemNumber (OfRow row) minus (value_of literal)) p.behind_number
+  behind-number none =
+      behind-sign
+      ∙ step before before (Signs (OfRow row) minus) (ItemNumber (OfRow row) minus (value_of literal)) p.behind_sign p.behind_number (Number (value_of literal))
+      (as-begins p.behind_sign p.behind_number literal p.number none) refl
+
+  -- a column that is new in the row
+  pub plain-goes : (longer : PartialRow) → number_fault literal ≡ None → AddsTerm row column (signed minus (value_of literal)) (Ok longer)
+      → take_tokens before (Between (InRow longer)) more ≡ take_tokens before (Between (InRow row)) found
+  plain-goes longer none adds =
+      let value = signed minus (value_of literal) in
+      let next : State = Between (InRow (record row { terms = row.terms ++ (column, value) ∷ [] })) in
+      ap (λ (r : PartialRow). take_tokens before (Between (InRow r)) more) adds.1
+      ∙ sym (behind-number none
+      ∙ step before before (ItemNumber (OfRow row) minus (value_of literal)) next p.behind_number more (Name column) p.name
+      (ap (λ (b : Bool). if b then refused before (Name column) DuplicateEntry else Goes (with_made before []) next) adds.0))
+
+  -- a column that has a term in the row
+  pub plain-refused : (error : LineError) → number_fault literal ≡ None → AddsTerm row column (signed minus (value_of literal)) (Err error)
+      → Takes (take_tokens before (Between (InRow row)) found) (Err (error_before (token_faults more) error)) before
+  plain-refused OutOfMemory none adds = tt
+  plain-refused (Fault kind) none adds =
+      let item : State = ItemNumber (OfRow row) minus (value_of literal) in
+      let next : State = Between (InRow (record row { terms = row.terms ++ (column, signed minus (value_of literal)) ∷ [] })) in
+      let told : take before item (as_terminal p.name.token) ≡ Refuses kind =
+      ap (take before item) p.name.is ∙ ap (λ (b : Bool). if b then refused before (Name column) DuplicateEntry else Goes (with_made before []) next) adds.0
+      ∙ ap (λ (k : FaultKind). Refuses k) (sym adds.1) in
+      subst (λ (taken : Taken). Takes taken (Err (error_before (token_faults more) (Fault kind))) before) (sym (behind-number none ∙ ap (take_tokens before item) p.name.tokens))
+      (tokens-refused before before item p.name.token more (Fault kind) p.name.sound told)
+
+  -- a number with a fault
+  pub plain-number : (kind : FaultKind) (error : LineError) → number_fault literal ≡ Some kind → IsLeastError (kind ∷ token_faults more) error
+      → Takes (take_tokens before (Between (InRow row)) found) (Err error) before
+  plain-number kind error some least =
+      let number = p.number.token in
+      let same : token_faults p.behind_number ≡ token_faults more =
+      ap token_faults p.name.tokens ∙ ap (λ (o : Option FaultKind). cons_option o (token_faults more)) p.name.sound in
+      subst (λ (taken : Taken). Takes taken (Err error) before) (sym (behind-sign ∙ ap (take_tokens before (Signs (OfRow row) minus)) p.number.tokens))
+      (tokens-own before before (Signs (OfRow row) minus) number p.behind_number kind error ((λ i. token_fault (p.number.kind i) (p.number.text i)) ∙ some)
+      (subst (λ (faults : List FaultKind). IsLeastError (kind ∷ faults) error) (sym same) least))

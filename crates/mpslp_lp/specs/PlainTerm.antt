@@ -1,0 +1,43 @@
+-- Terms of rows that are taken as a whole: one sign, a number and a name.
+use Rattle.std.specs.Prelude.{◌≡◌, ℕ, Bool, List, ◌∷◌, None, Result, Ok, Err}
+use Rattle.mpslp_types.specs.Name.{IsMpsName}
+use Rattle.mpslp_reading.specs.declared.errors.LineError.{LineError}
+use Rattle.mpslp_lp.specs.PartialRow.{PartialRow}
+use Rattle.mpslp_lp.specs.Token.{Token}
+use Rattle.mpslp_lp.specs.Terminal.{Terminal, as_terminal}
+use Rattle.mpslp_lp.specs.Terminal.Terminal.{Sign, Name}
+use Rattle.mpslp_lp.specs.OwnFault.{token_fault}
+use Rattle.mpslp_lp.specs.ReadingLines.{take_tokens}
+use Rattle.mpslp_lp.specs.Declares.{Takes}
+use Rattle.mpslp_lp.specs.declared.before.Before.{Before}
+use Rattle.mpslp_lp.specs.declared.states.Place.TheVariants.{InRow}
+use Rattle.mpslp_lp.specs.declared.states.State.TheVariants.{Between}
+use Rattle.mpslp_lp.specs.declared.tokens.TokenKind.TheVariants as kinds
+
+-- The first of these tokens has no fault of its own and is this terminal, and these are behind it.
+pub record Begins (found : List Token) (terminal : Terminal) (more : List Token) : Type 0 where
+  pub token : Token
+  pub tokens : found ≡ token ∷ more
+  pub sound : token_fault token.kind token.text ≡ None
+  pub is : as_terminal token ≡ terminal
+
+-- The first of these tokens is a number of this text, which may have a fault of its own, and these are behind it.
+pub record BeginsWithNumber (found : List Token) (literal : List ℕ) (more : List Token) : Type 0 where
+  pub token : Token
+  pub tokens : found ≡ token ∷ more
+  pub kind : token.kind ≡ kinds.Number
+  pub text : token.text ≡ literal
+
+-- These tokens begin with a sign, a number and a name, and have these behind them.
+pub record IsPlainTerm (found : List Token) (minus : Bool) (literal : List ℕ) (column : List ℕ) (more : List Token) : Type 0 where
+  pub behind_sign : List Token
+  pub behind_number : List Token
+  pub sign : Begins found (Sign minus) behind_sign
+  pub number : BeginsWithNumber behind_sign literal behind_number
+  pub name : Begins behind_number (Name column) more
+  pub legal : IsMpsName column
+
+-- Where so many tokens were taken within a row, as if all of them were.
+abbrev pub TakesInRow : Before → PartialRow → List Token → Result PartialRow LineError → List Token → Type 0
+TakesInRow before row found (Ok longer) left = take_tokens before (Between (InRow longer)) left ≡ take_tokens before (Between (InRow row)) found
+TakesInRow before row found (Err error) left = Takes (take_tokens before (Between (InRow row)) found) (Err error) before

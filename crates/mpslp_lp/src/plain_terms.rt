@@ -1,0 +1,142 @@
+//! Terms of rows that are taken as a whole, and not token by token: one sign, a number and a name, as most are.
+
+ghost use Rattle.std.specs.Prelude.{◌≡◌, ◌≤◌, List, Err, IfSome, MatchResult, length};
+ghost use Rattle.mpslp_types.specs.Name.{IsMpsName};
+ghost use Rattle.mpslp_lp.specs.Declares.{Takes};
+ghost use Rattle.mpslp_lp.specs.PlainTerm.{Begins, BeginsWithNumber, IsPlainTerm, TakesInRow};
+ghost use Rattle.mpslp_lp.specs.ReadingLines.{take_tokens};
+ghost use Rattle.mpslp_lp.specs.Terminal.{Terminal};
+ghost use Rattle.mpslp_lp.specs.Token.{Token};
+ghost use Rattle.mpslp_lp.specs.declared.states.Place.{Place};
+ghost use Rattle.mpslp_lp.specs.declared.states.State.{State};
+
+use crate::before::Before;
+use crate::items::signed;
+use crate::lines::{error_before, least_error};
+use crate::seen::{SeenKind, see};
+use crate::states::{PartialRow, Place, State};
+use crate::term_names::TermName;
+use crate::tokens::{TokenKind, Tokens};
+use mpslp_reading::{LineError, value_of};
+
+/// A sign, the text of a number and the name of a column.
+#[derive(Clone, Copy)]
+pub(crate) struct PlainTerm<'a> {
+    minus: bool,
+    literal: &'a [u8],
+    column: &'a [u8],
+}
+
+/// The sign that stands next.
+#[inline(always)]
+fn next_sign(tokens: &mut Tokens<'_>) -> Option<bool>
+    ensures { IfSome result (λ minus. Begins tokens.old (Terminal.Sign minus) tokens.new) }
+{
+    let token = tokens.next()?;
+    match see(token.kind, token.text) {
+        Ok(SeenKind::Sign(minus)) => Some(minus),
+        _ => None,
+    }
+}
+
+/// The text of the number that stands next.
+#[inline(always)]
+fn next_literal<'a>(tokens: &mut Tokens<'a>) -> Option<&'a [u8]>
+    ensures { IfSome result (λ literal. BeginsWithNumber tokens.old literal.now tokens.new) }
+{
+    let token = tokens.next()?;
+    match token.kind {
+        TokenKind::Number => Some(token.text),
+        _ => None,
+    }
+}
+
+/// The name that stands next.
+#[inline(always)]
+fn next_name<'a>(tokens: &mut Tokens<'a>) -> Option<&'a [u8]>
+    ensures next { IfSome result (λ name. Begins tokens.old (Terminal.Name name.now) tokens.new) }
+    ensures legal { IfSome result (λ name. IsMpsName name.now) }
+{
+    let token = tokens.next()?;
+    match see(token.kind, token.text) {
+        Ok(SeenKind::Name) => Some(token.text),
+        _ => None,
+    }
+}
+
+/// The sign, the number and the name that stand next.
+#[inline(always)]
+fn plain_term<'a>(tokens: &mut Tokens<'a>) -> Option<PlainTerm<'a>>
+    ensures { IfSome result (λ term. IsPlainTerm tokens.old term.minus term.literal.now term.column.now tokens.new) }
+{
+    let minus = next_sign(tokens)?;
+    let literal = next_literal(tokens)?;
+    let column = next_name(tokens)?;
+    Some(PlainTerm {
+        minus,
+        literal,
+        column,
+    })
+}
+
+/// Takes a term of a row, behind which these tokens are left on its line.
+fn take_plain_term(
+    before: &Before,
+    row: PartialRow,
+    term: PlainTerm<'_>,
+    left: Tokens<'_>,
+) -> Result<PartialRow, LineError>
+    requires { IsMpsName term.column.now }
+    ensures { (found : List Token) → IsPlainTerm found term.entry.minus term.entry.literal.now term.entry.column.now left.entry → TakesInRow before.now row found result left.entry }
+{
+    let value = match value_of(term.literal) {
+        Ok(value) => signed(term.minus, value),
+        Err(kind) => return Err(least_error(kind, left)),
+    };
+    let column = TermName::copied(before.earlier.alloc(), term.column)?;
+    match row.with_term(column, value) {
+        Ok(longer) => Ok(longer),
+        Err(error) => Err(error_before(error, left)),
+    }
+}
+
+/// Takes the terms of a row that stand next and are plain.
+fn take_plain_terms<'a>(
+    before: &Before,
+    row: PartialRow,
+    tokens: Tokens<'a>,
+) -> Result<(PartialRow, Tokens<'a>), LineError>
+    ensures { MatchResult result
+        (λ left. (take_tokens before.now (State.Between (Place.InRow left.0)) left.1 ≡ take_tokens before.now (State.Between (Place.InRow row)) tokens.entry) × (length left.1 ≤ length tokens.entry))
+        (λ error. Takes (take_tokens before.now (State.Between (Place.InRow row)) tokens.entry) (Err error) before.now) }
+{
+    let mut row = row;
+    let mut tokens = tokens;
+    'terms: loop {
+        let mut left = tokens.again();
+        let Some(term) = plain_term(&mut left) else {
+            return Ok((row, tokens));
+        };
+        row = take_plain_term(before, row, term, left.again())?;
+        tokens = left;
+    }
+}
+
+/// Takes the plain terms that stand next, where a row goes on.
+pub(crate) fn take_terms<'a>(
+    before: &Before,
+    state: State,
+    tokens: Tokens<'a>,
+) -> Result<(State, Tokens<'a>), LineError>
+    ensures { MatchResult result
+        (λ left. (take_tokens before.now left.0 left.1 ≡ take_tokens before.now state tokens.entry) × (length left.1 ≤ length tokens.entry))
+        (λ error. Takes (take_tokens before.now state tokens.entry) (Err error) before.now) }
+{
+    match state {
+        State::Between(Place::InRow(row)) => {
+            let (row, left) = take_plain_terms(before, row, tokens)?;
+            Ok((State::Between(Place::InRow(row)), left))
+        }
+        other => Ok((other, tokens)),
+    }
+}

@@ -1,0 +1,81 @@
+//! Names of columns in an unfinished row.
+
+ghost use Rattle.std.specs.Prelude.{◌≡◌, MatchResult};
+ghost use Rattle.std.proofs.Common.{rules};
+ghost use Rattle.std.specs.Hash as fed;
+ghost use Rattle.std.specs.Cmp.{partial_equiv_from_equiv};
+ghost use Rattle.std.specs.Cmp.Lexicographic.{nat_list_eq_equiv};
+ghost use Rattle.std.specs.Cmp.Rules.{hashing};
+ghost use Rattle.mpslp_types.specs.Name.{IsMpsName, same_bytes};
+ghost use Rattle.mpslp_reading.specs.declared.errors.LineError.{LineError};
+
+use mpslp_reading::LineError;
+use smallvec::SmallVec;
+use std::alloc::Global;
+use std::hash::{Hash, Hasher};
+use std::marker::Model;
+
+/// The most bytes of a name that takes no memory of its own.
+const SHORT: usize = 24;
+
+/// The name of the column of a term. A row keeps one for each term until it ends, so most take no memory of their own.
+#[derive(Drop)]
+pub struct TermName {
+    bytes: SmallVec<u8, SHORT>,
+}
+
+impl Model for TermName {
+    ghost use Rattle.std.specs.Prelude.{ℕ, List};
+    ghost use Rattle.mpslp_types.specs.Name.{IsMpsName};
+
+    ghost Value = { List ℕ };
+
+    ghost view = { λ n. n.bytes.items };
+
+    ghost invariant = { λ n. IsMpsName n.bytes.items };
+}
+
+impl PartialEq for TermName {
+    ghost eq = { same_bytes };
+
+    ghost laws = { partial_equiv_from_equiv nat_list_eq_equiv };
+
+    fn eq(&self, other: &TermName) -> bool {
+        self.as_bytes() == other.as_bytes()
+    }
+}
+
+impl Eq for TermName {
+    ghost laws = { nat_list_eq_equiv };
+}
+
+impl Hash for TermName {
+    ghost hash_input = { fed.slice fed.u8 };
+
+    ghost respects_eq = { Prim.search (hashing, rules) };
+
+    fn hash<H: Hasher>(&self, state: &mut H) {
+        self.as_bytes().hash(state);
+    }
+}
+
+impl TermName {
+    /// A copy of a name.
+    pub(crate) fn copied(alloc: Global, name: &[u8]) -> Result<TermName, LineError>
+        requires { IsMpsName name.now }
+        ensures { MatchResult result (λ copy. copy ≡ name.now) (λ error. error ≡ LineError.OutOfMemory) }
+    {
+        match SmallVec::from_slice(alloc, name) {
+            Ok(bytes) => Ok(TermName { bytes }),
+            Err(_) => Err(LineError::OutOfMemory),
+        }
+    }
+
+    /// The bytes of the name.
+    pub(crate) fn as_bytes(&self) -> &[u8]
+        ensures bytes { result.now ≡ self.now }
+        ensures legal { IsMpsName result.now }
+    {
+        self.bytes.as_slice()
+    }
+}
