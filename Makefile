@@ -2,7 +2,8 @@
 
 PREFIX ?= /usr/local
 
-.PHONY: run test install lib install-lib lib-check python python-check bench refused random vectors docs-check solvers
+.PHONY: run test try-program try-calls try-large-file try-documents try-callers wrong-bodies
+.PHONY: install lib install-lib lib-check python python-check bench refused random vectors docs-check solvers
 
 # Builds the program, proved, and prints the canonical text of an example.
 run:
@@ -11,16 +12,35 @@ run:
 # How many proofs run side by side: each takes up to 4 GB of memory.
 PROOFS = $(shell nproc | awk '{ print $$1 < 4 ? $$1 : 4 }')
 
+# What is tried side by side once all is proved, the longest first.
+TRIES = try-callers try-program try-calls try-large-file try-documents
+
 # The merge gate: proves everything, and on a machine that has done so what changed since and the crates above it; tries the
 # must-fail edits, which are wrong versions that the prover has to refuse; and runs tests and programs. What this builds is
 # then tried: the calls of the library and the program on the files of vectors/ and a large one, and what the documents say.
 test:
 	RT_JOBS=$(PROOFS) rt ci
+	$(MAKE) --no-print-directory --output-sync --jobs=$(PROOFS) $(TRIES)
+
+# These five try what `rt ci` has built in this checkout.
+try-calls:
 	cd vectors && ../crates/try_vectors/out/try_vectors
+
+try-program:
 	python3 tests/vectors.py
+
+try-large-file:
 	python3 tests/large_file.py
+
+try-documents:
 	python3 tests/docs_check.py
+
+try-callers:
 	sh tests/callers.sh
+
+# Tries the wrong bodies that the gate leaves out: each says more of a function that a must-fail edit turns already.
+wrong-bodies:
+	sh tests/wrong_bodies.sh
 
 # Builds the program where it is missing or its sources have changed, and installs it with its man page and completions.
 install: run
