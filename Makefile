@@ -38,7 +38,7 @@ try-documents:
 try-callers:
 	sh tests/callers.sh
 
-# Tries the wrong bodies that the gate leaves out: each says more of a function that a must-fail edit turns already.
+# Tries the wrong bodies that the gate leaves out: most say more of a function that a must-fail edit turns already.
 wrong-bodies:
 	sh tests/wrong_bodies.sh
 

@@ -1,8 +1,8 @@
 /*
  * mpslp: one canonical text for each linear or mixed-integer model in an MPS or LP file.
  *
- * Each call is proved to answer what is said here, for all bytes; docs/C.md says what that rests on, and what a caller
- * owes. In short: no pointer is null, even where a length is 0; what is written lies apart from all else that a call is
+ * Each call of the library, which is each that is not inline, is proved to answer what is said here, for all bytes;
+ * docs/C.md says what that rests on, and what a caller owes. In short: no pointer is null, even where a length is 0; what is written lies apart from all else that a call is
  * given; texts, models and faults begin as MPSLP_NO_TEXT, MPSLP_NO_MODEL and MPSLP_NO_FAULT. A call keeps no pointer, has
  * no state, and may run in many threads at once, each with texts, models and faults of its own. It wants a stack of 256 KiB.
  */

@@ -1,8 +1,8 @@
 #!/usr/bin/env python3
 """Check the documents and the examples against the built program.
 
-What README.md, examples/README.md and docs/*.md say of a command or a file is
-tried, in a scratch folder with the repository's examples. A comment before a
+What README.md, CONTRIBUTING.md, examples/README.md and docs/*.md say of a command
+or a file is tried, in a scratch folder with the repository's examples. A comment before a
 fenced block or a table, which a reader of the page does not see, says how:
 
     <!-- file: NAME -->        the block is the file NAME
