@@ -1,12 +1,17 @@
--- A sign, a number and a name that are taken as a whole are taken as they are one after another.
-use Rattle.std.proofs.Common.{◌≡◌, refl, sym, ap, subst, ◌∙◌, ℕ, List, [], ◌∷◌, ◌++◌, Bool}
-use Rattle.std.specs.Prelude.{Option, Some, None, Ok, Err, if◌then◌else◌}
+-- A sign, a number and a name that are taken as a whole are taken as they are one after another, and so without a number.
+use Rattle.std.proofs.Common.{◌≡◌, refl, sym, ap, subst, ◌∙◌, ℕ, List, [], ◌∷◌, ◌++◌, Bool, inl, inr}
+use Rattle.std.specs.Prelude.{Option, Some, None, Result, Ok, Err, if◌then◌else◌, codes}
+use Rattle.std.specs.Result.{result_unwrap_or}
 use Rattle.std.specs.List.{cons_option}
+use Rattle.std.proofs.lemmas.Option.{none-some}
 use Rattle.mpslp_types.specs.declared.faults.FaultKind.{FaultKind}
 use Rattle.mpslp_types.specs.declared.faults.FaultKind.TheVariants.{DuplicateEntry}
 use Rattle.mpslp_reading.specs.Field.{value_of, number_fault}
 use Rattle.mpslp_reading.specs.declared.errors.LineError.{LineError}
 use Rattle.mpslp_reading.specs.declared.errors.LineError.TheVariants.{Fault, OutOfMemory}
+use Rattle.mpslp_decimal.specs.Decimal.{Number as Decimal, zero_number, trailing_zeros}
+use Rattle.mpslp_decimal.specs.declared.literal.NumberFault.{NumberFault}
+use Rattle.mpslp_lp.specs.Items.{one}
 use Rattle.mpslp_lp.specs.PartialRow.{PartialRow}
 use Rattle.mpslp_lp.specs.Token.{Token}
 use Rattle.mpslp_lp.specs.Terminal.{Terminal, as_terminal, terminal_of}
@@ -24,6 +29,7 @@ use Rattle.mpslp_lp.specs.declared.states.Owner.TheVariants.{OfRow}
 use Rattle.mpslp_lp.specs.declared.states.State.{State}
 use Rattle.mpslp_lp.specs.declared.states.State.TheVariants.{Between, Signs, ItemNumber}
 use Rattle.mpslp_lp.proofs.LineTokens.{tokens-next, tokens-own, tokens-refused}
+use Rattle.mpslp_lp.proofs.TokenAnswers.{one-parsed}
 
 -- a terminal that goes on
 step : (before after : Before) (state next : State) (found more : List Token) (terminal : Terminal) → Begins found terminal more → take before state terminal ≡ Goes after next
@@ -40,16 +46,42 @@ as-begins found more literal b none = record {
   is = λ i. terminal_of (b.kind i) (b.text i);
 }
 
-module _ (before : Before) (row : PartialRow) (found more : List Token) (minus : Bool) (literal column : List ℕ) (p : IsPlainTerm found minus literal column more) where
-  -- up to the number, and up to the name
-  behind-sign : take_tokens before (Between (InRow row)) found ≡ take_tokens before (Signs (OfRow row) minus) p.behind_sign
-  behind-sign = step before before (Between (InRow row)) (Signs (OfRow row) minus) found p.behind_sign (Sign minus) p.sign refl
+one-value : one ≡ value_of (codes "1")
+one-value = sym (ap (λ (answer : Result Decimal NumberFault). result_unwrap_or answer zero_number) one-parsed)
 
-  behind-number : number_fault literal ≡ None → take_tokens before (Between (InRow row)) found ≡ take_tokens before (ItemNumber (OfRow row) minus (value_of literal)) p.behind_number
-  behind-number none =
-      behind-sign
-      ∙ step before before (Signs (OfRow row) minus) (ItemNumber (OfRow row) minus (value_of literal)) p.behind_sign p.behind_number (Number (value_of literal))
-      (as-begins p.behind_sign p.behind_number literal p.number none) refl
+one-sound : None ≡ number_fault (codes "1")
+unfolding trailing_zeros
+one-sound = refl
+
+-- the state before a term's name, which takes the name as the state behind the number does
+record BeforeName (before : Before) (row : PartialRow) (found behind : List Token) (minus : Bool) (literal column : List ℕ) : Type 0 where
+  state : State
+  comes : take_tokens before (Between (InRow row)) found ≡ take_tokens before state behind
+  takes : take before state (Name column) ≡ take before (ItemNumber (OfRow row) minus (value_of literal)) (Name column)
+
+module _ (before : Before) (row : PartialRow) (found more : List Token) (minus : Bool) (literal column : List ℕ) (p : IsPlainTerm found minus literal column more) where
+  abbrev signs : State
+  signs = Signs (OfRow row) minus
+
+  -- up to the number, and up to the name
+  behind-sign : take_tokens before (Between (InRow row)) found ≡ take_tokens before signs p.behind_sign
+  behind-sign = step before before (Between (InRow row)) signs found p.behind_sign (Sign minus) p.sign refl
+
+  before-name : number_fault literal ≡ None → BeforeName before row found p.term.behind_number minus literal column
+  before-name none = elim p.term.number [
+    | inl number ↦ record {
+      state = ItemNumber (OfRow row) minus (value_of literal);
+      comes = behind-sign
+          ∙ step before before signs (ItemNumber (OfRow row) minus (value_of literal)) p.behind_sign p.term.behind_number (Number (value_of literal))
+          (as-begins p.behind_sign p.term.behind_number literal number none) refl;
+      takes = refl;
+    }
+    | inr alone ↦ record {
+      state = signs;
+      comes = behind-sign ∙ ap (take_tokens before signs) (sym alone.1);
+      takes = ap (λ (value : Decimal). take before (ItemNumber (OfRow row) minus value) (Name column)) (one-value ∙ ap value_of (sym alone.0));
+    }
+  ]
 
   -- a column that is new in the row
   pub plain-goes : (longer : PartialRow) → number_fault literal ≡ None → AddsTerm row column (signed minus (value_of literal)) (Ok longer)
@@ -57,31 +89,35 @@ module _ (before : Before) (row : PartialRow) (found more : List Token) (minus :
   plain-goes longer none adds =
       let value = signed minus (value_of literal) in
       let next : State = Between (InRow (record row { terms = row.terms ++ (column, value) ∷ [] })) in
+      let named = before-name none in
       ap (λ (r : PartialRow). take_tokens before (Between (InRow r)) more) adds.1
-      ∙ sym (behind-number none
-      ∙ step before before (ItemNumber (OfRow row) minus (value_of literal)) next p.behind_number more (Name column) p.name
-      (ap (λ (b : Bool). if b then refused before (Name column) DuplicateEntry else Goes (with_made before []) next) adds.0))
+      ∙ sym (named.comes
+      ∙ step before before named.state next p.term.behind_number more (Name column) p.term.name
+      (named.takes ∙ ap (λ (b : Bool). if b then refused before (Name column) DuplicateEntry else Goes (with_made before []) next) adds.0))
 
   -- a column that has a term in the row
   pub plain-refused : (error : LineError) → number_fault literal ≡ None → AddsTerm row column (signed minus (value_of literal)) (Err error)
       → Takes (take_tokens before (Between (InRow row)) found) (Err (error_before (token_faults more) error)) before
   plain-refused OutOfMemory none adds = tt
   plain-refused (Fault kind) none adds =
-      let item : State = ItemNumber (OfRow row) minus (value_of literal) in
       let next : State = Between (InRow (record row { terms = row.terms ++ (column, signed minus (value_of literal)) ∷ [] })) in
-      let told : take before item (as_terminal p.name.token) ≡ Refuses kind =
-      ap (take before item) p.name.is ∙ ap (λ (b : Bool). if b then refused before (Name column) DuplicateEntry else Goes (with_made before []) next) adds.0
+      let named = before-name none in
+      let name = p.term.name in
+      let told : take before named.state (as_terminal name.token) ≡ Refuses kind =
+      ap (take before named.state) name.is ∙ named.takes ∙ ap (λ (b : Bool). if b then refused before (Name column) DuplicateEntry else Goes (with_made before []) next) adds.0
       ∙ ap (λ (k : FaultKind). Refuses k) (sym adds.1) in
-      subst (λ (taken : Taken). Takes taken (Err (error_before (token_faults more) (Fault kind))) before) (sym (behind-number none ∙ ap (take_tokens before item) p.name.tokens))
-      (tokens-refused before before item p.name.token more (Fault kind) p.name.sound told)
+      subst (λ (taken : Taken). Takes taken (Err (error_before (token_faults more) (Fault kind))) before) (sym (named.comes ∙ ap (take_tokens before named.state) name.tokens))
+      (tokens-refused before before named.state name.token more (Fault kind) name.sound told)
 
   -- a number with a fault
   pub plain-number : (kind : FaultKind) (error : LineError) → number_fault literal ≡ Some kind → IsLeastError (kind ∷ token_faults more) error
       → Takes (take_tokens before (Between (InRow row)) found) (Err error) before
-  plain-number kind error some least =
-      let number = p.number.token in
-      let same : token_faults p.behind_number ≡ token_faults more =
-      ap token_faults p.name.tokens ∙ ap (λ (o : Option FaultKind). cons_option o (token_faults more)) p.name.sound in
-      subst (λ (taken : Taken). Takes taken (Err error) before) (sym (behind-sign ∙ ap (take_tokens before (Signs (OfRow row) minus)) p.number.tokens))
-      (tokens-own before before (Signs (OfRow row) minus) number p.behind_number kind error ((λ i. token_fault (p.number.kind i) (p.number.text i)) ∙ some)
-      (subst (λ (faults : List FaultKind). IsLeastError (kind ∷ faults) error) (sym same) least))
+  plain-number kind error some least = elim p.term.number [
+    | inl number ↦
+        let same : token_faults p.term.behind_number ≡ token_faults more =
+        ap token_faults p.term.name.tokens ∙ ap (λ (o : Option FaultKind). cons_option o (token_faults more)) p.term.name.sound in
+        subst (λ (taken : Taken). Takes taken (Err error) before) (sym (behind-sign ∙ ap (take_tokens before signs) number.tokens))
+        (tokens-own before before signs number.token p.term.behind_number kind error ((λ i. token_fault (number.kind i) (number.text i)) ∙ some)
+        (subst (λ (faults : List FaultKind). IsLeastError (kind ∷ faults) error) (sym same) least))
+    | inr alone ↦ absurd (none-some kind (one-sound ∙ ap number_fault (sym alone.0) ∙ some))
+  ]

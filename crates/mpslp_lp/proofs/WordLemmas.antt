@@ -1,6 +1,6 @@
 -- The words that mean something are the reserved ones.
 use Rattle.std.proofs.Common.{◌≡◌, refl, sym, ap, subst, ◌∙◌, ℕ, ◌<◌, ◌≤◌, arith, List, [], ◌∷◌, Bool, true, false, cond, map, length}
-use Rattle.std.specs.Prelude.{Option, Some, None, ◌||◌, ◌&&◌, codes, nat_eq, nat_le}
+use Rattle.std.specs.Prelude.{Option, Some, None, ◌||◌, ◌&&◌, nat_eq, nat_le}
 use Rattle.std.specs.List.{find, list_all, list_any}
 use Rattle.std.proofs.lemmas.Bool.{eqb-true, leb-true, leb-false, true≢false}
 use Rattle.std.proofs.lemmas.List.{length-map}
@@ -8,7 +8,7 @@ use Rattle.std.proofs.Math.Dec.{leb}
 use Rattle.std.specs.Option.{option_map_or}
 use Rattle.mpslp_types.specs.Name.{same_bytes, lower_byte, reserved_words, is_reserved}
 use Rattle.mpslp_builder.proofs.CoefficientLemmas.{same_bytes-true}
-use Rattle.mpslp_lp.specs.Words.{word_meanings, meaning_of, begins_reserved, may_be_reserved}
+use Rattle.mpslp_lp.specs.Words.{word_meanings, meaning_of, reserved_beginnings, begins_reserved, may_be_reserved}
 use Rattle.mpslp_lp.specs.declared.words.Meaning.{Meaning}
 use Rattle.mpslp_lp.specs.declared.words.Meaning.TheVariants.{Name}
 
@@ -56,35 +56,57 @@ none-long (w ∷ words) most word h longer = by (leb (length w) most) refl h (λ
 meaning-long : (word : List ℕ) → 8 < length word → meaning_of word ≡ Name
 meaning-long word longer = meaning-name word (none-long reserved_words 8 (map lower_byte word) refl (subst (λ (n : ℕ). 8 < n) (sym (length-map word lower_byte)) longer))
 
--- ---- words that begin with another letter than reserved ones
+-- ---- words that begin with other letters than reserved ones
 
-abbrev begins_with : List ℕ → List ℕ → Bool
-begins_with letters [] = false
-begins_with letters (first ∷ _) = list_any (λ (letter : ℕ). nat_eq first letter) letters
+-- the word has two letters, and begins with one of these beginnings
+abbrev begins_with : List (List ℕ) → List ℕ → Bool
+begins_with beginnings (first ∷ second ∷ _) = list_any (same_bytes (first ∷ second ∷ [])) beginnings
+begins_with beginnings _ = false
 
-other-first : (letters : List ℕ) (first : ℕ) (rest word : List ℕ) → list_any (nat_eq first) letters ≡ false → begins_with letters word ≡ true → same_bytes (first ∷ rest) word ≡ false
-other-first letters first rest [] none begins = refl
-other-first letters first rest (letter ∷ word) none begins = by (nat_eq first letter) refl
+other-letters : (beginnings : List (List ℕ)) (first second : ℕ) (rest word : List ℕ) → list_any (same_bytes (first ∷ second ∷ [])) beginnings ≡ false → begins_with beginnings word ≡ true
+    → same_bytes (first ∷ second ∷ rest) word ≡ false
+other-letters beginnings first second rest [] none begins = refl
+other-letters beginnings first second rest (letter ∷ []) none begins = cc
+other-letters beginnings first second rest (letter ∷ next ∷ word) none begins = by (nat_eq first letter) (nat_eq second next) refl refl
   where
-    by : (b : Bool) → nat_eq first letter ≡ b → (b && same_bytes rest word) ≡ false
-    by false e = refl
-    by true e = absurd (let same : first ≡ letter = eqb-true first letter e in true≢false (sym begins ∙ (subst (λ (n : ℕ). list_any (nat_eq n) letters ≡ false) same none)))
+    by : (b c : Bool) → nat_eq first letter ≡ b → nat_eq second next ≡ c → (b && (c && same_bytes rest word)) ≡ false
+    by false c e g = refl
+    by true false e g = refl
+    by true true e g = absurd (
+        let same : first ∷ second ∷ [] ≡ letter ∷ next ∷ [] = λ i. eqb-true first letter e i ∷ eqb-true second next g i ∷ [] in
+        true≢false (sym begins ∙ subst (λ (letters : List ℕ). list_any (same_bytes letters) beginnings ≡ false) same none)
+        )
 
-none-begins : (words : List (List ℕ)) (letters : List ℕ) (first : ℕ) (rest : List ℕ) → list_all (begins_with letters) words ≡ true → list_any (nat_eq first) letters ≡ false → list_any (same_bytes (first ∷ rest)) words ≡ false
-none-begins [] letters first rest h none = refl
-none-begins (w ∷ words) letters first rest h none = by (begins_with letters w) refl h (λ later. none-begins words letters first rest later none)
+none-begins : (words beginnings : List (List ℕ)) (first second : ℕ) (rest : List ℕ) → list_all (begins_with beginnings) words ≡ true → list_any (same_bytes (first ∷ second ∷ [])) beginnings ≡ false
+    → list_any (same_bytes (first ∷ second ∷ rest)) words ≡ false
+none-begins [] beginnings first second rest h none = refl
+none-begins (w ∷ words) beginnings first second rest h none = by (begins_with beginnings w) refl h (λ later. none-begins words beginnings first second rest later none)
   where
-    by : (b : Bool) → begins_with letters w ≡ b → (b && list_all (begins_with letters) words) ≡ true
-        → (list_all (begins_with letters) words ≡ true → list_any (same_bytes (first ∷ rest)) words ≡ false)
-        → (same_bytes (first ∷ rest) w || list_any (same_bytes (first ∷ rest)) words) ≡ false
-    by true e all later = ap (λ (c : Bool). c || list_any (same_bytes (first ∷ rest)) words) (other-first letters first rest w none e) ∙ later all
+    by : (b : Bool) → begins_with beginnings w ≡ b → (b && list_all (begins_with beginnings) words) ≡ true
+        → (list_all (begins_with beginnings) words ≡ true → list_any (same_bytes (first ∷ second ∷ rest)) words ≡ false)
+        → (same_bytes (first ∷ second ∷ rest) w || list_any (same_bytes (first ∷ second ∷ rest)) words) ≡ false
+    by true e all later = ap (λ (c : Bool). c || list_any (same_bytes (first ∷ second ∷ rest)) words) (other-letters beginnings first second rest w none e) ∙ later all
     by false e all later = cc
 
--- a word that is too long for a reserved one, or begins with another letter, is a name
+-- no reserved word has one letter
+none-single : (words : List (List ℕ)) (first : ℕ) → list_all (begins_with reserved_beginnings) words ≡ true → list_any (same_bytes (first ∷ [])) words ≡ false
+none-single [] first h = refl
+none-single ([] ∷ words) first h = cc
+none-single ((letter ∷ []) ∷ words) first h = cc
+none-single ((letter ∷ next ∷ word) ∷ words) first h = by (nat_eq first letter) (begins_with reserved_beginnings (letter ∷ next ∷ word)) h (none-single words first)
+  where
+    by : (b c : Bool) → (c && list_all (begins_with reserved_beginnings) words) ≡ true → (list_all (begins_with reserved_beginnings) words ≡ true → list_any (same_bytes (first ∷ [])) words ≡ false)
+        → ((b && false) || list_any (same_bytes (first ∷ [])) words) ≡ false
+    by true true all later = later all
+    by false true all later = later all
+    by b false all later = cc
+
+-- a word that is too long for a reserved one, or begins with other letters, is a name
 pub meaning-other : (word : List ℕ) → may_be_reserved word ≡ false → meaning_of word ≡ Name
 meaning-other [] h = refl
-meaning-other (first ∷ rest) h = by (nat_le (length (first ∷ rest)) 8) refl h
+meaning-other (first ∷ []) h = meaning-name (first ∷ []) (none-single reserved_words (lower_byte first) refl)
+meaning-other (first ∷ second ∷ rest) h = by (nat_le (length (first ∷ second ∷ rest)) 8) refl h
   where
-    by : (b : Bool) → nat_le (length (first ∷ rest)) 8 ≡ b → (b && begins_reserved first) ≡ false → meaning_of (first ∷ rest) ≡ Name
-    by true e none = meaning-name (first ∷ rest) (none-begins reserved_words (codes "befgims") (lower_byte first) (map lower_byte rest) refl none)
-    by false e none = meaning-long (first ∷ rest) (leb-false (length (first ∷ rest)) 8 e)
+    by : (b : Bool) → nat_le (length (first ∷ second ∷ rest)) 8 ≡ b → (b && begins_reserved first second) ≡ false → meaning_of (first ∷ second ∷ rest) ≡ Name
+    by true e none = meaning-name (first ∷ second ∷ rest) (none-begins reserved_words reserved_beginnings (lower_byte first) (lower_byte second) (map lower_byte rest) refl none)
+    by false e none = meaning-long (first ∷ second ∷ rest) (leb-false (length (first ∷ second ∷ rest)) 8 e)

@@ -1,5 +1,5 @@
--- Terms of rows that are taken as a whole: one sign, a number and a name.
-use Rattle.std.specs.Prelude.{◌≡◌, ℕ, Bool, List, ◌∷◌, None, Result, Ok, Err}
+-- Terms of rows that are taken as a whole: one sign, a number if there is one, and a name.
+use Rattle.std.specs.Prelude.{◌≡◌, ◌⊎◌, ℕ, Bool, List, ◌∷◌, None, Result, Ok, Err, codes}
 use Rattle.mpslp_types.specs.Name.{IsMpsName}
 use Rattle.mpslp_reading.specs.declared.errors.LineError.{LineError}
 use Rattle.mpslp_lp.specs.PartialRow.{PartialRow}
@@ -28,14 +28,18 @@ pub record BeginsWithNumber (found : List Token) (literal : List ℕ) (more : Li
   pub kind : token.kind ≡ kinds.Number
   pub text : token.text ≡ literal
 
--- These tokens begin with a sign, a number and a name, and have these behind them.
-pub record IsPlainTerm (found : List Token) (minus : Bool) (literal : List ℕ) (column : List ℕ) (more : List Token) : Type 0 where
-  pub behind_sign : List Token
+-- These tokens begin with a number and a name, or with a name, whose number is then 1, and have these behind them.
+pub record IsUnsignedTerm (found : List Token) (literal column : List ℕ) (more : List Token) : Type 0 where
   pub behind_number : List Token
-  pub sign : Begins found (Sign minus) behind_sign
-  pub number : BeginsWithNumber behind_sign literal behind_number
+  pub number : BeginsWithNumber found literal behind_number ⊎ ((literal ≡ codes "1") × (behind_number ≡ found))
   pub name : Begins behind_number (Name column) more
   pub legal : IsMpsName column
+
+-- These tokens begin with a sign and such a term, and have these behind them.
+pub record IsPlainTerm (found : List Token) (minus : Bool) (literal column : List ℕ) (more : List Token) : Type 0 where
+  pub behind_sign : List Token
+  pub sign : Begins found (Sign minus) behind_sign
+  pub term : IsUnsignedTerm behind_sign literal column more
 
 -- Where so many tokens were taken within a row, as if all of them were.
 abbrev pub TakesInRow : Before → PartialRow → List Token → Result PartialRow LineError → List Token → Type 0

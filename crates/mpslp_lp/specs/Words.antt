@@ -37,14 +37,20 @@ meaning_of word =
     let lower = map lower_byte word in
     option_map_or (λ (entry : List ℕ × Meaning). entry.1) (find (λ entry. same_bytes lower entry.0) word_meanings) Name
 
--- the letters that reserved words begin with, in upper or lower case
-abbrev pub begins_reserved : ℕ → Bool
-begins_reserved letter = list_any (nat_eq (lower_byte letter)) (codes "befgims")
+-- what reserved words begin with, in lower case
+abbrev pub reserved_beginnings : List (List ℕ)
+reserved_beginnings =
+    codes "bi" ∷ codes "bo" ∷ codes "en" ∷ codes "fr" ∷ codes "ge" ∷ codes "in" ∷ codes "ma" ∷ codes "mi"
+    ∷ codes "s." ∷ codes "se" ∷ codes "so" ∷ codes "st" ∷ codes "su" ∷ []
+
+-- two letters that reserved words begin with, in upper or lower case
+abbrev pub begins_reserved : ℕ → ℕ → Bool
+begins_reserved first second = list_any (same_bytes (lower_byte first ∷ lower_byte second ∷ [])) reserved_beginnings
 
 -- a word that is short enough for a reserved one, and begins as one does
 abbrev pub may_be_reserved : List ℕ → Bool
-may_be_reserved [] = false
-may_be_reserved (first ∷ rest) = nat_le (length (first ∷ rest)) 8 && begins_reserved first
+may_be_reserved (first ∷ second ∷ rest) = nat_le (length (first ∷ second ∷ rest)) 8 && begins_reserved first second
+may_be_reserved _ = false
 
 abbrev pub section_of : SectionWord → Section
 section_of Minimize = sections.Objective

@@ -10,7 +10,7 @@ ghost use Rattle.mpslp_builder.specs.Refusal.{refusals};
 ghost use Rattle.mpslp_builder.specs.Declaration.{adding, empty_draft, by_limits, declare_sense, declare_objective, declare_constant, declare_row, declare_column, declare_coefficient, declare_integer, declare_binary, declare_semi};
 ghost use Rattle.mpslp_reading.specs.declared.errors.LineError.{LineError};
 ghost use Rattle.mpslp_lp.specs.Objective.{default_objective, term_declared, objective_declared, first_item_declared};
-ghost use Rattle.mpslp_lp.specs.Rows.{numbered_row};
+ghost use Rattle.mpslp_lp.specs.Rows.{numbered_row, without_terms};
 ghost use Rattle.std.specs.List.{flat_map};
 ghost use Rattle.mpslp_lp.specs.Reading.{new_column};
 ghost use Rattle.mpslp_lp.specs.Sides.{limits_by};
@@ -30,13 +30,18 @@ use mpslp_reading::LineError;
 use std::alloc::Global;
 use std::marker::Model;
 
+/// For how many terms a row has room from its beginning: as many as four groups of a table's places take.
+const USUAL_TERMS: usize = 36;
+
 /// What a text has declared. Contracts see the draft of it.
-#[derive(Debug, Drop)]
+#[derive(Drop)]
 pub(crate) struct Declared {
     alloc: Global,
     builder: Builder,
     /// How many rows there are; it stays at 2^64 - 1.
     rows: u64,
+    /// The memory of a row that has ended, for the next one.
+    spare: Option<Box<PartialParts>>,
 }
 
 impl Model for Declared {
@@ -61,6 +66,32 @@ fn numbered_row(alloc: Global, position: u64) -> Result<Name, LineError>
     }
 }
 
+/// A row of which no term was taken, in memory of its own.
+fn new_row(
+    alloc: Global,
+    name: Name,
+    left: Option<(GivenLimit, Relation)>,
+) -> Result<PartialRow, LineError>
+    ensures { MatchResult result (λ row. row ≡ without_terms name left) (λ error. error ≡ LineError.OutOfMemory) }
+{
+    let terms = IndexMap::with_capacity(alloc, USUAL_TERMS)?;
+    match Box::new(alloc, PartialParts { name, left, terms }) {
+        Ok(parts) => Ok(PartialRow { parts }),
+        Err(_) => Err(LineError::OutOfMemory),
+    }
+}
+
+/// A row of which no term was taken, in the memory of these parts.
+fn emptied(parts: Box<PartialParts>, name: Name, left: Option<(GivenLimit, Relation)>) -> PartialRow
+    ensures { result ≡ without_terms name left }
+{
+    let mut parts = parts;
+    parts.name = name;
+    parts.left = left;
+    parts.terms.clear();
+    PartialRow { parts }
+}
+
 impl Declared {
     /// Where nothing is declared.
     pub(crate) fn new(alloc: Global) -> Declared
@@ -70,6 +101,7 @@ impl Declared {
             alloc,
             builder: Builder::new(alloc),
             rows: 0,
+            spare: None,
         }
     }
 
@@ -101,6 +133,30 @@ impl Declared {
         ensures { MatchResult result (λ name. name ≡ numbered_row (min (length self.now.rows + 1) (2 ^ 64 - 1))) (λ error. error ≡ LineError.OutOfMemory) }
     {
         numbered_row(self.alloc, self.rows.saturating_add(1))
+    }
+
+    /// A row of which no term was taken, in the memory of one that has ended if there is such.
+    pub(crate) fn row_without_terms(
+        &mut self,
+        name: Name,
+        left: Option<(GivenLimit, Relation)>,
+    ) -> Result<PartialRow, LineError>
+        ensures row { MatchResult result (λ row. row ≡ without_terms name left) (λ error. error ≡ LineError.OutOfMemory) }
+        ensures same { self.new ≡ self.old }
+    {
+        match self.spare.take() {
+            Some(parts) => Ok(emptied(parts, name, left)),
+            None => new_row(self.alloc, name, left),
+        }
+    }
+
+    /// Keeps the memory of a row that has ended for the next one, unless it had more terms than most.
+    pub(crate) fn keep_parts(&mut self, row: PartialRow)
+        ensures { self.new ≡ self.old }
+    {
+        if row.parts.terms.len() <= USUAL_TERMS {
+            self.spare = Some(row.parts);
+        }
     }
 
     /// The name of an objective without a label.

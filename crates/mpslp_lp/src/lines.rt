@@ -14,6 +14,7 @@ use crate::seen::{Seen, see};
 use crate::states::State;
 use crate::taking::take;
 use crate::tokens::{Tokens, tokens_of};
+use bstr::ByteSlice;
 use mpslp_model::FaultKind;
 use mpslp_reading::{LineError, are_legal_bytes, has_legal_length, lesser_kind};
 
@@ -63,8 +64,8 @@ pub(crate) fn least_error(kind: FaultKind, tokens: Tokens<'_>) -> LineError
     }
 }
 
-/// Takes the tokens of a line of legal length and bytes. Each is looked at once; those behind one that makes a fault are
-/// looked at for their own faults alone.
+/// Takes the tokens of a line of legal length and bytes. Each is looked at once, but where a plain term could begin and does
+/// not; those behind one that makes a fault are looked at for their own faults alone.
 fn take_tokens(before: &mut Before, state: State, line: &[u8]) -> Result<State, LineError>
     ensures { Takes (take_tokens before.old state (tokens line.now)) result before.new }
 {
@@ -94,12 +95,10 @@ fn outside_len(line: &[u8]) -> usize
     ensures count { result ≡ prefix_len (λ byte. not (begins_comment byte)) line.now }
     ensures within { result ≤ length line.now }
 {
-    for (at, byte) in line.iter().enumerate() {
-        if *byte == b'\\' {
-            return at;
-        }
+    match line.find_byte(b'\\') {
+        Some(at) => at,
+        None => line.len(),
     }
-    line.len()
 }
 
 /// What of the line stands before a comment.

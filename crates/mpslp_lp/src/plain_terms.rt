@@ -1,9 +1,10 @@
-//! Terms of rows that are taken as a whole, and not token by token: one sign, a number and a name, as most are.
+//! Terms of rows that are taken as a whole, and not token by token: one sign, a number if there is one, and a name, as most
+//! are.
 
 ghost use Rattle.std.specs.Prelude.{◌≡◌, ◌≤◌, List, Err, IfSome, MatchResult, length};
 ghost use Rattle.mpslp_types.specs.Name.{IsMpsName};
 ghost use Rattle.mpslp_lp.specs.Declares.{Takes};
-ghost use Rattle.mpslp_lp.specs.PlainTerm.{Begins, BeginsWithNumber, IsPlainTerm, TakesInRow};
+ghost use Rattle.mpslp_lp.specs.PlainTerm.{Begins, IsUnsignedTerm, IsPlainTerm, TakesInRow};
 ghost use Rattle.mpslp_lp.specs.ReadingLines.{take_tokens};
 ghost use Rattle.mpslp_lp.specs.Terminal.{Terminal};
 ghost use Rattle.mpslp_lp.specs.Token.{Token};
@@ -19,7 +20,7 @@ use crate::term_names::TermName;
 use crate::tokens::{TokenKind, Tokens};
 use mpslp_reading::{LineError, value_of};
 
-/// A sign, the text of a number and the name of a column.
+/// A sign, the text of a number, which is 1 where there is none, and the name of a column.
 #[derive(Clone, Copy)]
 pub(crate) struct PlainTerm<'a> {
     minus: bool,
@@ -39,18 +40,6 @@ fn next_sign(tokens: &mut Tokens<'_>) -> Option<bool>
     }
 }
 
-/// The text of the number that stands next.
-#[inline(always)]
-fn next_literal<'a>(tokens: &mut Tokens<'a>) -> Option<&'a [u8]>
-    ensures { IfSome result (λ literal. BeginsWithNumber tokens.old literal.now tokens.new) }
-{
-    let token = tokens.next()?;
-    match token.kind {
-        TokenKind::Number => Some(token.text),
-        _ => None,
-    }
-}
-
 /// The name that stands next.
 #[inline(always)]
 fn next_name<'a>(tokens: &mut Tokens<'a>) -> Option<&'a [u8]>
@@ -64,14 +53,31 @@ fn next_name<'a>(tokens: &mut Tokens<'a>) -> Option<&'a [u8]>
     }
 }
 
-/// The sign, the number and the name that stand next.
+/// The text of the number, which is 1 where there is none, and the name that stand next.
+#[inline(always)]
+fn unsigned_term<'a>(tokens: &mut Tokens<'a>) -> Option<(&'a [u8], &'a [u8])>
+    ensures { IfSome result (λ term. IsUnsignedTerm tokens.old term.0.now term.1.now tokens.new) }
+{
+    let token = tokens.next()?;
+    match token.kind {
+        TokenKind::Number => {
+            let column = next_name(tokens)?;
+            Some((token.text, column))
+        }
+        _ => match see(token.kind, token.text) {
+            Ok(SeenKind::Name) => Some((b"1".as_slice(), token.text)),
+            _ => None,
+        },
+    }
+}
+
+/// The sign, the number if there is one, and the name that stand next.
 #[inline(always)]
 fn plain_term<'a>(tokens: &mut Tokens<'a>) -> Option<PlainTerm<'a>>
     ensures { IfSome result (λ term. IsPlainTerm tokens.old term.minus term.literal.now term.column.now tokens.new) }
 {
     let minus = next_sign(tokens)?;
-    let literal = next_literal(tokens)?;
-    let column = next_name(tokens)?;
+    let (literal, column) = unsigned_term(tokens)?;
     Some(PlainTerm {
         minus,
         literal,
@@ -123,6 +129,7 @@ fn take_plain_terms<'a>(
 }
 
 /// Takes the plain terms that stand next, where a row goes on.
+#[inline(always)]
 pub(crate) fn take_terms<'a>(
     before: &Before,
     state: State,

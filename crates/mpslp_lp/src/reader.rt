@@ -9,8 +9,8 @@ use std::marker::Model;
 /// A reader of LP text that comes in pieces of any length. What the pieces were does not matter: it answers of all of them
 /// together what [`read_lp`](crate::read_lp) answers of the whole text.
 ///
-/// It keeps what is declared, the row that is not complete, and of the text only the line that is not complete: at most
-/// 1,048,577 bytes of it, none where the line of `end` is complete. A line is completed by its line feed, the last one perhaps
+/// It keeps what is declared, the row that is not complete, the memory of one that is, and of the text only the line that is
+/// not complete: at most 1,048,577 bytes of it, none where the line of `end` is complete. A line is completed by its line feed, the last one perhaps
 /// by the end of the text. Lines that are complete in a piece are not copied. After the line of `end` each piece is taken, and
 /// not looked at.
 #[derive(Drop)]

@@ -1,12 +1,10 @@
 //! Rows, token by token.
 
-ghost use Rattle.std.specs.Prelude.{◌≡◌, Some, None, MatchResult};
-ghost use Rattle.mpslp_lp.specs.PartialRow.{PartialRow};
-ghost use Rattle.mpslp_lp.specs.Point.{none_opened};
-ghost use Rattle.mpslp_lp.specs.Rows.{default_row, without_terms, fits_left, row_limits, row_declared};
-ghost use Rattle.mpslp_lp.specs.Sides.{fits_second, limits_by};
+ghost use Rattle.std.specs.Prelude.{◌≡◌, None};
+ghost use Rattle.mpslp_lp.specs.Rows.{fits_left, row_limits, row_declared};
+ghost use Rattle.mpslp_lp.specs.Sides.{fits_second};
 ghost use Rattle.mpslp_lp.specs.Seen.{IsSound, seen_terminal};
-ghost use Rattle.mpslp_lp.specs.Declares.{Declares, Takes};
+ghost use Rattle.mpslp_lp.specs.Declares.{Takes};
 ghost use Rattle.std.specs.Prelude.{IsTrue, unwrap_or};
 ghost use Rattle.mpslp_types.specs.Sides.{is_given};
 ghost use Rattle.mpslp_types.specs.declared.kinds.Limit.{Limit};
@@ -14,7 +12,6 @@ ghost use Rattle.mpslp_lp.specs.Phrase.{terminal_fault};
 ghost use Rattle.mpslp_lp.specs.declared.states.Place.{Place};
 ghost use Rattle.mpslp_lp.specs.Taken.{declared};
 ghost use Rattle.mpslp_lp.specs.Begun.{row_begun};
-ghost use Rattle.mpslp_reading.specs.declared.errors.LineError.{LineError};
 
 use crate::answers::{at_place, refuse};
 use crate::before::Before;
@@ -22,29 +19,9 @@ use crate::items::{one, take_term};
 use crate::limits::GivenLimit;
 use crate::relations::Relation;
 use crate::seen::{Seen, SeenKind};
-use crate::states::{Owner, PartialParts, PartialRow, Place, State};
-use indexmap::IndexMap;
+use crate::states::{Owner, PartialRow, Place, State};
 use mpslp_model::{FaultKind, Limit, Name};
 use mpslp_reading::LineError;
-
-/// For how many terms a row has room from its beginning: as many as a table of 32 places takes.
-const USUAL_TERMS: usize = 28;
-
-/// A row of which no term was taken.
-pub(crate) fn without_terms(
-    before: &Before,
-    name: Name,
-    left: Option<(GivenLimit, Relation)>,
-) -> Result<PartialRow, LineError>
-    ensures { MatchResult result (λ row. row ≡ without_terms name left) (λ error. error ≡ LineError.OutOfMemory) }
-{
-    let alloc = before.earlier.alloc();
-    let terms = IndexMap::with_capacity(alloc, USUAL_TERMS)?;
-    match Box::new(alloc, PartialParts { name, left, terms }) {
-        Ok(parts) => Ok(PartialRow { parts }),
-        Err(_) => Err(LineError::OutOfMemory),
-    }
-}
 
 /// Whether two senses, of a left side and of the right one, are both `<` or both `>`.
 pub(crate) fn fits_second(first: Relation, second: Relation) -> bool
@@ -80,7 +57,7 @@ pub(crate) fn begin_row(
         SeenKind::Infinity => Ok(State::RowLeft(name, GivenLimit::infinity(false))),
         SeenKind::Number(value) => Ok(State::RowNumber(name, false, value)),
         SeenKind::Name => {
-            let row = without_terms(before, name, None)?;
+            let row = before.earlier.row_without_terms(name, None)?;
             take_term(before, Owner::OfRow(row), seen.text, one())
         }
         SeenKind::Sign(minus) => Ok(State::RowSign(name, minus)),
@@ -135,8 +112,7 @@ pub(crate) fn end_row(
 {
     let lower = lower_limit(&row, relation, right);
     let upper = upper_limit(&row, relation, right);
-    at_place(
-        before.earlier.declare_partial(&row, lower, upper),
-        Place::BetweenRows,
-    )
+    let answer = before.earlier.declare_partial(&row, lower, upper);
+    before.earlier.keep_parts(row);
+    at_place(answer, Place::BetweenRows)
 }

@@ -16,7 +16,7 @@ use crate::bounds::{take_bound_column, take_free, take_limit};
 use crate::items::{begin_item, one, signed, take_after_signs, take_term};
 use crate::limits::GivenLimit;
 use crate::relations::Relation;
-use crate::rows::{begin_row, without_terms};
+use crate::rows::begin_row;
 use crate::seen::{Seen, SeenKind};
 use crate::sides::limit_seen;
 use crate::states::{LastWord, Owner, PartialRow, Place, Sided, State};
@@ -206,7 +206,7 @@ fn take_after_row_name(before: &mut Before, name: Name, seen: &Seen<'_>) -> Resu
         SeenKind::Colon => Ok(State::RowLabel(name)),
         _ => {
             let label = before.earlier.next_row()?;
-            let empty = without_terms(before, label, None)?;
+            let empty = before.earlier.row_without_terms(label, None)?;
             each_name_is_legal(&name);
             let column = TermName::copied(before.earlier.alloc(), name.as_bytes())?;
             let row = empty.with_term(column, one())?;
@@ -229,7 +229,7 @@ fn take_after_row_sign(
         SeenKind::Infinity => Ok(State::RowLeft(name, GivenLimit::infinity(minus))),
         SeenKind::Number(value) => Ok(State::RowNumber(name, minus, value)),
         _ => {
-            let row = without_terms(before, name, None)?;
+            let row = before.earlier.row_without_terms(name, None)?;
             take_after_signs(before, Owner::OfRow(row), minus, seen)
         }
     }
@@ -248,15 +248,15 @@ fn take_after_row_number(
 {
     match seen.kind {
         SeenKind::Name => {
-            let row = without_terms(before, name, None)?;
+            let row = before.earlier.row_without_terms(name, None)?;
             take_term(before, Owner::OfRow(row), seen.text, signed(minus, value))
         }
         SeenKind::Compares(relation) => {
             let left = Some((GivenLimit::of(signed(minus, value)), relation));
-            Ok(State::RowLeftSense(without_terms(before, name, left)?))
+            Ok(State::RowLeftSense(before.earlier.row_without_terms(name, left)?))
         }
         _ => {
-            let row = without_terms(before, name, None)?;
+            let row = before.earlier.row_without_terms(name, None)?;
             take_lone(before, Owner::OfRow(row), signed(minus, value), seen)
         }
     }
@@ -274,7 +274,7 @@ fn take_row_sense(
     match seen.kind {
         SeenKind::Compares(relation) => {
             let left = Some((limit, relation));
-            Ok(State::RowLeftSense(without_terms(before, name, left)?))
+            Ok(State::RowLeftSense(before.earlier.row_without_terms(name, left)?))
         }
         _ => refuse(before, seen, FaultKind::BadToken),
     }

@@ -147,23 +147,28 @@ fn meaning_among(words: &[(&'static [u8], Meaning)], text: &[u8]) -> Meaning
 /// The length of the longest reserved words.
 const LONGEST_WORD: usize = 8;
 
-/// Whether reserved words begin with the letter, in upper or lower case.
-fn begins_reserved(letter: u8) -> bool
-    ensures { result ≡ begins_reserved letter }
+/// Whether reserved words begin with these letters, in upper or lower case.
+fn begins_reserved(first: u8, second: u8) -> bool
+    ensures { result ≡ begins_reserved first second }
 {
-    matches!(
-        lower_byte(letter),
-        b'b' | b'e' | b'f' | b'g' | b'i' | b'm' | b's'
-    )
+    match lower_byte(first) {
+        b'b' => matches!(lower_byte(second), b'i' | b'o'),
+        b'e' | b'i' => lower_byte(second) == b'n',
+        b'f' => lower_byte(second) == b'r',
+        b'g' => lower_byte(second) == b'e',
+        b'm' => matches!(lower_byte(second), b'a' | b'i'),
+        b's' => matches!(lower_byte(second), b'.' | b'e' | b'o' | b't' | b'u'),
+        _ => false,
+    }
 }
 
-/// Whether the text may be a reserved word, by its length and its first letter. Most names are told from them by these.
+/// Whether the text may be a reserved word, by its length and its first letters. Most names are told from them by these.
 fn may_be_reserved(text: &[u8]) -> bool
     ensures { result ≡ may_be_reserved text.now }
 {
     match text {
-        [] => false,
-        [first, ..] => text.len() <= LONGEST_WORD && begins_reserved(*first),
+        [first, second, ..] => text.len() <= LONGEST_WORD && begins_reserved(*first, *second),
+        _ => false,
     }
 }
 

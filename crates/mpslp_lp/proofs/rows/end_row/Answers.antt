@@ -1,6 +1,6 @@
-use Rattle.std.proofs.Common.{subst, ◌∷◌}
+use Rattle.std.proofs.Common.{subst, sym, ◌∷◌}
 use Rattle.std.specs.List.{flat_map}
-use Rattle.mpslp_builder.specs.Declaration.{Declarations, by_limits, declare_row}
+use Rattle.mpslp_builder.specs.Declaration.{Declarations, Draft, by_limits, declare_row}
 use Rattle.mpslp_builder.specs.Refusal.{refusals_in_turn}
 use Rattle.mpslp_lp.specs.Objective.{term_declared}
 use Rattle.mpslp_lp.specs.Rows.{row_limits, row_declared}
@@ -13,9 +13,10 @@ use Rattle.mpslp_lp.proofs.rows.end_row.Goals as goal
 pub returns : goal.returns
 returns c =
     let before = c.args.before.now in
-    let later = c.declare_partial.new.self in
+    let later = c.keep_parts.new.self in
     let row = c.args.row in
     let made = row_declared row (row_limits row.left c.args.relation c.args.right.now) in
-    completes before later (seen_terminal c.args.seen.now) (refusals_in_turn before.earlier made) BetweenRows made c.declare_partial.result c.at_place.result c.requires c.at_place.ensures
-    (subst (λ (ds : Declarations). Declares before.earlier ds c.declare_partial.result later)
-    (λ i. declare_row row.name (by_limits (c.lower_limit-lower.ensures.value i) (c.upper_limit-upper.ensures.value i)) ∷ flat_map (term_declared row.name) row.terms) c.declare_partial.ensures)
+    completes before later (seen_terminal c.args.seen.now) (refusals_in_turn before.earlier made) BetweenRows made c.declare_partial-answer.result c.at_place.result c.requires c.at_place.ensures
+    (subst (λ (draft : Draft). Declares before.earlier made c.declare_partial-answer.result draft) (sym c.keep_parts.ensures)
+    (subst (λ (ds : Declarations). Declares before.earlier ds c.declare_partial-answer.result c.declare_partial-answer.new.self)
+    (λ i. declare_row row.name (by_limits (c.lower_limit-lower.ensures.value i) (c.upper_limit-upper.ensures.value i)) ∷ flat_map (term_declared row.name) row.terms) c.declare_partial-answer.ensures))

@@ -1,6 +1,7 @@
 use Rattle.std.proofs.Common.{◌≡◌, sym, ap, subst, ◌∙◌, ◌++◌, ◌∷◌, [], ℕ, List}
 use Rattle.std.specs.Prelude.{None}
 use Rattle.mpslp_decimal.specs.Decimal.{Number}
+use Rattle.mpslp_builder.specs.Declaration.{Draft}
 use Rattle.mpslp_lp.specs.Items.{one}
 use Rattle.mpslp_lp.specs.PartialRow.{PartialRow}
 use Rattle.mpslp_lp.specs.Rows.{default_row, without_terms}
@@ -20,7 +21,8 @@ returns-in_ok-row-in_default c =
     let first : PartialRow → List ℕ → Number → PartialRow = λ r column value. record r { terms = r.terms ++ (column, value) ∷ [] } in
     let named : c.in_ok-column-in_default.column ≡ c.args.name = c.in_ok-column-in_default.ensures ∙ c.as_bytes.ensures in
     let same : row ≡ first (without_terms (default_row before) None) c.args.name one =
-    c.in_ok-row-in_default.ensures.1 ∙ (λ i. first (c.in_ok-empty-in_default.ensures i) (named i) (c.one.ensures i))
+    c.in_ok-row-in_default.ensures.1 ∙ (λ i. first (c.in_ok-empty-in_default.ensures.row i) (named i) (c.one.ensures i))
     ∙ ap (λ (label : List ℕ). first (without_terms label None) c.args.name one) c.in_ok-label-in_default.ensures in
     subst (λ (taken : Taken). Takes taken c.begin.result c.begin.new.before) (sym (row_name-other before c.args.name seen.kind seen.text.now c.in_default.not-Colon))
-    (subst (λ (r : PartialRow). Takes (begun (InRow r) before (seen_terminal seen)) c.begin.result c.begin.new.before) same c.begin.ensures)
+    (subst (λ (r : PartialRow). Takes (begun (InRow r) before (seen_terminal seen)) c.begin.result c.begin.new.before) same
+    (subst (λ (draft : Draft). Takes (begun (InRow row) (record before { earlier = draft }) (seen_terminal seen)) c.begin.result c.begin.new.before) c.in_ok-empty-in_default.ensures.same c.begin.ensures))
