@@ -88,7 +88,7 @@ bench:
 
 # Refuses each request for memory in turn.
 refused: run
-	cd crates/bench_memory && rt run > /dev/null
+	cd crates/try_refused && rt run > /dev/null
 	python3 bench/refused.py
 
 # Checks the program on random models in many spellings of both formats, and on broken files.

@@ -1,13 +1,13 @@
 #!/usr/bin/env python3
 """Refuse each request for memory in turn.
 
-The program converts, shows and compares the files of vectors/; `bench_memory` reads
+The program converts, shows and compares the files of vectors/; `try_refused` reads
 them, also in pieces, and makes each conversion and comparison of the library on
 them. Where a request is refused, the answer is `out of memory` and nothing else, the
 program ends with status 5, and a reader that is fed in pieces answers `Failed` to
 the next one. A vector that asks for more room than it needs, and is refused, asks
 once more for what it needs: where the answer is the one without a refusal, this
-second request is refused too. `bench_memory` also makes calls of a builder, and each
+second request is refused too. `try_refused` also makes calls of a builder, and each
 that is refused once more: its text is the same as where none is, or the refusal met
 the end of the builder. Exits with 1 where an answer is another.
 
@@ -139,7 +139,7 @@ def check_builder(preloaded, program):
 def main():
     parser = argparse.ArgumentParser(
         description=__doc__, formatter_class=argparse.RawDescriptionHelpFormatter)
-    for name, option in (("mpslp", "--program"), ("bench_memory", "--calls")):
+    for name, option in (("mpslp", "--program"), ("try_refused", "--calls")):
         parser.add_argument(option, default=CRATES / name / "out" / name, help=f"the path of {name}")
     parser.add_argument("--all", action="store_true", help="take every file of vectors/")
     options = parser.parse_args()

@@ -38,24 +38,24 @@ fn paths(job: &Result<Job, JobFault>) -> (Option<&str>, Option<&str>) {
 }
 
 /// Opens the first input and then the second, does the job, and answers the exit status.
-pub(crate) fn end_of<R: Input + Files + AllocGlobal, W: Sink, E: Sink>(
+pub(crate) fn perform_on_inputs<R: Input + Files + AllocGlobal, W: Sink, E: Sink>(
     rt: &R,
     job: &Result<Job, JobFault>,
     out: &mut W,
     err: &mut E,
 ) -> u8 {
     match paths(job).0 {
-        None => end_from(rt, job, &mut FromRead::new(NoFile::Empty), out, err),
-        Some("-") => end_from(rt, job, &mut FromRead::new(rt.reader()), out, err),
+        None => perform_from_first(rt, job, &mut FromRead::new(NoFile::Empty), out, err),
+        Some("-") => perform_from_first(rt, job, &mut FromRead::new(rt.reader()), out, err),
         Some(path) => match fs::open(rt, path) {
-            Ok(file) => end_from(rt, job, &mut FromRead::new(file), out, err),
-            Err(_) => end_from(rt, job, &mut FromRead::new(NoFile::Missing), out, err),
+            Ok(file) => perform_from_first(rt, job, &mut FromRead::new(file), out, err),
+            Err(_) => perform_from_first(rt, job, &mut FromRead::new(NoFile::Missing), out, err),
         },
     }
 }
 
 /// Opens the second input, does the job, and answers the exit status.
-fn end_from<R: Input + Files + AllocGlobal, I: Source, W: Sink, E: Sink>(
+fn perform_from_first<R: Input + Files + AllocGlobal, I: Source, W: Sink, E: Sink>(
     rt: &R,
     job: &Result<Job, JobFault>,
     first: &mut I,

@@ -3,7 +3,7 @@
 
 mod inputs;
 
-use inputs::end_of;
+use inputs::perform_on_inputs;
 use mpslp_command::job;
 use mpslp_convert::{Job, JobFault, Word};
 use mpslp_model::ToWrite;
@@ -13,7 +13,7 @@ use std::rt::Env;
 use std::{env, io};
 
 /// The job that the command line asks for.
-fn asked<R: Env + AllocGlobal>(rt: &R) -> Result<Job, JobFault> {
+fn requested_job<R: Env + AllocGlobal>(rt: &R) -> Result<Job, JobFault> {
     match env::args(rt) {
         Ok(words) => match words.skip(1).collect::<Vec<String>>(rt.alloc()) {
             Ok(words) => job(rt.alloc(), &words),
@@ -28,8 +28,8 @@ fn asked<R: Env + AllocGlobal>(rt: &R) -> Result<Job, JobFault> {
 }
 
 fn main(rt: HostRuntime) -> ExitCode {
-    let job = asked(&rt);
-    let status = end_of(
+    let job = requested_job(&rt);
+    let status = perform_on_inputs(
         &rt,
         &job,
         &mut ToWrite::new(io::writer(&rt)),

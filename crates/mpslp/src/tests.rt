@@ -1,6 +1,6 @@
 //! The program's jobs on files.
 
-use crate::inputs::end_of;
+use crate::inputs::perform_on_inputs;
 use mpslp_command::job;
 use mpslp_model::ToWrite;
 use std::alloc::{AllocError, Global};
@@ -123,10 +123,10 @@ fn jobs_are_done_on_files(rt: HostRuntime) -> Result<(), Fail> {
     for (line, status, text, fault) in RUNS {
         let mut output = Vec::new(alloc);
         let mut told = Vec::new(alloc);
-        let asked = job(alloc, &words_of(alloc, line)?);
-        let end = end_of(
+        let requested_job = job(alloc, &words_of(alloc, line)?);
+        let end = perform_on_inputs(
             &rt,
-            &asked,
+            &requested_job,
             &mut ToWrite::new(&mut output),
             &mut ToWrite::new(&mut told),
         );

@@ -11,14 +11,14 @@ use Rattle.std.specs.FinMap.{find, put, is_sorted}
 use Rattle.std.proofs.Math.Dec.{T}
 use Rattle.mpslp_decimal.specs.Decimal.{Number, is_decimal}
 use Rattle.mpslp_types.specs.Name.{is_mps_name, bytes_cmp}
-use Rattle.mpslp_core.specs.Model.{CoefficientKey, key_cmp}
-use Rattle.mpslp_core.proofs.KeyLemmas.{same_key}
-use Rattle.mpslp_core.proofs.PutsLemmas.{equal_from}
+use Rattle.mpslp_model_core.specs.Model.{CoefficientKey, key_cmp}
+use Rattle.mpslp_model_core.proofs.KeyLemmas.{same_key}
+use Rattle.mpslp_model_core.proofs.PutsLemmas.{equal_from}
 use Rattle.mpslp_builder.specs.Calls.{CoefficientsAreKnown}
-use Rattle.mpslp_builder.specs.Declaration.{Declaration, Draft, adding, has_name, is_objective, has_row, has_column, adding_all, bounds_declared}
-use Rattle.mpslp_core.specs.Lists.{those_of}
+use Rattle.mpslp_builder.specs.Declaration.{Declaration, Draft, with_declaration, has_name, is_objective, has_row, has_column, with_declarations, bounds_declared}
+use Rattle.mpslp_model_core.specs.Lists.{those_of}
 use Rattle.mpslp_builder.specs.Refusal.{refusals, bounds_refusals}
-use Rattle.mpslp_types.specs.Sides.{is_given, is_plus_infinite, is_minus_infinite}
+use Rattle.mpslp_types.specs.Limit.{is_given, is_plus_infinite, is_minus_infinite}
 use Rattle.mpslp_builder.specs.Made.{is_legal, IsMade}
 use Rattle.mpslp_types.specs.declared.kinds.Limit.{Limit}
 use Rattle.mpslp_types.specs.declared.faults.BuildFault.{BuildFault}
@@ -31,7 +31,7 @@ use Rattle.mpslp_builder.proofs.RefusalLemmas.{first_none, rest_none}
 use Rattle.mpslp_types.proofs.BoolLemmas.{either, nor}
 use Rattle.mpslp_builder.proofs.PutOrderLemmas.{put-again}
 use Rattle.mpslp_builder.proofs.SortedDrafts.{bytes_total, tied_names}
-use Rattle.mpslp_builder.proofs.MadeDrafts.{made-adding, made-bounds, good-from_made}
+use Rattle.mpslp_builder.proofs.MadeDrafts.{made-with_declaration, made-bounds, good-from_made}
 
 pub none_refused : (faults : List BuildFault) → Ok tt ≡ first_refusal faults → faults ≡ []
 none_refused [] h = refl
@@ -66,17 +66,17 @@ want_of_memory faults (Err e) P Q told none q = subst (λ (t : BuildFault). Answ
 -- ---- what stands where a call is not refused
 
 -- one more declaration is made
-pub made_next : {inner all : Draft} (d : Declaration) → inner ≡ all → IsMade inner → is_legal d ≡ true → refusals all d ≡ [] → IsMade (adding inner d)
-made_next {inner} {all} d seen made legal none = made-adding inner d made legal (ap (λ (before : Draft). refusals before d) seen ∙ none)
+pub made_next : {inner all : Draft} (d : Declaration) → inner ≡ all → IsMade inner → is_legal d ≡ true → refusals all d ≡ [] → IsMade (with_declaration inner d)
+made_next {inner} {all} d seen made legal none = made-with_declaration inner d made legal (ap (λ (before : Draft). refusals before d) seen ∙ none)
 
 -- a draft that is one with one more declaration is made too
-pub made_after : {inner later : Draft} (d : Declaration) → later ≡ adding inner d → IsMade inner → is_legal d ≡ true → refusals inner d ≡ [] → IsMade later
+pub made_after : {inner later : Draft} (d : Declaration) → later ≡ with_declaration inner d → IsMade inner → is_legal d ≡ true → refusals inner d ≡ [] → IsMade later
 made_after d after made legal none = subst IsMade (sym after) (made_next d refl made legal none)
 
 -- and that is what is answered for
-pub answered : {inner all later : Draft} (d : Declaration) → inner ≡ all → later ≡ adding inner d → refusals inner d ≡ [] → Answers (refusals all d) (Ok tt) (later ≡ adding all d) (later ≡ all)
+pub answered : {inner all later : Draft} (d : Declaration) → inner ≡ all → later ≡ with_declaration inner d → refusals inner d ≡ [] → Answers (refusals all d) (Ok tt) (later ≡ with_declaration all d) (later ≡ all)
 answered {inner} {all} {later} d seen after none =
-    declared (refusals all d) (later ≡ adding all d) (later ≡ all) (ap (λ (before : Draft). refusals before d) (sym seen) ∙ none) (after ∙ ap (λ (before : Draft). adding before d) seen)
+    declared (refusals all d) (later ≡ with_declaration all d) (later ≡ all) (ap (λ (before : Draft). refusals before d) (sym seen) ∙ none) (after ∙ ap (λ (before : Draft). with_declaration before d) seen)
 
 -- what holds of each name holds of one that is there
 named_so : {X : Type 0} (p : List ℕ → Bool) (name : List ℕ) (es : List (List ℕ × X)) → list_all (λ e. p e.0) es ≡ true → has_name es name ≡ true → p name ≡ true
@@ -145,7 +145,7 @@ given (Some limit) h = h limit refl
 
 -- the sides that one call gives are declared
 pub made_sides : {inner all : Draft} (column : List ℕ) (lower upper : Option Limit) → inner ≡ all → IsMade inner → ForSome lower (λ s. IsTrue (is_given s))
-    → ForSome upper (λ s. IsTrue (is_given s)) → bounds_refusals all column lower upper ≡ [] → IsMade (adding_all inner (bounds_declared column lower upper))
+    → ForSome upper (λ s. IsTrue (is_given s)) → bounds_refusals all column lower upper ≡ [] → IsMade (with_declarations inner (bounds_declared column lower upper))
 made_sides {inner} {all} column lower upper seen made l u none =
     made-bounds inner column lower upper made (given lower l) (given upper u) (ap (λ (before : Draft). bounds_refusals before column lower upper) seen ∙ none)
 

@@ -2,8 +2,8 @@
 use Rattle.std.proofs.Common.{◌≡◌, refl, sym, ap, ◌∙◌, List, ℕ, Bool, true, false, cond}
 use Rattle.std.specs.Prelude.{Option, Some, None, is_none, unwrap_or, ◌&&◌, ◌||◌, if◌then◌else◌}
 use Rattle.mpslp_decimal.specs.Decimal.{Number, is_zero, zero_number}
-use Rattle.mpslp_core.specs.Model.{Column}
-use Rattle.mpslp_types.specs.Sides.{is_lower_side, is_upper_side}
+use Rattle.mpslp_model_core.specs.Model.{Column}
+use Rattle.mpslp_types.specs.Limit.{is_lower_side, is_upper_side}
 use Rattle.mpslp_builder.specs.Bounds.{zero_limit, one_limit, kind_of, lower_bound, upper_bound, column_of}
 use Rattle.mpslp_builder.specs.Declaration.{Draft, at_name, has_name, is_integer, is_semi}
 use Rattle.mpslp_types.specs.declared.kinds.Kind.{Kind}

@@ -7,16 +7,16 @@ use Rattle.indexmap.specs.IndexMap.{set_value_at}
 use Rattle.mpslp_decimal.specs.Decimal.{Number}
 use Rattle.mpslp_types.specs.declared.kinds.Limit.{Limit}
 use Rattle.mpslp_types.specs.declared.kinds.Sense.{Sense}
-use Rattle.mpslp_core.specs.Limits.{RowForm, is_limits_form}
-use Rattle.mpslp_core.proofs.CellLemmas.{at}
-use Rattle.mpslp_builder.specs.Declaration.{adding, adding_all, declare_row, declare_objective, declare_column, declare_coefficient, declare_rhs, declare_range, declare_marked, declare_integer, declare_binary, declare_semi, bounds_declared, has_row, has_column, has_entry}
-use Rattle.mpslp_builder.specs.Tables.{bytes, cells_of, objective_name, draft_from, draft, AreNumbered, IsNumbered}
-use Rattle.mpslp_builder.specs.Calls.{number_of, row_name, row_tells, column_name, new_column, with_cell, with_sides, IsOnceEach, IsSameTables, HasObjective, HasRowAdded, HasRowChanged, HasColumnAdded, HasColumnChanged, HasObjectiveChanged, HasRhsPut}
-use Rattle.mpslp_numbered.specs.declared.parts.ObjectiveParts.{ObjectiveParts}
-use Rattle.mpslp_numbered.specs.declared.parts.RowParts.{RowParts}
-use Rattle.mpslp_numbered.specs.declared.parts.ColumnParts.{ColumnParts}
-use Rattle.mpslp_builder.specs.declared.tables.RowPlace.{RowPlace}
-use Rattle.mpslp_builder.specs.declared.tables.RowPlace.TheVariants.{Objective, Row}
+use Rattle.mpslp_model_core.specs.Limits.{RowDefinition, is_definition_by_limits}
+use Rattle.mpslp_model_core.proofs.CellLemmas.{at}
+use Rattle.mpslp_builder.specs.Declaration.{with_declaration, with_declarations, declare_row, declare_objective, declare_column, declare_coefficient, declare_rhs, declare_range, declare_marked, declare_integer, declare_binary, declare_semi, bounds_declared, has_row, has_column, has_coefficient}
+use Rattle.mpslp_builder.specs.Tables.{bytes, cells_of, name_of_objective, draft_from, draft, AreNumbered, IsNumbered}
+use Rattle.mpslp_builder.specs.Calls.{row_key_of, row_name, row_tells, column_name, new_column, with_cell, with_bounds, IsOnceEach, IsSameTables, HasObjective, HasRowAdded, HasRowChanged, HasColumnAdded, HasColumnChanged, HasObjectiveChanged, HasRhsPut}
+use Rattle.mpslp_builder_parts.specs.declared.parts.ObjectiveParts.{ObjectiveParts}
+use Rattle.mpslp_builder_parts.specs.declared.parts.RowParts.{RowParts}
+use Rattle.mpslp_builder_parts.specs.declared.parts.ColumnParts.{ColumnParts}
+use Rattle.mpslp_builder.specs.declared.tables.RowRef.{RowRef}
+use Rattle.mpslp_builder.specs.declared.tables.RowRef.TheVariants.{Objective, Row}
 use Rattle.mpslp_builder.specs.declared.tables.Tables.{Tables}
 use Rattle.mpslp_builder.proofs.ColumnDrafts.{column_draft, column_numbered, kept_numbered, mark_draft, integer_draft, binary_draft, semi_draft, sides_draft, cell_draft, cell_numbered}
 use Rattle.mpslp_builder.proofs.RowDrafts.{row_draft, row_numbered, written_numbered, range_draft, rhs_draft, objective_draft, objective_numbered, objective_rhs_draft, objective_rhs_numbered}
@@ -43,23 +43,23 @@ pub same_numbered : (t u : Tables) → IsSameTables t u → IsNumbered t → IsN
 same_numbered t u h =
     numbered_as (u.objective, u.rows.entries, u.columns.entries) (t.objective, t.rows.entries, t.columns.entries) (λ i. (h.objective i, h.rows i, h.columns i))
 
-pub objective_absent : (o : Option ObjectiveParts) → is_some (objective_name o) ≡ false → o ≡ None
+pub objective_absent : (o : Option ObjectiveParts) → is_some (name_of_objective o) ≡ false → o ≡ None
 objective_absent None h = refl
 objective_absent (Some parts) h = cc
 
 module _ (sense : Option Sense) (constant : Option Number) (t u : Tables) where
   -- ---- a row
 
-  pub row_added : (k : Vec ℕ) (form : RowForm) → IsNumbered t → HasRowAdded t k (record { form = form; rhs = None; range = None }) u → has_row (draft sense constant t) (bytes k) ≡ false
-      → draft sense constant u ≡ adding (draft sense constant t) (declare_row (bytes k) form)
-  row_added k form numbered h absent =
-      (λ i. draft_from sense constant (h.objective i) (h.rows i) (h.columns i)) ∙ row_draft sense constant t.objective t.rows.entries t.columns.entries k form numbered absent
+  pub row_added : (k : Vec ℕ) (definition : RowDefinition) → IsNumbered t → HasRowAdded t k (record { definition = definition; rhs = None; range = None }) u → has_row (draft sense constant t) (bytes k) ≡ false
+      → draft sense constant u ≡ with_declaration (draft sense constant t) (declare_row (bytes k) definition)
+  row_added k definition numbered h absent =
+      (λ i. draft_from sense constant (h.objective i) (h.rows i) (h.columns i)) ∙ row_draft sense constant t.objective t.rows.entries t.columns.entries k definition numbered absent
 
-  pub row_added_numbered : (k : Vec ℕ) (form : RowForm) → IsNumbered t → HasRowAdded t k (record { form = form; rhs = None; range = None }) u → length t.rows.entries < 4294967294
+  pub row_added_numbered : (k : Vec ℕ) (definition : RowDefinition) → IsNumbered t → HasRowAdded t k (record { definition = definition; rhs = None; range = None }) u → length t.rows.entries < 4294967294
       → has_row (draft sense constant t) (bytes k) ≡ false → IsNumbered u
-  row_added_numbered k form numbered h few absent =
-      numbered_as (u.objective, u.rows.entries, u.columns.entries) (t.objective, t.rows.entries ++ (k, record { form = form; rhs = None; range = None }) ∷ [], t.columns.entries) (λ i. (h.objective i, h.rows i, h.columns i))
-      (row_numbered sense constant t.objective t.rows.entries t.columns.entries k form numbered few absent)
+  row_added_numbered k definition numbered h few absent =
+      numbered_as (u.objective, u.rows.entries, u.columns.entries) (t.objective, t.rows.entries ++ (k, record { definition = definition; rhs = None; range = None }) ∷ [], t.columns.entries) (λ i. (h.objective i, h.rows i, h.columns i))
+      (row_numbered sense constant t.objective t.rows.entries t.columns.entries k definition numbered few absent)
 
   module _ (change : RowParts → RowParts) (i : ℕ) (h : HasRowChanged t i change u) where
     rows_written : draft sense constant u ≡ draft_from sense constant t.objective (set_value_at t.rows.entries i (change h.parts)) t.columns.entries
@@ -71,26 +71,26 @@ module _ (sense : Option Sense) (constant : Option Number) (t u : Tables) where
         (written_numbered sense constant t.objective t.rows.entries t.columns.entries i h.key h.parts (change h.parts) h.was numbered)
 
   module _ (numbered : IsNumbered t) (once : IsOnceEach t) (i : ℕ) (r : List ℕ) (row : row_name t (suc i) ≡ Some r) (x : Number) where
-    pub range_added : HasRowChanged t i (λ row. record row { range = Some x }) u → draft sense constant u ≡ adding (draft sense constant t) (declare_range r x)
+    pub range_added : HasRowChanged t i (λ row. record row { range = Some x }) u → draft sense constant u ≡ with_declaration (draft sense constant t) (declare_range r x)
     range_added h =
         rows_written (λ row. record row { range = Some x }) i h
         ∙ range_draft sense constant t.objective t.rows.entries t.columns.entries i h.key h.parts (record h.parts { range = Some x }) h.was x numbered once.rows refl
-        ∙ ap (λ (name : List ℕ). adding (draft sense constant t) (declare_range name x)) (entry_named (slice_get t.rows.entries i) h.key h.parts r h.was row)
+        ∙ ap (λ (name : List ℕ). with_declaration (draft sense constant t) (declare_range name x)) (entry_named (slice_get t.rows.entries i) h.key h.parts r h.was row)
 
-    row_rhs_added : HasRowChanged t i (λ row. record row { rhs = Some x }) u → draft sense constant u ≡ adding (draft sense constant t) (declare_rhs r x)
+    row_rhs_added : HasRowChanged t i (λ row. record row { rhs = Some x }) u → draft sense constant u ≡ with_declaration (draft sense constant t) (declare_rhs r x)
     row_rhs_added h =
         rows_written (λ row. record row { rhs = Some x }) i h
         ∙ rhs_draft sense constant t.objective t.rows.entries t.columns.entries i h.key h.parts (record h.parts { rhs = Some x }) h.was x numbered once.rows refl
-        ∙ ap (λ (name : List ℕ). adding (draft sense constant t) (declare_rhs name x)) (entry_named (slice_get t.rows.entries i) h.key h.parts r h.was row)
+        ∙ ap (λ (name : List ℕ). with_declaration (draft sense constant t) (declare_rhs name x)) (entry_named (slice_get t.rows.entries i) h.key h.parts r h.was row)
 
   -- ---- the objective
 
   pub objective_named : (name : List ℕ) → IsNumbered t → t.objective ≡ None → HasObjective t (record { name = name; rhs = None }) u
-      → draft sense constant u ≡ adding (draft sense constant t) (declare_objective name)
+      → draft sense constant u ≡ with_declaration (draft sense constant t) (declare_objective name)
   objective_named name numbered none h =
       (λ i. draft_from sense constant (h.objective i) (h.rows i) (h.columns i))
       ∙ objective_draft sense constant name t.rows.entries t.columns.entries (subst (λ (o : Option ObjectiveParts). AreNumbered o t.rows.entries t.columns.entries) none numbered)
-      ∙ ap (λ (o : Option ObjectiveParts). adding (draft_from sense constant o t.rows.entries t.columns.entries) (declare_objective name)) (sym none)
+      ∙ ap (λ (o : Option ObjectiveParts). with_declaration (draft_from sense constant o t.rows.entries t.columns.entries) (declare_objective name)) (sym none)
 
   pub objective_named_numbered : (name : List ℕ) → IsNumbered t → t.objective ≡ None → HasObjective t (record { name = name; rhs = None }) u → has_row (draft sense constant t) name ≡ false → IsNumbered u
   objective_named_numbered name numbered none h absent =
@@ -99,12 +99,12 @@ module _ (sense : Option Sense) (constant : Option Number) (t u : Tables) where
       (ap (λ (o : Option ObjectiveParts). has_row (draft_from sense constant o t.rows.entries t.columns.entries) name) (sym none) ∙ absent))
 
   module _ (x : Number) (h : HasObjectiveChanged t (λ o. record o { rhs = Some x }) u) where
-    objective_rhs_added : (r : List ℕ) → row_name t zero ≡ Some r → h.parts.rhs ≡ None → draft sense constant u ≡ adding (draft sense constant t) (declare_rhs r x)
+    objective_rhs_added : (r : List ℕ) → row_name t zero ≡ Some r → h.parts.rhs ≡ None → draft sense constant u ≡ with_declaration (draft sense constant t) (declare_rhs r x)
     objective_rhs_added r is none =
-        let name : h.parts.name ≡ r = let both : Some h.parts.name ≡ Some r = sym (ap objective_name h.was) ∙ is in cc in
+        let name : h.parts.name ≡ r = let both : Some h.parts.name ≡ Some r = sym (ap name_of_objective h.was) ∙ is in cc in
         (λ i. draft_from sense constant (h.written.objective i) (h.written.rows i) (h.written.columns i))
         ∙ objective_rhs_draft sense constant h.parts x t.rows.entries t.columns.entries none
-        ∙ (λ i. adding (draft_from sense constant (sym h.was i) t.rows.entries t.columns.entries) (declare_rhs (name i) x))
+        ∙ (λ i. with_declaration (draft_from sense constant (sym h.was i) t.rows.entries t.columns.entries) (declare_rhs (name i) x))
 
     objective_rhs_numbered_too : IsNumbered t → IsNumbered u
     objective_rhs_numbered_too numbered =
@@ -116,21 +116,21 @@ module _ (sense : Option Sense) (constant : Option Number) (t u : Tables) where
   no_rhs (Some x) b h = cc
 
   -- a right side that was not there
-  pub rhs_added : IsNumbered t → IsOnceEach t → (p : RowPlace) (r : List ℕ) (x : Number) (b : Bool) → row_name t (number_of p) ≡ Some r
-      → row_tells t p (λ o. is_some o.rhs || b) (λ row. is_some row.rhs || is_limits_form row.form) ≡ false → HasRhsPut t p x u
-      → draft sense constant u ≡ adding (draft sense constant t) (declare_rhs r x)
+  pub rhs_added : IsNumbered t → IsOnceEach t → (p : RowRef) (r : List ℕ) (x : Number) (b : Bool) → row_name t (row_key_of p) ≡ Some r
+      → row_tells t p (λ o. is_some o.rhs || b) (λ row. is_some row.rhs || is_definition_by_limits row.definition) ≡ false → HasRhsPut t p x u
+      → draft sense constant u ≡ with_declaration (draft sense constant t) (declare_rhs r x)
   rhs_added numbered once Objective r x b is absent h =
       let none = ap (λ (o : Option ObjectiveParts). option_map_or (λ o. is_some o.rhs || b) o false) (sym h.was) ∙ absent in
       objective_rhs_added x h r is (no_rhs h.parts.rhs b none)
   rhs_added numbered once (Row i) r x b is absent h = row_rhs_added numbered once i r is x h
 
-  pub rhs_added_numbered : (p : RowPlace) (x : Number) → IsNumbered t → HasRhsPut t p x u → IsNumbered u
+  pub rhs_added_numbered : (p : RowRef) (x : Number) → IsNumbered t → HasRhsPut t p x u → IsNumbered u
   rhs_added_numbered Objective x numbered h = objective_rhs_numbered_too x h numbered
   rhs_added_numbered (Row i) x numbered h = row_changed_numbered (λ row. record row { rhs = Some x }) i h numbered
 
   -- ---- a column
 
-  pub column_added : (k : Vec ℕ) → HasColumnAdded t k new_column u → has_column (draft sense constant t) (bytes k) ≡ false → draft sense constant u ≡ adding (draft sense constant t) (declare_column (bytes k))
+  pub column_added : (k : Vec ℕ) → HasColumnAdded t k new_column u → has_column (draft sense constant t) (bytes k) ≡ false → draft sense constant u ≡ with_declaration (draft sense constant t) (declare_column (bytes k))
   column_added k h absent =
       (λ i. draft_from sense constant (h.objective i) (h.rows i) (h.columns i)) ∙ column_draft sense constant t.objective t.rows.entries t.columns.entries k absent
 
@@ -153,43 +153,43 @@ module _ (sense : Option Sense) (constant : Option Number) (t u : Tables) where
         numbered_written (kept_numbered sense constant t.objective t.rows.entries t.columns.entries i h.key h.parts h.was (change h.parts) kept numbered)
 
   module _ (once : IsOnceEach t) (i : ℕ) (c : List ℕ) (column : column_name t i ≡ Some c) where
-    pub mark_added : HasColumnChanged t i (λ parts. record parts { marked = true }) u → draft sense constant u ≡ adding (draft sense constant t) (declare_marked c)
+    pub mark_added : HasColumnChanged t i (λ parts. record parts { marked = true }) u → draft sense constant u ≡ with_declaration (draft sense constant t) (declare_marked c)
     mark_added h =
         columns_written (λ parts. record parts { marked = true }) i h
         ∙ mark_draft sense constant t.objective t.rows.entries t.columns.entries i h.key h.parts h.was once.columns
-        ∙ ap (λ (name : List ℕ). adding (draft sense constant t) (declare_marked name)) (entry_named (slice_get t.columns.entries i) h.key h.parts c h.was column)
+        ∙ ap (λ (name : List ℕ). with_declaration (draft sense constant t) (declare_marked name)) (entry_named (slice_get t.columns.entries i) h.key h.parts c h.was column)
 
-    pub integer_added : HasColumnChanged t i (λ parts. record parts { integer = true }) u → draft sense constant u ≡ adding (draft sense constant t) (declare_integer c)
+    pub integer_added : HasColumnChanged t i (λ parts. record parts { integer = true }) u → draft sense constant u ≡ with_declaration (draft sense constant t) (declare_integer c)
     integer_added h =
         columns_written (λ parts. record parts { integer = true }) i h
         ∙ integer_draft sense constant t.objective t.rows.entries t.columns.entries i h.key h.parts h.was once.columns
-        ∙ ap (λ (name : List ℕ). adding (draft sense constant t) (declare_integer name)) (entry_named (slice_get t.columns.entries i) h.key h.parts c h.was column)
+        ∙ ap (λ (name : List ℕ). with_declaration (draft sense constant t) (declare_integer name)) (entry_named (slice_get t.columns.entries i) h.key h.parts c h.was column)
 
-    pub binary_added : HasColumnChanged t i (λ parts. record parts { binary = true }) u → draft sense constant u ≡ adding (draft sense constant t) (declare_binary c)
+    pub binary_added : HasColumnChanged t i (λ parts. record parts { binary = true }) u → draft sense constant u ≡ with_declaration (draft sense constant t) (declare_binary c)
     binary_added h =
         columns_written (λ parts. record parts { binary = true }) i h
         ∙ binary_draft sense constant t.objective t.rows.entries t.columns.entries i h.key h.parts h.was once.columns
-        ∙ ap (λ (name : List ℕ). adding (draft sense constant t) (declare_binary name)) (entry_named (slice_get t.columns.entries i) h.key h.parts c h.was column)
+        ∙ ap (λ (name : List ℕ). with_declaration (draft sense constant t) (declare_binary name)) (entry_named (slice_get t.columns.entries i) h.key h.parts c h.was column)
 
-    pub semi_added : HasColumnChanged t i (λ parts. record parts { semi = true }) u → draft sense constant u ≡ adding (draft sense constant t) (declare_semi c)
+    pub semi_added : HasColumnChanged t i (λ parts. record parts { semi = true }) u → draft sense constant u ≡ with_declaration (draft sense constant t) (declare_semi c)
     semi_added h =
         columns_written (λ parts. record parts { semi = true }) i h
         ∙ semi_draft sense constant t.objective t.rows.entries t.columns.entries i h.key h.parts h.was once.columns
-        ∙ ap (λ (name : List ℕ). adding (draft sense constant t) (declare_semi name)) (entry_named (slice_get t.columns.entries i) h.key h.parts c h.was column)
+        ∙ ap (λ (name : List ℕ). with_declaration (draft sense constant t) (declare_semi name)) (entry_named (slice_get t.columns.entries i) h.key h.parts c h.was column)
 
-    pub sides_added : (lower upper : Option Limit) → HasColumnChanged t i (with_sides lower upper) u → draft sense constant u ≡ adding_all (draft sense constant t) (bounds_declared c lower upper)
+    pub sides_added : (lower upper : Option Limit) → HasColumnChanged t i (with_bounds lower upper) u → draft sense constant u ≡ with_declarations (draft sense constant t) (bounds_declared c lower upper)
     sides_added lower upper h =
-        columns_written (with_sides lower upper) i h
+        columns_written (with_bounds lower upper) i h
         ∙ sides_draft sense constant t.objective t.rows.entries t.columns.entries i h.key h.parts h.was lower upper once.columns
-        ∙ ap (λ (name : List ℕ). adding_all (draft sense constant t) (bounds_declared name lower upper)) (entry_named (slice_get t.columns.entries i) h.key h.parts c h.was column)
+        ∙ ap (λ (name : List ℕ). with_declarations (draft sense constant t) (bounds_declared name lower upper)) (entry_named (slice_get t.columns.entries i) h.key h.parts c h.was column)
 
     module _ (numbered : IsNumbered t) (n : ℕ) (r : List ℕ) (row : row_name t n ≡ Some r) (x : Number) (h : HasColumnChanged t i (with_cell n x) u) where
-      pub cell_added : has_entry (draft sense constant t) (at r c) ≡ false → draft sense constant u ≡ adding (draft sense constant t) (declare_coefficient (at r c) x)
+      pub cell_added : has_coefficient (draft sense constant t) (at r c) ≡ false → draft sense constant u ≡ with_declaration (draft sense constant t) (declare_coefficient (at r c) x)
       cell_added absent =
           let name = entry_named (slice_get t.columns.entries i) h.key h.parts c h.was column in
           columns_written (with_cell n x) i h
-          ∙ cell_draft sense constant t.objective t.rows.entries t.columns.entries i h.key h.parts h.was numbered n r row x (ap (λ (k : List ℕ). has_entry (draft sense constant t) (at r k)) name ∙ absent)
-          ∙ ap (λ (k : List ℕ). adding (draft sense constant t) (declare_coefficient (at r k) x)) name
+          ∙ cell_draft sense constant t.objective t.rows.entries t.columns.entries i h.key h.parts h.was numbered n r row x (ap (λ (k : List ℕ). has_coefficient (draft sense constant t) (at r k)) name ∙ absent)
+          ∙ ap (λ (k : List ℕ). with_declaration (draft sense constant t) (declare_coefficient (at r k) x)) name
 
       pub cell_added_numbered : IsNumbered u
       cell_added_numbered =

@@ -16,18 +16,18 @@ use Rattle.mpslp_types.specs.Name.{bytes_cmp}
 use Rattle.mpslp_types.specs.declared.kinds.Limit.{Limit}
 use Rattle.mpslp_types.specs.declared.kinds.Sense.{Sense}
 use Rattle.mpslp_types.proofs.BoolLemmas.{both_so}
-use Rattle.mpslp_core.specs.Model.{CoefficientKey, key_cmp}
-use Rattle.mpslp_core.specs.Numbered.{sorted_of, each_part, given_parts, column_cells, all_cells, all_named, IsOnce}
-use Rattle.mpslp_core.proofs.KeyLemmas.{bytes_total, key_total, tied_names, same_key}
-use Rattle.mpslp_core.proofs.SortedLemmas.{find-sorted_of, sorted_of-put, sorted_of-append}
-use Rattle.mpslp_core.proofs.CellLemmas.{at, find-all_cells}
-use Rattle.mpslp_builder.specs.Declaration.{Draft, adding, adding_all, declare_column, declare_coefficient, declare_marked, declare_integer, declare_binary, declare_semi, bounds_declared, has_column, has_entry}
-use Rattle.mpslp_builder.specs.Tables.{bytes, no_part, cells_of, lower_of, upper_of, mark_of, integer_of, binary_of, semi_of, number_name, cells_by_name, draft_from, AreNumbered}
-use Rattle.mpslp_numbered.specs.Sides.{side_put}
-use Rattle.mpslp_builder.specs.Calls.{new_column, with_cell, with_sides}
-use Rattle.mpslp_numbered.specs.declared.parts.ObjectiveParts.{ObjectiveParts}
-use Rattle.mpslp_numbered.specs.declared.parts.RowParts.{RowParts}
-use Rattle.mpslp_numbered.specs.declared.parts.ColumnParts.{ColumnParts}
+use Rattle.mpslp_model_core.specs.Model.{CoefficientKey, key_cmp}
+use Rattle.mpslp_model_core.specs.Numbered.{sorted_of, each_part, given_parts, column_cells, all_cells, all_named, IsOnce}
+use Rattle.mpslp_model_core.proofs.KeyLemmas.{bytes_total, key_total, tied_names, same_key}
+use Rattle.mpslp_model_core.proofs.SortedLemmas.{find-sorted_of, sorted_of-put, sorted_of-append}
+use Rattle.mpslp_model_core.proofs.CellLemmas.{at, find-all_cells}
+use Rattle.mpslp_builder.specs.Declaration.{Draft, with_declaration, with_declarations, declare_column, declare_coefficient, declare_marked, declare_integer, declare_binary, declare_semi, bounds_declared, has_column, has_coefficient}
+use Rattle.mpslp_builder.specs.Tables.{bytes, no_part, cells_of, lower_of, upper_of, mark_of, integer_of, binary_of, semi_of, name_of_row_key, cells_by_name, draft_from, AreNumbered}
+use Rattle.mpslp_builder_parts.specs.DeclaredBounds.{side_put}
+use Rattle.mpslp_builder.specs.Calls.{new_column, with_cell, with_bounds}
+use Rattle.mpslp_builder_parts.specs.declared.parts.ObjectiveParts.{ObjectiveParts}
+use Rattle.mpslp_builder_parts.specs.declared.parts.RowParts.{RowParts}
+use Rattle.mpslp_builder_parts.specs.declared.parts.ColumnParts.{ColumnParts}
 use Rattle.mpslp_builder.proofs.NameLemmas.{find_own, once_too}
 use Rattle.mpslp_builder.proofs.PartLemmas.{each_part-append, each_part-kept, given_parts-without, given_parts-kept, find-given_any, absent-each_part, find-put_in_column, none_there}
 
@@ -62,12 +62,12 @@ module _ (sense : Option Sense) (constant : Option Number) (objective : Option O
     none_more f none = ap (sorted_of bytes_cmp) (given_parts-without bytes f columns k new_column none)
 
     pub column_draft : has_column (draft_from sense constant objective rows columns) (bytes k) ≡ false
-        → draft_from sense constant objective rows (columns ++ (k, new_column) ∷ []) ≡ adding (draft_from sense constant objective rows columns) (declare_column (bytes k))
+        → draft_from sense constant objective rows (columns ++ (k, new_column) ∷ []) ≡ with_declaration (draft_from sense constant objective rows columns) (declare_column (bytes k))
     column_draft absent =
         let names : sorted_of bytes_cmp (each_part bytes no_part (columns ++ (k, new_column) ∷ [])) ≡ put bytes_cmp (bytes k) tt (sorted_of bytes_cmp (each_part bytes no_part columns)) =
         ap (sorted_of bytes_cmp) (each_part-append bytes no_part columns k new_column)
         ∙ sorted_of-append bytes_cmp bytes_total tied_names (bytes k) tt (each_part bytes no_part columns) (absent-each_part bytes no_part (bytes k) columns absent) in
-        let name = number_name objective rows in
+        let name = name_of_row_key objective rows in
         let cells : all_cells name (cells_by_name (columns ++ (k, new_column) ∷ [])) ≡ all_cells name (cells_by_name columns) =
         ap (all_cells name) (each_part-append bytes cells_of columns k new_column) ∙ cells-empty name (bytes k) (cells_by_name columns) in
         λ i. record (draft_from sense constant objective rows columns) {
@@ -85,7 +85,7 @@ module _ (sense : Option Sense) (constant : Option Number) (objective : Option O
     column_numbered numbered = record {
       few = numbered.few;
       apart = numbered.apart;
-      named = ap (all_named (number_name objective rows)) (each_part-append bytes cells_of columns k new_column) ∙ named-empty (number_name objective rows) (bytes k) (cells_by_name columns) numbered.named;
+      named = ap (all_named (name_of_row_key objective rows)) (each_part-append bytes cells_of columns k new_column) ∙ named-empty (name_of_row_key objective rows) (bytes k) (cells_by_name columns) numbered.named;
     }
 
   -- ---- a column that is written
@@ -110,18 +110,18 @@ module _ (sense : Option Sense) (constant : Option Number) (objective : Option O
     same_cells w cells = each_part-kept bytes cells_of columns i k v w column cells
 
     coefficients : (w : ColumnParts) → cells_of w ≡ cells_of v
-        → sorted_of key_cmp (all_cells (number_name objective rows) (cells_by_name (set_value_at columns i w))) ≡ sorted_of key_cmp (all_cells (number_name objective rows) (cells_by_name columns))
-    coefficients w cells = ap (λ (cols : List (List ℕ × List (ℕ × Number))). sorted_of key_cmp (all_cells (number_name objective rows) cols)) (same_cells w cells)
+        → sorted_of key_cmp (all_cells (name_of_row_key objective rows) (cells_by_name (set_value_at columns i w))) ≡ sorted_of key_cmp (all_cells (name_of_row_key objective rows) (cells_by_name columns))
+    coefficients w cells = ap (λ (cols : List (List ℕ × List (ℕ × Number))). sorted_of key_cmp (all_cells (name_of_row_key objective rows) cols)) (same_cells w cells)
 
     pub kept_numbered : (w : ColumnParts) → cells_of w ≡ cells_of v → AreNumbered objective rows columns → AreNumbered objective rows (set_value_at columns i w)
     kept_numbered w cells numbered = record {
       few = numbered.few;
       apart = numbered.apart;
-      named = ap (all_named (number_name objective rows)) (same_cells w cells) ∙ numbered.named;
+      named = ap (all_named (name_of_row_key objective rows)) (same_cells w cells) ∙ numbered.named;
     }
 
     pub mark_draft : IsOnce (cells_by_name columns)
-        → draft_from sense constant objective rows (set_value_at columns i (record v { marked = true })) ≡ adding (draft_from sense constant objective rows columns) (declare_marked (bytes k))
+        → draft_from sense constant objective rows (set_value_at columns i (record v { marked = true })) ≡ with_declaration (draft_from sense constant objective rows columns) (declare_marked (bytes k))
     mark_draft once =
         let w : ColumnParts = record v { marked = true } in
         λ j. record (draft_from sense constant objective rows columns) {
@@ -136,7 +136,7 @@ module _ (sense : Option Sense) (constant : Option Number) (objective : Option O
         }
 
     pub integer_draft : IsOnce (cells_by_name columns)
-        → draft_from sense constant objective rows (set_value_at columns i (record v { integer = true })) ≡ adding (draft_from sense constant objective rows columns) (declare_integer (bytes k))
+        → draft_from sense constant objective rows (set_value_at columns i (record v { integer = true })) ≡ with_declaration (draft_from sense constant objective rows columns) (declare_integer (bytes k))
     integer_draft once =
         let w : ColumnParts = record v { integer = true } in
         λ j. record (draft_from sense constant objective rows columns) {
@@ -151,7 +151,7 @@ module _ (sense : Option Sense) (constant : Option Number) (objective : Option O
         }
 
     pub binary_draft : IsOnce (cells_by_name columns)
-        → draft_from sense constant objective rows (set_value_at columns i (record v { binary = true })) ≡ adding (draft_from sense constant objective rows columns) (declare_binary (bytes k))
+        → draft_from sense constant objective rows (set_value_at columns i (record v { binary = true })) ≡ with_declaration (draft_from sense constant objective rows columns) (declare_binary (bytes k))
     binary_draft once =
         let w : ColumnParts = record v { binary = true } in
         λ j. record (draft_from sense constant objective rows columns) {
@@ -166,7 +166,7 @@ module _ (sense : Option Sense) (constant : Option Number) (objective : Option O
         }
 
     pub semi_draft : IsOnce (cells_by_name columns)
-        → draft_from sense constant objective rows (set_value_at columns i (record v { semi = true })) ≡ adding (draft_from sense constant objective rows columns) (declare_semi (bytes k))
+        → draft_from sense constant objective rows (set_value_at columns i (record v { semi = true })) ≡ with_declaration (draft_from sense constant objective rows columns) (declare_semi (bytes k))
     semi_draft once =
         let w : ColumnParts = record v { semi = true } in
         λ j. record (draft_from sense constant objective rows columns) {
@@ -191,17 +191,17 @@ module _ (sense : Option Sense) (constant : Option Number) (objective : Option O
     side f w None once is = kept f w is
     side f w (Some limit) once is = given f w limit once is
 
-    sides-adding : (before : Draft) (lower upper : Option Limit)
-        → adding_all before (bounds_declared (bytes k) lower upper) ≡ record before { lowers = limits_put lower before.lowers; uppers = limits_put upper before.uppers }
-    sides-adding before None None = refl
-    sides-adding before (Some l) None = refl
-    sides-adding before None (Some u) = refl
-    sides-adding before (Some l) (Some u) = refl
+    sides-with_declaration : (before : Draft) (lower upper : Option Limit)
+        → with_declarations before (bounds_declared (bytes k) lower upper) ≡ record before { lowers = limits_put lower before.lowers; uppers = limits_put upper before.uppers }
+    sides-with_declaration before None None = refl
+    sides-with_declaration before (Some l) None = refl
+    sides-with_declaration before None (Some u) = refl
+    sides-with_declaration before (Some l) (Some u) = refl
 
     pub sides_draft : (lower upper : Option Limit) → IsOnce (cells_by_name columns)
-        → draft_from sense constant objective rows (set_value_at columns i (with_sides lower upper v)) ≡ adding_all (draft_from sense constant objective rows columns) (bounds_declared (bytes k) lower upper)
+        → draft_from sense constant objective rows (set_value_at columns i (with_bounds lower upper v)) ≡ with_declarations (draft_from sense constant objective rows columns) (bounds_declared (bytes k) lower upper)
     sides_draft lower upper once =
-        let w : ColumnParts = with_sides lower upper v in
+        let w : ColumnParts = with_bounds lower upper v in
         let before : Draft = draft_from sense constant objective rows columns in
         let written : draft_from sense constant objective rows (set_value_at columns i w) ≡ record before { lowers = limits_put lower before.lowers; uppers = limits_put upper before.uppers } =
         λ j. record before {
@@ -214,23 +214,23 @@ module _ (sense : Option Sense) (constant : Option Number) (objective : Option O
           binaries = kept binary_of w refl j;
           semis = kept semi_of w refl j;
         } in
-        written ∙ sym (sides-adding before lower upper)
+        written ∙ sym (sides-with_declaration before lower upper)
 
     -- ---- a coefficient
 
-    module _ (numbered : AreNumbered objective rows columns) (n : ℕ) (r : List ℕ) (row : number_name objective rows n ≡ Some r) where
+    module _ (numbered : AreNumbered objective rows columns) (n : ℕ) (r : List ℕ) (row : name_of_row_key objective rows n ≡ Some r) where
       -- it is declared exactly if its column has it
-      pub cell_found : IsOnce (cells_by_name columns) → is_some (find nat_cmp n (cells_of v)) ≡ has_entry (draft_from sense constant objective rows columns) (at r (bytes k))
+      pub cell_found : IsOnce (cells_by_name columns) → is_some (find nat_cmp n (cells_of v)) ≡ has_coefficient (draft_from sense constant objective rows columns) (at r (bytes k))
       cell_found once =
-          sym (ap is_some (find-sorted_of key_cmp key_total (at r (bytes k)) (all_cells (number_name objective rows) (cells_by_name columns))
-          ∙ find-all_cells (number_name objective rows) numbered.apart n r (bytes k) (cells_by_name columns) row once
+          sym (ap is_some (find-sorted_of key_cmp key_total (at r (bytes k)) (all_cells (name_of_row_key objective rows) (cells_by_name columns))
+          ∙ find-all_cells (name_of_row_key objective rows) numbered.apart n r (bytes k) (cells_by_name columns) row once
           ∙ ap (option_and_then (find nat_cmp n)) (find_own bytes cells_of columns i k v once column)))
 
-      pub cell_draft : (x : Number) → has_entry (draft_from sense constant objective rows columns) (at r (bytes k)) ≡ false
-          → draft_from sense constant objective rows (set_value_at columns i (with_cell n x v)) ≡ adding (draft_from sense constant objective rows columns) (declare_coefficient (at r (bytes k)) x)
+      pub cell_draft : (x : Number) → has_coefficient (draft_from sense constant objective rows columns) (at r (bytes k)) ≡ false
+          → draft_from sense constant objective rows (set_value_at columns i (with_cell n x v)) ≡ with_declaration (draft_from sense constant objective rows columns) (declare_coefficient (at r (bytes k)) x)
       cell_draft x absent =
           let w : ColumnParts = with_cell n x v in
-          let name = number_name objective rows in
+          let name = name_of_row_key objective rows in
           let every = all_cells name (cells_by_name columns) in
           let missing : find key_cmp (at r (bytes k)) every ≡ None =
           sym (find-sorted_of key_cmp key_total (at r (bytes k)) every) ∙ none_there (find key_cmp (at r (bytes k)) (sorted_of key_cmp every)) absent in
@@ -256,19 +256,19 @@ module _ (sense : Option Sense) (constant : Option Number) (objective : Option O
       }
         where
           test : ℕ × Number → Bool
-          test e = is_some (number_name objective rows e.0)
+          test e = is_some (name_of_row_key objective rows e.0)
 
           named-set : (cols : List (Vec ℕ × ColumnParts)) (i : ℕ) → slice_get cols i ≡ Some (k, v)
-              → all_named (number_name objective rows) (cells_by_name cols) ≡ true → all_named (number_name objective rows) (cells_by_name (set_value_at cols i (with_cell n x v))) ≡ true
+              → all_named (name_of_row_key objective rows) (cells_by_name cols) ≡ true → all_named (name_of_row_key objective rows) (cells_by_name (set_value_at cols i (with_cell n x v))) ≡ true
           named-set [] i is h = cc
           named-set (c ∷ cols) zero is h =
               let here : ◌≡◌ {A = Vec ℕ × ColumnParts} c (k, v) = cc in
               let own : list_all test (cells_of v) ≡ true =
-              ap (λ (y : Vec ℕ × ColumnParts). list_all test (cells_of y.1)) (sym here) ∙ first_so (list_all test (cells_of c.1)) (all_named (number_name objective rows) (cells_by_name cols)) h in
-              both_so (list_all test (put nat_cmp n x (cells_of v))) (all_named (number_name objective rows) (cells_by_name cols))
-              (put_all nat_cmp test n x (cells_of v) (λ j tie. ap (λ (m : ℕ). is_some (number_name objective rows m)) (sym (nat_cmp-IsAntisymmetric n j tie)) ∙ ap is_some row) (ap is_some row) own)
-              (second_so (list_all test (cells_of c.1)) (all_named (number_name objective rows) (cells_by_name cols)) h)
+              ap (λ (y : Vec ℕ × ColumnParts). list_all test (cells_of y.1)) (sym here) ∙ first_so (list_all test (cells_of c.1)) (all_named (name_of_row_key objective rows) (cells_by_name cols)) h in
+              both_so (list_all test (put nat_cmp n x (cells_of v))) (all_named (name_of_row_key objective rows) (cells_by_name cols))
+              (put_all nat_cmp test n x (cells_of v) (λ j tie. ap (λ (m : ℕ). is_some (name_of_row_key objective rows m)) (sym (nat_cmp-IsAntisymmetric n j tie)) ∙ ap is_some row) (ap is_some row) own)
+              (second_so (list_all test (cells_of c.1)) (all_named (name_of_row_key objective rows) (cells_by_name cols)) h)
           named-set (c ∷ cols) (suc i) is h =
-              both_so (list_all test (cells_of c.1)) (all_named (number_name objective rows) (cells_by_name (set_value_at cols i (with_cell n x v))))
-              (first_so (list_all test (cells_of c.1)) (all_named (number_name objective rows) (cells_by_name cols)) h)
-              (named-set cols i is (second_so (list_all test (cells_of c.1)) (all_named (number_name objective rows) (cells_by_name cols)) h))
+              both_so (list_all test (cells_of c.1)) (all_named (name_of_row_key objective rows) (cells_by_name (set_value_at cols i (with_cell n x v))))
+              (first_so (list_all test (cells_of c.1)) (all_named (name_of_row_key objective rows) (cells_by_name cols)) h)
+              (named-set cols i is (second_so (list_all test (cells_of c.1)) (all_named (name_of_row_key objective rows) (cells_by_name cols)) h))

@@ -12,11 +12,11 @@ use Rattle.std.specs.FinMap.{put, is_sorted}
 use Rattle.std.specs.FinMap.Entries.{by_order, is_sorted-put}
 use Rattle.mpslp_decimal.specs.Decimal.{Number, is_decimal}
 use Rattle.mpslp_types.specs.Name.{is_mps_name, bytes_cmp}
-use Rattle.mpslp_core.specs.Model.{CoefficientKey, key_cmp, key_total}
-pub use Rattle.mpslp_core.proofs.KeyLemmas.{same_key}
-use Rattle.mpslp_core.proofs.KeyLemmas.{tied_names}
-use Rattle.mpslp_builder.specs.Declaration.{RowForm, Declaration, declare_objective, declare_constant, declare_row, declare_rhs, declare_column, declare_coefficient, declare_lower, declare_upper, Declarations, Draft, empty_draft, adding, adding_all, has_row, has_column, have_infinite_side}
-use Rattle.mpslp_types.specs.Sides.{is_given, is_plus_infinite, is_minus_infinite}
+use Rattle.mpslp_model_core.specs.Model.{CoefficientKey, key_cmp, key_total}
+pub use Rattle.mpslp_model_core.proofs.KeyLemmas.{same_key}
+use Rattle.mpslp_model_core.proofs.KeyLemmas.{tied_names}
+use Rattle.mpslp_builder.specs.Declaration.{RowDefinition, Declaration, declare_objective, declare_constant, declare_row, declare_rhs, declare_column, declare_coefficient, declare_lower, declare_upper, Declarations, Draft, empty_draft, with_declaration, with_declarations, has_row, has_column, have_infinite_side}
+use Rattle.mpslp_types.specs.Limit.{is_given, is_plus_infinite, is_minus_infinite}
 use Rattle.mpslp_builder.specs.Made.{are_given, is_legal}
 use Rattle.mpslp_builder.specs.Consistency.{is_known, is_allowed}
 use Rattle.mpslp_types.specs.declared.kinds.Limit.{Limit}
@@ -56,8 +56,8 @@ pub record IsGood (all draft : Draft) : Type 0 where
   pub columns_sorted : T (is_sorted bytes_cmp draft.columns)
   pub coefficients_sorted : T (is_sorted key_cmp draft.coefficients)
 
-good-adding : (all draft : Draft) (d : Declaration) → IsGood all draft → is_legal d ≡ true → is_known all d ≡ true → is_allowed all d ≡ true → IsGood all (adding draft d)
-good-adding all b (declare_objective name) g legal known allowed = record {
+good-with_declaration : (all draft : Draft) (d : Declaration) → IsGood all draft → is_legal d ≡ true → is_known all d ≡ true → is_allowed all d ≡ true → IsGood all (with_declaration draft d)
+good-with_declaration all b (declare_objective name) g legal known allowed = record {
   objective = legal;
   constant = g.constant;
   rows = g.rows;
@@ -70,7 +70,7 @@ good-adding all b (declare_objective name) g legal known allowed = record {
   columns_sorted = g.columns_sorted;
   coefficients_sorted = g.coefficients_sorted;
 }
-good-adding all b (declare_constant value) g legal known allowed = record {
+good-with_declaration all b (declare_constant value) g legal known allowed = record {
   objective = g.objective;
   constant = legal;
   rows = g.rows;
@@ -83,22 +83,22 @@ good-adding all b (declare_constant value) g legal known allowed = record {
   columns_sorted = g.columns_sorted;
   coefficients_sorted = g.coefficients_sorted;
 }
-good-adding all b (declare_row name form) g legal known allowed = record {
+good-with_declaration all b (declare_row name definition) g legal known allowed = record {
   objective = g.objective;
   constant = g.constant;
-  rows = put_names (λ (e : List ℕ × RowForm). is_mps_name e.0 && (are_given e.1 && not (have_infinite_side e.1))) name form b.rows
-      (both_so (is_mps_name name) (are_given form && not (have_infinite_side form)) (first_so (is_mps_name name) (are_given form) legal)
-      (both_so (are_given form) (not (have_infinite_side form)) (second_so (is_mps_name name) (are_given form) legal) allowed)) g.rows;
+  rows = put_names (λ (e : List ℕ × RowDefinition). is_mps_name e.0 && (are_given e.1 && not (have_infinite_side e.1))) name definition b.rows
+      (both_so (is_mps_name name) (are_given definition && not (have_infinite_side definition)) (first_so (is_mps_name name) (are_given definition) legal)
+      (both_so (are_given definition) (not (have_infinite_side definition)) (second_so (is_mps_name name) (are_given definition) legal) allowed)) g.rows;
   rhs_values = g.rhs_values;
   columns = g.columns;
   coefficients = g.coefficients;
   lowers = g.lowers;
   uppers = g.uppers;
-  rows_sorted = is_sorted-put bytes_cmp nat_list_cmp_total name form b.rows g.rows_sorted;
+  rows_sorted = is_sorted-put bytes_cmp nat_list_cmp_total name definition b.rows g.rows_sorted;
   columns_sorted = g.columns_sorted;
   coefficients_sorted = g.coefficients_sorted;
 }
-good-adding all b (declare_rhs row value) g legal known allowed = record {
+good-with_declaration all b (declare_rhs row value) g legal known allowed = record {
   objective = g.objective;
   constant = g.constant;
   rows = g.rows;
@@ -111,7 +111,7 @@ good-adding all b (declare_rhs row value) g legal known allowed = record {
   columns_sorted = g.columns_sorted;
   coefficients_sorted = g.coefficients_sorted;
 }
-good-adding all b (declare_column name) g legal known allowed = record {
+good-with_declaration all b (declare_column name) g legal known allowed = record {
   objective = g.objective;
   constant = g.constant;
   rows = g.rows;
@@ -124,7 +124,7 @@ good-adding all b (declare_column name) g legal known allowed = record {
   columns_sorted = is_sorted-put bytes_cmp nat_list_cmp_total name tt b.columns g.columns_sorted;
   coefficients_sorted = g.coefficients_sorted;
 }
-good-adding all b (declare_coefficient key value) g legal known allowed = record {
+good-with_declaration all b (declare_coefficient key value) g legal known allowed = record {
   objective = g.objective;
   constant = g.constant;
   rows = g.rows;
@@ -138,7 +138,7 @@ good-adding all b (declare_coefficient key value) g legal known allowed = record
   columns_sorted = g.columns_sorted;
   coefficients_sorted = is_sorted-put key_cmp key_total key value b.coefficients g.coefficients_sorted;
 }
-good-adding all b (declare_lower column limit) g legal known allowed = record {
+good-with_declaration all b (declare_lower column limit) g legal known allowed = record {
   objective = g.objective;
   constant = g.constant;
   rows = g.rows;
@@ -151,7 +151,7 @@ good-adding all b (declare_lower column limit) g legal known allowed = record {
   columns_sorted = g.columns_sorted;
   coefficients_sorted = g.coefficients_sorted;
 }
-good-adding all b (declare_upper column limit) g legal known allowed = record {
+good-with_declaration all b (declare_upper column limit) g legal known allowed = record {
   objective = g.objective;
   constant = g.constant;
   rows = g.rows;
@@ -164,7 +164,7 @@ good-adding all b (declare_upper column limit) g legal known allowed = record {
   columns_sorted = g.columns_sorted;
   coefficients_sorted = g.coefficients_sorted;
 }
-good-adding all b _ g legal known allowed = record {
+good-with_declaration all b _ g legal known allowed = record {
   objective = g.objective;
   constant = g.constant;
   rows = g.rows;
@@ -178,12 +178,12 @@ good-adding all b _ g legal known allowed = record {
   coefficients_sorted = g.coefficients_sorted;
 }
 
-pub good-adding_all : (all : Draft) (declarations : Declarations) (draft : Draft) → IsGood all draft → list_all is_legal declarations ≡ true
-    → list_all (is_known all) declarations ≡ true → list_all (is_allowed all) declarations ≡ true → IsGood all (adding_all draft declarations)
-good-adding_all all [] draft g legal known allowed = g
-good-adding_all all (d ∷ more) draft g legal known allowed =
-    good-adding_all all more (adding draft d)
-    (good-adding all draft d g (first_so (is_legal d) (list_all is_legal more) legal) (first_so (is_known all d) (list_all (is_known all) more) known) (first_so (is_allowed all d) (list_all (is_allowed all) more) allowed))
+pub good-with_declarations : (all : Draft) (declarations : Declarations) (draft : Draft) → IsGood all draft → list_all is_legal declarations ≡ true
+    → list_all (is_known all) declarations ≡ true → list_all (is_allowed all) declarations ≡ true → IsGood all (with_declarations draft declarations)
+good-with_declarations all [] draft g legal known allowed = g
+good-with_declarations all (d ∷ more) draft g legal known allowed =
+    good-with_declarations all more (with_declaration draft d)
+    (good-with_declaration all draft d g (first_so (is_legal d) (list_all is_legal more) legal) (first_so (is_known all d) (list_all (is_known all) more) known) (first_so (is_allowed all d) (list_all (is_allowed all) more) allowed))
     (second_so (is_legal d) (list_all is_legal more) legal) (second_so (is_known all d) (list_all (is_known all) more) known) (second_so (is_allowed all d) (list_all (is_allowed all) more) allowed)
 
 -- no entries

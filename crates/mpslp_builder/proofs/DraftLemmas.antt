@@ -2,16 +2,16 @@
 use Rattle.std.proofs.Common.{◌≡◌, refl, sym, ap, ◌∙◌, List, [], ◌∷◌, ℕ}
 use Rattle.std.specs.List.{flat_map}
 use Rattle.mpslp_decimal.specs.Decimal.{Number}
-use Rattle.mpslp_core.specs.Model.{CoefficientKey, key_cmp}
+use Rattle.mpslp_model_core.specs.Model.{CoefficientKey, key_cmp}
 use Rattle.mpslp_types.specs.Name.{bytes_cmp}
-use Rattle.mpslp_builder.specs.Declaration.{RowForm, Declaration, declare_row, declare_rhs, declare_range, declare_column, declare_coefficient, declare_lower, declare_upper, declare_marked, declare_integer, declare_binary, declare_semi, Declarations, Draft, adding, adding_all}
+use Rattle.mpslp_builder.specs.Declaration.{RowDefinition, Declaration, declare_row, declare_rhs, declare_range, declare_column, declare_coefficient, declare_lower, declare_upper, declare_marked, declare_integer, declare_binary, declare_semi, Declarations, Draft, with_declaration, with_declarations}
 use Rattle.mpslp_types.specs.declared.kinds.Limit.{Limit}
-use Rattle.mpslp_core.proofs.PutsLemmas.{puts, puts-append}
+use Rattle.mpslp_model_core.proofs.PutsLemmas.{puts, puts-append}
 
 -- ---- what a declaration puts into each map
 
-abbrev pub row_part : Declaration → List (List ℕ × RowForm)
-row_part (declare_row name form) = (name, form) ∷ []
+abbrev pub row_part : Declaration → List (List ℕ × RowDefinition)
+row_part (declare_row name definition) = (name, definition) ∷ []
 row_part _ = []
 
 abbrev pub rhs_part : Declaration → List (List ℕ × Number)
@@ -56,101 +56,101 @@ semi_part _ = []
 
 -- ---- each map, after one declaration and after several
 
-rows-one : (all : Draft) (d : Declaration) → (adding all d).rows ≡ puts bytes_cmp (row_part d) all.rows
-rows-one all (declare_row name form) = refl
+rows-one : (all : Draft) (d : Declaration) → (with_declaration all d).rows ≡ puts bytes_cmp (row_part d) all.rows
+rows-one all (declare_row name definition) = refl
 rows-one all _ = refl
 
-pub rows-all : (ds : Declarations) (all : Draft) → (adding_all all ds).rows ≡ puts bytes_cmp (flat_map row_part ds) all.rows
+pub rows-all : (ds : Declarations) (all : Draft) → (with_declarations all ds).rows ≡ puts bytes_cmp (flat_map row_part ds) all.rows
 rows-all [] all = refl
 rows-all (d ∷ ds) all =
-    rows-all ds (adding all d) ∙ ap (puts bytes_cmp (flat_map row_part ds)) (rows-one all d) ∙ sym (puts-append bytes_cmp (row_part d) (flat_map row_part ds) all.rows)
+    rows-all ds (with_declaration all d) ∙ ap (puts bytes_cmp (flat_map row_part ds)) (rows-one all d) ∙ sym (puts-append bytes_cmp (row_part d) (flat_map row_part ds) all.rows)
 
-rhs_values-one : (all : Draft) (d : Declaration) → (adding all d).rhs_values ≡ puts bytes_cmp (rhs_part d) all.rhs_values
+rhs_values-one : (all : Draft) (d : Declaration) → (with_declaration all d).rhs_values ≡ puts bytes_cmp (rhs_part d) all.rhs_values
 rhs_values-one all (declare_rhs row value) = refl
 rhs_values-one all _ = refl
 
-pub rhs_values-all : (ds : Declarations) (all : Draft) → (adding_all all ds).rhs_values ≡ puts bytes_cmp (flat_map rhs_part ds) all.rhs_values
+pub rhs_values-all : (ds : Declarations) (all : Draft) → (with_declarations all ds).rhs_values ≡ puts bytes_cmp (flat_map rhs_part ds) all.rhs_values
 rhs_values-all [] all = refl
 rhs_values-all (d ∷ ds) all =
-    rhs_values-all ds (adding all d) ∙ ap (puts bytes_cmp (flat_map rhs_part ds)) (rhs_values-one all d) ∙ sym (puts-append bytes_cmp (rhs_part d) (flat_map rhs_part ds) all.rhs_values)
+    rhs_values-all ds (with_declaration all d) ∙ ap (puts bytes_cmp (flat_map rhs_part ds)) (rhs_values-one all d) ∙ sym (puts-append bytes_cmp (rhs_part d) (flat_map rhs_part ds) all.rhs_values)
 
-ranges-one : (all : Draft) (d : Declaration) → (adding all d).ranges ≡ puts bytes_cmp (range_part d) all.ranges
+ranges-one : (all : Draft) (d : Declaration) → (with_declaration all d).ranges ≡ puts bytes_cmp (range_part d) all.ranges
 ranges-one all (declare_range row value) = refl
 ranges-one all _ = refl
 
-pub ranges-all : (ds : Declarations) (all : Draft) → (adding_all all ds).ranges ≡ puts bytes_cmp (flat_map range_part ds) all.ranges
+pub ranges-all : (ds : Declarations) (all : Draft) → (with_declarations all ds).ranges ≡ puts bytes_cmp (flat_map range_part ds) all.ranges
 ranges-all [] all = refl
 ranges-all (d ∷ ds) all =
-    ranges-all ds (adding all d) ∙ ap (puts bytes_cmp (flat_map range_part ds)) (ranges-one all d) ∙ sym (puts-append bytes_cmp (range_part d) (flat_map range_part ds) all.ranges)
+    ranges-all ds (with_declaration all d) ∙ ap (puts bytes_cmp (flat_map range_part ds)) (ranges-one all d) ∙ sym (puts-append bytes_cmp (range_part d) (flat_map range_part ds) all.ranges)
 
-columns-one : (all : Draft) (d : Declaration) → (adding all d).columns ≡ puts bytes_cmp (column_part d) all.columns
+columns-one : (all : Draft) (d : Declaration) → (with_declaration all d).columns ≡ puts bytes_cmp (column_part d) all.columns
 columns-one all (declare_column name) = refl
 columns-one all _ = refl
 
-pub columns-all : (ds : Declarations) (all : Draft) → (adding_all all ds).columns ≡ puts bytes_cmp (flat_map column_part ds) all.columns
+pub columns-all : (ds : Declarations) (all : Draft) → (with_declarations all ds).columns ≡ puts bytes_cmp (flat_map column_part ds) all.columns
 columns-all [] all = refl
 columns-all (d ∷ ds) all =
-    columns-all ds (adding all d) ∙ ap (puts bytes_cmp (flat_map column_part ds)) (columns-one all d) ∙ sym (puts-append bytes_cmp (column_part d) (flat_map column_part ds) all.columns)
+    columns-all ds (with_declaration all d) ∙ ap (puts bytes_cmp (flat_map column_part ds)) (columns-one all d) ∙ sym (puts-append bytes_cmp (column_part d) (flat_map column_part ds) all.columns)
 
-coefficients-one : (all : Draft) (d : Declaration) → (adding all d).coefficients ≡ puts key_cmp (coefficient_part d) all.coefficients
+coefficients-one : (all : Draft) (d : Declaration) → (with_declaration all d).coefficients ≡ puts key_cmp (coefficient_part d) all.coefficients
 coefficients-one all (declare_coefficient key value) = refl
 coefficients-one all _ = refl
 
-pub coefficients-all : (ds : Declarations) (all : Draft) → (adding_all all ds).coefficients ≡ puts key_cmp (flat_map coefficient_part ds) all.coefficients
+pub coefficients-all : (ds : Declarations) (all : Draft) → (with_declarations all ds).coefficients ≡ puts key_cmp (flat_map coefficient_part ds) all.coefficients
 coefficients-all [] all = refl
 coefficients-all (d ∷ ds) all =
-    coefficients-all ds (adding all d) ∙ ap (puts key_cmp (flat_map coefficient_part ds)) (coefficients-one all d) ∙ sym (puts-append key_cmp (coefficient_part d) (flat_map coefficient_part ds) all.coefficients)
+    coefficients-all ds (with_declaration all d) ∙ ap (puts key_cmp (flat_map coefficient_part ds)) (coefficients-one all d) ∙ sym (puts-append key_cmp (coefficient_part d) (flat_map coefficient_part ds) all.coefficients)
 
-lowers-one : (all : Draft) (d : Declaration) → (adding all d).lowers ≡ puts bytes_cmp (lower_part d) all.lowers
+lowers-one : (all : Draft) (d : Declaration) → (with_declaration all d).lowers ≡ puts bytes_cmp (lower_part d) all.lowers
 lowers-one all (declare_lower column limit) = refl
 lowers-one all _ = refl
 
-pub lowers-all : (ds : Declarations) (all : Draft) → (adding_all all ds).lowers ≡ puts bytes_cmp (flat_map lower_part ds) all.lowers
+pub lowers-all : (ds : Declarations) (all : Draft) → (with_declarations all ds).lowers ≡ puts bytes_cmp (flat_map lower_part ds) all.lowers
 lowers-all [] all = refl
 lowers-all (d ∷ ds) all =
-    lowers-all ds (adding all d) ∙ ap (puts bytes_cmp (flat_map lower_part ds)) (lowers-one all d) ∙ sym (puts-append bytes_cmp (lower_part d) (flat_map lower_part ds) all.lowers)
+    lowers-all ds (with_declaration all d) ∙ ap (puts bytes_cmp (flat_map lower_part ds)) (lowers-one all d) ∙ sym (puts-append bytes_cmp (lower_part d) (flat_map lower_part ds) all.lowers)
 
-uppers-one : (all : Draft) (d : Declaration) → (adding all d).uppers ≡ puts bytes_cmp (upper_part d) all.uppers
+uppers-one : (all : Draft) (d : Declaration) → (with_declaration all d).uppers ≡ puts bytes_cmp (upper_part d) all.uppers
 uppers-one all (declare_upper column limit) = refl
 uppers-one all _ = refl
 
-pub uppers-all : (ds : Declarations) (all : Draft) → (adding_all all ds).uppers ≡ puts bytes_cmp (flat_map upper_part ds) all.uppers
+pub uppers-all : (ds : Declarations) (all : Draft) → (with_declarations all ds).uppers ≡ puts bytes_cmp (flat_map upper_part ds) all.uppers
 uppers-all [] all = refl
 uppers-all (d ∷ ds) all =
-    uppers-all ds (adding all d) ∙ ap (puts bytes_cmp (flat_map upper_part ds)) (uppers-one all d) ∙ sym (puts-append bytes_cmp (upper_part d) (flat_map upper_part ds) all.uppers)
+    uppers-all ds (with_declaration all d) ∙ ap (puts bytes_cmp (flat_map upper_part ds)) (uppers-one all d) ∙ sym (puts-append bytes_cmp (upper_part d) (flat_map upper_part ds) all.uppers)
 
-marked-one : (all : Draft) (d : Declaration) → (adding all d).marked ≡ puts bytes_cmp (marked_part d) all.marked
+marked-one : (all : Draft) (d : Declaration) → (with_declaration all d).marked ≡ puts bytes_cmp (marked_part d) all.marked
 marked-one all (declare_marked column) = refl
 marked-one all _ = refl
 
-pub marked-all : (ds : Declarations) (all : Draft) → (adding_all all ds).marked ≡ puts bytes_cmp (flat_map marked_part ds) all.marked
+pub marked-all : (ds : Declarations) (all : Draft) → (with_declarations all ds).marked ≡ puts bytes_cmp (flat_map marked_part ds) all.marked
 marked-all [] all = refl
 marked-all (d ∷ ds) all =
-    marked-all ds (adding all d) ∙ ap (puts bytes_cmp (flat_map marked_part ds)) (marked-one all d) ∙ sym (puts-append bytes_cmp (marked_part d) (flat_map marked_part ds) all.marked)
+    marked-all ds (with_declaration all d) ∙ ap (puts bytes_cmp (flat_map marked_part ds)) (marked-one all d) ∙ sym (puts-append bytes_cmp (marked_part d) (flat_map marked_part ds) all.marked)
 
-integers-one : (all : Draft) (d : Declaration) → (adding all d).integers ≡ puts bytes_cmp (integer_part d) all.integers
+integers-one : (all : Draft) (d : Declaration) → (with_declaration all d).integers ≡ puts bytes_cmp (integer_part d) all.integers
 integers-one all (declare_integer column) = refl
 integers-one all _ = refl
 
-pub integers-all : (ds : Declarations) (all : Draft) → (adding_all all ds).integers ≡ puts bytes_cmp (flat_map integer_part ds) all.integers
+pub integers-all : (ds : Declarations) (all : Draft) → (with_declarations all ds).integers ≡ puts bytes_cmp (flat_map integer_part ds) all.integers
 integers-all [] all = refl
 integers-all (d ∷ ds) all =
-    integers-all ds (adding all d) ∙ ap (puts bytes_cmp (flat_map integer_part ds)) (integers-one all d) ∙ sym (puts-append bytes_cmp (integer_part d) (flat_map integer_part ds) all.integers)
+    integers-all ds (with_declaration all d) ∙ ap (puts bytes_cmp (flat_map integer_part ds)) (integers-one all d) ∙ sym (puts-append bytes_cmp (integer_part d) (flat_map integer_part ds) all.integers)
 
-binaries-one : (all : Draft) (d : Declaration) → (adding all d).binaries ≡ puts bytes_cmp (binary_part d) all.binaries
+binaries-one : (all : Draft) (d : Declaration) → (with_declaration all d).binaries ≡ puts bytes_cmp (binary_part d) all.binaries
 binaries-one all (declare_binary column) = refl
 binaries-one all _ = refl
 
-pub binaries-all : (ds : Declarations) (all : Draft) → (adding_all all ds).binaries ≡ puts bytes_cmp (flat_map binary_part ds) all.binaries
+pub binaries-all : (ds : Declarations) (all : Draft) → (with_declarations all ds).binaries ≡ puts bytes_cmp (flat_map binary_part ds) all.binaries
 binaries-all [] all = refl
 binaries-all (d ∷ ds) all =
-    binaries-all ds (adding all d) ∙ ap (puts bytes_cmp (flat_map binary_part ds)) (binaries-one all d) ∙ sym (puts-append bytes_cmp (binary_part d) (flat_map binary_part ds) all.binaries)
+    binaries-all ds (with_declaration all d) ∙ ap (puts bytes_cmp (flat_map binary_part ds)) (binaries-one all d) ∙ sym (puts-append bytes_cmp (binary_part d) (flat_map binary_part ds) all.binaries)
 
-semis-one : (all : Draft) (d : Declaration) → (adding all d).semis ≡ puts bytes_cmp (semi_part d) all.semis
+semis-one : (all : Draft) (d : Declaration) → (with_declaration all d).semis ≡ puts bytes_cmp (semi_part d) all.semis
 semis-one all (declare_semi column) = refl
 semis-one all _ = refl
 
-pub semis-all : (ds : Declarations) (all : Draft) → (adding_all all ds).semis ≡ puts bytes_cmp (flat_map semi_part ds) all.semis
+pub semis-all : (ds : Declarations) (all : Draft) → (with_declarations all ds).semis ≡ puts bytes_cmp (flat_map semi_part ds) all.semis
 semis-all [] all = refl
 semis-all (d ∷ ds) all =
-    semis-all ds (adding all d) ∙ ap (puts bytes_cmp (flat_map semi_part ds)) (semis-one all d) ∙ sym (puts-append bytes_cmp (semi_part d) (flat_map semi_part ds) all.semis)
+    semis-all ds (with_declaration all d) ∙ ap (puts bytes_cmp (flat_map semi_part ds)) (semis-one all d) ∙ sym (puts-append bytes_cmp (semi_part d) (flat_map semi_part ds) all.semis)

@@ -12,33 +12,33 @@ use Rattle.mpslp_decimal.specs.Decimal.{Number, negated, zero_number}
 use Rattle.mpslp_types.specs.Name.{bytes_cmp, is_mps_name, IsMpsName}
 use Rattle.mpslp_types.specs.declared.kinds.Sense.{Sense}
 use Rattle.mpslp_types.proofs.EachLemmas.{Each, Each-weaker}
-use Rattle.mpslp_core.specs.Numbered.{sorted_of, each_part, given_parts, IsOnce, TellsApart}
-use Rattle.mpslp_core.proofs.KeyLemmas.{bytes_total}
-use Rattle.mpslp_core.proofs.SortedLemmas.{find-sorted_of}
-use Rattle.mpslp_core.proofs.CellLemmas.{or_else, find-two, name_same, name_tied}
-use Rattle.mpslp_core.proofs.MovingLemmas.{all-from_each}
+use Rattle.mpslp_model_core.specs.Numbered.{sorted_of, each_part, given_parts, IsOnce, TellsApart}
+use Rattle.mpslp_model_core.proofs.KeyLemmas.{bytes_total}
+use Rattle.mpslp_model_core.proofs.SortedLemmas.{find-sorted_of}
+use Rattle.mpslp_model_core.proofs.CellLemmas.{or_else, find-two, name_same, name_tied}
+use Rattle.mpslp_model_core.proofs.MovingLemmas.{all-from_each}
 use Rattle.mpslp_builder.specs.Declaration.{at_name}
 use Rattle.mpslp_builder.specs.Made.{IsMade}
 use Rattle.mpslp_builder.specs.Meaning.{constant_of}
-use Rattle.mpslp_builder.specs.Tables.{bytes, objective_name, form_of, rhs_of, cells_of, objective_rhs, number_name, draft, draft_from, AreNumbered}
-use Rattle.mpslp_numbered.specs.Ordered.{name_at, taken}
-use Rattle.mpslp_numbered.specs.Parts.{rhs_in}
-use Rattle.mpslp_numbered.specs.declared.parts.ObjectiveParts.{ObjectiveParts}
-use Rattle.mpslp_numbered.specs.declared.parts.RowParts.{RowParts}
-use Rattle.mpslp_numbered.specs.declared.parts.ColumnParts.{ColumnParts}
+use Rattle.mpslp_builder.specs.Tables.{bytes, name_of_objective, definition_of, rhs_of, cells_of, objective_rhs, name_of_row_key, draft, draft_from, AreNumbered}
+use Rattle.mpslp_builder_parts.specs.Ordered.{name_at, entries_at}
+use Rattle.mpslp_builder_parts.specs.Parts.{rhs_in}
+use Rattle.mpslp_builder_parts.specs.declared.parts.ObjectiveParts.{ObjectiveParts}
+use Rattle.mpslp_builder_parts.specs.declared.parts.RowParts.{RowParts}
+use Rattle.mpslp_builder_parts.specs.declared.parts.ColumnParts.{ColumnParts}
 use Rattle.mpslp_builder.specs.FaultFound.{entry_name}
 use Rattle.mpslp_builder.specs.declared.tables.Tables.{Tables}
 use Rattle.mpslp_builder.proofs.MadeDrafts.{good-from_made}
 use Rattle.mpslp_builder.proofs.FoundLemmas.{legal_names}
 use Rattle.mpslp_builder.proofs.OrderedParts.{ordered_parts, no_part-found}
-use Rattle.mpslp_numbered.proofs.RankLemmas.{order_length, order_within, order_apart}
+use Rattle.mpslp_builder_parts.proofs.RankLemmas.{order_length, order_within, order_apart}
 use Rattle.mpslp_builder.proofs.ModelOfTables.{within-all}
 
 -- entries, their indices in the order of their names, and they in that order
 pub record AreOrdered {V : Type 0} (entries : List (Vec ℕ × V)) (order : List ℕ) (ordered : List (Vec ℕ × V)) : Type 0 where
   pub permuted : IsPermutation (range_with_len 0 (length entries)) order
   pub sorted : IsSortedBy (λ n k. is_lt (bytes_cmp (name_at entries n) (name_at entries k))) order
-  pub are : ordered ≡ taken entries order
+  pub are : ordered ≡ entries_at entries order
 
 -- ---- legal names
 
@@ -49,13 +49,13 @@ legal-each f test (e ∷ es) t h =
 
 module _ (sense : Option Sense) (constant : Option Number) (objective : Option ObjectiveParts) (rows : List (Vec ℕ × RowParts)) (columns : List (Vec ℕ × ColumnParts))
     (made : IsMade (draft_from sense constant objective rows columns)) where
-  pub legal_rows : (order : List ℕ) (ordered : List (Vec ℕ × RowParts)) → IsOnce (each_part bytes form_of rows) → AreOrdered rows order ordered → All (λ row. IsMpsName row.0.items) ordered
+  pub legal_rows : (order : List ℕ) (ordered : List (Vec ℕ × RowParts)) → IsOnce (each_part bytes definition_of rows) → AreOrdered rows order ordered → All (λ row. IsMpsName row.0.items) ordered
   legal_rows order ordered once o =
       let good = good-from_made (draft_from sense constant objective rows columns) made in
       subst (All (λ row. IsMpsName row.0.items)) (sym o.are)
-      (all-from_each (λ row. IsMpsName row.0.items) (taken rows order)
-      (legal-each form_of _ (taken rows order) (λ e h. first_so (is_mps_name e.0) _ h)
-      (ap (list_all _) (ordered_parts form_of rows order once o.permuted o.sorted) ∙ good.rows)))
+      (all-from_each (λ row. IsMpsName row.0.items) (entries_at rows order)
+      (legal-each definition_of _ (entries_at rows order) (λ e h. first_so (is_mps_name e.0) _ h)
+      (ap (list_all _) (ordered_parts definition_of rows order once o.permuted o.sorted) ∙ good.rows)))
 
 -- what holds of each name that stands at an index
 named_each : {V : Type 0} (P : List ℕ → Type 0) (es : List (Vec ℕ × V)) → ((i : ℕ) (name : List ℕ) → entry_name es i ≡ Some name → P name) → Each (λ e. P e.0.items) es
@@ -87,7 +87,7 @@ apart_rows o (e ∷ rows) h = (
   apart_rows o rows (λ i d is same. h (suc i) d is same),
 )
 
-pub objective_says : (o : ObjectiveParts) (rows : List (Vec ℕ × RowParts)) → TellsApart (number_name (Some o) rows) → at_name (sorted_of bytes_cmp (objective_rhs (Some o) ++ given_parts bytes rhs_of rows)) o.name ≡ o.rhs
+pub objective_says : (o : ObjectiveParts) (rows : List (Vec ℕ × RowParts)) → TellsApart (name_of_row_key (Some o) rows) → at_name (sorted_of bytes_cmp (objective_rhs (Some o) ++ given_parts bytes rhs_of rows)) o.name ≡ o.rhs
 objective_says o rows apart =
     let given = given_parts bytes rhs_of rows in
     let none : find bytes_cmp o.name given ≡ None = no_part-found rhs_of o.name rows
@@ -98,7 +98,7 @@ objective_says o rows apart =
       | Some value ↦ ap (λ (b : Bool). or_else (cond b (Some value) None) (find bytes_cmp o.name given)) (name_tied o.name o.name refl)
     ]
 
-pub constant_is : (sense : Option Sense) (constant : Option Number) (objective : Option ObjectiveParts) (rows : List (Vec ℕ × RowParts)) (columns : List (Vec ℕ × ColumnParts)) → is_some objective ≡ true → TellsApart (number_name objective rows)
+pub constant_is : (sense : Option Sense) (constant : Option Number) (objective : Option ObjectiveParts) (rows : List (Vec ℕ × RowParts)) (columns : List (Vec ℕ × ColumnParts)) → is_some objective ≡ true → TellsApart (name_of_row_key objective rows)
     → unwrap_or constant (negated (unwrap_or (rhs_in objective) zero_number)) ≡ constant_of (draft_from sense constant objective rows columns)
 constant_is sense constant None rows columns there apart = cc
 constant_is sense constant (Some o) rows columns there apart = ap (λ (r : Option Number). unwrap_or constant (negated (unwrap_or r zero_number))) (sym (objective_says o rows apart))
@@ -106,7 +106,7 @@ constant_is sense constant (Some o) rows columns there apart = ap (λ (r : Optio
 -- ---- the order of entries, as it is told
 
 pub ordered_from : {V : Type 0} (told entries : List (Vec ℕ × V)) (order : List ℕ) (ordered : List (Vec ℕ × V)) → told ≡ entries → IsPermutation (range_with_len 0 (length told)) order
-    → IsSortedBy (λ n k. is_lt (bytes_cmp (name_at told n) (name_at told k))) order → ordered ≡ taken told order → AreOrdered entries order ordered
+    → IsSortedBy (λ n k. is_lt (bytes_cmp (name_at told n) (name_at told k))) order → ordered ≡ entries_at told order → AreOrdered entries order ordered
 ordered_from told entries order ordered is permuted sorted are = subst (λ (es : List (Vec ℕ × _)). AreOrdered es order ordered) is (record { permuted = permuted; sorted = sorted; are = are })
 
 module _ (rows : List (Vec ℕ × RowParts)) (order : List ℕ) (ordered : List (Vec ℕ × RowParts)) (o : AreOrdered rows order ordered) where
@@ -120,6 +120,6 @@ module _ (rows : List (Vec ℕ × RowParts)) (order : List ℕ) (ordered : List 
   apart_of = order_apart (length rows) order o.permuted
 
 -- an objective that is there has a name
-pub named_there : (objective : Option ObjectiveParts) → is_some objective ≡ true → is_some (objective_name objective) ≡ true
+pub named_there : (objective : Option ObjectiveParts) → is_some objective ≡ true → is_some (name_of_objective objective) ≡ true
 named_there None h = cc
 named_there (Some o) h = refl

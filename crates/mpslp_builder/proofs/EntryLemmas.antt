@@ -10,7 +10,7 @@ use Rattle.std.specs.FinMap.{find, put, is_sorted}
 use Rattle.std.specs.FinMap.Entries.{find-put, same_entries, below_all}
 use Rattle.mpslp_types.proofs.BoolLemmas.{both_so, or_left, or_right, T_from, true_from}
 use Rattle.mpslp_types.proofs.EachLemmas.{Each, Each-weaker}
-use Rattle.mpslp_core.proofs.PutsLemmas.{equal_from, puts, is_sorted-puts, puts-give, finds_own, some_append_left, some_append_right}
+use Rattle.mpslp_model_core.proofs.PutsLemmas.{equal_from, puts, is_sorted-puts, puts-give, finds_own, some_append_left, some_append_right}
 
 -- the first if it is there, else the second
 abbrev pub first_there : {X : Type 0} → Option X → Option X → Option X

@@ -7,10 +7,10 @@ use Rattle.std.specs.Cmp.{first_so, second_so}
 use Rattle.std.specs.Ordering.{eq_by_cmp}
 use Rattle.mpslp_decimal.specs.Decimal.{Number}
 use Rattle.mpslp_types.specs.Name.{bytes_cmp}
-use Rattle.mpslp_builder.specs.Declaration.{RowForm, Draft, at_name, names_in}
-use Rattle.mpslp_core.specs.Limits.{limits_of, has_infinite_rhs, is_inexact, is_too_large, is_crossed}
+use Rattle.mpslp_builder.specs.Declaration.{RowDefinition, Draft, at_name, names_in}
+use Rattle.mpslp_model_core.specs.Limits.{limits_of, has_infinite_rhs, is_inexact, is_too_large, is_crossed}
 use Rattle.mpslp_builder.specs.Bounds.{has_negative_upper, has_crossed_bounds, has_binary_bounds, has_semi_bounds}
-use Rattle.mpslp_core.specs.Lists.{is_nonempty, head_of}
+use Rattle.mpslp_model_core.specs.Lists.{is_nonempty, head_of}
 use Rattle.mpslp_builder.specs.Meaning.{whole_fault, row_passes, rows_where, names_with, named_faults, file_fault}
 use Rattle.mpslp_types.specs.declared.faults.Fault.{Fault}
 use Rattle.mpslp_types.specs.declared.faults.FaultKind.{FaultKind}
@@ -19,7 +19,7 @@ use Rattle.mpslp_types.specs.declared.faults.FaultKind.TheVariants.{NoColumns, I
 -- ---- the tests of the kinds
 
 -- no row passes the test, and no column
-abbrev pub passes_rows : Draft → (RowForm → Number → Option Number → Bool) → Bool
+abbrev pub passes_rows : Draft → (RowDefinition → Number → Option Number → Bool) → Bool
 passes_rows all test = list_all (λ row. not (row_passes all test row)) all.rows
 
 abbrev pub passes_columns : Draft → (Draft → List ℕ → Bool) → Bool
@@ -29,9 +29,9 @@ passes_columns all test = list_all (λ name. not (test all name)) (names_in all.
 pub record HasNoFault (all : Draft) : Type 0 where
   pub column : is_nonempty all.columns ≡ true
   pub rhs_values : passes_rows all has_infinite_rhs ≡ true
-  pub exact : passes_rows all (λ form b r. is_inexact (limits_of form b r)) ≡ true
-  pub small : passes_rows all (λ form b r. is_too_large (limits_of form b r)) ≡ true
-  pub straight : passes_rows all (λ form b r. is_crossed (limits_of form b r)) ≡ true
+  pub exact : passes_rows all (λ definition b r. is_inexact (limits_of definition b r)) ≡ true
+  pub small : passes_rows all (λ definition b r. is_too_large (limits_of definition b r)) ≡ true
+  pub straight : passes_rows all (λ definition b r. is_crossed (limits_of definition b r)) ≡ true
   pub no_negative_upper : passes_columns all has_negative_upper ≡ true
   pub bounds : passes_columns all has_crossed_bounds ≡ true
   pub binary : passes_columns all has_binary_bounds ≡ true
@@ -91,10 +91,10 @@ later all kind more h = first_right (fault_of all kind) (faults_from all more) h
 add : (all : Draft) (kind : FaultKind) (more : List FaultKind) → names_with all kind ≡ [] → head_of (faults_from all more) ≡ None → head_of (faults_from all (kind ∷ more)) ≡ None
 add all kind more h k = first_join (fault_of all kind) (faults_from all more) (ap (λ (names : List (List ℕ)). option_map (told kind) (head_of names)) h) k
 
-rows_pass : (all : Draft) (test : RowForm → Number → Option Number → Bool) → rows_where all test ≡ [] → passes_rows all test ≡ true
-rows_pass all test h = none_filtered (row_passes all test) all.rows (none_mapped (λ (entry : List ℕ × RowForm). entry.0) _ h)
+rows_pass : (all : Draft) (test : RowDefinition → Number → Option Number → Bool) → rows_where all test ≡ [] → passes_rows all test ≡ true
+rows_pass all test h = none_filtered (row_passes all test) all.rows (none_mapped (λ (entry : List ℕ × RowDefinition). entry.0) _ h)
 
-pass_rows : (all : Draft) (test : RowForm → Number → Option Number → Bool) → passes_rows all test ≡ true → rows_where all test ≡ []
+pass_rows : (all : Draft) (test : RowDefinition → Number → Option Number → Bool) → passes_rows all test ≡ true → rows_where all test ≡ []
 pass_rows all test h = ap names_in (filtered_none (row_passes all test) all.rows h)
 
 test_of : {X : Type 0} (b : Bool) (x : X) (o : Option X) → cond b o (Some x) ≡ None → b ≡ true
@@ -128,9 +128,9 @@ no_fault-from_none all h =
     record {
       column = test_of there none (head_of (named_faults all)) h;
       rhs_values = rows_pass all has_infinite_rhs (here all InfiniteLimit k2 h1);
-      exact = rows_pass all (λ form b r. is_inexact (limits_of form b r)) (here all RangeInexact k3 h2);
-      small = rows_pass all (λ form b r. is_too_large (limits_of form b r)) (here all LimitTooLarge k4 h3);
-      straight = rows_pass all (λ form b r. is_crossed (limits_of form b r)) (here all LimitsCrossed k5 h4);
+      exact = rows_pass all (λ definition b r. is_inexact (limits_of definition b r)) (here all RangeInexact k3 h2);
+      small = rows_pass all (λ definition b r. is_too_large (limits_of definition b r)) (here all LimitTooLarge k4 h3);
+      straight = rows_pass all (λ definition b r. is_crossed (limits_of definition b r)) (here all LimitsCrossed k5 h4);
       no_negative_upper = none_filtered (has_negative_upper all) (names_in all.columns) (here all NegativeUpper k6 h5);
       bounds = none_filtered (has_crossed_bounds all) (names_in all.columns) (here all BoundsCrossed k7 h6);
       binary = none_filtered (has_binary_bounds all) (names_in all.columns) (here all BinaryBounds k8 h7);
@@ -149,9 +149,9 @@ none-from_no_fault all f =
     let k2 = RangeInexact ∷ k3 in
     ap (λ (b : Bool). cond b (head_of (named_faults all)) (Some (whole_fault NoColumns None))) f.column
     ∙ add all InfiniteLimit k2 (pass_rows all has_infinite_rhs f.rhs_values)
-    (add all RangeInexact k3 (pass_rows all (λ form b r. is_inexact (limits_of form b r)) f.exact)
-    (add all LimitTooLarge k4 (pass_rows all (λ form b r. is_too_large (limits_of form b r)) f.small)
-    (add all LimitsCrossed k5 (pass_rows all (λ form b r. is_crossed (limits_of form b r)) f.straight)
+    (add all RangeInexact k3 (pass_rows all (λ definition b r. is_inexact (limits_of definition b r)) f.exact)
+    (add all LimitTooLarge k4 (pass_rows all (λ definition b r. is_too_large (limits_of definition b r)) f.small)
+    (add all LimitsCrossed k5 (pass_rows all (λ definition b r. is_crossed (limits_of definition b r)) f.straight)
     (add all NegativeUpper k6 (filtered_none (has_negative_upper all) (names_in all.columns) f.no_negative_upper)
     (add all BoundsCrossed k7 (filtered_none (has_crossed_bounds all) (names_in all.columns) f.bounds)
     (add all BinaryBounds k8 (filtered_none (has_binary_bounds all) (names_in all.columns) f.binary)

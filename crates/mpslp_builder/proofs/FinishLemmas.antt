@@ -16,25 +16,25 @@ use Rattle.mpslp_types.specs.declared.kinds.Sense.TheVariants.{Minimize}
 use Rattle.mpslp_types.specs.declared.kinds.RowType.TheVariants.{Free}
 use Rattle.mpslp_types.proofs.BoolLemmas.{true_from, both_so}
 use Rattle.mpslp_types.proofs.EachLemmas.{Each, Each-weaker, Each-map, Each-from_list_all}
-use Rattle.mpslp_core.specs.Model.{key_cmp, IsSound}
-use Rattle.mpslp_core.specs.Limits.{plain_limits}
-use Rattle.mpslp_core.specs.ModelParts.{linear_model, AreModelParts, columns_in}
-use Rattle.mpslp_core.specs.ModelParts as parts
-use Rattle.mpslp_core.specs.Numbered.{sorted_of, each_part, all_cells, all_named, is_kept, moved_cells, IsOnce}
-use Rattle.mpslp_core.specs.declared.model.ModelParts.{ModelParts}
-use Rattle.mpslp_core.proofs.SortedLemmas.{is_sorted-sorted_of}
-use Rattle.mpslp_core.proofs.OnceLemmas.{is_sorted-filter}
-use Rattle.mpslp_core.proofs.MovingLemmas.{each-kept}
+use Rattle.mpslp_model_core.specs.Model.{key_cmp, IsSound}
+use Rattle.mpslp_model_core.specs.Limits.{plain_limits}
+use Rattle.mpslp_model_core.specs.ModelParts.{linear_model, AreModelParts, columns_in}
+use Rattle.mpslp_model_core.specs.ModelParts as parts
+use Rattle.mpslp_model_core.specs.Numbered.{sorted_of, each_part, all_cells, all_named, is_kept, moved_cells, IsOnce}
+use Rattle.mpslp_model_core.specs.declared.model.ModelParts.{ModelParts}
+use Rattle.mpslp_model_core.proofs.SortedLemmas.{is_sorted-sorted_of}
+use Rattle.mpslp_model_core.proofs.OnceLemmas.{is_sorted-filter}
+use Rattle.mpslp_model_core.proofs.MovingLemmas.{each-kept}
 use Rattle.mpslp_builder.specs.Declaration.{Draft}
 use Rattle.mpslp_builder.specs.Made.{IsMade}
 use Rattle.mpslp_builder.specs.Bounds.{column_of}
 use Rattle.mpslp_builder.specs.Meaning.{objective_name, constant_of, row_limits, row_entry, model_of, file_fault, DraftMeans}
-use Rattle.mpslp_builder.specs.Tables.{bytes, form_of, cells_of, no_part, number_name, cells_by_name, draft_from, AreNumbered}
-use Rattle.mpslp_numbered.specs.Ordered.{taken}
-use Rattle.mpslp_numbered.specs.Parts.{moved_in}
-use Rattle.mpslp_numbered.specs.declared.parts.ObjectiveParts.{ObjectiveParts}
-use Rattle.mpslp_numbered.specs.declared.parts.RowParts.{RowParts}
-use Rattle.mpslp_numbered.specs.declared.parts.ColumnParts.{ColumnParts}
+use Rattle.mpslp_builder.specs.Tables.{bytes, definition_of, cells_of, no_part, name_of_row_key, cells_by_name, draft_from, AreNumbered}
+use Rattle.mpslp_builder_parts.specs.Ordered.{entries_at}
+use Rattle.mpslp_builder_parts.specs.Parts.{moved_in}
+use Rattle.mpslp_builder_parts.specs.declared.parts.ObjectiveParts.{ObjectiveParts}
+use Rattle.mpslp_builder_parts.specs.declared.parts.RowParts.{RowParts}
+use Rattle.mpslp_builder_parts.specs.declared.parts.ColumnParts.{ColumnParts}
 use Rattle.mpslp_builder.proofs.MadeDrafts.{meant-from_made}
 use Rattle.mpslp_builder.proofs.SortedDrafts.{sorted-from_made}
 use Rattle.mpslp_builder.proofs.MeaningFromNoFault.{sorted-mapped}
@@ -49,7 +49,7 @@ pub record AreMeantParts (all : Draft) (m : ModelParts) : Type 0 where
   pub constant : m.constant ≡ constant_of all
   pub rows : m.rows.items ≡ map (row_entry all) all.rows
   pub columns : columns_in m ≡ map (λ column. (column.0, column_of all column.0)) all.columns
-  pub coefficients : sorted_of key_cmp (all_cells (parts.number_name m) (parts.cells_by_name m)) ≡ filter is_kept all.coefficients
+  pub coefficients : sorted_of key_cmp (all_cells (parts.name_of_row_key m) (parts.cells_by_name m)) ≡ filter is_kept all.coefficients
 
 pub meant_model : (all : Draft) (m : ModelParts) → AreMeantParts all m → linear_model m ≡ model_of all
 meant_model all m p = λ i. record {
@@ -64,7 +64,7 @@ meant_model all m p = λ i. record {
 -- The cells of a model stand in the order of numbers, and each number is a row's.
 pub record AreCells (m : ModelParts) : Type 0 where
   pub sorted : list_all (λ c. is_sorted nat_cmp c.1) (parts.cells_by_name m) ≡ true
-  pub named : all_named (parts.number_name m) (parts.cells_by_name m) ≡ true
+  pub named : all_named (parts.name_of_row_key m) (parts.cells_by_name m) ≡ true
 
 pub meant_parts : (all : Draft) (m : ModelParts) → IsMade all → is_some all.objective ≡ true → file_fault all ≡ None → AreMeantParts all m → AreCells m → AreModelParts m
 meant_parts all m made there none p cells =
@@ -110,45 +110,45 @@ module _ (objective : Option ObjectiveParts) (rows : List (Vec ℕ × RowParts))
   all_sorted [] = refl
   all_sorted (c ∷ cs) = both_so (is_sorted nat_cmp (moved_in f.ranks c.1)) (list_all (λ c. is_sorted nat_cmp c.1) (each_part bytes (moved_in f.ranks) cs)) (moved_sorted f.ranks c.1.cells) (all_sorted cs)
 
-  moved_named : (cells : List (ℕ × Number)) → list_all (λ e. is_some (number_name objective rows e.0)) cells ≡ true → list_all (λ e. is_some (parts.number_name m e.0)) (moved_cells f.ranks cells) ≡ true
+  moved_named : (cells : List (ℕ × Number)) → list_all (λ e. is_some (name_of_row_key objective rows e.0)) cells ≡ true → list_all (λ e. is_some (parts.name_of_row_key m e.0)) (moved_cells f.ranks cells) ≡ true
   moved_named cells h =
-      let P : ℕ → Type 0 = λ k. is_some (parts.number_name m k) ≡ true in
+      let P : ℕ → Type 0 = λ k. is_some (parts.name_of_row_key m k) ≡ true in
       let all = map (λ e. (slice_index f.ranks e.0, e.1)) cells in
-      all-from (λ e. is_some (parts.number_name m e.0)) (moved_cells f.ranks cells)
+      all-from (λ e. is_some (parts.name_of_row_key m e.0)) (moved_cells f.ranks cells)
       (each-kept (λ e. P e.0) (sorted_of nat_cmp all)
       (each-sorted_of P all
       (Each-map (λ e. P e.0) (λ e. (slice_index f.ranks e.0, e.1)) cells
-      (Each-weaker (λ e. is_some (number_name objective rows e.0) ≡ true) (λ e. P (slice_index f.ranks e.0))
-      (λ e there. still_named e.0 there) cells (Each-from_list_all (λ e. is_some (number_name objective rows e.0)) cells h)))))
+      (Each-weaker (λ e. is_some (name_of_row_key objective rows e.0) ≡ true) (λ e. P (slice_index f.ranks e.0))
+      (λ e there. still_named e.0 there) cells (Each-from_list_all (λ e. is_some (name_of_row_key objective rows e.0)) cells h)))))
     where
-      still_named : (k : ℕ) → is_some (number_name objective rows k) ≡ true → is_some (parts.number_name m (slice_index f.ranks k)) ≡ true
+      still_named : (k : ℕ) → is_some (name_of_row_key objective rows k) ≡ true → is_some (parts.name_of_row_key m (slice_index f.ranks k)) ≡ true
       still_named k there =
-          elim (number_name objective rows k) as (λ o. number_name objective rows k ≡ o → is_some o ≡ true → is_some (parts.number_name m (slice_index f.ranks k)) ≡ true) [
+          elim (name_of_row_key objective rows k) as (λ o. name_of_row_key objective rows k ≡ o → is_some o ≡ true → is_some (parts.name_of_row_key m (slice_index f.ranks k)) ≡ true) [
             | None ↦ λ _ never. cc
             | Some r ↦ λ is _. ap is_some (keeps objective rows columns m f k r is)
           ] refl there
 
-  each_named : (cs : List (Vec ℕ × ColumnParts)) → all_named (number_name objective rows) (cells_by_name cs) ≡ true → Each (λ c. list_all (λ e. is_some (parts.number_name m e.0)) (moved_in f.ranks c.1) ≡ true) cs
+  each_named : (cs : List (Vec ℕ × ColumnParts)) → all_named (name_of_row_key objective rows) (cells_by_name cs) ≡ true → Each (λ c. list_all (λ e. is_some (parts.name_of_row_key m e.0)) (moved_in f.ranks c.1) ≡ true) cs
   each_named [] h = tt
   each_named (c ∷ cs) h =
-      let here = list_all (λ e. is_some (number_name objective rows e.0)) (cells_of c.1) in
-      let rest = all_named (number_name objective rows) (cells_by_name cs) in
+      let here = list_all (λ e. is_some (name_of_row_key objective rows e.0)) (cells_of c.1) in
+      let rest = all_named (name_of_row_key objective rows) (cells_by_name cs) in
       (moved_named (cells_of c.1) (first_so here rest h), each_named cs (second_so here rest h))
 
-  all_named-from : (cs : List (Vec ℕ × ColumnParts)) → Each (λ c. list_all (λ e. is_some (parts.number_name m e.0)) (moved_in f.ranks c.1) ≡ true) cs → all_named (parts.number_name m) (each_part bytes (moved_in f.ranks) cs) ≡ true
+  all_named-from : (cs : List (Vec ℕ × ColumnParts)) → Each (λ c. list_all (λ e. is_some (parts.name_of_row_key m e.0)) (moved_in f.ranks c.1) ≡ true) cs → all_named (parts.name_of_row_key m) (each_part bytes (moved_in f.ranks) cs) ≡ true
   all_named-from [] h = refl
-  all_named-from (c ∷ cs) h = both_so (list_all (λ e. is_some (parts.number_name m e.0)) (moved_in f.ranks c.1)) (all_named (parts.number_name m) (each_part bytes (moved_in f.ranks) cs)) h.0 (all_named-from cs h.1)
+  all_named-from (c ∷ cs) h = both_so (list_all (λ e. is_some (parts.name_of_row_key m e.0)) (moved_in f.ranks c.1)) (all_named (parts.name_of_row_key m) (each_part bytes (moved_in f.ranks) cs)) h.0 (all_named-from cs h.1)
 
   pub finished_cells : AreNumbered objective rows columns → AreCells m
   finished_cells n = record {
-    sorted = ap (list_all (λ c. is_sorted nat_cmp c.1)) f.cells_are ∙ all_sorted (taken columns f.column_order);
-    named = ap (all_named (parts.number_name m)) f.cells_are
-        ∙ all_named-from (taken columns f.column_order)
-        (each-ordered (λ c. list_all (λ e. is_some (parts.number_name m e.0)) (moved_in f.ranks c.1) ≡ true) columns f.column_order f.columns_permuted (each_named columns n.named));
+    sorted = ap (list_all (λ c. is_sorted nat_cmp c.1)) f.cells_are ∙ all_sorted (entries_at columns f.column_order);
+    named = ap (all_named (parts.name_of_row_key m)) f.cells_are
+        ∙ all_named-from (entries_at columns f.column_order)
+        (each-ordered (λ c. list_all (λ e. is_some (parts.name_of_row_key m e.0)) (moved_in f.ranks c.1) ≡ true) columns f.column_order f.columns_permuted (each_named columns n.named));
   }
 
   -- what tables that are put into order are in the model
-  pub finished_parts : (sense : Option Sense) (constant : Option Number) → AreNumbered objective rows columns → IsOnce (each_part bytes form_of rows) → IsOnce (each_part bytes no_part columns)
+  pub finished_parts : (sense : Option Sense) (constant : Option Number) → AreNumbered objective rows columns → IsOnce (each_part bytes definition_of rows) → IsOnce (each_part bytes no_part columns)
       → m.sense ≡ unwrap_or sense Minimize → m.constant ≡ constant_of (draft_from sense constant objective rows columns) → AreMeantParts (draft_from sense constant objective rows columns) m
   finished_parts sense constant n rows_once columns_once is_sense is_constant =
       let d = draft_from sense constant objective rows columns in
@@ -157,10 +157,10 @@ module _ (objective : Option ObjectiveParts) (rows : List (Vec ℕ × RowParts))
         objective = sym (ap (λ (o : Option (List ℕ)). unwrap_or o []) f.objective_is);
         constant = is_constant;
         rows = f.rows_are
-            ∙ rows_meant d (taken rows f.row_order) (each-ordered (SaysRow d) rows f.row_order f.rows_permuted (rows_say sense constant objective rows columns n.apart rows_once))
-            ∙ ap (map (row_entry d)) (ordered_parts form_of rows f.row_order rows_once f.rows_permuted f.rows_sorted);
+            ∙ rows_meant d (entries_at rows f.row_order) (each-ordered (SaysRow d) rows f.row_order f.rows_permuted (rows_say sense constant objective rows columns n.apart rows_once))
+            ∙ ap (map (row_entry d)) (ordered_parts definition_of rows f.row_order rows_once f.rows_permuted f.rows_sorted);
         columns = f.bounds_are
-            ∙ columns_meant d (taken columns f.column_order) (each-ordered (SaysColumn d) columns f.column_order f.columns_permuted (columns_say columns columns_once sense constant objective rows))
+            ∙ columns_meant d (entries_at columns f.column_order) (each-ordered (SaysColumn d) columns f.column_order f.columns_permuted (columns_say columns columns_once sense constant objective rows))
             ∙ ap (map (λ column. (column.0, column_of d column.0))) (ordered_parts no_part columns f.column_order columns_once f.columns_permuted f.columns_sorted);
         coefficients = coefficients_are objective rows columns m f n columns_once;
       }

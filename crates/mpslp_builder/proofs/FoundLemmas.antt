@@ -15,28 +15,28 @@ use Rattle.std.proofs.lemmas.List.{drop_more}
 use Rattle.mpslp_decimal.specs.Decimal.{Number, zero_number}
 use Rattle.mpslp_types.specs.Name.{bytes_cmp}
 use Rattle.mpslp_types.proofs.BoolLemmas.{both_so, nor, true_from, T_from}
-use Rattle.mpslp_core.specs.Limits.{RowForm, limits_of, has_infinite_rhs, is_inexact, is_too_large, is_crossed}
-use Rattle.mpslp_core.specs.Columns.{is_negative_upper, are_crossed_bounds, are_no_binary_bounds, are_no_semi_bounds}
-use Rattle.mpslp_core.specs.Lists.{head_of, is_nonempty}
-use Rattle.mpslp_core.specs.Numbered.{sorted_of, each_part, IsOnce}
-use Rattle.mpslp_core.specs.declared.limits.RowFault.{RowFault}
-use Rattle.mpslp_core.specs.declared.limits.RowFault.TheVariants as rows
-use Rattle.mpslp_core.specs.declared.bounds.ColumnFault.{ColumnFault}
-use Rattle.mpslp_core.specs.declared.bounds.ColumnFault.TheVariants as columns
-use Rattle.mpslp_core.proofs.KeyLemmas.{bytes_total}
-use Rattle.mpslp_core.proofs.SortedLemmas.{find-sorted_of, is_sorted-sorted_of}
+use Rattle.mpslp_model_core.specs.Limits.{RowDefinition, limits_of, has_infinite_rhs, is_inexact, is_too_large, is_crossed}
+use Rattle.mpslp_model_core.specs.Columns.{is_negative_upper, are_crossed_bounds, are_no_binary_bounds, are_no_semi_bounds}
+use Rattle.mpslp_model_core.specs.Lists.{head_of, is_nonempty}
+use Rattle.mpslp_model_core.specs.Numbered.{sorted_of, each_part, IsOnce}
+use Rattle.mpslp_model_core.specs.declared.limits.RowFault.{RowFault}
+use Rattle.mpslp_model_core.specs.declared.limits.RowFault.TheVariants as rows
+use Rattle.mpslp_model_core.specs.declared.bounds.ColumnFault.{ColumnFault}
+use Rattle.mpslp_model_core.specs.declared.bounds.ColumnFault.TheVariants as columns
+use Rattle.mpslp_model_core.proofs.KeyLemmas.{bytes_total}
+use Rattle.mpslp_model_core.proofs.SortedLemmas.{find-sorted_of, is_sorted-sorted_of}
 use Rattle.mpslp_builder.specs.Declaration.{Draft, names_in, has_name, is_objective}
 use Rattle.mpslp_builder.specs.Bounds.{declared_of}
 use Rattle.mpslp_builder.specs.Meaning.{whole_fault, row_passes, named_faults, file_fault}
-use Rattle.mpslp_builder.specs.Tables.{bytes, form_of, no_part, cells_of, draft, IsNumbered}
+use Rattle.mpslp_builder.specs.Tables.{bytes, definition_of, no_part, cells_of, draft, IsNumbered}
 use Rattle.mpslp_builder.specs.Calls.{IsOnceEach}
-use Rattle.mpslp_builder.specs.FaultFound.{row_test, bounds_test, kind_of_row_fault, kind_of_column_fault, row_fails, column_fails, is_wrong_row, is_wrong_column, declared_in, lesser, is_below, least_name, entry_name, named, HaveLegalNames}
-use Rattle.mpslp_numbered.specs.declared.parts.RowParts.{RowParts}
-use Rattle.mpslp_numbered.specs.declared.parts.ColumnParts.{ColumnParts}
+use Rattle.mpslp_builder.specs.FaultFound.{row_test, bounds_test, kind_of_row_fault, kind_of_column_fault, row_fails, column_fails, is_wrong_row, is_wrong_column, declared_in, lesser, is_below, least_name, entry_name, named_fault, HaveLegalNames}
+use Rattle.mpslp_builder_parts.specs.declared.parts.RowParts.{RowParts}
+use Rattle.mpslp_builder_parts.specs.declared.parts.ColumnParts.{ColumnParts}
 use Rattle.mpslp_builder.specs.declared.tables.Tables.{Tables}
 use Rattle.mpslp_types.specs.declared.faults.FaultKind.{FaultKind}
 use Rattle.mpslp_types.specs.declared.faults.FaultKind.TheVariants as kinds
-use Rattle.mpslp_core.proofs.CellLemmas.{or_else}
+use Rattle.mpslp_model_core.proofs.CellLemmas.{or_else}
 use Rattle.mpslp_types.specs.declared.kinds.Sense.{Sense}
 use Rattle.mpslp_builder.specs.Made.{IsMade}
 use Rattle.mpslp_builder.proofs.AnswerLemmas.{row_is_legal, column_is_legal}
@@ -194,38 +194,38 @@ module _ {V : Type 0} (test : V → Bool) (es : List (Vec ℕ × V)) (i : ℕ) (
 
 -- a row with which nothing is wrong
 pub faultless_row : (fault : RowFault) (row : RowParts) → is_wrong_row row ≡ false → row_fails fault row ≡ false
-faultless_row fault row h = faultless fault row.form (unwrap_or row.rhs zero_number) row.range h
+faultless_row fault row h = faultless fault row.definition (unwrap_or row.rhs zero_number) row.range h
   where
-    faultless : (fault : RowFault) (form : RowForm) (b : Number) (r : Option Number) → (has_infinite_rhs form b r || (is_inexact (limits_of form b r) || (is_too_large (limits_of form b r) || is_crossed (limits_of form b r)))) ≡ false → row_test fault form b r ≡ false
-    faultless fault form b r h =
-        let limits = limits_of form b r in
-        let first = nor (has_infinite_rhs form b r) (is_inexact limits || (is_too_large limits || is_crossed limits)) h in
+    faultless : (fault : RowFault) (definition : RowDefinition) (b : Number) (r : Option Number) → (has_infinite_rhs definition b r || (is_inexact (limits_of definition b r) || (is_too_large (limits_of definition b r) || is_crossed (limits_of definition b r)))) ≡ false → row_test fault definition b r ≡ false
+    faultless fault definition b r h =
+        let limits = limits_of definition b r in
+        let first = nor (has_infinite_rhs definition b r) (is_inexact limits || (is_too_large limits || is_crossed limits)) h in
         let second = nor (is_inexact limits) (is_too_large limits || is_crossed limits) first.1 in
         let third = nor (is_too_large limits) (is_crossed limits) second.1 in
         by fault first.0 second.0 third.0 third.1
       where
-        by : (f : RowFault) → has_infinite_rhs form b r ≡ false → is_inexact (limits_of form b r) ≡ false → is_too_large (limits_of form b r) ≡ false
-            → is_crossed (limits_of form b r) ≡ false → row_test f form b r ≡ false
+        by : (f : RowFault) → has_infinite_rhs definition b r ≡ false → is_inexact (limits_of definition b r) ≡ false → is_too_large (limits_of definition b r) ≡ false
+            → is_crossed (limits_of definition b r) ≡ false → row_test f definition b r ≡ false
         by rows.InfiniteLimit i e t x = i
         by rows.RangeInexact i e t x = e
         by rows.LimitTooLarge i e t x = t
         by rows.LimitsCrossed i e t x = x
 
-of_row : (all : Draft) (fault : RowFault) → named all (kind_of_row_fault fault)
+of_row : (all : Draft) (fault : RowFault) → named_fault all (kind_of_row_fault fault)
     ≡ option_map (λ name. whole_fault (kind_of_row_fault fault) (Some name)) (head_of (names_in (filter (row_passes all (row_test fault)) all.rows)))
 of_row all rows.InfiniteLimit = refl
 of_row all rows.RangeInexact = refl
 of_row all rows.LimitTooLarge = refl
 of_row all rows.LimitsCrossed = refl
 
-pub row_named : (t : Tables) → IsNumbered t → IsOnceEach t → (fault : RowFault) → named (draft None None t) (kind_of_row_fault fault)
+pub row_named : (t : Tables) → IsNumbered t → IsOnceEach t → (fault : RowFault) → named_fault (draft None None t) (kind_of_row_fault fault)
     ≡ option_map (λ name. whole_fault (kind_of_row_fault fault) (Some name)) (least_name (row_fails fault) t.rows.entries)
 row_named t numbered once fault =
     let all = draft None None t in
     of_row all fault
     ∙ ap (option_map (λ (name : List ℕ). whole_fault (kind_of_row_fault fault) (Some name)))
-    (least_is_first form_of (row_passes all (row_test fault)) (row_fails fault) t.rows.entries once.rows
-    (λ i k row is. row_parts_at None None t once numbered i k row is (λ form rhs range. row_test fault form (unwrap_or rhs zero_number) range)))
+    (least_is_first definition_of (row_passes all (row_test fault)) (row_fails fault) t.rows.entries once.rows
+    (λ i k row is. row_parts_at None None t once numbered i k row is (λ definition rhs range. row_test fault definition (unwrap_or rhs zero_number) range)))
 
 -- ---- columns
 
@@ -252,14 +252,14 @@ filter-map p f (x ∷ xs) =
       | false ↦ filter-map p f xs
     ]
 
-of_column : (all : Draft) (fault : ColumnFault) → named all (kind_of_column_fault fault)
+of_column : (all : Draft) (fault : ColumnFault) → named_fault all (kind_of_column_fault fault)
     ≡ option_map (λ name. whole_fault (kind_of_column_fault fault) (Some name)) (head_of (names_in (filter (λ column. bounds_test fault (declared_of all column.0)) all.columns)))
 of_column all columns.NegativeUpper = ap (λ (names : List (List ℕ)). option_map (λ name. whole_fault (kind_of_column_fault columns.NegativeUpper) (Some name)) (head_of names)) (filter-map (λ name. bounds_test columns.NegativeUpper (declared_of all name)) (λ column. column.0) all.columns)
 of_column all columns.BoundsCrossed = ap (λ (names : List (List ℕ)). option_map (λ name. whole_fault (kind_of_column_fault columns.BoundsCrossed) (Some name)) (head_of names)) (filter-map (λ name. bounds_test columns.BoundsCrossed (declared_of all name)) (λ column. column.0) all.columns)
 of_column all columns.BinaryBounds = ap (λ (names : List (List ℕ)). option_map (λ name. whole_fault (kind_of_column_fault columns.BinaryBounds) (Some name)) (head_of names)) (filter-map (λ name. bounds_test columns.BinaryBounds (declared_of all name)) (λ column. column.0) all.columns)
 of_column all columns.SemiBounds = ap (λ (names : List (List ℕ)). option_map (λ name. whole_fault (kind_of_column_fault columns.SemiBounds) (Some name)) (head_of names)) (filter-map (λ name. bounds_test columns.SemiBounds (declared_of all name)) (λ column. column.0) all.columns)
 
-pub column_named : (t : Tables) → IsOnceEach t → (fault : ColumnFault) → named (draft None None t) (kind_of_column_fault fault)
+pub column_named : (t : Tables) → IsOnceEach t → (fault : ColumnFault) → named_fault (draft None None t) (kind_of_column_fault fault)
     ≡ option_map (λ name. whole_fault (kind_of_column_fault fault) (Some name)) (least_name (column_fails fault) t.columns.entries)
 column_named t once fault =
     let all = draft None None t in
@@ -330,12 +330,12 @@ in_front None None None (Some x) rest = refl
 in_front None None None None rest = refl
 
 pub of_the_whole : (all : Draft) → is_nonempty all.columns ≡ true
-    → file_fault all ≡ or_else (head_of (filter_map (λ fault. named all (kind_of_row_fault fault)) (rows.InfiniteLimit ∷ rows.RangeInexact ∷ rows.LimitTooLarge ∷ rows.LimitsCrossed ∷ [])))
-    (head_of (filter_map (λ fault. named all (kind_of_column_fault fault)) (columns.NegativeUpper ∷ columns.BoundsCrossed ∷ columns.BinaryBounds ∷ columns.SemiBounds ∷ [])))
+    → file_fault all ≡ or_else (head_of (filter_map (λ fault. named_fault all (kind_of_row_fault fault)) (rows.InfiniteLimit ∷ rows.RangeInexact ∷ rows.LimitTooLarge ∷ rows.LimitsCrossed ∷ [])))
+    (head_of (filter_map (λ fault. named_fault all (kind_of_column_fault fault)) (columns.NegativeUpper ∷ columns.BoundsCrossed ∷ columns.BinaryBounds ∷ columns.SemiBounds ∷ [])))
 of_the_whole all some =
     ap (λ (b : Bool). cond b (head_of (named_faults all)) (Some (whole_fault kinds.NoColumns None))) some
-    ∙ in_front (named all kinds.InfiniteLimit) (named all kinds.RangeInexact) (named all kinds.LimitTooLarge) (named all kinds.LimitsCrossed)
-    (filter_map (λ fault. named all (kind_of_column_fault fault)) (columns.NegativeUpper ∷ columns.BoundsCrossed ∷ columns.BinaryBounds ∷ columns.SemiBounds ∷ []))
+    ∙ in_front (named_fault all kinds.InfiniteLimit) (named_fault all kinds.RangeInexact) (named_fault all kinds.LimitTooLarge) (named_fault all kinds.LimitsCrossed)
+    (filter_map (λ fault. named_fault all (kind_of_column_fault fault)) (columns.NegativeUpper ∷ columns.BoundsCrossed ∷ columns.BinaryBounds ∷ columns.SemiBounds ∷ []))
 
 pub of_none : (all : Draft) → is_nonempty all.columns ≡ false → file_fault all ≡ Some (whole_fault kinds.NoColumns None)
 of_none all none = ap (λ (b : Bool). cond b (head_of (named_faults all)) (Some (whole_fault kinds.NoColumns None))) none
@@ -366,6 +366,6 @@ or_so false b h = h
 
 pub legal_names : (sense : Option Sense) (constant : Option Number) (t : Tables) → IsMade (draft sense constant t) → HaveLegalNames t
 legal_names sense constant t made = record {
-  rows = λ i name is. (row_is_legal (draft sense constant t) name made (or_so (is_objective (draft sense constant t) name) _ (name_there form_of t.rows.entries i name is)));
+  rows = λ i name is. (row_is_legal (draft sense constant t) name made (or_so (is_objective (draft sense constant t) name) _ (name_there definition_of t.rows.entries i name is)));
   columns = λ i name is. (column_is_legal (draft sense constant t) name made (name_there no_part t.columns.entries i name is));
 }

@@ -7,8 +7,8 @@ use Rattle.std.specs.FinMap as maps
 use Rattle.std.specs.FinMap.{FinMap, is_sorted}
 use Rattle.std.proofs.Math.Dec.{T}
 use Rattle.mpslp_decimal.specs.Decimal.{is_zero}
-use Rattle.mpslp_core.specs.Model.{LinearModel, Column, is_sound_column}
-use Rattle.mpslp_types.specs.Sides.{is_at_most}
+use Rattle.mpslp_model_core.specs.Model.{LinearModel, Column, is_sound_column}
+use Rattle.mpslp_types.specs.Limit.{is_at_most}
 use Rattle.mpslp_types.specs.declared.kinds.Sense.TheVariants.{Minimize}
 use Rattle.mpslp_types.specs.declared.kinds.Limit.{Limit}
 use Rattle.mpslp_builder.specs.Declaration.{Draft, at_name, has_name, names_in}

@@ -1,17 +1,17 @@
 -- What declarations leave as it is in a draft.
 use Rattle.std.proofs.Common.{◌≡◌, refl, ◌∙◌, [], ◌∷◌}
-use Rattle.mpslp_builder.specs.Declaration.{Declaration, Declarations, Draft, adding, adding_all}
+use Rattle.mpslp_builder.specs.Declaration.{Declaration, Declarations, Draft, with_declaration, with_declarations}
 use Rattle.mpslp_types.proofs.EachLemmas.{Each}
 
 -- a part that has a value keeps it
 abbrev pub Stays : {X : Type 0} → (Draft → X) → X → Declaration → Type 0
-Stays part value d = (all : Draft) → part all ≡ value → part (adding all d) ≡ value
+Stays part value d = (all : Draft) → part all ≡ value → part (with_declaration all d) ≡ value
 
-pub stays-all : {X : Type 0} (part : Draft → X) (value : X) (ds : Declarations) → Each (Stays part value) ds → (all : Draft) → part all ≡ value → part (adding_all all ds) ≡ value
+pub stays-all : {X : Type 0} (part : Draft → X) (value : X) (ds : Declarations) → Each (Stays part value) ds → (all : Draft) → part all ≡ value → part (with_declarations all ds) ≡ value
 stays-all part value [] h all is = is
-stays-all part value (d ∷ ds) h all is = stays-all part value ds h.1 (adding all d) (h.0 all is)
+stays-all part value (d ∷ ds) h all is = stays-all part value ds h.1 (with_declaration all d) (h.0 all is)
 
 -- a part that no declaration changes
-pub kept-all : {X : Type 0} (part : Draft → X) (ds : Declarations) → Each (λ d. (all : Draft) → part (adding all d) ≡ part all) ds → (all : Draft) → part (adding_all all ds) ≡ part all
+pub kept-all : {X : Type 0} (part : Draft → X) (ds : Declarations) → Each (λ d. (all : Draft) → part (with_declaration all d) ≡ part all) ds → (all : Draft) → part (with_declarations all ds) ≡ part all
 kept-all part [] h all = refl
-kept-all part (d ∷ ds) h all = kept-all part ds h.1 (adding all d) ∙ h.0 all
+kept-all part (d ∷ ds) h all = kept-all part ds h.1 (with_declaration all d) ∙ h.0 all

@@ -6,7 +6,7 @@ use Rattle.std.specs.Cmp.{first_so, second_so}
 use Rattle.std.specs.FinMap.{put}
 use Rattle.std.specs.Cmp.Lexicographic.{nat_list_eq_equiv}
 use Rattle.mpslp_types.specs.Name.{same_bytes, bytes_cmp}
-use Rattle.mpslp_builder.specs.Declaration.{RowForm, Declaration, declare_sense, declare_objective, declare_constant, declare_row, declare_rhs, declare_range, declare_column, declare_coefficient, declare_lower, declare_upper, declare_marked, declare_integer, declare_binary, declare_semi, Declarations, Draft, adding, adding_all, at_name, has_name, has_row, has_column, is_objective, is_integer, is_semi}
+use Rattle.mpslp_builder.specs.Declaration.{RowDefinition, Declaration, declare_sense, declare_objective, declare_constant, declare_row, declare_rhs, declare_range, declare_column, declare_coefficient, declare_lower, declare_upper, declare_marked, declare_integer, declare_binary, declare_semi, Declarations, Draft, with_declaration, with_declarations, at_name, has_name, has_row, has_column, is_objective, is_integer, is_semi}
 use Rattle.mpslp_builder.specs.Consistency.{slots_of, is_known}
 use Rattle.mpslp_types.proofs.BoolLemmas.{both_so, or_left, or_right, either_more, not_so}
 use Rattle.mpslp_builder.proofs.SlotLemmas.{at-put, has-put, are_fresh, are_fresh_in_turn, same_name}
@@ -18,7 +18,7 @@ pub record Extends (before after : Draft) : Type 0 where
   pub objective : (name : List ℕ) → before.objective ≡ Some name → after.objective ≡ Some name
   pub constant : is_some before.constant ≡ true → is_some after.constant ≡ true
   pub right_side : (name : List ℕ) → has_name before.rhs_values name ≡ true → has_name after.rhs_values name ≡ true
-  pub row : (name : List ℕ) (form : RowForm) → at_name before.rows name ≡ Some form → at_name after.rows name ≡ Some form
+  pub row : (name : List ℕ) (definition : RowDefinition) → at_name before.rows name ≡ Some definition → at_name after.rows name ≡ Some definition
   pub column : (name : List ℕ) → has_column before name ≡ true → has_column after name ≡ true
   pub integer : (name : List ℕ) → is_integer before name ≡ true → is_integer after name ≡ true
   pub semi : (name : List ℕ) → is_semi before name ≡ true → is_semi after name ≡ true
@@ -31,7 +31,7 @@ then_on a b c f g = record {
   objective = λ n h. g.objective n (f.objective n h);
   constant = λ h. g.constant (f.constant h);
   right_side = λ n h. g.right_side n (f.right_side n h);
-  row = λ n form h. g.row n form (f.row n form h);
+  row = λ n definition h. g.row n definition (f.row n definition h);
   column = λ n h. g.column n (f.column n h);
   integer = λ n h. g.integer n (f.integer n h);
   semi = λ n h. g.semi n (f.semi n h);
@@ -45,36 +45,36 @@ pub more_entries : {X : Type 0} (q k : List ℕ) (v : X) (es : List (List ℕ ×
 more_entries q k v es h = has-put q k v es ∙ or_right (same_bytes q k) (has_name es q) h
 
 -- a row more, of a new name
-kept_row : (b : Bool) (new : RowForm) (o : Option RowForm) (form : RowForm) → (b ≡ true → o ≡ Some form → ⊥) → o ≡ Some form → cond b (Some new) o ≡ Some form
-kept_row true new o form apart h = absurd (apart refl h)
-kept_row false new o form apart h = h
+kept_row : (b : Bool) (new : RowDefinition) (o : Option RowDefinition) (definition : RowDefinition) → (b ≡ true → o ≡ Some definition → ⊥) → o ≡ Some definition → cond b (Some new) o ≡ Some definition
+kept_row true new o definition apart h = absurd (apart refl h)
+kept_row false new o definition apart h = h
 
 pub found_so : {X : Type 0} (o : Option X) (x : X) → o ≡ Some x → is_some o ≡ true
 found_so o x h = ap is_some h
 
-is_new_row : (all : Draft) (name q : List ℕ) (form : RowForm) (rest : Bool) → (not (has_row all name) && rest) ≡ true → same_bytes q name ≡ true → at_name all.rows q ≡ Some form → ⊥
-is_new_row all name q form rest h same found =
+is_new_row : (all : Draft) (name q : List ℕ) (definition : RowDefinition) (rest : Bool) → (not (has_row all name) && rest) ≡ true → same_bytes q name ≡ true → at_name all.rows q ≡ Some definition → ⊥
+is_new_row all name q definition rest h same found =
     let there : has_name all.rows name ≡ true = ap (λ (k : List ℕ). has_name all.rows k) (sym (same_name q name same)) ∙ ap is_some found in
     let none : has_row all name ≡ false = not_so (has_row all name) (first_so (not (has_row all name)) rest h) in
     let so : has_row all name ≡ true = or_right (is_objective all name) (has_name all.rows name) there in
     cc
 
-pub extends-adding : (all : Draft) (d : Declaration) → are_fresh all (slots_of d) ≡ true → Extends all (adding all d)
-extends-adding all (declare_sense s) h = record { objective = λ _ h. h; constant = λ h. h; right_side = λ _ h. h; row = λ _ _ h. h; column = λ _ h. h; integer = λ _ h. h; semi = λ _ h. h }
-extends-adding all (declare_objective name) h = record { objective = λ n e. absurd (none_before all.objective n (not (has_row all name) && true) h e); constant = λ h. h; right_side = λ _ h. h; row = λ _ _ h. h; column = λ _ h. h; integer = λ _ h. h; semi = λ _ h. h }
-extends-adding all (declare_constant v) h = record { objective = λ _ h. h; constant = λ h. refl; right_side = λ _ h. h; row = λ _ _ h. h; column = λ _ h. h; integer = λ _ h. h; semi = λ _ h. h }
-extends-adding all (declare_row name form) h = record {
+pub extends-with_declaration : (all : Draft) (d : Declaration) → are_fresh all (slots_of d) ≡ true → Extends all (with_declaration all d)
+extends-with_declaration all (declare_sense s) h = record { objective = λ _ h. h; constant = λ h. h; right_side = λ _ h. h; row = λ _ _ h. h; column = λ _ h. h; integer = λ _ h. h; semi = λ _ h. h }
+extends-with_declaration all (declare_objective name) h = record { objective = λ n e. absurd (none_before all.objective n (not (has_row all name) && true) h e); constant = λ h. h; right_side = λ _ h. h; row = λ _ _ h. h; column = λ _ h. h; integer = λ _ h. h; semi = λ _ h. h }
+extends-with_declaration all (declare_constant v) h = record { objective = λ _ h. h; constant = λ h. refl; right_side = λ _ h. h; row = λ _ _ h. h; column = λ _ h. h; integer = λ _ h. h; semi = λ _ h. h }
+extends-with_declaration all (declare_row name definition) h = record {
   objective = λ _ h. h;
   constant = λ h. h;
   right_side = λ _ h. h;
-  row = λ q was e. at-put q name form all.rows ∙ kept_row (same_bytes q name) form (at_name all.rows q) was (λ same found. is_new_row all name q was _ h same found) e;
+  row = λ q was e. at-put q name definition all.rows ∙ kept_row (same_bytes q name) definition (at_name all.rows q) was (λ same found. is_new_row all name q was _ h same found) e;
   column = λ _ h. h;
   integer = λ _ h. h;
   semi = λ _ h. h;
 }
-extends-adding all (declare_rhs row v) h = record { objective = λ _ h. h; constant = λ h. h; right_side = λ q e. more_entries q row v all.rhs_values e; row = λ _ _ h. h; column = λ _ h. h; integer = λ _ h. h; semi = λ _ h. h }
-extends-adding all (declare_column name) h = record { objective = λ _ h. h; constant = λ h. h; right_side = λ _ h. h; row = λ _ _ h. h; column = λ q e. more_entries q name tt all.columns e; integer = λ _ h. h; semi = λ _ h. h }
-extends-adding all (declare_marked c) h = record {
+extends-with_declaration all (declare_rhs row v) h = record { objective = λ _ h. h; constant = λ h. h; right_side = λ q e. more_entries q row v all.rhs_values e; row = λ _ _ h. h; column = λ _ h. h; integer = λ _ h. h; semi = λ _ h. h }
+extends-with_declaration all (declare_column name) h = record { objective = λ _ h. h; constant = λ h. h; right_side = λ _ h. h; row = λ _ _ h. h; column = λ q e. more_entries q name tt all.columns e; integer = λ _ h. h; semi = λ _ h. h }
+extends-with_declaration all (declare_marked c) h = record {
   objective = λ _ h. h;
   constant = λ h. h;
   right_side = λ _ h. h;
@@ -83,7 +83,7 @@ extends-adding all (declare_marked c) h = record {
   integer = λ q is. either_more (has_name all.marked q) (has_name all.integers q || has_name all.binaries q) _ _ (more_entries q c tt all.marked) (λ h. h) is;
   semi = λ _ h. h;
 }
-extends-adding all (declare_integer c) h = record {
+extends-with_declaration all (declare_integer c) h = record {
   objective = λ _ h. h;
   constant = λ h. h;
   right_side = λ _ h. h;
@@ -93,7 +93,7 @@ extends-adding all (declare_integer c) h = record {
       (either_more (has_name all.integers q) (has_name all.binaries q) _ _ (more_entries q c tt all.integers) (λ h. h)) is;
   semi = λ _ h. h;
 }
-extends-adding all (declare_binary c) h = record {
+extends-with_declaration all (declare_binary c) h = record {
   objective = λ _ h. h;
   constant = λ h. h;
   right_side = λ _ h. h;
@@ -103,15 +103,15 @@ extends-adding all (declare_binary c) h = record {
       (either_more (has_name all.integers q) (has_name all.binaries q) _ _ (λ h. h) (more_entries q c tt all.binaries)) is;
   semi = λ _ h. h;
 }
-extends-adding all (declare_semi c) h = record { objective = λ _ h. h; constant = λ h. h; right_side = λ _ h. h; row = λ _ _ h. h; column = λ _ h. h; integer = λ _ h. h; semi = λ q e. more_entries q c tt all.semis e }
-extends-adding all _ h = record { objective = λ _ h. h; constant = λ h. h; right_side = λ _ h. h; row = λ _ _ h. h; column = λ _ h. h; integer = λ _ h. h; semi = λ _ h. h }
+extends-with_declaration all (declare_semi c) h = record { objective = λ _ h. h; constant = λ h. h; right_side = λ _ h. h; row = λ _ _ h. h; column = λ _ h. h; integer = λ _ h. h; semi = λ q e. more_entries q c tt all.semis e }
+extends-with_declaration all _ h = record { objective = λ _ h. h; constant = λ h. h; right_side = λ _ h. h; row = λ _ _ h. h; column = λ _ h. h; integer = λ _ h. h; semi = λ _ h. h }
 
-pub extends-in_turn : (declarations : Declarations) (before : Draft) → are_fresh_in_turn before declarations ≡ true → Extends before (adding_all before declarations)
+pub extends-in_turn : (declarations : Declarations) (before : Draft) → are_fresh_in_turn before declarations ≡ true → Extends before (with_declarations before declarations)
 extends-in_turn [] before h = itself before
 extends-in_turn (d ∷ more) before h =
-    then_on before (adding before d) (adding_all (adding before d) more)
-    (extends-adding before d (first_so (are_fresh before (slots_of d)) (are_fresh_in_turn (adding before d) more) h))
-    (extends-in_turn more (adding before d) (second_so (are_fresh before (slots_of d)) (are_fresh_in_turn (adding before d) more) h))
+    then_on before (with_declaration before d) (with_declarations (with_declaration before d) more)
+    (extends-with_declaration before d (first_so (are_fresh before (slots_of d)) (are_fresh_in_turn (with_declaration before d) more) h))
+    (extends-in_turn more (with_declaration before d) (second_so (are_fresh before (slots_of d)) (are_fresh_in_turn (with_declaration before d) more) h))
 
 -- ---- what follows for names
 

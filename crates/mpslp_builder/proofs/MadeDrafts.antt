@@ -7,11 +7,11 @@ use Rattle.std.specs.Option.{option_map_or}
 use Rattle.std.proofs.lemmas.List.{append-nil, append_assoc}
 use Rattle.std.proofs.lemmas.List.Folds.{list_all-append}
 use Rattle.mpslp_decimal.specs.Decimal.{Number, is_decimal}
-use Rattle.mpslp_core.specs.Model.{LinearModel}
-use Rattle.mpslp_builder.specs.Declaration.{Declaration, declare_objective, declare_rhs, declare_lower, declare_upper, Declarations, Draft, empty_draft, adding, adding_all, draft_of, has_name, has_column, is_free_row, rhs_declared, bounds_declared}
-use Rattle.mpslp_types.specs.Sides.{is_plus_infinite, is_minus_infinite, is_given}
+use Rattle.mpslp_model_core.specs.Model.{LinearModel}
+use Rattle.mpslp_builder.specs.Declaration.{Declaration, declare_objective, declare_rhs, declare_lower, declare_upper, Declarations, Draft, empty_draft, with_declaration, with_declarations, draft_of, has_name, has_column, is_free_row, rhs_declared, bounds_declared}
+use Rattle.mpslp_types.specs.Limit.{is_plus_infinite, is_minus_infinite, is_given}
 use Rattle.mpslp_builder.specs.Consistency.{has_objective, AreConsistent}
-use Rattle.mpslp_core.specs.Lists.{those_of}
+use Rattle.mpslp_model_core.specs.Lists.{those_of}
 use Rattle.mpslp_builder.specs.Refusal.{refusals, refusals_in_turn, bounds_refusals}
 use Rattle.mpslp_builder.specs.Made.{is_legal, IsMade}
 use Rattle.mpslp_builder.specs.Meaning.{model_of, file_fault, DraftMeans}
@@ -20,7 +20,7 @@ use Rattle.mpslp_types.specs.declared.faults.BuildFault.{BuildFault}
 use Rattle.mpslp_types.specs.declared.faults.BuildFault.TheVariants.{UnknownColumn, DuplicateBound, InfiniteValue}
 use Rattle.mpslp_types.proofs.BoolLemmas.{both_so, nor}
 use Rattle.mpslp_builder.proofs.RefusalLemmas.{HasDeclaredNames, first_none, rest_none, pass, join_none, empty_declared_names, empty_kinds_apart, none-fine, consistent-from_none}
-use Rattle.mpslp_builder.proofs.DraftEntries.{IsGood, good-adding_all, empty_good}
+use Rattle.mpslp_builder.proofs.DraftEntries.{IsGood, good-with_declarations, empty_good}
 use Rattle.mpslp_builder.proofs.WellFormed.{IsWellFormed, well_formed-from_consistent}
 use Rattle.mpslp_builder.proofs.MeaningFromNoFault.{meant-from_no_fault}
 use Rattle.mpslp_builder.proofs.NoFaultFromMeaning.{no_fault-from_meant}
@@ -28,16 +28,16 @@ use Rattle.mpslp_builder.proofs.NoFaultFromMeaning.{no_fault-from_meant}
 -- ---- several declarations after several
 
 -- the draft, and the refusals, of declarations after others
-pub adding_all-append : (xs ys : Declarations) (before : Draft) → adding_all before (xs ++ ys) ≡ adding_all (adding_all before xs) ys
-adding_all-append [] ys before = refl
-adding_all-append (x ∷ xs) ys before = adding_all-append xs ys (adding before x)
+pub with_declarations-append : (xs ys : Declarations) (before : Draft) → with_declarations before (xs ++ ys) ≡ with_declarations (with_declarations before xs) ys
+with_declarations-append [] ys before = refl
+with_declarations-append (x ∷ xs) ys before = with_declarations-append xs ys (with_declaration before x)
 
 pub refusals_in_turn-append : (xs ys : Declarations) (before : Draft)
-    → refusals_in_turn before (xs ++ ys) ≡ refusals_in_turn before xs ++ refusals_in_turn (adding_all before xs) ys
+    → refusals_in_turn before (xs ++ ys) ≡ refusals_in_turn before xs ++ refusals_in_turn (with_declarations before xs) ys
 refusals_in_turn-append [] ys before = refl
 refusals_in_turn-append (x ∷ xs) ys before =
-    ap (λ (faults : List _). refusals before x ++ faults) (refusals_in_turn-append xs ys (adding before x))
-    ∙ sym (append_assoc (refusals before x) (refusals_in_turn (adding before x) xs) (refusals_in_turn (adding_all (adding before x) xs) ys))
+    ap (λ (faults : List _). refusals before x ++ faults) (refusals_in_turn-append xs ys (with_declaration before x))
+    ∙ sym (append_assoc (refusals before x) (refusals_in_turn (with_declaration before x) xs) (refusals_in_turn (with_declarations (with_declaration before x) xs) ys))
 
 -- ---- what keeps a draft one that a builder can hold
 
@@ -46,28 +46,28 @@ pub empty_made : IsMade empty_draft
 empty_made = record { declarations = []; legal = refl; unrefused = refl; draft = refl }
 
 -- several legal declarations, none of them refused
-pub made-adding_all : (all : Draft) (more : Declarations) → IsMade all → list_all is_legal more ≡ true → refusals_in_turn all more ≡ []
-    → IsMade (adding_all all more)
-made-adding_all all more made legal unrefused = record {
+pub made-with_declarations : (all : Draft) (more : Declarations) → IsMade all → list_all is_legal more ≡ true → refusals_in_turn all more ≡ []
+    → IsMade (with_declarations all more)
+made-with_declarations all more made legal unrefused = record {
   declarations = made.declarations ++ more;
   legal = list_all-append is_legal made.declarations more ∙ both_so (list_all is_legal made.declarations) (list_all is_legal more) made.legal legal;
   unrefused = refusals_in_turn-append made.declarations more empty_draft
       ∙ join_none (refusals_in_turn empty_draft made.declarations) (refusals_in_turn (draft_of made.declarations) more) made.unrefused
       (ap (λ (before : Draft). refusals_in_turn before more) (sym made.draft) ∙ unrefused);
-  draft = ap (λ (before : Draft). adding_all before more) made.draft ∙ sym (adding_all-append made.declarations more empty_draft);
+  draft = ap (λ (before : Draft). with_declarations before more) made.draft ∙ sym (with_declarations-append made.declarations more empty_draft);
 }
 
 -- one legal declaration that is not refused
-pub made-adding : (all : Draft) (d : Declaration) → IsMade all → is_legal d ≡ true → refusals all d ≡ [] → IsMade (adding all d)
-made-adding all d made legal unrefused = made-adding_all all (d ∷ []) made (both_so (is_legal d) true legal refl) (append-nil (refusals all d) ∙ unrefused)
+pub made-with_declaration : (all : Draft) (d : Declaration) → IsMade all → is_legal d ≡ true → refusals all d ≡ [] → IsMade (with_declaration all d)
+made-with_declaration all d made legal unrefused = made-with_declarations all (d ∷ []) made (both_so (is_legal d) true legal refl) (append-nil (refusals all d) ∙ unrefused)
 
 -- a right side, which of a row of type N declares nothing
 pub made-right_side : (all : Draft) (row : List ℕ) (value : Number) → IsMade all → is_decimal value ≡ true → refusals all (declare_rhs row value) ≡ []
-    → IsMade (adding_all all (rhs_declared all row value))
+    → IsMade (with_declarations all (rhs_declared all row value))
 made-right_side all row value made legal unrefused =
-    elim (is_free_row all row) as (λ (free : Bool). IsMade (adding_all all (cond free [] (declare_rhs row value ∷ [])))) [
+    elim (is_free_row all row) as (λ (free : Bool). IsMade (with_declarations all (cond free [] (declare_rhs row value ∷ [])))) [
       | true ↦ made
-      | false ↦ made-adding all (declare_rhs row value) made legal unrefused
+      | false ↦ made-with_declaration all (declare_rhs row value) made legal unrefused
     ]
 
 -- the tests of a bound
@@ -105,9 +105,9 @@ bounds-in_turn all column (Some l) (Some u) h =
     let t = all_fail unknown (has_name all.lowers column || has_name all.uppers column) (is_plus_infinite l || is_minus_infinite u) h in
     let filled = nor (has_name all.lowers column) (has_name all.uppers column) t.1 in
     let infinite = nor (is_plus_infinite l) (is_minus_infinite u) t.2 in
-    join_none (refusals all (declare_lower column l)) (refusals_in_turn (adding all (declare_lower column l)) (declare_upper column u ∷ []))
+    join_none (refusals all (declare_lower column l)) (refusals_in_turn (with_declaration all (declare_lower column l)) (declare_upper column u ∷ []))
     (none_passes unknown (has_name all.lowers column) (is_plus_infinite l) t.0 filled.0 infinite.0)
-    (append-nil (refusals (adding all (declare_lower column l)) (declare_upper column u))
+    (append-nil (refusals (with_declaration all (declare_lower column l)) (declare_upper column u))
     ∙ none_passes unknown (has_name all.uppers column) (is_minus_infinite u) t.0 filled.1 infinite.1)
 
 legal_bounds : (column : List ℕ) (lower upper : Option Limit) → option_map_or is_given lower true ≡ true → option_map_or is_given upper true ≡ true
@@ -119,17 +119,17 @@ legal_bounds column (Some l) (Some u) h k = both_so (is_given l) (is_given u && 
 
 -- the bounds that one call gives
 pub made-bounds : (all : Draft) (column : List ℕ) (lower upper : Option Limit) → IsMade all → option_map_or is_given lower true ≡ true
-    → option_map_or is_given upper true ≡ true → bounds_refusals all column lower upper ≡ [] → IsMade (adding_all all (bounds_declared column lower upper))
+    → option_map_or is_given upper true ≡ true → bounds_refusals all column lower upper ≡ [] → IsMade (with_declarations all (bounds_declared column lower upper))
 made-bounds all column lower upper made h k unrefused =
-    made-adding_all all (bounds_declared column lower upper) made (legal_bounds column lower upper h k) (bounds-in_turn all column lower upper unrefused)
+    made-with_declarations all (bounds_declared column lower upper) made (legal_bounds column lower upper h k) (bounds-in_turn all column lower upper unrefused)
 
 -- ---- what such a draft is
 
-objective-declared : (declarations : Declarations) (before : Draft) → is_some before.objective ≡ false → is_some (adding_all before declarations).objective ≡ true
+objective-declared : (declarations : Declarations) (before : Draft) → is_some before.objective ≡ false → is_some (with_declarations before declarations).objective ≡ true
     → has_objective declarations ≡ true
 objective-declared [] before none there = absurd cc
 objective-declared (declare_objective name ∷ more) before none there = refl
-objective-declared (d ∷ more) before none there = objective-declared more (adding before d) none there
+objective-declared (d ∷ more) before none there = objective-declared more (with_declaration before d) none there
 
 -- what it names is declared
 pub declared_names-from_made : (all : Draft) → IsMade all → HasDeclaredNames all
@@ -149,7 +149,7 @@ good-from_made all made =
     let drafted = draft_of made.declarations in
     let fine = none-fine made.declarations empty_draft empty_declared_names empty_kinds_apart refl made.unrefused in
     subst (λ (draft : Draft). IsGood draft draft) (sym made.draft)
-    (good-adding_all drafted made.declarations empty_draft (empty_good drafted) made.legal fine.known fine.allowed)
+    (good-with_declarations drafted made.declarations empty_draft (empty_good drafted) made.legal fine.known fine.allowed)
 
 -- with an objective, it is well formed
 pub well_formed-from_made : (all : Draft) → IsMade all → is_some all.objective ≡ true → IsWellFormed all

@@ -12,13 +12,13 @@ use Rattle.std.specs.FinMap.{find, is_sorted}
 use Rattle.std.specs.FinMap.Entries.{below_all}
 use Rattle.mpslp_decimal.specs.Decimal.{Number, zero_number, is_decimal, is_zero, negated}
 use Rattle.mpslp_types.specs.Name.{same_bytes, is_mps_name, is_one_of, bytes_cmp}
-use Rattle.mpslp_core.specs.Model.{LinearModel, Row, Column, CoefficientKey, key_cmp, is_sound_row, is_sound_column, is_sound_coefficient, suits}
-use Rattle.mpslp_types.specs.Sides.{are_sides, is_at_most, is_lower_side, is_upper_side, has_bounded_distance, is_bounded_decimal, is_plus_infinite, is_minus_infinite, is_given}
-use Rattle.mpslp_builder.specs.Declaration.{RowForm, by_type, by_limits, Declarations, Draft, draft_of, at_name, has_name, has_row, has_column, names_in, have_infinite_side}
-use Rattle.mpslp_core.specs.Limits.{limits_of, plain_limits, has_infinite_rhs, is_inexact, is_too_large, is_crossed}
+use Rattle.mpslp_model_core.specs.Model.{LinearModel, Row, Column, CoefficientKey, key_cmp, is_sound_row, is_sound_column, is_sound_coefficient, suits}
+use Rattle.mpslp_types.specs.Limit.{are_sides, is_at_most, is_lower_side, is_upper_side, has_bounded_distance, is_bounded_decimal, is_plus_infinite, is_minus_infinite, is_given}
+use Rattle.mpslp_builder.specs.Declaration.{RowDefinition, by_type, by_limits, Declarations, Draft, draft_of, at_name, has_name, has_row, has_column, names_in, have_infinite_side}
+use Rattle.mpslp_model_core.specs.Limits.{limits_of, plain_limits, has_infinite_rhs, is_inexact, is_too_large, is_crossed}
 use Rattle.mpslp_builder.specs.Bounds.{zero_limit, one_limit, lower_bound, upper_bound, has_no_side, kind_of, column_of, has_crossed_bounds, has_semi_bounds}
 use Rattle.mpslp_builder.specs.Made.{are_given, is_legal}
-use Rattle.mpslp_core.specs.Lists.{is_nonempty}
+use Rattle.mpslp_model_core.specs.Lists.{is_nonempty}
 use Rattle.mpslp_builder.specs.Meaning.{rhs_or_zero, row_limits, row_entry, model_of, objective_name, file_fault, DraftMeans, Means}
 use Rattle.mpslp_builder.specs.Consistency.{AreConsistent}
 use Rattle.mpslp_types.specs.declared.kinds.Limit.{Limit}
@@ -121,9 +121,9 @@ legal_constant : (o : Option Number) (d : Number) → option_map_or is_decimal o
 legal_constant None d h k = decimal-negated d.mantissa d.exponent k
 legal_constant (Some c) d h k = h
 
-form-legal : (form : RowForm) → (are_given form && not (have_infinite_side form)) ≡ true → is_legal_form form ≡ true
-form-legal (by_type type) h = refl
-form-legal (by_limits l u) h = h
+definition-legal : (definition : RowDefinition) → (are_given definition && not (have_infinite_side definition)) ≡ true → is_legal_form definition ≡ true
+definition-legal (by_type type) h = refl
+definition-legal (by_limits l u) h = h
 
 -- ---- rows
 
@@ -138,14 +138,14 @@ sound_entry name (Some row) h s =
 some_limits : (limits : Option Row) → IsSoundForm limits → is_some limits ≡ true
 some_limits limits s = ap is_some s.is
 
-abbrev row_tests : Draft → List ℕ × RowForm → Bool
+abbrev row_tests : Draft → List ℕ × RowDefinition → Bool
 row_tests all row =
     let b = rhs_or_zero all row.0 in
     let r = at_name all.ranges row.0 in
     (is_mps_name row.0 && (are_given row.1 && not (have_infinite_side row.1)))
     && (not (has_infinite_rhs row.1 b r) && (not (is_inexact (limits_of row.1 b r)) && (not (is_too_large (limits_of row.1 b r)) && not (is_crossed (limits_of row.1 b r)))))
 
-sound_row : (all : Draft) (row : List ℕ × RowForm) → list_all (λ e. is_decimal e.1) all.rhs_values ≡ true → row_tests all row ≡ true → IsSoundForm (row_limits all row)
+sound_row : (all : Draft) (row : List ℕ × RowDefinition) → list_all (λ e. is_decimal e.1) all.rhs_values ≡ true → row_tests all row ≡ true → IsSoundForm (row_limits all row)
 sound_row all row sides h =
     let b = rhs_or_zero all row.0 in
     let r = at_name all.ranges row.0 in
@@ -159,7 +159,7 @@ sound_row all row sides h =
     let h1 = second_so a1 (t1 && (t2 && (t3 && t4))) h in
     let h2 = second_so t1 (t2 && (t3 && t4)) h1 in
     let h3 = second_so t2 (t3 && t4) h2 in
-    sound-from_no_fault row.1 b r (form-legal row.1 (second_so (is_mps_name row.0) legal (first_so a1 (t1 && (t2 && (t3 && t4))) h)))
+    sound-from_no_fault row.1 b r (definition-legal row.1 (second_so (is_mps_name row.0) legal (first_so a1 (t1 && (t2 && (t3 && t4))) h)))
     (or_zero (at_name all.rhs_values row.0) (found_all is_decimal row.0 all.rhs_values sides))
     (not_so (has_infinite_rhs row.1 b r) (first_so t1 (t2 && (t3 && t4)) h1)) (not_so (is_inexact limits) (first_so t2 (t3 && t4) h2))
     (not_so (is_too_large limits) (first_so t3 t4 h3)) (not_so (is_crossed limits) (second_so t3 t4 h3))
@@ -229,7 +229,7 @@ meant-from_no_fault all w none =
     let g = w.good in
     let f = no_fault-from_none all none in
     let rows = rows_pass all g f in
-    let row_values : List ℕ × RowForm → Row = λ row. unwrap_or (row_limits all row) (plain_limits Free zero_number) in
+    let row_values : List ℕ × RowDefinition → Row = λ row. unwrap_or (row_limits all row) (plain_limits Free zero_number) in
     let column_values : List ℕ × Unit {0} → Column = λ column. column_of all column.0 in
     let rows_are : maps.entries m.rows ≡ map (row_entry all) all.rows = maps.entries-from_sorted bytes_cmp (map (row_entry all) all.rows) (subst T (sym (sorted-mapped row_values all.rows)) g.rows_sorted) in
     let columns_are : maps.entries m.columns ≡ map (λ column. (column.0, column_of all column.0)) all.columns =
@@ -263,7 +263,7 @@ meant-from_no_fault all w none =
       binary_within = f.binary;
     }
   where
-    name_of : (all : Draft) (row : List ℕ × RowForm) → row_tests all row ≡ true → is_mps_name row.0 ≡ true
+    name_of : (all : Draft) (row : List ℕ × RowDefinition) → row_tests all row ≡ true → is_mps_name row.0 ≡ true
     name_of all row h = first_so (is_mps_name row.0) _ (first_so (is_mps_name row.0 && (are_given row.1 && not (have_infinite_side row.1))) _ h)
 
     sound_coefficient : (all : Draft) (m : LinearModel) (e : CoefficientKey × Number) → maps.keys m.rows ≡ names_in all.rows → maps.keys m.columns ≡ names_in all.columns → m.objective ≡ objective_name all

@@ -13,25 +13,25 @@ use Rattle.std.specs.List.Sorted.{IsSortedBy}
 use Rattle.mpslp_decimal.specs.Decimal.{Number}
 use Rattle.mpslp_types.specs.Name.{bytes_cmp, same_bytes}
 use Rattle.mpslp_types.proofs.EachLemmas.{Each, Each-weaker, Each-from_list_all}
-use Rattle.mpslp_core.specs.Model.{Row, key_cmp}
-use Rattle.mpslp_core.specs.ModelParts.{own, columns_in}
-use Rattle.mpslp_core.specs.ModelParts as parts
-use Rattle.mpslp_core.specs.Numbered.{sorted_of, each_part, all_cells, all_named, is_kept, IsOnce}
-use Rattle.mpslp_core.specs.declared.model.ModelParts.{ModelParts}
-use Rattle.mpslp_core.proofs.KeyLemmas.{bytes_total}
-use Rattle.mpslp_core.proofs.CellLemmas.{name_same, name_tied}
-use Rattle.mpslp_core.proofs.OnceLemmas.{find-permutation, once-permutation}
-use Rattle.mpslp_core.proofs.MovingLemmas.{unless_zero, find-moved}
-use Rattle.mpslp_core.proofs.RenumberLemmas.{renumbered}
-use Rattle.mpslp_builder.specs.Tables.{bytes, cells_of, no_part, objective_name, number_name, cells_by_name, AreNumbered}
-use Rattle.mpslp_numbered.specs.Ordered.{name_at, taken}
-use Rattle.mpslp_numbered.specs.Parts.{limits_in, bounds_of, moved_in}
-use Rattle.mpslp_numbered.specs.declared.parts.ObjectiveParts.{ObjectiveParts}
-use Rattle.mpslp_numbered.specs.declared.parts.RowParts.{RowParts}
-use Rattle.mpslp_numbered.specs.declared.parts.ColumnParts.{ColumnParts}
+use Rattle.mpslp_model_core.specs.Model.{Row, key_cmp}
+use Rattle.mpslp_model_core.specs.ModelParts.{own, columns_in}
+use Rattle.mpslp_model_core.specs.ModelParts as parts
+use Rattle.mpslp_model_core.specs.Numbered.{sorted_of, each_part, all_cells, all_named, is_kept, IsOnce}
+use Rattle.mpslp_model_core.specs.declared.model.ModelParts.{ModelParts}
+use Rattle.mpslp_model_core.proofs.KeyLemmas.{bytes_total}
+use Rattle.mpslp_model_core.proofs.CellLemmas.{name_same, name_tied}
+use Rattle.mpslp_model_core.proofs.OnceLemmas.{find-permutation, once-permutation}
+use Rattle.mpslp_model_core.proofs.MovingLemmas.{unless_zero, find-moved}
+use Rattle.mpslp_model_core.proofs.RenumberLemmas.{renumbered}
+use Rattle.mpslp_builder.specs.Tables.{bytes, cells_of, no_part, name_of_objective, name_of_row_key, cells_by_name, AreNumbered}
+use Rattle.mpslp_builder_parts.specs.Ordered.{name_at, entries_at}
+use Rattle.mpslp_builder_parts.specs.Parts.{limits_in, bounds_of, moved_in}
+use Rattle.mpslp_builder_parts.specs.declared.parts.ObjectiveParts.{ObjectiveParts}
+use Rattle.mpslp_builder_parts.specs.declared.parts.RowParts.{RowParts}
+use Rattle.mpslp_builder_parts.specs.declared.parts.ColumnParts.{ColumnParts}
 use Rattle.mpslp_builder.proofs.PartLemmas.{find-each_part}
 use Rattle.mpslp_builder.proofs.OrderedParts.{taken-permutation, parts-permutation, once-part}
-use Rattle.mpslp_numbered.proofs.RankLemmas.{order_within, AreRanks, rank_at, ranks_length, ranks_apart, get-taken, place_below, length-taken}
+use Rattle.mpslp_builder_parts.proofs.RankLemmas.{order_within, AreRanks, rank_at, ranks_length, ranks_apart, get-taken, place_below, length-taken}
 
 -- ---- which rows there are
 
@@ -52,28 +52,28 @@ row_named (e ∷ rows) r =
     by zero is differ none = let same : e.0.items ≡ r = cc in let tie : eq_by_cmp bytes_cmp e.0.items r ≡ true = name_tied e.0.items r same in cc
     by (suc i) is differ none = none i is
 
-all_named_rows : (objective : Option ObjectiveParts) (rows : List (Vec ℕ × RowParts)) (r : List ℕ) → ((n : ℕ) × (number_name objective rows n ≡ Some r)) ⊎ ((n : ℕ) → number_name objective rows n ≡ Some r → ⊥)
+all_named_rows : (objective : Option ObjectiveParts) (rows : List (Vec ℕ × RowParts)) (r : List ℕ) → ((n : ℕ) × (name_of_row_key objective rows n ≡ Some r)) ⊎ ((n : ℕ) → name_of_row_key objective rows n ≡ Some r → ⊥)
 all_named_rows objective rows r =
-    elim (row_named rows r) as (λ _. ((n : ℕ) × (number_name objective rows n ≡ Some r)) ⊎ ((n : ℕ) → number_name objective rows n ≡ Some r → ⊥)) [
+    elim (row_named rows r) as (λ _. ((n : ℕ) × (name_of_row_key objective rows n ≡ Some r)) ⊎ ((n : ℕ) → name_of_row_key objective rows n ≡ Some r → ⊥)) [
       | inl at ↦ inl (suc at.0, at.1)
       | inr none ↦
-          elim (objective_name objective) as (λ o. objective_name objective ≡ o → ((n : ℕ) × (number_name objective rows n ≡ Some r)) ⊎ ((n : ℕ) → number_name objective rows n ≡ Some r → ⊥)) [
+          elim (name_of_objective objective) as (λ o. name_of_objective objective ≡ o → ((n : ℕ) × (name_of_row_key objective rows n ≡ Some r)) ⊎ ((n : ℕ) → name_of_row_key objective rows n ≡ Some r → ⊥)) [
             | None ↦ λ is. inr (λ n named. no_name n (λ e. let t : None ≡ Some r = sym is ∙ e in cc) none named)
             | Some name ↦ λ is.
-                elim (eq_by_cmp bytes_cmp name r) as (λ b. eq_by_cmp bytes_cmp name r ≡ b → ((n : ℕ) × (number_name objective rows n ≡ Some r)) ⊎ ((n : ℕ) → number_name objective rows n ≡ Some r → ⊥)) [
+                elim (eq_by_cmp bytes_cmp name r) as (λ b. eq_by_cmp bytes_cmp name r ≡ b → ((n : ℕ) × (name_of_row_key objective rows n ≡ Some r)) ⊎ ((n : ℕ) → name_of_row_key objective rows n ≡ Some r → ⊥)) [
                   | true ↦ λ tie. inl (zero, is ∙ ap Some (name_same name r tie))
                   | false ↦ λ differ. inr (λ n named. no_name n (λ e. let t : Some name ≡ Some r = sym is ∙ e in let same : name ≡ r = cc in let tie : eq_by_cmp bytes_cmp name r ≡ true = name_tied name r same in cc) none named)
                 ] refl
           ] refl
     ]
   where
-    no_name : (n : ℕ) → (objective_name objective ≡ Some r → ⊥) → ((i : ℕ) → option_map (λ e. e.0.items) (slice_get rows i) ≡ Some r → ⊥) → number_name objective rows n ≡ Some r → ⊥
+    no_name : (n : ℕ) → (name_of_objective objective ≡ Some r → ⊥) → ((i : ℕ) → option_map (λ e. e.0.items) (slice_get rows i) ≡ Some r → ⊥) → name_of_row_key objective rows n ≡ Some r → ⊥
     no_name zero first none is = first is
     no_name (suc n) first none is = none n is
 
 -- ---- numbers that have a name
 
-named-row : (objective : Option ObjectiveParts) (rows : List (Vec ℕ × RowParts)) (i : ℕ) (r : List ℕ) → number_name objective rows (suc i) ≡ Some r → i < length rows
+named-row : (objective : Option ObjectiveParts) (rows : List (Vec ℕ × RowParts)) (i : ℕ) (r : List ℕ) → name_of_row_key objective rows (suc i) ≡ Some r → i < length rows
 named-row objective rows i r is =
     elim (slice_get rows i) as (λ o. slice_get rows i ≡ o → option_map (λ e. e.0.items) o ≡ Some r → i < length rows) [
       | None ↦ λ _ never. cc
@@ -81,25 +81,25 @@ named-row objective rows i r is =
     ] refl is
 
 module _ (objective : Option ObjectiveParts) (rows : List (Vec ℕ × RowParts)) where
-  number-within : (n : ℕ) (r : List ℕ) → number_name objective rows n ≡ Some r → n < length rows + 1
+  number-within : (n : ℕ) (r : List ℕ) → name_of_row_key objective rows n ≡ Some r → n < length rows + 1
   number-within zero r is = omega arith
   number-within (suc i) r is = let row = named-row objective rows i r is in omega (arith, row)
 
-  within-column : (cells : List (ℕ × Number)) → list_all (λ e. is_some (number_name objective rows e.0)) cells ≡ true → Each (λ e. e.0 < length rows + 1) cells
+  within-column : (cells : List (ℕ × Number)) → list_all (λ e. is_some (name_of_row_key objective rows e.0)) cells ≡ true → Each (λ e. e.0 < length rows + 1) cells
   within-column cells h =
-      Each-weaker (λ e. is_some (number_name objective rows e.0) ≡ true) (λ e. e.0 < length rows + 1)
+      Each-weaker (λ e. is_some (name_of_row_key objective rows e.0) ≡ true) (λ e. e.0 < length rows + 1)
       (λ e there.
-      elim (number_name objective rows e.0) as (λ o. number_name objective rows e.0 ≡ o → is_some o ≡ true → e.0 < length rows + 1) [
+      elim (name_of_row_key objective rows e.0) as (λ o. name_of_row_key objective rows e.0 ≡ o → is_some o ≡ true → e.0 < length rows + 1) [
         | None ↦ λ _ never. cc
         | Some r ↦ λ is _. number-within e.0 r is
       ] refl there)
-      cells (Each-from_list_all (λ e. is_some (number_name objective rows e.0)) cells h)
+      cells (Each-from_list_all (λ e. is_some (name_of_row_key objective rows e.0)) cells h)
 
-  pub within-all : (cs : List (Vec ℕ × ColumnParts)) → all_named (number_name objective rows) (cells_by_name cs) ≡ true → Each (λ e. Each (λ cell. cell.0 < length rows + 1) (cells_of e.1)) cs
+  pub within-all : (cs : List (Vec ℕ × ColumnParts)) → all_named (name_of_row_key objective rows) (cells_by_name cs) ≡ true → Each (λ e. Each (λ cell. cell.0 < length rows + 1) (cells_of e.1)) cs
   within-all [] h = tt
   within-all (c ∷ cs) h =
-      let here = list_all (λ e. is_some (number_name objective rows e.0)) (cells_of c.1) in
-      let rest = all_named (number_name objective rows) (cells_by_name cs) in
+      let here = list_all (λ e. is_some (name_of_row_key objective rows e.0)) (cells_of c.1) in
+      let rest = all_named (name_of_row_key objective rows) (cells_by_name cs) in
       (within-column (cells_of c.1) (first_so here rest h), within-all cs (second_so here rest h))
 
 -- ---- tables that are put into order
@@ -113,10 +113,10 @@ pub record AreFinished (objective : Option ObjectiveParts) (rows : List (Vec ℕ
   pub columns_permuted : IsPermutation (range_with_len 0 (length columns)) column_order
   pub columns_sorted : IsSortedBy (λ n k. is_lt (bytes_cmp (name_at columns n) (name_at columns k))) column_order
   pub ranked : AreRanks row_order ranks
-  pub objective_is : objective_name objective ≡ Some m.objective
-  pub rows_are : m.rows.items ≡ each_part bytes limits_in (taken rows row_order)
-  pub bounds_are : columns_in m ≡ each_part bytes bounds_of (taken columns column_order)
-  pub cells_are : parts.cells_by_name m ≡ each_part bytes (moved_in ranks) (taken columns column_order)
+  pub objective_is : name_of_objective objective ≡ Some m.objective
+  pub rows_are : m.rows.items ≡ each_part bytes limits_in (entries_at rows row_order)
+  pub bounds_are : columns_in m ≡ each_part bytes bounds_of (entries_at columns column_order)
+  pub cells_are : parts.cells_by_name m ≡ each_part bytes (moved_in ranks) (entries_at columns column_order)
 
 part-get : {V X : Type 0} (f : V → X) (es : List (Vec ℕ × V)) (i : ℕ) → option_map (λ e. e.0) (slice_get (each_part bytes f es) i) ≡ option_map (λ e. e.0.items) (slice_get es i)
 part-get f [] i = refl
@@ -125,21 +125,21 @@ part-get f (e ∷ es) (suc i) = part-get f es i
 
 module _ (objective : Option ObjectiveParts) (rows : List (Vec ℕ × RowParts)) (columns : List (Vec ℕ × ColumnParts)) (m : ModelParts) (f : AreFinished objective rows columns m) where
   -- the names of the later numbers
-  later-row : (k : ℕ) → parts.number_name m (suc k) ≡ option_map (λ e. e.0.items) (slice_get (taken rows f.row_order) k)
-  later-row k = (λ i. option_map (λ (e : List ℕ × Row). e.0) (slice_get (f.rows_are i) k)) ∙ part-get limits_in (taken rows f.row_order) k
+  later-row : (k : ℕ) → parts.name_of_row_key m (suc k) ≡ option_map (λ e. e.0.items) (slice_get (entries_at rows f.row_order) k)
+  later-row k = (λ i. option_map (λ (e : List ℕ × Row). e.0) (slice_get (f.rows_are i) k)) ∙ part-get limits_in (entries_at rows f.row_order) k
 
-  later-at : (k : ℕ) → k < length f.row_order → parts.number_name m (suc k) ≡ number_name objective rows (suc (get_or f.row_order k 0))
+  later-at : (k : ℕ) → k < length f.row_order → parts.name_of_row_key m (suc k) ≡ name_of_row_key objective rows (suc (get_or f.row_order k 0))
   later-at k h =
       later-row k
       ∙ ap (option_map (λ (e : Vec ℕ × RowParts). e.0.items)) (get-taken rows f.row_order k (order_within (length rows) f.row_order f.rows_permuted) h)
 
-  pub keeps : (n : ℕ) (r : List ℕ) → number_name objective rows n ≡ Some r → parts.number_name m (slice_index f.ranks n) ≡ Some r
-  keeps zero r is = ap (parts.number_name m) f.ranked.objective ∙ sym f.objective_is ∙ is
+  pub keeps : (n : ℕ) (r : List ℕ) → name_of_row_key objective rows n ≡ Some r → parts.name_of_row_key m (slice_index f.ranks n) ≡ Some r
+  keeps zero r is = ap (parts.name_of_row_key m) f.ranked.objective ∙ sym f.objective_is ∙ is
   keeps (suc i) r is =
       let at = rank_at (length rows) f.row_order f.ranks f.rows_permuted f.ranked i (named-row objective rows i r is) in
-      ap (parts.number_name m) at.3 ∙ later-at at.0 at.1 ∙ ap (λ (k : ℕ). number_name objective rows (suc k)) at.2 ∙ is
+      ap (parts.name_of_row_key m) at.3 ∙ later-at at.0 at.1 ∙ ap (λ (k : ℕ). name_of_row_key objective rows (suc k)) at.2 ∙ is
 
-  earlier : (k : ℕ) (r : List ℕ) → parts.number_name m k ≡ Some r → (n : ℕ) × (number_name objective rows n ≡ Some r) × (slice_index f.ranks n ≡ k)
+  earlier : (k : ℕ) (r : List ℕ) → parts.name_of_row_key m k ≡ Some r → (n : ℕ) × (name_of_row_key objective rows n ≡ Some r) × (slice_index f.ranks n ≡ k)
   earlier zero r is = (zero, f.objective_is ∙ is, f.ranked.objective)
   earlier (suc k) r is =
       let there : k < length f.row_order = placed (sym (later-row k) ∙ is) in
@@ -147,17 +147,17 @@ module _ (objective : Option ObjectiveParts) (rows : List (Vec ℕ × RowParts))
       let next : k + 1 ≡ suc k = omega arith in
       (suc (get_or f.row_order k 0), sym (later-at k there) ∙ is, ap (λ (n : ℕ). slice_index f.ranks n) place ∙ f.ranked.places k there ∙ next)
     where
-      placed : option_map (λ e. e.0.items) (slice_get (taken rows f.row_order) k) ≡ Some r → k < length f.row_order
+      placed : option_map (λ e. e.0.items) (slice_get (entries_at rows f.row_order) k) ≡ Some r → k < length f.row_order
       placed named =
-          elim (slice_get (taken rows f.row_order) k) as (λ o. slice_get (taken rows f.row_order) k ≡ o → option_map (λ e. e.0.items) o ≡ Some r → k < length f.row_order) [
+          elim (slice_get (entries_at rows f.row_order) k) as (λ o. slice_get (entries_at rows f.row_order) k ≡ o → option_map (λ e. e.0.items) o ≡ Some r → k < length f.row_order) [
             | None ↦ λ _ never. cc
-            | Some e ↦ λ at _. length-taken rows f.row_order k (place_below (taken rows f.row_order) k e at)
+            | Some e ↦ λ at _. length-taken rows f.row_order k (place_below (entries_at rows f.row_order) k e at)
           ] refl named
 
-  number-below : (n : ℕ) (r : List ℕ) → number_name objective rows n ≡ Some r → n < length f.ranks
+  number-below : (n : ℕ) (r : List ℕ) → name_of_row_key objective rows n ≡ Some r → n < length f.ranks
   number-below n r is = by n is
     where
-      by : (n : ℕ) → number_name objective rows n ≡ Some r → n < length f.ranks
+      by : (n : ℕ) → name_of_row_key objective rows n ≡ Some r → n < length f.ranks
       by zero is = omega (arith, ranks_length (length rows) f.row_order f.ranks f.rows_permuted f.ranked)
       by (suc i) is = omega (arith, ranks_length (length rows) f.row_order f.ranks f.rows_permuted f.ranked, named-row objective rows i r is)
 
@@ -172,13 +172,13 @@ module _ (objective : Option ObjectiveParts) (rows : List (Vec ℕ × RowParts))
       ] is
 
   module _ (n : AreNumbered objective rows columns) (once : IsOnce (each_part bytes no_part columns)) where
-    found_cells : (k : ℕ) (r c : List ℕ) → number_name objective rows k ≡ Some r
+    found_cells : (k : ℕ) (r c : List ℕ) → name_of_row_key objective rows k ≡ Some r
         → option_and_then (find nat_cmp (slice_index f.ranks k)) (find bytes_cmp c (parts.cells_by_name m)) ≡ unless_zero (option_and_then (find nat_cmp k) (find bytes_cmp c (cells_by_name columns)))
     found_cells k r c is =
         let moved_once = once-part (moved_in f.ranks) no_part columns once in
-        let permuted = parts-permutation (moved_in f.ranks) columns (taken columns f.column_order) (taken-permutation columns f.column_order f.columns_permuted) in
+        let permuted = parts-permutation (moved_in f.ranks) columns (entries_at columns f.column_order) (taken-permutation columns f.column_order f.columns_permuted) in
         let moved = ap (find bytes_cmp c) f.cells_are
-        ∙ sym (find-permutation bytes_cmp bytes_total (each_part bytes (moved_in f.ranks) columns) (each_part bytes (moved_in f.ranks) (taken columns f.column_order)) permuted moved_once c)
+        ∙ sym (find-permutation bytes_cmp bytes_total (each_part bytes (moved_in f.ranks) columns) (each_part bytes (moved_in f.ranks) (entries_at columns f.column_order)) permuted moved_once c)
         ∙ find-each_part bytes (moved_in f.ranks) c columns in
         ap (option_and_then (find nat_cmp (slice_index f.ranks k))) moved
         ∙ elim (lookup (λ k. same_bytes c (bytes k)) columns) as (λ o. lookup (λ k. same_bytes c (bytes k)) columns ≡ o → option_and_then (find nat_cmp (slice_index f.ranks k)) (option_map (moved_in f.ranks) o) ≡ unless_zero (option_and_then (find nat_cmp k) (option_map cells_of o))) [
@@ -190,9 +190,9 @@ module _ (objective : Option ObjectiveParts) (rows : List (Vec ℕ × RowParts))
         ∙ ap (λ o. unless_zero (option_and_then (find nat_cmp k) o)) (sym (find-each_part bytes cells_of c columns))
 
     -- the coefficients of the model are those of the draft, without those of value 0
-    pub coefficients_are : sorted_of key_cmp (all_cells (parts.number_name m) (parts.cells_by_name m)) ≡ filter is_kept (sorted_of key_cmp (all_cells (number_name objective rows) (cells_by_name columns)))
+    pub coefficients_are : sorted_of key_cmp (all_cells (parts.name_of_row_key m) (parts.cells_by_name m)) ≡ filter is_kept (sorted_of key_cmp (all_cells (name_of_row_key objective rows) (cells_by_name columns)))
     coefficients_are =
-        renumbered (number_name objective rows) (parts.number_name m) (λ k. slice_index f.ranks k) (cells_by_name columns) (parts.cells_by_name m)
+        renumbered (name_of_row_key objective rows) (parts.name_of_row_key m) (λ k. slice_index f.ranks k) (cells_by_name columns) (parts.cells_by_name m)
         (record {
           apart = n.apart;
           apart_later = λ a b r p q. let x = earlier a r p in let y = earlier b r q in sym x.2 ∙ ap (λ (k : ℕ). slice_index f.ranks k) (n.apart x.0 y.0 r x.1 y.1) ∙ y.2;
@@ -201,7 +201,7 @@ module _ (objective : Option ObjectiveParts) (rows : List (Vec ℕ × RowParts))
           adds_none = λ k r is. let e = earlier k r is in (e.0, e.1);
           once = once-part cells_of no_part columns once;
           once_later = subst IsOnce (sym f.cells_are)
-              (once-permutation bytes_cmp bytes_total (each_part bytes (moved_in f.ranks) columns) (each_part bytes (moved_in f.ranks) (taken columns f.column_order))
-              (parts-permutation (moved_in f.ranks) columns (taken columns f.column_order) (taken-permutation columns f.column_order f.columns_permuted)) (once-part (moved_in f.ranks) no_part columns once));
+              (once-permutation bytes_cmp bytes_total (each_part bytes (moved_in f.ranks) columns) (each_part bytes (moved_in f.ranks) (entries_at columns f.column_order))
+              (parts-permutation (moved_in f.ranks) columns (entries_at columns f.column_order) (taken-permutation columns f.column_order f.columns_permuted)) (once-part (moved_in f.ranks) no_part columns once));
           cells = found_cells;
         })

@@ -10,9 +10,9 @@ use Rattle.std.specs.Cmp.Lexicographic.{texts_ties}
 use Rattle.std.specs.FinMap.{find}
 use Rattle.std.specs.Map.{keys_of}
 use Rattle.mpslp_types.specs.Name.{same_bytes, bytes_cmp}
-use Rattle.mpslp_core.proofs.PutsLemmas.{equal_from}
-use Rattle.mpslp_core.proofs.KeyLemmas.{bytes_total, tied_names}
-use Rattle.mpslp_core.specs.Numbered.{each_part, given_parts, IsOnce}
+use Rattle.mpslp_model_core.proofs.PutsLemmas.{equal_from}
+use Rattle.mpslp_model_core.proofs.KeyLemmas.{bytes_total, tied_names}
+use Rattle.mpslp_model_core.specs.Numbered.{each_part, given_parts, IsOnce}
 
 name_tied : (a b : List ℕ) → a ≡ b → eq_by_cmp bytes_cmp a b ≡ true
 name_tied a b e = ap (λ (x : List ℕ). eq_by_cmp bytes_cmp a x) (sym e) ∙ ap is_eq (tied_itself bytes_total a)

@@ -9,7 +9,7 @@ use Rattle.mpslp_types.specs.Name.{same_bytes, is_one_of, bytes_cmp}
 use Rattle.mpslp_builder.specs.Declaration.{at_name, has_name, names_in}
 use Rattle.mpslp_types.proofs.EachLemmas.{Each}
 use Rattle.mpslp_types.proofs.BoolLemmas.{or_left, or_right, T_from}
-use Rattle.mpslp_core.proofs.PutsLemmas.{finds_own}
+use Rattle.mpslp_model_core.proofs.PutsLemmas.{finds_own}
 use Rattle.mpslp_builder.proofs.EntryLemmas.{then_told}
 use Rattle.mpslp_builder.proofs.MeaningFromNoFault.{sorted-mapped}
 use Rattle.mpslp_builder.proofs.SortedDrafts.{bytes_total, tied_names}

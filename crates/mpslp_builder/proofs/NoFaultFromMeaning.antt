@@ -8,13 +8,13 @@ use Rattle.std.proofs.Math.Dec.{T}
 use Rattle.std.specs.FinMap as maps
 use Rattle.mpslp_decimal.specs.Decimal.{Number, zero_number, is_decimal, is_negative, is_infinite_size, size_of, sum_of, difference_of}
 use Rattle.mpslp_types.specs.Name.{is_mps_name, bytes_cmp}
-use Rattle.mpslp_core.specs.Model.{LinearModel, Row, Column, IsSound, is_sound_row, is_sound_column, suits}
-use Rattle.mpslp_types.specs.Sides.{are_sides, is_at_most, is_lower_side, is_upper_side, has_bounded_distance, is_bounded_decimal, limit_of}
-use Rattle.mpslp_builder.specs.Declaration.{RowForm, by_type, by_limits, Declarations, Draft, draft_of, at_name, names_in}
-use Rattle.mpslp_core.specs.Limits.{sides, plain_limits, limits_of, has_infinite_rhs, is_inexact, is_too_large, is_large_limit, is_crossed}
+use Rattle.mpslp_model_core.specs.Model.{LinearModel, Row, Column, IsSound, is_sound_row, is_sound_column, suits}
+use Rattle.mpslp_types.specs.Limit.{are_sides, is_at_most, is_lower_side, is_upper_side, has_bounded_distance, is_bounded_decimal, limit_of}
+use Rattle.mpslp_builder.specs.Declaration.{RowDefinition, by_type, by_limits, Declarations, Draft, draft_of, at_name, names_in}
+use Rattle.mpslp_model_core.specs.Limits.{sides, plain_limits, limits_of, has_infinite_rhs, is_inexact, is_too_large, is_large_limit, is_crossed}
 use Rattle.mpslp_builder.specs.Bounds.{lower_bound, upper_bound, kind_of, column_of, has_crossed_bounds, has_semi_bounds}
 use Rattle.mpslp_builder.specs.Made.{is_legal}
-use Rattle.mpslp_core.specs.Lists.{is_nonempty}
+use Rattle.mpslp_model_core.specs.Lists.{is_nonempty}
 use Rattle.mpslp_builder.specs.Meaning.{rhs_or_zero, row_limits, row_entry, model_of, file_fault, DraftMeans, Means}
 use Rattle.mpslp_types.specs.declared.kinds.Limit.{Limit}
 use Rattle.mpslp_types.specs.declared.kinds.Limit.TheVariants.{MinusInf, Finite, PlusInf}
@@ -68,7 +68,7 @@ finite_below : (o : Option Number) (b : Number) → sides_hold (sides (Some b) o
 finite_below None b h = cc
 finite_below (Some a) b h = finite_size b (lower_of (Finite b) (Finite a) h)
 
-no_infinite_side : (form : RowForm) (b : Number) (r : Option Number) → sides_hold (limits_of form b r) ≡ true → has_infinite_rhs form b r ≡ false
+no_infinite_side : (definition : RowDefinition) (b : Number) (r : Option Number) → sides_hold (limits_of definition b r) ≡ true → has_infinite_rhs definition b r ≡ false
 no_infinite_side (by_limits l u) b r h = refl
 no_infinite_side (by_type Free) b r h = refl
 no_infinite_side (by_type AtMost) b None h = no_inf_upper (is_infinite_size b) (is_negative b) b (upper_of MinusInf (limit_of b) h)
@@ -111,26 +111,26 @@ near MinusInf PlusInf h k d = (refl, refl)
 near PlusInf u h k d = absurd cc
 
 -- a row that has no fault
-pub record PassesTests (form : RowForm) (b : Number) (r : Option Number) : Type 0 where
-  pub finite : not (has_infinite_rhs form b r) ≡ true
-  pub exact : not (is_inexact (limits_of form b r)) ≡ true
-  pub small : not (is_too_large (limits_of form b r)) ≡ true
-  pub straight : not (is_crossed (limits_of form b r)) ≡ true
+pub record PassesTests (definition : RowDefinition) (b : Number) (r : Option Number) : Type 0 where
+  pub finite : not (has_infinite_rhs definition b r) ≡ true
+  pub exact : not (is_inexact (limits_of definition b r)) ≡ true
+  pub small : not (is_too_large (limits_of definition b r)) ≡ true
+  pub straight : not (is_crossed (limits_of definition b r)) ≡ true
 
-tests_of : (form : RowForm) (b : Number) (r : Option Number) (name : List ℕ) (o : Option Row) → limits_of form b r ≡ o → is_some o ≡ true → is_sound_row (name, unwrap_or o (plain_limits Free zero_number)) ≡ true → PassesTests form b r
-tests_of form b r name None is there h = absurd cc
-tests_of form b r name (Some row) is there h =
+tests_of : (definition : RowDefinition) (b : Number) (r : Option Number) (name : List ℕ) (o : Option Row) → limits_of definition b r ≡ o → is_some o ≡ true → is_sound_row (name, unwrap_or o (plain_limits Free zero_number)) ≡ true → PassesTests definition b r
+tests_of definition b r name None is there h = absurd cc
+tests_of definition b r name (Some row) is there h =
     let rest = second_so (is_mps_name name) (are_sides row.lower row.upper && has_bounded_distance row.lower row.upper) h in
     let s = first_so (are_sides row.lower row.upper) (has_bounded_distance row.lower row.upper) rest in
     let n = near row.lower row.upper (lower_of row.lower row.upper s) (upper_of row.lower row.upper s) (second_so (are_sides row.lower row.upper) (has_bounded_distance row.lower row.upper) rest) in
     record {
-      finite = so_not (has_infinite_rhs form b r) (no_infinite_side form b r (ap sides_hold is ∙ s));
-      exact = so_not (is_inexact (limits_of form b r)) (ap is_inexact is ∙ n.0);
-      small = so_not (is_too_large (limits_of form b r)) (ap is_too_large is ∙ n.1);
-      straight = so_not (is_crossed (limits_of form b r)) (ap is_crossed is ∙ ap not (straight_of row.lower row.upper s));
+      finite = so_not (has_infinite_rhs definition b r) (no_infinite_side definition b r (ap sides_hold is ∙ s));
+      exact = so_not (is_inexact (limits_of definition b r)) (ap is_inexact is ∙ n.0);
+      small = so_not (is_too_large (limits_of definition b r)) (ap is_too_large is ∙ n.1);
+      straight = so_not (is_crossed (limits_of definition b r)) (ap is_crossed is ∙ ap not (straight_of row.lower row.upper s));
     }
 
-row_tested : (all : Draft) (row : List ℕ × RowForm) → (is_sound_row (row_entry all row) && is_some (row_limits all row)) ≡ true → PassesTests row.1 (rhs_or_zero all row.0) (at_name all.ranges row.0)
+row_tested : (all : Draft) (row : List ℕ × RowDefinition) → (is_sound_row (row_entry all row) && is_some (row_limits all row)) ≡ true → PassesTests row.1 (rhs_or_zero all row.0) (at_name all.ranges row.0)
 row_tested all row h =
     tests_of row.1 (rhs_or_zero all row.0) (at_name all.ranges row.0) row.0 (row_limits all row) refl
     (second_so (is_sound_row (row_entry all row)) (is_some (row_limits all row)) h) (first_so (is_sound_row (row_entry all row)) (is_some (row_limits all row)) h)
@@ -162,7 +162,7 @@ no_fault-from_meant all m w meant =
     let n = model_of all in
     let sound : IsSound n = subst IsSound meant.model meant.sound in
     let g = w.good in
-    let row_values : List ℕ × RowForm → Row = λ row. unwrap_or (row_limits all row) (plain_limits Free zero_number) in
+    let row_values : List ℕ × RowDefinition → Row = λ row. unwrap_or (row_limits all row) (plain_limits Free zero_number) in
     let column_values : List ℕ × Unit {0} → Column = λ column. column_of all column.0 in
     let rows_are : maps.entries n.rows ≡ map (row_entry all) all.rows = maps.entries-from_sorted bytes_cmp (map (row_entry all) all.rows) (subst T (sym (sorted-mapped row_values all.rows)) g.rows_sorted) in
     let columns_are : maps.entries n.columns ≡ map (λ column. (column.0, column_of all column.0)) all.columns =
@@ -173,7 +173,7 @@ no_fault-from_meant all m w meant =
     (map_all (row_entry all) is_sound_row all.rows ∙ ap (list_all is_sound_row) (sym rows_are) ∙ sound.rows) meant.exact_limits in
     let columns : list_all (λ column. is_sound_column (column.0, column_of all column.0)) all.columns ≡ true =
     map_all (λ (column : List ℕ × Unit {0}). (column.0, column_of all column.0)) is_sound_column all.columns ∙ ap (list_all is_sound_column) (sym columns_are) ∙ sound.columns in
-    let tested : List ℕ × RowForm → Bool = λ row. is_sound_row (row_entry all row) && is_some (row_limits all row) in
+    let tested : List ℕ × RowDefinition → Bool = λ row. is_sound_row (row_entry all row) && is_some (row_limits all row) in
     none-from_no_fault all (record {
       column = has_columns (λ (e : List ℕ × Unit {0}). e.0) all.columns (subst (λ (names : List (List ℕ)). 0 < length names) column_names sound.has_column);
       rhs_values = meant.finite_rhs_values;

@@ -7,15 +7,15 @@ use Rattle.std.specs.Cmp.Lexicographic.{texts_ties, nat_list_cmp_total, nat_list
 use Rattle.std.specs.FinMap.{put}
 use Rattle.std.proofs.lemmas.List.Folds.{list_all-append}
 use Rattle.mpslp_types.specs.Name.{same_bytes, bytes_cmp}
-use Rattle.mpslp_core.specs.Model.{LinearModel, CoefficientKey, key_cmp, key_total}
-use Rattle.mpslp_builder.specs.Declaration.{RowForm, Declaration, declare_sense, declare_objective, declare_constant, declare_row, declare_rhs, declare_range, declare_column, declare_coefficient, declare_lower, declare_upper, declare_marked, declare_integer, declare_binary, declare_semi, Declarations, Draft, empty_draft, adding, adding_all, draft_of, is_limits_form}
-use Rattle.mpslp_core.specs.Lists.{are_distinct}
+use Rattle.mpslp_model_core.specs.Model.{LinearModel, CoefficientKey, key_cmp, key_total}
+use Rattle.mpslp_builder.specs.Declaration.{RowDefinition, Declaration, declare_sense, declare_objective, declare_constant, declare_row, declare_rhs, declare_range, declare_column, declare_coefficient, declare_lower, declare_upper, declare_marked, declare_integer, declare_binary, declare_semi, Declarations, Draft, empty_draft, with_declaration, with_declarations, draft_of, is_definition_by_limits}
+use Rattle.mpslp_model_core.specs.Lists.{are_distinct}
 use Rattle.mpslp_builder.specs.Consistency.{Slot, sense_slot, objective_slot, constant_slot, row_slot, rhs_slot, range_slot, coefficient_slot, lower_slot, upper_slot, same_slot, slots_of, all_slots, declares_objective, is_known, is_allowed, has_one_constant, AreConsistent}
 use Rattle.mpslp_builder.specs.Meaning.{DraftMeans, Means}
 use Rattle.mpslp_types.proofs.BoolLemmas.{all_true, not_so, nor}
 use Rattle.mpslp_builder.proofs.SlotLemmas.{are_apart, apart-cons, are_distinct-append, key_ties, same_name}
 use Rattle.mpslp_builder.proofs.PutOrderLemmas.{put-put}
-use Rattle.mpslp_core.proofs.PermutationLemmas.{along_permutation}
+use Rattle.mpslp_model_core.proofs.PermutationLemmas.{along_permutation}
 
 -- ---- two entries of one map
 
@@ -43,32 +43,32 @@ heads_apart a b more others h =
     let filled = same_slot b a || list_any (same_slot b) more in
     (nor (same_slot b a) (list_any (same_slot b) more) (not_so filled (first_so (not filled) (are_apart (a ∷ more) others) h))).0
 
-abbrev limit_slots : List ℕ → RowForm → List Slot
-limit_slots name form = if is_limits_form form then rhs_slot name ∷ range_slot name ∷ [] else []
+abbrev limit_slots : List ℕ → RowDefinition → List Slot
+limit_slots name definition = if is_definition_by_limits definition then rhs_slot name ∷ range_slot name ∷ [] else []
 
 -- Two declarations that fill no slot both make the same draft in either order.
-pub adding-adding : (all : Draft) (x y : Declaration) → are_apart (slots_of x) (slots_of y) ≡ true → adding (adding all x) y ≡ adding (adding all y) x
-adding-adding all (declare_sense a) (declare_sense b) h = absurd cc
-adding-adding all (declare_objective a) (declare_objective b) h = absurd cc
-adding-adding all (declare_constant a) (declare_constant b) h = absurd cc
-adding-adding all (declare_row j w) (declare_row k v) h =
-    ap (λ (rows : List (List ℕ × RowForm)). record all { rows = rows }) (names_turn j k w v all.rows (heads_apart (row_slot j) (row_slot k) (limit_slots j w) (limit_slots k v) h))
-adding-adding all (declare_rhs j w) (declare_rhs k v) h =
+pub with_declaration-with_declaration : (all : Draft) (x y : Declaration) → are_apart (slots_of x) (slots_of y) ≡ true → with_declaration (with_declaration all x) y ≡ with_declaration (with_declaration all y) x
+with_declaration-with_declaration all (declare_sense a) (declare_sense b) h = absurd cc
+with_declaration-with_declaration all (declare_objective a) (declare_objective b) h = absurd cc
+with_declaration-with_declaration all (declare_constant a) (declare_constant b) h = absurd cc
+with_declaration-with_declaration all (declare_row j w) (declare_row k v) h =
+    ap (λ (rows : List (List ℕ × RowDefinition)). record all { rows = rows }) (names_turn j k w v all.rows (heads_apart (row_slot j) (row_slot k) (limit_slots j w) (limit_slots k v) h))
+with_declaration-with_declaration all (declare_rhs j w) (declare_rhs k v) h =
     ap (λ (sides : List (List ℕ × _)). record all { rhs_values = sides }) (names_turn j k w v all.rhs_values (heads_apart (rhs_slot j) (rhs_slot k) [] [] h))
-adding-adding all (declare_range j w) (declare_range k v) h =
+with_declaration-with_declaration all (declare_range j w) (declare_range k v) h =
     ap (λ (ranges : List (List ℕ × _)). record all { ranges = ranges }) (names_turn j k w v all.ranges (heads_apart (range_slot j) (range_slot k) [] [] h))
-adding-adding all (declare_column j) (declare_column k) h = ap (λ (columns : List (List ℕ × Unit {0})). record all { columns = columns }) (units_turn j k all.columns)
-adding-adding all (declare_coefficient j w) (declare_coefficient k v) h =
+with_declaration-with_declaration all (declare_column j) (declare_column k) h = ap (λ (columns : List (List ℕ × Unit {0})). record all { columns = columns }) (units_turn j k all.columns)
+with_declaration-with_declaration all (declare_coefficient j w) (declare_coefficient k v) h =
     ap (λ (coefficients : List (CoefficientKey × _)). record all { coefficients = coefficients }) (keys_turn j k w v all.coefficients (heads_apart (coefficient_slot j) (coefficient_slot k) [] [] h))
-adding-adding all (declare_lower j w) (declare_lower k v) h =
+with_declaration-with_declaration all (declare_lower j w) (declare_lower k v) h =
     ap (λ (lowers : List (List ℕ × _)). record all { lowers = lowers }) (names_turn j k w v all.lowers (heads_apart (lower_slot j) (lower_slot k) [] [] h))
-adding-adding all (declare_upper j w) (declare_upper k v) h =
+with_declaration-with_declaration all (declare_upper j w) (declare_upper k v) h =
     ap (λ (uppers : List (List ℕ × _)). record all { uppers = uppers }) (names_turn j k w v all.uppers (heads_apart (upper_slot j) (upper_slot k) [] [] h))
-adding-adding all (declare_marked j) (declare_marked k) h = ap (λ (marked : List (List ℕ × Unit {0})). record all { marked = marked }) (units_turn j k all.marked)
-adding-adding all (declare_integer j) (declare_integer k) h = ap (λ (integers : List (List ℕ × Unit {0})). record all { integers = integers }) (units_turn j k all.integers)
-adding-adding all (declare_binary j) (declare_binary k) h = ap (λ (binaries : List (List ℕ × Unit {0})). record all { binaries = binaries }) (units_turn j k all.binaries)
-adding-adding all (declare_semi j) (declare_semi k) h = ap (λ (semis : List (List ℕ × Unit {0})). record all { semis = semis }) (units_turn j k all.semis)
-adding-adding all _ _ h = refl
+with_declaration-with_declaration all (declare_marked j) (declare_marked k) h = ap (λ (marked : List (List ℕ × Unit {0})). record all { marked = marked }) (units_turn j k all.marked)
+with_declaration-with_declaration all (declare_integer j) (declare_integer k) h = ap (λ (integers : List (List ℕ × Unit {0})). record all { integers = integers }) (units_turn j k all.integers)
+with_declaration-with_declaration all (declare_binary j) (declare_binary k) h = ap (λ (binaries : List (List ℕ × Unit {0})). record all { binaries = binaries }) (units_turn j k all.binaries)
+with_declaration-with_declaration all (declare_semi j) (declare_semi k) h = ap (λ (semis : List (List ℕ × Unit {0})). record all { semis = semis }) (units_turn j k all.semis)
+with_declaration-with_declaration all _ _ h = refl
 
 -- ---- slots, whichever come first
 
@@ -133,7 +133,7 @@ record Reorders (xs ys : Declarations) : Type 0 where
   pub all : (p : Declaration → Bool) → list_all p xs ≡ list_all p ys
   pub slots : (p : Slot → Bool) → list_all p (all_slots xs) ≡ list_all p (all_slots ys)
   pub distinct : are_distinct same_slot (all_slots xs) ≡ are_distinct same_slot (all_slots ys)
-  pub draft : are_distinct same_slot (all_slots xs) ≡ true → (before : Draft) → adding_all before xs ≡ adding_all before ys
+  pub draft : are_distinct same_slot (all_slots xs) ≡ true → (before : Draft) → with_declarations before xs ≡ with_declarations before ys
 
 reorders_same : (xs : Declarations) → Reorders xs xs
 reorders_same xs = record { any = λ p. refl; all = λ p. refl; slots = λ p. refl; distinct = refl; draft = λ h before. refl }
@@ -149,7 +149,7 @@ reorders_skip x xs ys r =
       distinct = are_distinct-append mine (all_slots xs) ∙ (λ i. are_distinct same_slot mine && (r.slots apart i && r.distinct i)) ∙ sym (are_distinct-append mine (all_slots ys));
       draft = λ h before.
           let parts = second_so (are_distinct same_slot mine) (are_apart mine (all_slots xs) && are_distinct same_slot (all_slots xs)) (sym (are_distinct-append mine (all_slots xs)) ∙ h) in
-          r.draft (second_so (are_apart mine (all_slots xs)) (are_distinct same_slot (all_slots xs)) parts) (adding before x);
+          r.draft (second_so (are_apart mine (all_slots xs)) (are_distinct same_slot (all_slots xs)) parts) (with_declaration before x);
     }
 
 reorders_turn : (x y : Declaration) (xs : Declarations) → Reorders (x ∷ y ∷ xs) (y ∷ x ∷ xs)
@@ -167,7 +167,7 @@ reorders_turn x y xs =
           let here = are_apart a b && are_apart a rest in
           let more = are_distinct same_slot b && (are_apart b rest && are_distinct same_slot rest) in
           let parts = first_so here more (second_so (are_distinct same_slot a) (here && more) (sym (distinct_three a b rest) ∙ h)) in
-          ap (λ (drafted : Draft). adding_all drafted xs) (adding-adding before x y (first_so (are_apart a b) (are_apart a rest) parts));
+          ap (λ (drafted : Draft). with_declarations drafted xs) (with_declaration-with_declaration before x y (first_so (are_apart a b) (are_apart a rest) parts));
     }
 
 reorders_chain : (xs ys zs : Declarations) → Reorders xs ys → Reorders ys zs → Reorders xs zs

@@ -13,13 +13,13 @@ use Rattle.std.specs.List.Sorted.{IsSortedBy}
 use Rattle.std.proofs.lemmas.List.Sorted.{IsPermutation-refl, IsPermutation-cons, IsPermutation-trans, IsPermutation-map, All-permutation}
 use Rattle.mpslp_types.specs.Name.{bytes_cmp, same_bytes}
 use Rattle.mpslp_types.proofs.EachLemmas.{Each, Each-both}
-use Rattle.mpslp_core.specs.Numbered.{sorted_of, each_part, given_parts, IsOnce}
-use Rattle.mpslp_core.proofs.KeyLemmas.{bytes_total, tied_names}
-use Rattle.mpslp_core.proofs.PermutationLemmas.{along_permutation}
-use Rattle.mpslp_core.proofs.OnceLemmas.{NeverFalls, never_falls-from_sort, permuted-is_map, two_heads}
-use Rattle.mpslp_core.proofs.MovingLemmas.{each-from_all, all-from_each}
+use Rattle.mpslp_model_core.specs.Numbered.{sorted_of, each_part, given_parts, IsOnce}
+use Rattle.mpslp_model_core.proofs.KeyLemmas.{bytes_total, tied_names}
+use Rattle.mpslp_model_core.proofs.PermutationLemmas.{along_permutation}
+use Rattle.mpslp_model_core.proofs.OnceLemmas.{NeverFalls, never_falls-from_sort, permuted-is_map, two_heads}
+use Rattle.mpslp_model_core.proofs.MovingLemmas.{each-from_all, all-from_each}
 use Rattle.mpslp_builder.specs.Tables.{bytes}
-use Rattle.mpslp_numbered.specs.Ordered.{name_at, taken}
+use Rattle.mpslp_builder_parts.specs.Ordered.{name_at, entries_at}
 
 -- ---- the items of numbers in another order
 
@@ -40,39 +40,39 @@ filter_map-permutation f =
     (λ x y xs. fronts_turned (f x) (f y) (filter_map f xs))
     (λ xs ys zs. IsPermutation-trans (filter_map f xs) (filter_map f ys) (filter_map f zs))
 
-taken-range : {X : Type 0} (xs ys : List X) (k : ℕ) → ((i : ℕ) → i < length ys → slice_get xs (k + i) ≡ slice_get ys i) → taken xs (range_with_len k (length ys)) ≡ ys
+taken-range : {X : Type 0} (xs ys : List X) (k : ℕ) → ((i : ℕ) → i < length ys → slice_get xs (k + i) ≡ slice_get ys i) → entries_at xs (range_with_len k (length ys)) ≡ ys
 taken-range xs [] k h = refl
 taken-range {X} xs (y ∷ ys) k h =
     let here : k + 0 ≡ k = omega arith in
     let first : slice_get xs k ≡ Some y = ap (slice_get xs) (sym here) ∙ h zero (omega arith) in
-    (λ i. cons_option (first i) (taken xs (range_with_len (k + 1) (length ys))))
+    (λ i. cons_option (first i) (entries_at xs (range_with_len (k + 1) (length ys))))
     ∙ ap (λ (more : List X). y ∷ more) (taken-range xs ys (k + 1) (λ i l. let step : (k + 1) + i ≡ k + suc i = omega arith in ap (slice_get xs) step ∙ h (suc i) (omega (arith, l))))
 
-taken-all : {X : Type 0} (xs : List X) → taken xs (range_with_len 0 (length xs)) ≡ xs
+taken-all : {X : Type 0} (xs : List X) → entries_at xs (range_with_len 0 (length xs)) ≡ xs
 taken-all xs = taken-range xs xs 0 (λ i l. let none : 0 + i ≡ i = omega arith in ap (slice_get xs) none)
 
-pub taken-permutation : {X : Type 0} (xs : List X) (order : List ℕ) → IsPermutation (range_with_len 0 (length xs)) order → IsPermutation xs (taken xs order)
+pub taken-permutation : {X : Type 0} (xs : List X) (order : List ℕ) → IsPermutation (range_with_len 0 (length xs)) order → IsPermutation xs (entries_at xs order)
 taken-permutation xs order p =
-    subst (λ (ys : List _). IsPermutation ys (taken xs order)) (taken-all xs) (filter_map-permutation (slice_get xs) (range_with_len 0 (length xs)) order p)
+    subst (λ (ys : List _). IsPermutation ys (entries_at xs order)) (taken-all xs) (filter_map-permutation (slice_get xs) (range_with_len 0 (length xs)) order p)
 
 -- ---- their names do not fall
 
 name_at-get : {V : Type 0} (entries : List (Vec ℕ × V)) (n : ℕ) (e : Vec ℕ × V) → slice_get entries n ≡ Some e → name_at entries n ≡ e.0.items
 name_at-get entries n e is = ap (λ (o : Option (Vec ℕ × _)). option_map_or (λ e. e.0.items) o []) is
 
-taken-each : {X : Type 0} (xs : List X) (Q : ℕ → Type 0) (P : X → Type 0) → ((n : ℕ) (x : X) → slice_get xs n ≡ Some x → Q n → P x) → (ns : List ℕ) → Each Q ns → Each P (taken xs ns)
+taken-each : {X : Type 0} (xs : List X) (Q : ℕ → Type 0) (P : X → Type 0) → ((n : ℕ) (x : X) → slice_get xs n ≡ Some x → Q n → P x) → (ns : List ℕ) → Each Q ns → Each P (entries_at xs ns)
 taken-each xs Q P f [] h = tt
 taken-each {X} xs Q P f (n ∷ ns) h =
-    elim (slice_get xs n) as (λ o. slice_get xs n ≡ o → Each P (cons_option o (taken xs ns))) [
+    elim (slice_get xs n) as (λ o. slice_get xs n ≡ o → Each P (cons_option o (entries_at xs ns))) [
       | None ↦ λ _. taken-each xs Q P f ns h.1
       | Some x ↦ λ is. (f n x is h.0, taken-each xs Q P f ns h.1)
     ] refl
 
 never_falls-taken : {V : Type 0} (entries : List (Vec ℕ × V)) (ns : List ℕ) → NeverFalls (λ n m. is_lt (bytes_cmp (name_at entries n) (name_at entries m))) ns
-    → NeverFalls (λ e d. is_lt (bytes_cmp e.0.items d.0.items)) (taken entries ns)
+    → NeverFalls (λ e d. is_lt (bytes_cmp e.0.items d.0.items)) (entries_at entries ns)
 never_falls-taken entries [] h = tt
 never_falls-taken {V} entries (n ∷ ns) h =
-    elim (slice_get entries n) as (λ o. slice_get entries n ≡ o → NeverFalls (λ e d. is_lt (bytes_cmp e.0.items d.0.items)) (cons_option o (taken entries ns))) [
+    elim (slice_get entries n) as (λ o. slice_get entries n ≡ o → NeverFalls (λ e d. is_lt (bytes_cmp e.0.items d.0.items)) (cons_option o (entries_at entries ns))) [
       | None ↦ λ _. never_falls-taken entries ns h.1
       | Some e ↦ λ is. (
         taken-each entries (λ m. is_lt (bytes_cmp (name_at entries m) (name_at entries n)) ≡ false) (λ d. is_lt (bytes_cmp d.0.items e.0.items) ≡ false)
@@ -114,10 +114,10 @@ module _ {V X : Type 0} (f : V → X) where
 
   -- what entries say stands in the order of their names as in the map of it
   pub ordered_parts : (es : List (Vec ℕ × V)) (order : List ℕ) → IsOnce (each_part bytes f es) → IsPermutation (range_with_len 0 (length es)) order
-      → IsSortedBy (λ n m. is_lt (bytes_cmp (name_at es n) (name_at es m))) order → each_part bytes f (taken es order) ≡ sorted_of bytes_cmp (each_part bytes f es)
+      → IsSortedBy (λ n m. is_lt (bytes_cmp (name_at es n) (name_at es m))) order → each_part bytes f (entries_at es order) ≡ sorted_of bytes_cmp (each_part bytes f es)
   ordered_parts es order once p sorted =
-      permuted-is_map bytes_cmp bytes_total tied_names (each_part bytes f es) (each_part bytes f (taken es order)) once (parts-permutation es (taken es order) (taken-permutation es order p))
-      (part-never_falls (taken es order) (never_falls-taken es order (never_falls-from_sort bytes_total (name_at es) order sorted)))
+      permuted-is_map bytes_cmp bytes_total tied_names (each_part bytes f es) (each_part bytes f (entries_at es order)) once (parts-permutation es (entries_at es order) (taken-permutation es order p))
+      (part-never_falls (entries_at es order) (never_falls-taken es order (never_falls-from_sort bytes_total (name_at es) order sorted)))
 
 -- ---- what is found at an entry's own name
 
@@ -155,8 +155,8 @@ module _ {V X : Type 0} (f : V → Option X) where
       ] refl
 
 -- what holds of each entry holds of each in another order
-pub each-ordered : {V : Type 0} (P : Vec ℕ × V → Type 0) (es : List (Vec ℕ × V)) (order : List ℕ) → IsPermutation (range_with_len 0 (length es)) order → Each P es → Each P (taken es order)
-each-ordered P es order p h = each-from_all P (taken es order) (All-permutation P es (taken es order) (taken-permutation es order p) (all-from_each P es h))
+pub each-ordered : {V : Type 0} (P : Vec ℕ × V → Type 0) (es : List (Vec ℕ × V)) (order : List ℕ) → IsPermutation (range_with_len 0 (length es)) order → Each P es → Each P (entries_at es order)
+each-ordered P es order p h = each-from_all P (entries_at es order) (All-permutation P es (entries_at es order) (taken-permutation es order p) (all-from_each P es h))
 
 -- ---- keys that are distinct
 

@@ -4,24 +4,24 @@ use Rattle.std.specs.Prelude.{Option, Some, slice_get}
 use Rattle.std.specs.Global.{Vec}
 use Rattle.mpslp_decimal.specs.Decimal.{Number}
 use Rattle.mpslp_types.specs.declared.kinds.Sense.{Sense}
-use Rattle.mpslp_core.specs.Limits.{RowForm}
+use Rattle.mpslp_model_core.specs.Limits.{RowDefinition}
 use Rattle.mpslp_builder.specs.Declaration.{at_name}
 use Rattle.mpslp_builder.specs.Bounds.{declared_of}
-use Rattle.mpslp_builder.specs.Tables.{bytes, form_of, rhs_of, range_of, lower_of, upper_of, draft, IsNumbered}
+use Rattle.mpslp_builder.specs.Tables.{bytes, definition_of, rhs_of, range_of, lower_of, upper_of, draft, IsNumbered}
 use Rattle.mpslp_builder.specs.Calls.{IsOnceEach}
 use Rattle.mpslp_builder.specs.FaultFound.{declared_in}
-use Rattle.mpslp_numbered.specs.declared.parts.RowParts.{RowParts}
-use Rattle.mpslp_numbered.specs.declared.parts.ColumnParts.{ColumnParts}
+use Rattle.mpslp_builder_parts.specs.declared.parts.RowParts.{RowParts}
+use Rattle.mpslp_builder_parts.specs.declared.parts.ColumnParts.{ColumnParts}
 use Rattle.mpslp_builder.specs.declared.tables.Tables.{Tables}
 use Rattle.mpslp_builder.proofs.ReadingLemmas.{Stands, given_at, flag_at, told_at, rhs_at, range_at}
 
 module _ (sense : Option Sense) (constant : Option Number) (t : Tables) (once : IsOnceEach t) where
   -- what is asked of a row's form, right side and range
-  pub row_parts_at : IsNumbered t → (i : ℕ) (k : Vec ℕ) (row : RowParts) → slice_get t.rows.entries i ≡ Some (k, row) → {X : Type 0} (ask : RowForm → Option Number → Option Number → X)
-      → ask (form_of row) (at_name (draft sense constant t).rhs_values (bytes k)) (at_name (draft sense constant t).ranges (bytes k)) ≡ ask (form_of row) (rhs_of row) (range_of row)
+  pub row_parts_at : IsNumbered t → (i : ℕ) (k : Vec ℕ) (row : RowParts) → slice_get t.rows.entries i ≡ Some (k, row) → {X : Type 0} (ask : RowDefinition → Option Number → Option Number → X)
+      → ask (definition_of row) (at_name (draft sense constant t).rhs_values (bytes k)) (at_name (draft sense constant t).ranges (bytes k)) ≡ ask (definition_of row) (rhs_of row) (range_of row)
   row_parts_at numbered i k row is ask =
       let s : Stands t.rows.entries i (bytes k) = record { key = k; parts = row; at = is; named = refl } in
-      λ j. ask (form_of row) (rhs_at sense constant t once numbered i (bytes k) s j) (range_at sense constant t once numbered i (bytes k) s j)
+      λ j. ask (definition_of row) (rhs_at sense constant t once numbered i (bytes k) s j) (range_at sense constant t once numbered i (bytes k) s j)
 
   pub column_parts_at : (i : ℕ) (k : Vec ℕ) (column : ColumnParts) → slice_get t.columns.entries i ≡ Some (k, column) → declared_of (draft sense constant t) (bytes k) ≡ declared_in column
   column_parts_at i k column is =

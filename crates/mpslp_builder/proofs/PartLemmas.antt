@@ -11,14 +11,14 @@ use Rattle.std.specs.Map.{lookup, lookup_key}
 use Rattle.indexmap.specs.IndexMap.{set_value_at}
 use Rattle.mpslp_decimal.specs.Decimal.{Number}
 use Rattle.mpslp_types.specs.Name.{same_bytes, bytes_cmp}
-use Rattle.mpslp_core.specs.Model.{CoefficientKey, key_cmp}
-use Rattle.mpslp_core.proofs.PutsLemmas.{equal_from}
-use Rattle.mpslp_core.proofs.KeyLemmas.{bytes_total, key_total, tied_names}
+use Rattle.mpslp_model_core.specs.Model.{CoefficientKey, key_cmp}
+use Rattle.mpslp_model_core.proofs.PutsLemmas.{equal_from}
+use Rattle.mpslp_model_core.proofs.KeyLemmas.{bytes_total, key_total, tied_names}
 use Rattle.mpslp_builder.specs.Declaration.{at_name, has_name}
-use Rattle.mpslp_core.proofs.SortedLemmas.{find-sorted_of}
-use Rattle.mpslp_core.specs.Numbered.{sorted_of, each_part, given_parts, column_cells, all_cells, TellsApart, IsOnce}
-pub use Rattle.mpslp_numbered.proofs.PassLemmas.{each_part-append}
-use Rattle.mpslp_core.proofs.CellLemmas.{at, or_else, find-two, first_none, find-put_cell, swapped, clear}
+use Rattle.mpslp_model_core.proofs.SortedLemmas.{find-sorted_of}
+use Rattle.mpslp_model_core.specs.Numbered.{sorted_of, each_part, given_parts, column_cells, all_cells, TellsApart, IsOnce}
+pub use Rattle.mpslp_builder_parts.proofs.PassLemmas.{each_part-append}
+use Rattle.mpslp_model_core.proofs.CellLemmas.{at, or_else, find-two, first_none, find-put_cell, swapped, clear}
 
 pub none_there : {X : Type 0} (o : Option X) → is_some o ≡ false → o ≡ None
 none_there None h = refl

@@ -8,7 +8,7 @@ use Rattle.std.specs.declared.cmp.Ordering.TheVariants.{Equal}
 use Rattle.std.specs.FinMap.{find, is_sorted}
 use Rattle.std.proofs.Math.Dec.{T}
 use Rattle.mpslp_types.proofs.EachLemmas.{Each, Each-weaker, Each-both, Each-append, Each-map, Each-flat_map, Each-filter}
-use Rattle.mpslp_core.proofs.PutsLemmas.{puts, puts-give, finds_own, some_append_left, some_append_right}
+use Rattle.mpslp_model_core.proofs.PutsLemmas.{puts, puts-give, finds_own, some_append_left, some_append_right}
 
 module _ {K X Y : Type 0} (R : K → K → Ordering) (o : IsTotalOrder R) (same : (x y : K) → R x y ≡ Equal → x ≡ y) (entry : Y → K × X) (f : Y → List (K × X)) where
   -- what is found of an element's own is found in the whole

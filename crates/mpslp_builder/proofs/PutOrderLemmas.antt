@@ -8,7 +8,7 @@ use Rattle.std.specs.declared.cmp.Ordering.TheVariants.{Less, Equal, Greater}
 use Rattle.std.specs.FinMap.{find, put, is_sorted}
 use Rattle.std.specs.FinMap.Entries.{by_order, find-put, same_entries, is_sorted-put}
 use Rattle.std.proofs.Math.Dec.{T}
-use Rattle.mpslp_core.proofs.PutsLemmas.{equal_from}
+use Rattle.mpslp_model_core.proofs.PutsLemmas.{equal_from}
 
 module _ {K X : Type 0} (R : K → K → Ordering) (o : IsTotalOrder R) where
   -- the first key is below the second

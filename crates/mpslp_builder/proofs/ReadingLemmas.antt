@@ -11,20 +11,20 @@ use Rattle.std.specs.FinMap.{find}
 use Rattle.mpslp_decimal.specs.Decimal.{Number}
 use Rattle.mpslp_types.specs.Name.{same_bytes, bytes_cmp}
 use Rattle.mpslp_types.specs.declared.kinds.Sense.{Sense}
-use Rattle.mpslp_core.specs.Limits.{RowForm, is_free_form, is_limits_form}
-use Rattle.mpslp_core.specs.Numbered.{sorted_of, each_part, given_parts}
-use Rattle.mpslp_core.proofs.KeyLemmas.{bytes_total}
-use Rattle.mpslp_core.proofs.SortedLemmas.{find-sorted_of}
-use Rattle.mpslp_core.proofs.CellLemmas.{at, or_else, find-two}
-use Rattle.mpslp_builder.specs.Declaration.{at_name, has_name, has_entry, is_objective, is_free_row, is_row_by_limits, is_integer}
+use Rattle.mpslp_model_core.specs.Limits.{RowDefinition, is_free_definition, is_definition_by_limits}
+use Rattle.mpslp_model_core.specs.Numbered.{sorted_of, each_part, given_parts}
+use Rattle.mpslp_model_core.proofs.KeyLemmas.{bytes_total}
+use Rattle.mpslp_model_core.proofs.SortedLemmas.{find-sorted_of}
+use Rattle.mpslp_model_core.proofs.CellLemmas.{at, or_else, find-two}
+use Rattle.mpslp_builder.specs.Declaration.{at_name, has_name, has_coefficient, is_objective, is_free_row, is_row_by_limits, is_integer}
 use Rattle.mpslp_builder.specs.Consistency.{has_objective_rhs}
-use Rattle.mpslp_builder.specs.Tables.{bytes, form_of, rhs_of, range_of, no_part, cells_of, as_part, objective_name, objective_rhs, draft, IsNumbered}
-use Rattle.mpslp_builder.specs.Calls.{number_of, row_name, row_tells, column_tells, cells_at, is_objective_place, IsOnceEach}
-use Rattle.mpslp_numbered.specs.declared.parts.ObjectiveParts.{ObjectiveParts}
-use Rattle.mpslp_numbered.specs.declared.parts.RowParts.{RowParts}
-use Rattle.mpslp_numbered.specs.declared.parts.ColumnParts.{ColumnParts}
-use Rattle.mpslp_builder.specs.declared.tables.RowPlace.{RowPlace}
-use Rattle.mpslp_builder.specs.declared.tables.RowPlace.TheVariants.{Objective, Row}
+use Rattle.mpslp_builder.specs.Tables.{bytes, definition_of, rhs_of, range_of, no_part, cells_of, as_part, name_of_objective, objective_rhs, draft, IsNumbered}
+use Rattle.mpslp_builder.specs.Calls.{row_key_of, row_name, row_tells, column_tells, cells_at, is_objective_ref, IsOnceEach}
+use Rattle.mpslp_builder_parts.specs.declared.parts.ObjectiveParts.{ObjectiveParts}
+use Rattle.mpslp_builder_parts.specs.declared.parts.RowParts.{RowParts}
+use Rattle.mpslp_builder_parts.specs.declared.parts.ColumnParts.{ColumnParts}
+use Rattle.mpslp_builder.specs.declared.tables.RowRef.{RowRef}
+use Rattle.mpslp_builder.specs.declared.tables.RowRef.TheVariants.{Objective, Row}
 use Rattle.mpslp_builder.specs.declared.tables.Tables.{Tables}
 use Rattle.mpslp_builder.proofs.PartLemmas.{absent-each_part, none_there}
 use Rattle.mpslp_builder.proofs.NameLemmas.{there_found, found_there, find_own, find_given_own, none_given}
@@ -111,11 +111,11 @@ module _ (sense : Option Sense) (constant : Option Number) (t : Tables) (once : 
     own_cells = ap (λ (o : Option (Vec ℕ × ColumnParts)). option_map_or (λ e. cells_of e.1) o []) s.at
 
     -- whether a coefficient is there
-    pub cell_at : (n : ℕ) (r : List ℕ) → IsNumbered t → row_name t n ≡ Some r → has_entry (draft sense constant t) (at r c) ≡ is_some (find nat_cmp n (cells_at t i))
+    pub cell_at : (n : ℕ) (r : List ℕ) → IsNumbered t → row_name t n ≡ Some r → has_coefficient (draft sense constant t) (at r c) ≡ is_some (find nat_cmp n (cells_at t i))
     cell_at n r numbered row =
         sym (ap (λ (es : List (ℕ × Number)). is_some (find nat_cmp n es)) own_cells
         ∙ cell_found sense constant t.objective t.rows.entries t.columns.entries i s.key s.parts s.at numbered n r row once.columns
-        ∙ ap (λ (name : List ℕ). has_entry (draft sense constant t) (at r name)) s.named)
+        ∙ ap (λ (name : List ℕ). has_coefficient (draft sense constant t) (at r name)) s.named)
 
   -- ---- rows
 
@@ -124,17 +124,17 @@ module _ (sense : Option Sense) (constant : Option Number) (t : Tables) (once : 
       row_told : (f : RowParts → Bool) → option_map_or (λ (e : Vec ℕ × RowParts). f e.1) (slice_get t.rows.entries i) false ≡ f s.parts
       row_told f = ap (λ (o : Option (Vec ℕ × RowParts)). option_map_or (λ e. f e.1) o false) s.at
 
-      form_at : at_name (draft sense constant t).rows r ≡ Some (form_of s.parts)
+      form_at : at_name (draft sense constant t).rows r ≡ Some (definition_of s.parts)
       form_at =
-          find-sorted_of bytes_cmp bytes_total r (each_part bytes form_of t.rows.entries)
-          ∙ ap (λ (name : List ℕ). find bytes_cmp name (each_part bytes form_of t.rows.entries)) (sym s.named)
-          ∙ find_own bytes form_of t.rows.entries i s.key s.parts once.rows s.at
+          find-sorted_of bytes_cmp bytes_total r (each_part bytes definition_of t.rows.entries)
+          ∙ ap (λ (name : List ℕ). find bytes_cmp name (each_part bytes definition_of t.rows.entries)) (sym s.named)
+          ∙ find_own bytes definition_of t.rows.entries i s.key s.parts once.rows s.at
 
       pub range_at : at_name (draft sense constant t).ranges r ≡ range_of s.parts
       range_at =
           find-sorted_of bytes_cmp bytes_total r (given_parts bytes range_of t.rows.entries)
           ∙ ap (λ (name : List ℕ). find bytes_cmp name (given_parts bytes range_of t.rows.entries)) (sym s.named)
-          ∙ find_given_own bytes form_of range_of t.rows.entries i s.key s.parts once.rows s.at
+          ∙ find_given_own bytes definition_of range_of t.rows.entries i s.key s.parts once.rows s.at
 
       pub rhs_at : at_name (draft sense constant t).rhs_values r ≡ rhs_of s.parts
       rhs_at =
@@ -143,11 +143,11 @@ module _ (sense : Option Sense) (constant : Option Number) (t : Tables) (once : 
           ∙ find-two bytes_cmp (bytes s.key) (objective_rhs t.objective) (given_parts bytes rhs_of t.rows.entries)
           ∙ ap (λ (o : Option Number). or_else o (find bytes_cmp (bytes s.key) (given_parts bytes rhs_of t.rows.entries)))
           (other_rhs sense constant t.objective t.rows.entries t.columns.entries i s.key s.parts s.parts s.at numbered)
-          ∙ find_given_own bytes form_of rhs_of t.rows.entries i s.key s.parts once.rows s.at
+          ∙ find_given_own bytes definition_of rhs_of t.rows.entries i s.key s.parts once.rows s.at
 
       no_objective : is_objective (draft sense constant t) r ≡ false
       no_objective =
-          elim (objective_name t.objective) as (λ o. objective_name t.objective ≡ o → option_map_or (same_bytes r) o false ≡ false) [
+          elim (name_of_objective t.objective) as (λ o. name_of_objective t.objective ≡ o → option_map_or (same_bytes r) o false ≡ false) [
             | None ↦ λ _. refl
             | Some name ↦ λ there.
                 elim (same_bytes r name) as (λ b. same_bytes r name ≡ b → b ≡ false) [
@@ -166,7 +166,7 @@ module _ (sense : Option Sense) (constant : Option Number) (t : Tables) (once : 
           elim (is_some (find bytes_cmp o.name (each_part bytes f t.rows.entries))) as (λ b. is_some (find bytes_cmp o.name (each_part bytes f t.rows.entries)) ≡ b → find bytes_cmp o.name (each_part bytes f t.rows.entries) ≡ None) [
             | true ↦ λ is.
                 let row = found_there bytes f t.rows.entries o.name is in
-                let no : zero ≡ suc row.0 = numbered.apart zero (suc row.0) o.name (ap objective_name there) row.1 in
+                let no : zero ≡ suc row.0 = numbered.apart zero (suc row.0) o.name (ap name_of_objective there) row.1 in
                 absurd (zero_apart row.0 no)
             | false ↦ λ none. none_there (find bytes_cmp o.name (each_part bytes f t.rows.entries)) none
           ] refl
@@ -175,10 +175,10 @@ module _ (sense : Option Sense) (constant : Option Number) (t : Tables) (once : 
           zero_apart n h = cc
 
       no_form : at_name (draft sense constant t).rows o.name ≡ None
-      no_form = find-sorted_of bytes_cmp bytes_total o.name (each_part bytes form_of t.rows.entries) ∙ no_such_row form_of
+      no_form = find-sorted_of bytes_cmp bytes_total o.name (each_part bytes definition_of t.rows.entries) ∙ no_such_row definition_of
 
       no_range : at_name (draft sense constant t).ranges o.name ≡ None
-      no_range = find-sorted_of bytes_cmp bytes_total o.name (given_parts bytes range_of t.rows.entries) ∙ none_given bytes form_of range_of o.name t.rows.entries (no_such_row form_of)
+      no_range = find-sorted_of bytes_cmp bytes_total o.name (given_parts bytes range_of t.rows.entries) ∙ none_given bytes definition_of range_of o.name t.rows.entries (no_such_row definition_of)
 
       own_rhs : (value : Option Number) → find bytes_cmp o.name (option_map_or (λ x. (o.name, x) ∷ []) value []) ≡ value
       own_rhs None = refl
@@ -192,17 +192,17 @@ module _ (sense : Option Sense) (constant : Option Number) (t : Tables) (once : 
           find-sorted_of bytes_cmp bytes_total o.name (objective_rhs t.objective ++ given_parts bytes rhs_of t.rows.entries)
           ∙ ap (λ (parts : Option ObjectiveParts). find bytes_cmp o.name (objective_rhs parts ++ given_parts bytes rhs_of t.rows.entries)) there
           ∙ find-two bytes_cmp o.name (objective_rhs (Some o)) (given_parts bytes rhs_of t.rows.entries)
-          ∙ (λ j. or_else (own_rhs o.rhs j) (none_given bytes form_of rhs_of o.name t.rows.entries (no_such_row form_of) j))
+          ∙ (λ j. or_else (own_rhs o.rhs j) (none_given bytes definition_of rhs_of o.name t.rows.entries (no_such_row definition_of) j))
           ∙ found_first o.rhs
 
       own_name : is_objective (draft sense constant t) o.name ≡ true
-      own_name = ap (λ (parts : Option ObjectiveParts). option_map_or (same_bytes o.name) (objective_name parts) false) there ∙ nat_list_eq_equiv.refl o.name
+      own_name = ap (λ (parts : Option ObjectiveParts). option_map_or (same_bytes o.name) (name_of_objective parts) false) there ∙ nat_list_eq_equiv.refl o.name
 
     -- the objective has a right side
     pub has_objective_rhs_at : has_objective_rhs (draft sense constant t) ≡ option_map_or (λ o. is_some o.rhs) t.objective false
     has_objective_rhs_at =
         let all = draft sense constant t in
-        let of_parts : Option ObjectiveParts → Bool = λ parts. option_map_or (has_name all.rhs_values) (objective_name parts) false in
+        let of_parts : Option ObjectiveParts → Bool = λ parts. option_map_or (has_name all.rhs_values) (name_of_objective parts) false in
         elim t.objective as (λ parts. t.objective ≡ parts → has_objective_rhs all ≡ option_map_or (λ o. is_some o.rhs) parts false) [
           | None ↦ λ none. ap of_parts none
           | Some o ↦ λ there. ap of_parts there ∙ ap is_some (objective_rhs_at o there)
@@ -210,7 +210,7 @@ module _ (sense : Option Sense) (constant : Option Number) (t : Tables) (once : 
 
     -- ---- at a place
 
-    objective_there : (parts : Option ObjectiveParts) (r : List ℕ) → objective_name parts ≡ Some r → (o : ObjectiveParts) × ((parts ≡ Some o) × (o.name ≡ r))
+    objective_there : (parts : Option ObjectiveParts) (r : List ℕ) → name_of_objective parts ≡ Some r → (o : ObjectiveParts) × ((parts ≡ Some o) × (o.name ≡ r))
     objective_there None r h = cc
     objective_there (Some o) r h = (o, (refl, cc))
 
@@ -218,52 +218,52 @@ module _ (sense : Option Sense) (constant : Option Number) (t : Tables) (once : 
     objective_told : (o : ObjectiveParts) → t.objective ≡ Some o → (f : ObjectiveParts → Bool) → option_map_or f t.objective false ≡ f o
     objective_told o there f = ap (λ (parts : Option ObjectiveParts). option_map_or f parts false) there
 
-    pub free_at : (p : RowPlace) (r : List ℕ) → row_name t (number_of p) ≡ Some r → is_free_row (draft sense constant t) r ≡ row_tells t p (λ o. false) (λ row. is_free_form row.form)
+    pub free_at : (p : RowRef) (r : List ℕ) → row_name t (row_key_of p) ≡ Some r → is_free_row (draft sense constant t) r ≡ row_tells t p (λ o. false) (λ row. is_free_definition row.definition)
     free_at Objective r is =
         let o = objective_there t.objective r is in
         ap (λ (name : List ℕ). is_free_row (draft sense constant t) name) (sym o.1.1)
-        ∙ ap (λ (form : Option RowForm). option_map_or is_free_form form false) (no_form o.0 o.1.0)
+        ∙ ap (λ (definition : Option RowDefinition). option_map_or is_free_definition definition false) (no_form o.0 o.1.0)
         ∙ sym (objective_told o.0 o.1.0 (λ o. false))
     free_at (Row i) r is =
         let s = stands t.rows.entries i r is in
-        ap (λ (form : Option RowForm). option_map_or is_free_form form false) (form_at i r s) ∙ sym (row_told i r s (λ row. is_free_form row.form))
+        ap (λ (definition : Option RowDefinition). option_map_or is_free_definition definition false) (form_at i r s) ∙ sym (row_told i r s (λ row. is_free_definition row.definition))
 
-    pub objective_at : (p : RowPlace) (r : List ℕ) → row_name t (number_of p) ≡ Some r → is_objective (draft sense constant t) r ≡ is_objective_place p
+    pub objective_at : (p : RowRef) (r : List ℕ) → row_name t (row_key_of p) ≡ Some r → is_objective (draft sense constant t) r ≡ is_objective_ref p
     objective_at Objective r is =
         let o = objective_there t.objective r is in
         ap (λ (name : List ℕ). is_objective (draft sense constant t) name) (sym o.1.1) ∙ own_name o.0 o.1.0
     objective_at (Row i) r is = no_objective i r (stands t.rows.entries i r is)
 
-    pub has_range_at : (p : RowPlace) (r : List ℕ) → row_name t (number_of p) ≡ Some r
-        → (has_name (draft sense constant t).ranges r || is_row_by_limits (draft sense constant t) r) ≡ row_tells t p (λ o. false) (λ row. is_some row.range || is_limits_form row.form)
+    pub has_range_at : (p : RowRef) (r : List ℕ) → row_name t (row_key_of p) ≡ Some r
+        → (has_name (draft sense constant t).ranges r || is_row_by_limits (draft sense constant t) r) ≡ row_tells t p (λ o. false) (λ row. is_some row.range || is_definition_by_limits row.definition)
     has_range_at Objective r is =
         let o = objective_there t.objective r is in
         ap (λ (name : List ℕ). has_name (draft sense constant t).ranges name || is_row_by_limits (draft sense constant t) name) (sym o.1.1)
-        ∙ (λ j. is_some (no_range o.0 o.1.0 j) || option_map_or is_limits_form (no_form o.0 o.1.0 j) false)
+        ∙ (λ j. is_some (no_range o.0 o.1.0 j) || option_map_or is_definition_by_limits (no_form o.0 o.1.0 j) false)
         ∙ sym (objective_told o.0 o.1.0 (λ o. false))
     has_range_at (Row i) r is =
         let s = stands t.rows.entries i r is in
-        (λ j. is_some (range_at i r s j) || option_map_or is_limits_form (form_at i r s j) false)
-        ∙ sym (row_told i r s (λ row. is_some row.range || is_limits_form row.form))
+        (λ j. is_some (range_at i r s j) || option_map_or is_definition_by_limits (form_at i r s j) false)
+        ∙ sym (row_told i r s (λ row. is_some row.range || is_definition_by_limits row.definition))
 
-    pub has_rhs_at : (b : Bool) (p : RowPlace) (r : List ℕ) → row_name t (number_of p) ≡ Some r
+    pub has_rhs_at : (b : Bool) (p : RowRef) (r : List ℕ) → row_name t (row_key_of p) ≡ Some r
         → (has_name (draft sense constant t).rhs_values r || (is_row_by_limits (draft sense constant t) r || (is_objective (draft sense constant t) r && b)))
-        ≡ row_tells t p (λ o. is_some o.rhs || b) (λ row. is_some row.rhs || is_limits_form row.form)
+        ≡ row_tells t p (λ o. is_some o.rhs || b) (λ row. is_some row.rhs || is_definition_by_limits row.definition)
     has_rhs_at b Objective r is =
         let o = objective_there t.objective r is in
         ap (λ (name : List ℕ). has_name (draft sense constant t).rhs_values name || (is_row_by_limits (draft sense constant t) name || (is_objective (draft sense constant t) name && b))) (sym o.1.1)
-        ∙ (λ j. is_some (objective_rhs_at o.0 o.1.0 j) || (option_map_or is_limits_form (no_form o.0 o.1.0 j) false || (own_name o.0 o.1.0 j && b)))
+        ∙ (λ j. is_some (objective_rhs_at o.0 o.1.0 j) || (option_map_or is_definition_by_limits (no_form o.0 o.1.0 j) false || (own_name o.0 o.1.0 j && b)))
         ∙ sym (objective_told o.0 o.1.0 (λ o. is_some o.rhs || b))
     has_rhs_at b (Row i) r is =
         let s = stands t.rows.entries i r is in
-        (λ j. is_some (rhs_at i r s j) || (option_map_or is_limits_form (form_at i r s j) false || (no_objective i r s j && b)))
-        ∙ or_nothing (is_some (rhs_of s.parts)) (is_limits_form (form_of s.parts))
-        ∙ sym (row_told i r s (λ row. is_some row.rhs || is_limits_form row.form))
+        (λ j. is_some (rhs_at i r s j) || (option_map_or is_definition_by_limits (form_at i r s j) false || (no_objective i r s j && b)))
+        ∙ or_nothing (is_some (rhs_of s.parts)) (is_definition_by_limits (definition_of s.parts))
+        ∙ sym (row_told i r s (λ row. is_some row.rhs || is_definition_by_limits row.definition))
 
     -- ---- numbers
 
     -- the number of a row fits 32 bits
-    pub number_fits : (p : RowPlace) (r : List ℕ) → row_name t (number_of p) ≡ Some r → number_of p < 4294967296
+    pub number_fits : (p : RowRef) (r : List ℕ) → row_name t (row_key_of p) ≡ Some r → row_key_of p < 4294967296
     number_fits Objective r is = omega arith
     number_fits (Row i) r is =
         let below : i < length t.rows.entries = within t.rows.entries i r (stands t.rows.entries i r is) in

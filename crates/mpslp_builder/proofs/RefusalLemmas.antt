@@ -8,15 +8,15 @@ use Rattle.std.specs.FinMap.{put}
 use Rattle.std.specs.Cmp.Lexicographic.{nat_list_eq_equiv}
 use Rattle.mpslp_decimal.specs.Decimal.{Number, is_infinite_size}
 use Rattle.mpslp_types.specs.Name.{same_bytes, bytes_cmp}
-use Rattle.mpslp_builder.specs.Declaration.{RowForm, by_type, by_limits, Declaration, declare_sense, declare_objective, declare_constant, declare_row, declare_rhs, declare_range, declare_column, declare_coefficient, declare_lower, declare_upper, declare_marked, declare_integer, declare_binary, declare_semi, Declarations, Draft, empty_draft, adding, adding_all, at_name, has_name, has_row, has_column, has_entry, is_objective, is_integer, is_semi, is_free_form, is_free_row, is_row_by_limits, have_infinite_side}
-use Rattle.mpslp_types.specs.Sides.{is_plus_infinite, is_minus_infinite}
-use Rattle.mpslp_core.specs.Lists.{are_distinct, those_of}
+use Rattle.mpslp_builder.specs.Declaration.{RowDefinition, by_type, by_limits, Declaration, declare_sense, declare_objective, declare_constant, declare_row, declare_rhs, declare_range, declare_column, declare_coefficient, declare_lower, declare_upper, declare_marked, declare_integer, declare_binary, declare_semi, Declarations, Draft, empty_draft, with_declaration, with_declarations, at_name, has_name, has_row, has_column, has_coefficient, is_objective, is_integer, is_semi, is_free_definition, is_free_row, is_row_by_limits, have_infinite_side}
+use Rattle.mpslp_types.specs.Limit.{is_plus_infinite, is_minus_infinite}
+use Rattle.mpslp_model_core.specs.Lists.{are_distinct, those_of}
 use Rattle.mpslp_builder.specs.Consistency.{Slot, sense_slot, rhs_slot, range_slot, slots_of, all_slots, same_slot, is_known, is_allowed, has_objective_rhs, has_one_constant, has_objective, AreConsistent}
 use Rattle.mpslp_builder.specs.Refusal.{has_constant, refusals, refusals_in_turn}
 use Rattle.mpslp_types.specs.declared.faults.BuildFault.{BuildFault}
 use Rattle.mpslp_types.specs.declared.faults.BuildFault.TheVariants as builds
 use Rattle.mpslp_types.proofs.BoolLemmas.{both_so, or_left, or_right, either, not_so, so_not, back, nor, both_false}
-use Rattle.mpslp_builder.proofs.LaterDrafts.{Extends, more_entries, extends-adding, extends-in_turn, value_in, itself_named, is_objective-after, has_row-after, known-after}
+use Rattle.mpslp_builder.proofs.LaterDrafts.{Extends, more_entries, extends-with_declaration, extends-in_turn, value_in, itself_named, is_objective-after, has_row-after, known-after}
 use Rattle.mpslp_builder.proofs.SlotLemmas.{limits_need_row, has-put, are_fresh, is_filled, are_fresh_in_turn, fresh_in_turn-is, same_name}
 
 -- ---- drafts that are made of declarations none of which is refused
@@ -41,8 +41,8 @@ more_named {X} test q k v es known was h =
       | false ↦ λ _ there. was there
     ] refl (sym (has-put q k v es) ∙ h)
 
-declared_names-adding : (all : Draft) (d : Declaration) → HasDeclaredNames all → are_fresh all (slots_of d) ≡ true → is_known all d ≡ true → HasDeclaredNames (adding all d)
-declared_names-adding all (declare_objective name) w h k =
+declared_names-with_declaration : (all : Draft) (d : Declaration) → HasDeclaredNames all → are_fresh all (slots_of d) ≡ true → is_known all d ≡ true → HasDeclaredNames (with_declaration all d)
+declared_names-with_declaration all (declare_objective name) w h k =
     let none : has_row all name ≡ false = not_so (has_row all name) (first_so (not (has_row all name)) true (second_so (not (is_some all.objective)) (not (has_row all name) && true) h)) in
     record {
       apart = λ q same. ap (λ (n : List ℕ). has_name all.rows n) (same_name q name same) ∙ back (has_name all.rows name) (has_row all name) (or_right (is_objective all name) (has_name all.rows name)) none;
@@ -51,12 +51,12 @@ declared_names-adding all (declare_objective name) w h k =
       integers = w.integers;
       semis = w.semis;
     }
-declared_names-adding all (declare_row name form) w h k =
-    let after = adding all (declare_row name form) in
-    let grows = extends-adding all (declare_row name form) h in
+declared_names-with_declaration all (declare_row name definition) w h k =
+    let after = with_declaration all (declare_row name definition) in
+    let grows = extends-with_declaration all (declare_row name definition) h in
     let none : has_row all name ≡ false = not_so (has_row all name) (first_so (not (has_row all name)) _ h) in
     record {
-      apart = λ q is. has-put q name form all.rows ∙ elim (same_bytes q name) as (λ b. same_bytes q name ≡ b → (b || has_name all.rows q) ≡ false) [
+      apart = λ q is. has-put q name definition all.rows ∙ elim (same_bytes q name) as (λ b. same_bytes q name ≡ b → (b || has_name all.rows q) ≡ false) [
         | true ↦ λ same. absurd (let so : has_row all name ≡ true = or_left (is_objective all name) (has_name all.rows name) (ap (is_objective all) (sym (same_name q name same)) ∙ is) in cc)
         | false ↦ λ _. w.apart q is
       ] refl;
@@ -65,16 +65,16 @@ declared_names-adding all (declare_row name form) w h k =
       integers = w.integers;
       semis = w.semis;
     }
-declared_names-adding all (declare_rhs row v) w h k = record { apart = w.apart; rhs_values = λ q there. more_named (has_row all) q row v all.rhs_values k (w.rhs_values q) there; ranges = w.ranges; integers = w.integers; semis = w.semis }
-declared_names-adding all (declare_range row v) w h k = record { apart = w.apart; rhs_values = w.rhs_values; ranges = λ q there. more_named (has_row all) q row v all.ranges k (w.ranges q) there; integers = w.integers; semis = w.semis }
-declared_names-adding all (declare_column name) w h k = record {
+declared_names-with_declaration all (declare_rhs row v) w h k = record { apart = w.apart; rhs_values = λ q there. more_named (has_row all) q row v all.rhs_values k (w.rhs_values q) there; ranges = w.ranges; integers = w.integers; semis = w.semis }
+declared_names-with_declaration all (declare_range row v) w h k = record { apart = w.apart; rhs_values = w.rhs_values; ranges = λ q there. more_named (has_row all) q row v all.ranges k (w.ranges q) there; integers = w.integers; semis = w.semis }
+declared_names-with_declaration all (declare_column name) w h k = record {
   apart = w.apart;
   rhs_values = w.rhs_values;
   ranges = w.ranges;
   integers = λ q there. more_entries q name tt all.columns (w.integers q there);
   semis = λ q there. more_entries q name tt all.columns (w.semis q there);
 }
-declared_names-adding all (declare_marked c) w h k = record {
+declared_names-with_declaration all (declare_marked c) w h k = record {
   apart = w.apart;
   rhs_values = w.rhs_values;
   ranges = w.ranges;
@@ -83,7 +83,7 @@ declared_names-adding all (declare_marked c) w h k = record {
       (λ is. w.integers q (or_right (has_name all.marked q) _ is));
   semis = w.semis;
 }
-declared_names-adding all (declare_integer c) w h k = record {
+declared_names-with_declaration all (declare_integer c) w h k = record {
   apart = w.apart;
   rhs_values = w.rhs_values;
   ranges = w.ranges;
@@ -93,7 +93,7 @@ declared_names-adding all (declare_integer c) w h k = record {
       (λ is. w.integers q (or_right (has_name all.marked q) _ (or_right (has_name all.integers q) _ is))));
   semis = w.semis;
 }
-declared_names-adding all (declare_binary c) w h k = record {
+declared_names-with_declaration all (declare_binary c) w h k = record {
   apart = w.apart;
   rhs_values = w.rhs_values;
   ranges = w.ranges;
@@ -103,14 +103,14 @@ declared_names-adding all (declare_binary c) w h k = record {
       (more_named (has_column all) q c tt all.binaries k (λ is. w.integers q (or_right (has_name all.marked q) _ (or_right (has_name all.integers q) _ is)))));
   semis = w.semis;
 }
-declared_names-adding all (declare_semi c) w h k = record {
+declared_names-with_declaration all (declare_semi c) w h k = record {
   apart = w.apart;
   rhs_values = w.rhs_values;
   ranges = w.ranges;
   integers = w.integers;
   semis = λ q there. more_named (has_column all) q c tt all.semis k (w.semis q) there;
 }
-declared_names-adding all _ w h k = record { apart = w.apart; rhs_values = w.rhs_values; ranges = w.ranges; integers = w.integers; semis = w.semis }
+declared_names-with_declaration all _ w h k = record { apart = w.apart; rhs_values = w.rhs_values; ranges = w.ranges; integers = w.integers; semis = w.semis }
 
 -- No column is both semi-continuous and integer.
 abbrev pub HasKindsApart : Draft → Type 0
@@ -125,19 +125,19 @@ kinds_differ : (all : Draft) (q c : List ℕ) → is_semi all q ≡ true → not
 kinds_differ all q c is none =
     back (same_bytes q c) (is_semi all c) (λ same. ap (is_semi all) (sym (same_name q c same)) ∙ is) (not_so (is_semi all c) none)
 
-kinds_apart-adding : (all : Draft) (d : Declaration) → HasKindsApart all → is_allowed all d ≡ true → HasKindsApart (adding all d)
-kinds_apart-adding all (declare_marked c) w h = λ q is.
+kinds_apart-with_declaration : (all : Draft) (d : Declaration) → HasKindsApart all → is_allowed all d ≡ true → HasKindsApart (with_declaration all d)
+kinds_apart-with_declaration all (declare_marked c) w h = λ q is.
     ap (λ (b : Bool). b || (has_name all.integers q || has_name all.binaries q)) (other_named q c all.marked (kinds_differ all q c is h)) ∙ w q is
-kinds_apart-adding all (declare_integer c) w h = λ q is.
+kinds_apart-with_declaration all (declare_integer c) w h = λ q is.
     ap (λ (b : Bool). has_name all.marked q || (b || has_name all.binaries q)) (other_named q c all.integers (kinds_differ all q c is h)) ∙ w q is
-kinds_apart-adding all (declare_binary c) w h = λ q is.
+kinds_apart-with_declaration all (declare_binary c) w h = λ q is.
     ap (λ (b : Bool). has_name all.marked q || (has_name all.integers q || b)) (other_named q c all.binaries (kinds_differ all q c is h)) ∙ w q is
-kinds_apart-adding all (declare_semi c) w h = λ q is.
+kinds_apart-with_declaration all (declare_semi c) w h = λ q is.
     elim (same_bytes q c) as (λ b. same_bytes q c ≡ b → (b || is_semi all q) ≡ true → is_integer all q ≡ false) [
       | true ↦ λ same _. ap (is_integer all) (same_name q c same) ∙ not_so (is_integer all c) h
       | false ↦ λ _ there. w q there
     ] refl (sym (has-put q c tt all.semis) ∙ is)
-kinds_apart-adding all _ w h = w
+kinds_apart-with_declaration all _ w h = w
 
 -- ---- a declaration that is not refused
 
@@ -243,11 +243,11 @@ fine-from_none all (declare_range row v) w h =
     }
 fine-from_none all (declare_column name) w h = record { fresh = refl; known = refl; allowed = refl }
 fine-from_none all (declare_coefficient key v) w h =
-    let tail2 : Tests = ((has_entry all key), builds.DuplicateEntry) ∷ [] in
+    let tail2 : Tests = ((has_coefficient all key), builds.DuplicateEntry) ∷ [] in
     let tail1 : Tests = ((not (has_column all key.column)), builds.UnknownColumn) ∷ tail2 in
     let h1 = rest_none (not (has_row all key.row)) builds.UnknownRow tail1 h in
     record {
-      fresh = one_slot (has_entry all key) (first_none (has_entry all key) builds.DuplicateEntry [] (rest_none (not (has_column all key.column)) builds.UnknownColumn tail2 h1));
+      fresh = one_slot (has_coefficient all key) (first_none (has_coefficient all key) builds.DuplicateEntry [] (rest_none (not (has_column all key.column)) builds.UnknownColumn tail2 h1));
       known = both_so (has_row all key.row) (has_column all key.column) (is_false (has_row all key.row) (first_none (not (has_row all key.row)) builds.UnknownRow tail1 h)) (is_false (has_column all key.column) (first_none (not (has_column all key.column)) builds.UnknownColumn tail2 h1));
       allowed = refl;
     }
@@ -317,17 +317,17 @@ side_more all row v (Some o) h one =
     tested true false r h one = one
     tested false s r h one = refl
 
-one-adding : (all : Draft) (d : Declaration) → HasDeclaredNames all → has_one_constant all ≡ true → refusals all d ≡ [] → has_one_constant (adding all d) ≡ true
-one-adding all (declare_objective name) w one h =
+one-with_declaration : (all : Draft) (d : Declaration) → HasDeclaredNames all → has_one_constant all ≡ true → refusals all d ≡ [] → has_one_constant (with_declaration all d) ≡ true
+one-with_declaration all (declare_objective name) w one h =
     let none = first_none (has_row all name) builds.DuplicateRow [] (rest_none (is_some all.objective) builds.SecondObjective ((has_row all name, builds.DuplicateRow) ∷ []) h) in
     no_side (is_some all.constant) (has_name all.rhs_values name) (back (has_name all.rhs_values name) (has_row all name) (w.rhs_values name) none)
-one-adding all (declare_constant v) w one h = so_not (has_objective_rhs all) (nor (is_some all.constant) (has_objective_rhs all) (first_none (has_constant all) builds.DuplicateRhs [] h)).1
-one-adding all (declare_rhs row v) w one h =
+one-with_declaration all (declare_constant v) w one h = so_not (has_objective_rhs all) (nor (is_some all.constant) (has_objective_rhs all) (first_none (has_constant all) builds.DuplicateRhs [] h)).1
+one-with_declaration all (declare_rhs row v) w one h =
     let clash = is_objective all row && is_some all.constant in
     let filled = has_name all.rhs_values row || (is_row_by_limits all row || clash) in
     let a = nor (has_name all.rhs_values row) (is_row_by_limits all row || clash) (first_none filled builds.DuplicateRhs [] (rest_none (not (has_row all row)) builds.UnknownRow ((filled, builds.DuplicateRhs) ∷ []) h)) in
     side_more all row v all.objective (nor (is_row_by_limits all row) clash a.1).1 one
-one-adding all _ w one h = one
+one-with_declaration all _ w one h = one
 
 one-before : (before after : Draft) → Extends before after → has_one_constant after ≡ true → has_one_constant before ≡ true
 one-before before after e one =
@@ -344,7 +344,7 @@ one-before before after e one =
     side_after h = side_from before.objective refl h
 
 -- a right side of the objective leaves no room for a constant
-free_of_constant : (all : Draft) (row : List ℕ) (v : Number) → has_one_constant (adding all (declare_rhs row v)) ≡ true → (is_objective all row && is_some all.constant) ≡ false
+free_of_constant : (all : Draft) (row : List ℕ) (v : Number) → has_one_constant (with_declaration all (declare_rhs row v)) ≡ true → (is_objective all row && is_some all.constant) ≡ false
 free_of_constant all row v one = from all.objective one
   where
     tested : (c s r : Bool) → not (c && (s || r)) ≡ true → (s && c) ≡ false
@@ -372,10 +372,10 @@ allowed-before before after (declare_range row v) e h =
     (back (is_free_row before row) (is_free_row after row) (free_from (at_name before.rows row) refl) none.1)))
     (second_so (not free) (not (is_infinite_size v)) h)
   where
-    free_from : (o : Option RowForm) → at_name before.rows row ≡ o → option_map_or is_free_form o false ≡ true → is_free_row after row ≡ true
+    free_from : (o : Option RowDefinition) → at_name before.rows row ≡ o → option_map_or is_free_definition o false ≡ true → is_free_row after row ≡ true
     free_from None is h = cc
-    free_from (Some form) is h = ap (λ (o : Option RowForm). option_map_or is_free_form o false) (e.row row form is) ∙ h
-allowed-before before after (declare_row name form) e h = h
+    free_from (Some definition) is h = ap (λ (o : Option RowDefinition). option_map_or is_free_definition o false) (e.row row definition is) ∙ h
+allowed-before before after (declare_row name definition) e h = h
 allowed-before before after (declare_lower c l) e h = h
 allowed-before before after (declare_upper c l) e h = h
 allowed-before before after (declare_marked c) e h = not_before (is_semi before c) (is_semi after c) (e.semi c) h
@@ -384,16 +384,16 @@ allowed-before before after (declare_binary c) e h = not_before (is_semi before 
 allowed-before before after (declare_semi c) e h = not_before (is_integer before c) (is_integer after c) (e.integer c) h
 allowed-before before after _ e h = refl
 
-pub none-from_fine : (all : Draft) (d : Declaration) → IsFine all d → has_one_constant (adding all d) ≡ true → refusals all d ≡ []
+pub none-from_fine : (all : Draft) (d : Declaration) → IsFine all d → has_one_constant (with_declaration all d) ≡ true → refusals all d ≡ []
 none-from_fine all (declare_sense s) f one = pass (is_some all.sense) builds.DuplicateSense [] (one_slot_of (is_some all.sense) f.fresh) refl
 none-from_fine all (declare_objective name) f one =
     pass (is_some all.objective) builds.SecondObjective ((has_row all name, builds.DuplicateRow) ∷ []) (not_so (is_some all.objective) (first_so (not (is_some all.objective)) (not (has_row all name) && true) f.fresh))
     (pass (has_row all name) builds.DuplicateRow [] (one_slot_of (has_row all name) (second_so (not (is_some all.objective)) (not (has_row all name) && true) f.fresh)) refl)
 none-from_fine all (declare_constant v) f one =
     pass (has_constant all) builds.DuplicateRhs [] (both_false (is_some all.constant) (has_objective_rhs all) (one_slot_of (is_some all.constant) f.fresh) (not_so (has_objective_rhs all) one)) refl
-none-from_fine all (declare_row name form) f one =
-    pass (has_row all name) builds.DuplicateRow ((have_infinite_side form, builds.InfiniteValue) ∷ []) (not_so (has_row all name) (first_so (not (has_row all name)) _ f.fresh))
-    (pass (have_infinite_side form) builds.InfiniteValue [] (not_so (have_infinite_side form) f.allowed) refl)
+none-from_fine all (declare_row name definition) f one =
+    pass (has_row all name) builds.DuplicateRow ((have_infinite_side definition, builds.InfiniteValue) ∷ []) (not_so (has_row all name) (first_so (not (has_row all name)) _ f.fresh))
+    (pass (have_infinite_side definition) builds.InfiniteValue [] (not_so (have_infinite_side definition) f.allowed) refl)
 none-from_fine all (declare_rhs row v) f one =
     let filled = has_name all.rhs_values row || (is_row_by_limits all row || (is_objective all row && is_some all.constant)) in
     let a = nor (has_name all.rhs_values row) (is_row_by_limits all row) (one_slot_of (has_name all.rhs_values row || is_row_by_limits all row) f.fresh) in
@@ -412,11 +412,11 @@ none-from_fine all (declare_range row v) f one =
     (pass infinite builds.InfiniteValue [] (not_so infinite (second_so (not free) (not infinite) f.allowed)) refl)))
 none-from_fine all (declare_column name) f one = refl
 none-from_fine all (declare_coefficient key v) f one =
-    let tail2 : Tests = (has_entry all key, builds.DuplicateEntry) ∷ [] in
+    let tail2 : Tests = (has_coefficient all key, builds.DuplicateEntry) ∷ [] in
     let tail1 : Tests = (not (has_column all key.column), builds.UnknownColumn) ∷ tail2 in
     pass (not (has_row all key.row)) builds.UnknownRow tail1 (ap not (first_so (has_row all key.row) (has_column all key.column) f.known))
     (pass (not (has_column all key.column)) builds.UnknownColumn tail2 (ap not (second_so (has_row all key.row) (has_column all key.column) f.known))
-    (pass (has_entry all key) builds.DuplicateEntry [] (one_slot_of (has_entry all key) f.fresh) refl))
+    (pass (has_coefficient all key) builds.DuplicateEntry [] (one_slot_of (has_coefficient all key) f.fresh) refl))
 none-from_fine all (declare_lower c limit) f one =
     let tail2 : Tests = (is_plus_infinite limit, builds.InfiniteValue) ∷ [] in
     pass (not (has_column all c)) builds.UnknownColumn ((has_name all.lowers c, builds.DuplicateBound) ∷ tail2) (ap not f.known)
@@ -437,15 +437,15 @@ none-from_fine all (declare_semi c) f one = kind_passes all c (is_integer all c)
 -- no name is used before it is declared
 abbrev pub are_known_in_turn : Draft → Declarations → Bool
 are_known_in_turn before [] = true
-are_known_in_turn before (d ∷ more) = is_known before d && are_known_in_turn (adding before d) more
+are_known_in_turn before (d ∷ more) = is_known before d && are_known_in_turn (with_declaration before d) more
 
 pub record AreFineInTurn (before : Draft) (declarations : Declarations) : Type 0 where
   pub fresh : are_fresh_in_turn before declarations ≡ true
-  pub known : list_all (is_known (adding_all before declarations)) declarations ≡ true
-  pub allowed : list_all (is_allowed (adding_all before declarations)) declarations ≡ true
-  pub one_constant : has_one_constant (adding_all before declarations) ≡ true
-  pub declared_names : HasDeclaredNames (adding_all before declarations)
-  pub kinds_apart : HasKindsApart (adding_all before declarations)
+  pub known : list_all (is_known (with_declarations before declarations)) declarations ≡ true
+  pub allowed : list_all (is_allowed (with_declarations before declarations)) declarations ≡ true
+  pub one_constant : has_one_constant (with_declarations before declarations) ≡ true
+  pub declared_names : HasDeclaredNames (with_declarations before declarations)
+  pub kinds_apart : HasKindsApart (with_declarations before declarations)
 
 -- what a declaration says of a column's kind is said by the draft
 abbrev pub says_kind : Draft → Declaration → Bool
@@ -458,7 +458,7 @@ says_kind all _ = true
 put_there : (c : List ℕ) (es : List (List ℕ × Unit {0})) → has_name (put bytes_cmp c tt es) c ≡ true
 put_there c es = has-put c c tt es ∙ or_left (same_bytes c c) (has_name es c) (itself_named c)
 
-said : (all : Draft) (d : Declaration) → says_kind (adding all d) d ≡ true
+said : (all : Draft) (d : Declaration) → says_kind (with_declaration all d) d ≡ true
 said all (declare_marked c) = or_left _ (has_name all.integers c || has_name all.binaries c) (put_there c all.marked)
 said all (declare_integer c) = or_right (has_name all.marked c) _ (or_left _ (has_name all.binaries c) (put_there c all.integers))
 said all (declare_binary c) = or_right (has_name all.marked c) _ (or_right (has_name all.integers c) _ (put_there c all.binaries))
@@ -484,11 +484,11 @@ allowed-after before after (declare_range row v) e w apart told known h =
     let found = value_in (at_name before.rows row) there in
     let later = e.row row found.0 found.1 in
     let is_no_objective : is_objective after row ≡ false = not_both (is_objective after row) (has_name after.rows row) (w.apart row) (ap is_some later) in
-    let is_not_free : is_free_row after row ≡ false = ap (λ (o : Option RowForm). option_map_or is_free_form o false) (later ∙ sym found.1) ∙ none.1 in
+    let is_not_free : is_free_row after row ≡ false = ap (λ (o : Option RowDefinition). option_map_or is_free_definition o false) (later ∙ sym found.1) ∙ none.1 in
     both_so (not (is_objective after row || is_free_row after row)) (not (is_infinite_size v))
     (so_not (is_objective after row || is_free_row after row) (both_false (is_objective after row) (is_free_row after row) is_no_objective is_not_free))
     (second_so (not free) (not (is_infinite_size v)) h)
-allowed-after before after (declare_row name form) e w apart told known h = h
+allowed-after before after (declare_row name definition) e w apart told known h = h
 allowed-after before after (declare_lower c l) e w apart told known h = h
 allowed-after before after (declare_upper c l) e w apart told known h = h
 allowed-after before after (declare_marked c) e w apart told known h = not_semi after c apart told
@@ -501,14 +501,14 @@ pub none-fine : (declarations : Declarations) (before : Draft) → HasDeclaredNa
     → AreFineInTurn before declarations
 none-fine [] before w apart one h = record { fresh = refl; known = refl; allowed = refl; one_constant = one; declared_names = w; kinds_apart = apart }
 none-fine (d ∷ more) before w apart one h =
-    let f = fine-from_none before d w (left_none (refusals before d) (refusals_in_turn (adding before d) more) h) in
-    let w' = declared_names-adding before d w f.fresh f.known in
-    let apart' = kinds_apart-adding before d apart f.allowed in
-    let r = none-fine more (adding before d) w' apart' (one-adding before d w one (left_none (refusals before d) (refusals_in_turn (adding before d) more) h)) (right_none (refusals before d) (refusals_in_turn (adding before d) more) h) in
-    let fresh = both_so (are_fresh before (slots_of d)) (are_fresh_in_turn (adding before d) more) f.fresh r.fresh in
-    let after = adding_all (adding before d) more in
+    let f = fine-from_none before d w (left_none (refusals before d) (refusals_in_turn (with_declaration before d) more) h) in
+    let w' = declared_names-with_declaration before d w f.fresh f.known in
+    let apart' = kinds_apart-with_declaration before d apart f.allowed in
+    let r = none-fine more (with_declaration before d) w' apart' (one-with_declaration before d w one (left_none (refusals before d) (refusals_in_turn (with_declaration before d) more) h)) (right_none (refusals before d) (refusals_in_turn (with_declaration before d) more) h) in
+    let fresh = both_so (are_fresh before (slots_of d)) (are_fresh_in_turn (with_declaration before d) more) f.fresh r.fresh in
+    let after = with_declarations (with_declaration before d) more in
     let e = extends-in_turn (d ∷ more) before fresh in
-    let told = said-after (adding before d) after d (extends-in_turn more (adding before d) r.fresh) (said before d) in
+    let told = said-after (with_declaration before d) after d (extends-in_turn more (with_declaration before d) r.fresh) (said before d) in
     record {
       fresh = fresh;
       known = both_so (is_known after d) (list_all (is_known after) more) (known-after before after d e f.known) r.known;
@@ -542,21 +542,21 @@ consistent-from_none declarations objective h =
     }
 
 pub none-from_fine_in_turn : (declarations : Declarations) (before : Draft) → are_fresh_in_turn before declarations ≡ true → are_known_in_turn before declarations ≡ true
-    → list_all (is_allowed (adding_all before declarations)) declarations ≡ true → has_one_constant (adding_all before declarations) ≡ true → refusals_in_turn before declarations ≡ []
+    → list_all (is_allowed (with_declarations before declarations)) declarations ≡ true → has_one_constant (with_declarations before declarations) ≡ true → refusals_in_turn before declarations ≡ []
 none-from_fine_in_turn [] before fresh known allowed one = refl
 none-from_fine_in_turn (d ∷ more) before fresh known allowed one =
-    let after = adding_all (adding before d) more in
-    let fresh_here = first_so (are_fresh before (slots_of d)) (are_fresh_in_turn (adding before d) more) fresh in
-    let fresh_then = second_so (are_fresh before (slots_of d)) (are_fresh_in_turn (adding before d) more) fresh in
+    let after = with_declarations (with_declaration before d) more in
+    let fresh_here = first_so (are_fresh before (slots_of d)) (are_fresh_in_turn (with_declaration before d) more) fresh in
+    let fresh_then = second_so (are_fresh before (slots_of d)) (are_fresh_in_turn (with_declaration before d) more) fresh in
     let e = extends-in_turn (d ∷ more) before fresh in
     let f : IsFine before d = record {
       fresh = fresh_here;
-      known = first_so (is_known before d) (are_known_in_turn (adding before d) more) known;
+      known = first_so (is_known before d) (are_known_in_turn (with_declaration before d) more) known;
       allowed = allowed-before before after d e (first_so (is_allowed after d) (list_all (is_allowed after) more) allowed);
     } in
-    join_none (refusals before d) (refusals_in_turn (adding before d) more)
-    (none-from_fine before d f (one-before (adding before d) after (extends-in_turn more (adding before d) fresh_then) one))
-    (none-from_fine_in_turn more (adding before d) fresh_then (second_so (is_known before d) (are_known_in_turn (adding before d) more) known) (second_so (is_allowed after d) (list_all (is_allowed after) more) allowed) one)
+    join_none (refusals before d) (refusals_in_turn (with_declaration before d) more)
+    (none-from_fine before d f (one-before (with_declaration before d) after (extends-in_turn more (with_declaration before d) fresh_then) one))
+    (none-from_fine_in_turn more (with_declaration before d) fresh_then (second_so (is_known before d) (are_known_in_turn (with_declaration before d) more) known) (second_so (is_allowed after d) (list_all (is_allowed after) more) allowed) one)
 
 -- What is consistent is not refused in turn, where nothing is named before it is declared.
 pub none-from_consistent : (declarations : Declarations) → AreConsistent declarations → are_known_in_turn empty_draft declarations ≡ true → refusals_in_turn empty_draft declarations ≡ []

@@ -14,18 +14,18 @@ use Rattle.mpslp_decimal.specs.Decimal.{Number}
 use Rattle.mpslp_types.specs.Name.{same_bytes, bytes_cmp}
 use Rattle.mpslp_types.specs.declared.kinds.Sense.{Sense}
 use Rattle.mpslp_types.proofs.BoolLemmas.{both_so}
-use Rattle.mpslp_core.specs.Model.{key_cmp}
-use Rattle.mpslp_core.specs.Limits.{RowForm}
-use Rattle.mpslp_core.specs.Numbered.{sorted_of, each_part, given_parts, column_cells, all_cells, all_named, IsOnce}
-use Rattle.mpslp_core.proofs.KeyLemmas.{bytes_total, tied_names}
-use Rattle.mpslp_core.proofs.SortedLemmas.{sorted_of-put, sorted_of-append}
-use Rattle.mpslp_core.proofs.PutsLemmas.{equal_from}
-use Rattle.mpslp_core.proofs.CellLemmas.{or_else, find-two}
-use Rattle.mpslp_builder.specs.Declaration.{Draft, adding, declare_objective, declare_row, declare_rhs, declare_range, is_objective, has_name, has_row}
-use Rattle.mpslp_builder.specs.Tables.{bytes, form_of, rhs_of, range_of, objective_name, objective_rhs, number_name, cells_by_name, draft_from, AreNumbered}
-use Rattle.mpslp_numbered.specs.declared.parts.ObjectiveParts.{ObjectiveParts}
-use Rattle.mpslp_numbered.specs.declared.parts.RowParts.{RowParts}
-use Rattle.mpslp_numbered.specs.declared.parts.ColumnParts.{ColumnParts}
+use Rattle.mpslp_model_core.specs.Model.{key_cmp}
+use Rattle.mpslp_model_core.specs.Limits.{RowDefinition}
+use Rattle.mpslp_model_core.specs.Numbered.{sorted_of, each_part, given_parts, column_cells, all_cells, all_named, IsOnce}
+use Rattle.mpslp_model_core.proofs.KeyLemmas.{bytes_total, tied_names}
+use Rattle.mpslp_model_core.proofs.SortedLemmas.{sorted_of-put, sorted_of-append}
+use Rattle.mpslp_model_core.proofs.PutsLemmas.{equal_from}
+use Rattle.mpslp_model_core.proofs.CellLemmas.{or_else, find-two}
+use Rattle.mpslp_builder.specs.Declaration.{Draft, with_declaration, declare_objective, declare_row, declare_rhs, declare_range, is_objective, has_name, has_row}
+use Rattle.mpslp_builder.specs.Tables.{bytes, definition_of, rhs_of, range_of, name_of_objective, objective_rhs, name_of_row_key, cells_by_name, draft_from, AreNumbered}
+use Rattle.mpslp_builder_parts.specs.declared.parts.ObjectiveParts.{ObjectiveParts}
+use Rattle.mpslp_builder_parts.specs.declared.parts.RowParts.{RowParts}
+use Rattle.mpslp_builder_parts.specs.declared.parts.ColumnParts.{ColumnParts}
 use Rattle.mpslp_builder.proofs.NameLemmas.{there_found, once_too, names-more, old_or_last}
 use Rattle.mpslp_builder.proofs.PartLemmas.{each_part-append, each_part-kept, given_parts-without, given_parts-kept, find-given_any, absent-each_part}
 
@@ -89,26 +89,26 @@ find-behind {X} q k x front back more absent put_there =
 module _ (sense : Option Sense) (constant : Option Number) (objective : Option ObjectiveParts) (rows : List (Vec ℕ × RowParts)) (columns : List (Vec ℕ × ColumnParts)) where
   -- ---- a row
 
-  module _ (k : Vec ℕ) (form : RowForm) where
+  module _ (k : Vec ℕ) (definition : RowDefinition) where
     abbrev added : List (Vec ℕ × RowParts)
-    added = rows ++ (k, record { form = form; rhs = None; range = None }) ∷ []
+    added = rows ++ (k, record { definition = definition; rhs = None; range = None }) ∷ []
 
-    kept_name : (n : ℕ) (r : List ℕ) → number_name objective rows n ≡ Some r → number_name objective added n ≡ Some r
+    kept_name : (n : ℕ) (r : List ℕ) → name_of_row_key objective rows n ≡ Some r → name_of_row_key objective added n ≡ Some r
     kept_name zero r h = h
-    kept_name (suc i) r h = names-more bytes rows ((k, record { form = form; rhs = None; range = None }) ∷ []) i r h
+    kept_name (suc i) r h = names-more bytes rows ((k, record { definition = definition; rhs = None; range = None }) ∷ []) i r h
 
-    missing : has_row (draft_from sense constant objective rows columns) (bytes k) ≡ false → find bytes_cmp (bytes k) (each_part bytes form_of rows) ≡ None
+    missing : has_row (draft_from sense constant objective rows columns) (bytes k) ≡ false → find bytes_cmp (bytes k) (each_part bytes definition_of rows) ≡ None
     missing absent =
         let all : Draft = draft_from sense constant objective rows columns in
-        absent-each_part bytes form_of (bytes k) rows (right_false (is_objective all (bytes k)) (has_name all.rows (bytes k)) absent)
+        absent-each_part bytes definition_of (bytes k) rows (right_false (is_objective all (bytes k)) (has_name all.rows (bytes k)) absent)
 
     pub row_draft : AreNumbered objective rows columns → has_row (draft_from sense constant objective rows columns) (bytes k) ≡ false
-        → draft_from sense constant objective added columns ≡ adding (draft_from sense constant objective rows columns) (declare_row (bytes k) form)
+        → draft_from sense constant objective added columns ≡ with_declaration (draft_from sense constant objective rows columns) (declare_row (bytes k) definition)
     row_draft numbered absent =
-        let parts : RowParts = record { form = form; rhs = None; range = None } in
-        let forms : sorted_of bytes_cmp (each_part bytes form_of added) ≡ put bytes_cmp (bytes k) form (sorted_of bytes_cmp (each_part bytes form_of rows)) =
-        ap (sorted_of bytes_cmp) (each_part-append bytes form_of rows k parts) ∙ sorted_of-append bytes_cmp bytes_total tied_names (bytes k) form (each_part bytes form_of rows) (missing absent) in
-        let cells = all_cells-more (number_name objective rows) (number_name objective added) kept_name (cells_by_name columns) numbered.named in
+        let parts : RowParts = record { definition = definition; rhs = None; range = None } in
+        let forms : sorted_of bytes_cmp (each_part bytes definition_of added) ≡ put bytes_cmp (bytes k) definition (sorted_of bytes_cmp (each_part bytes definition_of rows)) =
+        ap (sorted_of bytes_cmp) (each_part-append bytes definition_of rows k parts) ∙ sorted_of-append bytes_cmp bytes_total tied_names (bytes k) definition (each_part bytes definition_of rows) (missing absent) in
+        let cells = all_cells-more (name_of_row_key objective rows) (name_of_row_key objective added) kept_name (cells_by_name columns) numbered.named in
         let rhs_values = given_parts-without bytes rhs_of rows k parts refl in
         let ranges = given_parts-without bytes range_of rows k parts refl in
         λ i. record (draft_from sense constant objective rows columns) {
@@ -118,22 +118,22 @@ module _ (sense : Option Sense) (constant : Option Number) (objective : Option O
           coefficients = sorted_of key_cmp (cells i);
         }
 
-    old_or_new : (n : ℕ) (r : List ℕ) → number_name objective added n ≡ Some r → (number_name objective rows n ≡ Some r) ⊎ ((n ≡ suc (length rows)) × (bytes k ≡ r))
+    old_or_new : (n : ℕ) (r : List ℕ) → name_of_row_key objective added n ≡ Some r → (name_of_row_key objective rows n ≡ Some r) ⊎ ((n ≡ suc (length rows)) × (bytes k ≡ r))
     old_or_new zero r h = inl h
     old_or_new (suc i) r h =
-        elim (old_or_last bytes rows k (record { form = form; rhs = None; range = None }) i r h) [
+        elim (old_or_last bytes rows k (record { definition = definition; rhs = None; range = None }) i r h) [
           | inl old ↦ inl old
           | inr last ↦ inr (ap suc last.0, last.1)
         ]
 
-    not_new : has_row (draft_from sense constant objective rows columns) (bytes k) ≡ false → (n : ℕ) → number_name objective rows n ≡ Some (bytes k) → ⊥
+    not_new : has_row (draft_from sense constant objective rows columns) (bytes k) ≡ false → (n : ℕ) → name_of_row_key objective rows n ≡ Some (bytes k) → ⊥
     not_new absent zero h =
         let all : Draft = draft_from sense constant objective rows columns in
         let none = left_false (is_objective all (bytes k)) (has_name all.rows (bytes k)) absent in
         let own : same_bytes (bytes k) (bytes k) ≡ false = sym (ap (λ (o : Option (List ℕ)). option_map_or (same_bytes (bytes k)) o false) h) ∙ none in
         let so : same_bytes (bytes k) (bytes k) ≡ true = nat_list_eq_equiv.refl (bytes k) in
         cc
-    not_new absent (suc i) h = there_found bytes form_of rows i (bytes k) h (missing absent)
+    not_new absent (suc i) h = there_found bytes definition_of rows i (bytes k) h (missing absent)
 
     pub row_numbered : AreNumbered objective rows columns → length rows < 4294967294 → has_row (draft_from sense constant objective rows columns) (bytes k) ≡ false → AreNumbered objective added columns
     row_numbered numbered few absent = record {
@@ -149,7 +149,7 @@ module _ (sense : Option Sense) (constant : Option Number) (objective : Option O
               | inr b ↦ a.0 ∙ sym b.0
             ]
           ];
-      named = all_named-more (number_name objective rows) (number_name objective added) kept_name (cells_by_name columns) numbered.named;
+      named = all_named-more (name_of_row_key objective rows) (name_of_row_key objective added) kept_name (cells_by_name columns) numbered.named;
     }
 
   -- ---- a row that is written
@@ -162,7 +162,7 @@ module _ (sense : Option Sense) (constant : Option Number) (objective : Option O
     same_names (e ∷ es) (suc i) zero = refl
     same_names (e ∷ es) (suc i) (suc j) = same_names es i j
 
-    same_name_at : (n : ℕ) → number_name objective (set_value_at rows i w) n ≡ number_name objective rows n
+    same_name_at : (n : ℕ) → name_of_row_key objective (set_value_at rows i w) n ≡ name_of_row_key objective rows n
     same_name_at zero = refl
     same_name_at (suc j) = same_names rows i j
 
@@ -171,31 +171,31 @@ module _ (sense : Option Sense) (constant : Option Number) (objective : Option O
     same_length (e ∷ es) zero = refl
     same_length (e ∷ es) (suc i) = ap suc (same_length es i)
 
-    still : (n : ℕ) (r : List ℕ) → number_name objective rows n ≡ Some r → number_name objective (set_value_at rows i w) n ≡ Some r
+    still : (n : ℕ) (r : List ℕ) → name_of_row_key objective rows n ≡ Some r → name_of_row_key objective (set_value_at rows i w) n ≡ Some r
     still n r h = same_name_at n ∙ h
 
     pub written_numbered : AreNumbered objective rows columns → AreNumbered objective (set_value_at rows i w) columns
     written_numbered numbered = record {
       few = rw (same_length rows i) numbered.few;
       apart = λ n m r p q. numbered.apart n m r (sym (same_name_at n) ∙ p) (sym (same_name_at m) ∙ q);
-      named = all_named-more (number_name objective rows) (number_name objective (set_value_at rows i w)) still (cells_by_name columns) numbered.named;
+      named = all_named-more (name_of_row_key objective rows) (name_of_row_key objective (set_value_at rows i w)) still (cells_by_name columns) numbered.named;
     }
 
-    same_cells : AreNumbered objective rows columns → sorted_of key_cmp (all_cells (number_name objective (set_value_at rows i w)) (cells_by_name columns)) ≡ sorted_of key_cmp (all_cells (number_name objective rows) (cells_by_name columns))
-    same_cells numbered = ap (sorted_of key_cmp) (all_cells-more (number_name objective rows) (number_name objective (set_value_at rows i w)) still (cells_by_name columns) numbered.named)
+    same_cells : AreNumbered objective rows columns → sorted_of key_cmp (all_cells (name_of_row_key objective (set_value_at rows i w)) (cells_by_name columns)) ≡ sorted_of key_cmp (all_cells (name_of_row_key objective rows) (cells_by_name columns))
+    same_cells numbered = ap (sorted_of key_cmp) (all_cells-more (name_of_row_key objective rows) (name_of_row_key objective (set_value_at rows i w)) still (cells_by_name columns) numbered.named)
 
-    same_forms : form_of w ≡ form_of v → sorted_of bytes_cmp (each_part bytes form_of (set_value_at rows i w)) ≡ sorted_of bytes_cmp (each_part bytes form_of rows)
-    same_forms same = ap (sorted_of bytes_cmp) (each_part-kept bytes form_of rows i k v w row same)
+    same_forms : definition_of w ≡ definition_of v → sorted_of bytes_cmp (each_part bytes definition_of (set_value_at rows i w)) ≡ sorted_of bytes_cmp (each_part bytes definition_of rows)
+    same_forms same = ap (sorted_of bytes_cmp) (each_part-kept bytes definition_of rows i k v w row same)
 
-    pub range_draft : (x : Number) → AreNumbered objective rows columns → IsOnce (each_part bytes form_of rows) → w ≡ record v { range = Some x }
-        → draft_from sense constant objective (set_value_at rows i w) columns ≡ adding (draft_from sense constant objective rows columns) (declare_range (bytes k) x)
+    pub range_draft : (x : Number) → AreNumbered objective rows columns → IsOnce (each_part bytes definition_of rows) → w ≡ record v { range = Some x }
+        → draft_from sense constant objective (set_value_at rows i w) columns ≡ with_declaration (draft_from sense constant objective rows columns) (declare_range (bytes k) x)
     range_draft x numbered once is =
         let rhs_values = given_parts-kept bytes rhs_of rows i k v w row (ap rhs_of is) in
         let ranges : sorted_of bytes_cmp (given_parts bytes range_of (set_value_at rows i w)) ≡ put bytes_cmp (bytes k) x (sorted_of bytes_cmp (given_parts bytes range_of rows)) =
         sorted_of-put bytes_cmp bytes_total tied_names (bytes k) x (given_parts bytes range_of (set_value_at rows i w)) (given_parts bytes range_of rows)
-        (λ q. find-given_any bytes range_of q x rows i k v w row (ap range_of is) (once_too bytes form_of (λ (y : RowParts). y) rows once)) in
+        (λ q. find-given_any bytes range_of q x rows i k v w row (ap range_of is) (once_too bytes definition_of (λ (y : RowParts). y) rows once)) in
         λ j. record (draft_from sense constant objective rows columns) {
-          rows = same_forms (ap form_of is) j;
+          rows = same_forms (ap definition_of is) j;
           rhs_values = sorted_of bytes_cmp (objective_rhs objective ++ rhs_values j);
           ranges = ranges j;
           coefficients = same_cells numbered j;
@@ -212,24 +212,24 @@ module _ (sense : Option Sense) (constant : Option Number) (objective : Option O
                 | Some x ↦ elim (eq_by_cmp bytes_cmp (bytes k) parts.name) as (λ b. eq_by_cmp bytes_cmp (bytes k) parts.name ≡ b → cond b (Some x) None ≡ None) [
                   | true ↦ λ tie.
                       let same : bytes k ≡ parts.name = tied_names (bytes k) parts.name (equal_from (bytes_cmp (bytes k) parts.name) tie) in
-                      let no : zero ≡ suc i = numbered.apart zero (suc i) (bytes k) (ap objective_name there ∙ ap Some (sym same)) (ap (option_map (λ (e : Vec ℕ × RowParts). bytes e.0)) row) in
+                      let no : zero ≡ suc i = numbered.apart zero (suc i) (bytes k) (ap name_of_objective there ∙ ap Some (sym same)) (ap (option_map (λ (e : Vec ℕ × RowParts). bytes e.0)) row) in
                       cc
                   | false ↦ λ _. refl
                 ] refl
               ]
         ] refl
 
-    pub rhs_draft : (x : Number) → AreNumbered objective rows columns → IsOnce (each_part bytes form_of rows) → w ≡ record v { rhs = Some x }
-        → draft_from sense constant objective (set_value_at rows i w) columns ≡ adding (draft_from sense constant objective rows columns) (declare_rhs (bytes k) x)
+    pub rhs_draft : (x : Number) → AreNumbered objective rows columns → IsOnce (each_part bytes definition_of rows) → w ≡ record v { rhs = Some x }
+        → draft_from sense constant objective (set_value_at rows i w) columns ≡ with_declaration (draft_from sense constant objective rows columns) (declare_rhs (bytes k) x)
     rhs_draft x numbered once is =
         let ranges = given_parts-kept bytes range_of rows i k v w row (ap range_of is) in
         let front = objective_rhs objective in
         let rhs_values : sorted_of bytes_cmp (front ++ given_parts bytes rhs_of (set_value_at rows i w)) ≡ put bytes_cmp (bytes k) x (sorted_of bytes_cmp (front ++ given_parts bytes rhs_of rows)) =
         sorted_of-put bytes_cmp bytes_total tied_names (bytes k) x (front ++ given_parts bytes rhs_of (set_value_at rows i w)) (front ++ given_parts bytes rhs_of rows)
         (λ q. find-behind q (bytes k) x front (given_parts bytes rhs_of rows) (given_parts bytes rhs_of (set_value_at rows i w)) (other_rhs numbered)
-        (find-given_any bytes rhs_of q x rows i k v w row (ap rhs_of is) (once_too bytes form_of (λ (y : RowParts). y) rows once))) in
+        (find-given_any bytes rhs_of q x rows i k v w row (ap rhs_of is) (once_too bytes definition_of (λ (y : RowParts). y) rows once))) in
         λ j. record (draft_from sense constant objective rows columns) {
-          rows = same_forms (ap form_of is) j;
+          rows = same_forms (ap definition_of is) j;
           rhs_values = rhs_values j;
           ranges = sorted_of bytes_cmp (ranges j);
           coefficients = same_cells numbered j;
@@ -242,28 +242,28 @@ module _ (sense : Option Sense) (constant : Option Number) (name : List ℕ) (ro
   named = Some (record { name = name; rhs = None })
 
   module _ (numbered : AreNumbered None rows columns) where
-    still_named : (n : ℕ) (r : List ℕ) → number_name None rows n ≡ Some r → number_name named rows n ≡ Some r
+    still_named : (n : ℕ) (r : List ℕ) → name_of_row_key None rows n ≡ Some r → name_of_row_key named rows n ≡ Some r
     still_named zero r h = cc
     still_named (suc i) r h = h
 
-    pub objective_draft : draft_from sense constant named rows columns ≡ adding (draft_from sense constant None rows columns) (declare_objective name)
+    pub objective_draft : draft_from sense constant named rows columns ≡ with_declaration (draft_from sense constant None rows columns) (declare_objective name)
     objective_draft =
-        let cells = all_cells-more (number_name None rows) (number_name named rows) still_named (cells_by_name columns) numbered.named in
+        let cells = all_cells-more (name_of_row_key None rows) (name_of_row_key named rows) still_named (cells_by_name columns) numbered.named in
         λ i. record (draft_from sense constant None rows columns) { objective = Some name; coefficients = sorted_of key_cmp (cells i) }
 
     no_row : has_row (draft_from sense constant None rows columns) name ≡ false → (i : ℕ) (r : List ℕ) → option_map (λ e. bytes e.0) (slice_get rows i) ≡ Some r → Some name ≡ Some r → ⊥
     no_row absent i r h is =
         let same : ◌≡◌ {A = List ℕ} r name = cc in
-        there_found bytes form_of rows i name (h ∙ ap Some same) (absent-each_part bytes form_of name rows absent)
+        there_found bytes definition_of rows i name (h ∙ ap Some same) (absent-each_part bytes definition_of name rows absent)
 
     pub objective_numbered : has_row (draft_from sense constant None rows columns) name ≡ false → AreNumbered named rows columns
     objective_numbered absent = record {
       few = numbered.few;
       apart = apart;
-      named = all_named-more (number_name None rows) (number_name named rows) still_named (cells_by_name columns) numbered.named;
+      named = all_named-more (name_of_row_key None rows) (name_of_row_key named rows) still_named (cells_by_name columns) numbered.named;
     }
       where
-        apart : (n m : ℕ) (r : List ℕ) → number_name named rows n ≡ Some r → number_name named rows m ≡ Some r → n ≡ m
+        apart : (n m : ℕ) (r : List ℕ) → name_of_row_key named rows n ≡ Some r → name_of_row_key named rows m ≡ Some r → n ≡ m
         apart zero zero r p q = refl
         apart zero (suc j) r p q = absurd (no_row absent j r q p)
         apart (suc i) zero r p q = absurd (no_row absent i r p q)
@@ -271,7 +271,7 @@ module _ (sense : Option Sense) (constant : Option Number) (name : List ℕ) (ro
 
 -- the right side of the objective
 module _ (sense : Option Sense) (constant : Option Number) (o : ObjectiveParts) (x : Number) (rows : List (Vec ℕ × RowParts)) (columns : List (Vec ℕ × ColumnParts)) where
-  pub objective_rhs_draft : o.rhs ≡ None → draft_from sense constant (Some (record o { rhs = Some x })) rows columns ≡ adding (draft_from sense constant (Some o) rows columns) (declare_rhs o.name x)
+  pub objective_rhs_draft : o.rhs ≡ None → draft_from sense constant (Some (record o { rhs = Some x })) rows columns ≡ with_declaration (draft_from sense constant (Some o) rows columns) (declare_rhs o.name x)
   objective_rhs_draft none =
       ap (λ (value : Option Number). record (draft_from sense constant (Some o) rows columns) {
         rhs_values = put bytes_cmp o.name x (sorted_of bytes_cmp (option_map_or (λ v. (o.name, v) ∷ []) value [] ++ given_parts bytes rhs_of rows));

@@ -5,8 +5,8 @@ use Rattle.std.specs.Option.{option_map_or}
 use Rattle.std.specs.Cmp.{first_so, second_so}
 use Rattle.std.specs.Ordering.{is_eq}
 use Rattle.mpslp_decimal.specs.Decimal.{Number, IsDecimal, is_decimal, is_zero, zero_number, is_infinite_size, size_of, sum_of, difference_of, decimal_cmp}
-use Rattle.mpslp_types.specs.Sides.{limit_of, are_sides, is_at_most, is_bounded_decimal, has_bounded_distance}
-use Rattle.mpslp_core.specs.Limits.{sides, limits_of, plain_limits}
+use Rattle.mpslp_types.specs.Limit.{limit_of, are_sides, is_at_most, is_bounded_decimal, has_bounded_distance}
+use Rattle.mpslp_model_core.specs.Limits.{sides, limits_of, plain_limits}
 use Rattle.mpslp_builder.specs.Declaration.{by_type}
 use Rattle.mpslp_types.specs.declared.kinds.Limit.{Limit}
 use Rattle.mpslp_types.specs.declared.kinds.Limit.TheVariants.{MinusInf, Finite, PlusInf}

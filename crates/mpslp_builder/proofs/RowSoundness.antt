@@ -4,17 +4,17 @@ use Rattle.std.specs.Prelude.{◌&&◌, ◌||◌, ◌+ℤ◌, Option, Some, None
 use Rattle.std.specs.Option.{option_map_or}
 use Rattle.std.specs.Cmp.{first_so, second_so}
 use Rattle.mpslp_decimal.specs.Decimal.{Number, is_decimal, is_negative, is_infinite_size, size_of, normal, decimal_of, scaled, at_scale, negated, sum_of, difference_of}
-use Rattle.mpslp_core.specs.Model.{Row}
-use Rattle.mpslp_types.specs.Sides.{limit_of, is_at_most, is_bounded_decimal, is_lower_side, is_upper_side, are_sides, has_bounded_distance, is_given, is_plus_infinite, is_minus_infinite}
-use Rattle.mpslp_builder.specs.Declaration.{RowForm, by_type, by_limits, have_infinite_side}
-use Rattle.mpslp_core.specs.Limits.{sides, limits_of, has_infinite_rhs, is_inexact, is_too_large, is_large_limit, is_crossed}
+use Rattle.mpslp_model_core.specs.Model.{Row}
+use Rattle.mpslp_types.specs.Limit.{limit_of, is_at_most, is_bounded_decimal, is_lower_side, is_upper_side, are_sides, has_bounded_distance, is_given, is_plus_infinite, is_minus_infinite}
+use Rattle.mpslp_builder.specs.Declaration.{RowDefinition, by_type, by_limits, have_infinite_side}
+use Rattle.mpslp_model_core.specs.Limits.{sides, limits_of, has_infinite_rhs, is_inexact, is_too_large, is_large_limit, is_crossed}
 use Rattle.mpslp_types.specs.declared.kinds.Limit.{Limit}
 use Rattle.mpslp_types.specs.declared.kinds.Limit.TheVariants.{MinusInf, Finite, PlusInf}
 use Rattle.mpslp_types.specs.declared.kinds.RowType.TheVariants.{Free, AtMost, AtLeast, Equal}
 use Rattle.mpslp_types.proofs.BoolLemmas.{both_so, not_so, so_not, nor}
 
 -- a form whose limits are given ones, neither of which excludes all
-abbrev pub is_legal_form : RowForm → Bool
+abbrev pub is_legal_form : RowDefinition → Bool
 is_legal_form (by_type type) = true
 is_legal_form (by_limits l u) = (is_given l && is_given u) && not (have_infinite_side (by_limits l u))
 
@@ -128,7 +128,7 @@ may_be_upper-given MinusInf h k = sym k
 may_be_upper-given (Finite a) h k = first_so (is_decimal a) (not (is_infinite_size a)) h
 may_be_upper-given PlusInf h k = refl
 
-sides-of_form : (form : RowForm) (b : Number) (r : Option Number) → is_legal_form form ≡ true → is_decimal b ≡ true → has_infinite_rhs form b r ≡ false → may_have_sides (limits_of form b r) ≡ true
+sides-of_form : (definition : RowDefinition) (b : Number) (r : Option Number) → is_legal_form definition ≡ true → is_decimal b ≡ true → has_infinite_rhs definition b r ≡ false → may_have_sides (limits_of definition b r) ≡ true
 sides-of_form (by_type Free) b None f h k = refl
 sides-of_form (by_type Free) b (Some r) f h k = refl
 sides-of_form (by_type AtMost) b None f h k = upper_limit (is_infinite_size b) (is_negative b) b h k
@@ -163,9 +163,9 @@ from_limits (Some row) m a b c =
     let s = limits-from_tests row.lower row.upper (first_so (may_be_lower row.lower) (may_be_upper row.upper) m) (second_so (may_be_lower row.lower) (may_be_upper row.upper) m) a b c in
     record { row = row; is = refl; sides = s.sides; distance = s.distance }
 
-pub sound-from_no_fault : (form : RowForm) (b : Number) (r : Option Number) → is_legal_form form ≡ true → is_decimal b ≡ true → has_infinite_rhs form b r ≡ false
-    → is_inexact (limits_of form b r) ≡ false → is_too_large (limits_of form b r) ≡ false → is_crossed (limits_of form b r) ≡ false → IsSoundForm (limits_of form b r)
-sound-from_no_fault form b r f h k = from_limits (limits_of form b r) (sides-of_form form b r f h k)
+pub sound-from_no_fault : (definition : RowDefinition) (b : Number) (r : Option Number) → is_legal_form definition ≡ true → is_decimal b ≡ true → has_infinite_rhs definition b r ≡ false
+    → is_inexact (limits_of definition b r) ≡ false → is_too_large (limits_of definition b r) ≡ false → is_crossed (limits_of definition b r) ≡ false → IsSoundForm (limits_of definition b r)
+sound-from_no_fault definition b r f h k = from_limits (limits_of definition b r) (sides-of_form definition b r f h k)
 
 -- the side that a given value makes may be declared
 pub given-limit_of : (d : Number) → is_decimal d ≡ true → is_given (limit_of d) ≡ true

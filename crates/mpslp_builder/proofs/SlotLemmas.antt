@@ -11,9 +11,9 @@ use Rattle.std.specs.FinMap.{find, put}
 use Rattle.std.specs.FinMap.Entries.{find-put}
 use Rattle.std.proofs.lemmas.List.Folds.{list_any-append, list_all-append}
 use Rattle.mpslp_types.specs.Name.{same_bytes, bytes_cmp}
-use Rattle.mpslp_core.specs.Model.{CoefficientKey, key_cmp, key_total}
-use Rattle.mpslp_builder.specs.Declaration.{RowForm, by_type, by_limits, Declaration, declare_sense, declare_objective, declare_constant, declare_row, declare_rhs, declare_range, declare_column, declare_coefficient, declare_lower, declare_upper, declare_marked, declare_integer, declare_binary, declare_semi, Declarations, Draft, adding, at_name, has_name, has_row, is_objective, has_entry, is_limits_form, is_row_by_limits}
-use Rattle.mpslp_core.specs.Lists.{are_distinct}
+use Rattle.mpslp_model_core.specs.Model.{CoefficientKey, key_cmp, key_total}
+use Rattle.mpslp_builder.specs.Declaration.{RowDefinition, by_type, by_limits, Declaration, declare_sense, declare_objective, declare_constant, declare_row, declare_rhs, declare_range, declare_column, declare_coefficient, declare_lower, declare_upper, declare_marked, declare_integer, declare_binary, declare_semi, Declarations, Draft, with_declaration, at_name, has_name, has_row, is_objective, has_coefficient, is_definition_by_limits, is_row_by_limits}
+use Rattle.mpslp_model_core.specs.Lists.{are_distinct}
 use Rattle.mpslp_builder.specs.Consistency.{Slot, sense_slot, objective_slot, constant_slot, row_slot, rhs_slot, range_slot, coefficient_slot, lower_slot, upper_slot, same_slot, slots_of, all_slots}
 use Rattle.mpslp_types.proofs.BoolLemmas.{or_end, all_true, mixed, mixed_more}
 
@@ -49,7 +49,7 @@ is_filled all constant_slot = is_some all.constant
 is_filled all (row_slot name) = has_row all name
 is_filled all (rhs_slot name) = has_name all.rhs_values name || is_row_by_limits all name
 is_filled all (range_slot name) = has_name all.ranges name || is_row_by_limits all name
-is_filled all (coefficient_slot key) = has_entry all key
+is_filled all (coefficient_slot key) = has_coefficient all key
 is_filled all (lower_slot name) = has_name all.lowers name
 is_filled all (upper_slot name) = has_name all.uppers name
 
@@ -74,13 +74,13 @@ after_or : (s a r l : Bool) → ((s || r) || l) ≡ ((s || false) || (r || l))
 after_or true a r l = refl
 after_or false a r l = refl
 
-limits_of_cond : (b : Bool) (form : RowForm) (o : Option RowForm) → option_map_or is_limits_form (cond b (Some form) o) false ≡ cond b (is_limits_form form) (option_map_or is_limits_form o false)
-limits_of_cond true form o = refl
-limits_of_cond false form o = refl
+limits_of_cond : (b : Bool) (definition : RowDefinition) (o : Option RowDefinition) → option_map_or is_definition_by_limits (cond b (Some definition) o) false ≡ cond b (is_definition_by_limits definition) (option_map_or is_definition_by_limits o false)
+limits_of_cond true definition o = refl
+limits_of_cond false definition o = refl
 
-pub limits_need_row : (o : Option RowForm) → is_some o ≡ false → option_map_or is_limits_form o false ≡ false
+pub limits_need_row : (o : Option RowDefinition) → is_some o ≡ false → option_map_or is_definition_by_limits o false ≡ false
 limits_need_row None h = refl
-limits_need_row (Some form) h = cc
+limits_need_row (Some definition) h = cc
 
 pub fresh_row : (a b : Bool) (rest : Bool) → (not (a || b) && rest) ≡ true → b ≡ false
 fresh_row true b rest h = cc
@@ -101,8 +101,8 @@ by_limits_after false r was = refl
 by_limits_second : (here r was : Bool) → (r || cond here true was) ≡ ((here || false) || (r || was))
 by_limits_second = by_limits_after
 
-limits_at : (all : Draft) (n name : List ℕ) (form : RowForm) → is_row_by_limits (adding all (declare_row name form)) n ≡ cond (same_bytes n name) (is_limits_form form) (is_row_by_limits all n)
-limits_at all n name form = ap (λ (o : Option RowForm). option_map_or is_limits_form o false) (at-put n name form all.rows) ∙ limits_of_cond (same_bytes n name) form (at_name all.rows n)
+limits_at : (all : Draft) (n name : List ℕ) (definition : RowDefinition) → is_row_by_limits (with_declaration all (declare_row name definition)) n ≡ cond (same_bytes n name) (is_definition_by_limits definition) (is_row_by_limits all n)
+limits_at all n name definition = ap (λ (o : Option RowDefinition). option_map_or is_definition_by_limits o false) (at-put n name definition all.rows) ∙ limits_of_cond (same_bytes n name) definition (at_name all.rows n)
 
 pub same_name : (a b : List ℕ) → same_bytes a b ≡ true → a ≡ b
 same_name a b h = same_text a b (sym h)
@@ -113,43 +113,43 @@ was_no_limits all n name rest h same =
     (ap (λ (k : List ℕ). has_name all.rows k) (same_name n name same) ∙ fresh_row (is_objective all name) (has_name all.rows name) rest h)
 
 -- A declaration whose slots were free fills these and no more.
-pub filled-adding : (all : Draft) (d : Declaration) (slot : Slot) → are_fresh all (slots_of d) ≡ true
-    → is_filled (adding all d) slot ≡ (fills d slot || is_filled all slot)
-filled-adding all (declare_objective name) (row_slot n) h =
+pub filled-with_declaration : (all : Draft) (d : Declaration) (slot : Slot) → are_fresh all (slots_of d) ≡ true
+    → is_filled (with_declaration all d) slot ≡ (fills d slot || is_filled all slot)
+filled-with_declaration all (declare_objective name) (row_slot n) h =
     row_by_objective all.objective name n (has_name all.rows n) (first_so (not (is_some all.objective)) (not (has_row all name) && true) h)
-filled-adding all (declare_row name (by_type type)) (row_slot n) h =
+filled-with_declaration all (declare_row name (by_type type)) (row_slot n) h =
     ap (λ (b : Bool). is_objective all n || b) (has-put n name (by_type type) all.rows) ∙ in_row (same_bytes n name) (is_objective all n) (has_name all.rows n) false refl
-filled-adding all (declare_row name (by_limits l u)) (row_slot n) h =
+filled-with_declaration all (declare_row name (by_limits l u)) (row_slot n) h =
     ap (λ (b : Bool). is_objective all n || b) (has-put n name (by_limits l u) all.rows) ∙ in_row (same_bytes n name) (is_objective all n) (has_name all.rows n) false refl
-filled-adding all (declare_row name (by_type type)) (rhs_slot n) h =
+filled-with_declaration all (declare_row name (by_type type)) (rhs_slot n) h =
     ap (λ (b : Bool). has_name all.rhs_values n || b) (limits_at all n name (by_type type))
     ∙ by_type_after (same_bytes n name) (has_name all.rhs_values n) (is_row_by_limits all n) (was_no_limits all n name _ h)
-filled-adding all (declare_row name (by_type type)) (range_slot n) h =
+filled-with_declaration all (declare_row name (by_type type)) (range_slot n) h =
     ap (λ (b : Bool). has_name all.ranges n || b) (limits_at all n name (by_type type))
     ∙ by_type_after (same_bytes n name) (has_name all.ranges n) (is_row_by_limits all n) (was_no_limits all n name _ h)
-filled-adding all (declare_row name (by_limits l u)) (rhs_slot n) h =
+filled-with_declaration all (declare_row name (by_limits l u)) (rhs_slot n) h =
     ap (λ (b : Bool). has_name all.rhs_values n || b) (limits_at all n name (by_limits l u))
     ∙ by_limits_after (same_bytes n name) (has_name all.rhs_values n) (is_row_by_limits all n)
-filled-adding all (declare_row name (by_limits l u)) (range_slot n) h =
+filled-with_declaration all (declare_row name (by_limits l u)) (range_slot n) h =
     ap (λ (b : Bool). has_name all.ranges n || b) (limits_at all n name (by_limits l u))
     ∙ by_limits_after (same_bytes n name) (has_name all.ranges n) (is_row_by_limits all n)
-filled-adding all (declare_row name (by_type type)) _ h = refl
-filled-adding all (declare_row name (by_limits l u)) _ h = refl
-filled-adding all (declare_rhs row v) (rhs_slot n) h =
+filled-with_declaration all (declare_row name (by_type type)) _ h = refl
+filled-with_declaration all (declare_row name (by_limits l u)) _ h = refl
+filled-with_declaration all (declare_rhs row v) (rhs_slot n) h =
     ap (λ (b : Bool). b || is_row_by_limits all n) (has-put n row v all.rhs_values) ∙ after_or (same_bytes n row) true (has_name all.rhs_values n) (is_row_by_limits all n)
-filled-adding all (declare_range row v) (range_slot n) h =
+filled-with_declaration all (declare_range row v) (range_slot n) h =
     ap (λ (b : Bool). b || is_row_by_limits all n) (has-put n row v all.ranges) ∙ after_or (same_bytes n row) true (has_name all.ranges n) (is_row_by_limits all n)
-filled-adding all (declare_coefficient key v) (coefficient_slot p) h = has-put_key p key v all.coefficients ∙ or_end (same_bytes p.row key.row && same_bytes p.column key.column) (has_entry all p)
-filled-adding all (declare_lower name v) (lower_slot n) h = has-put n name v all.lowers ∙ or_end (same_bytes n name) (has_name all.lowers n)
-filled-adding all (declare_upper name v) (upper_slot n) h = has-put n name v all.uppers ∙ or_end (same_bytes n name) (has_name all.uppers n)
-filled-adding all (declare_sense x) sense_slot h = refl
-filled-adding all (declare_constant x) sense_slot h = refl
-filled-adding all (declare_column x) sense_slot h = refl
-filled-adding all (declare_marked x) sense_slot h = refl
-filled-adding all (declare_integer x) sense_slot h = refl
-filled-adding all (declare_binary x) sense_slot h = refl
-filled-adding all (declare_semi x) sense_slot h = refl
-filled-adding all _ _ h = refl
+filled-with_declaration all (declare_coefficient key v) (coefficient_slot p) h = has-put_key p key v all.coefficients ∙ or_end (same_bytes p.row key.row && same_bytes p.column key.column) (has_coefficient all p)
+filled-with_declaration all (declare_lower name v) (lower_slot n) h = has-put n name v all.lowers ∙ or_end (same_bytes n name) (has_name all.lowers n)
+filled-with_declaration all (declare_upper name v) (upper_slot n) h = has-put n name v all.uppers ∙ or_end (same_bytes n name) (has_name all.uppers n)
+filled-with_declaration all (declare_sense x) sense_slot h = refl
+filled-with_declaration all (declare_constant x) sense_slot h = refl
+filled-with_declaration all (declare_column x) sense_slot h = refl
+filled-with_declaration all (declare_marked x) sense_slot h = refl
+filled-with_declaration all (declare_integer x) sense_slot h = refl
+filled-with_declaration all (declare_binary x) sense_slot h = refl
+filled-with_declaration all (declare_semi x) sense_slot h = refl
+filled-with_declaration all _ _ h = refl
 
 -- ---- distinct slots
 
@@ -183,12 +183,12 @@ distinct_own (declare_row name (by_type type)) = refl
 distinct_own (declare_row name (by_limits l u)) = refl
 distinct_own _ = refl
 
-fresh-adding : (all : Draft) (d : Declaration) (later : List Slot) → are_fresh all (slots_of d) ≡ true
-    → are_fresh (adding all d) later ≡ (are_apart (slots_of d) later && are_fresh all later)
-fresh-adding all d [] h = refl
-fresh-adding all d (slot ∷ later) h =
-    ap (λ (b : Bool). not b && are_fresh (adding all d) later) (filled-adding all d slot h)
-    ∙ ap (λ (b : Bool). not (fills d slot || is_filled all slot) && b) (fresh-adding all d later h)
+fresh-with_declaration : (all : Draft) (d : Declaration) (later : List Slot) → are_fresh all (slots_of d) ≡ true
+    → are_fresh (with_declaration all d) later ≡ (are_apart (slots_of d) later && are_fresh all later)
+fresh-with_declaration all d [] h = refl
+fresh-with_declaration all d (slot ∷ later) h =
+    ap (λ (b : Bool). not b && are_fresh (with_declaration all d) later) (filled-with_declaration all d slot h)
+    ∙ ap (λ (b : Bool). not (fills d slot || is_filled all slot) && b) (fresh-with_declaration all d later h)
     ∙ mixed (fills d slot) (is_filled all slot) (are_apart (slots_of d) later) (are_fresh all later)
 
 -- ---- in turn
@@ -196,7 +196,7 @@ fresh-adding all d (slot ∷ later) h =
 -- each declaration's slots are free when it comes
 abbrev pub are_fresh_in_turn : Draft → Declarations → Bool
 are_fresh_in_turn before [] = true
-are_fresh_in_turn before (d ∷ more) = are_fresh before (slots_of d) && are_fresh_in_turn (adding before d) more
+are_fresh_in_turn before (d ∷ more) = are_fresh before (slots_of d) && are_fresh_in_turn (with_declaration before d) more
 
 -- That is: no slot was filled before, and none is filled twice, in whatever order.
 pub fresh_in_turn-is : (declarations : Declarations) (before : Draft)
@@ -205,10 +205,10 @@ fresh_in_turn-is [] before = refl
 fresh_in_turn-is (d ∷ more) before =
     let mine = slots_of d in
     let rest = all_slots more in
-    elim (are_fresh before mine) as (λ b. are_fresh before mine ≡ b → (b && are_fresh_in_turn (adding before d) more) ≡ ((b && are_fresh before rest) && are_distinct same_slot (mine ++ rest))) [
+    elim (are_fresh before mine) as (λ b. are_fresh before mine ≡ b → (b && are_fresh_in_turn (with_declaration before d) more) ≡ ((b && are_fresh before rest) && are_distinct same_slot (mine ++ rest))) [
       | false ↦ λ h. refl
-      | true ↦ λ h. fresh_in_turn-is more (adding before d)
-          ∙ ap (λ (b : Bool). b && are_distinct same_slot rest) (fresh-adding before d rest h)
+      | true ↦ λ h. fresh_in_turn-is more (with_declaration before d)
+          ∙ ap (λ (b : Bool). b && are_distinct same_slot rest) (fresh-with_declaration before d rest h)
           ∙ swapped (are_apart mine rest) (are_fresh before rest) (are_distinct same_slot rest)
           ∙ ap (λ (b : Bool). are_fresh before rest && (b && (are_apart mine rest && are_distinct same_slot rest))) (sym (distinct_own d))
           ∙ ap (λ (b : Bool). are_fresh before rest && b) (sym (are_distinct-append mine rest))

@@ -4,15 +4,15 @@ use Rattle.std.specs.List.{flat_map}
 use Rattle.std.specs.FinMap.{is_sorted}
 use Rattle.std.proofs.Math.Dec.{T}
 use Rattle.mpslp_decimal.specs.Decimal.{Number}
-use Rattle.mpslp_core.specs.Model.{CoefficientKey, key_cmp}
+use Rattle.mpslp_model_core.specs.Model.{CoefficientKey, key_cmp}
 use Rattle.mpslp_types.specs.Name.{bytes_cmp}
-pub use Rattle.mpslp_core.proofs.KeyLemmas.{bytes_total, tied_names, key_total}
-use Rattle.mpslp_builder.specs.Declaration.{RowForm, Declarations, Draft, empty_draft, adding_all, draft_of}
+pub use Rattle.mpslp_model_core.proofs.KeyLemmas.{bytes_total, tied_names, key_total}
+use Rattle.mpslp_builder.specs.Declaration.{RowDefinition, Declarations, Draft, empty_draft, with_declarations, draft_of}
 use Rattle.mpslp_builder.specs.Made.{IsMade}
 use Rattle.mpslp_types.specs.declared.kinds.Limit.{Limit}
 use Rattle.mpslp_builder.proofs.DraftEntries.{same_key}
 use Rattle.mpslp_builder.proofs.DraftLemmas.{row_part, rows-all, rhs_part, rhs_values-all, range_part, ranges-all, column_part, columns-all, coefficient_part, coefficients-all, lower_part, lowers-all, upper_part, uppers-all, marked_part, marked-all, integer_part, integers-all, binary_part, binaries-all, semi_part, semis-all}
-use Rattle.mpslp_core.proofs.PutsLemmas.{is_sorted-puts}
+use Rattle.mpslp_model_core.proofs.PutsLemmas.{is_sorted-puts}
 
 -- ---- sorted maps
 
@@ -32,9 +32,9 @@ pub record IsSortedDraft (all : Draft) : Type 0 where
 pub empty_sorted : IsSortedDraft empty_draft
 empty_sorted = record { rows = tt; rhs_values = tt; ranges = tt; columns = tt; coefficients = tt; lowers = tt; uppers = tt; marked = tt; integers = tt; binaries = tt; semis = tt }
 
-pub sorted-adding_all : (ds : Declarations) (all : Draft) → IsSortedDraft all → IsSortedDraft (adding_all all ds)
-sorted-adding_all ds all s = record {
-  rows = subst (λ (es : List (List ℕ × RowForm)). T (is_sorted bytes_cmp es)) (sym (rows-all ds all)) (is_sorted-puts bytes_cmp bytes_total tied_names (flat_map row_part ds) all.rows s.rows);
+pub sorted-with_declarations : (ds : Declarations) (all : Draft) → IsSortedDraft all → IsSortedDraft (with_declarations all ds)
+sorted-with_declarations ds all s = record {
+  rows = subst (λ (es : List (List ℕ × RowDefinition)). T (is_sorted bytes_cmp es)) (sym (rows-all ds all)) (is_sorted-puts bytes_cmp bytes_total tied_names (flat_map row_part ds) all.rows s.rows);
   rhs_values = subst (λ (es : List (List ℕ × Number)). T (is_sorted bytes_cmp es)) (sym (rhs_values-all ds all)) (is_sorted-puts bytes_cmp bytes_total tied_names (flat_map rhs_part ds) all.rhs_values s.rhs_values);
   ranges = subst (λ (es : List (List ℕ × Number)). T (is_sorted bytes_cmp es)) (sym (ranges-all ds all)) (is_sorted-puts bytes_cmp bytes_total tied_names (flat_map range_part ds) all.ranges s.ranges);
   columns = subst (λ (es : List (List ℕ × Unit {0})). T (is_sorted bytes_cmp es)) (sym (columns-all ds all)) (is_sorted-puts bytes_cmp bytes_total tied_names (flat_map column_part ds) all.columns s.columns);
@@ -48,7 +48,7 @@ sorted-adding_all ds all s = record {
 }
 
 pub sorted-draft_of : (ds : Declarations) → IsSortedDraft (draft_of ds)
-sorted-draft_of ds = sorted-adding_all ds empty_draft empty_sorted
+sorted-draft_of ds = sorted-with_declarations ds empty_draft empty_sorted
 
 pub sorted-from_made : (all : Draft) → IsMade all → IsSortedDraft all
 sorted-from_made all made = subst IsSortedDraft (sym made.draft) (sorted-draft_of made.declarations)

@@ -7,8 +7,8 @@ use Rattle.std.specs.Cmp.{first_so, second_so, tied_itself}
 use Rattle.std.specs.FinMap.Entries.{below_all}
 use Rattle.mpslp_decimal.specs.Decimal.{Number, IsDecimal, is_decimal, is_infinite_size}
 use Rattle.mpslp_types.specs.Name.{is_mps_name, has_name_length, is_visible, same_bytes, marker, bytes_cmp}
-use Rattle.mpslp_core.specs.Model.{Row, Column, suits, is_sound_row, is_sound_column}
-use Rattle.mpslp_types.specs.Sides.{limit_of, is_bounded_decimal, is_lower_side, is_upper_side, is_at_most, are_sides, has_bounded_distance}
+use Rattle.mpslp_model_core.specs.Model.{Row, Column, suits, is_sound_row, is_sound_column}
+use Rattle.mpslp_types.specs.Limit.{limit_of, is_bounded_decimal, is_lower_side, is_upper_side, is_at_most, are_sides, has_bounded_distance}
 use Rattle.mpslp_types.specs.declared.kinds.Limit.{Limit}
 use Rattle.mpslp_types.specs.declared.kinds.Limit.TheVariants.{Finite}
 use Rattle.mpslp_types.proofs.BoolLemmas.{not_so}

@@ -10,21 +10,21 @@ use Rattle.mpslp_types.specs.Name.{bytes_cmp}
 use Rattle.mpslp_types.specs.declared.kinds.Sense.{Sense}
 use Rattle.mpslp_types.specs.declared.kinds.RowType.TheVariants.{Free}
 use Rattle.mpslp_types.proofs.EachLemmas.{Each, Each-both, Each-weaker}
-use Rattle.mpslp_core.specs.Limits.{limits_of, plain_limits}
-use Rattle.mpslp_core.specs.Columns.{declared_column}
-use Rattle.mpslp_core.specs.Numbered.{sorted_of, each_part, given_parts, IsOnce, TellsApart}
-use Rattle.mpslp_core.proofs.KeyLemmas.{bytes_total}
-use Rattle.mpslp_core.proofs.SortedLemmas.{find-sorted_of}
-use Rattle.mpslp_core.proofs.CellLemmas.{or_else, find-two, name_same}
+use Rattle.mpslp_model_core.specs.Limits.{limits_of, plain_limits}
+use Rattle.mpslp_model_core.specs.Columns.{declared_column}
+use Rattle.mpslp_model_core.specs.Numbered.{sorted_of, each_part, given_parts, IsOnce, TellsApart}
+use Rattle.mpslp_model_core.proofs.KeyLemmas.{bytes_total}
+use Rattle.mpslp_model_core.proofs.SortedLemmas.{find-sorted_of}
+use Rattle.mpslp_model_core.proofs.CellLemmas.{or_else, find-two, name_same}
 use Rattle.mpslp_builder.specs.Declaration.{Draft, at_name}
 use Rattle.mpslp_builder.specs.Bounds.{declared_of, column_of}
 use Rattle.mpslp_builder.specs.Meaning.{row_entry}
-use Rattle.mpslp_builder.specs.Tables.{bytes, form_of, rhs_of, range_of, no_part, lower_of, upper_of, as_part, mark_of, integer_of, binary_of, semi_of, objective_rhs, number_name, draft_from}
+use Rattle.mpslp_builder.specs.Tables.{bytes, definition_of, rhs_of, range_of, no_part, lower_of, upper_of, as_part, mark_of, integer_of, binary_of, semi_of, objective_rhs, name_of_row_key, draft_from}
 use Rattle.mpslp_builder.specs.FaultFound.{declared_in}
-use Rattle.mpslp_numbered.specs.Parts.{limits_in, bounds_of}
-use Rattle.mpslp_numbered.specs.declared.parts.ObjectiveParts.{ObjectiveParts}
-use Rattle.mpslp_numbered.specs.declared.parts.RowParts.{RowParts}
-use Rattle.mpslp_numbered.specs.declared.parts.ColumnParts.{ColumnParts}
+use Rattle.mpslp_builder_parts.specs.Parts.{limits_in, bounds_of}
+use Rattle.mpslp_builder_parts.specs.declared.parts.ObjectiveParts.{ObjectiveParts}
+use Rattle.mpslp_builder_parts.specs.declared.parts.RowParts.{RowParts}
+use Rattle.mpslp_builder_parts.specs.declared.parts.ColumnParts.{ColumnParts}
 use Rattle.mpslp_builder.proofs.OrderedParts.{own_parts}
 
 -- what holds at each place holds of each
@@ -38,7 +38,7 @@ each-from_get P (x ∷ xs) h = (h zero x refl, each-from_get P xs (λ i y is. h 
 abbrev pub SaysRow : Draft → Vec ℕ × RowParts → Type 0
 SaysRow d e = (at_name d.rhs_values e.0.items ≡ e.1.rhs) × (at_name d.ranges e.0.items ≡ e.1.range)
 
-no_objective : (objective : Option ObjectiveParts) (rows : List (Vec ℕ × RowParts)) → TellsApart (number_name objective rows) → (i : ℕ) (e : Vec ℕ × RowParts) → slice_get rows i ≡ Some e
+no_objective : (objective : Option ObjectiveParts) (rows : List (Vec ℕ × RowParts)) → TellsApart (name_of_row_key objective rows) → (i : ℕ) (e : Vec ℕ × RowParts) → slice_get rows i ≡ Some e
     → find bytes_cmp e.0.items (objective_rhs objective) ≡ None
 no_objective None rows apart i e is = refl
 no_objective (Some o) rows apart i e is =
@@ -55,7 +55,7 @@ no_objective (Some o) rows apart i e is =
     ]
 
 pub rows_say : (sense : Option Sense) (constant : Option Number) (objective : Option ObjectiveParts) (rows : List (Vec ℕ × RowParts)) (columns : List (Vec ℕ × ColumnParts))
-    → TellsApart (number_name objective rows) → IsOnce (each_part bytes form_of rows) → Each (SaysRow (draft_from sense constant objective rows columns)) rows
+    → TellsApart (name_of_row_key objective rows) → IsOnce (each_part bytes definition_of rows) → Each (SaysRow (draft_from sense constant objective rows columns)) rows
 rows_say sense constant objective rows columns apart once =
     Each-both (λ e. at_name (sorted_of bytes_cmp (objective_rhs objective ++ given_parts bytes rhs_of rows)) e.0.items ≡ e.1.rhs) (λ e. at_name (sorted_of bytes_cmp (given_parts bytes range_of rows)) e.0.items ≡ e.1.range)
     (SaysRow (draft_from sense constant objective rows columns)) (λ e a b. (a, b)) rows
@@ -65,15 +65,15 @@ rows_say sense constant objective rows columns apart once =
     find-sorted_of bytes_cmp bytes_total e.0.items (objective_rhs objective ++ given_parts bytes rhs_of rows)
     ∙ find-two bytes_cmp e.0.items (objective_rhs objective) (given_parts bytes rhs_of rows)
     ∙ ap (λ (o : Option Number). or_else o (find bytes_cmp e.0.items (given_parts bytes rhs_of rows))) none ∙ own)
-    rows (each-from_get (λ e. find bytes_cmp e.0.items (objective_rhs objective) ≡ None) rows (no_objective objective rows apart)) (own_parts rhs_of form_of rows once))
+    rows (each-from_get (λ e. find bytes_cmp e.0.items (objective_rhs objective) ≡ None) rows (no_objective objective rows apart)) (own_parts rhs_of definition_of rows once))
     (Each-weaker (λ e. find bytes_cmp e.0.items (given_parts bytes range_of rows) ≡ e.1.range) (λ e. at_name (sorted_of bytes_cmp (given_parts bytes range_of rows)) e.0.items ≡ e.1.range)
-    (λ e own. find-sorted_of bytes_cmp bytes_total e.0.items (given_parts bytes range_of rows) ∙ own) rows (own_parts range_of form_of rows once))
+    (λ e own. find-sorted_of bytes_cmp bytes_total e.0.items (given_parts bytes range_of rows) ∙ own) rows (own_parts range_of definition_of rows once))
 
 -- rows of which the draft says what they say have the limits that are meant
-pub rows_meant : (d : Draft) (rows : List (Vec ℕ × RowParts)) → Each (SaysRow d) rows → each_part bytes limits_in rows ≡ map (row_entry d) (each_part bytes form_of rows)
+pub rows_meant : (d : Draft) (rows : List (Vec ℕ × RowParts)) → Each (SaysRow d) rows → each_part bytes limits_in rows ≡ map (row_entry d) (each_part bytes definition_of rows)
 rows_meant d [] h = refl
 rows_meant d (e ∷ rows) h =
-    (λ i. (e.0.items, unwrap_or (limits_of e.1.form (unwrap_or (sym h.0.0 i) zero_number) (sym h.0.1 i)) (plain_limits Free zero_number)) ∷ rows_meant d rows h.1 i)
+    (λ i. (e.0.items, unwrap_or (limits_of e.1.definition (unwrap_or (sym h.0.0 i) zero_number) (sym h.0.1 i)) (plain_limits Free zero_number)) ∷ rows_meant d rows h.1 i)
 
 -- ---- columns
 

@@ -5,17 +5,17 @@ use Rattle.std.specs.Option.{option_map_or}
 use Rattle.std.specs.Ordering.{nat_cmp}
 use Rattle.std.specs.FinMap.{find}
 use Rattle.mpslp_decimal.specs.Decimal.{Number, is_infinite_size}
-use Rattle.mpslp_types.specs.Sides.{is_plus_infinite, is_minus_infinite}
+use Rattle.mpslp_types.specs.Limit.{is_plus_infinite, is_minus_infinite}
 use Rattle.mpslp_types.specs.declared.kinds.Limit.{Limit}
 use Rattle.mpslp_types.specs.declared.faults.BuildFault.TheVariants.{UnknownRow, UnknownColumn, DuplicateRhs, DuplicateRange, RangeOnFree, InfiniteValue, DuplicateEntry, DuplicateBound, SemiContinuous}
-use Rattle.mpslp_core.specs.Lists.{those_of}
-use Rattle.mpslp_core.specs.Limits.{is_free_form, is_limits_form}
-use Rattle.mpslp_core.proofs.CellLemmas.{at}
+use Rattle.mpslp_model_core.specs.Lists.{those_of}
+use Rattle.mpslp_model_core.specs.Limits.{is_free_definition, is_definition_by_limits}
+use Rattle.mpslp_model_core.proofs.CellLemmas.{at}
 use Rattle.mpslp_builder.specs.Declaration.{declare_range, has_row, has_column}
 use Rattle.mpslp_builder.specs.Refusal.{rhs_tests, coefficient_tests, integer_tests, semi_tests, refusals, bounds_refusals}
 use Rattle.mpslp_builder.specs.Tables.{draft, lower_of, upper_of, IsNumbered}
-use Rattle.mpslp_builder.specs.Calls.{number_of, row_name, column_name, row_tells, column_tells, cells_at, is_objective_place, IsOnceEach}
-use Rattle.mpslp_builder.specs.declared.tables.RowPlace.{RowPlace}
+use Rattle.mpslp_builder.specs.Calls.{row_key_of, row_name, column_name, row_tells, column_tells, cells_at, is_objective_ref, IsOnceEach}
+use Rattle.mpslp_builder.specs.declared.tables.RowRef.{RowRef}
 use Rattle.mpslp_builder.specs.declared.tables.Tables.{Tables}
 use Rattle.mpslp_builder.proofs.ReadingLemmas.{stands, part_at, flag_at, integer_at, cell_at, objective_at, free_at, has_range_at, has_rhs_at}
 
@@ -55,15 +55,15 @@ module _ (constant : Option Number) (t : Tables) (once : IsOnceEach t) where
 
   -- ---- rows
 
-  module _ (numbered : IsNumbered t) (p : RowPlace) (r : List ℕ) (is : row_name t (number_of p) ≡ Some r) (there : true ≡ has_row (draft None constant t) r) where
-    pub rhs_told : (b : Bool) → b ≡ row_tells t p (λ o. is_some o.rhs || is_some constant) (λ row. is_some row.rhs || is_limits_form row.form)
+  module _ (numbered : IsNumbered t) (p : RowRef) (r : List ℕ) (is : row_name t (row_key_of p) ≡ Some r) (there : true ≡ has_row (draft None constant t) r) where
+    pub rhs_told : (b : Bool) → b ≡ row_tells t p (λ o. is_some o.rhs || is_some constant) (λ row. is_some row.rhs || is_definition_by_limits row.definition)
         → those_of (rhs_tests (draft None constant t) r) ≡ those_of ((b, DuplicateRhs) ∷ [])
     rhs_told b told =
         let duplicate = has_rhs_at None constant t once numbered (is_some constant) p r is ∙ sym told in
         λ j. those_of ((not (sym there j), UnknownRow) ∷ (duplicate j, DuplicateRhs) ∷ [])
 
-    pub range_told : (value : Number) (b free : Bool) → b ≡ row_tells t p (λ o. false) (λ row. is_some row.range || is_limits_form row.form)
-        → (is_objective_place p || row_tells t p (λ o. false) (λ row. is_free_form row.form)) ≡ free
+    pub range_told : (value : Number) (b free : Bool) → b ≡ row_tells t p (λ o. false) (λ row. is_some row.range || is_definition_by_limits row.definition)
+        → (is_objective_ref p || row_tells t p (λ o. false) (λ row. is_free_definition row.definition)) ≡ free
         → refusals (draft None constant t) (declare_range r value) ≡ those_of ((b, DuplicateRange) ∷ (free, RangeOnFree) ∷ (is_infinite_size value, InfiniteValue) ∷ [])
     range_told value b free told is_free =
         let duplicate = has_range_at None constant t once numbered p r is ∙ sym told in

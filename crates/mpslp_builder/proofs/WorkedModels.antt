@@ -3,12 +3,12 @@ use Rattle.std.proofs.Common.{◌≡◌, refl, cond}
 use Rattle.std.specs.Prelude.{ℕ, pos, negsuc, Option, Some, None, List, [], ◌∷◌, codes}
 use Rattle.std.specs.FinMap as maps
 use Rattle.mpslp_decimal.specs.Decimal.{Number, trailing_zeros}
-use Rattle.mpslp_core.specs.Model.{CoefficientKey, key_cmp}
+use Rattle.mpslp_model_core.specs.Model.{CoefficientKey, key_cmp}
 use Rattle.mpslp_types.specs.Name.{bytes_cmp}
-use Rattle.mpslp_types.specs.Sides.{limit_of}
-use Rattle.mpslp_builder.specs.Declaration.{by_type, by_limits, Declaration, declare_sense, declare_objective, declare_constant, declare_row, declare_rhs, declare_range, declare_column, declare_coefficient, declare_lower, declare_upper, declare_marked, declare_integer, declare_binary, declare_semi, Declarations, Draft, empty_draft, adding, adding_all, draft_of, rhs_declared, bounds_declared}
+use Rattle.mpslp_types.specs.Limit.{limit_of}
+use Rattle.mpslp_builder.specs.Declaration.{by_type, by_limits, Declaration, declare_sense, declare_objective, declare_constant, declare_row, declare_rhs, declare_range, declare_column, declare_coefficient, declare_lower, declare_upper, declare_marked, declare_integer, declare_binary, declare_semi, Declarations, Draft, empty_draft, with_declaration, with_declarations, draft_of, rhs_declared, bounds_declared}
 use Rattle.mpslp_builder.specs.Bounds.{zero_limit, one_limit, column_of}
-use Rattle.mpslp_core.specs.Lists.{is_nonempty, head_of}
+use Rattle.mpslp_model_core.specs.Lists.{is_nonempty, head_of}
 use Rattle.mpslp_builder.specs.Refusal.{refusals, refusals_in_turn, bounds_refusals}
 use Rattle.mpslp_builder.specs.Meaning.{whole_fault, file_fault, model_of}
 use Rattle.mpslp_types.specs.declared.kinds.Sense.TheVariants.{Maximize}
@@ -24,12 +24,12 @@ use Rattle.mpslp_builder.proofs.WorkedRows.{number, whole}
 -- what each call answers, one after another: nothing, or its first refusal, and then nothing is declared
 abbrev answers : Draft → Declarations → List (Option BuildFault)
 answers before [] = []
-answers before (d ∷ more) = head_of (refusals before d) ∷ answers (cond (is_nonempty (refusals before d)) before (adding before d)) more
+answers before (d ∷ more) = head_of (refusals before d) ∷ answers (cond (is_nonempty (refusals before d)) before (with_declaration before d)) more
 
 -- what stands after these calls
 abbrev after : Draft → Declarations → Draft
 after before [] = before
-after before (d ∷ more) = after (cond (is_nonempty (refusals before d)) before (adding before d)) more
+after before (d ∷ more) = after (cond (is_nonempty (refusals before d)) before (with_declaration before d)) more
 
 abbrev f : List ℕ
 f = codes "f"
@@ -77,7 +77,7 @@ one_side : bounds_refusals ranged x (Some MinusInf) None ≡ []
 one_side = refl
 
 abbrev bounded : Draft
-bounded = adding_all ranged (bounds_declared x (Some MinusInf) None)
+bounded = with_declarations ranged (bounds_declared x (Some MinusInf) None)
 
 a_side_again : bounds_refusals bounded x (Some zero_limit) (Some one_limit) ≡ builds.DuplicateBound ∷ []
 a_side_again = refl
@@ -90,7 +90,7 @@ no_side_of_no_column : bounds_refusals bounded y None None ≡ builds.UnknownCol
 no_side_of_no_column = refl
 
 -- the refusals of a call are tried over both sides: the second side's duplicate comes before the first one's infinity
-both_sides : bounds_refusals (adding ranged (declare_upper x one_limit)) x (Some PlusInf) (Some one_limit) ≡ builds.DuplicateBound ∷ builds.InfiniteValue ∷ []
+both_sides : bounds_refusals (with_declaration ranged (declare_upper x one_limit)) x (Some PlusInf) (Some one_limit) ≡ builds.DuplicateBound ∷ builds.InfiniteValue ∷ []
 both_sides = refl
 
 abbrev last_calls : Declarations
@@ -216,8 +216,8 @@ abbrev four : Limit
 four = Finite (whole (pos 4))
 
 -- the bounds are declared before or after, and the lower one is 0 where none is declared
-semi_column : column_of (bounded_by (declare_semi x ∷ declare_upper x four ∷ [])) x ≡ record { kind = Semi; lower = zero_limit; upper = four }
-semi_column = refl
+semi_target : column_of (bounded_by (declare_semi x ∷ declare_upper x four ∷ [])) x ≡ record { kind = Semi; lower = zero_limit; upper = four }
+semi_target = refl
 
 semi_with_both_sides : column_of (bounded_by (declare_upper x four ∷ declare_lower x one_limit ∷ declare_semi x ∷ [])) x ≡ record { kind = Semi; lower = one_limit; upper = four }
 semi_with_both_sides = refl

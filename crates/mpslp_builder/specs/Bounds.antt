@@ -1,9 +1,9 @@
 -- The kind and bounds of a column of a draft.
 use Rattle.std.specs.Prelude.{ℕ, Bool, List}
-pub use Rattle.mpslp_core.specs.Columns.{zero_limit, one_limit}
-use Rattle.mpslp_core.specs.Columns.{no_side_declared, upper_by_default, declared_lower, declared_upper, declared_kind, declared_column, is_negative_upper, are_crossed_bounds, are_no_binary_bounds, are_no_semi_bounds}
-use Rattle.mpslp_core.specs.Model.{Column}
-use Rattle.mpslp_core.specs.declared.bounds.DeclaredColumn.{DeclaredColumn}
+pub use Rattle.mpslp_model_core.specs.Columns.{zero_limit, one_limit}
+use Rattle.mpslp_model_core.specs.Columns.{no_side_declared, upper_by_default, declared_lower, declared_upper, declared_kind, declared_column, is_negative_upper, are_crossed_bounds, are_no_binary_bounds, are_no_semi_bounds}
+use Rattle.mpslp_model_core.specs.Model.{Column}
+use Rattle.mpslp_model_core.specs.declared.bounds.DeclaredColumn.{DeclaredColumn}
 use Rattle.mpslp_builder.specs.Declaration.{Draft, at_name, has_name, is_semi}
 use Rattle.mpslp_types.specs.declared.kinds.Kind.{Kind}
 use Rattle.mpslp_types.specs.declared.kinds.Limit.{Limit}

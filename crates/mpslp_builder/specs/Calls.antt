@@ -7,37 +7,37 @@ use Rattle.std.specs.FinMap.{put}
 use Rattle.indexmap.specs.IndexMap.{set_value_at}
 use Rattle.mpslp_decimal.specs.Decimal.{Number}
 use Rattle.mpslp_types.specs.declared.faults.BuildFault.{BuildFault}
-use Rattle.mpslp_core.specs.Numbered.{IsOnce, each_part}
-use Rattle.mpslp_core.specs.Model.{CoefficientKey}
-pub use Rattle.mpslp_numbered.specs.Parts.{new_column, with_sides}
+use Rattle.mpslp_model_core.specs.Numbered.{IsOnce, each_part}
+use Rattle.mpslp_model_core.specs.Model.{CoefficientKey}
+pub use Rattle.mpslp_builder_parts.specs.Parts.{new_column, with_bounds}
 use Rattle.mpslp_builder.specs.Answer.{Answer}
-use Rattle.mpslp_builder.specs.Declaration.{Draft, has_row, has_column, has_entry}
-use Rattle.mpslp_builder.specs.Tables.{bytes, form_of, cells_of, number_name, cells_by_name}
-use Rattle.mpslp_numbered.specs.declared.parts.ObjectiveParts.{ObjectiveParts}
-use Rattle.mpslp_numbered.specs.declared.parts.RowParts.{RowParts}
-use Rattle.mpslp_numbered.specs.declared.parts.ColumnParts.{ColumnParts}
-use Rattle.mpslp_builder.specs.declared.tables.RowPlace.{RowPlace}
-use Rattle.mpslp_builder.specs.declared.tables.RowPlace.TheVariants.{Objective, Row}
+use Rattle.mpslp_builder.specs.Declaration.{Draft, has_row, has_column, has_coefficient}
+use Rattle.mpslp_builder.specs.Tables.{bytes, definition_of, cells_of, name_of_row_key, cells_by_name}
+use Rattle.mpslp_builder_parts.specs.declared.parts.ObjectiveParts.{ObjectiveParts}
+use Rattle.mpslp_builder_parts.specs.declared.parts.RowParts.{RowParts}
+use Rattle.mpslp_builder_parts.specs.declared.parts.ColumnParts.{ColumnParts}
+use Rattle.mpslp_builder.specs.declared.tables.RowRef.{RowRef}
+use Rattle.mpslp_builder.specs.declared.tables.RowRef.TheVariants.{Objective, Row}
 use Rattle.mpslp_builder.specs.declared.tables.Tables.{Tables}
 
 -- ---- what stands at a number
 
-abbrev pub number_of : RowPlace → ℕ
-number_of Objective = zero
-number_of (Row i) = suc i
+abbrev pub row_key_of : RowRef → ℕ
+row_key_of Objective = zero
+row_key_of (Row i) = suc i
 
-abbrev pub is_objective_place : RowPlace → Bool
-is_objective_place Objective = true
-is_objective_place (Row i) = false
+abbrev pub is_objective_ref : RowRef → Bool
+is_objective_ref Objective = true
+is_objective_ref (Row i) = false
 
 abbrev pub row_name : Tables → ℕ → Option (List ℕ)
-row_name t = number_name t.objective t.rows.entries
+row_name t = name_of_row_key t.objective t.rows.entries
 
 abbrev pub column_name : Tables → ℕ → Option (List ℕ)
 column_name t i = option_map (λ e. bytes e.0) (slice_get t.columns.entries i)
 
 -- what the objective tells, or the row of an index
-abbrev pub row_tells : Tables → RowPlace → (ObjectiveParts → Bool) → (RowParts → Bool) → Bool
+abbrev pub row_tells : Tables → RowRef → (ObjectiveParts → Bool) → (RowParts → Bool) → Bool
 row_tells t Objective of_objective of_row = option_map_or of_objective t.objective false
 row_tells t (Row i) of_objective of_row = option_map_or (λ e. of_row e.1) (slice_get t.rows.entries i) false
 
@@ -58,7 +58,7 @@ answer_of (Err fault) = Err fault
 
 -- no name of a row stands twice, and none of a column
 pub record IsOnceEach (t : Tables) : Type 0 where
-  pub rows : IsOnce (each_part bytes form_of t.rows.entries)
+  pub rows : IsOnce (each_part bytes definition_of t.rows.entries)
   pub columns : IsOnce (cells_by_name t.columns.entries)
 
 pub record IsEmptyTables (t : Tables) : Type 0 where
@@ -125,7 +125,7 @@ pub record HasObjectiveChanged (old : Tables) (change : ObjectiveParts → Objec
   pub written : HasObjective old (change parts) new
 
 -- a right side is put
-abbrev pub HasRhsPut : Tables → RowPlace → Number → Tables → Type 0
+abbrev pub HasRhsPut : Tables → RowRef → Number → Tables → Type 0
 HasRhsPut old Objective value new = HasObjectiveChanged old (λ o. record o { rhs = Some value }) new
 HasRhsPut old (Row i) value new = HasRowChanged old i (λ row. record row { rhs = Some value }) new
 
@@ -134,4 +134,4 @@ with_cell row value column = record column { cells = put nat_cmp row value colum
 
 -- each coefficient is of a row, or the objective, and a column that are declared
 abbrev pub CoefficientsAreKnown : Draft → Type 0
-CoefficientsAreKnown all = (key : CoefficientKey) → has_entry all key ≡ true → (has_row all key.row && has_column all key.column) ≡ true
+CoefficientsAreKnown all = (key : CoefficientKey) → has_coefficient all key ≡ true → (has_row all key.row && has_column all key.column) ≡ true

@@ -4,10 +4,10 @@ use Rattle.std.specs.List.{list_any, list_all}
 use Rattle.std.specs.Option.{option_map_or}
 use Rattle.mpslp_decimal.specs.Decimal.{is_infinite_size}
 use Rattle.mpslp_types.specs.Name.{same_bytes}
-use Rattle.mpslp_core.specs.Model.{CoefficientKey}
-use Rattle.mpslp_builder.specs.Declaration.{Declaration, declare_sense, declare_objective, declare_constant, declare_row, declare_rhs, declare_range, declare_coefficient, declare_lower, declare_upper, declare_marked, declare_integer, declare_binary, declare_semi, Declarations, Draft, draft_of, has_name, is_objective, has_row, has_column, is_integer, is_semi, is_free_row, is_limits_form, have_infinite_side}
-use Rattle.mpslp_core.specs.Lists.{are_distinct}
-use Rattle.mpslp_types.specs.Sides.{is_plus_infinite, is_minus_infinite}
+use Rattle.mpslp_model_core.specs.Model.{CoefficientKey}
+use Rattle.mpslp_builder.specs.Declaration.{Declaration, declare_sense, declare_objective, declare_constant, declare_row, declare_rhs, declare_range, declare_coefficient, declare_lower, declare_upper, declare_marked, declare_integer, declare_binary, declare_semi, Declarations, Draft, draft_of, has_name, is_objective, has_row, has_column, is_integer, is_semi, is_free_row, is_definition_by_limits, have_infinite_side}
+use Rattle.mpslp_model_core.specs.Lists.{are_distinct}
+use Rattle.mpslp_types.specs.Limit.{is_plus_infinite, is_minus_infinite}
 
 -- what only one declaration may fill: columns and their kinds may be declared again, all else may not
 pub data Slot : Type 0 where
@@ -39,7 +39,7 @@ abbrev pub slots_of : Declaration → List Slot
 slots_of (declare_sense _) = sense_slot ∷ []
 slots_of (declare_objective name) = objective_slot ∷ row_slot name ∷ []
 slots_of (declare_constant _) = constant_slot ∷ []
-slots_of (declare_row name form) = row_slot name ∷ (if is_limits_form form then rhs_slot name ∷ range_slot name ∷ [] else [])
+slots_of (declare_row name definition) = row_slot name ∷ (if is_definition_by_limits definition then rhs_slot name ∷ range_slot name ∷ [] else [])
 slots_of (declare_rhs row _) = rhs_slot row ∷ []
 slots_of (declare_range row _) = range_slot row ∷ []
 slots_of (declare_coefficient key _) = coefficient_slot key ∷ []
@@ -67,7 +67,7 @@ is_known all _ = true
 -- no range on the objective or on a row of type N, none of infinite size, no side that no value meets, and no column that
 -- is both integer and semi-continuous
 abbrev pub is_allowed : Draft → Declaration → Bool
-is_allowed all (declare_row name form) = not (have_infinite_side form)
+is_allowed all (declare_row name definition) = not (have_infinite_side definition)
 is_allowed all (declare_range row value) = not (is_objective all row || is_free_row all row) && not (is_infinite_size value)
 is_allowed all (declare_lower column limit) = not (is_plus_infinite limit)
 is_allowed all (declare_upper column limit) = not (is_minus_infinite limit)

@@ -4,8 +4,8 @@ use Rattle.std.specs.Option.{option_map_or}
 use Rattle.std.specs.FinMap.{find, put}
 use Rattle.mpslp_decimal.specs.Decimal.{Number}
 use Rattle.mpslp_types.specs.Name.{same_bytes, bytes_cmp}
-use Rattle.mpslp_core.specs.Model.{CoefficientKey, key_cmp}
-pub use Rattle.mpslp_core.specs.Limits.{RowForm, by_type, by_limits, is_free_form, is_limits_form, have_infinite_side}
+use Rattle.mpslp_model_core.specs.Model.{CoefficientKey, key_cmp}
+pub use Rattle.mpslp_model_core.specs.Limits.{RowDefinition, by_type, by_limits, is_free_definition, is_definition_by_limits, have_infinite_side}
 use Rattle.mpslp_types.specs.declared.kinds.Sense.{Sense}
 use Rattle.mpslp_types.specs.declared.kinds.Limit.{Limit}
 
@@ -15,7 +15,7 @@ pub data Declaration : Type 0 where
   declare_sense : Sense → Declaration
   declare_objective : List ℕ → Declaration
   declare_constant : Number → Declaration
-  declare_row : List ℕ → RowForm → Declaration
+  declare_row : List ℕ → RowDefinition → Declaration
   declare_rhs : List ℕ → Number → Declaration
   declare_range : List ℕ → Number → Declaration
   declare_column : List ℕ → Declaration
@@ -36,7 +36,7 @@ pub record Draft : Type 0 where
   pub sense : Option Sense
   pub objective : Option (List ℕ)
   pub constant : Option Number
-  pub rows : List (List ℕ × RowForm)
+  pub rows : List (List ℕ × RowDefinition)
   pub rhs_values : List (List ℕ × Number)
   pub ranges : List (List ℕ × Number)
   pub columns : List (List ℕ × Unit {0})
@@ -67,28 +67,28 @@ empty_draft = record {
 }
 
 -- the draft with one more declaration; of two at one key the later one stays, but no two are consistent
-abbrev pub adding : Draft → Declaration → Draft
-adding all (declare_sense sense) = record all { sense = Some sense }
-adding all (declare_objective name) = record all { objective = Some name }
-adding all (declare_constant value) = record all { constant = Some value }
-adding all (declare_row name form) = record all { rows = put bytes_cmp name form all.rows }
-adding all (declare_rhs row value) = record all { rhs_values = put bytes_cmp row value all.rhs_values }
-adding all (declare_range row value) = record all { ranges = put bytes_cmp row value all.ranges }
-adding all (declare_column name) = record all { columns = put bytes_cmp name tt all.columns }
-adding all (declare_coefficient key value) = record all { coefficients = put key_cmp key value all.coefficients }
-adding all (declare_lower column limit) = record all { lowers = put bytes_cmp column limit all.lowers }
-adding all (declare_upper column limit) = record all { uppers = put bytes_cmp column limit all.uppers }
-adding all (declare_marked column) = record all { marked = put bytes_cmp column tt all.marked }
-adding all (declare_integer column) = record all { integers = put bytes_cmp column tt all.integers }
-adding all (declare_binary column) = record all { binaries = put bytes_cmp column tt all.binaries }
-adding all (declare_semi column) = record all { semis = put bytes_cmp column tt all.semis }
+abbrev pub with_declaration : Draft → Declaration → Draft
+with_declaration all (declare_sense sense) = record all { sense = Some sense }
+with_declaration all (declare_objective name) = record all { objective = Some name }
+with_declaration all (declare_constant value) = record all { constant = Some value }
+with_declaration all (declare_row name definition) = record all { rows = put bytes_cmp name definition all.rows }
+with_declaration all (declare_rhs row value) = record all { rhs_values = put bytes_cmp row value all.rhs_values }
+with_declaration all (declare_range row value) = record all { ranges = put bytes_cmp row value all.ranges }
+with_declaration all (declare_column name) = record all { columns = put bytes_cmp name tt all.columns }
+with_declaration all (declare_coefficient key value) = record all { coefficients = put key_cmp key value all.coefficients }
+with_declaration all (declare_lower column limit) = record all { lowers = put bytes_cmp column limit all.lowers }
+with_declaration all (declare_upper column limit) = record all { uppers = put bytes_cmp column limit all.uppers }
+with_declaration all (declare_marked column) = record all { marked = put bytes_cmp column tt all.marked }
+with_declaration all (declare_integer column) = record all { integers = put bytes_cmp column tt all.integers }
+with_declaration all (declare_binary column) = record all { binaries = put bytes_cmp column tt all.binaries }
+with_declaration all (declare_semi column) = record all { semis = put bytes_cmp column tt all.semis }
 
-abbrev pub adding_all : Draft → Declarations → Draft
-adding_all all [] = all
-adding_all all (declaration ∷ more) = adding_all (adding all declaration) more
+abbrev pub with_declarations : Draft → Declarations → Draft
+with_declarations all [] = all
+with_declarations all (declaration ∷ more) = with_declarations (with_declaration all declaration) more
 
 abbrev pub draft_of : Declarations → Draft
-draft_of declarations = adding_all empty_draft declarations
+draft_of declarations = with_declarations empty_draft declarations
 
 -- ---- what a draft says of a name
 
@@ -112,8 +112,8 @@ abbrev pub has_column : Draft → List ℕ → Bool
 has_column all name = has_name all.columns name
 
 -- whether a coefficient is declared there, 0 or not
-abbrev pub has_entry : Draft → CoefficientKey → Bool
-has_entry all key = is_some (find key_cmp key all.coefficients)
+abbrev pub has_coefficient : Draft → CoefficientKey → Bool
+has_coefficient all key = is_some (find key_cmp key all.coefficients)
 
 abbrev pub is_integer : Draft → List ℕ → Bool
 is_integer all name = has_name all.marked name || (has_name all.integers name || has_name all.binaries name)
@@ -122,10 +122,10 @@ abbrev pub is_semi : Draft → List ℕ → Bool
 is_semi all name = has_name all.semis name
 
 abbrev pub is_free_row : Draft → List ℕ → Bool
-is_free_row all name = option_map_or is_free_form (at_name all.rows name) false
+is_free_row all name = option_map_or is_free_definition (at_name all.rows name) false
 
 abbrev pub is_row_by_limits : Draft → List ℕ → Bool
-is_row_by_limits all name = option_map_or is_limits_form (at_name all.rows name) false
+is_row_by_limits all name = option_map_or is_definition_by_limits (at_name all.rows name) false
 
 -- ---- what declares by cases
 

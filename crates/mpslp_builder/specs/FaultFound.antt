@@ -6,29 +6,29 @@ use Rattle.std.specs.Ordering.{is_lt}
 use Rattle.mpslp_decimal.specs.Decimal.{zero_number}
 use Rattle.mpslp_types.specs.Name.{IsMpsName, bytes_cmp}
 use Rattle.mpslp_builder.specs.Declaration.{Draft}
-pub use Rattle.mpslp_core.specs.WrongParts.{is_faulty_row, row_test, bounds_test, are_faulty_bounds, kind_of_row_fault, kind_of_column_fault}
-use Rattle.mpslp_core.specs.Lists.{head_of}
-use Rattle.mpslp_core.specs.declared.limits.RowFault.{RowFault}
-use Rattle.mpslp_core.specs.declared.bounds.ColumnFault.{ColumnFault}
-pub use Rattle.mpslp_numbered.specs.Parts.{declared_in}
+pub use Rattle.mpslp_model_core.specs.WrongParts.{is_faulty_row, row_test, bounds_test, are_faulty_bounds, kind_of_row_fault, kind_of_column_fault}
+use Rattle.mpslp_model_core.specs.Lists.{head_of}
+use Rattle.mpslp_model_core.specs.declared.limits.RowFault.{RowFault}
+use Rattle.mpslp_model_core.specs.declared.bounds.ColumnFault.{ColumnFault}
+pub use Rattle.mpslp_builder_parts.specs.Parts.{declared_in}
 use Rattle.mpslp_builder.specs.Meaning.{names_with, whole_fault}
-use Rattle.mpslp_builder.specs.Tables.{bytes, form_of, rhs_of, range_of}
+use Rattle.mpslp_builder.specs.Tables.{bytes, definition_of, rhs_of, range_of}
 use Rattle.mpslp_types.specs.declared.faults.Fault.{Fault}
 use Rattle.mpslp_types.specs.declared.faults.FaultKind.{FaultKind}
 use Rattle.mpslp_types.specs.declared.faults.FaultKind.TheVariants as kinds
-use Rattle.mpslp_numbered.specs.declared.parts.RowParts.{RowParts}
-use Rattle.mpslp_numbered.specs.declared.parts.ColumnParts.{ColumnParts}
+use Rattle.mpslp_builder_parts.specs.declared.parts.RowParts.{RowParts}
+use Rattle.mpslp_builder_parts.specs.declared.parts.ColumnParts.{ColumnParts}
 use Rattle.mpslp_builder.specs.declared.tables.Tables.{Tables}
-use Rattle.mpslp_builder.specs.declared.file_faults.FoundFault.{FoundFault}
-use Rattle.mpslp_builder.specs.declared.file_faults.FoundFault.TheVariants as found
+use Rattle.mpslp_builder.specs.declared.tables.file_faults.FoundFault.{FoundFault}
+use Rattle.mpslp_builder.specs.declared.tables.file_faults.FoundFault.TheVariants as found
 
 -- ---- what is wrong with a row, or a column, by what is declared of it
 
 abbrev pub row_fails : RowFault → RowParts → Bool
-row_fails fault row = row_test fault (form_of row) (unwrap_or (rhs_of row) zero_number) (range_of row)
+row_fails fault row = row_test fault (definition_of row) (unwrap_or (rhs_of row) zero_number) (range_of row)
 
 abbrev pub is_wrong_row : RowParts → Bool
-is_wrong_row row = is_faulty_row (form_of row) (unwrap_or (rhs_of row) zero_number) (range_of row)
+is_wrong_row row = is_faulty_row (definition_of row) (unwrap_or (rhs_of row) zero_number) (range_of row)
 
 abbrev pub column_fails : ColumnFault → ColumnParts → Bool
 column_fails fault column = bounds_test fault (declared_in column)
@@ -60,8 +60,8 @@ entry_name es i = option_map (λ e. bytes e.0) (slice_get es i)
 -- ---- what is found
 
 -- a kind of fault, told of its least name
-abbrev pub named : Draft → FaultKind → Option Fault
-named all kind = option_map (λ name. whole_fault kind (Some name)) (head_of (names_with all kind))
+abbrev pub named_fault : Draft → FaultKind → Option Fault
+named_fault all kind = option_map (λ name. whole_fault kind (Some name)) (head_of (names_with all kind))
 
 abbrev pub fault_found : Tables → FoundFault → Fault
 fault_found t found.NoColumns = whole_fault kinds.NoColumns None

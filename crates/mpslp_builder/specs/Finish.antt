@@ -1,6 +1,6 @@
 -- What the end of a builder answers.
 use Rattle.std.specs.Prelude.{◌≡◌, Some, None, Result, Ok, Err}
-use Rattle.mpslp_core.specs.Model.{LinearModel}
+use Rattle.mpslp_model_core.specs.Model.{LinearModel}
 use Rattle.mpslp_builder.specs.Declaration.{Draft}
 use Rattle.mpslp_builder.specs.Meaning.{file_fault, DraftMeans}
 use Rattle.mpslp_types.specs.declared.faults.ReadFault.{ReadFault}

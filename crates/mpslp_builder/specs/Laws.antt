@@ -1,7 +1,7 @@
 -- Laws of declarations and their meaning.
 use Rattle.std.specs.Prelude.{◌≡◌, ◌↔◌, IsTrue, None, is_some}
 use Rattle.std.specs.List.Sorted.{IsPermutation}
-use Rattle.mpslp_core.specs.Model.{LinearModel}
+use Rattle.mpslp_model_core.specs.Model.{LinearModel}
 use Rattle.mpslp_builder.specs.Declaration.{Declarations, Draft}
 use Rattle.mpslp_builder.specs.Made.{IsMade}
 use Rattle.mpslp_builder.specs.Meaning.{file_fault, DraftMeans, Means}

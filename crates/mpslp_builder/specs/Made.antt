@@ -3,11 +3,11 @@ use Rattle.std.specs.Prelude.{◌≡◌, Bool, true, ◌&&◌, IsTrue, []}
 use Rattle.std.specs.List.{list_all}
 use Rattle.mpslp_decimal.specs.Decimal.{is_decimal}
 use Rattle.mpslp_types.specs.Name.{is_mps_name}
-use Rattle.mpslp_types.specs.Sides.{is_given}
-use Rattle.mpslp_builder.specs.Declaration.{RowForm, by_type, by_limits, Declaration, declare_sense, declare_objective, declare_constant, declare_row, declare_rhs, declare_range, declare_column, declare_coefficient, declare_lower, declare_upper, Declarations, Draft, empty_draft, draft_of}
+use Rattle.mpslp_types.specs.Limit.{is_given}
+use Rattle.mpslp_builder.specs.Declaration.{RowDefinition, by_type, by_limits, Declaration, declare_sense, declare_objective, declare_constant, declare_row, declare_rhs, declare_range, declare_column, declare_coefficient, declare_lower, declare_upper, Declarations, Draft, empty_draft, draft_of}
 use Rattle.mpslp_builder.specs.Refusal.{refusals_in_turn}
 
-abbrev pub are_given : RowForm → Bool
+abbrev pub are_given : RowDefinition → Bool
 are_given (by_type type) = true
 are_given (by_limits lower upper) = is_given lower && is_given upper
 
@@ -16,7 +16,7 @@ abbrev pub is_legal : Declaration → Bool
 is_legal (declare_sense _) = true
 is_legal (declare_objective name) = is_mps_name name
 is_legal (declare_constant value) = is_decimal value
-is_legal (declare_row name form) = is_mps_name name && are_given form
+is_legal (declare_row name definition) = is_mps_name name && are_given definition
 is_legal (declare_rhs row value) = is_decimal value
 is_legal (declare_range row value) = is_decimal value
 is_legal (declare_column name) = is_mps_name name

@@ -4,12 +4,12 @@ use Rattle.std.specs.Option.{option_map}
 use Rattle.std.specs.FinMap as maps
 use Rattle.std.specs.List.{list_all}
 use Rattle.mpslp_decimal.specs.Decimal.{Number, zero_number, is_zero, negated}
-use Rattle.mpslp_core.specs.Model.{LinearModel, Row, IsSound}
-use Rattle.mpslp_builder.specs.Declaration.{RowForm, Declarations, Draft, draft_of, at_name, names_in}
-use Rattle.mpslp_core.specs.Limits.{limits_of, plain_limits, has_infinite_rhs, is_inexact, is_too_large, is_crossed}
+use Rattle.mpslp_model_core.specs.Model.{LinearModel, Row, IsSound}
+use Rattle.mpslp_builder.specs.Declaration.{RowDefinition, Declarations, Draft, draft_of, at_name, names_in}
+use Rattle.mpslp_model_core.specs.Limits.{limits_of, plain_limits, has_infinite_rhs, is_inexact, is_too_large, is_crossed}
 use Rattle.mpslp_builder.specs.Bounds.{column_of, has_negative_upper, has_crossed_bounds, has_binary_bounds, has_semi_bounds}
 use Rattle.mpslp_builder.specs.Consistency.{AreConsistent}
-use Rattle.mpslp_core.specs.Lists.{is_nonempty, head_of}
+use Rattle.mpslp_model_core.specs.Lists.{is_nonempty, head_of}
 use Rattle.mpslp_types.specs.declared.kinds.Sense.TheVariants.{Minimize}
 use Rattle.mpslp_types.specs.declared.kinds.RowType.TheVariants.{Free}
 use Rattle.mpslp_types.specs.declared.faults.Fault.{Fault}
@@ -29,11 +29,11 @@ abbrev pub rhs_or_zero : Draft → List ℕ → Number
 rhs_or_zero all name = unwrap_or (at_name all.rhs_values name) zero_number
 
 -- the limits of a row, where they are decimals
-abbrev pub row_limits : Draft → List ℕ × RowForm → Option Row
+abbrev pub row_limits : Draft → List ℕ × RowDefinition → Option Row
 row_limits all row = limits_of row.1 (rhs_or_zero all row.0) (at_name all.ranges row.0)
 
 -- a row whose limits are no decimals is in no model: what stands here for it is of no account
-abbrev pub row_entry : Draft → List ℕ × RowForm → List ℕ × Row
+abbrev pub row_entry : Draft → List ℕ × RowDefinition → List ℕ × Row
 row_entry all row = (row.0, unwrap_or (row_limits all row) (plain_limits Free zero_number))
 
 abbrev pub model_of : Draft → LinearModel
@@ -49,11 +49,11 @@ model_of all = record {
 -- ---- the faults of the whole file
 
 -- a test of a row's form, right side and range
-abbrev pub row_passes : Draft → (RowForm → Number → Option Number → Bool) → List ℕ × RowForm → Bool
+abbrev pub row_passes : Draft → (RowDefinition → Number → Option Number → Bool) → List ℕ × RowDefinition → Bool
 row_passes all test row = test row.1 (rhs_or_zero all row.0) (at_name all.ranges row.0)
 
 -- the rows, or the columns, that pass a test, in byte order
-abbrev pub rows_where : Draft → (RowForm → Number → Option Number → Bool) → List (List ℕ)
+abbrev pub rows_where : Draft → (RowDefinition → Number → Option Number → Bool) → List (List ℕ)
 rows_where all test = names_in (filter (row_passes all test) all.rows)
 
 abbrev pub columns_where : Draft → (Draft → List ℕ → Bool) → List (List ℕ)
@@ -62,9 +62,9 @@ columns_where all test = filter (test all) (names_in all.columns)
 -- the rows or columns that have a kind of fault
 abbrev pub names_with : Draft → FaultKind → List (List ℕ)
 names_with all InfiniteLimit = rows_where all has_infinite_rhs
-names_with all RangeInexact = rows_where all (λ form b r. is_inexact (limits_of form b r))
-names_with all LimitTooLarge = rows_where all (λ form b r. is_too_large (limits_of form b r))
-names_with all LimitsCrossed = rows_where all (λ form b r. is_crossed (limits_of form b r))
+names_with all RangeInexact = rows_where all (λ definition b r. is_inexact (limits_of definition b r))
+names_with all LimitTooLarge = rows_where all (λ definition b r. is_too_large (limits_of definition b r))
+names_with all LimitsCrossed = rows_where all (λ definition b r. is_crossed (limits_of definition b r))
 names_with all NegativeUpper = columns_where all has_negative_upper
 names_with all BoundsCrossed = columns_where all has_crossed_bounds
 names_with all BinaryBounds = columns_where all has_binary_bounds

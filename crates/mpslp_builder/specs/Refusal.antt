@@ -2,10 +2,10 @@
 use Rattle.std.specs.Prelude.{ℕ, Bool, false, ◌&&◌, ◌||◌, not, List, [], ◌∷◌, ◌++◌, Option, is_some}
 use Rattle.std.specs.Option.{option_map_or}
 use Rattle.mpslp_decimal.specs.Decimal.{is_infinite_size}
-use Rattle.mpslp_builder.specs.Declaration.{Declaration, declare_sense, declare_objective, declare_constant, declare_row, declare_rhs, declare_range, declare_column, declare_coefficient, declare_lower, declare_upper, declare_marked, declare_integer, declare_binary, declare_semi, Declarations, Draft, adding, has_name, is_objective, has_row, has_column, has_entry, is_integer, is_semi, is_free_row, is_row_by_limits, have_infinite_side}
-use Rattle.mpslp_core.specs.Model.{CoefficientKey}
-use Rattle.mpslp_core.specs.Lists.{those_of}
-use Rattle.mpslp_types.specs.Sides.{is_plus_infinite, is_minus_infinite}
+use Rattle.mpslp_builder.specs.Declaration.{Declaration, declare_sense, declare_objective, declare_constant, declare_row, declare_rhs, declare_range, declare_column, declare_coefficient, declare_lower, declare_upper, declare_marked, declare_integer, declare_binary, declare_semi, Declarations, Draft, with_declaration, has_name, is_objective, has_row, has_column, has_coefficient, is_integer, is_semi, is_free_row, is_row_by_limits, have_infinite_side}
+use Rattle.mpslp_model_core.specs.Model.{CoefficientKey}
+use Rattle.mpslp_model_core.specs.Lists.{those_of}
+use Rattle.mpslp_types.specs.Limit.{is_plus_infinite, is_minus_infinite}
 use Rattle.mpslp_builder.specs.Consistency.{has_objective_rhs}
 use Rattle.mpslp_types.specs.declared.kinds.Limit.{Limit}
 use Rattle.mpslp_types.specs.declared.faults.BuildFault.{BuildFault}
@@ -38,7 +38,7 @@ rhs_tests all row =
 -- whatever the value is
 abbrev pub coefficient_tests : Draft → CoefficientKey → List (Bool × BuildFault)
 coefficient_tests all key =
-    (not (has_row all key.row), UnknownRow) ∷ (not (has_column all key.column), UnknownColumn) ∷ (has_entry all key, DuplicateEntry) ∷ []
+    (not (has_row all key.row), UnknownRow) ∷ (not (has_column all key.column), UnknownColumn) ∷ (has_coefficient all key, DuplicateEntry) ∷ []
 
 -- of a column that is declared to be marked, integer or binary
 abbrev pub integer_tests : Draft → List ℕ → List (Bool × BuildFault)
@@ -52,7 +52,7 @@ abbrev pub refusal_tests : Draft → Declaration → List (Bool × BuildFault)
 refusal_tests all (declare_sense sense) = sense_tests all
 refusal_tests all (declare_objective name) = (is_some all.objective, SecondObjective) ∷ (has_row all name, DuplicateRow) ∷ []
 refusal_tests all (declare_constant value) = constant_tests all
-refusal_tests all (declare_row name form) = row_tests all name ++ (have_infinite_side form, InfiniteValue) ∷ []
+refusal_tests all (declare_row name definition) = row_tests all name ++ (have_infinite_side definition, InfiniteValue) ∷ []
 refusal_tests all (declare_rhs row value) = rhs_tests all row
 refusal_tests all (declare_range row value) =
     (not (has_row all row), UnknownRow) ∷ (has_name all.ranges row || is_row_by_limits all row, DuplicateRange)
@@ -76,7 +76,7 @@ refusals all declaration = those_of (refusal_tests all declaration)
 -- second range of a row is a duplicate whatever the first one's fault is
 abbrev pub refusals_in_turn : Draft → Declarations → List BuildFault
 refusals_in_turn before [] = []
-refusals_in_turn before (declaration ∷ more) = refusals before declaration ++ refusals_in_turn (adding before declaration) more
+refusals_in_turn before (declaration ∷ more) = refusals before declaration ++ refusals_in_turn (with_declaration before declaration) more
 
 -- ---- the bounds of a column, declared by one call
 

@@ -5,27 +5,27 @@ use Rattle.std.specs.Global.{Vec}
 use Rattle.mpslp_decimal.specs.Decimal.{Number}
 use Rattle.mpslp_types.specs.Name.{bytes_cmp}
 use Rattle.mpslp_types.specs.declared.kinds.Sense.{Sense}
-use Rattle.mpslp_core.specs.Model.{key_cmp}
-use Rattle.mpslp_core.specs.Numbered.{sorted_of, each_part, given_parts, name_of, all_cells, all_named, TellsApart}
+use Rattle.mpslp_model_core.specs.Model.{key_cmp}
+use Rattle.mpslp_model_core.specs.Numbered.{sorted_of, each_part, given_parts, name_of, all_cells, all_named, TellsApart}
 use Rattle.mpslp_builder.specs.Declaration.{Draft}
-pub use Rattle.mpslp_numbered.specs.Parts.{bytes, form_of, rhs_of, range_of, no_part, cells_of, lower_of, upper_of, as_part, mark_of, integer_of, binary_of, semi_of}
-use Rattle.mpslp_numbered.specs.declared.parts.ObjectiveParts.{ObjectiveParts}
-use Rattle.mpslp_numbered.specs.declared.parts.RowParts.{RowParts}
-use Rattle.mpslp_numbered.specs.declared.parts.ColumnParts.{ColumnParts}
+pub use Rattle.mpslp_builder_parts.specs.Parts.{bytes, definition_of, rhs_of, range_of, no_part, cells_of, lower_of, upper_of, as_part, mark_of, integer_of, binary_of, semi_of}
+use Rattle.mpslp_builder_parts.specs.declared.parts.ObjectiveParts.{ObjectiveParts}
+use Rattle.mpslp_builder_parts.specs.declared.parts.RowParts.{RowParts}
+use Rattle.mpslp_builder_parts.specs.declared.parts.ColumnParts.{ColumnParts}
 use Rattle.mpslp_builder.specs.declared.tables.Tables.{Tables}
 
 -- ---- the draft
 
-abbrev pub objective_name : Option ObjectiveParts → Option (List ℕ)
-objective_name objective = option_map (λ o. o.name) objective
+abbrev pub name_of_objective : Option ObjectiveParts → Option (List ℕ)
+name_of_objective objective = option_map (λ o. o.name) objective
 
 -- the right side of the objective, which stands in front of those of rows
 abbrev pub objective_rhs : Option ObjectiveParts → List (List ℕ × Number)
 objective_rhs objective = option_map_or (λ o. option_map_or (λ value. (o.name, value) ∷ []) o.rhs []) objective []
 
 -- the name of the row of a number
-abbrev pub number_name : Option ObjectiveParts → List (Vec ℕ × RowParts) → ℕ → Option (List ℕ)
-number_name objective rows = name_of bytes (objective_name objective) rows
+abbrev pub name_of_row_key : Option ObjectiveParts → List (Vec ℕ × RowParts) → ℕ → Option (List ℕ)
+name_of_row_key objective rows = name_of bytes (name_of_objective objective) rows
 
 abbrev pub cells_by_name : List (Vec ℕ × ColumnParts) → List (List ℕ × List (ℕ × Number))
 cells_by_name columns = each_part bytes cells_of columns
@@ -34,13 +34,13 @@ cells_by_name columns = each_part bytes cells_of columns
 abbrev pub draft_from : Option Sense → Option Number → Option ObjectiveParts → List (Vec ℕ × RowParts) → List (Vec ℕ × ColumnParts) → Draft
 draft_from sense constant objective rows columns = record {
   sense = sense;
-  objective = objective_name objective;
+  objective = name_of_objective objective;
   constant = constant;
-  rows = sorted_of bytes_cmp (each_part bytes form_of rows);
+  rows = sorted_of bytes_cmp (each_part bytes definition_of rows);
   rhs_values = sorted_of bytes_cmp (objective_rhs objective ++ given_parts bytes rhs_of rows);
   ranges = sorted_of bytes_cmp (given_parts bytes range_of rows);
   columns = sorted_of bytes_cmp (each_part bytes no_part columns);
-  coefficients = sorted_of key_cmp (all_cells (number_name objective rows) (cells_by_name columns));
+  coefficients = sorted_of key_cmp (all_cells (name_of_row_key objective rows) (cells_by_name columns));
   lowers = sorted_of bytes_cmp (given_parts bytes lower_of columns);
   uppers = sorted_of bytes_cmp (given_parts bytes upper_of columns);
   marked = sorted_of bytes_cmp (given_parts bytes mark_of columns);
@@ -57,8 +57,8 @@ draft sense constant t = draft_from sense constant t.objective t.rows.entries t.
 -- Rows are few enough for numbers of 32 bits, no two numbers have one name, and the number of each coefficient has one.
 pub record AreNumbered (objective : Option ObjectiveParts) (rows : List (Vec ℕ × RowParts)) (columns : List (Vec ℕ × ColumnParts)) : Type 0 where
   pub few : length rows < 4294967295
-  pub apart : TellsApart (number_name objective rows)
-  pub named : all_named (number_name objective rows) (cells_by_name columns) ≡ true
+  pub apart : TellsApart (name_of_row_key objective rows)
+  pub named : all_named (name_of_row_key objective rows) (cells_by_name columns) ≡ true
 
 abbrev pub IsNumbered : Tables → Type 0
 IsNumbered t = AreNumbered t.objective t.rows.entries t.columns.entries

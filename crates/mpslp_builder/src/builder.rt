@@ -1,16 +1,18 @@
 //! A builder, to which the parts of a model are declared in any order.
 
+mod finish;
+
 ghost use Rattle.std.specs.Prelude.{◌≡◌, IsTrue};
 ghost use Rattle.std.specs.Option.{ForSome};
-ghost use Rattle.mpslp_types.specs.Sides.{is_given};
-ghost use Rattle.mpslp_builder.specs.Declaration.{empty_draft, adding, adding_all, declare_sense, declare_objective, declare_constant, declare_row, by_type, by_limits, declare_rhs, declare_range, declare_column, declare_coefficient, declare_marked, declare_integer, declare_binary, declare_semi, rhs_declared, bounds_declared};
+ghost use Rattle.mpslp_types.specs.Limit.{is_given};
+ghost use Rattle.mpslp_builder.specs.Declaration.{empty_draft, with_declaration, with_declarations, declare_sense, declare_objective, declare_constant, declare_row, by_type, by_limits, declare_rhs, declare_range, declare_column, declare_coefficient, declare_marked, declare_integer, declare_binary, declare_semi, rhs_declared, bounds_declared};
 ghost use Rattle.mpslp_builder.specs.Refusal.{refusals, bounds_refusals};
 ghost use Rattle.mpslp_builder.specs.Answer.{Answers, IsNotOutOfMemory};
 
 use crate::tables::Tables;
-use mpslp_core::{RowLimits, StoredForm};
 use mpslp_decimal::Decimal;
 use mpslp_decimal::laws::each_value_is_a_decimal;
+use mpslp_model_core::{PackedRowDefinition, RowLimits};
 use mpslp_types::{BuildFault, Limit, Name, RowType, Sense};
 use std::alloc::Global;
 use std::marker::Model;
@@ -64,7 +66,7 @@ impl Builder {
     ///
     /// `DuplicateSense` where the sense is declared already. This call takes no memory.
     pub fn sense(&mut self, sense: Sense) -> Result<(), BuildFault>
-        ensures answers { Answers (refusals self.old (declare_sense sense)) result (self.new ≡ adding self.old (declare_sense sense)) (self.new ≡ self.old) }
+        ensures answers { Answers (refusals self.old (declare_sense sense)) result (self.new ≡ with_declaration self.old (declare_sense sense)) (self.new ≡ self.old) }
         ensures memory { IsNotOutOfMemory result }
     {
         self.check_sense()?;
@@ -78,7 +80,7 @@ impl Builder {
     ///
     /// `SecondObjective` where the objective has a name, `DuplicateRow` where a row has this one. The name is dropped then. This call takes no memory.
     pub fn objective(&mut self, name: Name) -> Result<(), BuildFault>
-        ensures answers { Answers (refusals self.old (declare_objective name)) result (self.new ≡ adding self.old (declare_objective name)) (self.new ≡ self.old) }
+        ensures answers { Answers (refusals self.old (declare_objective name)) result (self.new ≡ with_declaration self.old (declare_objective name)) (self.new ≡ self.old) }
         ensures memory { IsNotOutOfMemory result }
     {
         self.check_objective(name.as_bytes())?;
@@ -92,7 +94,7 @@ impl Builder {
     ///
     /// `DuplicateRhs` where the constant is declared already, as such or as a right side of the objective. This call takes no memory.
     pub fn constant(&mut self, value: Decimal) -> Result<(), BuildFault>
-        ensures answers { Answers (refusals self.old (declare_constant value)) result (self.new ≡ adding self.old (declare_constant value)) (self.new ≡ self.old) }
+        ensures answers { Answers (refusals self.old (declare_constant value)) result (self.new ≡ with_declaration self.old (declare_constant value)) (self.new ≡ self.old) }
         ensures memory { IsNotOutOfMemory result }
     {
         self.check_constant()?;
@@ -107,14 +109,14 @@ impl Builder {
     ///
     /// `DuplicateRow` where a row or the objective has the name, `OutOfMemory`. The name is dropped then.
     pub fn row(&mut self, name: Name, row_type: RowType) -> Result<(), BuildFault>
-        ensures { Answers (refusals self.old (declare_row name (by_type row_type))) result (self.new ≡ adding self.old (declare_row name (by_type row_type))) (self.new ≡ self.old) }
+        ensures { Answers (refusals self.old (declare_row name (by_type row_type))) result (self.new ≡ with_declaration self.old (declare_row name (by_type row_type))) (self.new ≡ self.old) }
     {
         self.check_row(name.as_bytes())?;
         if !self.tables.has_room() {
             return Err(BuildFault::OutOfMemory);
         }
         self.tables
-            .add_row(name.into_bytes(), StoredForm::of_type(row_type))?;
+            .add_row(name.into_bytes(), PackedRowDefinition::of_type(row_type))?;
         Ok(())
     }
 
@@ -128,14 +130,14 @@ impl Builder {
     pub fn row_limits(&mut self, name: Name, lower: Limit, upper: Limit) -> Result<(), BuildFault>
         requires lower { IsTrue (is_given lower) }
         requires upper { IsTrue (is_given upper) }
-        ensures { let declared = declare_row name (by_limits lower upper) in Answers (refusals self.old declared) result (self.new ≡ adding self.old declared) (self.new ≡ self.old) }
+        ensures { let declared = declare_row name (by_limits lower upper) in Answers (refusals self.old declared) result (self.new ≡ with_declaration self.old declared) (self.new ≡ self.old) }
     {
         self.check_row_limits(name.as_bytes(), &lower, &upper)?;
         if !self.tables.has_room() {
             return Err(BuildFault::OutOfMemory);
         }
-        let form = StoredForm::of_limits(self.alloc, RowLimits { lower, upper })?;
-        self.tables.add_row(name.into_bytes(), form)?;
+        let definition = PackedRowDefinition::of_limits(self.alloc, RowLimits { lower, upper })?;
+        self.tables.add_row(name.into_bytes(), definition)?;
         Ok(())
     }
 
@@ -146,9 +148,9 @@ impl Builder {
     ///
     /// `UnknownRow` where neither a row nor the objective has the name, `DuplicateRhs` where the right side is declared already, `OutOfMemory`.
     pub fn rhs(&mut self, row: &[u8], value: Decimal) -> Result<(), BuildFault>
-        ensures { Answers (refusals self.old (declare_rhs row.now value)) result (self.new ≡ adding_all self.old (rhs_declared self.old row.now value)) (self.new ≡ self.old) }
+        ensures { Answers (refusals self.old (declare_rhs row.now value)) result (self.new ≡ with_declarations self.old (rhs_declared self.old row.now value)) (self.new ≡ self.old) }
     {
-        let place = self.tables.rhs_place(row, &self.constant)?;
+        let place = self.tables.rhs_target(row, &self.constant)?;
         if self.tables.is_free(place) {
             return Ok(());
         }
@@ -165,9 +167,9 @@ impl Builder {
     /// `UnknownRow` where neither a row nor the objective has the name, `DuplicateRange` where the range is declared already, `RangeOnFree` on the objective or a row of type [`Free`](RowType::Free), `InfiniteValue` where
     /// the size is 10^20 or more, `OutOfMemory`.
     pub fn range(&mut self, row: &[u8], value: Decimal) -> Result<(), BuildFault>
-        ensures { Answers (refusals self.old (declare_range row.now value)) result (self.new ≡ adding self.old (declare_range row.now value)) (self.new ≡ self.old) }
+        ensures { Answers (refusals self.old (declare_range row.now value)) result (self.new ≡ with_declaration self.old (declare_range row.now value)) (self.new ≡ self.old) }
     {
-        let index = self.tables.range_index(row, value)?;
+        let index = self.tables.range_target(row, value)?;
         each_value_is_a_decimal(value);
         self.tables.put_range(index, value);
         Ok(())
@@ -179,7 +181,7 @@ impl Builder {
     ///
     /// `OutOfMemory` alone. The name is dropped then.
     pub fn column(&mut self, name: Name) -> Result<(), BuildFault>
-        ensures { Answers (refusals self.old (declare_column name)) result (self.new ≡ adding self.old (declare_column name)) (self.new ≡ self.old) }
+        ensures { Answers (refusals self.old (declare_column name)) result (self.new ≡ with_declaration self.old (declare_column name)) (self.new ≡ self.old) }
     {
         if self.has_column(name.as_bytes()) {
             return Ok(());
@@ -200,9 +202,9 @@ impl Builder {
         column: &[u8],
         value: Decimal,
     ) -> Result<(), BuildFault>
-        ensures { let declared = declare_coefficient (record { row = row.now; column = column.now }) value in Answers (refusals self.old declared) result (self.new ≡ adding self.old declared) (self.new ≡ self.old) }
+        ensures { let declared = declare_coefficient (record { row = row.now; column = column.now }) value in Answers (refusals self.old declared) result (self.new ≡ with_declaration self.old declared) (self.new ≡ self.old) }
     {
-        let place = self.tables.cell_place(row, column)?;
+        let place = self.tables.coefficient_target(row, column)?;
         each_value_is_a_decimal(value);
         self.tables.put_cell(place.column, place.row, value)?;
         Ok(())
@@ -224,10 +226,10 @@ impl Builder {
     ) -> Result<(), BuildFault>
         requires lower { ForSome lower (λ side. IsTrue (is_given side)) }
         requires upper { ForSome upper (λ side. IsTrue (is_given side)) }
-        ensures { Answers (bounds_refusals self.old column.now lower upper) result (self.new ≡ adding_all self.old (bounds_declared column.now lower upper)) (self.new ≡ self.old) }
+        ensures { Answers (bounds_refusals self.old column.now lower upper) result (self.new ≡ with_declarations self.old (bounds_declared column.now lower upper)) (self.new ≡ self.old) }
     {
-        let number = self.tables.sides_column(column, &lower, &upper)?;
-        self.tables.put_sides(self.alloc, number, lower, upper)?;
+        let number = self.tables.bounds_target(column, &lower, &upper)?;
+        self.tables.put_bounds(self.alloc, number, lower, upper)?;
         Ok(())
     }
 
@@ -238,9 +240,9 @@ impl Builder {
     ///
     /// `UnknownColumn` where no column has the name, `SemiContinuous` where the column is semi-continuous, `OutOfMemory`.
     pub fn marked(&mut self, column: &[u8]) -> Result<(), BuildFault>
-        ensures { Answers (refusals self.old (declare_marked column.now)) result (self.new ≡ adding self.old (declare_marked column.now)) (self.new ≡ self.old) }
+        ensures { Answers (refusals self.old (declare_marked column.now)) result (self.new ≡ with_declaration self.old (declare_marked column.now)) (self.new ≡ self.old) }
     {
-        let number = self.tables.integer_column(column)?;
+        let number = self.tables.integer_target(column)?;
         self.tables.put_mark(number);
         Ok(())
     }
@@ -251,9 +253,9 @@ impl Builder {
     ///
     /// `UnknownColumn` where no column has the name, `SemiContinuous` where the column is semi-continuous, `OutOfMemory`.
     pub fn integer(&mut self, column: &[u8]) -> Result<(), BuildFault>
-        ensures { Answers (refusals self.old (declare_integer column.now)) result (self.new ≡ adding self.old (declare_integer column.now)) (self.new ≡ self.old) }
+        ensures { Answers (refusals self.old (declare_integer column.now)) result (self.new ≡ with_declaration self.old (declare_integer column.now)) (self.new ≡ self.old) }
     {
-        let number = self.tables.integer_column(column)?;
+        let number = self.tables.integer_target(column)?;
         self.tables.put_integer(number);
         Ok(())
     }
@@ -265,9 +267,9 @@ impl Builder {
     ///
     /// `UnknownColumn` where no column has the name, `SemiContinuous` where the column is semi-continuous, `OutOfMemory`.
     pub fn binary(&mut self, column: &[u8]) -> Result<(), BuildFault>
-        ensures { Answers (refusals self.old (declare_binary column.now)) result (self.new ≡ adding self.old (declare_binary column.now)) (self.new ≡ self.old) }
+        ensures { Answers (refusals self.old (declare_binary column.now)) result (self.new ≡ with_declaration self.old (declare_binary column.now)) (self.new ≡ self.old) }
     {
-        let number = self.tables.integer_column(column)?;
+        let number = self.tables.integer_target(column)?;
         self.tables.put_binary(number);
         Ok(())
     }
@@ -280,9 +282,9 @@ impl Builder {
     /// `UnknownColumn` where no column has the name, `SemiContinuous` where the column is [marked](Self::marked),
     /// [integer](Self::integer) or [binary](Self::binary), `OutOfMemory`.
     pub fn semi(&mut self, column: &[u8]) -> Result<(), BuildFault>
-        ensures { Answers (refusals self.old (declare_semi column.now)) result (self.new ≡ adding self.old (declare_semi column.now)) (self.new ≡ self.old) }
+        ensures { Answers (refusals self.old (declare_semi column.now)) result (self.new ≡ with_declaration self.old (declare_semi column.now)) (self.new ≡ self.old) }
     {
-        let number = self.tables.semi_column(column)?;
+        let number = self.tables.semi_target(column)?;
         self.tables.put_semi(number);
         Ok(())
     }

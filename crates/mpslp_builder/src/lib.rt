@@ -2,8 +2,6 @@
 #![tactic(auto)]
 
 mod builder;
-mod file_faults;
-mod finish;
 pub mod laws;
 mod refusals;
 mod tables;

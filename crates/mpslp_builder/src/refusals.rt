@@ -7,16 +7,16 @@ ghost use Rattle.std.specs.Prelude.{◌≡◌, ◌&&◌, ◌||◌, IfOk, Some, N
 ghost use Rattle.std.specs.Option.{option_map_or};
 ghost use Rattle.std.specs.Ordering.{nat_cmp};
 ghost use Rattle.std.specs.FinMap.{find};
-ghost use Rattle.mpslp_types.specs.Sides.{is_plus_infinite, is_minus_infinite};
-ghost use Rattle.mpslp_core.specs.Lists.{those_of};
-ghost use Rattle.mpslp_builder.specs.Declaration.{by_limits, declare_objective, declare_row, declare_range, declare_marked, declare_integer, declare_binary, declare_semi, have_infinite_side, has_row, has_column, has_entry, is_free_row, is_limits_form};
+ghost use Rattle.mpslp_types.specs.Limit.{is_plus_infinite, is_minus_infinite};
+ghost use Rattle.mpslp_model_core.specs.Lists.{those_of};
+ghost use Rattle.mpslp_builder.specs.Declaration.{by_limits, declare_objective, declare_row, declare_range, declare_marked, declare_integer, declare_binary, declare_semi, have_infinite_side, has_row, has_column, has_coefficient, is_free_row, is_definition_by_limits};
 ghost use Rattle.mpslp_builder.specs.Refusal.{has_constant, sense_tests, constant_tests, row_tests, rhs_tests, integer_tests, semi_tests, coefficient_tests, refusals, bounds_refusals};
 ghost use Rattle.mpslp_builder.specs.Answer.{first_refusal};
 ghost use Rattle.mpslp_builder.specs.Tables.{draft, IsNumbered};
-ghost use Rattle.mpslp_builder.specs.Calls.{CoefficientsAreKnown, number_of, row_name, column_name, row_tells, column_tells, cells_at, answer_of, IsOnceEach};
+ghost use Rattle.mpslp_builder.specs.Calls.{CoefficientsAreKnown, row_key_of, row_name, column_name, row_tells, column_tells, cells_at, answer_of, IsOnceEach};
 
 use crate::builder::Builder;
-use crate::tables::{RowPlace, Tables};
+use crate::tables::{RowRef, Tables};
 use mpslp_decimal::Decimal;
 use mpslp_types::{BuildFault, Limit};
 
@@ -56,26 +56,26 @@ fn have_infinite_limit(lower: &Limit, upper: &Limit) -> bool
 
 /// Where a coefficient stands, by numbers.
 #[derive(Clone, Copy)]
-pub(crate) struct CellPlace {
+pub(crate) struct CoefficientTarget {
     pub(crate) row: u32,
     pub(crate) column: usize,
 }
 
 impl Tables {
     /// Where this right side may be put.
-    pub(crate) fn rhs_place(
+    pub(crate) fn rhs_target(
         &self,
         row: &[u8],
         constant: &Option<Decimal>,
-    ) -> Result<RowPlace, BuildFault>
+    ) -> Result<RowRef, BuildFault>
         requires { IsNumbered self.now }
-        ensures place { IfOk result (λ place. row_name self.now (number_of place) ≡ Some row.now) }
-        ensures absent { IfOk result (λ place. row_tells self.now place (λ objective. is_some objective.rhs || is_some constant.now) (λ row. is_some row.rhs || is_limits_form row.form) ≡ false) }
+        ensures place { IfOk result (λ place. row_name self.now (row_key_of place) ≡ Some row.now) }
+        ensures absent { IfOk result (λ place. row_tells self.now place (λ objective. is_some objective.rhs || is_some constant.now) (λ row. is_some row.rhs || is_definition_by_limits row.definition) ≡ false) }
         ensures once { IsOnceEach self.now }
         ensures answer { answer_of result ≡ first_refusal (those_of (rhs_tests (draft None constant.now self.now) row.now)) }
     {
         self.each_name_stands_once();
-        let Some(place) = self.row_place(row) else {
+        let Some(place) = self.row_ref(row) else {
             return Err(BuildFault::UnknownRow);
         };
         if self.has_rhs(place, constant.is_some()) {
@@ -85,20 +85,20 @@ impl Tables {
     }
 
     /// The index of the row whose range this may be.
-    pub(crate) fn range_index(&self, row: &[u8], value: Decimal) -> Result<usize, BuildFault>
+    pub(crate) fn range_target(&self, row: &[u8], value: Decimal) -> Result<usize, BuildFault>
         requires { IsNumbered self.now }
         ensures place { IfOk result (λ i. row_name self.now (suc i) ≡ Some row.now) }
         ensures once { IsOnceEach self.now }
         ensures answer { answer_of result ≡ first_refusal (refusals (draft None None self.now) (declare_range row.now value)) }
     {
         self.each_name_stands_once();
-        let Some(place) = self.row_place(row) else {
+        let Some(place) = self.row_ref(row) else {
             return Err(BuildFault::UnknownRow);
         };
         if self.has_range(place) {
             return Err(BuildFault::DuplicateRange);
         }
-        let RowPlace::Row(index) = place else {
+        let RowRef::Row(index) = place else {
             return Err(BuildFault::RangeOnFree);
         };
         if self.is_free(place) {
@@ -114,10 +114,10 @@ impl Tables {
     fn has_coefficient(&self, row: &[u8], column: &[u8]) -> bool
         requires numbered { IsNumbered self.now }
         requires known { CoefficientsAreKnown (draft None None self.now) }
-        ensures { result ≡ has_entry (draft None None self.now) (record { row = row.now; column = column.now }) }
+        ensures { result ≡ has_coefficient (draft None None self.now) (record { row = row.now; column = column.now }) }
     {
         self.each_name_stands_once();
-        let Some(place) = self.row_place(row) else {
+        let Some(place) = self.row_ref(row) else {
             return false;
         };
         let Some(number) = self.column_number(column) else {
@@ -127,7 +127,11 @@ impl Tables {
     }
 
     /// Where this coefficient may be put.
-    pub(crate) fn cell_place(&self, row: &[u8], column: &[u8]) -> Result<CellPlace, BuildFault>
+    pub(crate) fn coefficient_target(
+        &self,
+        row: &[u8],
+        column: &[u8],
+    ) -> Result<CoefficientTarget, BuildFault>
         requires { IsNumbered self.now }
         ensures row { IfOk result (λ place. row_name self.now place.row ≡ Some row.now) }
         ensures column { IfOk result (λ place. column_name self.now place.column ≡ Some column.now) }
@@ -136,7 +140,7 @@ impl Tables {
         ensures answer { answer_of result ≡ first_refusal (those_of (coefficient_tests (draft None None self.now) (record { row = row.now; column = column.now }))) }
     {
         self.each_name_stands_once();
-        let Some(place) = self.row_place(row) else {
+        let Some(place) = self.row_ref(row) else {
             return Err(BuildFault::UnknownRow);
         };
         let Some(column) = self.column_number(column) else {
@@ -146,7 +150,7 @@ impl Tables {
         if self.has_cell(column, row) {
             return Err(BuildFault::DuplicateEntry);
         }
-        Ok(CellPlace { row, column })
+        Ok(CoefficientTarget { row, column })
     }
 
     /// Whether a side that is given is declared of the column of a number.
@@ -157,7 +161,7 @@ impl Tables {
     }
 
     /// The number of the column whose sides these may be.
-    pub(crate) fn sides_column(
+    pub(crate) fn bounds_target(
         &self,
         column: &[u8],
         lower: &Option<Limit>,
@@ -181,7 +185,7 @@ impl Tables {
     }
 
     /// The number of the column that may be declared to be marked, integer or binary.
-    pub(crate) fn integer_column(&self, column: &[u8]) -> Result<usize, BuildFault>
+    pub(crate) fn integer_target(&self, column: &[u8]) -> Result<usize, BuildFault>
         ensures number { IfOk result (λ i. column_name self.now i ≡ Some column.now) }
         ensures once { IsOnceEach self.now }
         ensures answer { answer_of result ≡ first_refusal (those_of (integer_tests (draft None None self.now) column.now)) }
@@ -197,7 +201,7 @@ impl Tables {
     }
 
     /// The number of the column that may be declared to be semi-continuous.
-    pub(crate) fn semi_column(&self, column: &[u8]) -> Result<usize, BuildFault>
+    pub(crate) fn semi_target(&self, column: &[u8]) -> Result<usize, BuildFault>
         ensures number { IfOk result (λ i. column_name self.now i ≡ Some column.now) }
         ensures once { IsOnceEach self.now }
         ensures answer { answer_of result ≡ first_refusal (those_of (semi_tests (draft None None self.now) column.now)) }
@@ -251,7 +255,7 @@ impl Builder {
 
     /// Whether a coefficient of this row, or of the objective, is declared in this column.
     pub fn has_coefficient(&self, row: &[u8], column: &[u8]) -> bool
-        ensures { result ≡ has_entry self.now (record { row = row.now; column = column.now }) }
+        ensures { result ≡ has_coefficient self.now (record { row = row.now; column = column.now }) }
     {
         self.tables.has_coefficient(row, column)
     }
@@ -330,7 +334,7 @@ impl Builder {
     pub fn check_rhs(&self, row: &[u8]) -> Result<(), BuildFault>
         ensures { result ≡ first_refusal (those_of (rhs_tests self.now row.now)) }
     {
-        self.tables.rhs_place(row, &self.constant)?;
+        self.tables.rhs_target(row, &self.constant)?;
         Ok(())
     }
 
@@ -342,7 +346,7 @@ impl Builder {
     pub fn check_range(&self, row: &[u8], value: Decimal) -> Result<(), BuildFault>
         ensures { result ≡ first_refusal (refusals self.now (declare_range row.now value)) }
     {
-        self.tables.range_index(row, value)?;
+        self.tables.range_target(row, value)?;
         Ok(())
     }
 
@@ -354,7 +358,7 @@ impl Builder {
     pub fn check_coefficient(&self, row: &[u8], column: &[u8]) -> Result<(), BuildFault>
         ensures { result ≡ first_refusal (those_of (coefficient_tests self.now (record { row = row.now; column = column.now }))) }
     {
-        self.tables.cell_place(row, column)?;
+        self.tables.coefficient_target(row, column)?;
         Ok(())
     }
 
@@ -371,7 +375,7 @@ impl Builder {
     ) -> Result<(), BuildFault>
         ensures { result ≡ first_refusal (bounds_refusals self.now column.now lower.now upper.now) }
     {
-        self.tables.sides_column(column, lower, upper)?;
+        self.tables.bounds_target(column, lower, upper)?;
         Ok(())
     }
 
@@ -383,7 +387,7 @@ impl Builder {
     pub fn check_marked(&self, column: &[u8]) -> Result<(), BuildFault>
         ensures { result ≡ first_refusal (refusals self.now (declare_marked column.now)) }
     {
-        self.tables.integer_column(column)?;
+        self.tables.integer_target(column)?;
         Ok(())
     }
 
@@ -395,7 +399,7 @@ impl Builder {
     pub fn check_integer(&self, column: &[u8]) -> Result<(), BuildFault>
         ensures { result ≡ first_refusal (refusals self.now (declare_integer column.now)) }
     {
-        self.tables.integer_column(column)?;
+        self.tables.integer_target(column)?;
         Ok(())
     }
 
@@ -407,7 +411,7 @@ impl Builder {
     pub fn check_binary(&self, column: &[u8]) -> Result<(), BuildFault>
         ensures { result ≡ first_refusal (refusals self.now (declare_binary column.now)) }
     {
-        self.tables.integer_column(column)?;
+        self.tables.integer_target(column)?;
         Ok(())
     }
 
@@ -419,7 +423,7 @@ impl Builder {
     pub fn check_semi(&self, column: &[u8]) -> Result<(), BuildFault>
         ensures { result ≡ first_refusal (refusals self.now (declare_semi column.now)) }
     {
-        self.tables.semi_column(column)?;
+        self.tables.semi_target(column)?;
         Ok(())
     }
 }

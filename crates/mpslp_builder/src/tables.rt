@@ -1,20 +1,22 @@
 //! Rows and columns by numbers, in the order in which they were declared, with the coefficients of each column.
 
+pub(crate) mod file_faults;
+
 ghost use Rattle.std.specs.Prelude.{◌≡◌, ◌<◌, ◌||◌, IsTrue, IfSome, OnOk, OnErr, Some, None, true, false, suc, is_some};
 ghost use Rattle.std.specs.Option.{option_map_or};
 ghost use Rattle.std.specs.Ordering.{nat_cmp};
 ghost use Rattle.std.specs.FinMap.{find};
 ghost use Rattle.indexmap.specs.IndexMap.{index_map_len};
 ghost use Rattle.mpslp_types.specs.Name.{same_bytes};
-ghost use Rattle.mpslp_builder.specs.Declaration.{has_row, has_column, has_name, is_objective, is_free_row, is_free_form, is_limits_form};
+ghost use Rattle.mpslp_builder.specs.Declaration.{has_row, has_column, has_name, is_objective, is_free_row, is_free_definition, is_definition_by_limits};
 ghost use Rattle.mpslp_builder.specs.Consistency.{has_objective_rhs};
 ghost use Rattle.mpslp_builder.specs.Tables.{draft, IsNumbered};
-ghost use Rattle.mpslp_builder.specs.Calls.{number_of, row_name, column_name, row_tells, column_tells, cells_at, new_column, with_cell, with_sides, IsOnceEach, IsEmptyTables, IsSameTables, HasObjective, HasRowAdded, HasRowChanged, HasColumnAdded, HasColumnChanged, HasRhsPut};
+ghost use Rattle.mpslp_builder.specs.Calls.{row_key_of, row_name, column_name, row_tells, column_tells, cells_at, new_column, with_cell, with_bounds, IsOnceEach, IsEmptyTables, IsSameTables, HasObjective, HasRowAdded, HasRowChanged, HasColumnAdded, HasColumnChanged, HasRhsPut};
 
 use indexmap::IndexMap;
-use mpslp_core::StoredForm;
+use mpslp_builder_parts::{ColumnParts, ObjectiveParts, RowParts};
 use mpslp_decimal::{Decimal, PackedDecimal};
-use mpslp_numbered::{ColumnParts, ObjectiveParts, RowParts};
+use mpslp_model_core::PackedRowDefinition;
 use mpslp_types::{Limit, Name};
 use std::alloc::{AllocError, Global};
 
@@ -30,22 +32,22 @@ pub(crate) struct Tables {
 
 /// Where something that is named like a row stands.
 #[derive(Clone, Copy)]
-pub(crate) enum RowPlace {
+pub(crate) enum RowRef {
     /// It is the objective.
     Objective,
     /// It is the row of this index.
     Row(usize),
 }
 
-impl RowPlace {
+impl RowRef {
     /// The number by which coefficients name it.
     pub(crate) fn number(self) -> u32
-        requires { number_of self < 4294967296 }
-        ensures { result ≡ number_of self }
+        requires { row_key_of self < 4294967296 }
+        ensures { result ≡ row_key_of self }
     {
         match self {
-            RowPlace::Objective => 0,
-            RowPlace::Row(index) => index as u32 + 1,
+            RowRef::Objective => 0,
+            RowRef::Row(index) => index as u32 + 1,
         }
     }
 }
@@ -119,7 +121,7 @@ impl Tables {
         ensures { result ≡ is_free_row (draft None None self.now) name.now }
     {
         match self.rows.get(name) {
-            Some(row) => row.form.is_free(),
+            Some(row) => row.definition.is_free(),
             None => false,
         }
     }
@@ -143,19 +145,19 @@ impl Tables {
 
     /// Where the row of this name stands, or the objective. The row that was declared last is tried first, without a look-up: its
     /// coefficients may come right behind it.
-    pub(crate) fn row_place(&self, name: &[u8]) -> Option<RowPlace>
-        ensures place { IfSome result (λ place. row_name self.now (number_of place) ≡ Some name.now) }
+    pub(crate) fn row_ref(&self, name: &[u8]) -> Option<RowRef>
+        ensures place { IfSome result (λ place. row_name self.now (row_key_of place) ≡ Some name.now) }
         ensures found { is_some result ≡ has_row (draft None None self.now) name.now }
     {
         if self.is_objective(name) {
-            return Some(RowPlace::Objective);
+            return Some(RowRef::Objective);
         }
         let last = self.rows.len().saturating_sub(1);
         if self.is_row_at(last, name) {
-            return Some(RowPlace::Row(last));
+            return Some(RowRef::Row(last));
         }
         match self.rows.get_full(name) {
-            Some((index, _key, _row)) => Some(RowPlace::Row(index)),
+            Some((index, _key, _row)) => Some(RowRef::Row(index)),
             None => None,
         }
     }
@@ -185,42 +187,42 @@ impl Tables {
     }
 
     /// Whether the right side is declared, as such, by the limits of the row or by the constant of the objective.
-    pub(crate) fn has_rhs(&self, place: RowPlace, has_constant: bool) -> bool
-        ensures { result ≡ row_tells self.now place (λ objective. is_some objective.rhs || has_constant) (λ row. is_some row.rhs || is_limits_form row.form) }
+    pub(crate) fn has_rhs(&self, place: RowRef, has_constant: bool) -> bool
+        ensures { result ≡ row_tells self.now place (λ objective. is_some objective.rhs || has_constant) (λ row. is_some row.rhs || is_definition_by_limits row.definition) }
     {
         match place {
-            RowPlace::Objective => match &self.objective {
+            RowRef::Objective => match &self.objective {
                 Some(objective) => objective.rhs.is_some() || has_constant,
                 None => false,
             },
-            RowPlace::Row(index) => match self.rows.get_index(index) {
-                Some((_key, row)) => row.rhs.is_some() || row.form.has_limits(),
+            RowRef::Row(index) => match self.rows.get_index(index) {
+                Some((_key, row)) => row.rhs.is_some() || row.definition.has_limits(),
                 None => false,
             },
         }
     }
 
     /// Whether the range is declared, as such or by the limits of the row.
-    pub(crate) fn has_range(&self, place: RowPlace) -> bool
-        ensures { result ≡ row_tells self.now place (λ objective. false) (λ row. is_some row.range || is_limits_form row.form) }
+    pub(crate) fn has_range(&self, place: RowRef) -> bool
+        ensures { result ≡ row_tells self.now place (λ objective. false) (λ row. is_some row.range || is_definition_by_limits row.definition) }
     {
         match place {
-            RowPlace::Objective => false,
-            RowPlace::Row(index) => match self.rows.get_index(index) {
-                Some((_key, row)) => row.range.is_some() || row.form.has_limits(),
+            RowRef::Objective => false,
+            RowRef::Row(index) => match self.rows.get_index(index) {
+                Some((_key, row)) => row.range.is_some() || row.definition.has_limits(),
                 None => false,
             },
         }
     }
 
     /// Whether this is a row of type N. The objective is not.
-    pub(crate) fn is_free(&self, place: RowPlace) -> bool
-        ensures { result ≡ row_tells self.now place (λ objective. false) (λ row. is_free_form row.form) }
+    pub(crate) fn is_free(&self, place: RowRef) -> bool
+        ensures { result ≡ row_tells self.now place (λ objective. false) (λ row. is_free_definition row.definition) }
     {
         match place {
-            RowPlace::Objective => false,
-            RowPlace::Row(index) => match self.rows.get_index(index) {
-                Some((_key, row)) => row.form.is_free(),
+            RowRef::Objective => false,
+            RowRef::Row(index) => match self.rows.get_index(index) {
+                Some((_key, row)) => row.definition.is_free(),
                 None => false,
             },
         }
@@ -291,15 +293,19 @@ impl Tables {
     }
 
     /// Adds a row without a right side and a range. None has its name.
-    pub(crate) fn add_row(&mut self, name: Vec<u8>, form: StoredForm) -> Result<(), AllocError>
+    pub(crate) fn add_row(
+        &mut self,
+        name: Vec<u8>,
+        definition: PackedRowDefinition,
+    ) -> Result<(), AllocError>
         requires { has_name (draft None None self.old).rows name.items ≡ false }
-        ensures ok { OnOk result (HasRowAdded self.old name (record { form = form; rhs = None; range = None }) self.new) }
+        ensures ok { OnOk result (HasRowAdded self.old name (record { definition = definition; rhs = None; range = None }) self.new) }
         ensures err { OnErr result (IsSameTables self.old self.new) }
     {
         self.rows.insert(
             name,
             RowParts {
-                form,
+                definition,
                 rhs: None,
                 range: None,
             },
@@ -348,7 +354,7 @@ impl Tables {
     /// Puts the right side of the objective.
     fn put_objective_rhs(&mut self, value: Decimal)
         requires { is_some self.old.objective ≡ true }
-        ensures { HasRhsPut self.old RowPlace.Objective value self.new }
+        ensures { HasRhsPut self.old RowRef.Objective value self.new }
     {
         if let Some(objective) = &mut self.objective {
             objective.rhs = Some(PackedDecimal::of(value));
@@ -356,13 +362,13 @@ impl Tables {
     }
 
     /// Puts the right side of a row or of the objective.
-    pub(crate) fn put_rhs(&mut self, place: RowPlace, value: Decimal)
-        requires { is_some (row_name self.old (number_of place)) ≡ true }
+    pub(crate) fn put_rhs(&mut self, place: RowRef, value: Decimal)
+        requires { is_some (row_name self.old (row_key_of place)) ≡ true }
         ensures { HasRhsPut self.old place value self.new }
     {
         match place {
-            RowPlace::Objective => self.put_objective_rhs(value),
-            RowPlace::Row(index) => self.put_row_rhs(index, value),
+            RowRef::Objective => self.put_objective_rhs(value),
+            RowRef::Row(index) => self.put_row_rhs(index, value),
         }
     }
 
@@ -416,7 +422,7 @@ impl Tables {
     }
 
     /// Puts the sides of a column that are given.
-    pub(crate) fn put_sides(
+    pub(crate) fn put_bounds(
         &mut self,
         alloc: Global,
         column: usize,
@@ -424,7 +430,7 @@ impl Tables {
         upper: Option<Limit>,
     ) -> Result<(), AllocError>
         requires { is_some (column_name self.old column) ≡ true }
-        ensures ok { OnOk result (HasColumnChanged self.old column (with_sides lower upper) self.new) }
+        ensures ok { OnOk result (HasColumnChanged self.old column (with_bounds lower upper) self.new) }
         ensures err { OnErr result (IsSameTables self.old self.new) }
     {
         self.recent = column;

@@ -4,11 +4,11 @@ mod lp;
 mod rows;
 
 ghost use Rattle.std.specs.Prelude.{IsTrue};
-ghost use Rattle.mpslp_types.specs.Sides.{is_given};
+ghost use Rattle.mpslp_types.specs.Limit.{is_given};
 
 use crate::Builder;
-use mpslp_core::Model;
 use mpslp_decimal::{Decimal, DecimalText};
+use mpslp_model_core::Model;
 use mpslp_types::{BuildFault, FaultKind, Kind, Limit, Name, ReadFault, RowType, Sense};
 use std::alloc::{AllocError, Global};
 use std::cmp::Ordering;

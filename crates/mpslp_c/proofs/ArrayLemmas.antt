@@ -2,8 +2,8 @@
 use Rattle.std.proofs.Common.{◌≡◌, refl, sym, ap, ◌∙◌, subst, ℕ, zero, suc, ◌<◌, ◌+◌, List, [], ◌∷◌, ◌++◌, length, None, Some, Option}
 use Rattle.std.specs.Prelude.{slice_get}
 use Rattle.std.proofs.lemmas.List.Sums.{sum_by_more}
-use Rattle.mpslp_core.specs.Model.{LinearModel}
-use Rattle.mpslp_core.specs.Views.{num_columns, row_name, column_name, column_names, numbered_elements}
+use Rattle.mpslp_model_core.specs.Model.{LinearModel}
+use Rattle.mpslp_model_core.specs.Views.{num_columns, row_name, column_name, column_names, numbered_elements}
 use Rattle.mpslp_decimal.specs.Decimal.{Number}
 use Rattle.mpslp_c.specs.Arrays.{KeepsNames, TellsRow, TellsRows, KeepsElements, TellsElement, TellsElements, TellsColumnHead, TellsColumn, TellsColumns, column_len, elements_before}
 use Rattle.mpslp_c.specs.declared.arrays.MpslpColumn.{MpslpColumn}

@@ -12,9 +12,9 @@ use Rattle.std.specs.FinMap.Entries.{below_all}
 use Rattle.std.proofs.lemmas.List.Sums.{sum_by-cons}
 use Rattle.mpslp_decimal.specs.Decimal.{Number, is_decimal, is_zero}
 use Rattle.mpslp_types.specs.Name.{same_bytes, bytes_cmp, is_one_of}
-use Rattle.mpslp_core.specs.Model.{LinearModel, CoefficientKey, IsSound, is_sound_coefficient}
-use Rattle.mpslp_core.specs.Views.{column_names, num_columns, num_elements, is_element}
-use Rattle.mpslp_core.proofs.KeyLemmas.{bytes_total}
+use Rattle.mpslp_model_core.specs.Model.{LinearModel, CoefficientKey, IsSound, is_sound_coefficient}
+use Rattle.mpslp_model_core.specs.Views.{column_names, num_columns, num_elements, is_element}
+use Rattle.mpslp_model_core.proofs.KeyLemmas.{bytes_total}
 use Rattle.mpslp_types.proofs.BoolLemmas.{true_from}
 use Rattle.mpslp_c.specs.Arrays.{column_len, elements_before}
 

@@ -8,8 +8,8 @@ use Rattle.mpslp_types.specs.declared.kinds.Limit.{Limit}
 use Rattle.mpslp_types.specs.declared.kinds.Limit.TheVariants.{MinusInf, Finite, PlusInf}
 use Rattle.mpslp_types.specs.declared.kinds.Sense.{Sense}
 use Rattle.mpslp_types.specs.declared.kinds.Sense.TheVariants.{Minimize, Maximize}
-use Rattle.mpslp_core.specs.Model.{LinearModel, Row, Column}
-use Rattle.mpslp_core.specs.Views.{num_rows, num_columns, num_elements, row_name, column_name, column_names, rows_of, columns_of, coefficient_at, column_elements, numbered_elements}
+use Rattle.mpslp_model_core.specs.Model.{LinearModel, Row, Column}
+use Rattle.mpslp_model_core.specs.Views.{num_rows, num_columns, num_elements, row_name, column_name, column_names, rows_of, columns_of, coefficient_at, column_elements, numbered_elements}
 use Rattle.mpslp_c.specs.declared.arrays.TheConstants.{CONTINUOUS, INTEGER, SEMI, MINIMIZE, MAXIMIZE}
 use Rattle.mpslp_c.specs.declared.numbers.MpslpNumber.{MpslpNumber}
 use Rattle.mpslp_c.specs.declared.arrays.MpslpName.{MpslpName}

@@ -1,7 +1,7 @@
 //! A whole model, as arrays for C.
 
 ghost use Rattle.std.specs.Prelude.{◌≡◌, ◌<◌, ◌+◌, IfOk, Some, length, slice_get};
-ghost use Rattle.mpslp_core.specs.Views.{num_rows, num_columns, column_name, column_elements, numbered_elements};
+ghost use Rattle.mpslp_model_core.specs.Views.{num_rows, num_columns, column_name, column_elements, numbered_elements};
 ghost use Rattle.mpslp_c.specs.Arrays.{kind_number, sense_number, KeepsNames, TellsName, TellsRow, TellsRows, KeepsElements, TellsElement, TellsElements, TellsColumnHead, TellsColumns, TellsModel, elements_before};
 
 use crate::numbers::{MpslpNumber, told_limit, told_number};

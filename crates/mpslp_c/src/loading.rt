@@ -1,7 +1,7 @@
 //! The call that gives a whole model.
 
 ghost use Rattle.std.specs.Prelude.{◌≡◌, IsOkUnless};
-ghost use Rattle.mpslp_core.specs.Model.{LinearModel};
+ghost use Rattle.mpslp_model_core.specs.Model.{LinearModel};
 ghost use Rattle.mpslp_types.specs.declared.faults.Fault.{Fault};
 ghost use Rattle.mpslp_convert.specs.Conversions.{IsReadingOfFirst, IsErrUnless};
 ghost use Rattle.mpslp_convert.specs.Performed.{declares_in, first_fault_in};

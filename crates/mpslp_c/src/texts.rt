@@ -1,7 +1,7 @@
 //! Texts in either format, by the number of the format.
 
 ghost use Rattle.std.specs.Prelude.{◌≡◌, None, Some, IsOkUnless};
-ghost use Rattle.mpslp_core.specs.Model.{LinearModel};
+ghost use Rattle.mpslp_model_core.specs.Model.{LinearModel};
 ghost use Rattle.mpslp_types.specs.declared.faults.Fault.{Fault};
 ghost use Rattle.mpslp_types.specs.declared.faults.NameAt.{NameAt};
 ghost use Rattle.mpslp_convert.specs.Conversions.{IsConversion, IsComparison, IsTestOfText, IsErrUnless};

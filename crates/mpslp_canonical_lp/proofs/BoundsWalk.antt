@@ -4,26 +4,26 @@ use Rattle.std.specs.Prelude.{Some, None, ◌||◌, codes, if◌then◌else◌, 
 use Rattle.std.specs.List.{flat_map}
 use Rattle.std.proofs.lemmas.List.{append-nil}
 use Rattle.mpslp_decimal.specs.Decimal.{Number as Decimal, is_zero, is_negative, size_of}
-use Rattle.mpslp_core.specs.Model.{Column}
-use Rattle.mpslp_types.specs.Sides.{limit_of}
-use Rattle.mpslp_builder.specs.Declaration.{Draft, Declarations, declare_column, bounds_declared, adding_all}
+use Rattle.mpslp_model_core.specs.Model.{Column}
+use Rattle.mpslp_types.specs.Limit.{limit_of}
+use Rattle.mpslp_builder.specs.Declaration.{Draft, Declarations, declare_column, bounds_declared, with_declarations}
 use Rattle.mpslp_builder.specs.Refusal.{refusals_in_turn}
 use Rattle.mpslp_types.specs.declared.kinds.Limit.{Limit}
 use Rattle.mpslp_types.specs.declared.kinds.Limit.TheVariants.{MinusInf, Finite, PlusInf}
 use Rattle.mpslp_decimal.proofs.CutLemmas.{Each}
-use Rattle.mpslp_lp.specs.Words.{meaning_of}
+use Rattle.mpslp_lp.specs.Words.{class_of}
 use Rattle.mpslp_lp.specs.Terminal.{Terminal, TerminalAt, word_terminal}
 use Rattle.mpslp_lp.specs.Terminal.Terminal.{Name, Number, Sign, Compares, Infinity, Free}
 use Rattle.mpslp_lp.specs.Point.{Point}
-use Rattle.mpslp_lp.specs.declared.opened.Opened.{Opened}
+use Rattle.mpslp_lp.specs.declared.sections_seen.SectionsSeen.{SectionsSeen}
 use Rattle.mpslp_lp.specs.declared.states.Place.TheVariants.{InBounds}
-use Rattle.mpslp_lp.specs.Sides.{signed, Limits, limits_by}
+use Rattle.mpslp_lp.specs.Sides.{apply_sign, Limits, limits_by}
 use Rattle.mpslp_lp.specs.Bounds.{no_limits}
 use Rattle.mpslp_lp.specs.declared.relations.Relation.{Relation}
 use Rattle.mpslp_lp.specs.declared.relations.Relation.TheVariants.{AtMost, AtLeast, EqualTo}
-use Rattle.mpslp_canonical_lp.specs.Printed.{Piece, word, number, sense, minus_infinity}
-use Rattle.mpslp_canonical_lp.specs.CanonicalLp.{have_same_value, bound_pieces, line_of_some, bound_lines}
-use Rattle.mpslp_canonical_lp.proofs.PieceLemmas.{IsGoodName}
+use Rattle.mpslp_canonical_lp.specs.Printed.{Lexeme, word, number, sense, minus_infinity}
+use Rattle.mpslp_canonical_lp.specs.CanonicalLp.{have_same_value, bound_lexemes, line_of_some, bound_lines}
+use Rattle.mpslp_canonical_lp.proofs.LexemeLemmas.{IsGoodName}
 use Rattle.mpslp_canonical_lp.proofs.PrintableLemmas.{IsFitColumn}
 use Rattle.mpslp_canonical_lp.proofs.TerminalLemmas.{at, terminals_in, all_terminals, mapped-append, signed-value}
 use Rattle.mpslp_canonical_lp.proofs.PhraseLemmas.{Walks, walks-none, point_at, column_and, AreTaken, bound-walks, signed-bound-walks, free-walks, left-bound-walks, signed-left-bound-walks, infinite-left-walks, upper-walks, signed-upper-walks}
@@ -32,12 +32,12 @@ use Rattle.mpslp_canonical_lp.proofs.TailWalk.{sides-taken}
 
 -- ---- a number is read by its sign and its size
 
-pub number-either : (P : Decimal → List Terminal → Type 0) (value : Decimal) → ((v : Decimal) → P v (Number v ∷ [])) → ((below : Bool) (v : Decimal) → P (signed below v) (Sign below ∷ Number v ∷ []))
+pub number-either : (P : Decimal → List Terminal → Type 0) (value : Decimal) → ((v : Decimal) → P v (Number v ∷ [])) → ((below : Bool) (v : Decimal) → P (apply_sign below v) (Sign below ∷ Number v ∷ []))
     → P value (terminals_in (number value))
 number-either P value plain with_sign = by (is_negative value) refl
   where
     by : (b : Bool) → is_negative value ≡ b → P value (if b then Sign true ∷ Number (size_of value) ∷ [] else Number value ∷ [])
-    by true e = subst (λ (v : Decimal). P v (Sign true ∷ Number (size_of value) ∷ [])) (ap (λ (b : Bool). signed b (size_of value)) (sym e) ∙ signed-value value) (with_sign true (size_of value))
+    by true e = subst (λ (v : Decimal). P v (Sign true ∷ Number (size_of value) ∷ [])) (ap (λ (b : Bool). apply_sign b (size_of value)) (sym e) ∙ signed-value value) (with_sign true (size_of value))
     by false e = plain value
 
 -- ---- what is declared
@@ -55,7 +55,7 @@ bound_made column _ _ = column_and column no_limits
 taken-from : (all : Draft) (column : List ℕ) (limits : Limits) → (is_some limits.lower || is_some limits.upper) ≡ true → refusals_in_turn all (column_and column limits) ≡ [] → AreTaken all column limits
 taken-from all column limits some h =
     let parts = parts-taken all (declare_column column ∷ []) (bounds_declared column limits.lower limits.upper) h in
-    sides-taken (adding_all all (declare_column column ∷ [])) column limits.lower limits.upper parts.1 some
+    sides-taken (with_declarations all (declare_column column ∷ [])) column limits.lower limits.upper parts.1 some
 
 some-limits : (relation : Relation) (limit : Limit) → (is_some (limits_by relation limit).lower || is_some (limits_by relation limit).upper) ≡ true
 some-limits AtMost limit = refl
@@ -64,150 +64,150 @@ some-limits EqualTo limit = refl
 
 -- ---- parts of a line
 
-abbrev bounds_point : Opened → Draft → Point
-bounds_point opened all = point_at (InBounds None) opened all
+abbrev bounds_point : SectionsSeen → Draft → Point
+bounds_point sections_seen all = point_at (InBounds None) sections_seen all
 
 -- a column, a sense and a number
-valued-walk : (opened : Opened) (all : Draft) (n : ℕ) (column : List ℕ) (relation : Relation) (value : Decimal) → refusals_in_turn all (column_and column (limits_by relation (limit_of value))) ≡ []
-    → Walks (bounds_point opened all) (at n (Name column) ∷ at n (Compares relation) ∷ map (at n) (terminals_in (number value))) (column_and column (limits_by relation (limit_of value)))
-    (bounds_point opened (adding_all all (column_and column (limits_by relation (limit_of value)))))
-valued-walk opened all n column relation value =
+valued-walk : (sections_seen : SectionsSeen) (all : Draft) (n : ℕ) (column : List ℕ) (relation : Relation) (value : Decimal) → refusals_in_turn all (column_and column (limits_by relation (limit_of value))) ≡ []
+    → Walks (bounds_point sections_seen all) (at n (Name column) ∷ at n (Compares relation) ∷ map (at n) (terminals_in (number value))) (column_and column (limits_by relation (limit_of value)))
+    (bounds_point sections_seen (with_declarations all (column_and column (limits_by relation (limit_of value)))))
+valued-walk sections_seen all n column relation value =
     number-either (λ v terminals. refusals_in_turn all (column_and column (limits_by relation (limit_of v))) ≡ []
-    → Walks (bounds_point opened all) (at n (Name column) ∷ at n (Compares relation) ∷ map (at n) terminals) (column_and column (limits_by relation (limit_of v)))
-    (bounds_point opened (adding_all all (column_and column (limits_by relation (limit_of v)))))) value
-    (λ v h. bound-walks opened all n column relation v (taken-from all column (limits_by relation (limit_of v)) (some-limits relation (limit_of v)) h))
-    (λ below v h. signed-bound-walks opened all n column relation below v (taken-from all column (limits_by relation (limit_of (signed below v))) (some-limits relation (limit_of (signed below v))) h))
+    → Walks (bounds_point sections_seen all) (at n (Name column) ∷ at n (Compares relation) ∷ map (at n) terminals) (column_and column (limits_by relation (limit_of v)))
+    (bounds_point sections_seen (with_declarations all (column_and column (limits_by relation (limit_of v)))))) value
+    (λ v h. bound-walks sections_seen all n column relation v (taken-from all column (limits_by relation (limit_of v)) (some-limits relation (limit_of v)) h))
+    (λ below v h. signed-bound-walks sections_seen all n column relation below v (taken-from all column (limits_by relation (limit_of (apply_sign below v))) (some-limits relation (limit_of (apply_sign below v))) h))
 
 -- a number, `<=` and a column
-left-walk : (opened : Opened) (all : Draft) (n : ℕ) (value : Decimal) (column : List ℕ) → refusals_in_turn all (column_and column (limits_by AtLeast (limit_of value))) ≡ []
-    → Walks (bounds_point opened all) (map (at n) (terminals_in (number value)) ++ at n (Compares AtMost) ∷ at n (Name column) ∷ []) (column_and column (limits_by AtLeast (limit_of value)))
-    (point_at (InBounds (Some (column, AtMost))) opened (adding_all all (column_and column (limits_by AtLeast (limit_of value)))))
-left-walk opened all n value column =
+left-walk : (sections_seen : SectionsSeen) (all : Draft) (n : ℕ) (value : Decimal) (column : List ℕ) → refusals_in_turn all (column_and column (limits_by AtLeast (limit_of value))) ≡ []
+    → Walks (bounds_point sections_seen all) (map (at n) (terminals_in (number value)) ++ at n (Compares AtMost) ∷ at n (Name column) ∷ []) (column_and column (limits_by AtLeast (limit_of value)))
+    (point_at (InBounds (Some (column, AtMost))) sections_seen (with_declarations all (column_and column (limits_by AtLeast (limit_of value)))))
+left-walk sections_seen all n value column =
     number-either (λ v terminals. refusals_in_turn all (column_and column (limits_by AtLeast (limit_of v))) ≡ []
-    → Walks (bounds_point opened all) (map (at n) terminals ++ at n (Compares AtMost) ∷ at n (Name column) ∷ []) (column_and column (limits_by AtLeast (limit_of v)))
-    (point_at (InBounds (Some (column, AtMost))) opened (adding_all all (column_and column (limits_by AtLeast (limit_of v)))))) value
-    (λ v h. left-bound-walks opened all n v AtMost column (taken-from all column (limits_by AtLeast (limit_of v)) refl h))
-    (λ below v h. signed-left-bound-walks opened all n below v AtMost column (taken-from all column (limits_by AtLeast (limit_of (signed below v))) refl h))
+    → Walks (bounds_point sections_seen all) (map (at n) terminals ++ at n (Compares AtMost) ∷ at n (Name column) ∷ []) (column_and column (limits_by AtLeast (limit_of v)))
+    (point_at (InBounds (Some (column, AtMost))) sections_seen (with_declarations all (column_and column (limits_by AtLeast (limit_of v)))))) value
+    (λ v h. left-bound-walks sections_seen all n v AtMost column (taken-from all column (limits_by AtLeast (limit_of v)) refl h))
+    (λ below v h. signed-left-bound-walks sections_seen all n below v AtMost column (taken-from all column (limits_by AtLeast (limit_of (apply_sign below v))) refl h))
 
 -- `<=` and a number behind a column with a lower side
-upper-walk : (opened : Opened) (all : Draft) (n : ℕ) (column : List ℕ) (value : Decimal) → refusals_in_turn all (bounds_declared column None (Some (limit_of value))) ≡ []
-    → Walks (point_at (InBounds (Some (column, AtMost))) opened all) (at n (Compares AtMost) ∷ map (at n) (terminals_in (number value))) (bounds_declared column None (Some (limit_of value)))
-    (bounds_point opened (adding_all all (bounds_declared column None (Some (limit_of value)))))
-upper-walk opened all n column value =
+upper-walk : (sections_seen : SectionsSeen) (all : Draft) (n : ℕ) (column : List ℕ) (value : Decimal) → refusals_in_turn all (bounds_declared column None (Some (limit_of value))) ≡ []
+    → Walks (point_at (InBounds (Some (column, AtMost))) sections_seen all) (at n (Compares AtMost) ∷ map (at n) (terminals_in (number value))) (bounds_declared column None (Some (limit_of value)))
+    (bounds_point sections_seen (with_declarations all (bounds_declared column None (Some (limit_of value)))))
+upper-walk sections_seen all n column value =
     number-either (λ v terminals. refusals_in_turn all (bounds_declared column None (Some (limit_of v))) ≡ []
-    → Walks (point_at (InBounds (Some (column, AtMost))) opened all) (at n (Compares AtMost) ∷ map (at n) terminals) (bounds_declared column None (Some (limit_of v)))
-    (bounds_point opened (adding_all all (bounds_declared column None (Some (limit_of v)))))) value
-    (λ v h. upper-walks opened all n column v (sides-taken all column None (Some (limit_of v)) h refl))
-    (λ below v h. signed-upper-walks opened all n column below v (sides-taken all column None (Some (limit_of (signed below v))) h refl))
+    → Walks (point_at (InBounds (Some (column, AtMost))) sections_seen all) (at n (Compares AtMost) ∷ map (at n) terminals) (bounds_declared column None (Some (limit_of v)))
+    (bounds_point sections_seen (with_declarations all (bounds_declared column None (Some (limit_of v)))))) value
+    (λ v h. upper-walks sections_seen all n column v (sides-taken all column None (Some (limit_of v)) h refl))
+    (λ below v h. signed-upper-walks sections_seen all n column below v (sides-taken all column None (Some (limit_of (apply_sign below v))) h refl))
 
 -- ---- a line
 
-abbrev pieces_terminals : ℕ → List Piece → List TerminalAt
-pieces_terminals n pieces = map (at n) (flat_map terminals_in pieces)
+abbrev pieces_terminals : ℕ → List Lexeme → List TerminalAt
+pieces_terminals n lexemes = map (at n) (flat_map terminals_in lexemes)
 
 -- a column, a sense and a number
-valued-line : (opened : Opened) (all : Draft) (n : ℕ) (column : List ℕ) (relation : Relation) (value : Decimal) → IsGoodName column → refusals_in_turn all (column_and column (limits_by relation (limit_of value))) ≡ []
-    → Walks (bounds_point opened all) (pieces_terminals n (word column ∷ sense relation ∷ number value ∷ [])) (column_and column (limits_by relation (limit_of value)))
-    (bounds_point opened (adding_all all (column_and column (limits_by relation (limit_of value)))))
-valued-line opened all n column relation value good h =
-    subst (λ (tokens : List TerminalAt). Walks (bounds_point opened all) tokens (column_and column (limits_by relation (limit_of value))) (bounds_point opened (adding_all all (column_and column (limits_by relation (limit_of value))))))
-    (λ i. at n (word_terminal column (sym good.meaning i)) ∷ at n (Compares relation) ∷ map (at n) (sym (append-nil (terminals_in (number value))) i))
-    (valued-walk opened all n column relation value h)
+valued-line : (sections_seen : SectionsSeen) (all : Draft) (n : ℕ) (column : List ℕ) (relation : Relation) (value : Decimal) → IsGoodName column → refusals_in_turn all (column_and column (limits_by relation (limit_of value))) ≡ []
+    → Walks (bounds_point sections_seen all) (pieces_terminals n (word column ∷ sense relation ∷ number value ∷ [])) (column_and column (limits_by relation (limit_of value)))
+    (bounds_point sections_seen (with_declarations all (column_and column (limits_by relation (limit_of value)))))
+valued-line sections_seen all n column relation value good h =
+    subst (λ (tokens : List TerminalAt). Walks (bounds_point sections_seen all) tokens (column_and column (limits_by relation (limit_of value))) (bounds_point sections_seen (with_declarations all (column_and column (limits_by relation (limit_of value))))))
+    (λ i. at n (word_terminal column (sym good.word_class i)) ∷ at n (Compares relation) ∷ map (at n) (sym (append-nil (terminals_in (number value))) i))
+    (valued-walk sections_seen all n column relation value h)
 
 -- a number, a column and a number
-between-line : (opened : Opened) (all : Draft) (n : ℕ) (lower : Decimal) (column : List ℕ) (upper : Decimal) → IsGoodName column
+between-line : (sections_seen : SectionsSeen) (all : Draft) (n : ℕ) (lower : Decimal) (column : List ℕ) (upper : Decimal) → IsGoodName column
     → refusals_in_turn all (column_and column (limits_by AtLeast (limit_of lower)) ++ bounds_declared column None (Some (limit_of upper))) ≡ []
-    → Walks (bounds_point opened all) (pieces_terminals n (number lower ∷ sense AtMost ∷ word column ∷ sense AtMost ∷ number upper ∷ []))
+    → Walks (bounds_point sections_seen all) (pieces_terminals n (number lower ∷ sense AtMost ∷ word column ∷ sense AtMost ∷ number upper ∷ []))
     (column_and column (limits_by AtLeast (limit_of lower)) ++ bounds_declared column None (Some (limit_of upper)))
-    (bounds_point opened (adding_all all (column_and column (limits_by AtLeast (limit_of lower)) ++ bounds_declared column None (Some (limit_of upper)))))
-between-line opened all n lower column upper good h =
+    (bounds_point sections_seen (with_declarations all (column_and column (limits_by AtLeast (limit_of lower)) ++ bounds_declared column None (Some (limit_of upper)))))
+between-line sections_seen all n lower column upper good h =
     let first = column_and column (limits_by AtLeast (limit_of lower)) in
     let second = bounds_declared column None (Some (limit_of upper)) in
     let parts = parts-taken all first second h in
     let left = terminals_in (number lower) in
     let right = terminals_in (number upper) in
-    subst (λ (tokens : List TerminalAt). Walks (bounds_point opened all) tokens (first ++ second) (bounds_point opened (adding_all all (first ++ second))))
+    subst (λ (tokens : List TerminalAt). Walks (bounds_point sections_seen all) tokens (first ++ second) (bounds_point sections_seen (with_declarations all (first ++ second))))
     (append_assoc (map (at n) left) (at n (Compares AtMost) ∷ at n (Name column) ∷ []) (at n (Compares AtMost) ∷ map (at n) right)
-    ∙ (λ i. map (at n) left ++ at n (Compares AtMost) ∷ at n (word_terminal column (sym good.meaning i)) ∷ at n (Compares AtMost) ∷ map (at n) (sym (append-nil right) i))
-    ∙ sym (mapped-append (at n) left (Compares AtMost ∷ word_terminal column (meaning_of column) ∷ Compares AtMost ∷ (right ++ []))))
-    (parts-walk (InBounds None) (InBounds (Some (column, AtMost))) (InBounds None) opened opened opened all
+    ∙ (λ i. map (at n) left ++ at n (Compares AtMost) ∷ at n (word_terminal column (sym good.word_class i)) ∷ at n (Compares AtMost) ∷ map (at n) (sym (append-nil right) i))
+    ∙ sym (mapped-append (at n) left (Compares AtMost ∷ word_terminal column (class_of column) ∷ Compares AtMost ∷ (right ++ []))))
+    (parts-walk (InBounds None) (InBounds (Some (column, AtMost))) (InBounds None) sections_seen sections_seen sections_seen all
     (map (at n) left ++ at n (Compares AtMost) ∷ at n (Name column) ∷ []) (at n (Compares AtMost) ∷ map (at n) right) first second
-    (left-walk opened all n lower column parts.0) (upper-walk opened (adding_all all first) n column upper parts.1))
+    (left-walk sections_seen all n lower column parts.0) (upper-walk sections_seen (with_declarations all first) n column upper parts.1))
 
 -- minus infinity, a column and a number
-infinite-line : (opened : Opened) (all : Draft) (n : ℕ) (column : List ℕ) (upper : Decimal) → IsGoodName column
+infinite-line : (sections_seen : SectionsSeen) (all : Draft) (n : ℕ) (column : List ℕ) (upper : Decimal) → IsGoodName column
     → refusals_in_turn all (column_and column (limits_by AtLeast MinusInf) ++ bounds_declared column None (Some (limit_of upper))) ≡ []
-    → Walks (bounds_point opened all) (pieces_terminals n (minus_infinity ∷ sense AtMost ∷ word column ∷ sense AtMost ∷ number upper ∷ []))
+    → Walks (bounds_point sections_seen all) (pieces_terminals n (minus_infinity ∷ sense AtMost ∷ word column ∷ sense AtMost ∷ number upper ∷ []))
     (column_and column (limits_by AtLeast MinusInf) ++ bounds_declared column None (Some (limit_of upper)))
-    (bounds_point opened (adding_all all (column_and column (limits_by AtLeast MinusInf) ++ bounds_declared column None (Some (limit_of upper)))))
-infinite-line opened all n column upper good h =
+    (bounds_point sections_seen (with_declarations all (column_and column (limits_by AtLeast MinusInf) ++ bounds_declared column None (Some (limit_of upper)))))
+infinite-line sections_seen all n column upper good h =
     let first = column_and column (limits_by AtLeast MinusInf) in
     let second = bounds_declared column None (Some (limit_of upper)) in
     let parts = parts-taken all first second h in
     let right = terminals_in (number upper) in
-    subst (λ (tokens : List TerminalAt). Walks (bounds_point opened all) tokens (first ++ second) (bounds_point opened (adding_all all (first ++ second))))
-    (λ i. at n (Sign true) ∷ at n Infinity ∷ at n (Compares AtMost) ∷ at n (word_terminal column (sym good.meaning i)) ∷ at n (Compares AtMost) ∷ map (at n) (sym (append-nil right) i))
-    (parts-walk (InBounds None) (InBounds (Some (column, AtMost))) (InBounds None) opened opened opened all
+    subst (λ (tokens : List TerminalAt). Walks (bounds_point sections_seen all) tokens (first ++ second) (bounds_point sections_seen (with_declarations all (first ++ second))))
+    (λ i. at n (Sign true) ∷ at n Infinity ∷ at n (Compares AtMost) ∷ at n (word_terminal column (sym good.word_class i)) ∷ at n (Compares AtMost) ∷ map (at n) (sym (append-nil right) i))
+    (parts-walk (InBounds None) (InBounds (Some (column, AtMost))) (InBounds None) sections_seen sections_seen sections_seen all
     (at n (Sign true) ∷ at n Infinity ∷ at n (Compares AtMost) ∷ at n (Name column) ∷ []) (at n (Compares AtMost) ∷ map (at n) right) first second
-    (infinite-left-walks opened all n AtMost column (taken-from all column (limits_by AtLeast MinusInf) refl parts.0)) (upper-walk opened (adding_all all first) n column upper parts.1))
+    (infinite-left-walks sections_seen all n AtMost column (taken-from all column (limits_by AtLeast MinusInf) refl parts.0)) (upper-walk sections_seen (with_declarations all first) n column upper parts.1))
 
 -- a column and `free`
-free-line : (opened : Opened) (all : Draft) (n : ℕ) (column : List ℕ) → IsGoodName column → refusals_in_turn all (column_and column no_limits) ≡ []
-    → Walks (bounds_point opened all) (pieces_terminals n (word column ∷ word (codes "free") ∷ [])) (column_and column no_limits) (bounds_point opened (adding_all all (column_and column no_limits)))
-free-line opened all n column good h =
-    subst (λ (tokens : List TerminalAt). Walks (bounds_point opened all) tokens (column_and column no_limits) (bounds_point opened (adding_all all (column_and column no_limits))))
-    (λ i. at n (word_terminal column (sym good.meaning i)) ∷ at n Free ∷ [])
-    (free-walks opened all n column (taken-from all column no_limits refl h))
+free-line : (sections_seen : SectionsSeen) (all : Draft) (n : ℕ) (column : List ℕ) → IsGoodName column → refusals_in_turn all (column_and column no_limits) ≡ []
+    → Walks (bounds_point sections_seen all) (pieces_terminals n (word column ∷ word (codes "free") ∷ [])) (column_and column no_limits) (bounds_point sections_seen (with_declarations all (column_and column no_limits)))
+free-line sections_seen all n column good h =
+    subst (λ (tokens : List TerminalAt). Walks (bounds_point sections_seen all) tokens (column_and column no_limits) (bounds_point sections_seen (with_declarations all (column_and column no_limits))))
+    (λ i. at n (word_terminal column (sym good.word_class i)) ∷ at n Free ∷ [])
+    (free-walks sections_seen all n column (taken-from all column no_limits refl h))
 
 -- ---- the lines of columns
 
-some-line : (from to : Point) (n : ℕ) (piece : Piece) (pieces : List Piece) (made : Declarations) → Walks from (pieces_terminals n (piece ∷ pieces)) made to
-    → Walks from (all_terminals n (line_of_some (piece ∷ pieces))) made to
-some-line from to n piece pieces made h = subst (λ (tokens : List TerminalAt). Walks from tokens made to) (sym (append-nil (pieces_terminals n (piece ∷ pieces)))) h
+some-line : (from to : Point) (n : ℕ) (piece : Lexeme) (lexemes : List Lexeme) (made : Declarations) → Walks from (pieces_terminals n (piece ∷ lexemes)) made to
+    → Walks from (all_terminals n (line_of_some (piece ∷ lexemes))) made to
+some-line from to n piece lexemes made h = subst (λ (tokens : List TerminalAt). Walks from tokens made to) (sym (append-nil (pieces_terminals n (piece ∷ lexemes)))) h
 
-column-walk : (opened : Opened) (all : Draft) (n : ℕ) (column : List ℕ) (lower upper : Limit) → IsGoodName column → refusals_in_turn all (bound_made column lower upper) ≡ []
-    → Walks (bounds_point opened all) (all_terminals n (line_of_some (bound_pieces column lower upper))) (bound_made column lower upper) (bounds_point opened (adding_all all (bound_made column lower upper)))
-column-walk opened all n column MinusInf (Finite b) good h = some-line _ _ n minus_infinity (sense AtMost ∷ word column ∷ sense AtMost ∷ number b ∷ []) _ (infinite-line opened all n column b good h)
-column-walk opened all n column (Finite a) (Finite b) good h = by (have_same_value a b) h
+column-walk : (sections_seen : SectionsSeen) (all : Draft) (n : ℕ) (column : List ℕ) (lower upper : Limit) → IsGoodName column → refusals_in_turn all (bound_made column lower upper) ≡ []
+    → Walks (bounds_point sections_seen all) (all_terminals n (line_of_some (bound_lexemes column lower upper))) (bound_made column lower upper) (bounds_point sections_seen (with_declarations all (bound_made column lower upper)))
+column-walk sections_seen all n column MinusInf (Finite b) good h = some-line _ _ n minus_infinity (sense AtMost ∷ word column ∷ sense AtMost ∷ number b ∷ []) _ (infinite-line sections_seen all n column b good h)
+column-walk sections_seen all n column (Finite a) (Finite b) good h = by (have_same_value a b) h
   where
     by : (t : Bool) → refusals_in_turn all (if t then column_and column (limits_by EqualTo (limit_of b)) else column_and column (limits_by AtLeast (limit_of a)) ++ bounds_declared column None (Some (limit_of b))) ≡ []
-        → Walks (bounds_point opened all) (all_terminals n (line_of_some (if t then word column ∷ sense EqualTo ∷ number b ∷ [] else number a ∷ sense AtMost ∷ word column ∷ sense AtMost ∷ number b ∷ [])))
+        → Walks (bounds_point sections_seen all) (all_terminals n (line_of_some (if t then word column ∷ sense EqualTo ∷ number b ∷ [] else number a ∷ sense AtMost ∷ word column ∷ sense AtMost ∷ number b ∷ [])))
         (if t then column_and column (limits_by EqualTo (limit_of b)) else column_and column (limits_by AtLeast (limit_of a)) ++ bounds_declared column None (Some (limit_of b)))
-        (bounds_point opened (adding_all all (if t then column_and column (limits_by EqualTo (limit_of b)) else column_and column (limits_by AtLeast (limit_of a)) ++ bounds_declared column None (Some (limit_of b)))))
-    by true k = some-line _ _ n (word column) (sense EqualTo ∷ number b ∷ []) _ (valued-line opened all n column EqualTo b good k)
-    by false k = some-line _ _ n (number a) (sense AtMost ∷ word column ∷ sense AtMost ∷ number b ∷ []) _ (between-line opened all n a column b good k)
-column-walk opened all n column (Finite a) MinusInf good h = by (is_zero a) h
+        (bounds_point sections_seen (with_declarations all (if t then column_and column (limits_by EqualTo (limit_of b)) else column_and column (limits_by AtLeast (limit_of a)) ++ bounds_declared column None (Some (limit_of b)))))
+    by true k = some-line _ _ n (word column) (sense EqualTo ∷ number b ∷ []) _ (valued-line sections_seen all n column EqualTo b good k)
+    by false k = some-line _ _ n (number a) (sense AtMost ∷ word column ∷ sense AtMost ∷ number b ∷ []) _ (between-line sections_seen all n a column b good k)
+column-walk sections_seen all n column (Finite a) MinusInf good h = by (is_zero a) h
   where
     by : (t : Bool) → refusals_in_turn all (if t then [] else column_and column (limits_by AtLeast (limit_of a))) ≡ []
-        → Walks (bounds_point opened all) (all_terminals n (line_of_some (if t then [] else word column ∷ sense AtLeast ∷ number a ∷ []))) (if t then [] else column_and column (limits_by AtLeast (limit_of a)))
-        (bounds_point opened (adding_all all (if t then [] else column_and column (limits_by AtLeast (limit_of a)))))
-    by true k = walks-none (bounds_point opened all)
-    by false k = some-line _ _ n (word column) (sense AtLeast ∷ number a ∷ []) _ (valued-line opened all n column AtLeast a good k)
-column-walk opened all n column (Finite a) PlusInf good h = by (is_zero a) h
+        → Walks (bounds_point sections_seen all) (all_terminals n (line_of_some (if t then [] else word column ∷ sense AtLeast ∷ number a ∷ []))) (if t then [] else column_and column (limits_by AtLeast (limit_of a)))
+        (bounds_point sections_seen (with_declarations all (if t then [] else column_and column (limits_by AtLeast (limit_of a)))))
+    by true k = walks-none (bounds_point sections_seen all)
+    by false k = some-line _ _ n (word column) (sense AtLeast ∷ number a ∷ []) _ (valued-line sections_seen all n column AtLeast a good k)
+column-walk sections_seen all n column (Finite a) PlusInf good h = by (is_zero a) h
   where
     by : (t : Bool) → refusals_in_turn all (if t then [] else column_and column (limits_by AtLeast (limit_of a))) ≡ []
-        → Walks (bounds_point opened all) (all_terminals n (line_of_some (if t then [] else word column ∷ sense AtLeast ∷ number a ∷ []))) (if t then [] else column_and column (limits_by AtLeast (limit_of a)))
-        (bounds_point opened (adding_all all (if t then [] else column_and column (limits_by AtLeast (limit_of a)))))
-    by true k = walks-none (bounds_point opened all)
-    by false k = some-line _ _ n (word column) (sense AtLeast ∷ number a ∷ []) _ (valued-line opened all n column AtLeast a good k)
-column-walk opened all n column MinusInf MinusInf good h = some-line _ _ n (word column) (word (codes "free") ∷ []) _ (free-line opened all n column good h)
-column-walk opened all n column MinusInf PlusInf good h = some-line _ _ n (word column) (word (codes "free") ∷ []) _ (free-line opened all n column good h)
-column-walk opened all n column PlusInf MinusInf good h = some-line _ _ n (word column) (word (codes "free") ∷ []) _ (free-line opened all n column good h)
-column-walk opened all n column PlusInf (Finite b) good h = some-line _ _ n (word column) (word (codes "free") ∷ []) _ (free-line opened all n column good h)
-column-walk opened all n column PlusInf PlusInf good h = some-line _ _ n (word column) (word (codes "free") ∷ []) _ (free-line opened all n column good h)
+        → Walks (bounds_point sections_seen all) (all_terminals n (line_of_some (if t then [] else word column ∷ sense AtLeast ∷ number a ∷ []))) (if t then [] else column_and column (limits_by AtLeast (limit_of a)))
+        (bounds_point sections_seen (with_declarations all (if t then [] else column_and column (limits_by AtLeast (limit_of a)))))
+    by true k = walks-none (bounds_point sections_seen all)
+    by false k = some-line _ _ n (word column) (sense AtLeast ∷ number a ∷ []) _ (valued-line sections_seen all n column AtLeast a good k)
+column-walk sections_seen all n column MinusInf MinusInf good h = some-line _ _ n (word column) (word (codes "free") ∷ []) _ (free-line sections_seen all n column good h)
+column-walk sections_seen all n column MinusInf PlusInf good h = some-line _ _ n (word column) (word (codes "free") ∷ []) _ (free-line sections_seen all n column good h)
+column-walk sections_seen all n column PlusInf MinusInf good h = some-line _ _ n (word column) (word (codes "free") ∷ []) _ (free-line sections_seen all n column good h)
+column-walk sections_seen all n column PlusInf (Finite b) good h = some-line _ _ n (word column) (word (codes "free") ∷ []) _ (free-line sections_seen all n column good h)
+column-walk sections_seen all n column PlusInf PlusInf good h = some-line _ _ n (word column) (word (codes "free") ∷ []) _ (free-line sections_seen all n column good h)
 
 abbrev pub column_made : List ℕ × Column → Declarations
 column_made column = bound_made column.0 column.1.lower column.1.upper
 
 -- the lines of all columns
-pub bounds-walk : (opened : Opened) (all : Draft) (n : ℕ) (columns : List (List ℕ × Column)) → Each IsFitColumn columns → refusals_in_turn all (flat_map column_made columns) ≡ []
-    → Walks (bounds_point opened all) (all_terminals n (flat_map bound_lines columns)) (flat_map column_made columns) (bounds_point opened (adding_all all (flat_map column_made columns)))
-bounds-walk opened all n [] fit h = walks-none (bounds_point opened all)
-bounds-walk opened all n (column ∷ columns) fit h =
+pub bounds-walk : (sections_seen : SectionsSeen) (all : Draft) (n : ℕ) (columns : List (List ℕ × Column)) → Each IsFitColumn columns → refusals_in_turn all (flat_map column_made columns) ≡ []
+    → Walks (bounds_point sections_seen all) (all_terminals n (flat_map bound_lines columns)) (flat_map column_made columns) (bounds_point sections_seen (with_declarations all (flat_map column_made columns)))
+bounds-walk sections_seen all n [] fit h = walks-none (bounds_point sections_seen all)
+bounds-walk sections_seen all n (column ∷ columns) fit h =
     let parts = parts-taken all (column_made column) (flat_map column_made columns) h in
-    subst (λ (tokens : List TerminalAt). Walks (bounds_point opened all) tokens (flat_map column_made (column ∷ columns)) (bounds_point opened (adding_all all (flat_map column_made (column ∷ columns)))))
+    subst (λ (tokens : List TerminalAt). Walks (bounds_point sections_seen all) tokens (flat_map column_made (column ∷ columns)) (bounds_point sections_seen (with_declarations all (flat_map column_made (column ∷ columns)))))
     (sym (terminals-append n (bound_lines column) (flat_map bound_lines columns)))
-    (parts-walk (InBounds None) (InBounds None) (InBounds None) opened opened opened all
+    (parts-walk (InBounds None) (InBounds None) (InBounds None) sections_seen sections_seen sections_seen all
     (all_terminals n (bound_lines column)) (all_terminals (number_after n (bound_lines column)) (flat_map bound_lines columns)) (column_made column) (flat_map column_made columns)
-    (column-walk opened all n column.0 column.1.lower column.1.upper fit.0.name parts.0)
-    (bounds-walk opened (adding_all all (column_made column)) (number_after n (bound_lines column)) columns fit.1 parts.1))
+    (column-walk sections_seen all n column.0 column.1.lower column.1.upper fit.0.name parts.0)
+    (bounds-walk sections_seen (with_declarations all (column_made column)) (number_after n (bound_lines column)) columns fit.1 parts.1))

@@ -1,6 +1,6 @@
 -- The canonical LP text of a sound model with LP names declares it.
 use Rattle.std.proofs.Common.{◌≡◌, sym, ap, subst, ◌∙◌, List, ℕ}
-use Rattle.mpslp_core.specs.Model.{LinearModel}
+use Rattle.mpslp_model_core.specs.Model.{LinearModel}
 use Rattle.mpslp_lp.specs.LpText.{DeclaresLp}
 use Rattle.mpslp_canonical_lp.specs.CanonicalLp.{canonical_lp}
 use Rattle.mpslp_canonical_lp.specs.Laws.{DeclareTheirModels, TellModelsApart, DeclareWhatFits}

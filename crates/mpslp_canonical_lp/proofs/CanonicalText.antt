@@ -1,8 +1,8 @@
 -- What the canonical text of a model says and declares, where nothing of that is refused.
 use Rattle.std.proofs.Common.{◌≡◌, ap, subst, sym, ◌∙◌, []}
 use Rattle.std.specs.Prelude.{None}
-use Rattle.mpslp_core.specs.Model.{LinearModel, IsSound}
-use Rattle.mpslp_builder.specs.Declaration.{Draft, empty_draft, Declarations, adding_all}
+use Rattle.mpslp_model_core.specs.Model.{LinearModel, IsSound}
+use Rattle.mpslp_builder.specs.Declaration.{Draft, empty_draft, Declarations, with_declarations}
 use Rattle.mpslp_builder.specs.Refusal.{refusals_in_turn}
 use Rattle.mpslp_builder.specs.Meaning.{Means}
 use Rattle.mpslp_types.specs.declared.faults.Fault.{Fault}
@@ -26,7 +26,7 @@ pub record IsPlainText (m : LinearModel) : Type 0 where
   pub unrefused : refusals_in_turn empty_draft (listed_declarations (listing_of m)) ≡ []
 
 pub canonical-outcome : (m : LinearModel) → IsSound m → unfit m ≡ None → IsPlainText m
-    → outcome (canonical_lp m) ≡ Finished (adding_all empty_draft (listed_declarations (listing_of m)))
+    → outcome (canonical_lp m) ≡ Finished (with_declarations empty_draft (listed_declarations (listing_of m)))
 canonical-outcome m sound fits h =
     ap (λ (o : Outcome Fault Draft). or_else o (first_own_fault (numbered_lines (canonical_lp m))))
     (ap text_says (canonical-terminals m sound fits) ∙ (text-ends (listing_of m) (fit-from_sound m sound fits) h.rows h.unrefused).says)

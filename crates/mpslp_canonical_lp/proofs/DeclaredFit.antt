@@ -15,10 +15,10 @@ use Rattle.mpslp_types.proofs.BoolLemmas.{both_so}
 use Rattle.mpslp_types.proofs.EachLemmas.{Each}
 use Rattle.mpslp_decimal.specs.Decimal.{zero_number}
 use Rattle.mpslp_types.specs.declared.kinds.RowType.TheVariants.{Free}
-use Rattle.mpslp_core.specs.Limits.{plain_limits}
-use Rattle.mpslp_core.specs.Model.{LinearModel, Row as Limits, Column as ColumnOf}
-use Rattle.mpslp_builder.specs.Declaration.{Declaration, declare_objective, declare_row, declare_column, Declarations, Draft, draft_of, empty_draft, adding, adding_all}
-use Rattle.mpslp_builder.specs.Declaration.{RowForm}
+use Rattle.mpslp_model_core.specs.Limits.{plain_limits}
+use Rattle.mpslp_model_core.specs.Model.{LinearModel, Row as Limits, Column as ColumnOf}
+use Rattle.mpslp_builder.specs.Declaration.{Declaration, declare_objective, declare_row, declare_column, Declarations, Draft, draft_of, empty_draft, with_declaration, with_declarations}
+use Rattle.mpslp_builder.specs.Declaration.{RowDefinition}
 use Rattle.mpslp_builder.specs.Bounds.{column_of}
 use Rattle.mpslp_builder.specs.Meaning.{objective_name, row_limits, model_of}
 use Rattle.mpslp_builder.proofs.SortedDrafts.{IsSortedDraft, sorted-draft_of}
@@ -45,16 +45,16 @@ record HasLpNames (all : Draft) : Type 0 where
   pub rows : list_all (λ row. is_lp_name row.0) all.rows ≡ true
   pub columns : list_all (λ column. is_lp_name column.0) all.columns ≡ true
 
-names-adding : (all : Draft) (d : Declaration) → has_lp_name d ≡ true → HasLpNames all → HasLpNames (adding all d)
-names-adding all (declare_objective name) h names = record { objective = h; rows = names.rows; columns = names.columns }
-names-adding all (declare_row name form) h names = record { objective = names.objective; rows = named-put is_lp_name name form all.rows h names.rows; columns = names.columns }
-names-adding all (declare_column name) h names = record { objective = names.objective; rows = names.rows; columns = named-put is_lp_name name tt all.columns h names.columns }
-names-adding all _ h names = record { objective = names.objective; rows = names.rows; columns = names.columns }
+names-with_declaration : (all : Draft) (d : Declaration) → has_lp_name d ≡ true → HasLpNames all → HasLpNames (with_declaration all d)
+names-with_declaration all (declare_objective name) h names = record { objective = h; rows = names.rows; columns = names.columns }
+names-with_declaration all (declare_row name form) h names = record { objective = names.objective; rows = named-put is_lp_name name form all.rows h names.rows; columns = names.columns }
+names-with_declaration all (declare_column name) h names = record { objective = names.objective; rows = names.rows; columns = named-put is_lp_name name tt all.columns h names.columns }
+names-with_declaration all _ h names = record { objective = names.objective; rows = names.rows; columns = names.columns }
 
-names-adding_all : (ds : Declarations) (all : Draft) → list_all has_lp_name ds ≡ true → HasLpNames all → HasLpNames (adding_all all ds)
-names-adding_all [] all h names = names
-names-adding_all (d ∷ ds) all h names =
-    names-adding_all ds (adding all d) (second_so (has_lp_name d) (list_all has_lp_name ds) h) (names-adding all d (first_so (has_lp_name d) (list_all has_lp_name ds) h) names)
+names-with_declarations : (ds : Declarations) (all : Draft) → list_all has_lp_name ds ≡ true → HasLpNames all → HasLpNames (with_declarations all ds)
+names-with_declarations [] all h names = names
+names-with_declarations (d ∷ ds) all h names =
+    names-with_declarations ds (with_declaration all d) (second_so (has_lp_name d) (list_all has_lp_name ds) h) (names-with_declaration all d (first_so (has_lp_name d) (list_all has_lp_name ds) h) names)
 
 -- ---- where no name is unfit
 
@@ -93,7 +93,7 @@ some-lp None s h = cc
 -- the model of a draft with LP names
 draft-fit : (all : Draft) → is_mps_name (objective_name all) ≡ true → IsSortedDraft all → HasLpNames all → unfit (model_of all) ≡ None
 draft-fit all objective sorted names =
-    let row_values : List ℕ × RowForm → Limits = λ row. unwrap_or (row_limits all row) (plain_limits Free zero_number) in
+    let row_values : List ℕ × RowDefinition → Limits = λ row. unwrap_or (row_limits all row) (plain_limits Free zero_number) in
     let column_values : List ℕ × Unit {0} → ColumnOf = λ column. column_of all column.0 in
     let rows = map (λ row. (row.0, row_values row)) all.rows in
     let columns = map (λ column. (column.0, column_values column)) all.columns in
@@ -109,4 +109,4 @@ declared-fit bytes m declares =
     let made = declarations_of bytes in
     ap unfit declares.means.meant.model
     ∙ draft-fit (draft_of made) (subst (λ (model : LinearModel). is_mps_name model.objective ≡ true) declares.means.meant.model declares.means.meant.sound.objective) (sorted-draft_of made)
-    (names-adding_all made empty_draft (lp_names-declared bytes) (record { objective = refl; rows = refl; columns = refl }))
+    (names-with_declarations made empty_draft (lp_names-declared bytes) (record { objective = refl; rows = refl; columns = refl }))

@@ -6,12 +6,12 @@ use Rattle.std.specs.Cmp.{first_so, second_so}
 use Rattle.std.specs.FinMap.{put}
 use Rattle.mpslp_decimal.specs.Decimal.{Number, is_zero}
 use Rattle.mpslp_types.specs.Name.{same_bytes, bytes_cmp}
-use Rattle.mpslp_types.specs.Sides.{limit_of}
+use Rattle.mpslp_types.specs.Limit.{limit_of}
 use Rattle.mpslp_types.specs.declared.kinds.Limit.{Limit}
 use Rattle.mpslp_types.specs.declared.kinds.Limit.TheVariants.{MinusInf, Finite, PlusInf}
 use Rattle.mpslp_types.proofs.BoolLemmas.{both_so, or_left, or_right}
-use Rattle.mpslp_core.specs.Model.{Column, CoefficientKey}
-use Rattle.mpslp_builder.specs.Declaration.{RowForm, declare_sense, declare_objective, declare_constant, declare_row, declare_column, declare_coefficient, declare_lower, bounds_declared, Declarations, Draft, empty_draft, adding, adding_all, has_name, has_row, has_column, is_objective}
+use Rattle.mpslp_model_core.specs.Model.{Column, CoefficientKey}
+use Rattle.mpslp_builder.specs.Declaration.{RowDefinition, declare_sense, declare_objective, declare_constant, declare_row, declare_column, declare_coefficient, declare_lower, bounds_declared, Declarations, Draft, empty_draft, with_declaration, with_declarations, has_name, has_row, has_column, is_objective}
 use Rattle.mpslp_builder.specs.Consistency.{is_known}
 use Rattle.mpslp_builder.proofs.SlotLemmas.{has-put}
 use Rattle.mpslp_builder.proofs.LaterDrafts.{itself_named}
@@ -29,85 +29,85 @@ use Rattle.mpslp_canonical_lp.proofs.TextWalk.{row_made, listed_declarations}
 
 -- ---- several declarations
 
-known-append : (xs ys : Declarations) (before : Draft) → are_known_in_turn before xs ≡ true → are_known_in_turn (adding_all before xs) ys ≡ true
-    → are_known_in_turn before (xs ++ ys) ≡ true
-known-append [] ys before h k = k
-known-append (d ∷ xs) ys before h k =
-    both_so (is_known before d) (are_known_in_turn (adding before d) (xs ++ ys)) (first_so (is_known before d) (are_known_in_turn (adding before d) xs) h)
-    (known-append xs ys (adding before d) (second_so (is_known before d) (are_known_in_turn (adding before d) xs) h) k)
+known-append : (xs ys : Declarations) (context : Draft) → are_known_in_turn context xs ≡ true → are_known_in_turn (with_declarations context xs) ys ≡ true
+    → are_known_in_turn context (xs ++ ys) ≡ true
+known-append [] ys context h k = k
+known-append (d ∷ xs) ys context h k =
+    both_so (is_known context d) (are_known_in_turn (with_declaration context d) (xs ++ ys)) (first_so (is_known context d) (are_known_in_turn (with_declaration context d) xs) h)
+    (known-append xs ys (with_declaration context d) (second_so (is_known context d) (are_known_in_turn (with_declaration context d) xs) h) k)
 
 -- declarations that name nothing but what they declare themselves
 abbrev AlwaysKnown : Declarations → Type 0
-AlwaysKnown ds = (before : Draft) → are_known_in_turn before ds ≡ true
+AlwaysKnown ds = (context : Draft) → are_known_in_turn context ds ≡ true
 
 always-append : (xs ys : Declarations) → AlwaysKnown xs → AlwaysKnown ys → AlwaysKnown (xs ++ ys)
-always-append xs ys h k before = known-append xs ys before (h before) (k (adding_all before xs))
+always-append xs ys h k context = known-append xs ys context (h context) (k (with_declarations context xs))
 
 always-flat : {X : Type 0} (f : X → Declarations) → ((x : X) → AlwaysKnown (f x)) → (xs : List X) → AlwaysKnown (flat_map f xs)
-always-flat f h [] before = refl
-always-flat f h (x ∷ xs) before = always-append (f x) (flat_map f xs) (h x) (always-flat f h xs) before
+always-flat f h [] context = refl
+always-flat f h (x ∷ xs) context = always-append (f x) (flat_map f xs) (h x) (always-flat f h xs) context
 
 there : {X : Type 0} (name : List ℕ) (v : X) (es : List (List ℕ × X)) → has_name (put bytes_cmp name v es) name ≡ true
 there name v es = has-put name name v es ∙ or_left (same_bytes name name) (has_name es name) (itself_named name)
 
 -- ---- terms, and a row
 
-terms-known : (row : List ℕ) (terms : List Term) (before : Draft) → has_row before row ≡ true → are_known_in_turn before (terms_declared row terms) ≡ true
-terms-known row [] before h = refl
-terms-known row (term ∷ terms) before h =
-    let after = adding before (declare_column term.0) in
+terms-known : (row : List ℕ) (terms : List Term) (context : Draft) → has_row context row ≡ true → are_known_in_turn context (terms_declared row terms) ≡ true
+terms-known row [] context h = refl
+terms-known row (term ∷ terms) context h =
+    let after = with_declaration context (declare_column term.0) in
     let key : CoefficientKey = record { row = row; column = term.0 } in
-    both_so (has_row after row && has_column after term.0) (are_known_in_turn (adding after (declare_coefficient key term.1)) (terms_declared row terms))
-    (both_so (has_row after row) (has_column after term.0) h (there term.0 tt before.columns))
-    (terms-known row terms (adding after (declare_coefficient key term.1)) h)
+    both_so (has_row after row && has_column after term.0) (are_known_in_turn (with_declaration after (declare_coefficient key term.1)) (terms_declared row terms))
+    (both_so (has_row after row) (has_column after term.0) h (there term.0 tt context.columns))
+    (terms-known row terms (with_declaration after (declare_coefficient key term.1)) h)
 
-row-known : (name : List ℕ) (form : RowForm) (terms : List Term) → AlwaysKnown (declare_row name form ∷ terms_declared name terms)
-row-known name form terms before =
-    terms-known name terms (adding before (declare_row name form)) (or_right (is_objective before name) (has_name (put bytes_cmp name form before.rows) name) (there name form before.rows))
+row-known : (name : List ℕ) (form : RowDefinition) (terms : List Term) → AlwaysKnown (declare_row name form ∷ terms_declared name terms)
+row-known name form terms context =
+    terms-known name terms (with_declaration context (declare_row name form)) (or_right (is_objective context name) (has_name (put bytes_cmp name form context.rows) name) (there name form context.rows))
 
 -- ---- the objective
 
 constant-known : (value : Number) → AlwaysKnown (constant_declared value)
-constant-known value before = elim (is_zero value) as (λ b. are_known_in_turn before (if b then [] else declare_constant value ∷ []) ≡ true) [ true ↦ refl | false ↦ refl ]
+constant-known value context = elim (is_zero value) as (λ b. are_known_in_turn context (if b then [] else declare_constant value ∷ []) ≡ true) [ true ↦ refl | false ↦ refl ]
 
 objective-known : (m : Listing) → AlwaysKnown (objective_made m)
-objective-known m before =
-    let begun = adding (adding before (declare_sense m.sense)) (declare_objective m.objective) in
+objective-known m context =
+    let begun = with_declaration (with_declaration context (declare_sense m.sense)) (declare_objective m.objective) in
     let terms = terms_declared m.objective (objective_terms m) in
     known-append terms (constant_declared m.constant) begun
-    (terms-known m.objective (objective_terms m) begun (or_left (same_bytes m.objective m.objective) (has_name before.rows m.objective) (itself_named m.objective)))
-    (constant-known m.constant (adding_all begun terms))
+    (terms-known m.objective (objective_terms m) begun (or_left (same_bytes m.objective m.objective) (has_name context.rows m.objective) (itself_named m.objective)))
+    (constant-known m.constant (with_declarations begun terms))
 
 -- ---- bounds
 
-sides-known : (column : List ℕ) (lower upper : Option Limit) (before : Draft) → has_column before column ≡ true → are_known_in_turn before (bounds_declared column lower upper) ≡ true
-sides-known column None None before h = refl
-sides-known column (Some l) None before h = both_so (has_column before column) true h refl
-sides-known column None (Some u) before h = both_so (has_column before column) true h refl
-sides-known column (Some l) (Some u) before h = both_so (has_column before column) (has_column before column && true) h (both_so (has_column before column) true h refl)
+sides-known : (column : List ℕ) (lower upper : Option Limit) (context : Draft) → has_column context column ≡ true → are_known_in_turn context (bounds_declared column lower upper) ≡ true
+sides-known column None None context h = refl
+sides-known column (Some l) None context h = both_so (has_column context column) true h refl
+sides-known column None (Some u) context h = both_so (has_column context column) true h refl
+sides-known column (Some l) (Some u) context h = both_so (has_column context column) (has_column context column && true) h (both_so (has_column context column) true h refl)
 
 limited-known : (column : List ℕ) (limits : Limits) → AlwaysKnown (column_and column limits)
-limited-known column limits before = sides-known column limits.lower limits.upper (adding before (declare_column column)) (there column tt before.columns)
+limited-known column limits context = sides-known column limits.lower limits.upper (with_declaration context (declare_column column)) (there column tt context.columns)
 
 -- a lower side, and then an upper one
 both-known : (column : List ℕ) (lower upper : Limit) → AlwaysKnown (column_and column (limits_by AtLeast lower) ++ bounds_declared column None (Some upper))
-both-known column lower upper before =
-    known-append (column_and column (limits_by AtLeast lower)) (bounds_declared column None (Some upper)) before (limited-known column (limits_by AtLeast lower) before)
-    (sides-known column None (Some upper) (adding (adding before (declare_column column)) (declare_lower column lower)) (there column tt before.columns))
+both-known column lower upper context =
+    known-append (column_and column (limits_by AtLeast lower)) (bounds_declared column None (Some upper)) context (limited-known column (limits_by AtLeast lower) context)
+    (sides-known column None (Some upper) (with_declaration (with_declaration context (declare_column column)) (declare_lower column lower)) (there column tt context.columns))
 
 bound-known : (column : List ℕ) (lower upper : Limit) → AlwaysKnown (bound_made column lower upper)
 bound-known column MinusInf (Finite b) = both-known column MinusInf (limit_of b)
-bound-known column (Finite a) (Finite b) = λ before. elim (have_same_value a b) as (λ t. are_known_in_turn before (if t then column_and column (limits_by EqualTo (limit_of b)) else column_and column (limits_by AtLeast (limit_of a)) ++ bounds_declared column None (Some (limit_of b))) ≡ true) [
-  | true ↦ limited-known column (limits_by EqualTo (limit_of b)) before
-  | false ↦ both-known column (limit_of a) (limit_of b) before
+bound-known column (Finite a) (Finite b) = λ context. elim (have_same_value a b) as (λ t. are_known_in_turn context (if t then column_and column (limits_by EqualTo (limit_of b)) else column_and column (limits_by AtLeast (limit_of a)) ++ bounds_declared column None (Some (limit_of b))) ≡ true) [
+  | true ↦ limited-known column (limits_by EqualTo (limit_of b)) context
+  | false ↦ both-known column (limit_of a) (limit_of b) context
 ]
-bound-known column (Finite a) MinusInf = λ before. elim (is_zero a) as (λ t. are_known_in_turn before (if t then [] else column_and column (limits_by AtLeast (limit_of a))) ≡ true) [
+bound-known column (Finite a) MinusInf = λ context. elim (is_zero a) as (λ t. are_known_in_turn context (if t then [] else column_and column (limits_by AtLeast (limit_of a))) ≡ true) [
   | true ↦ refl
-  | false ↦ limited-known column (limits_by AtLeast (limit_of a)) before
+  | false ↦ limited-known column (limits_by AtLeast (limit_of a)) context
 ]
-bound-known column (Finite a) PlusInf = λ before. elim (is_zero a) as (λ t. are_known_in_turn before (if t then [] else column_and column (limits_by AtLeast (limit_of a))) ≡ true) [
+bound-known column (Finite a) PlusInf = λ context. elim (is_zero a) as (λ t. are_known_in_turn context (if t then [] else column_and column (limits_by AtLeast (limit_of a))) ≡ true) [
   | true ↦ refl
-  | false ↦ limited-known column (limits_by AtLeast (limit_of a)) before
+  | false ↦ limited-known column (limits_by AtLeast (limit_of a)) context
 ]
 bound-known column MinusInf MinusInf = limited-known column no_limits
 bound-known column MinusInf PlusInf = limited-known column no_limits
@@ -118,10 +118,10 @@ bound-known column PlusInf PlusInf = limited-known column no_limits
 -- ---- kinds
 
 general-known : (column : List ℕ × Column) → AlwaysKnown (general_made column)
-general-known column before = both_so (has_column (adding before (declare_column column.0)) column.0) true (there column.0 tt before.columns) refl
+general-known column context = both_so (has_column (with_declaration context (declare_column column.0)) column.0) true (there column.0 tt context.columns) refl
 
 semi-known : (column : List ℕ × Column) → AlwaysKnown (semi_made column)
-semi-known column before = both_so (has_column (adding before (declare_column column.0)) column.0) true (there column.0 tt before.columns) refl
+semi-known column context = both_so (has_column (with_declaration context (declare_column column.0)) column.0) true (there column.0 tt context.columns) refl
 
 -- ---- the whole text
 

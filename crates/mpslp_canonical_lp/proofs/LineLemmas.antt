@@ -20,22 +20,22 @@ use Rattle.mpslp_decimal.proofs.CutLemmas.{Each}
 use Rattle.mpslp_decimal.proofs.CutLemmas.{Each-weaker}
 use Rattle.mpslp_decimal.proofs.CutLemmas.{Each-append}
 use Rattle.mpslp_lp.specs.Line.{has_legal_bytes, begins_comment, begins_word, continues_word}
-use Rattle.mpslp_reading.specs.LegalLine.{is_legal_byte}
-use Rattle.mpslp_reading.specs.LegalLine.{has_legal_length}
+use Rattle.mpslp_lines.specs.LegalLine.{is_legal_byte}
+use Rattle.mpslp_lines.specs.LegalLine.{has_legal_length}
 use Rattle.mpslp_lp.specs.Token.{is_word, Token, tokens}
 use Rattle.mpslp_lp.specs.Terminal.{TerminalAt, terminal_of, line_terminals}
-use Rattle.mpslp_reading.specs.Tests.{first_held}
-use Rattle.mpslp_lp.specs.OwnFault.{token_fault, own_fault}
-use Rattle.mpslp_reading.specs.Field.{number_fault}
-use Rattle.mpslp_reading.specs.declared.lines.TheConstants.{MAX_LINE_LEN}
+use Rattle.mpslp_lines.specs.FaultTests.{first_held}
+use Rattle.mpslp_lp.specs.LexicalFault.{token_fault, lexical_fault}
+use Rattle.mpslp_lines.specs.Field.{number_fault}
+use Rattle.mpslp_lines.specs.declared.legal_line.TheConstants.{MAX_LINE_LEN}
 use Rattle.mpslp_lp.specs.declared.relations.Relation.TheVariants.{AtMost, AtLeast, EqualTo}
 use Rattle.mpslp_lp.specs.declared.tokens.TokenKind.TheVariants as kinds
 use Rattle.mpslp_lp.proofs.NameTokens.{begins-lp}
-use Rattle.mpslp_canonical_lp.specs.Printed.{Piece, PrintedLine, word, label, number, sign, sense, minus_infinity, piece_text, printed, SeenToken, tokens_in, line_tokens, semi_continuous}
+use Rattle.mpslp_canonical_lp.specs.Printed.{Lexeme, PrintedLine, word, label, number, sign, sense, minus_infinity, lexeme_text, line_text, SeenToken, tokens_in, line_tokens, semi_continuous}
 use Rattle.mpslp_canonical_lp.proofs.LiteralBytes.{literal-each}
 use Rattle.mpslp_canonical_lp.proofs.TokenLemmas.{seen}
 use Rattle.mpslp_canonical_lp.proofs.TokenTexts.{text-literal}
-use Rattle.mpslp_canonical_lp.proofs.PieceLemmas.{IsPrintable, after_first_piece, line-read}
+use Rattle.mpslp_canonical_lp.proofs.LexemeLemmas.{IsPrintable, after_first_piece, line-read}
 
 -- ---- bytes
 
@@ -82,7 +82,7 @@ module _ (P : ℕ → Type 0) (plain : (b : ℕ) → is_plain b ≡ true → P b
       literal-each P (λ b k. plain b (grind (arith, nat_tests))) (λ b k. plain b (grind (arith, nat_tests))) (λ b k. plain b (grind (arith, nat_tests)))
       (λ b k. plain b (grind (arith, nat_tests))) (number_text value) (text-literal value h)
 
-  each-piece : (piece : Piece) → IsPrintable piece → Each P (piece_text piece)
+  each-piece : (piece : Lexeme) → IsPrintable piece → Each P (lexeme_text piece)
   each-piece (word text) h = each-word text h.is
   each-piece (label name) h = Each-append P name (codes ":") (each-word name h.word_is.is) (each-code (codes ":") refl)
   each-piece (number value) h = each-number value h
@@ -94,20 +94,20 @@ module _ (P : ℕ → Type 0) (plain : (b : ℕ) → is_plain b ≡ true → P b
   each-piece minus_infinity h = each-code (codes "-infinity") refl
   each-piece semi_continuous h = each-code (codes "Semi-Continuous") refl
 
-  each-after : (pieces : List Piece) → Each IsPrintable pieces → Each P (after_first_piece pieces)
+  each-after : (lexemes : List Lexeme) → Each IsPrintable lexemes → Each P (after_first_piece lexemes)
   each-after [] h = tt
-  each-after (piece ∷ pieces) h = (blank, Each-append P (piece_text piece) (after_first_piece pieces) (each-piece piece h.0) (each-after pieces h.1))
+  each-after (piece ∷ lexemes) h = (blank, Each-append P (lexeme_text piece) (after_first_piece lexemes) (each-piece piece h.0) (each-after lexemes h.1))
 
-  each-joined : (pieces : List Piece) → Each IsPrintable pieces → Each P (join_by piece_text (codes " ") pieces)
+  each-joined : (lexemes : List Lexeme) → Each IsPrintable lexemes → Each P (join_by lexeme_text (codes " ") lexemes)
   each-joined [] h = tt
-  each-joined (piece ∷ pieces) h = Each-append P (piece_text piece) (after_first_piece pieces) (each-piece piece h.0) (each-after pieces h.1)
+  each-joined (piece ∷ lexemes) h = Each-append P (lexeme_text piece) (after_first_piece lexemes) (each-piece piece h.0) (each-after lexemes h.1)
 
   each-blank : (n : ℕ) → Each P (replicate n 32)
   each-blank zero = tt
   each-blank (suc n) = (blank, each-blank n)
 
-  pub each-printed : (line : PrintedLine) → Each IsPrintable line.pieces → Each P (printed line)
-  each-printed line h = Each-append P (replicate line.indent 32) (join_by piece_text (codes " ") line.pieces) (each-blank line.indent) (each-joined line.pieces h)
+  pub each-line_text : (line : PrintedLine) → Each IsPrintable line.lexemes → Each P (line_text line)
+  each-line_text line h = Each-append P (replicate line.indent 32) (join_by lexeme_text (codes " ") line.lexemes) (each-blank line.indent) (each-joined line.lexemes h)
 
 plain-legal : (b : ℕ) → is_plain b ≡ true → is_legal_byte b ≡ true
 plain-legal b h = grind (arith, nat_tests)
@@ -115,20 +115,20 @@ plain-legal b h = grind (arith, nat_tests)
 plain-no_comment : (b : ℕ) → is_plain b ≡ true → begins_comment b ≡ false
 plain-no_comment b h = grind (arith, nat_tests)
 
-bytes-legal : (line : PrintedLine) → Each IsPrintable line.pieces → has_legal_bytes (printed line) ≡ true
+bytes-legal : (line : PrintedLine) → Each IsPrintable line.lexemes → has_legal_bytes (line_text line) ≡ true
 bytes-legal line h =
-    ap (list_all is_legal_byte) (before-none begins_comment (printed line) (each-printed (λ b. begins_comment b ≡ false) plain-no_comment refl line h))
-    ∙ list_all-from_Each is_legal_byte (printed line) (each-printed (λ b. is_legal_byte b ≡ true) plain-legal refl line h)
+    ap (list_all is_legal_byte) (before-none begins_comment (line_text line) (each-line_text (λ b. begins_comment b ≡ false) plain-no_comment refl line h))
+    ∙ list_all-from_Each is_legal_byte (line_text line) (each-line_text (λ b. is_legal_byte b ≡ true) plain-legal refl line h)
 
 -- ---- length
 
 -- a line as it may be printed
 pub record IsPrintableLine (line : PrintedLine) : Type 0 where
   pub near : line.indent ≤ 2
-  pub few : length line.pieces ≤ 5
-  pub each : Each IsPrintable line.pieces
+  pub few : length line.lexemes ≤ 5
+  pub each : Each IsPrintable line.lexemes
 
-length-piece : (piece : Piece) → IsPrintable piece → length (piece_text piece) ≤ 256
+length-piece : (piece : Lexeme) → IsPrintable piece → length (lexeme_text piece) ≤ 256
 length-piece (word text) h = omega (arith, h.short)
 length-piece (label name) h = omega (arith, h.word_is.short, length-append name (codes ":"))
 length-piece (number value) h = let short : length (number_text value) ≤ 255 = read-short (number_text value) value (number-text value h) in omega (arith, short)
@@ -140,28 +140,28 @@ length-piece (sense EqualTo) h = omega arith
 length-piece minus_infinity h = omega arith
 length-piece semi_continuous h = omega arith
 
-length-after : (pieces : List Piece) → Each IsPrintable pieces → length (after_first_piece pieces) ≤ 257 * length pieces
+length-after : (lexemes : List Lexeme) → Each IsPrintable lexemes → length (after_first_piece lexemes) ≤ 257 * length lexemes
 length-after [] h = omega arith
-length-after (piece ∷ pieces) h =
-    let here : length (piece_text piece) ≤ 256 = length-piece piece h.0 in
-    let more : length (after_first_piece pieces) ≤ 257 * length pieces = length-after pieces h.1 in
-    omega (arith, here, more, length-append (piece_text piece) (after_first_piece pieces))
+length-after (piece ∷ lexemes) h =
+    let here : length (lexeme_text piece) ≤ 256 = length-piece piece h.0 in
+    let more : length (after_first_piece lexemes) ≤ 257 * length lexemes = length-after lexemes h.1 in
+    omega (arith, here, more, length-append (lexeme_text piece) (after_first_piece lexemes))
 
-length-joined : (pieces : List Piece) → Each IsPrintable pieces → length (join_by piece_text (codes " ") pieces) ≤ 257 * length pieces
+length-joined : (lexemes : List Lexeme) → Each IsPrintable lexemes → length (join_by lexeme_text (codes " ") lexemes) ≤ 257 * length lexemes
 length-joined [] h = omega arith
-length-joined (piece ∷ pieces) h =
-    let here : length (piece_text piece) ≤ 256 = length-piece piece h.0 in
-    let more : length (after_first_piece pieces) ≤ 257 * length pieces = length-after pieces h.1 in
-    omega (arith, here, more, length-append (piece_text piece) (after_first_piece pieces))
+length-joined (piece ∷ lexemes) h =
+    let here : length (lexeme_text piece) ≤ 256 = length-piece piece h.0 in
+    let more : length (after_first_piece lexemes) ≤ 257 * length lexemes = length-after lexemes h.1 in
+    omega (arith, here, more, length-append (lexeme_text piece) (after_first_piece lexemes))
 
 at_most : (n : ℕ) → n ≤ 2000 → nat_le n MAX_LINE_LEN ≡ true
 at_most n h = grind (arith, nat_tests)
 
-length-legal : (line : PrintedLine) → IsPrintableLine line → has_legal_length (printed line) ≡ true
+length-legal : (line : PrintedLine) → IsPrintableLine line → has_legal_length (line_text line) ≡ true
 length-legal line h =
     let blanks : length {A = ℕ} (replicate line.indent 32) ≡ line.indent = length-replicate line.indent 32 in
-    let joined : length (join_by piece_text (codes " ") line.pieces) ≤ 257 * length line.pieces = length-joined line.pieces h.each in
-    at_most (length (printed line)) (omega (arith, h.near, h.few, blanks, joined, length-append (replicate line.indent 32) (join_by piece_text (codes " ") line.pieces)))
+    let joined : length (join_by lexeme_text (codes " ") line.lexemes) ≤ 257 * length line.lexemes = length-joined line.lexemes h.each in
+    at_most (length (line_text line)) (omega (arith, h.near, h.few, blanks, joined, length-append (replicate line.indent 32) (join_by lexeme_text (codes " ") line.lexemes)))
 
 -- ---- faults of tokens
 
@@ -179,7 +179,7 @@ none-faulty (token ∷ found) h = rw h.0 (none-faulty found h.1)
 number-faultless : (value : Number) → IsDecimal value → number_fault (number_text value) ≡ None
 number-faultless value h = rw (number-text value h) refl
 
-piece-faultless : (piece : Piece) → IsPrintable piece → Each (λ token. seen_fault token ≡ None) (tokens_in piece)
+piece-faultless : (piece : Lexeme) → IsPrintable piece → Each (λ token. seen_fault token ≡ None) (tokens_in piece)
 piece-faultless (word text) h = (h.faultless, tt)
 piece-faultless (label name) h = (h.word_is.faultless, (refl, tt))
 piece-faultless (number value) h =
@@ -196,15 +196,15 @@ piece-faultless (sense EqualTo) h = (refl, tt)
 piece-faultless minus_infinity h = (refl, (refl, tt))
 piece-faultless semi_continuous h = (refl, (refl, (refl, tt)))
 
-pieces-faultless : (pieces : List Piece) → Each IsPrintable pieces → Each (λ piece. Each (λ token. seen_fault token ≡ None) (tokens_in piece)) pieces
-pieces-faultless pieces h = Each-weaker IsPrintable (λ piece. Each (λ token. seen_fault token ≡ None) (tokens_in piece)) piece-faultless pieces h
+lexemes-faultless : (lexemes : List Lexeme) → Each IsPrintable lexemes → Each (λ piece. Each (λ token. seen_fault token ≡ None) (tokens_in piece)) lexemes
+lexemes-faultless lexemes h = Each-weaker IsPrintable (λ piece. Each (λ token. seen_fault token ≡ None) (tokens_in piece)) piece-faultless lexemes h
 
 -- a printed line has no fault by itself
-pub line-faultless : (line : PrintedLine) → IsPrintableLine line → own_fault (printed line) ≡ None
+pub line-faultless : (line : PrintedLine) → IsPrintableLine line → lexical_fault (line_text line) ≡ None
 line-faultless line h =
-    let none : filter_map (λ (token : Token). token_fault token.kind token.text) (tokens (printed line)) ≡ [] =
-    faults-seen (tokens (printed line)) ∙ ap (filter_map seen_fault) (line-read line h.each)
-    ∙ none-faulty (line_tokens line) (Each-flat_map (λ token. seen_fault token ≡ None) tokens_in line.pieces (pieces-faultless line.pieces h.each)) in
+    let none : filter_map (λ (token : Token). token_fault token.kind token.text) (tokens (line_text line)) ≡ [] =
+    faults-seen (tokens (line_text line)) ∙ ap (filter_map seen_fault) (line-read line h.each)
+    ∙ none-faulty (line_tokens line) (Each-flat_map (λ token. seen_fault token ≡ None) tokens_in line.lexemes (lexemes-faultless line.lexemes h.each)) in
     λ i. elim (first_held ((not (length-legal line h i), faults.LineTooLong) ∷ (not (bytes-legal line h.each i), faults.BadByte) ∷ [])) as (λ _. Option FaultKind) [
       | Some kind ↦ Some kind
       | None ↦ least_kind (none i)
@@ -220,5 +220,5 @@ terminals-seen n [] = refl
 terminals-seen n (token ∷ found) = ap (λ (more : List TerminalAt). record { line = n; terminal = terminal_of token.kind token.text } ∷ more) (terminals-seen n found)
 
 -- the terminals of a printed line are those of its pieces
-pub line-terminals : (n : ℕ) (line : PrintedLine) → Each IsPrintable line.pieces → line_terminals (n, printed line) ≡ map (seen_at n) (line_tokens line)
-line-terminals n line h = terminals-seen n (tokens (printed line)) ∙ ap (map (seen_at n)) (line-read line h)
+pub line-terminals : (n : ℕ) (line : PrintedLine) → Each IsPrintable line.lexemes → line_terminals (n, line_text line) ≡ map (seen_at n) (line_tokens line)
+line-terminals n line h = terminals-seen n (tokens (line_text line)) ∙ ap (map (seen_at n)) (line-read line h)

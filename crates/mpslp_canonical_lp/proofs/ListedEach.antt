@@ -3,14 +3,14 @@ use Rattle.std.proofs.Common.{◌≡◌, refl, ℕ, List, [], ◌∷◌, ◌++�
 use Rattle.std.specs.Prelude.{Option, Some, None, filter, unwrap_or, if◌then◌else◌}
 use Rattle.std.specs.List.{list_any, flat_map}
 use Rattle.mpslp_decimal.specs.Decimal.{Number, is_zero}
-use Rattle.mpslp_types.specs.Sides.{limit_of}
+use Rattle.mpslp_types.specs.Limit.{limit_of}
 use Rattle.mpslp_types.specs.declared.kinds.Sense.{Sense}
 use Rattle.mpslp_types.specs.declared.kinds.Limit.{Limit}
 use Rattle.mpslp_types.specs.declared.kinds.Limit.TheVariants.{MinusInf, Finite, PlusInf}
 use Rattle.mpslp_types.proofs.BoolLemmas.{both_false}
 use Rattle.mpslp_types.proofs.EachLemmas.{Each, Each-weaker, Each-append, Each-flat_map, Each-all}
-use Rattle.mpslp_core.specs.Model.{CoefficientKey}
-use Rattle.mpslp_builder.specs.Declaration.{RowForm, by_limits, Declaration, declare_sense, declare_objective, declare_constant, declare_row, declare_column, declare_coefficient, declare_lower, declare_upper, declare_integer, declare_semi, bounds_declared}
+use Rattle.mpslp_model_core.specs.Model.{CoefficientKey}
+use Rattle.mpslp_builder.specs.Declaration.{RowDefinition, by_limits, Declaration, declare_sense, declare_objective, declare_constant, declare_row, declare_column, declare_coefficient, declare_lower, declare_upper, declare_integer, declare_semi, bounds_declared}
 use Rattle.mpslp_lp.specs.Sides.{limits_by}
 use Rattle.mpslp_lp.specs.Rows.{row_limits}
 use Rattle.mpslp_lp.specs.declared.relations.Relation.{Relation}
@@ -25,12 +25,12 @@ use Rattle.mpslp_canonical_lp.proofs.TailWalk.{general_made, semi_made}
 use Rattle.mpslp_canonical_lp.proofs.TextWalk.{row_left, row_relation, row_right, row_made, listed_declarations}
 
 -- the limits that a row is declared by
-abbrev pub form_by : Option Number → Relation → Number → RowForm
+abbrev pub form_by : Option Number → Relation → Number → RowDefinition
 form_by left relation right =
     let limits = row_limits (left_of left) relation (limit_of right) in
     by_limits (unwrap_or limits.lower MinusInf) (unwrap_or limits.upper PlusInf)
 
-abbrev pub form_made : Limit → Limit → RowForm
+abbrev pub form_made : Limit → Limit → RowDefinition
 form_made lower upper = form_by (row_left lower upper) (row_relation lower upper) (row_right lower upper)
 
 -- What holds of each declaration, by its kind.
@@ -89,7 +89,7 @@ module _ (P : Declaration → Type 0) where
 
   -- of any row, any bound and any kind
   pub each-of_kind : (m : Listing) → ((sense : Sense) → P (declare_sense sense)) → ((name : List ℕ) → P (declare_objective name)) → ((value : Number) → P (declare_constant value))
-      → ((name : List ℕ) → P (declare_column name)) → ((key : CoefficientKey) (value : Number) → P (declare_coefficient key value)) → ((name : List ℕ) (form : RowForm) → P (declare_row name form))
+      → ((name : List ℕ) → P (declare_column name)) → ((key : CoefficientKey) (value : Number) → P (declare_coefficient key value)) → ((name : List ℕ) (form : RowDefinition) → P (declare_row name form))
       → ((name : List ℕ) (limit : Limit) → P (declare_lower name limit)) → ((name : List ℕ) (limit : Limit) → P (declare_upper name limit))
       → Each (λ column. P (declare_integer column.0)) (filter is_integer_column m.columns) → Each (λ column. P (declare_semi column.0)) (filter is_semi_column m.columns) → Each P (listed_declarations m)
   each-of_kind m sense objective constant column coefficient row lower upper generals semis = each-listed m (record {

@@ -4,9 +4,9 @@ use Rattle.std.specs.Prelude.{Some, None, filter, if◌then◌else◌}
 use Rattle.std.specs.List.{flat_map}
 use Rattle.std.proofs.lemmas.List.{append-nil}
 use Rattle.mpslp_decimal.specs.Decimal.{Number, is_zero}
-use Rattle.mpslp_core.specs.Model.{Row, Column, CoefficientKey}
-use Rattle.mpslp_types.specs.Sides.{limit_of}
-use Rattle.mpslp_builder.specs.Declaration.{RowForm, Declaration, declare_column, declare_lower, declare_upper, bounds_declared}
+use Rattle.mpslp_model_core.specs.Model.{Row, Column, CoefficientKey}
+use Rattle.mpslp_types.specs.Limit.{limit_of}
+use Rattle.mpslp_builder.specs.Declaration.{RowDefinition, Declaration, declare_column, declare_lower, declare_upper, bounds_declared}
 use Rattle.mpslp_types.specs.declared.kinds.Limit.{Limit}
 use Rattle.mpslp_types.specs.declared.kinds.Limit.TheVariants.{MinusInf, Finite, PlusInf}
 use Rattle.mpslp_builder.proofs.CoefficientLemmas.{flat_map-none}
@@ -53,7 +53,7 @@ bounds-none {Y} part c l u column = by column.1.lower column.1.upper
 
 -- ---- rows
 
-abbrev pub row_forms : List (List ℕ × Row) → List (List ℕ × RowForm)
+abbrev pub row_forms : List (List ℕ × Row) → List (List ℕ × RowDefinition)
 row_forms rows = map (λ row. (row.0, form_told row.1)) rows
 
 pub rows-part : (m : Listing) → flat_map row_part (listed_declarations m) ≡ row_forms m.rows

@@ -1,7 +1,7 @@
 -- The draft of what a sound model's canonical text declares means the model.
 use Rattle.std.proofs.Common.{ap, List, [], ℕ}
 use Rattle.std.specs.Prelude.{Option, unwrap_or}
-use Rattle.mpslp_core.specs.Model.{LinearModel, IsSound}
+use Rattle.mpslp_model_core.specs.Model.{LinearModel, IsSound}
 use Rattle.mpslp_types.specs.declared.kinds.Sense.{Sense}
 use Rattle.mpslp_types.specs.declared.kinds.Sense.TheVariants.{Minimize}
 use Rattle.mpslp_builder.specs.Declaration.{draft_of}

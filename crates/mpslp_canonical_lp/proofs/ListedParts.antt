@@ -5,9 +5,9 @@ use Rattle.std.specs.List.{flat_map}
 use Rattle.std.proofs.lemmas.List.{append-nil}
 use Rattle.std.proofs.lemmas.List.Concat.{flat_map-append}
 use Rattle.mpslp_decimal.specs.Decimal.{Number, is_zero}
-use Rattle.mpslp_core.specs.Model.{Row, Column}
-use Rattle.mpslp_types.specs.Sides.{limit_of}
-use Rattle.mpslp_builder.specs.Declaration.{RowForm, by_limits, Declaration, declare_sense, declare_objective, declare_constant, declare_row, Declarations, Draft, draft_of}
+use Rattle.mpslp_model_core.specs.Model.{Row, Column}
+use Rattle.mpslp_types.specs.Limit.{limit_of}
+use Rattle.mpslp_builder.specs.Declaration.{RowDefinition, by_limits, Declaration, declare_sense, declare_objective, declare_constant, declare_row, Declarations, Draft, draft_of}
 use Rattle.mpslp_types.specs.declared.kinds.Sense.{Sense}
 use Rattle.mpslp_types.specs.declared.kinds.Limit.{Limit}
 use Rattle.mpslp_types.specs.declared.kinds.Limit.TheVariants.{MinusInf, Finite, PlusInf}
@@ -30,10 +30,10 @@ use Rattle.mpslp_canonical_lp.proofs.TextWalk.{row_left, row_relation, row_right
 abbrev pub limits_told : Limit → Limit → Limits
 limits_told lower upper = row_limits (left_of (row_left lower upper)) (row_relation lower upper) (limit_of (row_right lower upper))
 
-abbrev pub form_of : Limits → RowForm
+abbrev pub form_of : Limits → RowDefinition
 form_of limits = by_limits (unwrap_or limits.lower MinusInf) (unwrap_or limits.upper PlusInf)
 
-abbrev pub form_told : Row → RowForm
+abbrev pub form_told : Row → RowDefinition
 form_told row = form_of (limits_told row.lower row.upper)
 
 abbrev pub lower_told : Limit → Limit → Option Limit

@@ -3,7 +3,7 @@ use Rattle.std.proofs.Common.{◌≡◌, ◌∙◌, ap, subst, List, ℕ, Bool, 
 use Rattle.std.specs.Prelude.{◌&&◌, Some, None}
 use Rattle.std.specs.Cmp.{first_so, second_so}
 use Rattle.std.specs.FinMap.{is_sorted, from_sorted, entries-from_sorted}
-use Rattle.mpslp_core.specs.Model.{LinearModel, key_cmp}
+use Rattle.mpslp_model_core.specs.Model.{LinearModel, key_cmp}
 use Rattle.mpslp_types.specs.Name.{bytes_cmp}
 use Rattle.mpslp_types.specs.declared.faults.NameAt.{NameAt}
 use Rattle.mpslp_types.proofs.BoolLemmas.{T_from}
@@ -41,9 +41,9 @@ pub record IsPrinted (m : Listing) (output : List ℕ) : Type 0 where
   pub declares : DeclaresLp output (model_in m)
   pub fits : unfit (model_in m) ≡ None
 
-pub printed-from_passes : (m : Listing) (output : List ℕ) → is_in_order m ≡ true → text_of (listed_lines m) ≡ output → unfit_in m ≡ None
+pub line_text-from_passes : (m : Listing) (output : List ℕ) → is_in_order m ≡ true → text_of (listed_lines m) ≡ output → unfit_in m ≡ None
     → Passes output (model_in m) → IsPrinted m output
-printed-from_passes m output sorted text fits passes =
+line_text-from_passes m output sorted text fits passes =
     record {
       prints = ap (λ (l : Listing). text_of (listed_lines l)) (listing_of-model_in m sorted) ∙ text;
       declares = subst (DeclaresLp output) passes.model (declares-from_passes output (model_in m) passes);

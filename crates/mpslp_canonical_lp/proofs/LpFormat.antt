@@ -1,7 +1,7 @@
 -- The laws of LP as a format of model files, in the words of the trait of formats.
 use Rattle.std.proofs.Common.{◌≡◌, sym, ◌∙◌, List, ℕ}
 use Rattle.std.specs.Prelude.{Some, None}
-use Rattle.mpslp_core.specs.Model.{LinearModel, IsSound}
+use Rattle.mpslp_model_core.specs.Model.{LinearModel, IsSound}
 use Rattle.mpslp_types.specs.declared.faults.Fault.{Fault}
 use Rattle.mpslp_lp.specs.LpText.{DeclaresLp}
 use Rattle.mpslp_lp.specs.FirstFault.{IsFirstLpFault}

@@ -6,10 +6,10 @@ use Rattle.std.specs.Option.{option_map}
 use Rattle.std.specs.Cmp.{first_so, second_so}
 use Rattle.std.specs.FinMap.{find}
 use Rattle.mpslp_decimal.specs.Decimal.{Number, is_decimal, is_zero, zero_number}
-use Rattle.mpslp_core.specs.Model.{Row, Column, CoefficientKey, key_cmp}
+use Rattle.mpslp_model_core.specs.Model.{Row, Column, CoefficientKey, key_cmp}
 use Rattle.mpslp_builder.specs.Declaration.{empty_draft}
 use Rattle.mpslp_types.proofs.EachLemmas.{Each, Each-weaker, Each-append, Each-flat_map, Each-all}
-use Rattle.mpslp_core.proofs.PutsLemmas.{puts}
+use Rattle.mpslp_model_core.proofs.PutsLemmas.{puts}
 use Rattle.mpslp_builder.proofs.DraftLemmas.{coefficients-all}
 use Rattle.mpslp_builder.proofs.DraftEntries.{same_key}
 use Rattle.mpslp_builder.proofs.LaterDrafts.{value_in}
@@ -22,7 +22,7 @@ use Rattle.mpslp_builder.proofs.EntryLemmas.{puts-kept, found-each}
 use Rattle.mpslp_canonical_lp.proofs.SoundListing.{is_sound_entry, IsSoundListing}
 use Rattle.mpslp_canonical_lp.proofs.ListedParts.{drafted}
 use Rattle.mpslp_canonical_lp.proofs.ListedMaps.{own_coefficient, coefficients-part}
-use Rattle.mpslp_canonical_lp.proofs.PrintedTerms.{place_at, no-coefficient, each-printed}
+use Rattle.mpslp_canonical_lp.proofs.PrintedTerms.{place_at, no-coefficient, each-line_text}
 
 abbrev is_kept : Number → Bool
 is_kept value = not (is_zero value)
@@ -100,4 +100,4 @@ module _ (m : Listing) (h : IsSoundListing m) where
       ∙ puts-kept key_cmp key_total same_key is_kept m.coefficients (flat_map (own_coefficient m.objective) (objective_terms m) ++ flat_map row_coefficients m.rows) h.coefficients_sorted all-true
       (λ key some.
       let found = value_in (find key_cmp key m.coefficients) some in
-      each-printed key_cmp key_total same_key place_at (λ (term : Term). term.1) m h key found.0 found.1)
+      each-line_text key_cmp key_total same_key place_at (λ (term : Term). term.1) m h key found.0 found.1)

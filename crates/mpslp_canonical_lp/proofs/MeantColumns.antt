@@ -5,9 +5,9 @@ use Rattle.std.specs.Ordering.{eq_by_cmp}
 use Rattle.mpslp_decimal.specs.Decimal.{Number, is_zero}
 use Rattle.mpslp_decimal.proofs.NumberTextLemmas.{zero-is}
 use Rattle.mpslp_decimal.proofs.OrderLemmas.{same_decimal}
-use Rattle.mpslp_core.specs.Model.{Column}
+use Rattle.mpslp_model_core.specs.Model.{Column}
 use Rattle.mpslp_types.specs.Name.{bytes_cmp}
-use Rattle.mpslp_types.specs.Sides.{limit_of, is_bounded_decimal, is_lower_side, is_upper_side}
+use Rattle.mpslp_types.specs.Limit.{limit_of, is_bounded_decimal, is_lower_side, is_upper_side}
 use Rattle.mpslp_types.specs.declared.kinds.Kind.{Kind}
 use Rattle.mpslp_types.specs.declared.kinds.Kind.TheVariants.{Continuous, Integer, Semi}
 use Rattle.mpslp_types.specs.declared.kinds.Limit.{Limit}
@@ -15,7 +15,7 @@ use Rattle.mpslp_types.specs.declared.kinds.Limit.TheVariants.{MinusInf, Finite,
 use Rattle.mpslp_builder.specs.Declaration.{empty_draft, at_name, has_name}
 use Rattle.mpslp_builder.specs.Bounds.{zero_limit, one_limit, column_of}
 use Rattle.mpslp_types.proofs.EachLemmas.{Each, Each-weaker}
-use Rattle.mpslp_core.proofs.PutsLemmas.{puts}
+use Rattle.mpslp_model_core.proofs.PutsLemmas.{puts}
 use Rattle.mpslp_builder.proofs.BoundsLemmas as kinds
 use Rattle.mpslp_builder.proofs.BoundsLemmas.{column_of-is}
 use Rattle.mpslp_builder.proofs.DraftLemmas.{lowers-all, uppers-all, marked-all, integers-all, binaries-all, semis-all}

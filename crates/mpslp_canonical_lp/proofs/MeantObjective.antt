@@ -4,18 +4,18 @@ use Rattle.std.specs.Prelude.{Option, Some, None, filter, unwrap_or, if◌then�
 use Rattle.std.specs.List.{flat_map}
 use Rattle.mpslp_decimal.specs.Decimal.{Number, IsDecimal, is_zero, zero_number, negated}
 use Rattle.mpslp_decimal.proofs.NumberTextLemmas.{zero-is}
-use Rattle.mpslp_core.specs.Model.{Row, CoefficientKey}
+use Rattle.mpslp_model_core.specs.Model.{Row, CoefficientKey}
 use Rattle.mpslp_types.specs.Name.{bytes_cmp}
-use Rattle.mpslp_types.specs.Sides.{limit_of}
+use Rattle.mpslp_types.specs.Limit.{limit_of}
 use Rattle.mpslp_types.specs.declared.kinds.Limit.{Limit}
 use Rattle.mpslp_types.specs.declared.kinds.Limit.TheVariants.{MinusInf, Finite, PlusInf}
-use Rattle.mpslp_builder.specs.Declaration.{RowForm, Declaration, declare_constant, declare_row, declare_column, declare_coefficient, declare_lower, declare_upper, declare_integer, declare_semi, Declarations, Draft, empty_draft, adding_all, at_name, bounds_declared}
+use Rattle.mpslp_builder.specs.Declaration.{RowDefinition, Declaration, declare_constant, declare_row, declare_column, declare_coefficient, declare_lower, declare_upper, declare_integer, declare_semi, Declarations, Draft, empty_draft, with_declarations, at_name, bounds_declared}
 use Rattle.mpslp_builder.specs.Meaning.{objective_name, constant_of}
 use Rattle.mpslp_types.proofs.EachLemmas.{Each, Each-append, Each-flat_map, Each-all}
-use Rattle.mpslp_core.proofs.PutsLemmas.{puts}
+use Rattle.mpslp_model_core.proofs.PutsLemmas.{puts}
 use Rattle.mpslp_builder.proofs.DraftLemmas.{rhs_values-all}
 use Rattle.mpslp_builder.proofs.KeptParts.{Stays, stays-all}
-use Rattle.mpslp_builder.proofs.MadeDrafts.{adding_all-append}
+use Rattle.mpslp_builder.proofs.MadeDrafts.{with_declarations-append}
 use Rattle.mpslp_lp.specs.Sides.{limits_by}
 use Rattle.mpslp_lp.specs.Objective.{term_declared, objective_declared}
 use Rattle.mpslp_lp.specs.declared.relations.Relation.TheVariants.{AtLeast, EqualTo}
@@ -32,7 +32,7 @@ use Rattle.mpslp_canonical_lp.proofs.ListedMaps.{no-right_sides}
 -- ---- the declarations of terms, rows and columns, by their kinds
 
 record EachKind (P : Declaration → Type 0) : Type 0 where
-  pub of_row : (x : List ℕ) (form : RowForm) → P (declare_row x form)
+  pub of_row : (x : List ℕ) (form : RowDefinition) → P (declare_row x form)
   pub of_column : (x : List ℕ) → P (declare_column x)
   pub of_coefficient : (key : CoefficientKey) (v : Number) → P (declare_coefficient key v)
   pub of_lower : (x : List ℕ) (l : Limit) → P (declare_lower x l)
@@ -98,7 +98,7 @@ module _ (P : Declaration → Type 0) (h : EachKind P) where
 -- ---- the sense and the objective
 
 abbrev begun : Listing → Draft
-begun m = adding_all empty_draft (objective_declared m.sense m.objective)
+begun m = with_declarations empty_draft (objective_declared m.sense m.objective)
 
 pub sense-drafted : (m : Listing) → (drafted m).sense ≡ Some m.sense
 sense-drafted m =
@@ -143,19 +143,19 @@ keeps-constant value = record {
 abbrev told_constant : Number → Option Number
 told_constant value = if is_zero value then None else Some value
 
-constant-added : (all : Draft) (value : Number) → all.constant ≡ None → (adding_all all (constant_declared value)).constant ≡ told_constant value
+constant-added : (all : Draft) (value : Number) → all.constant ≡ None → (with_declarations all (constant_declared value)).constant ≡ told_constant value
 constant-added all value none =
-    elim (is_zero value) as (λ t. (adding_all all (if t then [] else declare_constant value ∷ [])).constant ≡ (if t then None else Some value)) [ true ↦ none | false ↦ refl ]
+    elim (is_zero value) as (λ t. (with_declarations all (if t then [] else declare_constant value ∷ [])).constant ≡ (if t then None else Some value)) [ true ↦ none | false ↦ refl ]
 
 constant-drafted : (m : Listing) → (drafted m).constant ≡ told_constant m.constant
 constant-drafted m =
     let terms = terms_declared m.objective (objective_terms m) in
     let constant = constant_declared m.constant in
-    ap (λ (all : Draft). all.constant) (adding_all-append (terms ++ constant) (rest_declared m) (begun m))
+    ap (λ (all : Draft). all.constant) (with_declarations-append (terms ++ constant) (rest_declared m) (begun m))
     ∙ stays-all (λ d. d.constant) (told_constant m.constant) (rest_declared m) (each-rest (Stays (λ d. d.constant) (told_constant m.constant)) (keeps-constant (told_constant m.constant)) m)
-    (adding_all (begun m) (terms ++ constant))
-    (ap (λ (all : Draft). all.constant) (adding_all-append terms constant (begun m))
-    ∙ constant-added (adding_all (begun m) terms) m.constant
+    (with_declarations (begun m) (terms ++ constant))
+    (ap (λ (all : Draft). all.constant) (with_declarations-append terms constant (begun m))
+    ∙ constant-added (with_declarations (begun m) terms) m.constant
     (stays-all (λ d. d.constant) None terms (each-terms (Stays (λ d. d.constant) None) (keeps-constant None) m.objective (objective_terms m)) (begun m) refl))
 
 no-right_side : (m : Listing) → (drafted m).rhs_values ≡ []

@@ -4,16 +4,16 @@ use Rattle.std.specs.Prelude.{Some, None, is_some, if◌then◌else◌}
 use Rattle.std.specs.List.{list_all}
 use Rattle.mpslp_decimal.specs.Decimal.{Number}
 use Rattle.mpslp_decimal.proofs.OrderLemmas.{same_decimal}
-use Rattle.mpslp_core.specs.Model.{Row, is_sound_row}
-use Rattle.mpslp_core.specs.Limits.{has_infinite_rhs}
+use Rattle.mpslp_model_core.specs.Model.{Row, is_sound_row}
+use Rattle.mpslp_model_core.specs.Limits.{has_infinite_rhs}
 use Rattle.mpslp_types.specs.Name.{bytes_cmp}
-use Rattle.mpslp_types.specs.Sides.{limit_of, is_bounded_decimal, is_lower_side, is_upper_side, are_sides}
+use Rattle.mpslp_types.specs.Limit.{limit_of, is_bounded_decimal, is_lower_side, is_upper_side, are_sides}
 use Rattle.mpslp_types.specs.declared.kinds.Limit.{Limit}
 use Rattle.mpslp_types.specs.declared.kinds.Limit.TheVariants.{MinusInf, Finite, PlusInf}
-use Rattle.mpslp_builder.specs.Declaration.{RowForm, by_limits, empty_draft}
+use Rattle.mpslp_builder.specs.Declaration.{RowDefinition, by_limits, empty_draft}
 use Rattle.mpslp_builder.specs.Meaning.{row_limits, row_entry, row_passes}
 use Rattle.mpslp_types.proofs.EachLemmas.{Each, Each-map, Each-all, list_all-from_Each}
-use Rattle.mpslp_core.proofs.PutsLemmas.{puts}
+use Rattle.mpslp_model_core.proofs.PutsLemmas.{puts}
 use Rattle.mpslp_builder.proofs.DraftLemmas.{rows-all}
 use Rattle.mpslp_builder.proofs.MeaningFromNoFault.{sorted-mapped}
 use Rattle.mpslp_builder.proofs.SortedDrafts.{bytes_total, tied_names}
@@ -54,7 +54,7 @@ limits-back lower upper h = by lower upper (lower_of lower upper h) (upper_of lo
     by (Finite a) MinusInf p q = absurd (open_side q)
     by PlusInf u p q = absurd (open_side p)
 
-abbrev own_form : List ℕ × Row → List ℕ × RowForm
+abbrev own_form : List ℕ × Row → List ℕ × RowDefinition
 own_form row = (row.0, by_limits row.1.lower row.1.upper)
 
 forms-own : (rows : List (List ℕ × Row)) → Each (λ row. is_sound_row row ≡ true) rows → row_forms rows ≡ map own_form rows
@@ -64,7 +64,7 @@ forms-own (row ∷ rows) h = λ i. (row.0, limits-back row.1.lower row.1.upper (
 rows-drafted : (m : Listing) → IsSoundListing m → (drafted m).rows ≡ map own_form m.rows
 rows-drafted m h =
     rows-all (listed_declarations m) empty_draft
-    ∙ ap (λ (es : List (List ℕ × RowForm)). puts bytes_cmp es []) (rows-part m ∙ forms-own m.rows h.rows)
+    ∙ ap (λ (es : List (List ℕ × RowDefinition)). puts bytes_cmp es []) (rows-part m ∙ forms-own m.rows h.rows)
     ∙ puts-own bytes_cmp bytes_total tied_names (map own_form m.rows) (sorted-mapped (λ row. by_limits row.1.lower row.1.upper) m.rows ∙ h.rows_sorted)
 
 pub rows-back : (m : Listing) → IsSoundListing m → map (row_entry (drafted m)) (drafted m).rows ≡ m.rows

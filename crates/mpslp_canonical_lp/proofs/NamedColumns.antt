@@ -5,15 +5,15 @@ use Rattle.std.specs.List.{flat_map, list_any}
 use Rattle.std.specs.Option.{option_map}
 use Rattle.std.specs.FinMap.{find, is_sorted}
 use Rattle.mpslp_decimal.specs.Decimal.{Number, is_zero, zero_number}
-use Rattle.mpslp_core.specs.Model.{Column, CoefficientKey, key_cmp}
+use Rattle.mpslp_model_core.specs.Model.{Column, CoefficientKey, key_cmp}
 use Rattle.mpslp_types.specs.Name.{same_bytes, bytes_cmp}
-use Rattle.mpslp_types.specs.Sides.{limit_of}
+use Rattle.mpslp_types.specs.Limit.{limit_of}
 use Rattle.mpslp_types.specs.declared.kinds.Limit.{Limit}
 use Rattle.mpslp_types.specs.declared.kinds.Limit.TheVariants.{MinusInf, Finite, PlusInf}
 use Rattle.mpslp_builder.specs.Declaration.{empty_draft, at_name, bounds_declared}
 use Rattle.mpslp_types.proofs.BoolLemmas.{T_from}
 use Rattle.mpslp_types.proofs.EachLemmas.{Each, Each-weaker, Each-append, Each-map, Each-flat_map, Each-filter, Each-all}
-use Rattle.mpslp_core.proofs.PutsLemmas.{puts, puts-give, finds_own, some_append_left}
+use Rattle.mpslp_model_core.proofs.PutsLemmas.{puts, puts-give, finds_own, some_append_left}
 use Rattle.mpslp_builder.proofs.DraftEntries.{same_key}
 use Rattle.mpslp_builder.proofs.DraftLemmas.{column_part, columns-all}
 use Rattle.mpslp_builder.proofs.MeaningFromNoFault.{sorted-mapped}
@@ -31,7 +31,7 @@ use Rattle.mpslp_canonical_lp.proofs.SoundListing.{IsSoundListing, IsOwnColumn, 
 use Rattle.mpslp_builder.proofs.NamedEntries.{named, found-any}
 use Rattle.mpslp_canonical_lp.proofs.ListedParts.{all_parts, nothing, own_name, drafted}
 use Rattle.mpslp_canonical_lp.proofs.ListedMaps.{bound_names, columns-part}
-use Rattle.mpslp_canonical_lp.proofs.PrintedTerms.{hit, each-printed}
+use Rattle.mpslp_canonical_lp.proofs.PrintedTerms.{hit, each-line_text}
 
 abbrev Names : Type 0
 Names = List (List ℕ × Unit {0})
@@ -137,7 +137,7 @@ module _ (m : Listing) (h : IsSoundListing m) where
       any-each (λ (entry : CoefficientKey × Number). same_bytes entry.0.column column.0) (λ entry. find key_cmp entry.0 m.coefficients ≡ Some entry.1) (IsNamed column.0 term_names)
       (λ entry e is.
       ap (λ (name : List ℕ). is_some (at_name term_names name)) (sym (same_name entry.0.column column.0 e))
-      ∙ each-printed bytes_cmp bytes_total tied_names (λ _ name. name) (λ _. tt) m h entry.0 entry.1 is)
+      ∙ each-line_text bytes_cmp bytes_total tied_names (λ _ name. name) (λ _. tt) m h entry.0 entry.1 is)
       m.coefficients some (finds_own key_cmp key_total same_key m.coefficients (T_from (is_sorted key_cmp m.coefficients) h.coefficients_sorted))
 
   -- one without coefficients is in the objective

@@ -3,27 +3,27 @@ use Rattle.std.proofs.Common.{◌≡◌, refl, sym, ap, subst, ◌∙◌, ℕ, �
 use Rattle.std.specs.Prelude.{None, codes, if◌then◌else◌}
 use Rattle.std.specs.List.{flat_map}
 use Rattle.mpslp_decimal.specs.Decimal.{Number as Decimal, is_zero, is_negative, size_of}
-use Rattle.mpslp_builder.specs.Declaration.{Draft, empty_draft, Declarations, declare_constant, adding_all}
+use Rattle.mpslp_builder.specs.Declaration.{Draft, empty_draft, Declarations, declare_constant, with_declarations}
 use Rattle.mpslp_builder.specs.Refusal.{refusals_in_turn}
 use Rattle.mpslp_types.specs.declared.kinds.Sense.{Sense}
 use Rattle.mpslp_types.specs.declared.kinds.Sense.TheVariants.{Minimize, Maximize}
 use Rattle.mpslp_types.specs.declared.faults.BuildFault.{BuildFault}
-use Rattle.mpslp_builder.proofs.MadeDrafts.{adding_all-append, refusals_in_turn-append}
+use Rattle.mpslp_builder.proofs.MadeDrafts.{with_declarations-append, refusals_in_turn-append}
 use Rattle.mpslp_decimal.proofs.CutLemmas.{Each}
 use Rattle.mpslp_lp.specs.Terminal.{TerminalAt, word_terminal}
 use Rattle.mpslp_lp.specs.Terminal.Terminal.{Opens, Name, Number, Sign, Colon}
-use Rattle.mpslp_lp.specs.Point.{none_opened, opened_with, section_fault, start}
-use Rattle.mpslp_lp.specs.declared.opened.Opened.{Opened}
+use Rattle.mpslp_lp.specs.Point.{no_section_seen, with_section, section_fault, start}
+use Rattle.mpslp_lp.specs.declared.sections_seen.SectionsSeen.{SectionsSeen}
 use Rattle.mpslp_lp.specs.declared.states.Place.{Place}
 use Rattle.mpslp_lp.specs.declared.states.Place.TheVariants.{AtStart, BeforeItems, InObjective, BetweenRows}
-use Rattle.mpslp_lp.specs.Sides.{signed}
+use Rattle.mpslp_lp.specs.Sides.{apply_sign}
 use Rattle.mpslp_lp.specs.Grammar.{may_begin_section}
 use Rattle.mpslp_lp.specs.Objective.{term_declared, objective_declared}
 use Rattle.mpslp_lp.specs.declared.words.Section.TheVariants as sections
 use Rattle.mpslp_lp.specs.declared.words.SectionWord.TheVariants as section_words
 use Rattle.mpslp_canonical_lp.specs.Printed.{PrintedLine}
 use Rattle.mpslp_canonical_lp.specs.Listing.{Listing}
-use Rattle.mpslp_canonical_lp.specs.CanonicalLp.{Lines, Term, heading, long_line, signed_pieces, label_line, sense_word, term_line, objective_terms, constant_lines, objective_section}
+use Rattle.mpslp_canonical_lp.specs.CanonicalLp.{Lines, Term, heading, long_line, signed_lexemes, label_line, sense_word, term_line, objective_terms, constant_lines, objective_section}
 use Rattle.mpslp_canonical_lp.proofs.PrintableLemmas.{IsTerm, IsFit, objective-fits}
 use Rattle.mpslp_canonical_lp.proofs.TerminalLemmas.{at, line_terminals_in, all_terminals, signed-value}
 use Rattle.mpslp_canonical_lp.proofs.PhraseLemmas.{Walks, walks-none, walks-then, point_at, sense_opens, start-walks, first-term-walks, term-walks, subject-walks, constant-walks}
@@ -48,17 +48,17 @@ none-left [] ys h = (refl, h)
 none-left (x ∷ xs) ys h = cc
 
 -- where nothing of two parts is refused, nothing of either is
-pub parts-taken : (all : Draft) (xs ys : Declarations) → refusals_in_turn all (xs ++ ys) ≡ [] → (refusals_in_turn all xs ≡ []) × (refusals_in_turn (adding_all all xs) ys ≡ [])
-parts-taken all xs ys h = none-left (refusals_in_turn all xs) (refusals_in_turn (adding_all all xs) ys) (sym (refusals_in_turn-append xs ys all) ∙ h)
+pub parts-taken : (all : Draft) (xs ys : Declarations) → refusals_in_turn all (xs ++ ys) ≡ [] → (refusals_in_turn all xs ≡ []) × (refusals_in_turn (with_declarations all xs) ys ≡ [])
+parts-taken all xs ys h = none-left (refusals_in_turn all xs) (refusals_in_turn (with_declarations all xs) ys) (sym (refusals_in_turn-append xs ys all) ∙ h)
 
 -- one part behind the other, each in its draft
-pub parts-walk : (from : Place) (between to : Place) (opened later last : Opened) (all : Draft) (xs ys : List TerminalAt) (made more : Declarations)
-    → Walks (point_at from opened all) xs made (point_at between later (adding_all all made))
-    → Walks (point_at between later (adding_all all made)) ys more (point_at to last (adding_all (adding_all all made) more))
-    → Walks (point_at from opened all) (xs ++ ys) (made ++ more) (point_at to last (adding_all all (made ++ more)))
-parts-walk from between to opened later last all xs ys made more h k =
-    subst (λ (draft : Draft). Walks (point_at from opened all) (xs ++ ys) (made ++ more) (point_at to last draft)) (sym (adding_all-append made more all))
-    (walks-then (point_at from opened all) (point_at between later (adding_all all made)) (point_at to last (adding_all (adding_all all made) more)) xs ys made more h k)
+pub parts-walk : (from : Place) (between to : Place) (sections_seen later last : SectionsSeen) (all : Draft) (xs ys : List TerminalAt) (made more : Declarations)
+    → Walks (point_at from sections_seen all) xs made (point_at between later (with_declarations all made))
+    → Walks (point_at between later (with_declarations all made)) ys more (point_at to last (with_declarations (with_declarations all made) more))
+    → Walks (point_at from sections_seen all) (xs ++ ys) (made ++ more) (point_at to last (with_declarations all (made ++ more)))
+parts-walk from between to sections_seen later last all xs ys made more h k =
+    subst (λ (draft : Draft). Walks (point_at from sections_seen all) (xs ++ ys) (made ++ more) (point_at to last draft)) (sym (with_declarations-append made more all))
+    (walks-then (point_at from sections_seen all) (point_at between later (with_declarations all made)) (point_at to last (with_declarations (with_declarations all made) more)) xs ys made more h k)
 
 -- ---- terms
 
@@ -67,42 +67,42 @@ terms_declared row terms = flat_map (term_declared row) terms
 
 pub term-terminals : (n : ℕ) (term : Term) → IsTerm term
     → line_terminals_in n (term_line term) ≡ at n (Sign (is_negative term.1)) ∷ at n (Number (size_of term.1)) ∷ at n (Name term.0) ∷ []
-term-terminals n term h = λ i. at n (Sign (is_negative term.1)) ∷ at n (Number (size_of term.1)) ∷ at n (word_terminal term.0 (h.0.meaning i)) ∷ []
+term-terminals n term h = λ i. at n (Sign (is_negative term.1)) ∷ at n (Number (size_of term.1)) ∷ at n (word_terminal term.0 (h.0.word_class i)) ∷ []
 
 -- before the first item, or after one
 abbrev pub items_at : List ℕ → Bool → Place
 items_at name started = if started then InObjective name else BeforeItems name
 
-one-term : (started : Bool) (opened : Opened) (all : Draft) (name : List ℕ) (n : ℕ) (term : Term) → IsTerm term → refusals_in_turn all (term_declared name term) ≡ []
-    → Walks (point_at (items_at name started) opened all) (line_terminals_in n (term_line term)) (term_declared name term) (point_at (InObjective name) opened (adding_all all (term_declared name term)))
-one-term started opened all name n term good h =
-    subst (λ (tokens : List TerminalAt). Walks (point_at (items_at name started) opened all) tokens (term_declared name term) (point_at (InObjective name) opened (adding_all all (term_declared name term))))
+one-term : (started : Bool) (sections_seen : SectionsSeen) (all : Draft) (name : List ℕ) (n : ℕ) (term : Term) → IsTerm term → refusals_in_turn all (term_declared name term) ≡ []
+    → Walks (point_at (items_at name started) sections_seen all) (line_terminals_in n (term_line term)) (term_declared name term) (point_at (InObjective name) sections_seen (with_declarations all (term_declared name term)))
+one-term started sections_seen all name n term good h =
+    subst (λ (tokens : List TerminalAt). Walks (point_at (items_at name started) sections_seen all) tokens (term_declared name term) (point_at (InObjective name) sections_seen (with_declarations all (term_declared name term))))
     (sym (term-terminals n term good))
     (subst (λ (value : Decimal). refusals_in_turn all (term_declared name (term.0, value)) ≡ [] → From started value) (signed-value term.1) (by started) h)
   where
     From : Bool → Decimal → Type 0
-    From b value = Walks (point_at (items_at name b) opened all) (at n (Sign (is_negative term.1)) ∷ at n (Number (size_of term.1)) ∷ at n (Name term.0) ∷ []) (term_declared name (term.0, value))
-        (point_at (InObjective name) opened (adding_all all (term_declared name (term.0, value))))
+    From b value = Walks (point_at (items_at name b) sections_seen all) (at n (Sign (is_negative term.1)) ∷ at n (Number (size_of term.1)) ∷ at n (Name term.0) ∷ []) (term_declared name (term.0, value))
+        (point_at (InObjective name) sections_seen (with_declarations all (term_declared name (term.0, value))))
 
-    by : (b : Bool) → refusals_in_turn all (term_declared name (term.0, signed (is_negative term.1) (size_of term.1))) ≡ [] → From b (signed (is_negative term.1) (size_of term.1))
-    by true k = term-walks opened all name n (is_negative term.1) (size_of term.1) term.0 k
-    by false k = first-term-walks opened all name n (is_negative term.1) (size_of term.1) term.0 k
+    by : (b : Bool) → refusals_in_turn all (term_declared name (term.0, apply_sign (is_negative term.1) (size_of term.1))) ≡ [] → From b (apply_sign (is_negative term.1) (size_of term.1))
+    by true k = term-walks sections_seen all name n (is_negative term.1) (size_of term.1) term.0 k
+    by false k = first-term-walks sections_seen all name n (is_negative term.1) (size_of term.1) term.0 k
 
 abbrev pub after_terms : Bool → List Term → Bool
 after_terms started [] = started
 after_terms started (term ∷ terms) = after_terms true terms
 
 -- the terms of the objective
-pub objective-terms-walk : (started : Bool) (opened : Opened) (all : Draft) (name : List ℕ) (n : ℕ) (terms : List Term) → Each IsTerm terms → refusals_in_turn all (terms_declared name terms) ≡ []
-    → Walks (point_at (items_at name started) opened all) (all_terminals n (map term_line terms)) (terms_declared name terms)
-    (point_at (items_at name (after_terms started terms)) opened (adding_all all (terms_declared name terms)))
-objective-terms-walk started opened all name n [] good h = walks-none (point_at (items_at name started) opened all)
-objective-terms-walk started opened all name n (term ∷ terms) good h =
+pub objective-terms-walk : (started : Bool) (sections_seen : SectionsSeen) (all : Draft) (name : List ℕ) (n : ℕ) (terms : List Term) → Each IsTerm terms → refusals_in_turn all (terms_declared name terms) ≡ []
+    → Walks (point_at (items_at name started) sections_seen all) (all_terminals n (map term_line terms)) (terms_declared name terms)
+    (point_at (items_at name (after_terms started terms)) sections_seen (with_declarations all (terms_declared name terms)))
+objective-terms-walk started sections_seen all name n [] good h = walks-none (point_at (items_at name started) sections_seen all)
+objective-terms-walk started sections_seen all name n (term ∷ terms) good h =
     let parts = parts-taken all (term_declared name term) (terms_declared name terms) h in
-    parts-walk (items_at name started) (InObjective name) (items_at name (after_terms true terms)) opened opened opened all
+    parts-walk (items_at name started) (InObjective name) (items_at name (after_terms true terms)) sections_seen sections_seen sections_seen all
     (line_terminals_in n (term_line term)) (all_terminals (n + 1) (map term_line terms)) (term_declared name term) (terms_declared name terms)
-    (one-term started opened all name n term good.0 parts.0)
-    (objective-terms-walk true opened (adding_all all (term_declared name term)) name (n + 1) terms good.1 parts.1)
+    (one-term started sections_seen all name n term good.0 parts.0)
+    (objective-terms-walk true sections_seen (with_declarations all (term_declared name term)) name (n + 1) terms good.1 parts.1)
 
 -- ---- the constant, and `Subject To`
 
@@ -112,43 +112,43 @@ constant_declared value = if is_zero value then [] else declare_constant value �
 abbrev pub subject_heading : PrintedLine
 subject_heading = heading (codes "Subject" ∷ codes "To" ∷ [])
 
-some-constant : (started : Bool) (opened : Opened) (all : Draft) (name : List ℕ) (n : ℕ) (value : Decimal) → refusals_in_turn all (declare_constant value ∷ []) ≡ [] → section_fault opened sections.Rows ≡ None
-    → Walks (point_at (items_at name started) opened all)
+some-constant : (started : Bool) (sections_seen : SectionsSeen) (all : Draft) (name : List ℕ) (n : ℕ) (value : Decimal) → refusals_in_turn all (declare_constant value ∷ []) ≡ [] → section_fault sections_seen sections.Rows ≡ None
+    → Walks (point_at (items_at name started) sections_seen all)
     (at n (Sign (is_negative value)) ∷ at n (Number (size_of value)) ∷ at (n + 1) (Opens section_words.Subject) ∷ at (n + 1) (Name (codes "To")) ∷ [])
-    (declare_constant value ∷ []) (point_at BetweenRows (opened_with opened sections.Rows) (adding_all all (declare_constant value ∷ [])))
-some-constant started opened all name n value h fault =
+    (declare_constant value ∷ []) (point_at BetweenRows (with_section sections_seen sections.Rows) (with_declarations all (declare_constant value ∷ [])))
+some-constant started sections_seen all name n value h fault =
     subst (λ (v : Decimal). refusals_in_turn all (declare_constant v ∷ []) ≡ [] → From started v) (signed-value value) (by started) h
   where
     From : Bool → Decimal → Type 0
-    From b v = Walks (point_at (items_at name b) opened all)
+    From b v = Walks (point_at (items_at name b) sections_seen all)
         (at n (Sign (is_negative value)) ∷ at n (Number (size_of value)) ∷ at (n + 1) (Opens section_words.Subject) ∷ at (n + 1) (Name (codes "To")) ∷ [])
-        (declare_constant v ∷ []) (point_at BetweenRows (opened_with opened sections.Rows) (adding_all all (declare_constant v ∷ [])))
+        (declare_constant v ∷ []) (point_at BetweenRows (with_section sections_seen sections.Rows) (with_declarations all (declare_constant v ∷ [])))
 
-    by : (b : Bool) → refusals_in_turn all (declare_constant (signed (is_negative value) (size_of value)) ∷ []) ≡ [] → From b (signed (is_negative value) (size_of value))
-    by b k = constant-walks b opened all name n (n + 1) (is_negative value) (size_of value) k fault
+    by : (b : Bool) → refusals_in_turn all (declare_constant (apply_sign (is_negative value) (size_of value)) ∷ []) ≡ [] → From b (apply_sign (is_negative value) (size_of value))
+    by b k = constant-walks b sections_seen all name n (n + 1) (is_negative value) (size_of value) k fault
 
 may-begin : (name : List ℕ) (started : Bool) → may_begin_section (items_at name started) ≡ true
 may-begin name true = refl
 may-begin name false = refl
 
-pub constant-walk : (started : Bool) (opened : Opened) (all : Draft) (name : List ℕ) (n : ℕ) (value : Decimal) → refusals_in_turn all (constant_declared value) ≡ [] → section_fault opened sections.Rows ≡ None
-    → Walks (point_at (items_at name started) opened all) (all_terminals n (constant_lines value ++ subject_heading ∷ [])) (constant_declared value)
-    (point_at BetweenRows (opened_with opened sections.Rows) (adding_all all (constant_declared value)))
-constant-walk started opened all name n value h fault = by (is_zero value) h
+pub constant-walk : (started : Bool) (sections_seen : SectionsSeen) (all : Draft) (name : List ℕ) (n : ℕ) (value : Decimal) → refusals_in_turn all (constant_declared value) ≡ [] → section_fault sections_seen sections.Rows ≡ None
+    → Walks (point_at (items_at name started) sections_seen all) (all_terminals n (constant_lines value ++ subject_heading ∷ [])) (constant_declared value)
+    (point_at BetweenRows (with_section sections_seen sections.Rows) (with_declarations all (constant_declared value)))
+constant-walk started sections_seen all name n value h fault = by (is_zero value) h
   where
     by : (b : Bool) → refusals_in_turn all (if b then [] else declare_constant value ∷ []) ≡ []
-        → Walks (point_at (items_at name started) opened all) (all_terminals n ((if b then [] else long_line (signed_pieces value) ∷ []) ++ subject_heading ∷ [])) (if b then [] else declare_constant value ∷ [])
-        (point_at BetweenRows (opened_with opened sections.Rows) (adding_all all (if b then [] else declare_constant value ∷ [])))
-    by true k = subject-walks (items_at name started) opened all n (may-begin name started) fault
-    by false k = some-constant started opened all name n value k fault
+        → Walks (point_at (items_at name started) sections_seen all) (all_terminals n ((if b then [] else long_line (signed_lexemes value) ∷ []) ++ subject_heading ∷ [])) (if b then [] else declare_constant value ∷ [])
+        (point_at BetweenRows (with_section sections_seen sections.Rows) (with_declarations all (if b then [] else declare_constant value ∷ [])))
+    by true k = subject-walks (items_at name started) sections_seen all n (may-begin name started) fault
+    by false k = some-constant started sections_seen all name n value k fault
 
 -- ---- the whole section, from the start on
 
 abbrev pub objective_made : Listing → Declarations
 objective_made m = objective_declared m.sense m.objective ++ (terms_declared m.objective (objective_terms m) ++ constant_declared m.constant)
 
-abbrev pub in_rows : Opened
-in_rows = opened_with (opened_with none_opened sections.Objective) sections.Rows
+abbrev pub in_rows : SectionsSeen
+in_rows = with_section (with_section no_section_seen sections.Objective) sections.Rows
 
 begin-terminals : (sense : Sense) (name : List ℕ) → all_terminals 1 (heading (sense_word sense ∷ []) ∷ label_line name ∷ [])
     ≡ at 1 (Opens (sense_opens sense)) ∷ at 2 (Name name) ∷ at 2 Colon ∷ []
@@ -156,27 +156,27 @@ begin-terminals Minimize name = refl
 begin-terminals Maximize name = refl
 
 pub objective-walk : (m : Listing) → IsFit m → refusals_in_turn empty_draft (objective_made m) ≡ []
-    → Walks start (all_terminals 1 (objective_section m ++ subject_heading ∷ [])) (objective_made m) (point_at BetweenRows in_rows (adding_all empty_draft (objective_made m)))
+    → Walks start (all_terminals 1 (objective_section m ++ subject_heading ∷ [])) (objective_made m) (point_at BetweenRows in_rows (with_declarations empty_draft (objective_made m)))
 objective-walk m fit h =
-    let opened : Opened = opened_with none_opened sections.Objective in
+    let sections_seen : SectionsSeen = with_section no_section_seen sections.Objective in
     let begun = objective_declared m.sense m.objective in
     let terms = terms_declared m.objective (objective_terms m) in
     let constant = constant_declared m.constant in
     let parts = parts-taken empty_draft begun (terms ++ constant) h in
-    let later = parts-taken (adding_all empty_draft begun) terms constant parts.1 in
+    let later = parts-taken (with_declarations empty_draft begun) terms constant parts.1 in
     let first : Lines = heading (sense_word m.sense ∷ []) ∷ label_line m.objective ∷ [] in
     let lines : Lines = map term_line (objective_terms m) in
     let ending : Lines = constant_lines m.constant ++ subject_heading ∷ [] in
-    subst (λ (tokens : List TerminalAt). Walks start tokens (objective_made m) (point_at BetweenRows in_rows (adding_all empty_draft (objective_made m))))
+    subst (λ (tokens : List TerminalAt). Walks start tokens (objective_made m) (point_at BetweenRows in_rows (with_declarations empty_draft (objective_made m))))
     (sym (ap (λ (more : Lines). all_terminals 1 (first ++ more)) (append_assoc lines (constant_lines m.constant) (subject_heading ∷ []))
     ∙ terminals-append 1 first (lines ++ ending)
     ∙ (λ i. begin-terminals m.sense m.objective i ++ terminals-append 3 lines ending i)))
-    (parts-walk AtStart (BeforeItems m.objective) BetweenRows none_opened opened in_rows empty_draft
+    (parts-walk AtStart (BeforeItems m.objective) BetweenRows no_section_seen sections_seen in_rows empty_draft
     (at 1 (Opens (sense_opens m.sense)) ∷ at 2 (Name m.objective) ∷ at 2 Colon ∷ [])
     (all_terminals 3 lines ++ all_terminals (number_after 3 lines) ending)
     begun (terms ++ constant)
     (start-walks 1 2 m.sense m.objective)
-    (parts-walk (BeforeItems m.objective) (items_at m.objective (after_terms false (objective_terms m))) BetweenRows opened opened in_rows (adding_all empty_draft begun)
+    (parts-walk (BeforeItems m.objective) (items_at m.objective (after_terms false (objective_terms m))) BetweenRows sections_seen sections_seen in_rows (with_declarations empty_draft begun)
     (all_terminals 3 lines) (all_terminals (number_after 3 lines) ending) terms constant
-    (objective-terms-walk false opened (adding_all empty_draft begun) m.objective 3 (objective_terms m) (objective-fits m fit) later.0)
-    (constant-walk (after_terms false (objective_terms m)) opened (adding_all (adding_all empty_draft begun) terms) m.objective (number_after 3 lines) m.constant later.1 refl)))
+    (objective-terms-walk false sections_seen (with_declarations empty_draft begun) m.objective 3 (objective_terms m) (objective-fits m fit) later.0)
+    (constant-walk (after_terms false (objective_terms m)) sections_seen (with_declarations (with_declarations empty_draft begun) terms) m.objective (number_after 3 lines) m.constant later.1 refl)))

@@ -4,8 +4,8 @@ use Rattle.std.specs.Prelude.{Option, Some, None, codes, if◌then◌else◌}
 use Rattle.std.specs.List.{list_any}
 use Rattle.mpslp_decimal.specs.Decimal.{Number as Decimal}
 use Rattle.mpslp_types.specs.Name.{same_bytes}
-use Rattle.mpslp_types.specs.Sides.{limit_of}
-use Rattle.mpslp_builder.specs.Declaration.{Draft, empty_draft, Declarations, declare_column, declare_integer, declare_constant, bounds_declared, adding_all, declare_semi}
+use Rattle.mpslp_types.specs.Limit.{limit_of}
+use Rattle.mpslp_builder.specs.Declaration.{Draft, empty_draft, Declarations, declare_column, declare_integer, declare_constant, bounds_declared, with_declarations, declare_semi}
 use Rattle.mpslp_builder.specs.Refusal.{refusals_in_turn, bounds_refusals}
 use Rattle.mpslp_types.specs.declared.faults.BuildFault.{BuildFault}
 use Rattle.mpslp_types.specs.declared.faults.Fault.{Fault}
@@ -18,18 +18,18 @@ use Rattle.mpslp_types.specs.declared.kinds.Limit.TheVariants.{MinusInf}
 use Rattle.mpslp_lp.specs.Terminal.{TerminalAt}
 use Rattle.mpslp_lp.specs.Terminal.Terminal.{Opens, Name, Number, Sign, Compares, Colon, Infinity, Free}
 use Rattle.mpslp_lp.specs.Words.{section_of}
-use Rattle.mpslp_lp.specs.Rules.{Reading, passing, ◌>>=◌, Outcome, phrases, made_by}
-use Rattle.mpslp_lp.specs.Rules.Reading.{Reads, Refuses, Unfinished}
-use Rattle.mpslp_lp.specs.Rules.Step.{Goes, Ends}
+use Rattle.mpslp_lp.specs.Rules.{Parsed, after_taking, ◌>>=◌, Outcome, phrases, made_by}
+use Rattle.mpslp_lp.specs.Rules.Parsed.{Reads, Refuses, Unfinished}
+use Rattle.mpslp_lp.specs.Rules.AfterPhrase.{Goes, Ends}
 use Rattle.mpslp_lp.specs.Rules.Outcome.{Finished, Refused, Open}
-use Rattle.mpslp_lp.specs.Point.{none_opened, opened_with, section_fault, Point, start}
-use Rattle.mpslp_lp.specs.declared.opened.Opened.{Opened}
-use Rattle.mpslp_lp.specs.declared.before.Before.{Before}
+use Rattle.mpslp_lp.specs.Point.{no_section_seen, with_section, section_fault, Point, start}
+use Rattle.mpslp_lp.specs.declared.sections_seen.SectionsSeen.{SectionsSeen}
+use Rattle.mpslp_lp.specs.declared.context.Context.{Context}
 use Rattle.mpslp_lp.specs.PartialRow.{PartialRow}
 use Rattle.mpslp_lp.specs.declared.states.Place.{Place}
 use Rattle.mpslp_lp.specs.declared.states.Place.TheVariants.{BeforeItems, InObjective, BetweenRows, InRow, InBounds, InGenerals, InSemis}
-use Rattle.mpslp_lp.specs.Phrase.{Rule, fails, refuses, Follows, goes_to, unless_refused}
-use Rattle.mpslp_lp.specs.Sides.{signed, side, Limits, limits_by, turned}
+use Rattle.mpslp_lp.specs.Phrase.{PhraseRule, fails, refuses, Follows, goes_to, unless_refused}
+use Rattle.mpslp_lp.specs.Sides.{apply_sign, side, Limits, limits_by, flip}
 use Rattle.mpslp_lp.specs.Objective.{term_declared, objective_declared}
 use Rattle.mpslp_lp.specs.Rows.{fits_left, row_limits, row_declared, row_whole}
 use Rattle.mpslp_lp.specs.Bounds.{no_limits}
@@ -66,7 +66,7 @@ walks-one from token tokens made to h =
       makes = λ rest. ap (makes rest) (h rest) ∙ ap (λ (more : Declarations). made ++ more) (makes-past to tokens rest);
     }
   where
-    says : Tokens → Reading Fault Follows → Outcome Fault Draft
+    says : Tokens → Parsed Fault Follows → Outcome Fault Draft
     says rest reading = elim reading as (λ _. Outcome Fault Draft) [
       | Reads (Goes after found) more ↦ phrases phrase_at after more (tokens ++ rest)
       | Reads (Ends whole) more ↦ Finished whole
@@ -74,7 +74,7 @@ walks-one from token tokens made to h =
       | Unfinished ↦ Open
     ]
 
-    makes : Tokens → Reading Fault Follows → Declarations
+    makes : Tokens → Parsed Fault Follows → Declarations
     makes rest reading = elim reading as (λ _. Declarations) [
       | Reads (Goes after found) more ↦ found ++ made_by phrase_at after more (tokens ++ rest)
       | Reads (Ends whole) more ↦ []
@@ -96,10 +96,10 @@ walks-then from between to xs ys made more h k =
     }
 
 -- one phrase that looks at what follows it, and what follows
-pub walks-before : (from between to : Point) (token : TerminalAt) (tokens ys : Tokens) (made more : Declarations)
+pub walks-context : (from between to : Point) (token : TerminalAt) (tokens ys : Tokens) (made more : Declarations)
     → ((rest : Tokens) → phrase_at from token (tokens ++ (ys ++ rest)) ≡ Reads (Goes between made) (length tokens)) → Walks between ys more to
     → Walks from ((token ∷ tokens) ++ ys) (made ++ more) to
-walks-before from between to token tokens ys made more h k =
+walks-context from between to token tokens ys made more h k =
     record {
       says = λ rest. ap (phrases phrase_at from 0) (append_assoc (token ∷ tokens) ys rest) ∙ ap (says rest) (h rest) ∙ says-past between tokens (ys ++ rest) ∙ k.says rest;
       makes = λ rest.
@@ -107,7 +107,7 @@ walks-before from between to token tokens ys made more h k =
           ∙ ap (λ (later : Declarations). made ++ later) (makes-past between tokens (ys ++ rest) ∙ k.makes rest) ∙ sym (append_assoc made more (made_by phrase_at to 0 rest));
     }
   where
-    says : Tokens → Reading Fault Follows → Outcome Fault Draft
+    says : Tokens → Parsed Fault Follows → Outcome Fault Draft
     says rest reading = elim reading as (λ _. Outcome Fault Draft) [
       | Reads (Goes after found) taken ↦ phrases phrase_at after taken (tokens ++ (ys ++ rest))
       | Reads (Ends whole) taken ↦ Finished whole
@@ -115,7 +115,7 @@ walks-before from between to token tokens ys made more h k =
       | Unfinished ↦ Open
     ]
 
-    makes : Tokens → Reading Fault Follows → Declarations
+    makes : Tokens → Parsed Fault Follows → Declarations
     makes rest reading = elim reading as (λ _. Declarations) [
       | Reads (Goes after found) taken ↦ found ++ made_by phrase_at after taken (tokens ++ (ys ++ rest))
       | Reads (Ends whole) taken ↦ []
@@ -125,8 +125,8 @@ walks-before from between to token tokens ys made more h k =
 
 -- ---- points
 
-abbrev pub point_at : Place → Opened → Draft → Point
-point_at place opened all = record { place = place; before = record { opened = opened; earlier = all } }
+abbrev pub point_at : Place → SectionsSeen → Draft → Point
+point_at place sections_seen all = record { place = place; context = record { sections_seen = sections_seen; earlier = all } }
 
 -- ---- the objective
 
@@ -136,152 +136,152 @@ sense_opens Maximize = section_words.Maximize
 
 pub start-walks : (n k : ℕ) (sense : Sense) (name : List ℕ)
     → Walks start (at n (Opens (sense_opens sense)) ∷ at k (Name name) ∷ at k Colon ∷ []) (objective_declared sense name)
-    (point_at (BeforeItems name) (opened_with none_opened sections.Objective) (adding_all empty_draft (objective_declared sense name)))
+    (point_at (BeforeItems name) (with_section no_section_seen sections.Objective) (with_declarations empty_draft (objective_declared sense name)))
 start-walks n k Minimize name = walks-one start (at n (Opens section_words.Minimize)) (at k (Name name) ∷ at k Colon ∷ []) _ _ (λ rest. refl)
 start-walks n k Maximize name = walks-one start (at n (Opens section_words.Maximize)) (at k (Name name) ∷ at k Colon ∷ []) _ _ (λ rest. refl)
 
 -- the first term, and each further one
-pub first-term-walks : (opened : Opened) (all : Draft) (name : List ℕ) (n : ℕ) (minus : Bool) (size : Decimal) (column : List ℕ)
-    → refusals_in_turn all (term_declared name (column, signed minus size)) ≡ []
-    → Walks (point_at (BeforeItems name) opened all) (at n (Sign minus) ∷ at n (Number size) ∷ at n (Name column) ∷ []) (term_declared name (column, signed minus size))
-    (point_at (InObjective name) opened (adding_all all (term_declared name (column, signed minus size))))
-first-term-walks opened all name n minus size column h =
-    walks-one (point_at (BeforeItems name) opened all) (at n (Sign minus)) (at n (Number size) ∷ at n (Name column) ∷ []) _ _
-    (λ rest. ap (λ (refused : List BuildFault). passing 2 (unless_refused (record { opened = opened; earlier = all }) (at n (Name column)) refused (InObjective name) (term_declared name (column, signed minus size)) rest)) h)
+pub first-term-walks : (sections_seen : SectionsSeen) (all : Draft) (name : List ℕ) (n : ℕ) (minus : Bool) (size : Decimal) (column : List ℕ)
+    → refusals_in_turn all (term_declared name (column, apply_sign minus size)) ≡ []
+    → Walks (point_at (BeforeItems name) sections_seen all) (at n (Sign minus) ∷ at n (Number size) ∷ at n (Name column) ∷ []) (term_declared name (column, apply_sign minus size))
+    (point_at (InObjective name) sections_seen (with_declarations all (term_declared name (column, apply_sign minus size))))
+first-term-walks sections_seen all name n minus size column h =
+    walks-one (point_at (BeforeItems name) sections_seen all) (at n (Sign minus)) (at n (Number size) ∷ at n (Name column) ∷ []) _ _
+    (λ rest. ap (λ (refused : List BuildFault). after_taking 2 (unless_refused (record { sections_seen = sections_seen; earlier = all }) (at n (Name column)) refused (InObjective name) (term_declared name (column, apply_sign minus size)) rest)) h)
 
-pub term-walks : (opened : Opened) (all : Draft) (name : List ℕ) (n : ℕ) (minus : Bool) (size : Decimal) (column : List ℕ)
-    → refusals_in_turn all (term_declared name (column, signed minus size)) ≡ []
-    → Walks (point_at (InObjective name) opened all) (at n (Sign minus) ∷ at n (Number size) ∷ at n (Name column) ∷ []) (term_declared name (column, signed minus size))
-    (point_at (InObjective name) opened (adding_all all (term_declared name (column, signed minus size))))
-term-walks opened all name n minus size column h =
-    walks-one (point_at (InObjective name) opened all) (at n (Sign minus)) (at n (Number size) ∷ at n (Name column) ∷ []) _ _
-    (λ rest. ap (λ (refused : List BuildFault). passing 2 (unless_refused (record { opened = opened; earlier = all }) (at n (Name column)) refused (InObjective name) (term_declared name (column, signed minus size)) rest)) h)
+pub term-walks : (sections_seen : SectionsSeen) (all : Draft) (name : List ℕ) (n : ℕ) (minus : Bool) (size : Decimal) (column : List ℕ)
+    → refusals_in_turn all (term_declared name (column, apply_sign minus size)) ≡ []
+    → Walks (point_at (InObjective name) sections_seen all) (at n (Sign minus) ∷ at n (Number size) ∷ at n (Name column) ∷ []) (term_declared name (column, apply_sign minus size))
+    (point_at (InObjective name) sections_seen (with_declarations all (term_declared name (column, apply_sign minus size))))
+term-walks sections_seen all name n minus size column h =
+    walks-one (point_at (InObjective name) sections_seen all) (at n (Sign minus)) (at n (Number size) ∷ at n (Name column) ∷ []) _ _
+    (λ rest. ap (λ (refused : List BuildFault). after_taking 2 (unless_refused (record { sections_seen = sections_seen; earlier = all }) (at n (Name column)) refused (InObjective name) (term_declared name (column, apply_sign minus size)) rest)) h)
 
 -- ---- rows
 
 -- a label and the first term
-pub row-walks : (opened : Opened) (all : Draft) (name : List ℕ) (k n : ℕ) (minus : Bool) (size : Decimal) (column : List ℕ)
-    → Walks (point_at BetweenRows opened all) (at k (Name name) ∷ at k Colon ∷ at n (Sign minus) ∷ at n (Number size) ∷ at n (Name column) ∷ []) []
-    (point_at (InRow (record { name = name; left = None; terms = (column, signed minus size) ∷ [] })) opened all)
-row-walks opened all name k n minus size column =
-    walks-one (point_at BetweenRows opened all) (at k (Name name)) (at k Colon ∷ at n (Sign minus) ∷ at n (Number size) ∷ at n (Name column) ∷ []) _ _ (λ rest. refl)
+pub row-walks : (sections_seen : SectionsSeen) (all : Draft) (name : List ℕ) (k n : ℕ) (minus : Bool) (size : Decimal) (column : List ℕ)
+    → Walks (point_at BetweenRows sections_seen all) (at k (Name name) ∷ at k Colon ∷ at n (Sign minus) ∷ at n (Number size) ∷ at n (Name column) ∷ []) []
+    (point_at (InRow (record { name = name; left = None; terms = (column, apply_sign minus size) ∷ [] })) sections_seen all)
+row-walks sections_seen all name k n minus size column =
+    walks-one (point_at BetweenRows sections_seen all) (at k (Name name)) (at k Colon ∷ at n (Sign minus) ∷ at n (Number size) ∷ at n (Name column) ∷ []) _ _ (λ rest. refl)
 
 -- a label, a limit left of the terms, and the first term
-pub left-row-walks : (opened : Opened) (all : Draft) (name : List ℕ) (k j n : ℕ) (value : Decimal) (relation : Relation) (minus : Bool) (size : Decimal) (column : List ℕ)
-    → Walks (point_at BetweenRows opened all)
+pub left-row-walks : (sections_seen : SectionsSeen) (all : Draft) (name : List ℕ) (k j n : ℕ) (value : Decimal) (relation : Relation) (minus : Bool) (size : Decimal) (column : List ℕ)
+    → Walks (point_at BetweenRows sections_seen all)
     (at k (Name name) ∷ at k Colon ∷ at j (Number value) ∷ at j (Compares relation) ∷ at n (Sign minus) ∷ at n (Number size) ∷ at n (Name column) ∷ []) []
-    (point_at (InRow (record { name = name; left = Some (limit_of value, relation); terms = (column, signed minus size) ∷ [] })) opened all)
-left-row-walks opened all name k j n value relation minus size column =
-    walks-one (point_at BetweenRows opened all) (at k (Name name))
+    (point_at (InRow (record { name = name; left = Some (limit_of value, relation); terms = (column, apply_sign minus size) ∷ [] })) sections_seen all)
+left-row-walks sections_seen all name k j n value relation minus size column =
+    walks-one (point_at BetweenRows sections_seen all) (at k (Name name))
     (at k Colon ∷ at j (Number value) ∷ at j (Compares relation) ∷ at n (Sign minus) ∷ at n (Number size) ∷ at n (Name column) ∷ []) _ _ (λ rest. refl)
 
 -- the same with a sign before the limit
-pub signed-row-walks : (opened : Opened) (all : Draft) (name : List ℕ) (k j n : ℕ) (below : Bool) (value : Decimal) (relation : Relation) (minus : Bool) (size : Decimal) (column : List ℕ)
-    → Walks (point_at BetweenRows opened all)
+pub signed-row-walks : (sections_seen : SectionsSeen) (all : Draft) (name : List ℕ) (k j n : ℕ) (below : Bool) (value : Decimal) (relation : Relation) (minus : Bool) (size : Decimal) (column : List ℕ)
+    → Walks (point_at BetweenRows sections_seen all)
     (at k (Name name) ∷ at k Colon ∷ at j (Sign below) ∷ at j (Number value) ∷ at j (Compares relation) ∷ at n (Sign minus) ∷ at n (Number size) ∷ at n (Name column) ∷ []) []
-    (point_at (InRow (record { name = name; left = Some (limit_of (signed below value), relation); terms = (column, signed minus size) ∷ [] })) opened all)
-signed-row-walks opened all name k j n below value relation minus size column =
-    walks-one (point_at BetweenRows opened all) (at k (Name name))
+    (point_at (InRow (record { name = name; left = Some (limit_of (apply_sign below value), relation); terms = (column, apply_sign minus size) ∷ [] })) sections_seen all)
+signed-row-walks sections_seen all name k j n below value relation minus size column =
+    walks-one (point_at BetweenRows sections_seen all) (at k (Name name))
     (at k Colon ∷ at j (Sign below) ∷ at j (Number value) ∷ at j (Compares relation) ∷ at n (Sign minus) ∷ at n (Number size) ∷ at n (Name column) ∷ []) _ _ (λ rest. refl)
 
 -- a further term, whose column is new in the row
-pub row-term-walks : (opened : Opened) (all : Draft) (row : PartialRow) (n : ℕ) (minus : Bool) (size : Decimal) (column : List ℕ)
+pub row-term-walks : (sections_seen : SectionsSeen) (all : Draft) (row : PartialRow) (n : ℕ) (minus : Bool) (size : Decimal) (column : List ℕ)
     → list_any (λ (term : List ℕ × Decimal). same_bytes column term.0) row.terms ≡ false
-    → Walks (point_at (InRow row) opened all) (at n (Sign minus) ∷ at n (Number size) ∷ at n (Name column) ∷ []) []
-    (point_at (InRow (record row { terms = row.terms ++ (column, signed minus size) ∷ [] })) opened all)
-row-term-walks opened all row n minus size column h =
-    let before : Before = record { opened = opened; earlier = all } in
-    walks-one (point_at (InRow row) opened all) (at n (Sign minus)) (at n (Number size) ∷ at n (Name column) ∷ []) _ _
-    (λ rest. ap (λ (twice : Bool). passing 2 ((if twice then refuses before (at n (Name column)) DuplicateEntry
-    else goes_to before (InRow (record row { terms = row.terms ++ (column, signed minus size) ∷ [] })) []) rest)) h)
+    → Walks (point_at (InRow row) sections_seen all) (at n (Sign minus) ∷ at n (Number size) ∷ at n (Name column) ∷ []) []
+    (point_at (InRow (record row { terms = row.terms ++ (column, apply_sign minus size) ∷ [] })) sections_seen all)
+row-term-walks sections_seen all row n minus size column h =
+    let context : Context = record { sections_seen = sections_seen; earlier = all } in
+    walks-one (point_at (InRow row) sections_seen all) (at n (Sign minus)) (at n (Number size) ∷ at n (Name column) ∷ []) _ _
+    (λ rest. ap (λ (twice : Bool). after_taking 2 ((if twice then refuses context (at n (Name column)) DuplicateEntry
+    else goes_to context (InRow (record row { terms = row.terms ++ (column, apply_sign minus size) ∷ [] })) []) rest)) h)
 
 -- what a row declares that ends by this sense and this limit
 abbrev pub ended_by : PartialRow → Relation → Limit → Declarations
 ended_by row relation limit = row_declared row (row_limits row.left relation limit)
 
 -- a sense and a limit right of the terms
-pub row-end-walks : (opened : Opened) (all : Draft) (row : PartialRow) (n : ℕ) (relation : Relation) (value : Decimal)
+pub row-end-walks : (sections_seen : SectionsSeen) (all : Draft) (row : PartialRow) (n : ℕ) (relation : Relation) (value : Decimal)
     → fits_left row.left relation ≡ true → refusals_in_turn all (ended_by row relation (limit_of value)) ≡ []
-    → Walks (point_at (InRow row) opened all) (at n (Compares relation) ∷ at n (Number value) ∷ []) (ended_by row relation (limit_of value))
-    (point_at BetweenRows opened (adding_all all (ended_by row relation (limit_of value))))
-row-end-walks opened all row n relation value fits h =
-    let before : Before = record { opened = opened; earlier = all } in
-    walks-one (point_at (InRow row) opened all) (at n (Compares relation)) (at n (Number value) ∷ []) _ _
-    (λ rest. ap (λ (b : Bool). (if b then (side before >>= row_whole before row relation) else refuses before (at n (Compares relation)) MixedSenses) (at n (Number value) ∷ rest)) fits
-    ∙ ap (λ (refused : List BuildFault). passing 1 (unless_refused before (at n (Number value)) refused BetweenRows (ended_by row relation (limit_of value)) rest)) h)
+    → Walks (point_at (InRow row) sections_seen all) (at n (Compares relation) ∷ at n (Number value) ∷ []) (ended_by row relation (limit_of value))
+    (point_at BetweenRows sections_seen (with_declarations all (ended_by row relation (limit_of value))))
+row-end-walks sections_seen all row n relation value fits h =
+    let context : Context = record { sections_seen = sections_seen; earlier = all } in
+    walks-one (point_at (InRow row) sections_seen all) (at n (Compares relation)) (at n (Number value) ∷ []) _ _
+    (λ rest. ap (λ (b : Bool). (if b then (side context >>= row_whole context row relation) else refuses context (at n (Compares relation)) MixedSenses) (at n (Number value) ∷ rest)) fits
+    ∙ ap (λ (refused : List BuildFault). after_taking 1 (unless_refused context (at n (Number value)) refused BetweenRows (ended_by row relation (limit_of value)) rest)) h)
 
 -- the same with a sign before the limit
-pub signed-end-walks : (opened : Opened) (all : Draft) (row : PartialRow) (n : ℕ) (relation : Relation) (below : Bool) (value : Decimal)
-    → fits_left row.left relation ≡ true → refusals_in_turn all (ended_by row relation (limit_of (signed below value))) ≡ []
-    → Walks (point_at (InRow row) opened all) (at n (Compares relation) ∷ at n (Sign below) ∷ at n (Number value) ∷ []) (ended_by row relation (limit_of (signed below value)))
-    (point_at BetweenRows opened (adding_all all (ended_by row relation (limit_of (signed below value)))))
-signed-end-walks opened all row n relation below value fits h =
-    let before : Before = record { opened = opened; earlier = all } in
-    walks-one (point_at (InRow row) opened all) (at n (Compares relation)) (at n (Sign below) ∷ at n (Number value) ∷ []) _ _
-    (λ rest. ap (λ (b : Bool). (if b then (side before >>= row_whole before row relation) else refuses before (at n (Compares relation)) MixedSenses) (at n (Sign below) ∷ at n (Number value) ∷ rest)) fits
-    ∙ ap (λ (refused : List BuildFault). passing 2 (unless_refused before (at n (Number value)) refused BetweenRows (ended_by row relation (limit_of (signed below value))) rest)) h)
+pub signed-end-walks : (sections_seen : SectionsSeen) (all : Draft) (row : PartialRow) (n : ℕ) (relation : Relation) (below : Bool) (value : Decimal)
+    → fits_left row.left relation ≡ true → refusals_in_turn all (ended_by row relation (limit_of (apply_sign below value))) ≡ []
+    → Walks (point_at (InRow row) sections_seen all) (at n (Compares relation) ∷ at n (Sign below) ∷ at n (Number value) ∷ []) (ended_by row relation (limit_of (apply_sign below value)))
+    (point_at BetweenRows sections_seen (with_declarations all (ended_by row relation (limit_of (apply_sign below value)))))
+signed-end-walks sections_seen all row n relation below value fits h =
+    let context : Context = record { sections_seen = sections_seen; earlier = all } in
+    walks-one (point_at (InRow row) sections_seen all) (at n (Compares relation)) (at n (Sign below) ∷ at n (Number value) ∷ []) _ _
+    (λ rest. ap (λ (b : Bool). (if b then (side context >>= row_whole context row relation) else refuses context (at n (Compares relation)) MixedSenses) (at n (Sign below) ∷ at n (Number value) ∷ rest)) fits
+    ∙ ap (λ (refused : List BuildFault). after_taking 2 (unless_refused context (at n (Number value)) refused BetweenRows (ended_by row relation (limit_of (apply_sign below value))) rest)) h)
 
 -- ---- sections
 
 -- a section's word, where a section may begin
-opens-section : (place : Place) (opened : Opened) (all : Draft) (n : ℕ) (word : SectionWord) (tokens : Tokens) → may_begin_section place ≡ true
-    → section_fault opened (section_of word) ≡ None
-    → phrase_at (point_at place opened all) (at n (Opens word)) tokens ≡ section_start (record { opened = opened_with opened (section_of word); earlier = all }) (at n (Opens word)) word tokens
-opens-section place opened all n word tokens may fault =
-    let before : Before = record { opened = opened; earlier = all } in
-    ap (λ (b : Bool). (if b then section_from before (at n (Opens word)) word else refuses before (at n (Opens word)) BadToken) tokens) may
-    ∙ ap (λ (o : Option FaultKind). (elim o as (λ _. Rule Follows) [
+opens-section : (place : Place) (sections_seen : SectionsSeen) (all : Draft) (n : ℕ) (word : SectionWord) (tokens : Tokens) → may_begin_section place ≡ true
+    → section_fault sections_seen (section_of word) ≡ None
+    → phrase_at (point_at place sections_seen all) (at n (Opens word)) tokens ≡ section_start (record { sections_seen = with_section sections_seen (section_of word); earlier = all }) (at n (Opens word)) word tokens
+opens-section place sections_seen all n word tokens may fault =
+    let context : Context = record { sections_seen = sections_seen; earlier = all } in
+    ap (λ (b : Bool). (if b then section_from context (at n (Opens word)) word else refuses context (at n (Opens word)) BadToken) tokens) may
+    ∙ ap (λ (o : Option FaultKind). (elim o as (λ _. PhraseRule Follows) [
       | Some kind ↦ fails (at n (Opens word)) kind
-      | None ↦ section_start (record { opened = opened_with opened (section_of word); earlier = all }) (at n (Opens word)) word
+      | None ↦ section_start (record { sections_seen = with_section sections_seen (section_of word); earlier = all }) (at n (Opens word)) word
     ]) tokens) fault
 
 -- `Subject To`
-pub subject-walks : (place : Place) (opened : Opened) (all : Draft) (n : ℕ) → may_begin_section place ≡ true → section_fault opened sections.Rows ≡ None
-    → Walks (point_at place opened all) (at n (Opens section_words.Subject) ∷ at n (Name (codes "To")) ∷ []) [] (point_at BetweenRows (opened_with opened sections.Rows) all)
-subject-walks place opened all n may fault =
-    walks-one (point_at place opened all) (at n (Opens section_words.Subject)) (at n (Name (codes "To")) ∷ []) _ _
-    (λ rest. opens-section place opened all n section_words.Subject (at n (Name (codes "To")) ∷ rest) may fault)
+pub subject-walks : (place : Place) (sections_seen : SectionsSeen) (all : Draft) (n : ℕ) → may_begin_section place ≡ true → section_fault sections_seen sections.Rows ≡ None
+    → Walks (point_at place sections_seen all) (at n (Opens section_words.Subject) ∷ at n (Name (codes "To")) ∷ []) [] (point_at BetweenRows (with_section sections_seen sections.Rows) all)
+subject-walks place sections_seen all n may fault =
+    walks-one (point_at place sections_seen all) (at n (Opens section_words.Subject)) (at n (Name (codes "To")) ∷ []) _ _
+    (λ rest. opens-section place sections_seen all n section_words.Subject (at n (Name (codes "To")) ∷ rest) may fault)
 
-pub bounds-section-walks : (place : Place) (opened : Opened) (all : Draft) (n : ℕ) → may_begin_section place ≡ true → section_fault opened sections.Bounds ≡ None
-    → Walks (point_at place opened all) (at n (Opens section_words.Bounds) ∷ []) [] (point_at (InBounds None) (opened_with opened sections.Bounds) all)
-bounds-section-walks place opened all n may fault =
-    walks-one (point_at place opened all) (at n (Opens section_words.Bounds)) [] _ _ (λ rest. opens-section place opened all n section_words.Bounds rest may fault)
+pub bounds-section-walks : (place : Place) (sections_seen : SectionsSeen) (all : Draft) (n : ℕ) → may_begin_section place ≡ true → section_fault sections_seen sections.Bounds ≡ None
+    → Walks (point_at place sections_seen all) (at n (Opens section_words.Bounds) ∷ []) [] (point_at (InBounds None) (with_section sections_seen sections.Bounds) all)
+bounds-section-walks place sections_seen all n may fault =
+    walks-one (point_at place sections_seen all) (at n (Opens section_words.Bounds)) [] _ _ (λ rest. opens-section place sections_seen all n section_words.Bounds rest may fault)
 
-pub generals-section-walks : (place : Place) (opened : Opened) (all : Draft) (n : ℕ) → may_begin_section place ≡ true → section_fault opened sections.Generals ≡ None
-    → Walks (point_at place opened all) (at n (Opens section_words.Generals) ∷ []) [] (point_at InGenerals (opened_with opened sections.Generals) all)
-generals-section-walks place opened all n may fault =
-    walks-one (point_at place opened all) (at n (Opens section_words.Generals)) [] _ _ (λ rest. opens-section place opened all n section_words.Generals rest may fault)
+pub generals-section-walks : (place : Place) (sections_seen : SectionsSeen) (all : Draft) (n : ℕ) → may_begin_section place ≡ true → section_fault sections_seen sections.Generals ≡ None
+    → Walks (point_at place sections_seen all) (at n (Opens section_words.Generals) ∷ []) [] (point_at InGenerals (with_section sections_seen sections.Generals) all)
+generals-section-walks place sections_seen all n may fault =
+    walks-one (point_at place sections_seen all) (at n (Opens section_words.Generals)) [] _ _ (λ rest. opens-section place sections_seen all n section_words.Generals rest may fault)
 
 -- `Semi-Continuous`
-pub semis-section-walks : (place : Place) (opened : Opened) (all : Draft) (n : ℕ) → may_begin_section place ≡ true → section_fault opened sections.SemiContinuous ≡ None
-    → Walks (point_at place opened all) (at n (Opens section_words.Semi) ∷ at n (Sign true) ∷ at n (Name (codes "Continuous")) ∷ []) [] (point_at InSemis (opened_with opened sections.SemiContinuous) all)
-semis-section-walks place opened all n may fault =
-    walks-one (point_at place opened all) (at n (Opens section_words.Semi)) (at n (Sign true) ∷ at n (Name (codes "Continuous")) ∷ []) _ _
-    (λ rest. opens-section place opened all n section_words.Semi (at n (Sign true) ∷ at n (Name (codes "Continuous")) ∷ rest) may fault)
+pub semis-section-walks : (place : Place) (sections_seen : SectionsSeen) (all : Draft) (n : ℕ) → may_begin_section place ≡ true → section_fault sections_seen sections.SemiContinuous ≡ None
+    → Walks (point_at place sections_seen all) (at n (Opens section_words.Semi) ∷ at n (Sign true) ∷ at n (Name (codes "Continuous")) ∷ []) [] (point_at InSemis (with_section sections_seen sections.SemiContinuous) all)
+semis-section-walks place sections_seen all n may fault =
+    walks-one (point_at place sections_seen all) (at n (Opens section_words.Semi)) (at n (Sign true) ∷ at n (Name (codes "Continuous")) ∷ []) _ _
+    (λ rest. opens-section place sections_seen all n section_words.Semi (at n (Sign true) ∷ at n (Name (codes "Continuous")) ∷ rest) may fault)
 
 -- a constant, which is told by what follows it: `Subject To`
-pub constant-walks : (started : Bool) (opened : Opened) (all : Draft) (name : List ℕ) (k n : ℕ) (minus : Bool) (size : Decimal)
-    → refusals_in_turn all (declare_constant (signed minus size) ∷ []) ≡ [] → section_fault opened sections.Rows ≡ None
-    → Walks (point_at (if started then InObjective name else BeforeItems name) opened all) (at k (Sign minus) ∷ at k (Number size) ∷ at n (Opens section_words.Subject) ∷ at n (Name (codes "To")) ∷ [])
-    (declare_constant (signed minus size) ∷ [])
-    (point_at BetweenRows (opened_with opened sections.Rows) (adding_all all (declare_constant (signed minus size) ∷ [])))
-constant-walks true opened all name k n minus size h fault =
-    walks-before (point_at (InObjective name) opened all) _ _ (at k (Sign minus)) (at k (Number size) ∷ []) (at n (Opens section_words.Subject) ∷ at n (Name (codes "To")) ∷ []) _ []
-    (λ rest. ap (λ (refused : List BuildFault). passing 1 (unless_refused (record { opened = opened; earlier = all }) (at n (Opens section_words.Subject)) refused (InObjective name) (declare_constant (signed minus size) ∷ [])
+pub constant-walks : (started : Bool) (sections_seen : SectionsSeen) (all : Draft) (name : List ℕ) (k n : ℕ) (minus : Bool) (size : Decimal)
+    → refusals_in_turn all (declare_constant (apply_sign minus size) ∷ []) ≡ [] → section_fault sections_seen sections.Rows ≡ None
+    → Walks (point_at (if started then InObjective name else BeforeItems name) sections_seen all) (at k (Sign minus) ∷ at k (Number size) ∷ at n (Opens section_words.Subject) ∷ at n (Name (codes "To")) ∷ [])
+    (declare_constant (apply_sign minus size) ∷ [])
+    (point_at BetweenRows (with_section sections_seen sections.Rows) (with_declarations all (declare_constant (apply_sign minus size) ∷ [])))
+constant-walks true sections_seen all name k n minus size h fault =
+    walks-context (point_at (InObjective name) sections_seen all) _ _ (at k (Sign minus)) (at k (Number size) ∷ []) (at n (Opens section_words.Subject) ∷ at n (Name (codes "To")) ∷ []) _ []
+    (λ rest. ap (λ (refused : List BuildFault). after_taking 1 (unless_refused (record { sections_seen = sections_seen; earlier = all }) (at n (Opens section_words.Subject)) refused (InObjective name) (declare_constant (apply_sign minus size) ∷ [])
     (at n (Opens section_words.Subject) ∷ at n (Name (codes "To")) ∷ rest))) h)
-    (subject-walks (InObjective name) opened (adding_all all (declare_constant (signed minus size) ∷ [])) n refl fault)
-constant-walks false opened all name k n minus size h fault =
-    walks-before (point_at (BeforeItems name) opened all) _ _ (at k (Sign minus)) (at k (Number size) ∷ []) (at n (Opens section_words.Subject) ∷ at n (Name (codes "To")) ∷ []) _ []
-    (λ rest. ap (λ (refused : List BuildFault). passing 1 (unless_refused (record { opened = opened; earlier = all }) (at n (Opens section_words.Subject)) refused (InObjective name) (declare_constant (signed minus size) ∷ [])
+    (subject-walks (InObjective name) sections_seen (with_declarations all (declare_constant (apply_sign minus size) ∷ [])) n refl fault)
+constant-walks false sections_seen all name k n minus size h fault =
+    walks-context (point_at (BeforeItems name) sections_seen all) _ _ (at k (Sign minus)) (at k (Number size) ∷ []) (at n (Opens section_words.Subject) ∷ at n (Name (codes "To")) ∷ []) _ []
+    (λ rest. ap (λ (refused : List BuildFault). after_taking 1 (unless_refused (record { sections_seen = sections_seen; earlier = all }) (at n (Opens section_words.Subject)) refused (InObjective name) (declare_constant (apply_sign minus size) ∷ [])
     (at n (Opens section_words.Subject) ∷ at n (Name (codes "To")) ∷ rest))) h)
-    (subject-walks (InObjective name) opened (adding_all all (declare_constant (signed minus size) ∷ [])) n refl fault)
+    (subject-walks (InObjective name) sections_seen (with_declarations all (declare_constant (apply_sign minus size) ∷ [])) n refl fault)
 
 -- the text is whole at its last word
-pub end-says : (place : Place) (opened : Opened) (all : Draft) (n : ℕ) → may_begin_section place ≡ true → section_fault opened sections.End ≡ None
-    → phrases phrase_at (point_at place opened all) 0 (at n (Opens section_words.End) ∷ []) ≡ Finished all
-end-says place opened all n may fault = ap whole (opens-section place opened all n section_words.End [] may fault)
+pub end-says : (place : Place) (sections_seen : SectionsSeen) (all : Draft) (n : ℕ) → may_begin_section place ≡ true → section_fault sections_seen sections.End ≡ None
+    → phrases phrase_at (point_at place sections_seen all) 0 (at n (Opens section_words.End) ∷ []) ≡ Finished all
+end-says place sections_seen all n may fault = ap whole (opens-section place sections_seen all n section_words.End [] may fault)
   where
-    whole : Reading Fault Follows → Outcome Fault Draft
+    whole : Parsed Fault Follows → Outcome Fault Draft
     whole reading = elim reading as (λ _. Outcome Fault Draft) [
       | Reads (Goes after found) taken ↦ phrases phrase_at after taken []
       | Reads (Ends all_of) taken ↦ Finished all_of
@@ -289,11 +289,11 @@ end-says place opened all n may fault = ap whole (opens-section place opened all
       | Unfinished ↦ Open
     ]
 
-pub end-makes : (place : Place) (opened : Opened) (all : Draft) (n : ℕ) → may_begin_section place ≡ true → section_fault opened sections.End ≡ None
-    → made_by phrase_at (point_at place opened all) 0 (at n (Opens section_words.End) ∷ []) ≡ []
-end-makes place opened all n may fault = ap made (opens-section place opened all n section_words.End [] may fault)
+pub end-makes : (place : Place) (sections_seen : SectionsSeen) (all : Draft) (n : ℕ) → may_begin_section place ≡ true → section_fault sections_seen sections.End ≡ None
+    → made_by phrase_at (point_at place sections_seen all) 0 (at n (Opens section_words.End) ∷ []) ≡ []
+end-makes place sections_seen all n may fault = ap made (opens-section place sections_seen all n section_words.End [] may fault)
   where
-    made : Reading Fault Follows → Declarations
+    made : Parsed Fault Follows → Declarations
     made reading = elim reading as (λ _. Declarations) [
       | Reads (Goes after found) taken ↦ found ++ made_by phrase_at after taken []
       | Reads (Ends all_of) taken ↦ []
@@ -309,83 +309,83 @@ column_and column limits = (declare_column column ∷ []) ++ bounds_declared col
 
 -- sides of a column that is declared with them are not refused
 abbrev pub AreTaken : Draft → List ℕ → Limits → Type 0
-AreTaken all column limits = bounds_refusals (adding_all all (declare_column column ∷ [])) column limits.lower limits.upper ≡ []
+AreTaken all column limits = bounds_refusals (with_declarations all (declare_column column ∷ [])) column limits.lower limits.upper ≡ []
 
 -- a column, a sense and a limit
-pub bound-walks : (opened : Opened) (all : Draft) (n : ℕ) (column : List ℕ) (relation : Relation) (value : Decimal) → AreTaken all column (limits_by relation (limit_of value))
-    → Walks (point_at (InBounds None) opened all) (at n (Name column) ∷ at n (Compares relation) ∷ at n (Number value) ∷ []) (column_and column (limits_by relation (limit_of value)))
-    (point_at (InBounds None) opened (adding_all all (column_and column (limits_by relation (limit_of value)))))
-bound-walks opened all n column relation value h =
-    walks-one (point_at (InBounds None) opened all) (at n (Name column)) (at n (Compares relation) ∷ at n (Number value) ∷ []) _ _
-    (λ rest. ap (λ (refused : List BuildFault). passing 1 (passing 1 (unless_refused (record { opened = opened; earlier = all }) (at n (Number value)) refused (InBounds None) (column_and column (limits_by relation (limit_of value))) rest))) h)
+pub bound-walks : (sections_seen : SectionsSeen) (all : Draft) (n : ℕ) (column : List ℕ) (relation : Relation) (value : Decimal) → AreTaken all column (limits_by relation (limit_of value))
+    → Walks (point_at (InBounds None) sections_seen all) (at n (Name column) ∷ at n (Compares relation) ∷ at n (Number value) ∷ []) (column_and column (limits_by relation (limit_of value)))
+    (point_at (InBounds None) sections_seen (with_declarations all (column_and column (limits_by relation (limit_of value)))))
+bound-walks sections_seen all n column relation value h =
+    walks-one (point_at (InBounds None) sections_seen all) (at n (Name column)) (at n (Compares relation) ∷ at n (Number value) ∷ []) _ _
+    (λ rest. ap (λ (refused : List BuildFault). after_taking 1 (after_taking 1 (unless_refused (record { sections_seen = sections_seen; earlier = all }) (at n (Number value)) refused (InBounds None) (column_and column (limits_by relation (limit_of value))) rest))) h)
 
-pub signed-bound-walks : (opened : Opened) (all : Draft) (n : ℕ) (column : List ℕ) (relation : Relation) (below : Bool) (value : Decimal) → AreTaken all column (limits_by relation (limit_of (signed below value)))
-    → Walks (point_at (InBounds None) opened all) (at n (Name column) ∷ at n (Compares relation) ∷ at n (Sign below) ∷ at n (Number value) ∷ []) (column_and column (limits_by relation (limit_of (signed below value))))
-    (point_at (InBounds None) opened (adding_all all (column_and column (limits_by relation (limit_of (signed below value))))))
-signed-bound-walks opened all n column relation below value h =
-    walks-one (point_at (InBounds None) opened all) (at n (Name column)) (at n (Compares relation) ∷ at n (Sign below) ∷ at n (Number value) ∷ []) _ _
-    (λ rest. ap (λ (refused : List BuildFault). passing 1 (passing 2 (unless_refused (record { opened = opened; earlier = all }) (at n (Number value)) refused (InBounds None) (column_and column (limits_by relation (limit_of (signed below value)))) rest))) h)
+pub signed-bound-walks : (sections_seen : SectionsSeen) (all : Draft) (n : ℕ) (column : List ℕ) (relation : Relation) (below : Bool) (value : Decimal) → AreTaken all column (limits_by relation (limit_of (apply_sign below value)))
+    → Walks (point_at (InBounds None) sections_seen all) (at n (Name column) ∷ at n (Compares relation) ∷ at n (Sign below) ∷ at n (Number value) ∷ []) (column_and column (limits_by relation (limit_of (apply_sign below value))))
+    (point_at (InBounds None) sections_seen (with_declarations all (column_and column (limits_by relation (limit_of (apply_sign below value))))))
+signed-bound-walks sections_seen all n column relation below value h =
+    walks-one (point_at (InBounds None) sections_seen all) (at n (Name column)) (at n (Compares relation) ∷ at n (Sign below) ∷ at n (Number value) ∷ []) _ _
+    (λ rest. ap (λ (refused : List BuildFault). after_taking 1 (after_taking 2 (unless_refused (record { sections_seen = sections_seen; earlier = all }) (at n (Number value)) refused (InBounds None) (column_and column (limits_by relation (limit_of (apply_sign below value)))) rest))) h)
 
 -- a column and `free`
-pub free-walks : (opened : Opened) (all : Draft) (n : ℕ) (column : List ℕ) → AreTaken all column no_limits
-    → Walks (point_at (InBounds None) opened all) (at n (Name column) ∷ at n Free ∷ []) (column_and column no_limits) (point_at (InBounds None) opened (adding_all all (column_and column no_limits)))
-free-walks opened all n column h =
-    walks-one (point_at (InBounds None) opened all) (at n (Name column)) (at n Free ∷ []) _ _
-    (λ rest. ap (λ (refused : List BuildFault). passing 1 (unless_refused (record { opened = opened; earlier = all }) (at n Free) refused (InBounds None) (column_and column no_limits) rest)) h)
+pub free-walks : (sections_seen : SectionsSeen) (all : Draft) (n : ℕ) (column : List ℕ) → AreTaken all column no_limits
+    → Walks (point_at (InBounds None) sections_seen all) (at n (Name column) ∷ at n Free ∷ []) (column_and column no_limits) (point_at (InBounds None) sections_seen (with_declarations all (column_and column no_limits)))
+free-walks sections_seen all n column h =
+    walks-one (point_at (InBounds None) sections_seen all) (at n (Name column)) (at n Free ∷ []) _ _
+    (λ rest. ap (λ (refused : List BuildFault). after_taking 1 (unless_refused (record { sections_seen = sections_seen; earlier = all }) (at n Free) refused (InBounds None) (column_and column no_limits) rest)) h)
 
 -- a limit left of a column
-pub left-bound-walks : (opened : Opened) (all : Draft) (n : ℕ) (value : Decimal) (relation : Relation) (column : List ℕ) → AreTaken all column (limits_by (turned relation) (limit_of value))
-    → Walks (point_at (InBounds None) opened all) (at n (Number value) ∷ at n (Compares relation) ∷ at n (Name column) ∷ []) (column_and column (limits_by (turned relation) (limit_of value)))
-    (point_at (InBounds (Some (column, relation))) opened (adding_all all (column_and column (limits_by (turned relation) (limit_of value)))))
-left-bound-walks opened all n value relation column h =
-    walks-one (point_at (InBounds None) opened all) (at n (Number value)) (at n (Compares relation) ∷ at n (Name column) ∷ []) _ _
-    (λ rest. ap (λ (refused : List BuildFault). passing 0 (passing 1 (passing 1 (unless_refused (record { opened = opened; earlier = all }) (at n (Name column)) refused (InBounds (Some (column, relation))) (column_and column (limits_by (turned relation) (limit_of value))) rest)))) h)
+pub left-bound-walks : (sections_seen : SectionsSeen) (all : Draft) (n : ℕ) (value : Decimal) (relation : Relation) (column : List ℕ) → AreTaken all column (limits_by (flip relation) (limit_of value))
+    → Walks (point_at (InBounds None) sections_seen all) (at n (Number value) ∷ at n (Compares relation) ∷ at n (Name column) ∷ []) (column_and column (limits_by (flip relation) (limit_of value)))
+    (point_at (InBounds (Some (column, relation))) sections_seen (with_declarations all (column_and column (limits_by (flip relation) (limit_of value)))))
+left-bound-walks sections_seen all n value relation column h =
+    walks-one (point_at (InBounds None) sections_seen all) (at n (Number value)) (at n (Compares relation) ∷ at n (Name column) ∷ []) _ _
+    (λ rest. ap (λ (refused : List BuildFault). after_taking 0 (after_taking 1 (after_taking 1 (unless_refused (record { sections_seen = sections_seen; earlier = all }) (at n (Name column)) refused (InBounds (Some (column, relation))) (column_and column (limits_by (flip relation) (limit_of value))) rest)))) h)
 
-pub signed-left-bound-walks : (opened : Opened) (all : Draft) (n : ℕ) (below : Bool) (value : Decimal) (relation : Relation) (column : List ℕ)
-    → AreTaken all column (limits_by (turned relation) (limit_of (signed below value)))
-    → Walks (point_at (InBounds None) opened all) (at n (Sign below) ∷ at n (Number value) ∷ at n (Compares relation) ∷ at n (Name column) ∷ []) (column_and column (limits_by (turned relation) (limit_of (signed below value))))
-    (point_at (InBounds (Some (column, relation))) opened (adding_all all (column_and column (limits_by (turned relation) (limit_of (signed below value))))))
-signed-left-bound-walks opened all n below value relation column h =
-    walks-one (point_at (InBounds None) opened all) (at n (Sign below)) (at n (Number value) ∷ at n (Compares relation) ∷ at n (Name column) ∷ []) _ _
-    (λ rest. ap (λ (refused : List BuildFault). passing 1 (passing 1 (passing 1 (unless_refused (record { opened = opened; earlier = all }) (at n (Name column)) refused (InBounds (Some (column, relation))) (column_and column (limits_by (turned relation) (limit_of (signed below value)))) rest)))) h)
+pub signed-left-bound-walks : (sections_seen : SectionsSeen) (all : Draft) (n : ℕ) (below : Bool) (value : Decimal) (relation : Relation) (column : List ℕ)
+    → AreTaken all column (limits_by (flip relation) (limit_of (apply_sign below value)))
+    → Walks (point_at (InBounds None) sections_seen all) (at n (Sign below) ∷ at n (Number value) ∷ at n (Compares relation) ∷ at n (Name column) ∷ []) (column_and column (limits_by (flip relation) (limit_of (apply_sign below value))))
+    (point_at (InBounds (Some (column, relation))) sections_seen (with_declarations all (column_and column (limits_by (flip relation) (limit_of (apply_sign below value))))))
+signed-left-bound-walks sections_seen all n below value relation column h =
+    walks-one (point_at (InBounds None) sections_seen all) (at n (Sign below)) (at n (Number value) ∷ at n (Compares relation) ∷ at n (Name column) ∷ []) _ _
+    (λ rest. ap (λ (refused : List BuildFault). after_taking 1 (after_taking 1 (after_taking 1 (unless_refused (record { sections_seen = sections_seen; earlier = all }) (at n (Name column)) refused (InBounds (Some (column, relation))) (column_and column (limits_by (flip relation) (limit_of (apply_sign below value)))) rest)))) h)
 
 -- `-infinity` left of a column
-pub infinite-left-walks : (opened : Opened) (all : Draft) (n : ℕ) (relation : Relation) (column : List ℕ) → AreTaken all column (limits_by (turned relation) MinusInf)
-    → Walks (point_at (InBounds None) opened all) (at n (Sign true) ∷ at n Infinity ∷ at n (Compares relation) ∷ at n (Name column) ∷ []) (column_and column (limits_by (turned relation) MinusInf))
-    (point_at (InBounds (Some (column, relation))) opened (adding_all all (column_and column (limits_by (turned relation) MinusInf))))
-infinite-left-walks opened all n relation column h =
-    walks-one (point_at (InBounds None) opened all) (at n (Sign true)) (at n Infinity ∷ at n (Compares relation) ∷ at n (Name column) ∷ []) _ _
-    (λ rest. ap (λ (refused : List BuildFault). passing 1 (passing 1 (passing 1 (unless_refused (record { opened = opened; earlier = all }) (at n (Name column)) refused (InBounds (Some (column, relation))) (column_and column (limits_by (turned relation) MinusInf)) rest)))) h)
+pub infinite-left-walks : (sections_seen : SectionsSeen) (all : Draft) (n : ℕ) (relation : Relation) (column : List ℕ) → AreTaken all column (limits_by (flip relation) MinusInf)
+    → Walks (point_at (InBounds None) sections_seen all) (at n (Sign true) ∷ at n Infinity ∷ at n (Compares relation) ∷ at n (Name column) ∷ []) (column_and column (limits_by (flip relation) MinusInf))
+    (point_at (InBounds (Some (column, relation))) sections_seen (with_declarations all (column_and column (limits_by (flip relation) MinusInf))))
+infinite-left-walks sections_seen all n relation column h =
+    walks-one (point_at (InBounds None) sections_seen all) (at n (Sign true)) (at n Infinity ∷ at n (Compares relation) ∷ at n (Name column) ∷ []) _ _
+    (λ rest. ap (λ (refused : List BuildFault). after_taking 1 (after_taking 1 (after_taking 1 (unless_refused (record { sections_seen = sections_seen; earlier = all }) (at n (Name column)) refused (InBounds (Some (column, relation))) (column_and column (limits_by (flip relation) MinusInf)) rest)))) h)
 
 -- the upper limit of a column that has a limit left of it
-pub upper-walks : (opened : Opened) (all : Draft) (n : ℕ) (column : List ℕ) (value : Decimal) → bounds_refusals all column None (Some (limit_of value)) ≡ []
-    → Walks (point_at (InBounds (Some (column, AtMost))) opened all) (at n (Compares AtMost) ∷ at n (Number value) ∷ []) (bounds_declared column None (Some (limit_of value)))
-    (point_at (InBounds None) opened (adding_all all (bounds_declared column None (Some (limit_of value)))))
-upper-walks opened all n column value h =
-    walks-one (point_at (InBounds (Some (column, AtMost))) opened all) (at n (Compares AtMost)) (at n (Number value) ∷ []) _ _
-    (λ rest. ap (λ (refused : List BuildFault). passing 1 (unless_refused (record { opened = opened; earlier = all }) (at n (Number value)) refused (InBounds None) (bounds_declared column None (Some (limit_of value))) rest)) h)
+pub upper-walks : (sections_seen : SectionsSeen) (all : Draft) (n : ℕ) (column : List ℕ) (value : Decimal) → bounds_refusals all column None (Some (limit_of value)) ≡ []
+    → Walks (point_at (InBounds (Some (column, AtMost))) sections_seen all) (at n (Compares AtMost) ∷ at n (Number value) ∷ []) (bounds_declared column None (Some (limit_of value)))
+    (point_at (InBounds None) sections_seen (with_declarations all (bounds_declared column None (Some (limit_of value)))))
+upper-walks sections_seen all n column value h =
+    walks-one (point_at (InBounds (Some (column, AtMost))) sections_seen all) (at n (Compares AtMost)) (at n (Number value) ∷ []) _ _
+    (λ rest. ap (λ (refused : List BuildFault). after_taking 1 (unless_refused (record { sections_seen = sections_seen; earlier = all }) (at n (Number value)) refused (InBounds None) (bounds_declared column None (Some (limit_of value))) rest)) h)
 
-pub signed-upper-walks : (opened : Opened) (all : Draft) (n : ℕ) (column : List ℕ) (below : Bool) (value : Decimal) → bounds_refusals all column None (Some (limit_of (signed below value))) ≡ []
-    → Walks (point_at (InBounds (Some (column, AtMost))) opened all) (at n (Compares AtMost) ∷ at n (Sign below) ∷ at n (Number value) ∷ []) (bounds_declared column None (Some (limit_of (signed below value))))
-    (point_at (InBounds None) opened (adding_all all (bounds_declared column None (Some (limit_of (signed below value))))))
-signed-upper-walks opened all n column below value h =
-    walks-one (point_at (InBounds (Some (column, AtMost))) opened all) (at n (Compares AtMost)) (at n (Sign below) ∷ at n (Number value) ∷ []) _ _
-    (λ rest. ap (λ (refused : List BuildFault). passing 2 (unless_refused (record { opened = opened; earlier = all }) (at n (Number value)) refused (InBounds None) (bounds_declared column None (Some (limit_of (signed below value)))) rest)) h)
+pub signed-upper-walks : (sections_seen : SectionsSeen) (all : Draft) (n : ℕ) (column : List ℕ) (below : Bool) (value : Decimal) → bounds_refusals all column None (Some (limit_of (apply_sign below value))) ≡ []
+    → Walks (point_at (InBounds (Some (column, AtMost))) sections_seen all) (at n (Compares AtMost) ∷ at n (Sign below) ∷ at n (Number value) ∷ []) (bounds_declared column None (Some (limit_of (apply_sign below value))))
+    (point_at (InBounds None) sections_seen (with_declarations all (bounds_declared column None (Some (limit_of (apply_sign below value))))))
+signed-upper-walks sections_seen all n column below value h =
+    walks-one (point_at (InBounds (Some (column, AtMost))) sections_seen all) (at n (Compares AtMost)) (at n (Sign below) ∷ at n (Number value) ∷ []) _ _
+    (λ rest. ap (λ (refused : List BuildFault). after_taking 2 (unless_refused (record { sections_seen = sections_seen; earlier = all }) (at n (Number value)) refused (InBounds None) (bounds_declared column None (Some (limit_of (apply_sign below value)))) rest)) h)
 
 -- ---- integer columns
 
-pub general-walks : (opened : Opened) (all : Draft) (n : ℕ) (column : List ℕ) → refusals_in_turn all (declare_column column ∷ declare_integer column ∷ []) ≡ []
-    → Walks (point_at InGenerals opened all) (at n (Name column) ∷ []) (declare_column column ∷ declare_integer column ∷ [])
-    (point_at InGenerals opened (adding_all all (declare_column column ∷ declare_integer column ∷ [])))
-general-walks opened all n column h =
-    walks-one (point_at InGenerals opened all) (at n (Name column)) [] _ _
-    (λ rest. ap (λ (refused : List BuildFault). unless_refused (record { opened = opened; earlier = all }) (at n (Name column)) refused InGenerals (declare_column column ∷ declare_integer column ∷ []) rest) h)
+pub general-walks : (sections_seen : SectionsSeen) (all : Draft) (n : ℕ) (column : List ℕ) → refusals_in_turn all (declare_column column ∷ declare_integer column ∷ []) ≡ []
+    → Walks (point_at InGenerals sections_seen all) (at n (Name column) ∷ []) (declare_column column ∷ declare_integer column ∷ [])
+    (point_at InGenerals sections_seen (with_declarations all (declare_column column ∷ declare_integer column ∷ [])))
+general-walks sections_seen all n column h =
+    walks-one (point_at InGenerals sections_seen all) (at n (Name column)) [] _ _
+    (λ rest. ap (λ (refused : List BuildFault). unless_refused (record { sections_seen = sections_seen; earlier = all }) (at n (Name column)) refused InGenerals (declare_column column ∷ declare_integer column ∷ []) rest) h)
 
 -- ---- semi-continuous columns
 
-pub semi-walks : (opened : Opened) (all : Draft) (n : ℕ) (column : List ℕ) → refusals_in_turn all (declare_column column ∷ declare_semi column ∷ []) ≡ []
-    → Walks (point_at InSemis opened all) (at n (Name column) ∷ []) (declare_column column ∷ declare_semi column ∷ [])
-    (point_at InSemis opened (adding_all all (declare_column column ∷ declare_semi column ∷ [])))
-semi-walks opened all n column h =
-    walks-one (point_at InSemis opened all) (at n (Name column)) [] _ _
-    (λ rest. ap (λ (refused : List BuildFault). unless_refused (record { opened = opened; earlier = all }) (at n (Name column)) refused InSemis (declare_column column ∷ declare_semi column ∷ []) rest) h)
+pub semi-walks : (sections_seen : SectionsSeen) (all : Draft) (n : ℕ) (column : List ℕ) → refusals_in_turn all (declare_column column ∷ declare_semi column ∷ []) ≡ []
+    → Walks (point_at InSemis sections_seen all) (at n (Name column) ∷ []) (declare_column column ∷ declare_semi column ∷ [])
+    (point_at InSemis sections_seen (with_declarations all (declare_column column ∷ declare_semi column ∷ [])))
+semi-walks sections_seen all n column h =
+    walks-one (point_at InSemis sections_seen all) (at n (Name column)) [] _ _
+    (λ rest. ap (λ (refused : List BuildFault). unless_refused (record { sections_seen = sections_seen; earlier = all }) (at n (Name column)) refused InSemis (declare_column column ∷ declare_semi column ∷ []) rest) h)

@@ -11,13 +11,13 @@ use Rattle.std.specs.FinMap.{entries, find}
 use Rattle.std.proofs.lemmas.Bool.{leb-true, lt-ltb}
 use Rattle.mpslp_decimal.specs.Decimal.{Number, IsDecimal, is_decimal, is_zero, is_negative, is_infinite_size, size_of, zero_number}
 use Rattle.mpslp_types.specs.Name.{marker, same_bytes, has_name_length, is_mps_name, is_lp_byte, is_like_exponent, is_reserved, begins_a_number, is_lp_name}
-use Rattle.mpslp_core.specs.Model.{LinearModel, Row, Column, key_cmp, is_sound_row, is_sound_column, is_sound_coefficient, IsSound, suits}
-use Rattle.mpslp_types.specs.Sides.{is_bounded_decimal}
-use Rattle.mpslp_types.specs.Sides.{is_lower_side}
-use Rattle.mpslp_types.specs.Sides.{is_upper_side}
-use Rattle.mpslp_types.specs.Sides.{is_at_most}
-use Rattle.mpslp_types.specs.Sides.{are_sides}
-use Rattle.mpslp_types.specs.Sides.{has_bounded_distance}
+use Rattle.mpslp_model_core.specs.Model.{LinearModel, Row, Column, key_cmp, is_sound_row, is_sound_column, is_sound_coefficient, IsSound, suits}
+use Rattle.mpslp_types.specs.Limit.{is_bounded_decimal}
+use Rattle.mpslp_types.specs.Limit.{is_lower_side}
+use Rattle.mpslp_types.specs.Limit.{is_upper_side}
+use Rattle.mpslp_types.specs.Limit.{is_at_most}
+use Rattle.mpslp_types.specs.Limit.{are_sides}
+use Rattle.mpslp_types.specs.Limit.{has_bounded_distance}
 use Rattle.mpslp_types.specs.declared.faults.FaultKind.TheVariants as faults
 use Rattle.mpslp_types.specs.declared.faults.NameAt.TheVariants as places
 use Rattle.mpslp_types.specs.declared.kinds.Sense.{Sense}
@@ -32,18 +32,18 @@ use Rattle.mpslp_decimal.proofs.CutLemmas.{Each-weaker}
 use Rattle.mpslp_decimal.proofs.CutLemmas.{Each-append}
 use Rattle.mpslp_lp.specs.Token.{is_word}
 use Rattle.mpslp_types.specs.Name.{is_visible}
-use Rattle.mpslp_reading.specs.Tests.{first_held}
-use Rattle.mpslp_lp.specs.OwnFault.{name_fault, word_fault, token_fault}
+use Rattle.mpslp_lines.specs.FaultTests.{first_held}
+use Rattle.mpslp_lp.specs.LexicalFault.{name_fault, word_fault, token_fault}
 use Rattle.mpslp_lp.specs.declared.relations.Relation.{Relation}
 use Rattle.mpslp_lp.specs.declared.relations.Relation.TheVariants.{AtMost, AtLeast, EqualTo}
 use Rattle.mpslp_lp.specs.declared.tokens.TokenKind.TheVariants as kinds
-use Rattle.mpslp_lp.proofs.WordLemmas.{meaning-name}
-use Rattle.mpslp_canonical_lp.specs.Printed.{Piece, word, label, number, sign, sense, minus_infinity, semi_continuous}
+use Rattle.mpslp_lp.proofs.WordLemmas.{word_class-name}
+use Rattle.mpslp_canonical_lp.specs.Printed.{Lexeme, word, label, number, sign, sense, minus_infinity, semi_continuous}
 use Rattle.mpslp_canonical_lp.specs.Listing.{Listing, listing_of}
-use Rattle.mpslp_canonical_lp.specs.CanonicalLp.{Lines, heading, long_line, under_heading, label_line, signed_pieces, Term, term_line, sense_word, term_in, has_coefficients, objective_term, objective_terms, constant_lines, objective_section, have_same_value, left_lines, right_line, minus_large, last_line, some_term, row_terms, row_lines, rows_section, bound_pieces, line_of_some, bound_lines, bounds_section, is_integer_column, name_line, generals_section, listed_lines, canonical_lines, is_semi_column, semis_section, under_semi_heading}
+use Rattle.mpslp_canonical_lp.specs.CanonicalLp.{Lines, heading, long_line, under_heading, label_line, signed_lexemes, Term, term_line, sense_word, term_in, has_coefficients, objective_term, objective_terms, constant_lines, objective_section, have_same_value, left_lines, right_line, minus_large, last_line, some_term, row_terms, row_lines, rows_section, bound_lexemes, line_of_some, bound_lines, bounds_section, is_integer_column, name_line, generals_section, listed_lines, canonical_lines, is_semi_column, semis_section, under_semi_heading}
 use Rattle.mpslp_canonical_lp.specs.Unfit.{is_no_lp_name, first_unfit, or_else, unfit_in, unfit}
 use Rattle.mpslp_canonical_lp.proofs.TokenTexts.{name-word}
-use Rattle.mpslp_canonical_lp.proofs.PieceLemmas.{IsGoodWord, IsGoodName, IsPrintable}
+use Rattle.mpslp_canonical_lp.proofs.LexemeLemmas.{IsGoodWord, IsGoodName, IsPrintable}
 use Rattle.mpslp_canonical_lp.proofs.LineLemmas.{IsPrintableLine}
 
 -- ---- words
@@ -90,19 +90,19 @@ good-word name h =
       is = name-word name h;
       short = leb-true (length name) 255 (second_so (nat_le 1 (length name)) (nat_le (length name) 255) parts.sized);
       faultless =
-          ap (word_fault name) (meaning-name name parts.free) ∙ no-fault name (mps_name-from_lp name h) parts.plain;
+          ap (word_fault name) (word_class-name name parts.free) ∙ no-fault name (mps_name-from_lp name h) parts.plain;
     }
 
 pub good-name : (name : List ℕ) → is_lp_name name ≡ true → IsGoodName name
-good-name name h = record { word_is = good-word name h; meaning = meaning-name name (name-parts name h).free }
+good-name name h = record { word_is = good-word name h; word_class = word_class-name name (name-parts name h).free }
 
 -- ---- lines
 
 abbrev pub AllPrintable : Lines → Type 0
 AllPrintable lines = Each IsPrintableLine lines
 
-a-line : (indent : ℕ) (pieces : List Piece) → nat_le indent 2 ≡ true → nat_le (length pieces) 5 ≡ true → Each IsPrintable pieces → IsPrintableLine (record { indent = indent; pieces = pieces })
-a-line indent pieces near few each = record { near = leb-true indent 2 near; few = leb-true (length pieces) 5 few; each = each }
+a-line : (indent : ℕ) (lexemes : List Lexeme) → nat_le indent 2 ≡ true → nat_le (length lexemes) 5 ≡ true → Each IsPrintable lexemes → IsPrintableLine (record { indent = indent; lexemes = lexemes })
+a-line indent lexemes near few each = record { near = leb-true indent 2 near; few = leb-true (length lexemes) 5 few; each = each }
 
 heading-printable : (w : List ℕ) → IsGoodWord w → IsPrintableLine (heading (w ∷ []))
 heading-printable w h = a-line 0 (word w ∷ []) refl refl (h, tt)
@@ -125,7 +125,7 @@ terms-printable terms h = Each-map IsPrintableLine term_line terms (Each-weaker 
 
 constant-printable : (value : Number) → IsDecimal value → AllPrintable (constant_lines value)
 constant-printable value h =
-    elim (is_zero value) as (λ b. AllPrintable (cond b [] (long_line (signed_pieces value) ∷ []))) [
+    elim (is_zero value) as (λ b. AllPrintable (cond b [] (long_line (signed_lexemes value) ∷ []))) [
       | true ↦ tt
       | false ↦ (a-line 2 (sign (is_negative value) ∷ number (size_of value) ∷ []) refl refl (tt, (h, tt)), tt)
     ]
@@ -192,7 +192,7 @@ last-printable PlusInf PlusInf h = right-printable AtLeast minus_large refl
 free-word : IsGoodWord (codes "free")
 free-word = code-word (codes "free") refl refl refl
 
-bound-printable : (column : List ℕ) (lower upper : Limit) → IsGoodWord column → IsLimits lower upper → AllPrintable (line_of_some (bound_pieces column lower upper))
+bound-printable : (column : List ℕ) (lower upper : Limit) → IsGoodWord column → IsLimits lower upper → AllPrintable (line_of_some (bound_lexemes column lower upper))
 bound-printable column MinusInf (Finite b) w h =
     (a-line 1 (minus_infinity ∷ sense AtMost ∷ word column ∷ sense AtMost ∷ number b ∷ []) refl refl (tt, (tt, (w, (tt, (h.1, tt))))), tt)
 bound-printable column (Finite a) (Finite b) w h =

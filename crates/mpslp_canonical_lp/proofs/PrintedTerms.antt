@@ -10,10 +10,10 @@ use Rattle.std.specs.declared.cmp.Ordering.TheVariants.{Equal}
 use Rattle.std.specs.FinMap.{find}
 use Rattle.mpslp_decimal.specs.Decimal.{Number, is_decimal, is_zero, zero_number}
 use Rattle.mpslp_types.specs.Name.{same_bytes, is_one_of}
-use Rattle.mpslp_core.specs.Model.{Row, Column, CoefficientKey, key_cmp}
+use Rattle.mpslp_model_core.specs.Model.{Row, Column, CoefficientKey, key_cmp}
 use Rattle.mpslp_builder.specs.Declaration.{names_in}
 use Rattle.mpslp_types.proofs.BoolLemmas.{or_left, or_right}
-use Rattle.mpslp_core.proofs.PutsLemmas.{equal_from, find-front, some_cons, some_append_left, some_append_right}
+use Rattle.mpslp_model_core.proofs.PutsLemmas.{equal_from, find-front, some_cons, some_append_left, some_append_right}
 use Rattle.mpslp_builder.proofs.DraftEntries.{same_key}
 use Rattle.mpslp_builder.proofs.LaterDrafts.{itself_named}
 use Rattle.mpslp_builder.proofs.NamedEntries.{any-name}
@@ -121,8 +121,8 @@ module _ {K X : Type 0} (R : K → K → Ordering) (total : IsTotalOrder R) (sam
         ]
 
     -- an entry of each coefficient
-    pub each-printed : (key : CoefficientKey) (value : Number) → find key_cmp key m.coefficients ≡ Some value → SomeAt (key_of key.row key.column) (all_entries m)
-    each-printed key value is = by (same_bytes key.row m.objective) refl rows
+    pub each-line_text : (key : CoefficientKey) (value : Number) → find key_cmp key m.coefficients ≡ Some value → SomeAt (key_of key.row key.column) (all_entries m)
+    each-line_text key value is = by (same_bytes key.row m.objective) refl rows
       where
         names : Bool
         names = is_one_of (names_in m.columns) key.column

@@ -2,7 +2,7 @@
 use Rattle.std.proofs.Common.{◌≡◌, ap, ◌∙◌, List, ℕ}
 use Rattle.std.specs.Prelude.{None}
 use Rattle.std.specs.List.{enumerate_from}
-use Rattle.mpslp_core.specs.Model.{LinearModel, IsSound}
+use Rattle.mpslp_model_core.specs.Model.{LinearModel, IsSound}
 use Rattle.mpslp_lp.specs.LpText.{sound_terminals, numbered_lines}
 use Rattle.mpslp_canonical_lp.specs.CanonicalLp.{canonical_lines, canonical_lp}
 use Rattle.mpslp_canonical_lp.specs.Unfit.{unfit}
@@ -11,8 +11,8 @@ use Rattle.mpslp_canonical_lp.proofs.TextLemmas.{lines-text, all-faultless, all-
 use Rattle.mpslp_canonical_lp.proofs.TerminalLemmas.{all_terminals, lines-seen}
 use Rattle.mpslp_canonical_lp.proofs.PrintableLemmas.{canonical-printable}
 
-pub read-as-printed : AreReadAsPrinted
-read-as-printed m sound fits =
+pub read-as-line_text : AreReadAsPrinted
+read-as-line_text m sound fits =
     let printable = canonical-printable m sound fits in
     record {
       lines_are = lines-text (canonical_lines m) printable;

@@ -6,18 +6,18 @@ use Rattle.std.specs.Option.{option_map}
 use Rattle.std.proofs.lemmas.List.{append-nil}
 use Rattle.mpslp_decimal.specs.Decimal.{Number as Decimal, is_negative, size_of}
 use Rattle.mpslp_types.specs.Name.{same_bytes}
-use Rattle.mpslp_types.specs.Sides.{limit_of}
-use Rattle.mpslp_builder.specs.Declaration.{Draft, adding_all}
+use Rattle.mpslp_types.specs.Limit.{limit_of}
+use Rattle.mpslp_builder.specs.Declaration.{Draft, with_declarations}
 use Rattle.mpslp_builder.specs.Refusal.{refusals_in_turn}
 use Rattle.mpslp_types.specs.declared.kinds.Limit.{Limit}
 use Rattle.mpslp_decimal.proofs.CutLemmas.{Each}
 use Rattle.mpslp_lp.specs.Terminal.{Terminal, TerminalAt}
 use Rattle.mpslp_lp.specs.Terminal.Terminal.{Name, Number, Sign, Compares, Colon}
 use Rattle.mpslp_lp.specs.Point.{Point}
-use Rattle.mpslp_lp.specs.declared.opened.Opened.{Opened}
+use Rattle.mpslp_lp.specs.declared.sections_seen.SectionsSeen.{SectionsSeen}
 use Rattle.mpslp_lp.specs.PartialRow.{PartialRow}
 use Rattle.mpslp_lp.specs.declared.states.Place.TheVariants.{BetweenRows, InRow}
-use Rattle.mpslp_lp.specs.Sides.{signed}
+use Rattle.mpslp_lp.specs.Sides.{apply_sign}
 use Rattle.mpslp_lp.specs.Rows.{fits_left}
 use Rattle.mpslp_lp.specs.declared.relations.Relation.{Relation}
 use Rattle.mpslp_lp.specs.declared.relations.Relation.TheVariants.{AtMost}
@@ -40,45 +40,45 @@ left_line (Some value) = long_line (number value ∷ sense AtMost ∷ []) ∷ []
 abbrev pub partial : List ℕ → Option Decimal → List Term → PartialRow
 partial name left terms = record { name = name; left = left_of left; terms = terms }
 
-abbrev in_row : Opened → Draft → PartialRow → Point
-in_row opened all row = point_at (InRow row) opened all
+abbrev in_row : SectionsSeen → Draft → PartialRow → Point
+in_row sections_seen all row = point_at (InRow row) sections_seen all
 
 -- ---- its beginning
 
 abbrev term_tokens : ℕ → Term → List TerminalAt
 term_tokens n term = at n (Sign (is_negative term.1)) ∷ at n (Number (size_of term.1)) ∷ at n (Name term.0) ∷ []
 
-begin-plain : (opened : Opened) (all : Draft) (name : List ℕ) (k n : ℕ) (term : Term)
-    → Walks (point_at BetweenRows opened all) (at k (Name name) ∷ at k Colon ∷ term_tokens n term) [] (in_row opened all (partial name None (term ∷ [])))
-begin-plain opened all name k n term =
-    subst (λ (value : Decimal). Walks (point_at BetweenRows opened all) (at k (Name name) ∷ at k Colon ∷ term_tokens n term) [] (in_row opened all (partial name None ((term.0, value) ∷ []))))
-    (signed-value term.1) (row-walks opened all name k n (is_negative term.1) (size_of term.1) term.0)
+begin-plain : (sections_seen : SectionsSeen) (all : Draft) (name : List ℕ) (k n : ℕ) (term : Term)
+    → Walks (point_at BetweenRows sections_seen all) (at k (Name name) ∷ at k Colon ∷ term_tokens n term) [] (in_row sections_seen all (partial name None (term ∷ [])))
+begin-plain sections_seen all name k n term =
+    subst (λ (value : Decimal). Walks (point_at BetweenRows sections_seen all) (at k (Name name) ∷ at k Colon ∷ term_tokens n term) [] (in_row sections_seen all (partial name None ((term.0, value) ∷ []))))
+    (signed-value term.1) (row-walks sections_seen all name k n (is_negative term.1) (size_of term.1) term.0)
 
-begin-left : (opened : Opened) (all : Draft) (name : List ℕ) (k j n : ℕ) (left : Decimal) (term : Term)
-    → Walks (point_at BetweenRows opened all) (at k (Name name) ∷ at k Colon ∷ (map (at j) (terminals_in (number left)) ++ at j (Compares AtMost) ∷ term_tokens n term)) []
-    (in_row opened all (partial name (Some left) (term ∷ [])))
-begin-left opened all name k j n left term =
-    subst (λ (value : Decimal). Walks (point_at BetweenRows opened all) (at k (Name name) ∷ at k Colon ∷ (map (at j) (terminals_in (number left)) ++ at j (Compares AtMost) ∷ term_tokens n term)) []
-    (in_row opened all (partial name (Some left) ((term.0, value) ∷ [])))) (signed-value term.1)
-    (number-either (λ v terminals. Walks (point_at BetweenRows opened all) (at k (Name name) ∷ at k Colon ∷ (map (at j) terminals ++ at j (Compares AtMost) ∷ term_tokens n term)) []
-    (in_row opened all (partial name (Some v) ((term.0, signed (is_negative term.1) (size_of term.1)) ∷ [])))) left
-    (λ v. left-row-walks opened all name k j n v AtMost (is_negative term.1) (size_of term.1) term.0)
-    (λ below v. signed-row-walks opened all name k j n below v AtMost (is_negative term.1) (size_of term.1) term.0))
+begin-left : (sections_seen : SectionsSeen) (all : Draft) (name : List ℕ) (k j n : ℕ) (left : Decimal) (term : Term)
+    → Walks (point_at BetweenRows sections_seen all) (at k (Name name) ∷ at k Colon ∷ (map (at j) (terminals_in (number left)) ++ at j (Compares AtMost) ∷ term_tokens n term)) []
+    (in_row sections_seen all (partial name (Some left) (term ∷ [])))
+begin-left sections_seen all name k j n left term =
+    subst (λ (value : Decimal). Walks (point_at BetweenRows sections_seen all) (at k (Name name) ∷ at k Colon ∷ (map (at j) (terminals_in (number left)) ++ at j (Compares AtMost) ∷ term_tokens n term)) []
+    (in_row sections_seen all (partial name (Some left) ((term.0, value) ∷ [])))) (signed-value term.1)
+    (number-either (λ v terminals. Walks (point_at BetweenRows sections_seen all) (at k (Name name) ∷ at k Colon ∷ (map (at j) terminals ++ at j (Compares AtMost) ∷ term_tokens n term)) []
+    (in_row sections_seen all (partial name (Some v) ((term.0, apply_sign (is_negative term.1) (size_of term.1)) ∷ [])))) left
+    (λ v. left-row-walks sections_seen all name k j n v AtMost (is_negative term.1) (size_of term.1) term.0)
+    (λ below v. signed-row-walks sections_seen all name k j n below v AtMost (is_negative term.1) (size_of term.1) term.0))
 
 -- the label, the left limit where there is one, and the first term
-pub begin-walk : (opened : Opened) (all : Draft) (name : List ℕ) (n : ℕ) (left : Option Decimal) (term : Term) → IsTerm term
-    → Walks (point_at BetweenRows opened all) (all_terminals n (label_line name ∷ (left_line left ++ term_line term ∷ []))) [] (in_row opened all (partial name left (term ∷ [])))
-begin-walk opened all name n None term good =
-    subst (λ (tokens : List TerminalAt). Walks (point_at BetweenRows opened all) (at n (Name name) ∷ at n Colon ∷ tokens) [] (in_row opened all (partial name None (term ∷ []))))
-    (sym (append-nil (line_terminals_in (n + 1) (term_line term)) ∙ term-terminals (n + 1) term good)) (begin-plain opened all name n (n + 1) term)
-begin-walk opened all name n (Some left) term good =
+pub begin-walk : (sections_seen : SectionsSeen) (all : Draft) (name : List ℕ) (n : ℕ) (left : Option Decimal) (term : Term) → IsTerm term
+    → Walks (point_at BetweenRows sections_seen all) (all_terminals n (label_line name ∷ (left_line left ++ term_line term ∷ []))) [] (in_row sections_seen all (partial name left (term ∷ [])))
+begin-walk sections_seen all name n None term good =
+    subst (λ (tokens : List TerminalAt). Walks (point_at BetweenRows sections_seen all) (at n (Name name) ∷ at n Colon ∷ tokens) [] (in_row sections_seen all (partial name None (term ∷ []))))
+    (sym (append-nil (line_terminals_in (n + 1) (term_line term)) ∙ term-terminals (n + 1) term good)) (begin-plain sections_seen all name n (n + 1) term)
+begin-walk sections_seen all name n (Some left) term good =
     let digits = terminals_in (number left) in
-    subst (λ (tokens : List TerminalAt). Walks (point_at BetweenRows opened all) (at n (Name name) ∷ at n Colon ∷ tokens) [] (in_row opened all (partial name (Some left) (term ∷ []))))
+    subst (λ (tokens : List TerminalAt). Walks (point_at BetweenRows sections_seen all) (at n (Name name) ∷ at n Colon ∷ tokens) [] (in_row sections_seen all (partial name (Some left) (term ∷ []))))
     (sym (ap (λ (tokens : List TerminalAt). tokens ++ (line_terminals_in (n + 1 + 1) (term_line term) ++ [])) (mapped-append (at (n + 1)) digits (Compares AtMost ∷ []))
     ∙ append_assoc (map (at (n + 1)) digits) (at (n + 1) (Compares AtMost) ∷ []) (line_terminals_in (n + 1 + 1) (term_line term) ++ [])
     ∙ ap (λ (tokens : List TerminalAt). map (at (n + 1)) digits ++ at (n + 1) (Compares AtMost) ∷ tokens)
     (append-nil (line_terminals_in (n + 1 + 1) (term_line term)) ∙ term-terminals (n + 1 + 1) term good)))
-    (begin-left opened all name n (n + 1) (n + 1 + 1) left term)
+    (begin-left sections_seen all name n (n + 1) (n + 1 + 1) left term)
 
 -- ---- its further terms
 
@@ -87,33 +87,33 @@ abbrev pub AreNew : List Term → List Term → Type 0
 AreNew seen [] = Unit {0}
 AreNew seen (term ∷ terms) = (list_any (λ (earlier : Term). same_bytes term.0 earlier.0) seen ≡ false) × AreNew (seen ++ term ∷ []) terms
 
-more-term : (opened : Opened) (all : Draft) (row : PartialRow) (n : ℕ) (term : Term) → IsTerm term → list_any (λ (earlier : Term). same_bytes term.0 earlier.0) row.terms ≡ false
-    → Walks (in_row opened all row) (line_terminals_in n (term_line term)) [] (in_row opened all (record row { terms = row.terms ++ term ∷ [] }))
-more-term opened all row n term good new =
-    subst (λ (tokens : List TerminalAt). Walks (in_row opened all row) tokens [] (in_row opened all (record row { terms = row.terms ++ term ∷ [] }))) (sym (term-terminals n term good))
-    (subst (λ (value : Decimal). Walks (in_row opened all row) (term_tokens n term) [] (in_row opened all (record row { terms = row.terms ++ (term.0, value) ∷ [] }))) (signed-value term.1)
-    (row-term-walks opened all row n (is_negative term.1) (size_of term.1) term.0 new))
+more-term : (sections_seen : SectionsSeen) (all : Draft) (row : PartialRow) (n : ℕ) (term : Term) → IsTerm term → list_any (λ (earlier : Term). same_bytes term.0 earlier.0) row.terms ≡ false
+    → Walks (in_row sections_seen all row) (line_terminals_in n (term_line term)) [] (in_row sections_seen all (record row { terms = row.terms ++ term ∷ [] }))
+more-term sections_seen all row n term good new =
+    subst (λ (tokens : List TerminalAt). Walks (in_row sections_seen all row) tokens [] (in_row sections_seen all (record row { terms = row.terms ++ term ∷ [] }))) (sym (term-terminals n term good))
+    (subst (λ (value : Decimal). Walks (in_row sections_seen all row) (term_tokens n term) [] (in_row sections_seen all (record row { terms = row.terms ++ (term.0, value) ∷ [] }))) (signed-value term.1)
+    (row-term-walks sections_seen all row n (is_negative term.1) (size_of term.1) term.0 new))
 
-pub row-terms-walk : (opened : Opened) (all : Draft) (name : List ℕ) (left : Option Decimal) (n : ℕ) (seen terms : List Term) → Each IsTerm terms → AreNew seen terms
-    → Walks (in_row opened all (partial name left seen)) (all_terminals n (map term_line terms)) [] (in_row opened all (partial name left (seen ++ terms)))
-row-terms-walk opened all name left n seen [] good new =
-    subst (λ (terms : List Term). Walks (in_row opened all (partial name left seen)) [] [] (in_row opened all (partial name left terms))) (sym (append-nil seen)) (walks-none (in_row opened all (partial name left seen)))
-row-terms-walk opened all name left n seen (term ∷ terms) good new =
-    subst (λ (whole : List Term). Walks (in_row opened all (partial name left seen)) (all_terminals n (map term_line (term ∷ terms))) [] (in_row opened all (partial name left whole))) (append_assoc seen (term ∷ []) terms)
-    (walks-then (in_row opened all (partial name left seen)) (in_row opened all (partial name left (seen ++ term ∷ []))) (in_row opened all (partial name left ((seen ++ term ∷ []) ++ terms)))
+pub row-terms-walk : (sections_seen : SectionsSeen) (all : Draft) (name : List ℕ) (left : Option Decimal) (n : ℕ) (seen terms : List Term) → Each IsTerm terms → AreNew seen terms
+    → Walks (in_row sections_seen all (partial name left seen)) (all_terminals n (map term_line terms)) [] (in_row sections_seen all (partial name left (seen ++ terms)))
+row-terms-walk sections_seen all name left n seen [] good new =
+    subst (λ (terms : List Term). Walks (in_row sections_seen all (partial name left seen)) [] [] (in_row sections_seen all (partial name left terms))) (sym (append-nil seen)) (walks-none (in_row sections_seen all (partial name left seen)))
+row-terms-walk sections_seen all name left n seen (term ∷ terms) good new =
+    subst (λ (whole : List Term). Walks (in_row sections_seen all (partial name left seen)) (all_terminals n (map term_line (term ∷ terms))) [] (in_row sections_seen all (partial name left whole))) (append_assoc seen (term ∷ []) terms)
+    (walks-then (in_row sections_seen all (partial name left seen)) (in_row sections_seen all (partial name left (seen ++ term ∷ []))) (in_row sections_seen all (partial name left ((seen ++ term ∷ []) ++ terms)))
     (line_terminals_in n (term_line term)) (all_terminals (n + 1) (map term_line terms)) [] []
-    (more-term opened all (partial name left seen) n term good.0 new.0)
-    (row-terms-walk opened all name left (n + 1) (seen ++ term ∷ []) terms good.1 new.1))
+    (more-term sections_seen all (partial name left seen) n term good.0 new.0)
+    (row-terms-walk sections_seen all name left (n + 1) (seen ++ term ∷ []) terms good.1 new.1))
 
 -- ---- its end
 
-pub row-end-walk : (opened : Opened) (all : Draft) (row : PartialRow) (n : ℕ) (relation : Relation) (right : Decimal) → fits_left row.left relation ≡ true
+pub row-end-walk : (sections_seen : SectionsSeen) (all : Draft) (row : PartialRow) (n : ℕ) (relation : Relation) (right : Decimal) → fits_left row.left relation ≡ true
     → refusals_in_turn all (ended_by row relation (limit_of right)) ≡ []
-    → Walks (in_row opened all row) (line_terminals_in n (right_line relation right)) (ended_by row relation (limit_of right)) (point_at BetweenRows opened (adding_all all (ended_by row relation (limit_of right))))
-row-end-walk opened all row n relation right fits h =
-    subst (λ (tokens : List Terminal). Walks (in_row opened all row) (at n (Compares relation) ∷ map (at n) tokens) (ended_by row relation (limit_of right)) (point_at BetweenRows opened (adding_all all (ended_by row relation (limit_of right)))))
+    → Walks (in_row sections_seen all row) (line_terminals_in n (right_line relation right)) (ended_by row relation (limit_of right)) (point_at BetweenRows sections_seen (with_declarations all (ended_by row relation (limit_of right))))
+row-end-walk sections_seen all row n relation right fits h =
+    subst (λ (tokens : List Terminal). Walks (in_row sections_seen all row) (at n (Compares relation) ∷ map (at n) tokens) (ended_by row relation (limit_of right)) (point_at BetweenRows sections_seen (with_declarations all (ended_by row relation (limit_of right)))))
     (sym (append-nil (terminals_in (number right))))
     (number-either (λ v terminals. refusals_in_turn all (ended_by row relation (limit_of v)) ≡ []
-    → Walks (in_row opened all row) (at n (Compares relation) ∷ map (at n) terminals) (ended_by row relation (limit_of v)) (point_at BetweenRows opened (adding_all all (ended_by row relation (limit_of v))))) right
-    (λ v k. row-end-walks opened all row n relation v fits k)
-    (λ below v k. signed-end-walks opened all row n relation below v fits k) h)
+    → Walks (in_row sections_seen all row) (at n (Compares relation) ∷ map (at n) terminals) (ended_by row relation (limit_of v)) (point_at BetweenRows sections_seen (with_declarations all (ended_by row relation (limit_of v))))) right
+    (λ v k. row-end-walks sections_seen all row n relation v fits k)
+    (λ below v k. signed-end-walks sections_seen all row n relation below v fits k) h)

@@ -4,13 +4,13 @@ use Rattle.std.specs.Prelude.{◌&&◌, ◌||◌, Some, None, filter, if◌then�
 use Rattle.std.specs.List.{list_any, flat_map}
 use Rattle.mpslp_decimal.specs.Decimal.{Number, is_zero}
 use Rattle.mpslp_types.specs.Name.{same_bytes}
-use Rattle.mpslp_types.specs.Sides.{limit_of}
+use Rattle.mpslp_types.specs.Limit.{limit_of}
 use Rattle.mpslp_types.specs.declared.kinds.Limit.{Limit}
 use Rattle.mpslp_types.specs.declared.kinds.Limit.TheVariants.{MinusInf, Finite, PlusInf}
 use Rattle.mpslp_types.proofs.BoolLemmas.{both_so, both_false, so_not}
 use Rattle.mpslp_types.proofs.EachLemmas.{Each, Each-weaker, Each-flat_map, Each-all}
-use Rattle.mpslp_core.specs.Model.{Row, Column}
-use Rattle.mpslp_core.specs.Lists.{are_distinct}
+use Rattle.mpslp_model_core.specs.Model.{Row, Column}
+use Rattle.mpslp_model_core.specs.Lists.{are_distinct}
 use Rattle.mpslp_builder.specs.Declaration.{declare_constant, bounds_declared, Declarations, names_in}
 use Rattle.mpslp_builder.specs.Consistency.{Slot, sense_slot, objective_slot, constant_slot, row_slot, rhs_slot, range_slot, coefficient_slot, lower_slot, upper_slot, same_slot, all_slots}
 use Rattle.mpslp_builder.proofs.DistinctLemmas.{distinct-flat_map}

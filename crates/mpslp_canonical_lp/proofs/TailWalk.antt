@@ -3,21 +3,21 @@ use Rattle.std.proofs.Common.{◌≡◌, refl, sym, ap, subst, ◌∙◌, ℕ, �
 use Rattle.std.specs.Prelude.{Option, Some, None, ◌||◌, codes, is_some}
 use Rattle.std.specs.List.{flat_map}
 use Rattle.std.proofs.lemmas.List.{append-nil}
-use Rattle.mpslp_core.specs.Model.{Column}
-use Rattle.mpslp_builder.specs.Declaration.{Draft, Declarations, declare_column, declare_integer, bounds_declared, adding_all, has_column, has_name, declare_semi}
-use Rattle.mpslp_types.specs.Sides.{is_plus_infinite, is_minus_infinite}
+use Rattle.mpslp_model_core.specs.Model.{Column}
+use Rattle.mpslp_builder.specs.Declaration.{Draft, Declarations, declare_column, declare_integer, bounds_declared, with_declarations, has_column, has_name, declare_semi}
+use Rattle.mpslp_types.specs.Limit.{is_plus_infinite, is_minus_infinite}
 use Rattle.mpslp_builder.specs.Refusal.{refusals_in_turn, bounds_refusals}
-use Rattle.mpslp_core.specs.Lists.{those_of}
+use Rattle.mpslp_model_core.specs.Lists.{those_of}
 use Rattle.mpslp_types.specs.declared.faults.BuildFault.TheVariants.{UnknownColumn, DuplicateBound, InfiniteValue}
 use Rattle.mpslp_types.specs.declared.kinds.Limit.{Limit}
-use Rattle.mpslp_builder.proofs.MadeDrafts.{adding_all-append}
+use Rattle.mpslp_builder.proofs.MadeDrafts.{with_declarations-append}
 use Rattle.mpslp_decimal.proofs.CutLemmas.{Each}
 use Rattle.mpslp_lp.specs.Terminal.{TerminalAt, word_terminal}
 use Rattle.mpslp_lp.specs.Terminal.Terminal.{Opens, Name, Sign}
 use Rattle.mpslp_lp.specs.Rules.{phrases, made_by}
 use Rattle.mpslp_lp.specs.Rules.Outcome.{Finished}
-use Rattle.mpslp_lp.specs.Point.{opened_with, section_fault, Point}
-use Rattle.mpslp_lp.specs.declared.opened.Opened.{Opened}
+use Rattle.mpslp_lp.specs.Point.{with_section, section_fault, Point}
+use Rattle.mpslp_lp.specs.declared.sections_seen.SectionsSeen.{SectionsSeen}
 use Rattle.mpslp_lp.specs.declared.states.Place.{Place}
 use Rattle.mpslp_lp.specs.declared.states.Place.TheVariants.{InGenerals, InSemis}
 use Rattle.mpslp_lp.specs.Grammar.{phrase_at, may_begin_section}
@@ -33,61 +33,61 @@ use Rattle.mpslp_canonical_lp.proofs.ObjectiveWalk.{number_after, terminals-appe
 
 -- From a point on the tokens are a whole text that declares these.
 pub record EndsWith (from : Point) (tokens : List TerminalAt) (made : Declarations) : Type 0 where
-  pub says : phrases phrase_at from 0 tokens ≡ Finished (adding_all from.before.earlier made)
+  pub says : phrases phrase_at from 0 tokens ≡ Finished (with_declarations from.context.earlier made)
   pub makes : made_by phrase_at from 0 tokens ≡ made
 
-pub walk-ends : (place between : Place) (opened later : Opened) (all : Draft) (xs ys : List TerminalAt) (made more : Declarations)
-    → Walks (point_at place opened all) xs made (point_at between later (adding_all all made)) → EndsWith (point_at between later (adding_all all made)) ys more
-    → EndsWith (point_at place opened all) (xs ++ ys) (made ++ more)
-walk-ends place between opened later all xs ys made more h k =
+pub walk-ends : (place between : Place) (sections_seen later : SectionsSeen) (all : Draft) (xs ys : List TerminalAt) (made more : Declarations)
+    → Walks (point_at place sections_seen all) xs made (point_at between later (with_declarations all made)) → EndsWith (point_at between later (with_declarations all made)) ys more
+    → EndsWith (point_at place sections_seen all) (xs ++ ys) (made ++ more)
+walk-ends place between sections_seen later all xs ys made more h k =
     record {
-      says = h.says ys ∙ k.says ∙ ap (λ (draft : Draft). Finished draft) (sym (adding_all-append made more all));
+      says = h.says ys ∙ k.says ∙ ap (λ (draft : Draft). Finished draft) (sym (with_declarations-append made more all));
       makes = h.makes ys ∙ ap (λ (rest : Declarations). made ++ rest) k.makes;
     }
 
-pub end-ends : (place : Place) (opened : Opened) (all : Draft) (n : ℕ) → may_begin_section place ≡ true → section_fault opened sections.End ≡ None
-    → EndsWith (point_at place opened all) (all_terminals n (heading (codes "End" ∷ []) ∷ [])) []
-end-ends place opened all n may fault = record { says = end-says place opened all n may fault; makes = end-makes place opened all n may fault }
+pub end-ends : (place : Place) (sections_seen : SectionsSeen) (all : Draft) (n : ℕ) → may_begin_section place ≡ true → section_fault sections_seen sections.End ≡ None
+    → EndsWith (point_at place sections_seen all) (all_terminals n (heading (codes "End" ∷ []) ∷ [])) []
+end-ends place sections_seen all n may fault = record { says = end-says place sections_seen all n may fault; makes = end-makes place sections_seen all n may fault }
 
 -- ---- integer columns
 
 abbrev pub general_made : List ℕ × Column → Declarations
 general_made column = declare_column column.0 ∷ declare_integer column.0 ∷ []
 
-one-general : (opened : Opened) (all : Draft) (n : ℕ) (column : List ℕ × Column) → IsFitColumn column → refusals_in_turn all (general_made column) ≡ []
-    → Walks (point_at InGenerals opened all) (line_terminals_in n (name_line column)) (general_made column) (point_at InGenerals opened (adding_all all (general_made column)))
-one-general opened all n column fit h =
-    subst (λ (tokens : List TerminalAt). Walks (point_at InGenerals opened all) tokens (general_made column) (point_at InGenerals opened (adding_all all (general_made column))))
-    (λ i. at n (word_terminal column.0 (sym fit.name.meaning i)) ∷ []) (general-walks opened all n column.0 h)
+one-general : (sections_seen : SectionsSeen) (all : Draft) (n : ℕ) (column : List ℕ × Column) → IsFitColumn column → refusals_in_turn all (general_made column) ≡ []
+    → Walks (point_at InGenerals sections_seen all) (line_terminals_in n (name_line column)) (general_made column) (point_at InGenerals sections_seen (with_declarations all (general_made column)))
+one-general sections_seen all n column fit h =
+    subst (λ (tokens : List TerminalAt). Walks (point_at InGenerals sections_seen all) tokens (general_made column) (point_at InGenerals sections_seen (with_declarations all (general_made column))))
+    (λ i. at n (word_terminal column.0 (sym fit.name.word_class i)) ∷ []) (general-walks sections_seen all n column.0 h)
 
-pub generals-walk : (opened : Opened) (all : Draft) (n : ℕ) (columns : List (List ℕ × Column)) → Each IsFitColumn columns → refusals_in_turn all (flat_map general_made columns) ≡ []
-    → Walks (point_at InGenerals opened all) (all_terminals n (map name_line columns)) (flat_map general_made columns) (point_at InGenerals opened (adding_all all (flat_map general_made columns)))
-generals-walk opened all n [] fit h = walks-none (point_at InGenerals opened all)
-generals-walk opened all n (column ∷ columns) fit h =
+pub generals-walk : (sections_seen : SectionsSeen) (all : Draft) (n : ℕ) (columns : List (List ℕ × Column)) → Each IsFitColumn columns → refusals_in_turn all (flat_map general_made columns) ≡ []
+    → Walks (point_at InGenerals sections_seen all) (all_terminals n (map name_line columns)) (flat_map general_made columns) (point_at InGenerals sections_seen (with_declarations all (flat_map general_made columns)))
+generals-walk sections_seen all n [] fit h = walks-none (point_at InGenerals sections_seen all)
+generals-walk sections_seen all n (column ∷ columns) fit h =
     let parts = parts-taken all (general_made column) (flat_map general_made columns) h in
-    parts-walk InGenerals InGenerals InGenerals opened opened opened all (line_terminals_in n (name_line column)) (all_terminals (n + 1) (map name_line columns))
-    (general_made column) (flat_map general_made columns) (one-general opened all n column fit.0 parts.0)
-    (generals-walk opened (adding_all all (general_made column)) (n + 1) columns fit.1 parts.1)
+    parts-walk InGenerals InGenerals InGenerals sections_seen sections_seen sections_seen all (line_terminals_in n (name_line column)) (all_terminals (n + 1) (map name_line columns))
+    (general_made column) (flat_map general_made columns) (one-general sections_seen all n column fit.0 parts.0)
+    (generals-walk sections_seen (with_declarations all (general_made column)) (n + 1) columns fit.1 parts.1)
 
 -- ---- semi-continuous columns
 
 abbrev pub semi_made : List ℕ × Column → Declarations
 semi_made column = declare_column column.0 ∷ declare_semi column.0 ∷ []
 
-one-semi : (opened : Opened) (all : Draft) (n : ℕ) (column : List ℕ × Column) → IsFitColumn column → refusals_in_turn all (semi_made column) ≡ []
-    → Walks (point_at InSemis opened all) (line_terminals_in n (name_line column)) (semi_made column) (point_at InSemis opened (adding_all all (semi_made column)))
-one-semi opened all n column fit h =
-    subst (λ (tokens : List TerminalAt). Walks (point_at InSemis opened all) tokens (semi_made column) (point_at InSemis opened (adding_all all (semi_made column))))
-    (λ i. at n (word_terminal column.0 (sym fit.name.meaning i)) ∷ []) (semi-walks opened all n column.0 h)
+one-semi : (sections_seen : SectionsSeen) (all : Draft) (n : ℕ) (column : List ℕ × Column) → IsFitColumn column → refusals_in_turn all (semi_made column) ≡ []
+    → Walks (point_at InSemis sections_seen all) (line_terminals_in n (name_line column)) (semi_made column) (point_at InSemis sections_seen (with_declarations all (semi_made column)))
+one-semi sections_seen all n column fit h =
+    subst (λ (tokens : List TerminalAt). Walks (point_at InSemis sections_seen all) tokens (semi_made column) (point_at InSemis sections_seen (with_declarations all (semi_made column))))
+    (λ i. at n (word_terminal column.0 (sym fit.name.word_class i)) ∷ []) (semi-walks sections_seen all n column.0 h)
 
-pub semis-walk : (opened : Opened) (all : Draft) (n : ℕ) (columns : List (List ℕ × Column)) → Each IsFitColumn columns → refusals_in_turn all (flat_map semi_made columns) ≡ []
-    → Walks (point_at InSemis opened all) (all_terminals n (map name_line columns)) (flat_map semi_made columns) (point_at InSemis opened (adding_all all (flat_map semi_made columns)))
-semis-walk opened all n [] fit h = walks-none (point_at InSemis opened all)
-semis-walk opened all n (column ∷ columns) fit h =
+pub semis-walk : (sections_seen : SectionsSeen) (all : Draft) (n : ℕ) (columns : List (List ℕ × Column)) → Each IsFitColumn columns → refusals_in_turn all (flat_map semi_made columns) ≡ []
+    → Walks (point_at InSemis sections_seen all) (all_terminals n (map name_line columns)) (flat_map semi_made columns) (point_at InSemis sections_seen (with_declarations all (flat_map semi_made columns)))
+semis-walk sections_seen all n [] fit h = walks-none (point_at InSemis sections_seen all)
+semis-walk sections_seen all n (column ∷ columns) fit h =
     let parts = parts-taken all (semi_made column) (flat_map semi_made columns) h in
-    parts-walk InSemis InSemis InSemis opened opened opened all (line_terminals_in n (name_line column)) (all_terminals (n + 1) (map name_line columns))
-    (semi_made column) (flat_map semi_made columns) (one-semi opened all n column fit.0 parts.0)
-    (semis-walk opened (adding_all all (semi_made column)) (n + 1) columns fit.1 parts.1)
+    parts-walk InSemis InSemis InSemis sections_seen sections_seen sections_seen all (line_terminals_in n (name_line column)) (all_terminals (n + 1) (map name_line columns))
+    (semi_made column) (flat_map semi_made columns) (one-semi sections_seen all n column fit.0 parts.0)
+    (semis-walk sections_seen (with_declarations all (semi_made column)) (n + 1) columns fit.1 parts.1)
 
 -- ---- the last sections, where they have lines, and the end
 
@@ -95,49 +95,49 @@ abbrev pub ending : Lines
 ending = heading (codes "End" ∷ []) ∷ []
 
 -- from here semi-continuous columns may come, and the end before or after them
-pub record MayEnd (opened : Opened) : Type 0 where
-  pub semis : section_fault opened sections.SemiContinuous ≡ None
-  pub now : section_fault opened sections.End ≡ None
-  pub later : section_fault (opened_with opened sections.SemiContinuous) sections.End ≡ None
+pub record MayEnd (sections_seen : SectionsSeen) : Type 0 where
+  pub semis : section_fault sections_seen sections.SemiContinuous ≡ None
+  pub now : section_fault sections_seen sections.End ≡ None
+  pub later : section_fault (with_section sections_seen sections.SemiContinuous) sections.End ≡ None
 
-pub semis-end : (place : Place) (opened : Opened) (all : Draft) (n : ℕ) (columns : List (List ℕ × Column)) → Each IsFitColumn columns
-    → may_begin_section place ≡ true → MayEnd opened → refusals_in_turn all (flat_map semi_made columns) ≡ []
-    → EndsWith (point_at place opened all) (all_terminals n (under_semi_heading (map name_line columns) ++ ending)) (flat_map semi_made columns)
-semis-end place opened all n [] fit may ends h = end-ends place opened all n may ends.now
-semis-end place opened all n (column ∷ columns) fit may ends h =
+pub semis-end : (place : Place) (sections_seen : SectionsSeen) (all : Draft) (n : ℕ) (columns : List (List ℕ × Column)) → Each IsFitColumn columns
+    → may_begin_section place ≡ true → MayEnd sections_seen → refusals_in_turn all (flat_map semi_made columns) ≡ []
+    → EndsWith (point_at place sections_seen all) (all_terminals n (under_semi_heading (map name_line columns) ++ ending)) (flat_map semi_made columns)
+semis-end place sections_seen all n [] fit may ends h = end-ends place sections_seen all n may ends.now
+semis-end place sections_seen all n (column ∷ columns) fit may ends h =
     let lines : Lines = map name_line (column ∷ columns) in
     let made = flat_map semi_made (column ∷ columns) in
-    let inside = opened_with opened sections.SemiContinuous in
+    let inside = with_section sections_seen sections.SemiContinuous in
     let opening : List TerminalAt = at n (Opens section_words.Semi) ∷ at n (Sign true) ∷ at n (Name (codes "Continuous")) ∷ [] in
-    subst (λ (tokens : List TerminalAt). EndsWith (point_at place opened all) tokens made)
+    subst (λ (tokens : List TerminalAt). EndsWith (point_at place sections_seen all) tokens made)
     (ap (λ (more : List TerminalAt). opening ++ more) (sym (terminals-append (n + 1) lines ending)))
-    (walk-ends place InSemis opened inside all opening (all_terminals (n + 1) lines ++ all_terminals (number_after (n + 1) lines) ending) [] made
-    (semis-section-walks place opened all n may ends.semis)
+    (walk-ends place InSemis sections_seen inside all opening (all_terminals (n + 1) lines ++ all_terminals (number_after (n + 1) lines) ending) [] made
+    (semis-section-walks place sections_seen all n may ends.semis)
     (subst (λ (declared : Declarations). EndsWith (point_at InSemis inside all) (all_terminals (n + 1) lines ++ all_terminals (number_after (n + 1) lines) ending) declared) (append-nil made)
     (walk-ends InSemis InSemis inside inside all (all_terminals (n + 1) lines) (all_terminals (number_after (n + 1) lines) ending) made []
     (semis-walk inside all (n + 1) (column ∷ columns) fit h)
-    (end-ends InSemis inside (adding_all all made) (number_after (n + 1) lines) refl ends.later))))
+    (end-ends InSemis inside (with_declarations all made) (number_after (n + 1) lines) refl ends.later))))
 
-pub generals-end : (place : Place) (opened : Opened) (all : Draft) (n : ℕ) (integers semis : List (List ℕ × Column)) → Each IsFitColumn integers → Each IsFitColumn semis
-    → may_begin_section place ≡ true → section_fault opened sections.Generals ≡ None → MayEnd opened → MayEnd (opened_with opened sections.Generals)
+pub generals-end : (place : Place) (sections_seen : SectionsSeen) (all : Draft) (n : ℕ) (integers semis : List (List ℕ × Column)) → Each IsFitColumn integers → Each IsFitColumn semis
+    → may_begin_section place ≡ true → section_fault sections_seen sections.Generals ≡ None → MayEnd sections_seen → MayEnd (with_section sections_seen sections.Generals)
     → refusals_in_turn all (flat_map general_made integers ++ flat_map semi_made semis) ≡ []
-    → EndsWith (point_at place opened all) (all_terminals n (under_heading (codes "Generals") (map name_line integers) ++ (under_semi_heading (map name_line semis) ++ ending)))
+    → EndsWith (point_at place sections_seen all) (all_terminals n (under_heading (codes "Generals") (map name_line integers) ++ (under_semi_heading (map name_line semis) ++ ending)))
     (flat_map general_made integers ++ flat_map semi_made semis)
-generals-end place opened all n [] semis fit whole may generals ends later h = semis-end place opened all n semis whole may ends h
-generals-end place opened all n (column ∷ columns) semis fit whole may generals ends later h =
+generals-end place sections_seen all n [] semis fit whole may generals ends later h = semis-end place sections_seen all n semis whole may ends h
+generals-end place sections_seen all n (column ∷ columns) semis fit whole may generals ends later h =
     let lines : Lines = map name_line (column ∷ columns) in
     let made = flat_map general_made (column ∷ columns) in
     let more = flat_map semi_made semis in
-    let inside = opened_with opened sections.Generals in
+    let inside = with_section sections_seen sections.Generals in
     let rest : Lines = under_semi_heading (map name_line semis) ++ ending in
     let parts = parts-taken all made more h in
-    subst (λ (tokens : List TerminalAt). EndsWith (point_at place opened all) tokens (made ++ more))
+    subst (λ (tokens : List TerminalAt). EndsWith (point_at place sections_seen all) tokens (made ++ more))
     (ap (λ (tokens : List TerminalAt). at n (Opens section_words.Generals) ∷ tokens) (sym (terminals-append (n + 1) lines rest)))
-    (walk-ends place InGenerals opened inside all (at n (Opens section_words.Generals) ∷ []) (all_terminals (n + 1) lines ++ all_terminals (number_after (n + 1) lines) rest) [] (made ++ more)
-    (generals-section-walks place opened all n may generals)
+    (walk-ends place InGenerals sections_seen inside all (at n (Opens section_words.Generals) ∷ []) (all_terminals (n + 1) lines ++ all_terminals (number_after (n + 1) lines) rest) [] (made ++ more)
+    (generals-section-walks place sections_seen all n may generals)
     (walk-ends InGenerals InGenerals inside inside all (all_terminals (n + 1) lines) (all_terminals (number_after (n + 1) lines) rest) made more
     (generals-walk inside all (n + 1) (column ∷ columns) fit parts.0)
-    (semis-end InGenerals inside (adding_all all made) (number_after (n + 1) lines) semis whole refl later parts.1)))
+    (semis-end InGenerals inside (with_declarations all made) (number_after (n + 1) lines) semis whole refl later parts.1)))
 
 -- ---- sides that are not refused one by one are not refused together
 

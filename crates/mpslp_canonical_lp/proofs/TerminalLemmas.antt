@@ -6,27 +6,27 @@ use Rattle.std.specs.List.{flat_map}
 use Rattle.std.specs.Result.{result_unwrap_or}
 use Rattle.mpslp_decimal.specs.Decimal.{Number as Decimal, IsDecimal, is_negative, size_of, zero_number}
 use Rattle.mpslp_decimal.specs.NumberText.{number_text}
-use Rattle.mpslp_decimal.specs.Literal.{signed as literal_sign}
+use Rattle.mpslp_decimal.specs.Literal.{to_signed as literal_sign}
 use Rattle.mpslp_decimal.proofs.NumberTextLemmas.{number-text, signed-size}
 use Rattle.mpslp_decimal.proofs.CutLemmas.{Each}
-use Rattle.mpslp_lp.specs.Words.{meaning_of}
+use Rattle.mpslp_lp.specs.Words.{class_of}
 use Rattle.mpslp_lp.specs.Terminal.{Terminal, TerminalAt, word_terminal}
-use Rattle.mpslp_reading.specs.Field.{value_of}
+use Rattle.mpslp_lines.specs.Field.{value_of}
 use Rattle.mpslp_lp.specs.Terminal.Terminal.{Name, Number, Sign, Compares, Colon, Infinity, Opens}
-use Rattle.mpslp_lp.specs.Sides.{signed}
+use Rattle.mpslp_lp.specs.Sides.{apply_sign}
 use Rattle.mpslp_lp.specs.declared.relations.Relation.TheVariants.{AtMost, AtLeast, EqualTo}
 use Rattle.mpslp_lp.specs.declared.tokens.TokenKind.TheVariants as kinds
-use Rattle.mpslp_canonical_lp.specs.Printed.{Piece, PrintedLine, word, label, number, sign, sense, minus_infinity, tokens_in, line_tokens, semi_continuous}
+use Rattle.mpslp_canonical_lp.specs.Printed.{Lexeme, PrintedLine, word, label, number, sign, sense, minus_infinity, tokens_in, line_tokens, semi_continuous}
 use Rattle.mpslp_canonical_lp.proofs.LineLemmas.{seen_at, IsPrintableLine}
-use Rattle.mpslp_canonical_lp.proofs.PieceLemmas.{IsPrintable}
+use Rattle.mpslp_canonical_lp.proofs.LexemeLemmas.{IsPrintable}
 use Rattle.mpslp_canonical_lp.proofs.TextLemmas.{terminals_from}
 
 abbrev pub at : ℕ → Terminal → TerminalAt
 at n terminal = record { line = n; terminal = terminal }
 
 -- what is seen of a piece: a word by its meaning, a label as a name, and numbers by their values
-abbrev pub terminals_in : Piece → List Terminal
-terminals_in (word text) = word_terminal text (meaning_of text) ∷ []
+abbrev pub terminals_in : Lexeme → List Terminal
+terminals_in (word text) = word_terminal text (class_of text) ∷ []
 terminals_in (label name) = Name name ∷ Colon ∷ []
 terminals_in (number value) = if is_negative value then Sign true ∷ Number (size_of value) ∷ [] else Number value ∷ []
 terminals_in (sign minus) = Sign minus ∷ []
@@ -35,14 +35,14 @@ terminals_in minus_infinity = Sign true ∷ Infinity ∷ []
 terminals_in semi_continuous = Opens section_words.Semi ∷ Sign true ∷ Name (codes "Continuous") ∷ []
 
 abbrev pub line_terminals_in : ℕ → PrintedLine → List TerminalAt
-line_terminals_in n line = map (at n) (flat_map terminals_in line.pieces)
+line_terminals_in n line = map (at n) (flat_map terminals_in line.lexemes)
 
 value-read : (value : Decimal) → IsDecimal value → value_of (number_text value) ≡ value
 value-read value h = ap (λ r. result_unwrap_or r zero_number) (number-text value h)
 
-piece-seen : (n : ℕ) (piece : Piece) → IsPrintable piece → map (seen_at n) (tokens_in piece) ≡ map (at n) (terminals_in piece)
+piece-seen : (n : ℕ) (piece : Lexeme) → IsPrintable piece → map (seen_at n) (tokens_in piece) ≡ map (at n) (terminals_in piece)
 piece-seen n (word text) h = refl
-piece-seen n (label name) h = λ i. at n (word_terminal name (h.meaning i)) ∷ at n Colon ∷ []
+piece-seen n (label name) h = λ i. at n (word_terminal name (h.word_class i)) ∷ at n Colon ∷ []
 piece-seen n (number value) h =
     elim (is_negative value) as (λ b. map (seen_at n) (if b then (kinds.Minus, codes "-") ∷ (kinds.Number, number_text (size_of value)) ∷ [] else (kinds.Number, number_text value) ∷ [])
     ≡ map (at n) (if b then Sign true ∷ Number (size_of value) ∷ [] else Number value ∷ [])) [
@@ -61,15 +61,15 @@ pub mapped-append : {X Y : Type 0} (f : X → Y) (xs ys : List X) → map f (xs 
 mapped-append f [] ys = refl
 mapped-append {X} {Y} f (x ∷ xs) ys = ap (λ (more : List Y). f x ∷ more) (mapped-append f xs ys)
 
-pieces-seen : (n : ℕ) (pieces : List Piece) → Each IsPrintable pieces → map (seen_at n) (flat_map tokens_in pieces) ≡ map (at n) (flat_map terminals_in pieces)
-pieces-seen n [] h = refl
-pieces-seen n (piece ∷ pieces) h =
-    mapped-append (seen_at n) (tokens_in piece) (flat_map tokens_in pieces)
-    ∙ (λ i. piece-seen n piece h.0 i ++ pieces-seen n pieces h.1 i)
-    ∙ sym (mapped-append (at n) (terminals_in piece) (flat_map terminals_in pieces))
+lexemes-seen : (n : ℕ) (lexemes : List Lexeme) → Each IsPrintable lexemes → map (seen_at n) (flat_map tokens_in lexemes) ≡ map (at n) (flat_map terminals_in lexemes)
+lexemes-seen n [] h = refl
+lexemes-seen n (piece ∷ lexemes) h =
+    mapped-append (seen_at n) (tokens_in piece) (flat_map tokens_in lexemes)
+    ∙ (λ i. piece-seen n piece h.0 i ++ lexemes-seen n lexemes h.1 i)
+    ∙ sym (mapped-append (at n) (terminals_in piece) (flat_map terminals_in lexemes))
 
-pub line-seen : (n : ℕ) (line : PrintedLine) → Each IsPrintable line.pieces → map (seen_at n) (line_tokens line) ≡ line_terminals_in n line
-line-seen n line h = pieces-seen n line.pieces h
+pub line-seen : (n : ℕ) (line : PrintedLine) → Each IsPrintable line.lexemes → map (seen_at n) (line_tokens line) ≡ line_terminals_in n line
+line-seen n line h = lexemes-seen n line.lexemes h
 
 -- those of printed lines that are numbered from here on
 abbrev pub all_terminals : ℕ → List PrintedLine → List TerminalAt
@@ -81,10 +81,10 @@ lines-seen n [] h = refl
 lines-seen n (line ∷ lines) h = λ i. line-seen n line h.0.each i ++ lines-seen (n + 1) lines h.1 i
 
 -- a sign and a size are the number
-pub signed-value : (value : Decimal) → signed (is_negative value) (size_of value) ≡ value
+pub signed-value : (value : Decimal) → apply_sign (is_negative value) (size_of value) ≡ value
 signed-value value = by (is_negative value) refl
   where
-    by : (b : Bool) → is_negative value ≡ b → signed b (size_of value) ≡ value
+    by : (b : Bool) → is_negative value ≡ b → apply_sign b (size_of value) ≡ value
     by true e =
         let whole : neg_ℤ (pos (unsigned_abs value.mantissa)) ≡ value.mantissa = ap (λ (b : Bool). literal_sign b (unsigned_abs value.mantissa)) (sym e) ∙ signed-size value.mantissa in
         λ i. record { mantissa = whole i; exponent = value.exponent }

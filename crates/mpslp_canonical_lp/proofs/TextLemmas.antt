@@ -8,12 +8,12 @@ use Rattle.mpslp_types.specs.declared.faults.FaultKind.{FaultKind}
 use Rattle.mpslp_types.proofs.BoolLemmas.{both_so}
 use Rattle.mpslp_decimal.proofs.CutLemmas.{Each}
 use Rattle.mpslp_lp.specs.Terminal.{TerminalAt, line_terminals}
-use Rattle.mpslp_lp.specs.OwnFault.{own_fault}
+use Rattle.mpslp_lp.specs.LexicalFault.{lexical_fault}
 use Rattle.mpslp_lp.specs.LpText.{sound_terminals}
-use Rattle.mpslp_canonical_lp.specs.Printed.{PrintedLine, printed, ended, text_of, line_tokens}
+use Rattle.mpslp_canonical_lp.specs.Printed.{PrintedLine, line_text, with_line_feeds, text_of, line_tokens}
 use Rattle.mpslp_canonical_lp.specs.Laws.{tokens_seen}
-use Rattle.mpslp_canonical_lp.proofs.PieceLemmas.{line-read}
-use Rattle.mpslp_canonical_lp.proofs.LineLemmas.{is_plain, each-printed, IsPrintableLine, line-faultless, line-terminals, seen_at}
+use Rattle.mpslp_canonical_lp.proofs.LexemeLemmas.{line-read}
+use Rattle.mpslp_canonical_lp.proofs.LineLemmas.{is_plain, each-line_text, IsPrintableLine, line-faultless, line-terminals, seen_at}
 
 -- ---- lines
 
@@ -28,9 +28,9 @@ split-feed : (line rest : List ℕ) → Each IsPlain line → slice_split is_fee
 split-feed [] rest h = refl
 split-feed (b ∷ bs) rest h = rw (h.0.0, split-feed bs rest h.1) refl
 
-split-ended : (ls : List (List ℕ)) → Each (Each IsPlain) ls → slice_split is_feed (ended ls) ≡ ls ++ [] ∷ []
-split-ended [] h = refl
-split-ended (l ∷ ls) h = split-feed l (ended ls) h.0 ∙ ap (λ (x : List (List ℕ)). l ∷ x) (split-ended ls h.1)
+split-with_line_feeds : (ls : List (List ℕ)) → Each (Each IsPlain) ls → slice_split is_feed (with_line_feeds ls) ≡ ls ++ [] ∷ []
+split-with_line_feeds [] h = refl
+split-with_line_feeds (l ∷ ls) h = split-feed l (with_line_feeds ls) h.0 ∙ ap (λ (x : List (List ℕ)). l ∷ x) (split-with_line_feeds ls h.1)
 
 no-return : (line : List ℕ) (k : ℕ) → Each IsPlain line → (slice_index line k == 13) ≡ false
 no-return [] k h = refl
@@ -45,27 +45,27 @@ parts-lines [] h = refl
 parts-lines (l ∷ []) h = ap (λ (x : List ℕ). x ∷ []) (strip-plain l h.0)
 parts-lines (l ∷ k ∷ ls) h = λ i. strip-plain l h.0 i ∷ parts-lines (k ∷ ls) h.1 i
 
-pub lines-ended : (ls : List (List ℕ)) → Each (Each IsPlain) ls → lines (ended ls) ≡ ls
-lines-ended ls h = ap lines_of_parts (split-ended ls h) ∙ parts-lines ls h
+pub lines-with_line_feeds : (ls : List (List ℕ)) → Each (Each IsPlain) ls → lines (with_line_feeds ls) ≡ ls
+lines-with_line_feeds ls h = ap lines_of_parts (split-with_line_feeds ls h) ∙ parts-lines ls h
 
 -- ---- printed lines
 
 plain-whole : (b : ℕ) → is_plain b ≡ true → IsPlain b
 plain-whole b h = (grind (arith, nat_tests), grind (arith, nat_tests))
 
-all-plain : (ls : List PrintedLine) → Each IsPrintableLine ls → Each (Each IsPlain) (map printed ls)
+all-plain : (ls : List PrintedLine) → Each IsPrintableLine ls → Each (Each IsPlain) (map line_text ls)
 all-plain [] h = tt
-all-plain (l ∷ ls) h = (each-printed IsPlain plain-whole (refl, refl) l h.0.each, all-plain ls h.1)
+all-plain (l ∷ ls) h = (each-line_text IsPlain plain-whole (refl, refl) l h.0.each, all-plain ls h.1)
 
-pub lines-text : (ls : List PrintedLine) → Each IsPrintableLine ls → lines (text_of ls) ≡ map printed ls
-lines-text ls h = lines-ended (map printed ls) (all-plain ls h)
+pub lines-text : (ls : List PrintedLine) → Each IsPrintableLine ls → lines (text_of ls) ≡ map line_text ls
+lines-text ls h = lines-with_line_feeds (map line_text ls) (all-plain ls h)
 
-pub all-faultless : (ls : List PrintedLine) → Each IsPrintableLine ls → list_all (λ line. is_none (own_fault line)) (map printed ls) ≡ true
+pub all-faultless : (ls : List PrintedLine) → Each IsPrintableLine ls → list_all (λ line. is_none (lexical_fault line)) (map line_text ls) ≡ true
 all-faultless [] h = refl
 all-faultless (l ∷ ls) h =
-    both_so (is_none (own_fault (printed l))) (list_all (λ line. is_none (own_fault line)) (map printed ls)) (ap is_none (line-faultless l h.0)) (all-faultless ls h.1)
+    both_so (is_none (lexical_fault (line_text l))) (list_all (λ line. is_none (lexical_fault line)) (map line_text ls)) (ap is_none (line-faultless l h.0)) (all-faultless ls h.1)
 
-pub all-tokens : (ls : List PrintedLine) → Each IsPrintableLine ls → map tokens_seen (map printed ls) ≡ map line_tokens ls
+pub all-tokens : (ls : List PrintedLine) → Each IsPrintableLine ls → map tokens_seen (map line_text ls) ≡ map line_tokens ls
 all-tokens [] h = refl
 all-tokens (l ∷ ls) h = λ i. line-read l h.0.each i ∷ all-tokens ls h.1 i
 
@@ -76,11 +76,11 @@ abbrev pub terminals_from : ℕ → List PrintedLine → List TerminalAt
 terminals_from n [] = []
 terminals_from n (l ∷ ls) = map (seen_at n) (line_tokens l) ++ terminals_from (n + 1) ls
 
-pub sound-terminals : (n : ℕ) (ls : List PrintedLine) → Each IsPrintableLine ls → sound_terminals (enumerate_from n (map printed ls)) ≡ terminals_from n ls
+pub sound-terminals : (n : ℕ) (ls : List PrintedLine) → Each IsPrintableLine ls → sound_terminals (enumerate_from n (map line_text ls)) ≡ terminals_from n ls
 sound-terminals n [] h = refl
 sound-terminals n (l ∷ ls) h =
     ap (λ (o : Option FaultKind). elim o as (λ _. List TerminalAt) [
       | Some kind ↦ []
-      | None ↦ line_terminals (n, printed l) ++ sound_terminals (enumerate_from (n + 1) (map printed ls))
+      | None ↦ line_terminals (n, line_text l) ++ sound_terminals (enumerate_from (n + 1) (map line_text ls))
     ]) (line-faultless l h.0)
     ∙ (λ i. line-terminals n l h.0.each i ++ sound-terminals (n + 1) ls h.1 i)

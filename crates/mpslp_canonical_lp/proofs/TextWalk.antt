@@ -4,9 +4,9 @@ use Rattle.std.specs.Prelude.{Option, Some, None, codes, if◌then◌else◌, fi
 use Rattle.std.specs.List.{flat_map}
 use Rattle.std.proofs.lemmas.List.{append-nil}
 use Rattle.mpslp_decimal.specs.Decimal.{Number as Decimal, is_zero}
-use Rattle.mpslp_core.specs.Model.{Row, Column}
-use Rattle.mpslp_types.specs.Sides.{limit_of}
-use Rattle.mpslp_builder.specs.Declaration.{Draft, empty_draft, Declarations, adding_all}
+use Rattle.mpslp_model_core.specs.Model.{Row, Column}
+use Rattle.mpslp_types.specs.Limit.{limit_of}
+use Rattle.mpslp_builder.specs.Declaration.{Draft, empty_draft, Declarations, with_declarations}
 use Rattle.mpslp_builder.specs.Refusal.{refusals_in_turn}
 use Rattle.mpslp_types.specs.declared.kinds.Limit.{Limit}
 use Rattle.mpslp_types.specs.declared.kinds.Limit.TheVariants.{MinusInf, Finite, PlusInf}
@@ -15,8 +15,8 @@ use Rattle.mpslp_decimal.proofs.CutLemmas.{Each}
 use Rattle.mpslp_decimal.proofs.CutLemmas.{Each-weaker}
 use Rattle.mpslp_lp.specs.Terminal.{TerminalAt}
 use Rattle.mpslp_lp.specs.Terminal.Terminal.{Opens}
-use Rattle.mpslp_lp.specs.Point.{none_opened, opened_with, start}
-use Rattle.mpslp_lp.specs.declared.opened.Opened.{Opened}
+use Rattle.mpslp_lp.specs.Point.{no_section_seen, with_section, start}
+use Rattle.mpslp_lp.specs.declared.sections_seen.SectionsSeen.{SectionsSeen}
 use Rattle.mpslp_lp.specs.declared.states.Place.TheVariants.{AtStart, BetweenRows, InBounds, InRow}
 use Rattle.mpslp_lp.specs.Sides.{limits_by}
 use Rattle.mpslp_lp.specs.Rows.{fits_left}
@@ -25,7 +25,7 @@ use Rattle.mpslp_lp.specs.declared.relations.Relation.TheVariants.{AtMost, AtLea
 use Rattle.mpslp_lp.specs.declared.words.Section.TheVariants as sections
 use Rattle.mpslp_lp.specs.declared.words.SectionWord.TheVariants as section_words
 use Rattle.mpslp_canonical_lp.specs.Listing.{Listing}
-use Rattle.mpslp_canonical_lp.specs.CanonicalLp.{Lines, Term, under_heading, label_line, term_line, right_line, have_same_value, left_lines, last_line, minus_large, row_terms, row_lines, line_of_some, bound_pieces, bound_lines, is_integer_column, name_line, objective_section, bounds_section, generals_section, listed_lines, under_semi_heading, is_semi_column, semis_section}
+use Rattle.mpslp_canonical_lp.specs.CanonicalLp.{Lines, Term, under_heading, label_line, term_line, right_line, have_same_value, left_lines, last_line, minus_large, row_terms, row_lines, line_of_some, bound_lexemes, bound_lines, is_integer_column, name_line, objective_section, bounds_section, generals_section, listed_lines, under_semi_heading, is_semi_column, semis_section}
 use Rattle.mpslp_canonical_lp.specs.Printed.{word, number, sense}
 use Rattle.mpslp_canonical_lp.proofs.PrintableLemmas.{IsTerm, IsFitColumn, IsFit}
 use Rattle.mpslp_canonical_lp.proofs.TerminalLemmas.{line_terminals_in, all_terminals, at}
@@ -89,61 +89,61 @@ abbrev pub IsRow : List Term → Type 0
 IsRow [] = ⊥
 IsRow (term ∷ terms) = Each IsTerm (term ∷ terms) × AreNew [] (term ∷ terms)
 
-one-row : (opened : Opened) (all : Draft) (name : List ℕ) (n : ℕ) (left : Option Decimal) (relation : Relation) (right : Decimal) (term : Term) (terms : List Term)
+one-row : (sections_seen : SectionsSeen) (all : Draft) (name : List ℕ) (n : ℕ) (left : Option Decimal) (relation : Relation) (right : Decimal) (term : Term) (terms : List Term)
     → Each IsTerm (term ∷ terms) → AreNew [] (term ∷ terms) → fits_left (left_of left) relation ≡ true
     → refusals_in_turn all (ended_by (partial name left (term ∷ terms)) relation (limit_of right)) ≡ []
-    → Walks (point_at BetweenRows opened all) (all_terminals n ((label_line name ∷ (left_line left ++ term_line term ∷ [])) ++ (map term_line terms ++ right_line relation right ∷ [])))
+    → Walks (point_at BetweenRows sections_seen all) (all_terminals n ((label_line name ∷ (left_line left ++ term_line term ∷ [])) ++ (map term_line terms ++ right_line relation right ∷ [])))
     (ended_by (partial name left (term ∷ terms)) relation (limit_of right))
-    (point_at BetweenRows opened (adding_all all (ended_by (partial name left (term ∷ terms)) relation (limit_of right))))
-one-row opened all name n left relation right term terms good new fits h =
+    (point_at BetweenRows sections_seen (with_declarations all (ended_by (partial name left (term ∷ terms)) relation (limit_of right))))
+one-row sections_seen all name n left relation right term terms good new fits h =
     let begin : Lines = label_line name ∷ (left_line left ++ term_line term ∷ []) in
     let more : Lines = map term_line terms in
     let last : Lines = right_line relation right ∷ [] in
     let made = ended_by (partial name left (term ∷ terms)) relation (limit_of right) in
-    let between = point_at (InRow (partial name left (term ∷ []))) opened all in
-    let whole = point_at (InRow (partial name left (term ∷ terms))) opened all in
-    let after = point_at BetweenRows opened (adding_all all made) in
+    let between = point_at (InRow (partial name left (term ∷ []))) sections_seen all in
+    let whole = point_at (InRow (partial name left (term ∷ terms))) sections_seen all in
+    let after = point_at BetweenRows sections_seen (with_declarations all made) in
     let k = number_after n begin in
     let j = number_after k more in
-    subst (λ (tokens : List TerminalAt). Walks (point_at BetweenRows opened all) tokens made after)
+    subst (λ (tokens : List TerminalAt). Walks (point_at BetweenRows sections_seen all) tokens made after)
     (sym (terminals-append n begin (more ++ last) ∙ ap (λ (tokens : List TerminalAt). all_terminals n begin ++ tokens) (terminals-append k more last)))
-    (walks-then (point_at BetweenRows opened all) between after (all_terminals n begin) (all_terminals k more ++ all_terminals j last) [] made
-    (begin-walk opened all name n left term good.0)
+    (walks-then (point_at BetweenRows sections_seen all) between after (all_terminals n begin) (all_terminals k more ++ all_terminals j last) [] made
+    (begin-walk sections_seen all name n left term good.0)
     (walks-then between whole after (all_terminals k more) (all_terminals j last) [] made
-    (row-terms-walk opened all name left k (term ∷ []) terms good.1 new.1)
+    (row-terms-walk sections_seen all name left k (term ∷ []) terms good.1 new.1)
     (subst (λ (tokens : List TerminalAt). Walks whole tokens made after) (sym (append-nil (line_terminals_in j (right_line relation right))))
-    (row-end-walk opened all (partial name left (term ∷ terms)) j relation right fits h))))
+    (row-end-walk sections_seen all (partial name left (term ∷ terms)) j relation right fits h))))
 
-row-walk : (opened : Opened) (all : Draft) (name : List ℕ) (n : ℕ) (lower upper : Limit) (terms : List Term) → IsRow terms → refusals_in_turn all (row_by name lower upper terms) ≡ []
-    → Walks (point_at BetweenRows opened all) (all_terminals n (label_line name ∷ (left_lines lower upper ++ (map term_line terms ++ last_line lower upper ∷ [])))) (row_by name lower upper terms)
-    (point_at BetweenRows opened (adding_all all (row_by name lower upper terms)))
-row-walk opened all name n lower upper [] good h = absurd good
-row-walk opened all name n lower upper (term ∷ terms) good h =
+row-walk : (sections_seen : SectionsSeen) (all : Draft) (name : List ℕ) (n : ℕ) (lower upper : Limit) (terms : List Term) → IsRow terms → refusals_in_turn all (row_by name lower upper terms) ≡ []
+    → Walks (point_at BetweenRows sections_seen all) (all_terminals n (label_line name ∷ (left_lines lower upper ++ (map term_line terms ++ last_line lower upper ∷ [])))) (row_by name lower upper terms)
+    (point_at BetweenRows sections_seen (with_declarations all (row_by name lower upper terms)))
+row-walk sections_seen all name n lower upper [] good h = absurd good
+row-walk sections_seen all name n lower upper (term ∷ terms) good h =
     let s = shaped lower upper in
     let made = row_by name lower upper (term ∷ terms) in
-    subst (λ (lines : Lines). Walks (point_at BetweenRows opened all) (all_terminals n (label_line name ∷ lines)) made (point_at BetweenRows opened (adding_all all made)))
+    subst (λ (lines : Lines). Walks (point_at BetweenRows sections_seen all) (all_terminals n (label_line name ∷ lines)) made (point_at BetweenRows sections_seen (with_declarations all made)))
     (append_assoc (left_line (row_left lower upper)) (term_line term ∷ []) (map term_line terms ++ right_line (row_relation lower upper) (row_right lower upper) ∷ [])
     ∙ sym (λ i. s.left i ++ (term_line term ∷ (map term_line terms ++ s.last i ∷ []))))
-    (one-row opened all name n (row_left lower upper) (row_relation lower upper) (row_right lower upper) term terms good.0 good.1 s.fits h)
+    (one-row sections_seen all name n (row_left lower upper) (row_relation lower upper) (row_right lower upper) term terms good.0 good.1 s.fits h)
 
 abbrev pub row_made : Listing → List ℕ × Row → Declarations
 row_made m row = row_by row.0 row.1.lower row.1.upper (row_terms m row.0)
 
-pub rows-walk : (m : Listing) (opened : Opened) (all : Draft) (n : ℕ) (rows : List (List ℕ × Row)) → Each (λ row. IsRow (row_terms m row.0)) rows → refusals_in_turn all (flat_map (row_made m) rows) ≡ []
-    → Walks (point_at BetweenRows opened all) (all_terminals n (flat_map (row_lines m) rows)) (flat_map (row_made m) rows) (point_at BetweenRows opened (adding_all all (flat_map (row_made m) rows)))
-rows-walk m opened all n [] good h = walks-none (point_at BetweenRows opened all)
-rows-walk m opened all n (row ∷ rows) good h =
+pub rows-walk : (m : Listing) (sections_seen : SectionsSeen) (all : Draft) (n : ℕ) (rows : List (List ℕ × Row)) → Each (λ row. IsRow (row_terms m row.0)) rows → refusals_in_turn all (flat_map (row_made m) rows) ≡ []
+    → Walks (point_at BetweenRows sections_seen all) (all_terminals n (flat_map (row_lines m) rows)) (flat_map (row_made m) rows) (point_at BetweenRows sections_seen (with_declarations all (flat_map (row_made m) rows)))
+rows-walk m sections_seen all n [] good h = walks-none (point_at BetweenRows sections_seen all)
+rows-walk m sections_seen all n (row ∷ rows) good h =
     let parts = parts-taken all (row_made m row) (flat_map (row_made m) rows) h in
     let k = number_after n (row_lines m row) in
-    subst (λ (tokens : List TerminalAt). Walks (point_at BetweenRows opened all) tokens (flat_map (row_made m) (row ∷ rows)) (point_at BetweenRows opened (adding_all all (flat_map (row_made m) (row ∷ rows)))))
+    subst (λ (tokens : List TerminalAt). Walks (point_at BetweenRows sections_seen all) tokens (flat_map (row_made m) (row ∷ rows)) (point_at BetweenRows sections_seen (with_declarations all (flat_map (row_made m) (row ∷ rows)))))
     (sym (terminals-append n (row_lines m row) (flat_map (row_lines m) rows)))
-    (parts-walk BetweenRows BetweenRows BetweenRows opened opened opened all (all_terminals n (row_lines m row)) (all_terminals k (flat_map (row_lines m) rows)) (row_made m row) (flat_map (row_made m) rows)
-    (row-walk opened all row.0 n row.1.lower row.1.upper (row_terms m row.0) good.0 parts.0)
-    (rows-walk m opened (adding_all all (row_made m row)) k rows good.1 parts.1))
+    (parts-walk BetweenRows BetweenRows BetweenRows sections_seen sections_seen sections_seen all (all_terminals n (row_lines m row)) (all_terminals k (flat_map (row_lines m) rows)) (row_made m row) (flat_map (row_made m) rows)
+    (row-walk sections_seen all row.0 n row.1.lower row.1.upper (row_terms m row.0) good.0 parts.0)
+    (rows-walk m sections_seen (with_declarations all (row_made m row)) k rows good.1 parts.1))
 
 -- ---- columns without a line declare nothing
 
-no-line : (column : List ℕ) (lower upper : Limit) → line_of_some (bound_pieces column lower upper) ≡ [] → bound_made column lower upper ≡ []
+no-line : (column : List ℕ) (lower upper : Limit) → line_of_some (bound_lexemes column lower upper) ≡ [] → bound_made column lower upper ≡ []
 no-line column MinusInf (Finite b) h = cc
 no-line column (Finite a) (Finite b) h = absurd (by (have_same_value a b) h)
   where
@@ -191,8 +191,8 @@ tail-ends all n columns integers semis fit whole partly h = by (flat_map bound_l
     kinds_made : Declarations
     kinds_made = flat_map general_made integers ++ flat_map semi_made semis
 
-    with_bounds : Opened
-    with_bounds = opened_with in_rows sections.Bounds
+    with_bounds : SectionsSeen
+    with_bounds = with_section in_rows sections.Bounds
 
     by : (lines : Lines) → flat_map bound_lines columns ≡ lines
         → EndsWith (point_at BetweenRows in_rows all) (all_terminals n (under_heading (codes "Bounds") lines ++ generals)) (flat_map column_made columns ++ kinds_made)
@@ -205,14 +205,14 @@ tail-ends all n columns integers semis fit whole partly h = by (flat_map bound_l
         let parts = parts-taken all (flat_map column_made columns) kinds_made h in
         let bounds = flat_map column_made columns in
         let k = number_after (n + 1) (line ∷ lines) in
-        let inside = subst (λ (printed_lines : Lines). Walks (point_at (InBounds None) with_bounds all) (all_terminals (n + 1) printed_lines) bounds (point_at (InBounds None) with_bounds (adding_all all bounds))) e
+        let inside = subst (λ (printed_lines : Lines). Walks (point_at (InBounds None) with_bounds all) (all_terminals (n + 1) printed_lines) bounds (point_at (InBounds None) with_bounds (with_declarations all bounds))) e
         (bounds-walk with_bounds all (n + 1) columns fit parts.0) in
         subst (λ (tokens : List TerminalAt). EndsWith (point_at BetweenRows in_rows all) tokens (bounds ++ kinds_made))
         (ap (λ (more : List TerminalAt). at n (Opens section_words.Bounds) ∷ more) (sym (terminals-append (n + 1) (line ∷ lines) generals)))
         (walk-ends BetweenRows (InBounds None) in_rows with_bounds all (at n (Opens section_words.Bounds) ∷ []) (all_terminals (n + 1) (line ∷ lines) ++ all_terminals k generals) [] (bounds ++ kinds_made)
         (bounds-section-walks BetweenRows in_rows all n refl refl)
         (walk-ends (InBounds None) (InBounds None) with_bounds with_bounds all (all_terminals (n + 1) (line ∷ lines)) (all_terminals k generals) bounds kinds_made inside
-        (generals-end (InBounds None) with_bounds (adding_all all bounds) k integers semis whole partly refl refl (record { semis = refl; now = refl; later = refl }) (record { semis = refl; now = refl; later = refl }) parts.1)))
+        (generals-end (InBounds None) with_bounds (with_declarations all bounds) k integers semis whole partly refl refl (record { semis = refl; now = refl; later = refl }) (record { semis = refl; now = refl; later = refl }) parts.1)))
 
 -- ---- the whole text
 
@@ -233,7 +233,7 @@ text-ends m fit good h =
     let made = flat_map (row_made m) m.rows in
     let later = flat_map column_made m.columns ++ (flat_map general_made integers ++ flat_map semi_made semis) in
     let parts = parts-taken empty_draft begun (made ++ later) h in
-    let more = parts-taken (adding_all empty_draft begun) made later parts.1 in
+    let more = parts-taken (with_declarations empty_draft begun) made later parts.1 in
     let first : Lines = objective_section m ++ subject_heading ∷ [] in
     let k = number_after 1 first in
     let j = number_after k rows in
@@ -243,8 +243,8 @@ text-ends m fit good h =
     (sym (ap (all_terminals 1) (sym (append_assoc (objective_section m) (subject_heading ∷ []) (rows ++ tail)))
     ∙ terminals-append 1 first (rows ++ tail)
     ∙ ap (λ (tokens : List TerminalAt). all_terminals 1 first ++ tokens) (terminals-append k rows tail)))
-    (walk-ends AtStart BetweenRows none_opened in_rows empty_draft (all_terminals 1 first) (all_terminals k rows ++ all_terminals j tail) begun (made ++ later)
+    (walk-ends AtStart BetweenRows no_section_seen in_rows empty_draft (all_terminals 1 first) (all_terminals k rows ++ all_terminals j tail) begun (made ++ later)
     (objective-walk m fit parts.0)
-    (walk-ends BetweenRows BetweenRows in_rows in_rows (adding_all empty_draft begun) (all_terminals k rows) (all_terminals j tail) made later
-    (rows-walk m in_rows (adding_all empty_draft begun) k m.rows good more.0)
-    (tail-ends (adding_all (adding_all empty_draft begun) made) j m.columns integers semis fit.columns whole partly more.1)))
+    (walk-ends BetweenRows BetweenRows in_rows in_rows (with_declarations empty_draft begun) (all_terminals k rows) (all_terminals j tail) made later
+    (rows-walk m in_rows (with_declarations empty_draft begun) k m.rows good more.0)
+    (tail-ends (with_declarations (with_declarations empty_draft begun) made) j m.columns integers semis fit.columns whole partly more.1)))

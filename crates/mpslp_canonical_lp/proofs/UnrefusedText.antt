@@ -7,16 +7,16 @@ use Rattle.std.specs.Cmp.Lexicographic.{nat_list_eq_equiv}
 use Rattle.std.specs.FinMap.{entries}
 use Rattle.mpslp_decimal.specs.Decimal.{Number, is_zero}
 use Rattle.mpslp_types.specs.Name.{same_bytes, bytes_cmp, is_one_of}
-use Rattle.mpslp_types.specs.Sides.{limit_of, is_plus_infinite, is_minus_infinite, is_bounded_decimal, are_sides}
+use Rattle.mpslp_types.specs.Limit.{limit_of, is_plus_infinite, is_minus_infinite, is_bounded_decimal, are_sides}
 use Rattle.mpslp_types.specs.declared.kinds.Kind.{Kind}
 use Rattle.mpslp_types.specs.declared.kinds.Kind.TheVariants.{Continuous, Integer, Semi}
 use Rattle.mpslp_types.specs.declared.kinds.Limit.{Limit}
 use Rattle.mpslp_types.specs.declared.kinds.Limit.TheVariants.{MinusInf, Finite, PlusInf}
 use Rattle.mpslp_types.proofs.BoolLemmas.{both_false, so_not, nor}
 use Rattle.mpslp_types.proofs.EachLemmas.{Each, Each-weaker, Each-filter, Each-all, list_all-from_Each}
-use Rattle.mpslp_core.specs.Model.{LinearModel, Column, is_sound_row, is_sound_column, IsSound}
-use Rattle.mpslp_core.proofs.PutsLemmas.{puts}
-use Rattle.mpslp_builder.specs.Declaration.{Declaration, declare_marked, declare_integer, declare_binary, declare_semi, bounds_declared, Declarations, Draft, draft_of, empty_draft, adding, adding_all, at_name, has_name, names_in, is_integer, is_semi, have_infinite_side}
+use Rattle.mpslp_model_core.specs.Model.{LinearModel, Column, is_sound_row, is_sound_column, IsSound}
+use Rattle.mpslp_model_core.proofs.PutsLemmas.{puts}
+use Rattle.mpslp_builder.specs.Declaration.{Declaration, declare_marked, declare_integer, declare_binary, declare_semi, bounds_declared, Declarations, Draft, draft_of, empty_draft, with_declaration, with_declarations, at_name, has_name, names_in, is_integer, is_semi, have_infinite_side}
 use Rattle.mpslp_builder.specs.Refusal.{refusals_in_turn}
 use Rattle.mpslp_builder.specs.Consistency.{is_allowed, has_objective_rhs, has_one_constant, AreConsistent}
 use Rattle.mpslp_builder.proofs.DraftLemmas.{rhs_part, rhs_values-all}
@@ -110,14 +110,14 @@ abbrev says_semi : List ℕ → Declaration → Bool
 says_semi q (declare_semi column) = same_bytes q column
 says_semi q _ = false
 
-semi-one : (all : Draft) (d : Declaration) (q : List ℕ) → is_semi (adding all d) q ≡ (says_semi q d || is_semi all q)
+semi-one : (all : Draft) (d : Declaration) (q : List ℕ) → is_semi (with_declaration all d) q ≡ (says_semi q d || is_semi all q)
 semi-one all (declare_semi column) q = has-put q column tt all.semis
 semi-one all _ q = refl
 
-semis-said : (ds : Declarations) (all : Draft) (q : List ℕ) → is_semi (adding_all all ds) q ≡ (list_any (says_semi q) ds || is_semi all q)
+semis-said : (ds : Declarations) (all : Draft) (q : List ℕ) → is_semi (with_declarations all ds) q ≡ (list_any (says_semi q) ds || is_semi all q)
 semis-said [] all q = refl
 semis-said (d ∷ ds) all q =
-    semis-said ds (adding all d) q ∙ ap (λ (b : Bool). list_any (says_semi q) ds || b) (semi-one all d q) ∙ or_in (says_semi q d) (list_any (says_semi q) ds) (is_semi all q)
+    semis-said ds (with_declaration all d) q ∙ ap (λ (b : Bool). list_any (says_semi q) ds || b) (semi-one all d q) ∙ or_in (says_semi q d) (list_any (says_semi q) ds) (is_semi all q)
 
 abbrev says_integer : List ℕ → Declaration → Bool
 says_integer q (declare_marked column) = same_bytes q column
@@ -140,7 +140,7 @@ in_third true false true c = refl
 in_third true false false c = refl
 in_third false a b c = refl
 
-integer-one : (all : Draft) (d : Declaration) (q : List ℕ) → is_integer (adding all d) q ≡ (says_integer q d || is_integer all q)
+integer-one : (all : Draft) (d : Declaration) (q : List ℕ) → is_integer (with_declaration all d) q ≡ (says_integer q d || is_integer all q)
 integer-one all (declare_marked column) q =
     ap (λ (b : Bool). b || (has_name all.integers q || has_name all.binaries q)) (has-put q column tt all.marked)
     ∙ in_first (same_bytes q column) (has_name all.marked q) (has_name all.integers q) (has_name all.binaries q)
@@ -152,10 +152,10 @@ integer-one all (declare_binary column) q =
     ∙ in_third (same_bytes q column) (has_name all.marked q) (has_name all.integers q) (has_name all.binaries q)
 integer-one all _ q = refl
 
-integers-said : (ds : Declarations) (all : Draft) (q : List ℕ) → is_integer (adding_all all ds) q ≡ (list_any (says_integer q) ds || is_integer all q)
+integers-said : (ds : Declarations) (all : Draft) (q : List ℕ) → is_integer (with_declarations all ds) q ≡ (list_any (says_integer q) ds || is_integer all q)
 integers-said [] all q = refl
 integers-said (d ∷ ds) all q =
-    integers-said ds (adding all d) q
+    integers-said ds (with_declaration all d) q
     ∙ ap (λ (b : Bool). list_any (says_integer q) ds || b) (integer-one all d q) ∙ or_in (says_integer q d) (list_any (says_integer q) ds) (is_integer all q)
 
 -- ---- a name has one column, of one kind

@@ -3,7 +3,7 @@ use Rattle.std.proofs.Common.{◌≡◌, refl}
 use Rattle.std.specs.Prelude.{ℕ, ℤ, pos, negsuc, Some, List, ◌∷◌, [], codes, length}
 use Rattle.std.specs.Fmt.{digits}
 use Rattle.mpslp_decimal.specs.Decimal.{Number, trailing_zeros, zero_number}
-use Rattle.mpslp_core.specs.Model.{CoefficientKey, Row, Column}
+use Rattle.mpslp_model_core.specs.Model.{CoefficientKey, Row, Column}
 use Rattle.mpslp_types.specs.declared.faults.NameAt.TheVariants as places
 use Rattle.mpslp_types.specs.declared.kinds.Sense.{Sense}
 use Rattle.mpslp_types.specs.declared.kinds.Sense.TheVariants.{Minimize, Maximize}
@@ -14,7 +14,7 @@ use Rattle.mpslp_types.specs.declared.kinds.Limit.TheVariants.{MinusInf, Finite,
 use Rattle.mpslp_lp.proofs.WorkedFiles.{text}
 use Rattle.mpslp_canonical_lp.specs.Listing.{Listing}
 use Rattle.mpslp_canonical_lp.specs.Unfit.{unfit}
-use Rattle.mpslp_canonical_lp.proofs.ListedText.{model_in, IsPrinted, printed-from_passes, unfit-listed}
+use Rattle.mpslp_canonical_lp.proofs.ListedText.{model_in, IsPrinted, line_text-from_passes, unfit-listed}
 
 -- ---- models by their entries, in byte order
 
@@ -55,7 +55,7 @@ small_model = listing Minimize (codes "COST") zero_number
 pub small : IsPrinted small_model (text small_lines)
 unfolding digits trailing_zeros
 small =
-    printed-from_passes small_model (text small_lines) refl refl refl
+    line_text-from_passes small_model (text small_lines) refl refl refl
     (record { is_text = refl; objective = refl; legal = refl; unrefused = refl; no_fault = refl; model = refl })
 
 -- it has 92 bytes
@@ -77,7 +77,7 @@ unit_integer_model = listing Minimize (codes "C") zero_number
 pub unit_integer : IsPrinted unit_integer_model (text unit_integer_lines)
 unfolding digits trailing_zeros
 unit_integer =
-    printed-from_passes unit_integer_model (text unit_integer_lines) refl refl refl
+    line_text-from_passes unit_integer_model (text unit_integer_lines) refl refl refl
     (record { is_text = refl; objective = refl; legal = refl; unrefused = refl; no_fault = refl; model = refl })
 
 -- ---- a semi-continuous column
@@ -95,7 +95,7 @@ semi_column_model = listing Minimize (codes "C") zero_number
 pub semi_column : IsPrinted semi_column_model (text semi_column_lines)
 unfolding digits trailing_zeros
 semi_column =
-    printed-from_passes semi_column_model (text semi_column_lines) refl refl refl
+    line_text-from_passes semi_column_model (text semi_column_lines) refl refl refl
     (record { is_text = refl; objective = refl; legal = refl; unrefused = refl; no_fault = refl; model = refl })
 
 -- ---- an integer column without an upper bound
@@ -113,7 +113,7 @@ integer_without_upper_model = listing Minimize (codes "C") zero_number
 pub integer_without_upper : IsPrinted integer_without_upper_model (text integer_without_upper_lines)
 unfolding digits trailing_zeros
 integer_without_upper =
-    printed-from_passes integer_without_upper_model (text integer_without_upper_lines) refl refl refl
+    line_text-from_passes integer_without_upper_model (text integer_without_upper_lines) refl refl refl
     (record { is_text = refl; objective = refl; legal = refl; unrefused = refl; no_fault = refl; model = refl })
 
 -- ---- a negative constant
@@ -131,7 +131,7 @@ constant_model = listing Minimize (codes "C") (units (negsuc 4))
 pub constant : IsPrinted constant_model (text constant_lines)
 unfolding digits trailing_zeros
 constant =
-    printed-from_passes constant_model (text constant_lines) refl refl refl
+    line_text-from_passes constant_model (text constant_lines) refl refl refl
     (record { is_text = refl; objective = refl; legal = refl; unrefused = refl; no_fault = refl; model = refl })
 
 -- ---- a column without a lower bound
@@ -149,7 +149,7 @@ negative_upper_model = listing Minimize (codes "C") zero_number
 pub negative_upper : IsPrinted negative_upper_model (text negative_upper_lines)
 unfolding digits trailing_zeros
 negative_upper =
-    printed-from_passes negative_upper_model (text negative_upper_lines) refl refl refl
+    line_text-from_passes negative_upper_model (text negative_upper_lines) refl refl refl
     (record { is_text = refl; objective = refl; legal = refl; unrefused = refl; no_fault = refl; model = refl })
 
 -- ---- a fixed column
@@ -167,7 +167,7 @@ zero_upper_model = listing Minimize (codes "C") zero_number
 pub zero_upper : IsPrinted zero_upper_model (text zero_upper_lines)
 unfolding digits trailing_zeros
 zero_upper =
-    printed-from_passes zero_upper_model (text zero_upper_lines) refl refl refl
+    line_text-from_passes zero_upper_model (text zero_upper_lines) refl refl refl
     (record { is_text = refl; objective = refl; legal = refl; unrefused = refl; no_fault = refl; model = refl })
 
 -- ---- a free column
@@ -185,7 +185,7 @@ infinite_bounds_model = listing Minimize (codes "C") zero_number
 pub infinite_bounds : IsPrinted infinite_bounds_model (text infinite_bounds_lines)
 unfolding digits trailing_zeros
 infinite_bounds =
-    printed-from_passes infinite_bounds_model (text infinite_bounds_lines) refl refl refl
+    line_text-from_passes infinite_bounds_model (text infinite_bounds_lines) refl refl refl
     (record { is_text = refl; objective = refl; legal = refl; unrefused = refl; no_fault = refl; model = refl })
 
 -- ---- a lower bound alone
@@ -203,7 +203,7 @@ lower_bound_model = listing Minimize (codes "C") zero_number
 pub lower_bound : IsPrinted lower_bound_model (text lower_bound_lines)
 unfolding digits trailing_zeros
 lower_bound =
-    printed-from_passes lower_bound_model (text lower_bound_lines) refl refl refl
+    line_text-from_passes lower_bound_model (text lower_bound_lines) refl refl refl
     (record { is_text = refl; objective = refl; legal = refl; unrefused = refl; no_fault = refl; model = refl })
 
 -- ---- a column without coefficients, a row without terms, and a free row
@@ -221,7 +221,7 @@ empty_column_model = listing Minimize (codes "C") zero_number
 pub empty_column : IsPrinted empty_column_model (text empty_column_lines)
 unfolding digits trailing_zeros
 empty_column =
-    printed-from_passes empty_column_model (text empty_column_lines) refl refl refl
+    line_text-from_passes empty_column_model (text empty_column_lines) refl refl refl
     (record { is_text = refl; objective = refl; legal = refl; unrefused = refl; no_fault = refl; model = refl })
 
 -- ---- rows between two limits
@@ -239,7 +239,7 @@ ranges_model = listing Minimize (codes "C") zero_number
 pub ranges : IsPrinted ranges_model (text ranges_lines)
 unfolding digits trailing_zeros
 ranges =
-    printed-from_passes ranges_model (text ranges_lines) refl refl refl
+    line_text-from_passes ranges_model (text ranges_lines) refl refl refl
     (record { is_text = refl; objective = refl; legal = refl; unrefused = refl; no_fault = refl; model = refl })
 
 -- ---- coefficients of either sign
@@ -257,7 +257,7 @@ touching_model = listing Minimize (codes "obj") zero_number
 pub touching : IsPrinted touching_model (text touching_lines)
 unfolding digits trailing_zeros
 touching =
-    printed-from_passes touching_model (text touching_lines) refl refl refl
+    line_text-from_passes touching_model (text touching_lines) refl refl refl
     (record { is_text = refl; objective = refl; legal = refl; unrefused = refl; no_fault = refl; model = refl })
 
 -- ---- integer columns, one of them fixed
@@ -275,7 +275,7 @@ fixed_binary_model = listing Minimize (codes "obj") zero_number
 pub fixed_binary : IsPrinted fixed_binary_model (text fixed_binary_lines)
 unfolding digits trailing_zeros
 fixed_binary =
-    printed-from_passes fixed_binary_model (text fixed_binary_lines) refl refl refl
+    line_text-from_passes fixed_binary_model (text fixed_binary_lines) refl refl refl
     (record { is_text = refl; objective = refl; legal = refl; unrefused = refl; no_fault = refl; model = refl })
 
 -- ---- a maximized model with all sections
@@ -293,7 +293,7 @@ maximized_model = listing Maximize (codes "obj") zero_number
 pub maximized : IsPrinted maximized_model (text maximized_lines)
 unfolding digits trailing_zeros
 maximized =
-    printed-from_passes maximized_model (text maximized_lines) refl refl refl
+    line_text-from_passes maximized_model (text maximized_lines) refl refl refl
     (record { is_text = refl; objective = refl; legal = refl; unrefused = refl; no_fault = refl; model = refl })
 
 -- ---- a column between two bounds
@@ -311,7 +311,7 @@ upper_bound_model = listing Minimize (codes "C") zero_number
 pub upper_bound : IsPrinted upper_bound_model (text upper_bound_lines)
 unfolding digits trailing_zeros
 upper_bound =
-    printed-from_passes upper_bound_model (text upper_bound_lines) refl refl refl
+    line_text-from_passes upper_bound_model (text upper_bound_lines) refl refl refl
     (record { is_text = refl; objective = refl; legal = refl; unrefused = refl; no_fault = refl; model = refl })
 
 -- ---- names that LP cannot tell: the objective's is told first, then a row's, then a column's

@@ -6,7 +6,7 @@ use Rattle.std.specs.Ordering.{is_eq}
 use Rattle.std.specs.FinMap.{find}
 use Rattle.mpslp_decimal.specs.Decimal.{Number, is_zero, is_negative, size_of, zero_number, decimal_cmp}
 use Rattle.mpslp_types.specs.Name.{same_bytes}
-use Rattle.mpslp_core.specs.Model.{LinearModel, Row, Column, CoefficientKey, key_cmp}
+use Rattle.mpslp_model_core.specs.Model.{LinearModel, Row, Column, CoefficientKey, key_cmp}
 use Rattle.mpslp_types.specs.declared.kinds.Sense.{Sense}
 use Rattle.mpslp_types.specs.declared.kinds.Sense.TheVariants.{Minimize, Maximize}
 use Rattle.mpslp_types.specs.declared.kinds.Kind.{Kind}
@@ -15,7 +15,7 @@ use Rattle.mpslp_types.specs.declared.kinds.Limit.{Limit}
 use Rattle.mpslp_types.specs.declared.kinds.Limit.TheVariants.{MinusInf, Finite}
 use Rattle.mpslp_lp.specs.declared.relations.Relation.{Relation}
 use Rattle.mpslp_lp.specs.declared.relations.Relation.TheVariants.{AtMost, AtLeast, EqualTo}
-use Rattle.mpslp_canonical_lp.specs.Printed.{PrintedLine, Piece, word, label, number, sign, sense, minus_infinity, text_of, semi_continuous}
+use Rattle.mpslp_canonical_lp.specs.Printed.{PrintedLine, Lexeme, word, label, number, sign, sense, minus_infinity, text_of, semi_continuous}
 use Rattle.mpslp_canonical_lp.specs.Listing.{Listing, listing_of}
 
 abbrev pub Lines : Type 0
@@ -25,15 +25,15 @@ Lines = List PrintedLine
 
 -- the words of a section, in column 1
 abbrev pub heading : List (List ℕ) → PrintedLine
-heading words = record { indent = 0; pieces = map word words }
+heading words = record { indent = 0; lexemes = map word words }
 
 -- what is named, and a column's bounds, after one blank
-abbrev pub short_line : List Piece → PrintedLine
-short_line pieces = record { indent = 1; pieces = pieces }
+abbrev pub short_line : List Lexeme → PrintedLine
+short_line lexemes = record { indent = 1; lexemes = lexemes }
 
 -- what belongs to a name, after two
-abbrev pub long_line : List Piece → PrintedLine
-long_line pieces = record { indent = 2; pieces = pieces }
+abbrev pub long_line : List Lexeme → PrintedLine
+long_line lexemes = record { indent = 2; lexemes = lexemes }
 
 -- a section whose heading stands only where there are lines
 abbrev pub under_heading : List ℕ → Lines → Lines
@@ -44,15 +44,15 @@ abbrev pub label_line : List ℕ → PrintedLine
 label_line name = short_line (label name ∷ [])
 
 -- the sign of a number, and its size
-abbrev pub signed_pieces : Number → List Piece
-signed_pieces value = sign (is_negative value) ∷ number (size_of value) ∷ []
+abbrev pub signed_lexemes : Number → List Lexeme
+signed_lexemes value = sign (is_negative value) ∷ number (size_of value) ∷ []
 
 -- a column, and the value of its coefficient
 abbrev pub Term : Type 0
 Term = List ℕ × Number
 
 abbrev pub term_line : Term → PrintedLine
-term_line term = long_line (signed_pieces term.1 ++ word term.0 ∷ [])
+term_line term = long_line (signed_lexemes term.1 ++ word term.0 ∷ [])
 
 -- ---- the objective
 
@@ -75,7 +75,7 @@ abbrev pub objective_terms : Listing → List Term
 objective_terms m = filter_map (objective_term m) m.columns
 
 abbrev pub constant_lines : Number → Lines
-constant_lines value = if is_zero value then [] else long_line (signed_pieces value) ∷ []
+constant_lines value = if is_zero value then [] else long_line (signed_lexemes value) ∷ []
 
 abbrev pub objective_section : Listing → Lines
 objective_section m =
@@ -124,20 +124,20 @@ rows_section m = heading (codes "Subject" ∷ codes "To" ∷ []) ∷ flat_map (r
 -- ---- bounds, where they are not 0 and infinity
 
 -- what is printed of a column between these bounds
-abbrev pub bound_pieces : List ℕ → Limit → Limit → List Piece
-bound_pieces column MinusInf (Finite upper) = minus_infinity ∷ sense AtMost ∷ word column ∷ sense AtMost ∷ number upper ∷ []
-bound_pieces column (Finite lower) (Finite upper) =
+abbrev pub bound_lexemes : List ℕ → Limit → Limit → List Lexeme
+bound_lexemes column MinusInf (Finite upper) = minus_infinity ∷ sense AtMost ∷ word column ∷ sense AtMost ∷ number upper ∷ []
+bound_lexemes column (Finite lower) (Finite upper) =
     if have_same_value lower upper then word column ∷ sense EqualTo ∷ number upper ∷ []
     else number lower ∷ sense AtMost ∷ word column ∷ sense AtMost ∷ number upper ∷ []
-bound_pieces column (Finite lower) _ = if is_zero lower then [] else word column ∷ sense AtLeast ∷ number lower ∷ []
-bound_pieces column _ _ = word column ∷ word (codes "free") ∷ []
+bound_lexemes column (Finite lower) _ = if is_zero lower then [] else word column ∷ sense AtLeast ∷ number lower ∷ []
+bound_lexemes column _ _ = word column ∷ word (codes "free") ∷ []
 
-abbrev pub line_of_some : List Piece → Lines
+abbrev pub line_of_some : List Lexeme → Lines
 line_of_some [] = []
-line_of_some (piece ∷ pieces) = short_line (piece ∷ pieces) ∷ []
+line_of_some (piece ∷ lexemes) = short_line (piece ∷ lexemes) ∷ []
 
 abbrev pub bound_lines : List ℕ × Column → Lines
-bound_lines column = line_of_some (bound_pieces column.0 column.1.lower column.1.upper)
+bound_lines column = line_of_some (bound_lexemes column.0 column.1.lower column.1.upper)
 
 abbrev pub bounds_section : Listing → Lines
 bounds_section m = under_heading (codes "Bounds") (flat_map bound_lines m.columns)
@@ -169,7 +169,7 @@ abbrev pub is_semi_column : List ℕ × Column → Bool
 is_semi_column column = is_semi_kind column.1.kind
 
 abbrev pub semi_heading : PrintedLine
-semi_heading = record { indent = 0; pieces = semi_continuous ∷ [] }
+semi_heading = record { indent = 0; lexemes = semi_continuous ∷ [] }
 
 abbrev pub under_semi_heading : Lines → Lines
 under_semi_heading [] = []

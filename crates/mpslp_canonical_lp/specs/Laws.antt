@@ -2,11 +2,11 @@
 use Rattle.std.specs.Prelude.{◌≡◌, ◌↔◌, ℕ, List, map, None, IsTrue, is_none}
 use Rattle.std.specs.List.{list_all}
 use Rattle.std.specs.Str.Lines.{lines}
-use Rattle.mpslp_core.specs.Model.{LinearModel, IsSound}
+use Rattle.mpslp_model_core.specs.Model.{LinearModel, IsSound}
 use Rattle.mpslp_lp.specs.Token.{Token, tokens}
-use Rattle.mpslp_lp.specs.OwnFault.{own_fault}
+use Rattle.mpslp_lp.specs.LexicalFault.{lexical_fault}
 use Rattle.mpslp_lp.specs.LpText.{DeclaresLp}
-use Rattle.mpslp_canonical_lp.specs.Printed.{SeenToken, printed, line_tokens}
+use Rattle.mpslp_canonical_lp.specs.Printed.{SeenToken, line_text, line_tokens}
 use Rattle.mpslp_canonical_lp.specs.CanonicalLp.{canonical_lines, canonical_lp}
 use Rattle.mpslp_canonical_lp.specs.Unfit.{unfit}
 
@@ -17,9 +17,9 @@ tokens_seen line = map (λ (token : Token). (token.kind, token.text)) (tokens li
 -- The canonical text of a model is cut into the lines that were printed; none of them has a fault by itself; and the
 -- tokens of each are those that its pieces were printed from.
 pub record IsReadAsPrinted (m : LinearModel) : Type 0 where
-  pub lines_are : lines (canonical_lp m) ≡ map printed (canonical_lines m)
-  pub faultless : IsTrue (list_all (λ line. is_none (own_fault line)) (map printed (canonical_lines m)))
-  pub tokens_are : map tokens_seen (map printed (canonical_lines m)) ≡ map line_tokens (canonical_lines m)
+  pub lines_are : lines (canonical_lp m) ≡ map line_text (canonical_lines m)
+  pub faultless : IsTrue (list_all (λ line. is_none (lexical_fault line)) (map line_text (canonical_lines m)))
+  pub tokens_are : map tokens_seen (map line_text (canonical_lines m)) ≡ map line_tokens (canonical_lines m)
 
 -- So it is read where the model is sound and all its names are LP names.
 abbrev pub AreReadAsPrinted : Type 0

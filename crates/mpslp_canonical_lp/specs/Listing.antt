@@ -2,7 +2,7 @@
 use Rattle.std.specs.Prelude.{ℕ, List}
 use Rattle.std.specs.FinMap.{entries}
 use Rattle.mpslp_decimal.specs.Decimal.{Number}
-use Rattle.mpslp_core.specs.Model.{LinearModel, Row, Column, CoefficientKey}
+use Rattle.mpslp_model_core.specs.Model.{LinearModel, Row, Column, CoefficientKey}
 use Rattle.mpslp_types.specs.declared.kinds.Sense.{Sense}
 
 pub record Listing : Type 0 where

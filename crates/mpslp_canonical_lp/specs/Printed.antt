@@ -8,23 +8,23 @@ use Rattle.mpslp_lp.specs.declared.relations.Relation.TheVariants.{AtMost, AtLea
 use Rattle.mpslp_lp.specs.declared.tokens.TokenKind.{TokenKind}
 use Rattle.mpslp_lp.specs.declared.tokens.TokenKind.TheVariants as kinds
 
-pub data Piece : Type 0 where
+pub data Lexeme : Type 0 where
   -- a name, or a word of the language
-  word : List ℕ → Piece
+  word : List ℕ → Lexeme
   -- a name and a colon
-  label : List ℕ → Piece
+  label : List ℕ → Lexeme
   -- a number with its sign, where it is negative
-  number : Number → Piece
-  sign : (minus : Bool) → Piece
-  sense : Relation → Piece
-  minus_infinity : Piece
+  number : Number → Lexeme
+  sign : (minus : Bool) → Lexeme
+  sense : Relation → Lexeme
+  minus_infinity : Lexeme
   -- the opening of a section, which is read as three tokens
-  semi_continuous : Piece
+  semi_continuous : Lexeme
 
 -- pieces after so many blanks
 pub record PrintedLine : Type 0 where
   pub indent : ℕ
-  pub pieces : List Piece
+  pub lexemes : List Lexeme
 
 -- ---- how they are printed
 
@@ -36,25 +36,25 @@ sense_bytes AtMost = codes "<="
 sense_bytes AtLeast = codes ">="
 sense_bytes EqualTo = codes "="
 
-abbrev pub piece_text : Piece → List ℕ
-piece_text (word text) = text
-piece_text (label name) = name ++ codes ":"
-piece_text (number value) = number_text value
-piece_text (sign minus) = sign_bytes minus
-piece_text (sense relation) = sense_bytes relation
-piece_text minus_infinity = codes "-infinity"
-piece_text semi_continuous = codes "Semi-Continuous"
+abbrev pub lexeme_text : Lexeme → List ℕ
+lexeme_text (word text) = text
+lexeme_text (label name) = name ++ codes ":"
+lexeme_text (number value) = number_text value
+lexeme_text (sign minus) = sign_bytes minus
+lexeme_text (sense relation) = sense_bytes relation
+lexeme_text minus_infinity = codes "-infinity"
+lexeme_text semi_continuous = codes "Semi-Continuous"
 
 -- one blank between the pieces
-abbrev pub printed : PrintedLine → List ℕ
-printed line = replicate line.indent 32 ++ join_by piece_text (codes " ") line.pieces
+abbrev pub line_text : PrintedLine → List ℕ
+line_text line = replicate line.indent 32 ++ join_by lexeme_text (codes " ") line.lexemes
 
 -- each line ended by a line feed
-abbrev pub ended : List (List ℕ) → List ℕ
-ended lines = flat_map (λ line. line ++ 10 ∷ []) lines
+abbrev pub with_line_feeds : List (List ℕ) → List ℕ
+with_line_feeds lines = flat_map (λ line. line ++ 10 ∷ []) lines
 
 abbrev pub text_of : List PrintedLine → List ℕ
-text_of lines = ended (map printed lines)
+text_of lines = with_line_feeds (map line_text lines)
 
 -- ---- what is read in them
 
@@ -70,7 +70,7 @@ sense_kind EqualTo = kinds.Equal
 abbrev pub SeenToken : Type 0
 SeenToken = TokenKind × List ℕ
 
-abbrev pub tokens_in : Piece → List SeenToken
+abbrev pub tokens_in : Lexeme → List SeenToken
 tokens_in (word text) = (kinds.Word, text) ∷ []
 tokens_in (label name) = (kinds.Word, name) ∷ (kinds.Colon, codes ":") ∷ []
 tokens_in (number value) =
@@ -82,4 +82,4 @@ tokens_in minus_infinity = (kinds.Minus, codes "-") ∷ (kinds.Word, codes "infi
 tokens_in semi_continuous = (kinds.Word, codes "Semi") ∷ (kinds.Minus, codes "-") ∷ (kinds.Word, codes "Continuous") ∷ []
 
 abbrev pub line_tokens : PrintedLine → List SeenToken
-line_tokens line = flat_map tokens_in line.pieces
+line_tokens line = flat_map tokens_in line.lexemes

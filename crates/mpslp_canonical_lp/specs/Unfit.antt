@@ -2,7 +2,7 @@
 use Rattle.std.specs.Prelude.{ℕ, Bool, not, List, map, Option, Some, None, position, if◌then◌else◌}
 use Rattle.std.specs.Option.{option_map}
 use Rattle.mpslp_types.specs.Name.{is_lp_name}
-use Rattle.mpslp_core.specs.Model.{LinearModel}
+use Rattle.mpslp_model_core.specs.Model.{LinearModel}
 use Rattle.mpslp_types.specs.declared.faults.NameAt.{NameAt}
 use Rattle.mpslp_types.specs.declared.faults.NameAt.TheVariants.{Objective, Row, Column}
 use Rattle.mpslp_canonical_lp.specs.Listing.{Listing, listing_of}

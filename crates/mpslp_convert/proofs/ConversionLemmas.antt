@@ -4,7 +4,7 @@ use Rattle.std.specs.Prelude.{IfOk}
 use Rattle.std.specs.Bool.{Decides}
 use Rattle.std.specs.declared.alloc.Global.{Global}
 use Rattle.std.proofs.lemmas.Bool.Decides.{not_from_Decides}
-use Rattle.mpslp_core.specs.Model.{LinearModel}
+use Rattle.mpslp_model_core.specs.Model.{LinearModel}
 use Rattle.mpslp_types.specs.declared.faults.NameAt.{NameAt}
 use Rattle.mpslp_convert.specs.Conversions.{Declares, HasFirstFault, Unfit, TextOf, IsText, IsConversion, IsComparison, IsTestOfText, IsErrUnless}
 use Rattle.mpslp_convert.specs.declared.faults.ConvertFault.{ConvertFault}
@@ -16,17 +16,17 @@ pub conversion_of : (declares : Declares) (first_fault : HasFirstFault) (unfit :
 conversion_of declares first_fault unfit text bytes m (Ok out) declared h = (m, declared, h.0, h.1)
 conversion_of declares first_fault unfit text bytes m (Err (First fault)) declared h = absurd h
 conversion_of declares first_fault unfit text bytes m (Err (Second fault)) declared h = absurd h
-conversion_of declares first_fault unfit text bytes m (Err (NotLp place)) declared h = (m, declared, h)
+conversion_of declares first_fault unfit text bytes m (Err (NotLp name_at)) declared h = (m, declared, h)
 conversion_of declares first_fault unfit text bytes m (Err OutOfMemory) declared h = tt
 
 -- a model that cannot be told has no text
-pub place_is_told : (unfit : Unfit) (text : TextOf) (m : LinearModel) (place : NameAt) (result : Result (Vec ℕ Global) ConvertFault)
-    → unfit m ≡ Some place → IsText unfit text m result → IsErrUnless result (NotLp place) OutOfMemory
-place_is_told unfit text m place (Ok out) e h = let bad : None ≡ Some place = sym h.0 ∙ e in absurd (cc)
-place_is_told unfit text m place (Err (First fault)) e h = absurd h
-place_is_told unfit text m place (Err (Second fault)) e h = absurd h
-place_is_told unfit text m place (Err (NotLp found)) e h = let same : Some found ≡ Some place = sym h ∙ e in inl (cc)
-place_is_told unfit text m place (Err OutOfMemory) e h = inr refl
+pub place_is_told : (unfit : Unfit) (text : TextOf) (m : LinearModel) (name_at : NameAt) (result : Result (Vec ℕ Global) ConvertFault)
+    → unfit m ≡ Some name_at → IsText unfit text m result → IsErrUnless result (NotLp name_at) OutOfMemory
+place_is_told unfit text m name_at (Ok out) e h = let bad : None ≡ Some name_at = sym h.0 ∙ e in absurd (cc)
+place_is_told unfit text m name_at (Err (First fault)) e h = absurd h
+place_is_told unfit text m name_at (Err (Second fault)) e h = absurd h
+place_is_told unfit text m name_at (Err (NotLp found)) e h = let same : Some found ≡ Some name_at = sym h ∙ e in inl (cc)
+place_is_told unfit text m name_at (Err OutOfMemory) e h = inr refl
 
 -- a text declares its model
 pub text_keeps : (declares : Declares) (unfit : Unfit) (text : TextOf) (m : LinearModel) (result : Result (Vec ℕ Global) ConvertFault)

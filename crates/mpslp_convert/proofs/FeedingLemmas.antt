@@ -2,7 +2,7 @@
 use Rattle.std.proofs.Common.{◌≡◌, ℕ, ◌+◌, ◌≤◌, List, [], ◌++◌, Bool, true, false, sym, ap, ◌∙◌, subst, refl, length, take, arith, append-nil, append_assoc, Option, None, Some, Result, Ok, Err}
 use Rattle.std.specs.Prelude.{is_some, is_err, OnOk}
 use Rattle.std.specs.Io.KnownBytes.{Consumes, IsAtEnd}
-use Rattle.mpslp_core.specs.Model.{LinearModel}
+use Rattle.mpslp_model_core.specs.Model.{LinearModel}
 use Rattle.mpslp_types.specs.declared.faults.Fault.{Fault}
 use Rattle.mpslp_convert.specs.Conversions.{Declares, HasFirstFault}
 use Rattle.mpslp_convert.specs.Runs.{IsAll, SourceGave}
@@ -55,7 +55,7 @@ reading-of declares declares' first_fault first_fault' left left_now failed limi
 reading-of declares declares' first_fault first_fault' left left_now failed limit bytes (Err Read) d f gave h = absurd h
 reading-of declares declares' first_fault first_fault' left left_now failed limit bytes (Err TooLong) d f gave h = absurd h
 reading-of declares declares' first_fault first_fault' left left_now failed limit bytes (Err (File fault)) d f gave h = (bytes, gave, f fault h)
-reading-of declares declares' first_fault first_fault' left left_now failed limit bytes (Err (NotLp place)) d f gave h = absurd h
+reading-of declares declares' first_fault first_fault' left left_now failed limit bytes (Err (NotLp name_at)) d f gave h = absurd h
 reading-of declares declares' first_fault first_fault' left left_now failed limit bytes (Err (Write written)) d f gave h = absurd h
 reading-of declares declares' first_fault first_fault' left left_now failed limit bytes (Err OutOfMemory) d f gave h = gave.works
 

@@ -2,7 +2,7 @@
 use Rattle.std.proofs.Common.{◌≡◌, sym, ap, ◌∙◌, ℕ, List, Bool, true, false, Option, Some, None, Result, Ok, Err, inl}
 use Rattle.std.specs.Prelude.{IsOkUnless}
 use Rattle.mpslp_types.specs.declared.faults.NameAt.{NameAt}
-use Rattle.mpslp_core.specs.Model.{LinearModel}
+use Rattle.mpslp_model_core.specs.Model.{LinearModel}
 use Rattle.mpslp_convert.specs.Conversions.{Declares, HasFirstFault, Unfit, TextOf, IsErrUnless}
 use Rattle.mpslp_convert.specs.Runs.{SourceGave, SourceHeld, IsPut, IsRun}
 use Rattle.mpslp_convert.specs.declared.faults.RunFault.{RunFault}
@@ -18,7 +18,7 @@ run_of declares first_fault unfit text holds failed count left left_now source_f
 run_of declares first_fault unfit text holds failed count left left_now source_failed limit bytes m old new (Err Read) gave declared put = absurd put
 run_of declares first_fault unfit text holds failed count left left_now source_failed limit bytes m old new (Err TooLong) gave declared put = absurd put
 run_of declares first_fault unfit text holds failed count left left_now source_failed limit bytes m old new (Err (File fault)) gave declared put = absurd put
-run_of declares first_fault unfit text holds failed count left left_now source_failed limit bytes m old new (Err (NotLp place)) gave declared put = (bytes, m, gave, declared, put.0, put.1)
+run_of declares first_fault unfit text holds failed count left left_now source_failed limit bytes m old new (Err (NotLp name_at)) gave declared put = (bytes, m, gave, declared, put.0, put.1)
 run_of declares first_fault unfit text holds failed count left left_now source_failed limit bytes m old new (Err (Write written)) gave declared put = (bytes, m, gave, declared, put.0, put.1)
 run_of declares first_fault unfit text holds failed count left left_now source_failed limit bytes m old new (Err OutOfMemory) gave declared put = absurd put
 
@@ -37,8 +37,8 @@ held_bytes (Some all) left_now failed_now failed limit gave held g h = sym (same
 apart : {X : Type 0} (x : X) → ◌≡◌ {A = Option X} None (Some x) → ⊥
 apart x e = cc
 
-same_place : (place other : NameAt) → ◌≡◌ {A = Option NameAt} (Some place) (Some other) → place ≡ other
-same_place place other e = cc
+same_place : (name_at other : NameAt) → ◌≡◌ {A = Option NameAt} (Some name_at) (Some other) → name_at ≡ other
+same_place name_at other e = cc
 
 not_both : {b : Bool} → b ≡ true → b ≡ false → ⊥
 not_both p q = absurd cc
@@ -50,17 +50,17 @@ put_of_fit unfit text holds failed count m old new (Ok _) fits works put = tt
 put_of_fit unfit text holds failed count m old new (Err Read) fits works put = absurd put
 put_of_fit unfit text holds failed count m old new (Err TooLong) fits works put = absurd put
 put_of_fit unfit text holds failed count m old new (Err (File fault)) fits works put = absurd put
-put_of_fit unfit text holds failed count m old new (Err (NotLp place)) fits works put = absurd (apart place (sym fits ∙ put.0))
+put_of_fit unfit text holds failed count m old new (Err (NotLp name_at)) fits works put = absurd (apart name_at (sym fits ∙ put.0))
 put_of_fit unfit text holds failed count m old new (Err (Write written)) fits works put = absurd (not_both put.1.fails works)
 put_of_fit unfit text holds failed count m old new (Err OutOfMemory) fits works put = absurd put
 
 -- of one that it cannot tell, the first name that it cannot is told
 pub put_of_unfit : {S : Type 0} (unfit : Unfit) (text : TextOf) (holds : S → List ℕ → Type 0) (failed : S → Bool) (count : S → ℕ) (m : LinearModel) (old new : S)
-    (result : Result (Unit {0}) RunFault) (place : NameAt) → unfit m ≡ Some place → IsPut unfit text holds failed count m old new result → IsErrUnless result (NotLp place) OutOfMemory
-put_of_unfit unfit text holds failed count m old new (Ok _) place not_fit put = apart place (sym put.0 ∙ not_fit)
-put_of_unfit unfit text holds failed count m old new (Err Read) place not_fit put = absurd put
-put_of_unfit unfit text holds failed count m old new (Err TooLong) place not_fit put = absurd put
-put_of_unfit unfit text holds failed count m old new (Err (File fault)) place not_fit put = absurd put
-put_of_unfit unfit text holds failed count m old new (Err (NotLp own)) place not_fit put = inl (ap NotLp (same_place own place (sym put.0 ∙ not_fit)))
-put_of_unfit unfit text holds failed count m old new (Err (Write written)) place not_fit put = absurd (apart place (sym put.0 ∙ not_fit))
-put_of_unfit unfit text holds failed count m old new (Err OutOfMemory) place not_fit put = absurd put
+    (result : Result (Unit {0}) RunFault) (name_at : NameAt) → unfit m ≡ Some name_at → IsPut unfit text holds failed count m old new result → IsErrUnless result (NotLp name_at) OutOfMemory
+put_of_unfit unfit text holds failed count m old new (Ok _) name_at not_fit put = apart name_at (sym put.0 ∙ not_fit)
+put_of_unfit unfit text holds failed count m old new (Err Read) name_at not_fit put = absurd put
+put_of_unfit unfit text holds failed count m old new (Err TooLong) name_at not_fit put = absurd put
+put_of_unfit unfit text holds failed count m old new (Err (File fault)) name_at not_fit put = absurd put
+put_of_unfit unfit text holds failed count m old new (Err (NotLp own)) name_at not_fit put = inl (ap NotLp (same_place own name_at (sym put.0 ∙ not_fit)))
+put_of_unfit unfit text holds failed count m old new (Err (Write written)) name_at not_fit put = absurd (apart name_at (sym put.0 ∙ not_fit))
+put_of_unfit unfit text holds failed count m old new (Err OutOfMemory) name_at not_fit put = absurd put

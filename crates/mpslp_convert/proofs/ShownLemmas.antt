@@ -8,8 +8,8 @@ use Rattle.std.proofs.lemmas.List.{length-map}
 use Rattle.std.proofs.lemmas.List.FromFn.{length-enumerate_from}
 use Rattle.std.proofs.lemmas.Option.{slice_get-map, get_or_from_slice_get}
 use Rattle.mpslp_decimal.specs.Decimal.{Number}
-use Rattle.mpslp_core.specs.Model.{LinearModel, Row, Column}
-use Rattle.mpslp_core.specs.Views.{row_names, column_names, rows_of, columns_of, column_name, column_elements, numbered_elements, row_sense, right_hand_side, row_range, coefficient_at}
+use Rattle.mpslp_model_core.specs.Model.{LinearModel, Row, Column}
+use Rattle.mpslp_model_core.specs.Views.{row_names, column_names, rows_of, columns_of, column_name, column_elements, numbered_elements, row_sense, right_hand_side, row_range, coefficient_at}
 use Rattle.mpslp_types.specs.declared.kinds.Kind.{Kind}
 use Rattle.mpslp_types.specs.declared.kinds.Limit.{Limit}
 use Rattle.mpslp_write.specs.LinesAt.{lines_at}

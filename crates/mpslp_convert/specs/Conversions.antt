@@ -1,7 +1,7 @@
 -- What the conversions and comparisons of whole texts answer, over any formats.
 use Rattle.std.specs.Prelude.{◌≡◌, ◌≢◌, ◌⊎◌, ℕ, List, Bool, true, false, Option, None, Some, Result, Ok, Err, Vec}
 use Rattle.std.specs.declared.alloc.Global.{Global}
-use Rattle.mpslp_core.specs.Model.{LinearModel}
+use Rattle.mpslp_model_core.specs.Model.{LinearModel}
 use Rattle.mpslp_types.specs.declared.faults.Fault.{Fault}
 use Rattle.mpslp_types.specs.declared.faults.NameAt.{NameAt}
 use Rattle.mpslp_convert.specs.declared.faults.ConvertFault.{ConvertFault}
@@ -31,7 +31,7 @@ abbrev pub IsReadingOfFirst : Declares → HasFirstFault → List ℕ → Result
 IsReadingOfFirst declares first_fault bytes (Ok m) = declares bytes m
 IsReadingOfFirst declares first_fault bytes (Err (First fault)) = first_fault bytes fault
 IsReadingOfFirst declares first_fault bytes (Err (Second fault)) = ⊥
-IsReadingOfFirst declares first_fault bytes (Err (NotLp place)) = ⊥
+IsReadingOfFirst declares first_fault bytes (Err (NotLp name_at)) = ⊥
 IsReadingOfFirst declares first_fault bytes (Err OutOfMemory) = Unit {0}
 
 -- The text of a model, or the first place that the format cannot tell.
@@ -39,7 +39,7 @@ abbrev pub IsText : Unfit → TextOf → LinearModel → Result (Vec ℕ Global)
 IsText unfit text m (Ok out) = (unfit m ≡ None) × (out.items ≡ text m)
 IsText unfit text m (Err (First fault)) = ⊥
 IsText unfit text m (Err (Second fault)) = ⊥
-IsText unfit text m (Err (NotLp place)) = unfit m ≡ Some place
+IsText unfit text m (Err (NotLp name_at)) = unfit m ≡ Some name_at
 IsText unfit text m (Err OutOfMemory) = Unit {0}
 
 -- The bytes declare a model in one format that the other can tell, and the answer is its text there. Or the answer is
@@ -49,7 +49,7 @@ IsConversion declares first_fault unfit text bytes (Ok out) =
     (m : LinearModel) × declares bytes m × (unfit m ≡ None) × (out.items ≡ text m)
 IsConversion declares first_fault unfit text bytes (Err (First fault)) = first_fault bytes fault
 IsConversion declares first_fault unfit text bytes (Err (Second fault)) = ⊥
-IsConversion declares first_fault unfit text bytes (Err (NotLp place)) = (m : LinearModel) × declares bytes m × (unfit m ≡ Some place)
+IsConversion declares first_fault unfit text bytes (Err (NotLp name_at)) = (m : LinearModel) × declares bytes m × (unfit m ≡ Some name_at)
 IsConversion declares first_fault unfit text bytes (Err OutOfMemory) = Unit {0}
 
 -- Whether two texts declare one model; or the first fault of the first text; or, where the first has none, that of the
@@ -62,7 +62,7 @@ IsComparison declares first_fault declares' first_fault' first second (Ok false)
 IsComparison declares first_fault declares' first_fault' first second (Err (First fault)) = first_fault first fault
 IsComparison declares first_fault declares' first_fault' first second (Err (Second fault)) =
     (m : LinearModel) × declares first m × first_fault' second fault
-IsComparison declares first_fault declares' first_fault' first second (Err (NotLp place)) = ⊥
+IsComparison declares first_fault declares' first_fault' first second (Err (NotLp name_at)) = ⊥
 IsComparison declares first_fault declares' first_fault' first second (Err OutOfMemory) = Unit {0}
 
 -- Whether a text is that of the model that it declares; or its first fault.
@@ -71,5 +71,5 @@ IsTestOfText declares first_fault text bytes (Ok true) = (m : LinearModel) × de
 IsTestOfText declares first_fault text bytes (Ok false) = (m : LinearModel) × declares bytes m × (bytes ≢ text m)
 IsTestOfText declares first_fault text bytes (Err (First fault)) = first_fault bytes fault
 IsTestOfText declares first_fault text bytes (Err (Second fault)) = ⊥
-IsTestOfText declares first_fault text bytes (Err (NotLp place)) = ⊥
+IsTestOfText declares first_fault text bytes (Err (NotLp name_at)) = ⊥
 IsTestOfText declares first_fault text bytes (Err OutOfMemory) = Unit {0}

@@ -30,7 +30,7 @@ abbrev pub fault_text : RunFault → List ℕ
 fault_text Read = codes "read failed"
 fault_text TooLong = codes "file: TooLong"
 fault_text (File fault) = file_text fault
-fault_text (NotLp place) = place_text place ++ codes ": NotLp"
+fault_text (NotLp name_at) = place_text name_at ++ codes ": NotLp"
 fault_text (Write written) = codes "write failed"
 fault_text OutOfMemory = codes "out of memory"
 
@@ -41,6 +41,6 @@ abbrev pub status_of : RunFault → ℕ
 status_of Read = 4
 status_of TooLong = 2
 status_of (File fault) = 2
-status_of (NotLp place) = 2
+status_of (NotLp name_at) = 2
 status_of (Write written) = 4
 status_of OutOfMemory = 5

@@ -1,6 +1,6 @@
 -- What is known of a source whose bytes are fed to a reader.
 use Rattle.std.specs.Prelude.{◌≡◌, ℕ, List, ◌++◌, Bool, false, true, Option, None, Some, Result, Ok, Err}
-use Rattle.mpslp_core.specs.Model.{LinearModel}
+use Rattle.mpslp_model_core.specs.Model.{LinearModel}
 use Rattle.mpslp_types.specs.declared.faults.Fault.{Fault}
 use Rattle.mpslp_convert.specs.Conversions.{Declares, HasFirstFault}
 use Rattle.mpslp_convert.specs.Runs.{IsLonger, SourceGave}
@@ -25,7 +25,7 @@ IsModelOf declares first_fault bytes (Ok m) = declares bytes m
 IsModelOf declares first_fault bytes (Err Read) = ⊥
 IsModelOf declares first_fault bytes (Err TooLong) = ⊥
 IsModelOf declares first_fault bytes (Err (File fault)) = first_fault bytes fault
-IsModelOf declares first_fault bytes (Err (NotLp place)) = ⊥
+IsModelOf declares first_fault bytes (Err (NotLp name_at)) = ⊥
 IsModelOf declares first_fault bytes (Err (Write written)) = ⊥
 IsModelOf declares first_fault bytes (Err OutOfMemory) = Unit {0}
 
@@ -36,6 +36,6 @@ IsReading declares first_fault left left_now failed limit (Ok m) = (bytes : List
 IsReading declares first_fault left left_now failed limit (Err Read) = failed ≡ true
 IsReading declares first_fault left left_now failed limit (Err TooLong) = (failed ≡ false) × IsLonger left limit
 IsReading declares first_fault left left_now failed limit (Err (File fault)) = (bytes : List ℕ) × SourceGave left left_now failed limit bytes × first_fault bytes fault
-IsReading declares first_fault left left_now failed limit (Err (NotLp place)) = ⊥
+IsReading declares first_fault left left_now failed limit (Err (NotLp name_at)) = ⊥
 IsReading declares first_fault left left_now failed limit (Err (Write written)) = ⊥
 IsReading declares first_fault left left_now failed limit (Err OutOfMemory) = failed ≡ false

@@ -1,6 +1,6 @@
 -- What follows from the laws of formats together.
 use Rattle.std.specs.Prelude.{◌≡◌, ◌↔◌, List, ℕ, None}
-use Rattle.mpslp_core.specs.Model.{LinearModel, IsSound}
+use Rattle.mpslp_model_core.specs.Model.{LinearModel, IsSound}
 use Rattle.mpslp_convert.specs.Conversions.{Declares, Unfit, TextOf}
 
 -- Two sound models that a format can tell have one text exactly if they are one.

@@ -3,13 +3,13 @@ use Rattle.std.specs.Prelude.{◌≡◌, ℕ, List, [], ◌++◌, Bool, true, fa
 use Rattle.std.specs.declared.alloc.Global.{Global}
 use Rattle.mpslp_types.specs.declared.faults.NameAt.{NameAt}
 use Rattle.mpslp_types.specs.declared.faults.WriteFault.{WriteFault}
-use Rattle.mpslp_core.specs.Model.{LinearModel}
+use Rattle.mpslp_model_core.specs.Model.{LinearModel}
 use Rattle.mpslp_model.specs.Formats.{IsTaken}
 use Rattle.mpslp_mps.specs.MpsText.{DeclaresMps}
 use Rattle.mpslp_mps.specs.FirstFault.{IsFirstMpsFault}
 use Rattle.mpslp_lp.specs.LpText.{DeclaresLp}
 use Rattle.mpslp_lp.specs.FirstFault.{IsFirstLpFault}
-use Rattle.mpslp_canonical.specs.CanonicalMps.{canonical_mps}
+use Rattle.mpslp_canonical_mps.specs.CanonicalMps.{canonical_mps}
 use Rattle.mpslp_canonical_lp.specs.CanonicalLp.{canonical_lp}
 use Rattle.mpslp_canonical_lp.specs.Unfit.{unfit}
 use Rattle.mpslp_jobs.specs.declared.jobs.Form.{Form}
@@ -26,9 +26,9 @@ use Rattle.mpslp_convert.specs.declared.faults.ConvertFault.{ConvertFault}
 use Rattle.mpslp_convert.specs.declared.faults.ConvertFault.TheVariants as compared
 use Rattle.mpslp_convert.specs.declared.faults.RunFault.{RunFault}
 use Rattle.mpslp_convert.specs.declared.faults.RunFault.TheVariants.{Read, TooLong, File, NotLp, Write, OutOfMemory}
-use Rattle.mpslp_convert.specs.declared.endings.Failure.{Failure}
-use Rattle.mpslp_convert.specs.declared.endings.Input.{Input}
-use Rattle.mpslp_convert.specs.declared.endings.Input.TheVariants.{Only, First, Second}
+use Rattle.mpslp_convert.specs.declared.job_end.Failure.{Failure}
+use Rattle.mpslp_convert.specs.declared.job_end.Input.{Input}
+use Rattle.mpslp_convert.specs.declared.job_end.Input.TheVariants.{Only, First, Second}
 
 -- ---- the formats that the command line names
 
@@ -64,7 +64,7 @@ abbrev pub is_of_input : RunFault → Bool
 is_of_input Read = true
 is_of_input TooLong = true
 is_of_input (File fault) = true
-is_of_input (NotLp place) = false
+is_of_input (NotLp name_at) = false
 is_of_input (Write written) = false
 is_of_input OutOfMemory = false
 
@@ -91,7 +91,7 @@ IsTold holds failed old new line = (answer : Result (Unit {0}) WriteFault) × Is
 
 -- The status of what was done, with nothing told; or the failure's, with its line told.
 abbrev pub IsEnded : {E : Type 0} → (E → List ℕ → Type 0) → (E → Bool) → E → E → Result ℕ Failure → ℕ → Type 0
-IsEnded holds failed old new (Ok done) status = (status ≡ done) × (new ≡ old)
+IsEnded holds failed old new (Ok do_job) status = (status ≡ do_job) × (new ≡ old)
 IsEnded holds failed old new (Err failure) status = (status ≡ status_of failure.fault) × IsTold holds failed old new (failure_line failure)
 
 -- A text was handed on, or the sink failed.
@@ -100,7 +100,7 @@ IsPrinted holds failed count old new text (Ok _) = IsHandedOn holds failed count
 IsPrinted holds failed count old new text (Err Read) = ⊥
 IsPrinted holds failed count old new text (Err TooLong) = ⊥
 IsPrinted holds failed count old new text (Err (File fault)) = ⊥
-IsPrinted holds failed count old new text (Err (NotLp place)) = ⊥
+IsPrinted holds failed count old new text (Err (NotLp name_at)) = ⊥
 IsPrinted holds failed count old new text (Err (Write written)) = IsCutShort holds failed count old new text written
 IsPrinted holds failed count old new text (Err OutOfMemory) = ⊥
 
@@ -114,10 +114,10 @@ ended_by status (Err fault) = Err (failure_of Only fault)
 -- A run between a source and a sink had an answer, and the job ends by it.
 abbrev pub IsRunDone : {W : Type 0} → Declares → HasFirstFault → Unfit → TextOf → (W → List ℕ → Type 0) → (W → Bool) → (W → ℕ)
     → Option (List ℕ) → Option (List ℕ) → Bool → ℕ → W → W → Result ℕ Failure → Type 0
-IsRunDone declares first_fault unfit text holds failed count left left_now source_failed limit old new done =
+IsRunDone declares first_fault unfit text holds failed count left left_now source_failed limit old new do_job =
     (answer : Result (Unit {0}) RunFault)
     × IsRun declares first_fault unfit text holds failed count left left_now source_failed limit old new answer
-    × (done ≡ ended_by 0 answer)
+    × (do_job ≡ ended_by 0 answer)
 
 -- the line of a comparison, and its status
 abbrev pub same_line : Bool → List ℕ
@@ -132,49 +132,49 @@ same_status false = 1
 abbrev pub comparison_failure : ConvertFault → Failure
 comparison_failure (compared.First fault) = failure_of First (File fault)
 comparison_failure (compared.Second fault) = failure_of Second (File fault)
-comparison_failure (compared.NotLp place) = failure_of Only (NotLp place)
+comparison_failure (compared.NotLp name_at) = failure_of Only (NotLp name_at)
 comparison_failure compared.OutOfMemory = failure_of Only OutOfMemory
 
 -- What a comparison answered is printed, or its failure ends the job.
 abbrev pub IsSaid : {W : Type 0} → (W → List ℕ → Type 0) → (W → Bool) → (W → ℕ) → W → W → Result Bool ConvertFault → Result ℕ Failure → Type 0
-IsSaid holds failed count old new (Ok same) done =
-    (answer : Result (Unit {0}) RunFault) × IsPrinted holds failed count old new (same_line same) answer × (done ≡ ended_by (same_status same) answer)
-IsSaid holds failed count old new (Err fault) done = (done ≡ Err (comparison_failure fault)) × (new ≡ old)
+IsSaid holds failed count old new (Ok same) do_job =
+    (answer : Result (Unit {0}) RunFault) × IsPrinted holds failed count old new (same_line same) answer × (do_job ≡ ended_by (same_status same) answer)
+IsSaid holds failed count old new (Err fault) do_job = (do_job ≡ Err (comparison_failure fault)) × (new ≡ old)
 
 -- The second input was loaded, and then compared with these bytes of the first.
 abbrev pub IsSecondDone : {W : Type 0} → Declares → HasFirstFault → Declares → HasFirstFault → (W → List ℕ → Type 0) → (W → Bool) → (W → ℕ)
     → W → W → List ℕ → Result (Vec ℕ Global) RunFault → Result ℕ Failure → Type 0
-IsSecondDone declares first_fault declares' first_fault' holds failed count old new one (Ok other) done =
-    (same : Result Bool ConvertFault) × IsComparison declares first_fault declares' first_fault' one other.items same × IsSaid holds failed count old new same done
-IsSecondDone declares first_fault declares' first_fault' holds failed count old new one (Err fault) done = (done ≡ Err (failure_of Second fault)) × (new ≡ old)
+IsSecondDone declares first_fault declares' first_fault' holds failed count old new one (Ok other) do_job =
+    (same : Result Bool ConvertFault) × IsComparison declares first_fault declares' first_fault' one other.items same × IsSaid holds failed count old new same do_job
+IsSecondDone declares first_fault declares' first_fault' holds failed count old new one (Err fault) do_job = (do_job ≡ Err (failure_of Second fault)) × (new ≡ old)
 
 -- The first input was loaded, and then the second; where the first one was not, the second was not read.
 abbrev pub IsFirstDone : {W S : Type 0} → Declares → HasFirstFault → Declares → HasFirstFault → (W → List ℕ → Type 0) → (W → Bool) → (W → ℕ)
     → (S → Option (List ℕ)) → (S → Bool) → ℕ → S → S → W → W → Result (Vec ℕ Global) RunFault → Result ℕ Failure → Type 0
-IsFirstDone declares first_fault declares' first_fault' holds failed count left source_failed limit second second' old new (Ok one) done =
+IsFirstDone declares first_fault declares' first_fault' holds failed count left source_failed limit second second' old new (Ok one) do_job =
     (other : Result (Vec ℕ Global) RunFault) × IsLoad (left second) (left second') (source_failed second') limit other
-    × IsSecondDone declares first_fault declares' first_fault' holds failed count old new one.items other done
-IsFirstDone declares first_fault declares' first_fault' holds failed count left source_failed limit second second' old new (Err fault) done =
-    (done ≡ Err (failure_of First fault)) × (second' ≡ second) × (new ≡ old)
+    × IsSecondDone declares first_fault declares' first_fault' holds failed count old new one.items other do_job
+IsFirstDone declares first_fault declares' first_fault' holds failed count left source_failed limit second second' old new (Err fault) do_job =
+    (do_job ≡ Err (failure_of First fault)) × (second' ≡ second) × (new ≡ old)
 
 -- Two inputs were compared.
 abbrev pub IsSameDone : {W R S : Type 0} → Declares → HasFirstFault → Declares → HasFirstFault → (W → List ℕ → Type 0) → (W → Bool) → (W → ℕ)
     → (R → Option (List ℕ)) → (R → Bool) → (S → Option (List ℕ)) → (S → Bool) → ℕ → R → R → S → S → W → W → Result ℕ Failure → Type 0
-IsSameDone declares first_fault declares' first_fault' holds failed count left source_failed left' source_failed' limit first first' second second' old new done =
+IsSameDone declares first_fault declares' first_fault' holds failed count left source_failed left' source_failed' limit first first' second second' old new do_job =
     (one : Result (Vec ℕ Global) RunFault) × IsLoad (left first) (left first') (source_failed first') limit one
-    × IsFirstDone declares first_fault declares' first_fault' holds failed count left' source_failed' limit second second' old new one done
+    × IsFirstDone declares first_fault declares' first_fault' holds failed count left' source_failed' limit second second' old new one do_job
 
 -- A job was done. The second source is read by a comparison alone.
 abbrev pub IsDone : {W R S : Type 0} → (W → List ℕ → Type 0) → (W → Bool) → (W → ℕ)
     → (R → Option (List ℕ)) → (R → Bool) → (S → Option (List ℕ)) → (S → Bool) → ℕ → R → R → S → S → W → W → Job → Result ℕ Failure → Type 0
-IsDone holds failed count left source_failed left' source_failed' limit first first' second second' old new (Canon from to path) done =
-    IsRunDone (declares_in from) (first_fault_in from) (unfit_in to) (text_in to) holds failed count (left first) (left first') (source_failed first') limit old new done
+IsDone holds failed count left source_failed left' source_failed' limit first first' second second' old new (Canon from to path) do_job =
+    IsRunDone (declares_in from) (first_fault_in from) (unfit_in to) (text_in to) holds failed count (left first) (left first') (source_failed first') limit old new do_job
     × (second' ≡ second)
-IsDone holds failed count left source_failed left' source_failed' limit first first' second second' old new (Same first_form one second_form other) done =
+IsDone holds failed count left source_failed left' source_failed' limit first first' second second' old new (Same first_form one second_form other) do_job =
     IsSameDone (declares_in first_form) (first_fault_in first_form) (declares_in second_form) (first_fault_in second_form) holds failed count
-    left source_failed left' source_failed' limit first first' second second' old new done
-IsDone holds failed count left source_failed left' source_failed' limit first first' second second' old new (Show from path) done =
-    IsRunDone (declares_in from) (first_fault_in from) (λ m. None) shown_text holds failed count (left first) (left first') (source_failed first') limit old new done
+    left source_failed left' source_failed' limit first first' second second' old new do_job
+IsDone holds failed count left source_failed left' source_failed' limit first first' second second' old new (Show from path) do_job =
+    IsRunDone (declares_in from) (first_fault_in from) (λ m. None) shown_text holds failed count (left first) (left first') (source_failed first') limit old new do_job
     × (second' ≡ second)
 
 -- Why words are no job was told: a text that was asked for is printed, and all else goes where faults go.
@@ -194,7 +194,7 @@ IsRefused holds failed count holds_err failed_err old new err err' refused.OutOf
 abbrev pub IsPerformed : {W E R S : Type 0} → (W → List ℕ → Type 0) → (W → Bool) → (W → ℕ) → (E → List ℕ → Type 0) → (E → Bool)
     → (R → Option (List ℕ)) → (R → Bool) → (S → Option (List ℕ)) → (S → Bool) → ℕ → R → R → S → S → W → W → E → E → Result Job JobFault → ℕ → Type 0
 IsPerformed holds failed count holds_err failed_err left source_failed left' source_failed' limit first first' second second' old new err err' (Ok job) status =
-    (done : Result ℕ Failure) × IsDone holds failed count left source_failed left' source_failed' limit first first' second second' old new job done
-    × IsEnded holds_err failed_err err err' done status
+    (do_job : Result ℕ Failure) × IsDone holds failed count left source_failed left' source_failed' limit first first' second second' old new job do_job
+    × IsEnded holds_err failed_err err err' do_job status
 IsPerformed holds failed count holds_err failed_err left source_failed left' source_failed' limit first first' second second' old new err err' (Err fault) status =
     (first' ≡ first) × (second' ≡ second) × IsRefused holds failed count holds_err failed_err old new err err' fault status

@@ -4,7 +4,7 @@ use Rattle.std.specs.Io.KnownBytes.{Consumes, IsAtEnd}
 use Rattle.std.specs.declared.alloc.Global.{Global}
 use Rattle.mpslp_io.specs.Devices.{Grows}
 use Rattle.mpslp_model.specs.Formats.{TookFirst}
-use Rattle.mpslp_core.specs.Model.{LinearModel}
+use Rattle.mpslp_model_core.specs.Model.{LinearModel}
 use Rattle.mpslp_convert.specs.Conversions.{Declares, HasFirstFault, Unfit, TextOf}
 use Rattle.mpslp_convert.specs.declared.faults.RunFault.{RunFault}
 use Rattle.mpslp_convert.specs.declared.faults.RunFault.TheVariants.{Read, TooLong, File, NotLp, Write, OutOfMemory}
@@ -46,7 +46,7 @@ IsLoad left left_now failed limit (Ok bytes) = SourceGave left left_now failed l
 IsLoad left left_now failed limit (Err Read) = failed ≡ true
 IsLoad left left_now failed limit (Err TooLong) = (failed ≡ false) × IsLonger left limit
 IsLoad left left_now failed limit (Err (File fault)) = ⊥
-IsLoad left left_now failed limit (Err (NotLp place)) = ⊥
+IsLoad left left_now failed limit (Err (NotLp name_at)) = ⊥
 IsLoad left left_now failed limit (Err (Write written)) = ⊥
 IsLoad left left_now failed limit (Err OutOfMemory) = failed ≡ false
 
@@ -69,7 +69,7 @@ IsPut unfit text holds failed count m old new (Ok _) = (unfit m ≡ None) × IsH
 IsPut unfit text holds failed count m old new (Err Read) = ⊥
 IsPut unfit text holds failed count m old new (Err TooLong) = ⊥
 IsPut unfit text holds failed count m old new (Err (File fault)) = ⊥
-IsPut unfit text holds failed count m old new (Err (NotLp place)) = (unfit m ≡ Some place) × (new ≡ old)
+IsPut unfit text holds failed count m old new (Err (NotLp name_at)) = (unfit m ≡ Some name_at) × (new ≡ old)
 IsPut unfit text holds failed count m old new (Err (Write written)) = (unfit m ≡ None) × IsCutShort holds failed count old new (text m) written
 IsPut unfit text holds failed count m old new (Err OutOfMemory) = ⊥
 
@@ -85,8 +85,8 @@ IsRun declares first_fault unfit text holds failed count left left_now source_fa
     (source_failed ≡ false) × IsLonger left limit × (new ≡ old)
 IsRun declares first_fault unfit text holds failed count left left_now source_failed limit old new (Err (File fault)) =
     (bytes : List ℕ) × SourceGave left left_now source_failed limit bytes × first_fault bytes fault × (new ≡ old)
-IsRun declares first_fault unfit text holds failed count left left_now source_failed limit old new (Err (NotLp place)) =
-    (bytes : List ℕ) × (m : LinearModel) × SourceGave left left_now source_failed limit bytes × declares bytes m × (unfit m ≡ Some place) × (new ≡ old)
+IsRun declares first_fault unfit text holds failed count left left_now source_failed limit old new (Err (NotLp name_at)) =
+    (bytes : List ℕ) × (m : LinearModel) × SourceGave left left_now source_failed limit bytes × declares bytes m × (unfit m ≡ Some name_at) × (new ≡ old)
 IsRun declares first_fault unfit text holds failed count left left_now source_failed limit old new (Err (Write written)) =
     (bytes : List ℕ) × (m : LinearModel) × SourceGave left left_now source_failed limit bytes × declares bytes m × (unfit m ≡ None)
     × IsCutShort holds failed count old new (text m) written

@@ -5,8 +5,8 @@ use Rattle.std.specs.Option.{option_map_or}
 use Rattle.std.specs.FinMap.{entries}
 use Rattle.mpslp_decimal.specs.Decimal.{Number, negated}
 use Rattle.mpslp_decimal.specs.NumberText.{number_text}
-use Rattle.mpslp_core.specs.Model.{LinearModel, Row, Column}
-use Rattle.mpslp_core.specs.Views.{num_rows, num_columns, num_elements, row_sense, right_hand_side, row_range, coefficient_at, numbered_elements}
+use Rattle.mpslp_model_core.specs.Model.{LinearModel, Row, Column}
+use Rattle.mpslp_model_core.specs.Views.{num_rows, num_columns, num_elements, row_sense, right_hand_side, row_range, coefficient_at, numbered_elements}
 use Rattle.mpslp_types.specs.declared.kinds.Sense.{Sense}
 use Rattle.mpslp_types.specs.declared.kinds.Sense.TheVariants.{Minimize, Maximize}
 use Rattle.mpslp_types.specs.declared.kinds.Kind.{Kind}
@@ -15,12 +15,12 @@ use Rattle.mpslp_types.specs.declared.kinds.Limit.{Limit}
 use Rattle.mpslp_types.specs.declared.kinds.Limit.TheVariants.{MinusInf, Finite, PlusInf}
 
 -- words behind a blank each, to the end of the line
-abbrev pub behind : List (List ℕ) → List ℕ
-behind [] = codes "\n"
-behind (word ∷ words) = codes " " ++ (word ++ behind words)
+abbrev pub words_after_blanks : List (List ℕ) → List ℕ
+words_after_blanks [] = codes "\n"
+words_after_blanks (word ∷ words) = codes " " ++ (word ++ words_after_blanks words)
 
 abbrev pub line_of : List ℕ → List (List ℕ) → List ℕ
-line_of first words = first ++ behind words
+line_of first words = first ++ words_after_blanks words
 
 abbrev pub sense_word : Sense → List ℕ
 sense_word Minimize = codes "minimize"

@@ -1,13 +1,13 @@
 //! Conversions and comparisons of whole texts in memory.
 
 ghost use Rattle.std.specs.Prelude.{◌≡◌, None, Some, IfOk, IsOkUnless};
-ghost use Rattle.mpslp_core.specs.Model.{LinearModel};
+ghost use Rattle.mpslp_model_core.specs.Model.{LinearModel};
 ghost use Rattle.mpslp_types.specs.declared.faults.Fault.{Fault};
 ghost use Rattle.mpslp_types.specs.declared.faults.NameAt.{NameAt};
 ghost use Rattle.mpslp_convert.specs.Conversions.{IsReadingOfFirst, IsText, IsConversion, IsComparison, IsTestOfText, IsErrUnless};
 
-use crate::collected::Collected;
-use crate::compared::Comparison;
+use crate::collecting_sink::Collected;
+use crate::comparing_sink::Comparison;
 use crate::faults::ConvertFault;
 use mpslp_model::{Format, Model, ReadFault, WriteFault};
 use std::alloc::Global;
@@ -31,7 +31,7 @@ fn text_of<B: Format>(alloc: Global, model: &Model) -> Result<Vec<u8>, ConvertFa
     let mut sink = Collected::new(alloc);
     match B::write(model, &mut sink) {
         Ok(()) => Ok(sink.into_bytes()),
-        Err(WriteFault::NotLp(place)) => Err(ConvertFault::NotLp(place)),
+        Err(WriteFault::NotLp(name_at)) => Err(ConvertFault::NotLp(name_at)),
         Err(WriteFault::Write { written: _ }) => Err(ConvertFault::OutOfMemory),
     }
 }
@@ -50,8 +50,8 @@ pub fn canonical<A: Format, B: Format>(alloc: Global, bytes: &[u8]) -> Result<Ve
         → IsOkUnless result ConvertFault.OutOfMemory }
     ensures refuses { (fault : Fault) → A.first_fault bytes.now fault
         → IsErrUnless result (ConvertFault.First fault) ConvertFault.OutOfMemory }
-    ensures cannot_tell { (m : LinearModel) (place : NameAt) → A.declares bytes.now m → B.unfit m ≡ Some place
-        → IsErrUnless result (ConvertFault.NotLp place) ConvertFault.OutOfMemory }
+    ensures cannot_tell { (m : LinearModel) (name_at : NameAt) → A.declares bytes.now m → B.unfit m ≡ Some name_at
+        → IsErrUnless result (ConvertFault.NotLp name_at) ConvertFault.OutOfMemory }
     ensures keeps { (m : LinearModel) → A.declares bytes.now m → IfOk result (λ out. B.declares out.items m) }
 {
     let model = read_first::<A>(alloc, bytes)?;

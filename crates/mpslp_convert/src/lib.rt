@@ -6,25 +6,25 @@
 //! [`perform`] does the program's jobs by them, on MPS and LP.
 #![tactic(auto)]
 
-mod collected;
-mod compared;
+mod collecting_sink;
+mod comparing_sink;
 mod conversion;
-mod counter;
-mod endings;
+mod counting_sink;
+mod fault_line;
 mod faults;
-mod feeding;
+mod fed_model;
+mod job_end;
+mod job_runner;
 pub mod laws;
-mod performing;
-mod reporting;
-mod running;
-mod showing;
-mod shown;
-mod words;
+mod shown_source;
+mod shown_text;
+mod shown_words;
+mod source_to_sink;
 
 pub use conversion::{canonical, is_canonical, same_model};
+pub use fault_line::report;
 pub use faults::{ConvertFault, RunFault};
+pub use job_runner::perform;
 pub use mpslp_jobs::{Form, Job, JobFault, Word};
-pub use performing::perform;
-pub use reporting::report;
-pub use running::{load, run};
-pub use showing::show;
+pub use shown_source::show;
+pub use source_to_sink::{load, run};

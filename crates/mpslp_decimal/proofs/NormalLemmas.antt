@@ -5,7 +5,7 @@ use Rattle.std.proofs.lemmas.Int.{ints}
 use Rattle.std.proofs.lemmas.Bool.{eqb-true}
 use Rattle.std.proofs.lemmas.Bool.Decides.{nat_tests}
 use Rattle.mpslp_decimal.specs.Decimal.{normal, trailing_zeros, zeros_within}
-use Rattle.mpslp_decimal.specs.Literal.{signed}
+use Rattle.mpslp_decimal.specs.Literal.{to_signed}
 
 tenfold_mod : (n : ℕ) → (n * 10) % 10 ≡ 0
 tenfold_mod n = omega arith
@@ -38,7 +38,7 @@ pub trailing-tens : (k m : ℕ) → 0 < m % 10 → k < 1100 → trailing_zeros (
 unfolding trailing_zeros
 trailing-tens k m h l = zeros_within-tens k 1100 m h l
 
-pub size-signed : (minus : Bool) (n : ℕ) → unsigned_abs (signed minus n) ≡ n
+pub size-signed : (minus : Bool) (n : ℕ) → unsigned_abs (to_signed minus n) ≡ n
 size-signed false n = refl
 size-signed true zero = refl
 size-signed true (suc n) = refl
@@ -53,7 +53,7 @@ quotient m p h = grind arith
 zero_over : (p : ℕ) → 0 < p → 0 / p ≡ 0
 zero_over p h = grind arith
 
-signed_div : (minus : Bool) (m p : ℕ) → 0 < p → int_div (signed minus (m * p)) (pos p) ≡ signed minus m
+signed_div : (minus : Bool) (m p : ℕ) → 0 < p → int_div (to_signed minus (m * p)) (pos p) ≡ to_signed minus m
 signed_div false m p h = ap pos (quotient m p h)
 signed_div true m p h = by (m * p) refl ∙ ap (λ (n : ℕ). neg_ℤ (pos n)) (quotient m p h)
   where
@@ -61,7 +61,7 @@ signed_div true m p h = by (m * p) refl ∙ ap (λ (n : ℕ). neg_ℤ (pos n)) (
     by zero e = let z : 0 / p ≡ 0 = zero_over p h in ap pos z ∙ sym (ap (λ (n : ℕ). neg_ℤ (pos n)) z)
     by (suc n) e = refl
 
-nonzero_size : (minus : Bool) (n : ℕ) → 0 < n → (unsigned_abs (signed minus n) == 0) ≡ false
+nonzero_size : (minus : Bool) (n : ℕ) → 0 < n → (unsigned_abs (to_signed minus n) == 0) ≡ false
 nonzero_size minus n h = ap (λ (m : ℕ). m == 0) (size-signed minus n) ∙ not_zero n h
   where
     not_zero : (n : ℕ) → 0 < n → (n == 0) ≡ false
@@ -82,9 +82,9 @@ back e k = omega (arith, ints)
 
 -- digits with k zeros after them, at an exponent smaller by k
 pub normal-tens : (minus : Bool) (m k : ℕ) (e : ℤ) → 0 < m % 10 → k < 1100
-    → normal (record { mantissa = signed minus (m * 10 ^ k); exponent = e -ℤ pos k }) ≡ record { mantissa = signed minus m; exponent = e }
+    → normal (record { mantissa = to_signed minus (m * 10 ^ k); exponent = e -ℤ pos k }) ≡ record { mantissa = to_signed minus m; exponent = e }
 normal-tens minus m k e h l =
     let p = pow_positive k in
-    let zeros : trailing_zeros (unsigned_abs (signed minus (m * 10 ^ k))) ≡ k = ap trailing_zeros (size-signed minus (m * 10 ^ k)) ∙ trailing-tens k m h l in
-    let some : (unsigned_abs (signed minus (m * 10 ^ k)) == 0) ≡ false = nonzero_size minus (m * 10 ^ k) (product_positive m (10 ^ k) (some_part m h) p) in
+    let zeros : trailing_zeros (unsigned_abs (to_signed minus (m * 10 ^ k))) ≡ k = ap trailing_zeros (size-signed minus (m * 10 ^ k)) ∙ trailing-tens k m h l in
+    let some : (unsigned_abs (to_signed minus (m * 10 ^ k)) == 0) ≡ false = nonzero_size minus (m * 10 ^ k) (product_positive m (10 ^ k) (some_part m h) p) in
     rw (some, zeros) (λ i. record { mantissa = signed_div minus m (10 ^ k) p i; exponent = back e k i })

@@ -8,7 +8,7 @@ use Rattle.std.proofs.lemmas.Int.{ints}
 use Rattle.std.proofs.lemmas.Bool.{le-ltb, lt-ltb, ltb-true, ltb-false}
 use Rattle.std.proofs.lemmas.Bool.Decides.{nat_tests}
 use Rattle.mpslp_decimal.specs.Decimal.{Number, normal, has_few_digits, has_small_exponent, zero_number}
-use Rattle.mpslp_decimal.specs.Literal.{is_digit, is_minus, without_sign, digits_sum, are_digits, signed, signed_value, fraction_digits, mantissa_digits, exponent_part, is_literal, literal_value, number_of}
+use Rattle.mpslp_decimal.specs.Literal.{is_digit, is_minus, without_sign, digits_sum, are_digits, to_signed, signed_value, fraction_digits, mantissa_digits, exponent_part, is_literal, literal_value, number_of}
 use Rattle.mpslp_decimal.specs.Scan.{IsStripped, IsSignificandOf, parts_of, zeros_of, in_range, IsScanOf}
 use Rattle.mpslp_decimal.specs.declared.literal.NumberFault.{NumberFault}
 use Rattle.mpslp_decimal.specs.declared.literal.NumberFault.TheVariants.{BadNumber, LongNumber, TooManyDigits, ExponentRange}
@@ -54,20 +54,20 @@ many-answer value h = rw h refl
 -- ---- the value
 
 abbrev raw_value : List ℕ → ℕ → ℤ → Number
-raw_value text n e = record { mantissa = signed (is_minus text) n; exponent = e }
+raw_value text n e = record { mantissa = to_signed (is_minus text) n; exponent = e }
 
 -- a significand of 0
 zero-normal : (text : List ℕ) (n : ℕ) (e : ℤ) → n ≡ 0 → normal (raw_value text n e) ≡ zero_number
-zero-normal text n e h = let none : (unsigned_abs (signed (is_minus text) n) == 0) ≡ true = ap (λ (m : ℕ). m == 0) (size-signed (is_minus text) n ∙ h) in rw none refl
+zero-normal text n e h = let none : (unsigned_abs (to_signed (is_minus text) n) == 0) ≡ true = ap (λ (m : ℕ). m == 0) (size-signed (is_minus text) n ∙ h) in rw none refl
 
 back : (e : ℤ) (z : ℕ) → e ≡ (e +ℤ pos z) -ℤ pos z
 back e z = omega (arith, ints)
 
-pub stripped-normal : (minus : Bool) (n m z : ℕ) (e : ℤ) → IsStripped n m z → 0 < n → z < 1100 → normal (record { mantissa = signed minus n; exponent = e }) ≡ record { mantissa = signed minus m; exponent = e +ℤ pos z }
+pub stripped-normal : (minus : Bool) (n m z : ℕ) (e : ℤ) → IsStripped n m z → 0 < n → z < 1100 → normal (record { mantissa = to_signed minus n; exponent = e }) ≡ record { mantissa = to_signed minus m; exponent = e +ℤ pos z }
 stripped-normal minus n m z e s some few =
-    (λ i. normal (record { mantissa = signed minus (sym s.value i); exponent = back e z i })) ∙ normal-tens minus m z (e +ℤ pos z) (s.ends some) few
+    (λ i. normal (record { mantissa = to_signed minus (sym s.value i); exponent = back e z i })) ∙ normal-tens minus m z (e +ℤ pos z) (s.ends some) few
 
-few_digits-signed : (minus : Bool) (m : ℕ) (e : ℤ) (b : Bool) → nat_lt m (10 ^ 36) ≡ b → has_few_digits (record { mantissa = signed minus m; exponent = e }) ≡ b
+few_digits-signed : (minus : Bool) (m : ℕ) (e : ℤ) (b : Bool) → nat_lt m (10 ^ 36) ≡ b → has_few_digits (record { mantissa = to_signed minus m; exponent = e }) ≡ b
 few_digits-signed minus m e b h = ap (λ (n : ℕ). nat_lt n (10 ^ 36)) (size-signed minus m) ∙ h
 
 -- ---- how many zeros there can be
@@ -132,7 +132,7 @@ size-negative : (n : ℕ) → unsigned_abs (neg_ℤ (pos n)) ≡ n
 size-negative n = size-signed true n
 
 -- a large exponent stays out of range, whatever point and zeros add to it
-still-far : (minus : Bool) (n f z : ℕ) (m : ℤ) → 100000 ≤ n → f ≤ 255 → z ≤ 255 → has_small_exponent (record { mantissa = m; exponent = (signed minus n -ℤ pos f) +ℤ pos z }) ≡ false
+still-far : (minus : Bool) (n f z : ℕ) (m : ℤ) → 100000 ≤ n → f ≤ 255 → z ≤ 255 → has_small_exponent (record { mantissa = m; exponent = (to_signed minus n -ℤ pos f) +ℤ pos z }) ≡ false
 still-far false n f z m far short few =
     let is : (pos n -ℤ pos f) +ℤ pos z ≡ pos (n + z - f) = shifted-up n f z (omega arith) in
     far-out m ((pos n -ℤ pos f) +ℤ pos z) (rw is (omega arith))
@@ -148,20 +148,20 @@ in_range-out d h = rw h refl
 
 -- the cap changes nothing of the answer
 capped-range : (minus : Bool) (n f z : ℕ) (m : ℤ) → f ≤ 255 → z ≤ 255
-    → in_range (record { mantissa = m; exponent = (signed minus (min n 100000) -ℤ pos f) +ℤ pos z }) ≡ in_range (record { mantissa = m; exponent = (signed minus n -ℤ pos f) +ℤ pos z })
+    → in_range (record { mantissa = m; exponent = (to_signed minus (min n 100000) -ℤ pos f) +ℤ pos z }) ≡ in_range (record { mantissa = m; exponent = (to_signed minus n -ℤ pos f) +ℤ pos z })
 capped-range minus n f z m short few = by (nat_lt n 100000) refl
   where
     lesser : nat_lt n 100000 ≡ true → min n 100000 ≡ n
     lesser h = let l : n < 100000 = ltb-true n 100000 h in omega arith
 
     by : (b : Bool) → nat_lt n 100000 ≡ b
-        → in_range (record { mantissa = m; exponent = (signed minus (min n 100000) -ℤ pos f) +ℤ pos z }) ≡ in_range (record { mantissa = m; exponent = (signed minus n -ℤ pos f) +ℤ pos z })
-    by true h = λ i. in_range (record { mantissa = m; exponent = (signed minus (lesser h i) -ℤ pos f) +ℤ pos z })
+        → in_range (record { mantissa = m; exponent = (to_signed minus (min n 100000) -ℤ pos f) +ℤ pos z }) ≡ in_range (record { mantissa = m; exponent = (to_signed minus n -ℤ pos f) +ℤ pos z })
+    by true h = λ i. in_range (record { mantissa = m; exponent = (to_signed minus (lesser h i) -ℤ pos f) +ℤ pos z })
     by false h =
         let l : 100000 ≤ n = ltb-false n 100000 h in
         let least : 100000 ≤ min n 100000 = omega arith in
-        in_range-out (record { mantissa = m; exponent = (signed minus (min n 100000) -ℤ pos f) +ℤ pos z }) (still-far minus (min n 100000) f z m least short few)
-        ∙ sym (in_range-out (record { mantissa = m; exponent = (signed minus n -ℤ pos f) +ℤ pos z }) (still-far minus n f z m l short few))
+        in_range-out (record { mantissa = m; exponent = (to_signed minus (min n 100000) -ℤ pos f) +ℤ pos z }) (still-far minus (min n 100000) f z m least short few)
+        ∙ sym (in_range-out (record { mantissa = m; exponent = (to_signed minus n -ℤ pos f) +ℤ pos z }) (still-far minus n f z m l short few))
 
 -- ---- the answers of `parse`
 
@@ -219,17 +219,17 @@ number-many scan text s e short = by parts
         let exponent = (signed_value (exponent_part text) -ℤ pos (length (fraction_digits text))) +ℤ pos z in
         let few : z < length (mantissa_digits text) = few-zeros n m z (length (mantissa_digits text)) is (omega arith) (digits_sum-small (mantissa_digits text) digits) in
         let some : 0 < n = positive-product m (10 ^ z) n (omega arith) (pow_positive z) is.value in
-        let value : normal (literal_value text) ≡ record { mantissa = signed minus m; exponent = exponent } =
+        let value : normal (literal_value text) ≡ record { mantissa = to_signed minus m; exponent = exponent } =
         stripped-normal minus n m z (signed_value (exponent_part text) -ℤ pos (length (fraction_digits text))) is some (omega (arith, s.digits_within)) in
         let not_few : nat_lt m (10 ^ 36) ≡ false = le-ltb m (10 ^ 36) long in
-        sym (number-value text (record { mantissa = signed minus m; exponent = exponent }) s.literal short value
-        ∙ many-answer (record { mantissa = signed minus m; exponent = exponent }) (few_digits-signed minus m exponent false not_few))
+        sym (number-value text (record { mantissa = to_signed minus m; exponent = exponent }) s.literal short value
+        ∙ many-answer (record { mantissa = to_signed minus m; exponent = exponent }) (few_digits-signed minus m exponent false not_few))
 
 pub number-few : (scan : Scan) (text : List ℕ) (m z : ℕ) (exponent : ℤ) → IsScanOf scan text → parts_of scan.significand ≡ Some (m, z) → (m ≡ 0 → ⊥) → length text ≤ 255
-    → exponent ≡ (scan.exponent +ℤ pos z) -ℤ pos scan.places → in_range (record { mantissa = signed scan.is_negative m; exponent = exponent }) ≡ number_of text
+    → exponent ≡ (scan.exponent +ℤ pos z) -ℤ pos scan.places → in_range (record { mantissa = to_signed scan.is_negative m; exponent = exponent }) ≡ number_of text
 number-few scan text m z exponent s e nonzero short is =
-    (λ i. in_range (record { mantissa = signed (s.negative i) m; exponent = told i }))
-    ∙ capped-range (is_minus power) size places z (signed minus m) places_short zeros_short
+    (λ i. in_range (record { mantissa = to_signed (s.negative i) m; exponent = told i }))
+    ∙ capped-range (is_minus power) size places z (to_signed minus m) places_short zeros_short
     ∙ sym (number-value text value s.literal short (stripped-normal minus n m z raw_exponent parts.0 some (omega (arith, zeros_short)))
     ∙ few-answer value (few_digits-signed minus m (raw_exponent +ℤ pos z) true (lt-ltb m (10 ^ 36) parts.1)))
   where
@@ -252,7 +252,7 @@ number-few scan text m z exponent s e nonzero short is =
     raw_exponent = signed_value (exponent_part text) -ℤ pos (length (fraction_digits text))
 
     value : Number
-    value = record { mantissa = signed minus m; exponent = raw_exponent +ℤ pos z }
+    value = record { mantissa = to_signed minus m; exponent = raw_exponent +ℤ pos z }
 
     parts : IsStripped n m z × (m < 10 ^ 36)
     parts = parts-are scan.significand n m z e s.significand
@@ -266,5 +266,5 @@ number-few scan text m z exponent s e nonzero short is =
     some : 0 < n
     some = positive-product m (10 ^ z) n (not-zero m nonzero) (pow_positive z) parts.0.value
 
-    told : exponent ≡ (signed (is_minus power) (min size 100000) -ℤ pos places) +ℤ pos z
-    told = is ∙ (λ i. (s.exponent i +ℤ pos z) -ℤ pos (s.places i)) ∙ regroup (signed (is_minus power) (min size 100000)) places z
+    told : exponent ≡ (to_signed (is_minus power) (min size 100000) -ℤ pos places) +ℤ pos z
+    told = is ∙ (λ i. (s.exponent i +ℤ pos z) -ℤ pos (s.places i)) ∙ regroup (to_signed (is_minus power) (min size 100000)) places z

@@ -11,7 +11,7 @@ use Rattle.std.proofs.lemmas.Int.{ints}
 use Rattle.std.proofs.lemmas.Bool.{le-leb, lt-ltb, ltb-true, le-ltb, leb-true, ltb-false}
 use Rattle.std.proofs.lemmas.Bool.Decides.{nat_tests, Decides-int_eq}
 use Rattle.mpslp_decimal.specs.Decimal.{Number, IsDecimal, is_zero, is_negative, normal, trailing_zeros, has_few_digits, has_small_exponent, is_normal, zero_number}
-use Rattle.mpslp_decimal.specs.Literal.{is_digit, is_minus, without_sign, is_point, is_exponent_mark, digits_sum, are_digits, signed, signed_value, unsigned_part, fraction_digits, mantissa_digits, exponent_part, is_literal, literal_value, number_of}
+use Rattle.mpslp_decimal.specs.Literal.{is_digit, is_minus, without_sign, is_point, is_exponent_mark, digits_sum, are_digits, to_signed, signed_value, unsigned_part, fraction_digits, mantissa_digits, exponent_part, is_literal, literal_value, number_of}
 use Rattle.mpslp_decimal.specs.NumberText.{with_point, scaled_text, number_text}
 use Rattle.mpslp_decimal.specs.declared.literal.NumberFault.{NumberFault}
 use Rattle.mpslp_decimal.specs.declared.literal.NumberFault.TheVariants.{BadNumber, LongNumber, TooManyDigits, ExponentRange}
@@ -41,10 +41,10 @@ tests_pass : (lit long few small : Bool) (v : Number) → lit ≡ true → long 
 tests_pass lit long few small v a b c d = rw (a, b, c, d) refl
 
 pub number-read : (text : List ℕ) (d : Number) (minus : Bool) (digits fraction ex : List ℕ) → Reading text minus digits fraction ex → are_digits digits ≡ true
-    → length text ≤ 255 → IsDecimal d → normal (record { mantissa = signed minus (digits_sum digits); exponent = signed_value ex -ℤ pos (length fraction) }) ≡ d → number_of text ≡ Ok d
+    → length text ≤ 255 → IsDecimal d → normal (record { mantissa = to_signed minus (digits_sum digits); exponent = signed_value ex -ℤ pos (length fraction) }) ≡ d → number_of text ≡ Ok d
 number-read text d minus digits fraction ex r good short ok n =
-    let whole : literal_value text ≡ record { mantissa = signed minus (digits_sum digits); exponent = signed_value ex -ℤ pos (length fraction) } =
-    (λ i. record { mantissa = signed (r.minus_is i) (digits_sum (r.mantissa i)); exponent = signed_value (r.exponent i) -ℤ pos (length (r.fraction_is i)) }) in
+    let whole : literal_value text ≡ record { mantissa = to_signed minus (digits_sum digits); exponent = signed_value ex -ℤ pos (length fraction) } =
+    (λ i. record { mantissa = to_signed (r.minus_is i) (digits_sum (r.mantissa i)); exponent = signed_value (r.exponent i) -ℤ pos (length (r.fraction_is i)) }) in
     let value : normal (literal_value text) ≡ d = ap normal whole ∙ n in
     let lit : is_literal text ≡ true = both (are_digits (mantissa_digits text)) _ (ap are_digits r.mantissa ∙ good) r.good in
     let few : has_few_digits (normal (literal_value text)) ≡ true = ap has_few_digits value ∙ first_so (has_few_digits d) (has_small_exponent d && is_normal d) ok in
@@ -157,7 +157,7 @@ are-digits ds h n = let some : nat_lt 0 (length ds) ≡ true = lt-ltb 0 (length 
 value-unsigned : (n : ℕ) (ds : List ℕ) → Spells n ds → signed_value ds ≡ pos n
 value-unsigned n [] s = let some : 0 < length {A = ℕ} [] = s.some in absurd (omega arith)
 value-unsigned n (d ∷ ds) s =
-    (λ i. signed (digit-no_minus d s.digits.0 i) (digits_sum (no_sign (d ∷ ds) s.digits.0 i))) ∙ ap pos s.value
+    (λ i. to_signed (digit-no_minus d s.digits.0 i) (digits_sum (no_sign (d ∷ ds) s.digits.0 i))) ∙ ap pos s.value
 
 record Mantissa (m : ℕ) (ds : List ℕ) : Type 0 where
   spells : Spells m ds
@@ -168,7 +168,7 @@ abbrev zeros_text : ℕ → List ℕ
 zeros_text n = replicate n 48
 
 abbrev decimal_at : Bool → ℕ → ℤ → Number
-decimal_at minus m e = record { mantissa = signed minus m; exponent = e }
+decimal_at minus m e = record { mantissa = to_signed minus m; exponent = e }
 
 sign_short : (minus : Bool) (t : List ℕ) → length (sign_text minus ++ t) ≤ 1 + length t
 sign_short true t = omega arith
@@ -188,7 +188,7 @@ whole-form minus m k ds h l ok =
     let exponents : pos 0 -ℤ pos 0 ≡ pos k -ℤ pos k = omega (arith, ints) in
     let short : length (sign_text minus ++ (ds ++ zeros_text k)) ≤ 255 = omega (arith, sign_short minus (ds ++ zeros_text k), h.short) in
     number-read (sign_text minus ++ front) (decimal_at minus m (pos k)) minus front [] [] (reading-plain minus front front [] (digits-whole front all some)) (are-digits front all some)
-    short ok ((λ i. normal (record { mantissa = signed minus (value i); exponent = exponents i })) ∙ normal-tens minus m k (pos k) h.ends (omega arith))
+    short ok ((λ i. normal (record { mantissa = to_signed minus (value i); exponent = exponents i })) ∙ normal-tens minus m k (pos k) h.ends (omega arith))
   where
     plus_none : (n : ℕ) → n + 0 ≡ n
     plus_none n = omega arith
@@ -201,7 +201,7 @@ exponent-form minus m e ds ex h v good few ok =
     let once : digits_sum ds ≡ m * 10 ^ 0 = omega (arith, h.spells.value) in
     let short : length ((sign_text minus ++ ds) ++ 101 ∷ ex) ≤ 255 = omega (arith, length-append (sign_text minus ++ ds) (101 ∷ ex), sign_short minus ds, h.short) in
     number-read ((sign_text minus ++ ds) ++ 101 ∷ ex) (decimal_at minus m e) minus ds [] ex (reading-exponent minus ds ds [] ex (digits-whole ds all some) good) (are-digits ds all some)
-    short ok ((λ i. normal (record { mantissa = signed minus (once i); exponent = v i -ℤ pos 0 })) ∙ normal-tens minus m 0 e h.ends (omega arith))
+    short ok ((λ i. normal (record { mantissa = to_signed minus (once i); exponent = v i -ℤ pos 0 })) ∙ normal-tens minus m 0 e h.ends (omega arith))
 
 take-drop : (n : ℕ) (xs : List ℕ) → take n xs ++ drop n xs ≡ xs
 take-drop zero [] = refl
@@ -243,7 +243,7 @@ cut-form minus m n c padded s ends at some few ok =
     number-read (sign_text minus ++ (left ++ 46 ∷ right)) (decimal_at minus m (negsuc n)) minus (left ++ right) right []
     (reading-plain minus (left ++ 46 ∷ right) (left ++ right) right (digits-pointed left right each.0 each.1 left_some))
     (are-digits (left ++ right) (Each-append (λ b. is_digit b ≡ true) left right each.0 each.1) some_all)
-    short ok ((λ i. normal (record { mantissa = signed minus (value i); exponent = exponents i })) ∙ normal-tens minus m 0 (negsuc n) ends (omega arith))
+    short ok ((λ i. normal (record { mantissa = to_signed minus (value i); exponent = exponents i })) ∙ normal-tens minus m 0 (negsuc n) ends (omega arith))
 
 point-form : (minus : Bool) (m n : ℕ) (ds : List ℕ) → Mantissa m ds → n < 18 → IsDecimal (decimal_at minus m (negsuc n))
     → number_of (sign_text minus ++ with_point (n + 1) ds) ≡ Ok (decimal_at minus m (negsuc n))
@@ -255,9 +255,9 @@ point-form minus m n ds h l ok =
 
 -- ---- every decimal
 
-pub signed-size : (z : ℤ) → signed (int_le z (negsuc 0)) (unsigned_abs z) ≡ z
+pub signed-size : (z : ℤ) → to_signed (int_le z (negsuc 0)) (unsigned_abs z) ≡ z
 signed-size (pos n) = refl
-signed-size (negsuc n) = ap (λ (b : Bool). signed b (suc n)) (le-leb 0 n (omega arith))
+signed-size (negsuc n) = ap (λ (b : Bool). to_signed b (suc n)) (le-leb 0 n (omega arith))
 
 mantissa-form : (m : ℕ) → m < 10 ^ 36 → 0 < m % 10 → Mantissa m (decimal m)
 mantissa-form m h e =

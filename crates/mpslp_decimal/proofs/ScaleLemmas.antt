@@ -5,7 +5,7 @@ use Rattle.std.specs.Cmp.{first_so, second_so}
 use Rattle.std.proofs.lemmas.Int.{ints}
 use Rattle.std.proofs.lemmas.Bool.{leb-true}
 use Rattle.mpslp_decimal.specs.Decimal.{Number, IsDecimal, is_decimal, is_zero, is_normal, normal, negated, zero_number, height, scaled, at_scale, sum_of, difference_of, has_few_digits, has_small_exponent, trailing_zeros, zeros_within}
-use Rattle.mpslp_decimal.specs.Literal.{signed}
+use Rattle.mpslp_decimal.specs.Literal.{to_signed}
 use Rattle.mpslp_decimal.proofs.NormalLemmas.{normal-tens, pow_positive, zero_mantissa}
 use Rattle.mpslp_decimal.proofs.NumberTextLemmas.{signed-size, nonzero-ends, zero-is}
 
@@ -17,7 +17,7 @@ pub height_below : (e : ℤ) → int_le e (pos 500) ≡ true → height e < 1100
 height_below (pos n) h = let l : n ≤ 500 = leb-true n 500 h in omega arith
 height_below (negsuc n) h = omega arith
 
-pub signed_times : (minus : Bool) (m p : ℕ) → signed minus m *ℤ pos p ≡ signed minus (m * p)
+pub signed_times : (minus : Bool) (m p : ℕ) → to_signed minus m *ℤ pos p ≡ to_signed minus (m * p)
 signed_times false m p = refl
 signed_times true zero p = omega (arith, ints)
 signed_times true (suc m) p = omega (arith, ints)
@@ -42,7 +42,7 @@ normal-scaled d ok = by (is_zero d) refl
         let e = zero-is d ok z in
         ap (λ (x : Number). normal (at_scale (scaled x))) e ∙ refl ∙ sym e
     by false z =
-        let s : scaled d ≡ signed minus (size * 10 ^ height d.exponent) = ap (λ (m : ℤ). m *ℤ pos (10 ^ height d.exponent)) (sym (signed-size d.mantissa)) ∙ signed_times minus size (10 ^ height d.exponent) in
+        let s : scaled d ≡ to_signed minus (size * 10 ^ height d.exponent) = ap (λ (m : ℤ). m *ℤ pos (10 ^ height d.exponent)) (sym (signed-size d.mantissa)) ∙ signed_times minus size (10 ^ height d.exponent) in
         (λ i. normal (record { mantissa = s i; exponent = sym (height_back d.exponent (exponents-of d ok).0) i }))
         ∙ normal-tens minus size (height d.exponent) d.exponent (nonzero-ends d ok z) (height_below d.exponent (exponents-of d ok).1)
         ∙ (λ i. record { mantissa = signed-size d.mantissa i; exponent = d.exponent })

@@ -8,7 +8,7 @@ use Rattle.std.proofs.lemmas.Int.{ints, unsigned_abs-mul}
 use Rattle.std.proofs.lemmas.Bool.{le-ltb, ltb-false, eqb-true}
 use Rattle.std.proofs.lemmas.Bool.Decides.{nat_tests}
 use Rattle.mpslp_decimal.specs.Decimal.{Number, IsDecimal, is_zero, is_normal, zero_number, natural_part, surplus, mantissa_beside, HasSameValue, normal, has_few_digits, has_small_exponent}
-use Rattle.mpslp_decimal.specs.Literal.{is_digit, is_sign, is_point, is_exponent_mark, is_minus, without_sign, unsigned_part, digits_sum, are_digits, signed, signed_value, fraction_digits, mantissa_digits, exponent_part, is_literal, literal_value, number_of, Spells}
+use Rattle.mpslp_decimal.specs.Literal.{is_digit, is_sign, is_point, is_exponent_mark, is_minus, without_sign, unsigned_part, digits_sum, are_digits, to_signed, signed_value, fraction_digits, mantissa_digits, exponent_part, is_literal, literal_value, number_of, Spells}
 use Rattle.mpslp_decimal.specs.Scan.{IsStripped}
 use Rattle.mpslp_decimal.specs.declared.literal.NumberFault.{NumberFault}
 use Rattle.mpslp_decimal.specs.declared.literal.NumberFault.TheVariants.{BadNumber, LongNumber, TooManyDigits, ExponentRange}
@@ -57,11 +57,11 @@ surplus-all e z = by ((e +ℤ pos z) -ℤ e) refl
     by (negsuc n) h = absurd (omega (arith, ints))
 
 stripped-value : (minus : Bool) (n m z : ℕ) (e : ℤ) → IsStripped n m z
-    → HasSameValue (record { mantissa = signed minus n; exponent = e }) (record { mantissa = signed minus m; exponent = e +ℤ pos z })
+    → HasSameValue (record { mantissa = to_signed minus n; exponent = e }) (record { mantissa = to_signed minus m; exponent = e +ℤ pos z })
 stripped-value minus n m z e s =
-    ap (λ (k : ℕ). signed minus n *ℤ pos (10 ^ k)) (surplus-none e z) ∙ signed_times minus n (10 ^ 0)
-    ∙ ap (signed minus) (times_one n ∙ sym s.value)
-    ∙ sym (signed_times minus m (10 ^ z)) ∙ sym (ap (λ (k : ℕ). signed minus m *ℤ pos (10 ^ k)) (surplus-all e z))
+    ap (λ (k : ℕ). to_signed minus n *ℤ pos (10 ^ k)) (surplus-none e z) ∙ signed_times minus n (10 ^ 0)
+    ∙ ap (to_signed minus) (times_one n ∙ sym s.value)
+    ∙ sym (signed_times minus m (10 ^ z)) ∙ sym (ap (λ (k : ℕ). to_signed minus m *ℤ pos (10 ^ k)) (surplus-all e z))
 
 both : (a b : Bool) → a ≡ true → b ≡ true → (a && b) ≡ true
 both true b p q = q
@@ -79,17 +79,17 @@ ends-well m e h =
     no_zero : (n : ℕ) → 0 < n % 10 → not (n % 10 == 0) ≡ true
     no_zero n h = grind (arith, nat_tests)
 
-none-times : (minus : Bool) (n p : ℕ) → n ≡ 0 → signed minus n *ℤ pos p ≡ pos 0
-none-times minus n p h = signed_times minus n p ∙ ap (signed minus) (gone n p h) ∙ unsigned minus
+none-times : (minus : Bool) (n p : ℕ) → n ≡ 0 → to_signed minus n *ℤ pos p ≡ pos 0
+none-times minus n p h = signed_times minus n p ∙ ap (to_signed minus) (gone n p h) ∙ unsigned minus
   where
     gone : (n p : ℕ) → n ≡ 0 → n * p ≡ 0
     gone n p h = rw h (omega arith)
 
-    unsigned : (minus : Bool) → signed minus 0 ≡ pos 0
+    unsigned : (minus : Bool) → to_signed minus 0 ≡ pos 0
     unsigned true = refl
     unsigned false = refl
 
-zero-value : (minus : Bool) (n : ℕ) (e : ℤ) → n ≡ 0 → HasSameValue (record { mantissa = signed minus n; exponent = e }) zero_number
+zero-value : (minus : Bool) (n : ℕ) (e : ℤ) → n ≡ 0 → HasSameValue (record { mantissa = to_signed minus n; exponent = e }) zero_number
 zero-value minus n e h = none-times minus n (10 ^ surplus e (pos 0)) h ∙ sym (none-times false 0 (10 ^ surplus (pos 0) e) refl)
 
 -- what is known of the value of a literal
@@ -97,21 +97,21 @@ record IsNormalOf (v d : Number) : Type 0 where
   normal_form : is_normal d ≡ true
   same : HasSameValue v d
 
-normal-same : (minus : Bool) (n : ℕ) (e : ℤ) (len : ℕ) → n < 10 ^ len → len ≤ 255 → IsNormalOf (record { mantissa = signed minus n; exponent = e }) (normal (record { mantissa = signed minus n; exponent = e }))
+normal-same : (minus : Bool) (n : ℕ) (e : ℤ) (len : ℕ) → n < 10 ^ len → len ≤ 255 → IsNormalOf (record { mantissa = to_signed minus n; exponent = e }) (normal (record { mantissa = to_signed minus n; exponent = e }))
 normal-same minus n e len small short = by (n == 0) refl
   where
     v : Number
-    v = record { mantissa = signed minus n; exponent = e }
+    v = record { mantissa = to_signed minus n; exponent = e }
 
     zero : n ≡ 0 → normal v ≡ zero_number
-    zero h = let none : (unsigned_abs (signed minus n) == 0) ≡ true = ap (λ (m : ℕ). m == 0) (size-signed minus n ∙ h) in rw none refl
+    zero h = let none : (unsigned_abs (to_signed minus n) == 0) ≡ true = ap (λ (m : ℕ). m == 0) (size-signed minus n ∙ h) in rw none refl
 
     nonzero : (m : ℕ) × (z : ℕ) × IsStripped n m z → 0 < n → IsNormalOf v (normal v)
     nonzero (m, z, s) some =
         let ends = s.ends some in
         let few : z < len = few-zeros n m z len s (omega arith) small in
-        let is : normal v ≡ record { mantissa = signed minus m; exponent = e +ℤ pos z } = stripped-normal minus n m z e s some (omega arith) in
-        subst (IsNormalOf v) (sym is) (record { normal_form = ends-well (signed minus m) (e +ℤ pos z) (rw size-signed ends); same = stripped-value minus n m z e s })
+        let is : normal v ≡ record { mantissa = to_signed minus m; exponent = e +ℤ pos z } = stripped-normal minus n m z e s some (omega arith) in
+        subst (IsNormalOf v) (sym is) (record { normal_form = ends-well (to_signed minus m) (e +ℤ pos z) (rw size-signed ends); same = stripped-value minus n m z e s })
 
     by : (b : Bool) → (n == 0) ≡ b → IsNormalOf v (normal v)
     by true h =
@@ -232,7 +232,7 @@ no-zeros-behind v d k same ends up =
 
 -- the literal's value is the decimal's with zeros behind the mantissa
 value-apart : (v d : Number) → HasSameValue v d → 0 < unsigned_abs d.mantissa % 10
-    → v ≡ record { mantissa = signed (int_le d.mantissa (negsuc 0)) (unsigned_abs d.mantissa * 10 ^ surplus d.exponent v.exponent); exponent = d.exponent -ℤ pos (surplus d.exponent v.exponent) }
+    → v ≡ record { mantissa = to_signed (int_le d.mantissa (negsuc 0)) (unsigned_abs d.mantissa * 10 ^ surplus d.exponent v.exponent); exponent = d.exponent -ℤ pos (surplus d.exponent v.exponent) }
 value-apart v d same ends = by (surplus v.exponent d.exponent) refl
   where
     minus : Bool
@@ -245,27 +245,27 @@ value-apart v d same ends = by (surplus v.exponent d.exponent) refl
     once m = omega (arith, ints)
 
     by : (n : ℕ) → surplus v.exponent d.exponent ≡ n
-        → v ≡ record { mantissa = signed minus (unsigned_abs d.mantissa * 10 ^ k); exponent = d.exponent -ℤ pos k }
+        → v ≡ record { mantissa = to_signed minus (unsigned_abs d.mantissa * 10 ^ k); exponent = d.exponent -ℤ pos k }
     by (suc n) up = absurd (no-zeros-behind v d n same ends up)
     by zero up =
         let left : mantissa_beside v d ≡ v.mantissa = ap (λ (n : ℕ). v.mantissa *ℤ pos (10 ^ n)) up ∙ once v.mantissa in
-        let right : mantissa_beside d v ≡ signed minus (unsigned_abs d.mantissa * 10 ^ k) =
+        let right : mantissa_beside d v ≡ to_signed minus (unsigned_abs d.mantissa * 10 ^ k) =
         ap (λ (m : ℤ). m *ℤ pos (10 ^ k)) (sym (signed-size d.mantissa)) ∙ signed_times minus (unsigned_abs d.mantissa) (10 ^ k) in
         λ i. record { mantissa = (sym left ∙ same ∙ right) i; exponent = apart v.exponent d.exponent k refl up i }
 
 -- the normal form of the literal's value is the decimal
-normal-from_same : (minus : Bool) (n : ℕ) (e : ℤ) (len : ℕ) (d : Number) → n < 10 ^ len → len ≤ 255 → IsDecimal d → HasSameValue (record { mantissa = signed minus n; exponent = e }) d
-    → normal (record { mantissa = signed minus n; exponent = e }) ≡ d
+normal-from_same : (minus : Bool) (n : ℕ) (e : ℤ) (len : ℕ) (d : Number) → n < 10 ^ len → len ≤ 255 → IsDecimal d → HasSameValue (record { mantissa = to_signed minus n; exponent = e }) d
+    → normal (record { mantissa = to_signed minus n; exponent = e }) ≡ d
 normal-from_same minus n e len d small short ok same = by (is_zero d) refl
   where
     v : Number
-    v = record { mantissa = signed minus n; exponent = e }
+    v = record { mantissa = to_signed minus n; exponent = e }
 
-    by : (b : Bool) → is_zero d ≡ b → normal (record { mantissa = signed minus n; exponent = e }) ≡ d
+    by : (b : Bool) → is_zero d ≡ b → normal (record { mantissa = to_signed minus n; exponent = e }) ≡ d
     by true z =
         let zero_d : d ≡ zero_number = zero-is d ok z in
-        let none : unsigned_abs (signed minus n) ≡ 0 = zero-from_same v (subst (HasSameValue v) zero_d same) in
-        let test : (unsigned_abs (signed minus n) == 0) ≡ true = ap (λ (m : ℕ). m == 0) none in
+        let none : unsigned_abs (to_signed minus n) ≡ 0 = zero-from_same v (subst (HasSameValue v) zero_d same) in
+        let test : (unsigned_abs (to_signed minus n) == 0) ≡ true = ap (λ (m : ℕ). m == 0) none in
         rw test (sym zero_d)
     by false z =
         let ends = nonzero-ends d ok z in

@@ -10,7 +10,7 @@ use Rattle.std.proofs.lemmas.Nat.{pow-add}
 use Rattle.std.proofs.lemmas.Bool.{ltb-true, ltb-false, lt-ltb, le-ltb, leb-true}
 use Rattle.std.proofs.lemmas.Bool.Decides.{nat_tests}
 use Rattle.mpslp_decimal.specs.Decimal.{Number, IsDecimal, is_decimal, is_zero, is_normal, zero_number, surplus, mantissa_beside, normal, decimal_of, height, scaled, at_scale, sum_of, has_few_digits, has_small_exponent}
-use Rattle.mpslp_decimal.specs.Literal.{signed}
+use Rattle.mpslp_decimal.specs.Literal.{to_signed}
 use Rattle.mpslp_decimal.specs.Scan.{IsStripped, in_range}
 use Rattle.mpslp_decimal.specs.declared.literal.NumberFault.TheVariants.{ExponentRange}
 use Rattle.mpslp_decimal.proofs.NormalLemmas.{normal-tens, size-signed}
@@ -57,14 +57,14 @@ one-zero-less d z n e ends = rw more (regroup (d / 10) (10 ^ z) ∙ ap (λ (x : 
 
 -- by the number without its zeros
 pub decimal_of-stripped : (minus : Bool) (n m z : ℕ) (e : ℤ) → IsStripped n m z → 0 < n → z < 1100
-    → decimal_of (record { mantissa = signed minus n; exponent = e })
-    ≡ (if nat_lt m (10 ^ 36) && has_small_exponent (record { mantissa = signed minus m; exponent = e +ℤ pos z }) then Some (record { mantissa = signed minus m; exponent = e +ℤ pos z }) else None)
+    → decimal_of (record { mantissa = to_signed minus n; exponent = e })
+    ≡ (if nat_lt m (10 ^ 36) && has_small_exponent (record { mantissa = to_signed minus m; exponent = e +ℤ pos z }) then Some (record { mantissa = to_signed minus m; exponent = e +ℤ pos z }) else None)
 decimal_of-stripped minus n m z e s some few =
     let is = stripped-normal minus n m z e s some few in
-    let ends : is_normal (record { mantissa = signed minus m; exponent = e +ℤ pos z }) ≡ true = ends-well (signed minus m) (e +ℤ pos z) (rw size-signed (s.ends some)) in
+    let ends : is_normal (record { mantissa = to_signed minus m; exponent = e +ℤ pos z }) ≡ true = ends-well (to_signed minus m) (e +ℤ pos z) (rw size-signed (s.ends some)) in
     ap (λ (d : Number). if is_decimal d then Some d else None) is
-    ∙ ap (λ (b : Bool). if has_few_digits (record { mantissa = signed minus m; exponent = e +ℤ pos z }) && (has_small_exponent (record { mantissa = signed minus m; exponent = e +ℤ pos z }) && b) then Some (record { mantissa = signed minus m; exponent = e +ℤ pos z }) else None) ends
-    ∙ (λ i. if nat_lt (size-signed minus m i) (10 ^ 36) && and_true (has_small_exponent (record { mantissa = signed minus m; exponent = e +ℤ pos z })) i then Some (record { mantissa = signed minus m; exponent = e +ℤ pos z }) else None)
+    ∙ ap (λ (b : Bool). if has_few_digits (record { mantissa = to_signed minus m; exponent = e +ℤ pos z }) && (has_small_exponent (record { mantissa = to_signed minus m; exponent = e +ℤ pos z }) && b) then Some (record { mantissa = to_signed minus m; exponent = e +ℤ pos z }) else None) ends
+    ∙ (λ i. if nat_lt (size-signed minus m i) (10 ^ 36) && and_true (has_small_exponent (record { mantissa = to_signed minus m; exponent = e +ℤ pos z })) i then Some (record { mantissa = to_signed minus m; exponent = e +ℤ pos z }) else None)
   where
     and_true : (b : Bool) → (b && true) ≡ b
     and_true true = refl
@@ -93,10 +93,10 @@ shift-exponent : (e : ℤ) (h z : ℕ) → e -ℤ pos h ≡ negsuc 499 → negsu
 shift-exponent e h z g = omega (arith, ints)
 
 normal-shift : (minus : Bool) (n m z : ℕ) (e : ℤ) → IsStripped n m z → 0 < n → z < 99 → int_le (negsuc 499) e ≡ true → int_le e (pos 500) ≡ true
-    → normal (at_scale (signed minus n *ℤ pos (10 ^ height e))) ≡ normal (record { mantissa = signed minus n; exponent = e })
+    → normal (at_scale (to_signed minus n *ℤ pos (10 ^ height e))) ≡ normal (record { mantissa = to_signed minus n; exponent = e })
 normal-shift minus n m z e s some few low high =
-    let total : signed minus n *ℤ pos (10 ^ height e) ≡ signed minus (m * 10 ^ (z + height e)) =
-    signed_times minus n (10 ^ height e) ∙ ap (λ (k : ℕ). signed minus (k * 10 ^ height e)) (sym s.value) ∙ ap (signed minus) (powers m z (height e)) in
+    let total : to_signed minus n *ℤ pos (10 ^ height e) ≡ to_signed minus (m * 10 ^ (z + height e)) =
+    signed_times minus n (10 ^ height e) ∙ ap (λ (k : ℕ). to_signed minus (k * 10 ^ height e)) (sym s.value) ∙ ap (to_signed minus) (powers m z (height e)) in
     let height_few : z + height e < 1100 = (let b = height-most e high in omega arith) in
     (λ i. normal (record { mantissa = total i; exponent = shift-exponent e (height e) z (height_back e low) i }))
     ∙ normal-tens minus m (z + height e) (e +ℤ pos z) (s.ends some) height_few
@@ -161,23 +161,23 @@ sum-none a b p q h none =
     gone : (p : ℕ) → pos 0 *ℤ pos p ≡ pos 0
     gone p = omega (arith, ints)
 
-signed-sum : (s : ℤ) → signed (int_le s (negsuc 0)) (unsigned_abs s) ≡ s
+signed-sum : (s : ℤ) → to_signed (int_le s (negsuc 0)) (unsigned_abs s) ≡ s
 signed-sum s = signed-size s
 
 -- the sum at the smaller exponent, and its decimal
-pub sum-stripped : (a b : Number) (minus : Bool) (n m z : ℕ) → IsDecimal a → IsDecimal b → b.exponent ≤ℤ a.exponent → a.mantissa *ℤ pos (10 ^ surplus a.exponent b.exponent) +ℤ b.mantissa ≡ signed minus n
-    → IsStripped n m z → 0 < n → z < 99 → decimal_of (record { mantissa = signed minus n; exponent = b.exponent }) ≡ sum_of a b
+pub sum-stripped : (a b : Number) (minus : Bool) (n m z : ℕ) → IsDecimal a → IsDecimal b → b.exponent ≤ℤ a.exponent → a.mantissa *ℤ pos (10 ^ surplus a.exponent b.exponent) +ℤ b.mantissa ≡ to_signed minus n
+    → IsStripped n m z → 0 < n → z < 99 → decimal_of (record { mantissa = to_signed minus n; exponent = b.exponent }) ≡ sum_of a b
 sum-stripped a b minus n m z p q h is s some few =
     let exponents = exponents-of b q in
     ap (λ (d : Number). if is_decimal d then Some d else None) (sym (normal-shift minus n m z b.exponent s some few exponents.0 exponents.1))
     ∙ ap (λ (x : ℤ). decimal_of (at_scale (x *ℤ pos (10 ^ height b.exponent)))) (sym is)
     ∙ ap (λ (x : ℤ). decimal_of (at_scale x)) (sym (sum-scaled a b p q h))
 
-pub sum-some : (a b : Number) (minus : Bool) (n : ℕ) → IsDecimal a → IsDecimal b → b.exponent ≤ℤ a.exponent → a.mantissa *ℤ pos (10 ^ surplus a.exponent b.exponent) +ℤ b.mantissa ≡ signed minus n
-    → 0 < n → n < 10 ^ 39 → decimal_of (record { mantissa = signed minus n; exponent = b.exponent }) ≡ sum_of a b
+pub sum-some : (a b : Number) (minus : Bool) (n : ℕ) → IsDecimal a → IsDecimal b → b.exponent ≤ℤ a.exponent → a.mantissa *ℤ pos (10 ^ surplus a.exponent b.exponent) +ℤ b.mantissa ≡ to_signed minus n
+    → 0 < n → n < 10 ^ 39 → decimal_of (record { mantissa = to_signed minus n; exponent = b.exponent }) ≡ sum_of a b
 sum-some a b minus n p q h is some small = by (strip 39 n small some)
   where
-    by : (m : ℕ) × (z : ℕ) × IsStripped n m z → decimal_of (record { mantissa = signed minus n; exponent = b.exponent }) ≡ sum_of a b
+    by : (m : ℕ) × (z : ℕ) × IsStripped n m z → decimal_of (record { mantissa = to_signed minus n; exponent = b.exponent }) ≡ sum_of a b
     by (m, z, s) =
         let few : z < 39 = zeros-below n m z 39 s.value (positive m (s.ends some)) small in
         sum-stripped a b minus n m z p q h is s some (omega arith)
@@ -206,11 +206,11 @@ last-digit x y ends = by (unsigned_abs (x *ℤ pos 10 +ℤ y) % 10) refl
 
         against : unsigned_abs (x *ℤ pos 10 +ℤ y) ≡ (unsigned_abs (x *ℤ pos 10 +ℤ y) / 10) * 10 → ⊥
         against w =
-            let s : x *ℤ pos 10 +ℤ y ≡ signed (int_le (x *ℤ pos 10 +ℤ y) (negsuc 0)) q *ℤ pos 10 =
-            sym (signed-size (x *ℤ pos 10 +ℤ y)) ∙ ap (signed (int_le (x *ℤ pos 10 +ℤ y) (negsuc 0))) w ∙ sym (signed_times (int_le (x *ℤ pos 10 +ℤ y) (negsuc 0)) q 10) in
-            let y_is : y ≡ (signed (int_le (x *ℤ pos 10 +ℤ y) (negsuc 0)) q +ℤ neg_ℤ x) *ℤ pos 10 = other x y (signed (int_le (x *ℤ pos 10 +ℤ y) (negsuc 0)) q) s in
-            let size : unsigned_abs y ≡ unsigned_abs (signed (int_le (x *ℤ pos 10 +ℤ y) (negsuc 0)) q +ℤ neg_ℤ x) * 10 = ap unsigned_abs y_is ∙ unsigned_abs-mul (signed (int_le (x *ℤ pos 10 +ℤ y) (negsuc 0)) q +ℤ neg_ℤ x) (pos 10) in
-            none (unsigned_abs y) (unsigned_abs (signed (int_le (x *ℤ pos 10 +ℤ y) (negsuc 0)) q +ℤ neg_ℤ x)) size ends
+            let s : x *ℤ pos 10 +ℤ y ≡ to_signed (int_le (x *ℤ pos 10 +ℤ y) (negsuc 0)) q *ℤ pos 10 =
+            sym (signed-size (x *ℤ pos 10 +ℤ y)) ∙ ap (to_signed (int_le (x *ℤ pos 10 +ℤ y) (negsuc 0))) w ∙ sym (signed_times (int_le (x *ℤ pos 10 +ℤ y) (negsuc 0)) q 10) in
+            let y_is : y ≡ (to_signed (int_le (x *ℤ pos 10 +ℤ y) (negsuc 0)) q +ℤ neg_ℤ x) *ℤ pos 10 = other x y (to_signed (int_le (x *ℤ pos 10 +ℤ y) (negsuc 0)) q) s in
+            let size : unsigned_abs y ≡ unsigned_abs (to_signed (int_le (x *ℤ pos 10 +ℤ y) (negsuc 0)) q +ℤ neg_ℤ x) * 10 = ap unsigned_abs y_is ∙ unsigned_abs-mul (to_signed (int_le (x *ℤ pos 10 +ℤ y) (negsuc 0)) q +ℤ neg_ℤ x) (pos 10) in
+            none (unsigned_abs y) (unsigned_abs (to_signed (int_le (x *ℤ pos 10 +ℤ y) (negsuc 0)) q +ℤ neg_ℤ x)) size ends
           where
             other : (x y s : ℤ) → x *ℤ pos 10 +ℤ y ≡ s *ℤ pos 10 → y ≡ (s +ℤ neg_ℤ x) *ℤ pos 10
             other x y s e = sub (x *ℤ pos 10) y (s *ℤ pos 10) e ∙ sym (sum-times s (neg_ℤ x) 10 ∙ ap (λ (z : ℤ). s *ℤ pos 10 +ℤ z) (turned x))
@@ -239,17 +239,17 @@ triangle x y = by x y (x +ℤ y) refl
 
 -- ---- the answers of `decimal_of`
 
-pub decimal-many : (minus : Bool) (n m z : ℕ) (e : ℤ) → IsStripped n m z → 0 < n → z < 1100 → 10 ^ 36 ≤ m → None ≡ decimal_of (record { mantissa = signed minus n; exponent = e })
+pub decimal-many : (minus : Bool) (n m z : ℕ) (e : ℤ) → IsStripped n m z → 0 < n → z < 1100 → 10 ^ 36 ≤ m → None ≡ decimal_of (record { mantissa = to_signed minus n; exponent = e })
 decimal-many minus n m z e s some few long =
     sym (decimal_of-stripped minus n m z e s some few
-    ∙ ap (λ (b : Bool). if b && has_small_exponent (record { mantissa = signed minus m; exponent = e +ℤ pos z }) then Some (record { mantissa = signed minus m; exponent = e +ℤ pos z }) else None) (le-ltb m (10 ^ 36) long))
+    ∙ ap (λ (b : Bool). if b && has_small_exponent (record { mantissa = to_signed minus m; exponent = e +ℤ pos z }) then Some (record { mantissa = to_signed minus m; exponent = e +ℤ pos z }) else None) (le-ltb m (10 ^ 36) long))
 
 pub decimal-few : (minus : Bool) (n m z : ℕ) (e : ℤ) → IsStripped n m z → 0 < n → z < 1100 → m < 10 ^ 36
-    → result_ok (in_range (record { mantissa = signed minus m; exponent = e +ℤ pos z })) ≡ decimal_of (record { mantissa = signed minus n; exponent = e })
+    → result_ok (in_range (record { mantissa = to_signed minus m; exponent = e +ℤ pos z })) ≡ decimal_of (record { mantissa = to_signed minus n; exponent = e })
 decimal-few minus n m z e s some few short =
     sym (decimal_of-stripped minus n m z e s some few
-    ∙ ap (λ (b : Bool). if b && has_small_exponent (record { mantissa = signed minus m; exponent = e +ℤ pos z }) then Some (record { mantissa = signed minus m; exponent = e +ℤ pos z }) else None) (lt-ltb m (10 ^ 36) short)
-    ∙ by (has_small_exponent (record { mantissa = signed minus m; exponent = e +ℤ pos z })) (record { mantissa = signed minus m; exponent = e +ℤ pos z }))
+    ∙ ap (λ (b : Bool). if b && has_small_exponent (record { mantissa = to_signed minus m; exponent = e +ℤ pos z }) then Some (record { mantissa = to_signed minus m; exponent = e +ℤ pos z }) else None) (lt-ltb m (10 ^ 36) short)
+    ∙ by (has_small_exponent (record { mantissa = to_signed minus m; exponent = e +ℤ pos z })) (record { mantissa = to_signed minus m; exponent = e +ℤ pos z }))
   where
     by : (b : Bool) (d : Number) → (if b then Some d else None) ≡ result_ok (if b then Ok d else Err ExponentRange)
     by true d = refl
@@ -303,7 +303,7 @@ sum-far a b (suc j) p q h y e far =
     n : ℕ
     n = unsigned_abs s
 
-    total : a.mantissa *ℤ pos (10 ^ surplus a.exponent b.exponent) +ℤ b.mantissa ≡ signed minus n
+    total : a.mantissa *ℤ pos (10 ^ surplus a.exponent b.exponent) +ℤ b.mantissa ≡ to_signed minus n
     total = ap (λ (k : ℕ). a.mantissa *ℤ pos (10 ^ k) +ℤ b.mantissa) up ∙ sym (signed-size s)
 
     tens : (a.mantissa *ℤ pos (10 ^ j)) *ℤ pos 10 +ℤ b.mantissa ≡ a.mantissa *ℤ pos (10 ^ suc j) +ℤ b.mantissa
@@ -336,8 +336,8 @@ size-positive (pos (suc n)) h = omega arith
 size-positive (negsuc n) h = omega arith
 
 -- a number by the sign that a test tells, and its size
-pub signed-below : (s : ℤ) → s ≡ signed (int_lt s (pos 0)) (unsigned_abs s)
-signed-below (pos n) = sym (ap (λ (b : Bool). signed b n) (no_less n))
+pub signed-below : (s : ℤ) → s ≡ to_signed (int_lt s (pos 0)) (unsigned_abs s)
+signed-below (pos n) = sym (ap (λ (b : Bool). to_signed b n) (no_less n))
   where
     no_less : (n : ℕ) → nat_lt n 0 ≡ false
     no_less n = grind (arith, nat_tests)

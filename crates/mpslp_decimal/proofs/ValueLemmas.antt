@@ -6,7 +6,7 @@ use Rattle.std.proofs.lemmas.Int.{ints}
 use Rattle.std.proofs.lemmas.Nat.{pow-add}
 use Rattle.std.proofs.lemmas.Bool.{leb-true}
 use Rattle.mpslp_decimal.specs.Decimal.{Number, IsDecimal, natural_part, surplus, mantissa_beside, HasSameValue, height, scaled, has_few_digits, has_small_exponent, is_normal}
-use Rattle.mpslp_decimal.specs.Literal.{signed}
+use Rattle.mpslp_decimal.specs.Literal.{to_signed}
 use Rattle.mpslp_decimal.proofs.NumberTextLemmas.{signed-size}
 use Rattle.mpslp_decimal.proofs.ScaleLemmas.{signed_times, one_form}
 
@@ -43,7 +43,7 @@ times_twice m p q =
     let n = unsigned_abs m in
     ap (λ (z : ℤ). (z *ℤ pos p) *ℤ pos q) (sym (signed-size m))
     ∙ ap (λ (z : ℤ). z *ℤ pos q) (signed_times minus n p) ∙ signed_times minus (n * p) q
-    ∙ ap (signed minus) (regroup n p q) ∙ sym (signed_times minus n (p * q))
+    ∙ ap (to_signed minus) (regroup n p q) ∙ sym (signed_times minus n (p * q))
     ∙ ap (λ (z : ℤ). z *ℤ pos (p * q)) (signed-size m)
 
 pub least-exponent : (d : Number) → IsDecimal d → int_le (negsuc 499) d.exponent ≡ true

@@ -36,12 +36,12 @@ digits_sum (digit ∷ digits) = (digit - 48) * 10 ^ length digits + digits_sum d
 abbrev pub are_digits : List ℕ → Bool
 are_digits bytes = nat_lt 0 (length bytes) && list_all is_digit bytes
 
-abbrev pub signed : Bool → ℕ → ℤ
-signed minus n = if minus then neg_ℤ (pos n) else pos n
+abbrev pub to_signed : Bool → ℕ → ℤ
+to_signed minus n = if minus then neg_ℤ (pos n) else pos n
 
 -- the value of an optional sign and digits
 abbrev pub signed_value : List ℕ → ℤ
-signed_value text = signed (is_minus text) (digits_sum (without_sign text))
+signed_value text = to_signed (is_minus text) (digits_sum (without_sign text))
 
 -- what stands before the exponent part, without its sign
 abbrev pub unsigned_part : List ℕ → List ℕ
@@ -67,7 +67,7 @@ is_literal text = are_digits (mantissa_digits text)
 -- what a literal spells, not in normal form
 abbrev pub literal_value : List ℕ → Number
 literal_value text = record {
-  mantissa = signed (is_minus text) (digits_sum (mantissa_digits text));
+  mantissa = to_signed (is_minus text) (digits_sum (mantissa_digits text));
   exponent = signed_value (exponent_part text) -ℤ pos (length (fraction_digits text));
 }
 

@@ -1,7 +1,7 @@
 -- What one pass over a literal finds out.
 use Rattle.std.specs.Prelude.{◌≡◌, ℕ, ◌*◌, ◌^◌, ◌%◌, ◌<◌, ◌≤◌, ℤ, pos, Option, Some, None, Result, Ok, Err, min, IsTrue, if◌then◌else◌, List, [], ◌∷◌, ◌++◌, length, take, drop}
 use Rattle.std.specs.List.{prefix_len}
-use Rattle.mpslp_decimal.specs.Literal.{is_digit, is_point, is_exponent_mark, are_digits, is_minus, without_sign, signed, digits_sum, mantissa_digits, fraction_digits, exponent_part, is_literal}
+use Rattle.mpslp_decimal.specs.Literal.{is_digit, is_point, is_exponent_mark, are_digits, is_minus, without_sign, to_signed, digits_sum, mantissa_digits, fraction_digits, exponent_part, is_literal}
 use Rattle.mpslp_decimal.specs.declared.number.TheConstants.{MAX_DIGITS}
 use Rattle.mpslp_decimal.specs.declared.literal.TheConstants.{EXPONENT_CAP}
 use Rattle.mpslp_decimal.specs.Decimal.{Number, has_small_exponent}
@@ -35,7 +35,7 @@ zeros_of Many = 0
 
 -- the exponent, no further from 0 than the cap
 abbrev pub capped_exponent : List ℕ → ℤ
-capped_exponent text = signed (is_minus text) (min (digits_sum (without_sign text)) EXPONENT_CAP)
+capped_exponent text = to_signed (is_minus text) (min (digits_sum (without_sign text)) EXPONENT_CAP)
 
 -- the digits that a text begins with, and what follows them
 abbrev pub digits_front : List ℕ → List ℕ

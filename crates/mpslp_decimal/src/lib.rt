@@ -7,9 +7,7 @@
 pub mod laws;
 mod literal;
 mod number;
-mod order;
 mod packed;
-mod sums;
 mod text;
 
 pub use literal::{MAX_LITERAL_LEN, NumberFault};

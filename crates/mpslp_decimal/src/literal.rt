@@ -2,7 +2,7 @@
 
 ghost use Rattle.std.specs.Prelude.{ℤ, pos, ◌+ℤ◌, ◌-ℤ◌, ◌%◌, unsigned_abs, ◌≡◌, ℕ, ◌+◌, ◌*◌, ◌^◌, ◌<◌, ◌≤◌, ◌↔◌, IsTrue, IsSome, IfSome, MatchOption, length, take, drop, not, false};
 ghost use Rattle.std.specs.List.{prefix_len};
-ghost use Rattle.mpslp_decimal.specs.Literal.{signed, is_digit, is_minus, without_sign, digits_sum, are_digits, is_literal, number_of};
+ghost use Rattle.mpslp_decimal.specs.Literal.{to_signed, is_digit, is_minus, without_sign, digits_sum, are_digits, is_literal, number_of};
 ghost use Rattle.mpslp_decimal.specs.Scan.{in_range, IsSignificandOf, parts_of, zeros_of, exponent_of, exponent_after, digits_front, after_digits, mantissa_front, fraction_front, after_mantissa, IsScanOf};
 
 use crate::number::{Decimal, MAX_DIGITS, MAX_EXPONENT, MIN_EXPONENT};
@@ -262,7 +262,7 @@ pub(crate) fn in_range(
 ) -> Result<Decimal, NumberFault>
     requires ends { 0 < mantissa % 10 }
     requires few { mantissa < 10 ^ MAX_DIGITS }
-    ensures { result ≡ in_range (record { mantissa = signed is_negative mantissa; exponent = exponent }) }
+    ensures { result ≡ in_range (record { mantissa = to_signed is_negative mantissa; exponent = exponent }) }
 {
     if exponent < MIN_EXPONENT || exponent > MAX_EXPONENT {
         return Err(NumberFault::ExponentRange);

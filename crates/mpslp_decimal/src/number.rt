@@ -1,5 +1,8 @@
 //! The type of decimals, and what can be asked of one.
 
+mod order;
+mod sums;
+
 ghost use Rattle.std.specs.Prelude.{◌≡◌, ◌+◌, ◌*◌, ◌^◌, ◌<◌, nat_le};
 ghost use Rattle.mpslp_decimal.specs.Literal.{number_of};
 ghost use Rattle.mpslp_decimal.specs.Decimal.{Number, zero_number, is_zero, is_negative, negated, size_of, is_infinite_size, depth, height, IsDecimal};

@@ -2,8 +2,8 @@
 use Rattle.std.specs.Prelude.{◌≡◌, ℕ, ◌+◌, ◌-◌, ◌^◌, ◌<◌, ◌≤◌, min, List, ◌++◌, length, take, Result, Ok, Err}
 
 -- one more, where a count stays at 2^64 - 1
-abbrev pub raised : ℕ → ℕ
-raised count = min (count + 1) (2 ^ 64 - 1)
+abbrev pub one_call_more : ℕ → ℕ
+one_call_more count = min (count + 1) (2 ^ 64 - 1)
 
 -- whatever was held is held with these bytes behind it
 abbrev pub Grows : {S : Type 0} → (S → List ℕ → Type 0) → S → S → List ℕ → Type 0

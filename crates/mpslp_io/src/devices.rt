@@ -5,7 +5,7 @@
 
 ghost use Rattle.std.specs.Prelude.{◌≡◌, ℕ, ◌≤◌, ◌↔◌, List, Bool, true, length, Option, IfOk, IsErr};
 ghost use Rattle.std.specs.Io.KnownBytes.{ReadConsumes};
-ghost use Rattle.mpslp_io.specs.Devices.{raised, Takes, KeepsHeld};
+ghost use Rattle.mpslp_io.specs.Devices.{one_call_more, Takes, KeepsHeld};
 
 use thiserror::Error;
 
@@ -35,7 +35,7 @@ pub trait Source {
         ensures bytes { ReadConsumes (left self.old) (left self.new) result buffer.new }
         ensures fails { IsErr result ↔ (failed self.new ≡ true) }
         ensures stays { failed self.old ≡ true → failed self.new ≡ true }
-        ensures counted { count self.new ≡ raised (count self.old) };
+        ensures counted { count self.new ≡ one_call_more (count self.old) };
 
     /// Whether the source has failed. No read is made.
     fn has_failed(&self) -> bool
@@ -66,7 +66,7 @@ pub trait Sink {
         ensures bytes { Takes holds self.old self.new piece.now result }
         ensures fails { IsErr result ↔ (failed self.new ≡ true) }
         ensures stays { failed self.old ≡ true → failed self.new ≡ true }
-        ensures counted { count self.new ≡ raised (count self.old) };
+        ensures counted { count self.new ≡ one_call_more (count self.old) };
 
     /// Hands on what was taken and waits in a buffer. Answers [`IoFailed`] exactly where the sink has
     /// failed when the call ends, in this call or an earlier one; then it stays failed. In either case
@@ -75,7 +75,7 @@ pub trait Sink {
         ensures bytes { KeepsHeld holds self.old self.new }
         ensures fails { IsErr result ↔ (failed self.new ≡ true) }
         ensures stays { failed self.old ≡ true → failed self.new ≡ true }
-        ensures counted { count self.new ≡ raised (count self.old) };
+        ensures counted { count self.new ≡ one_call_more (count self.old) };
 
     /// Whether the sink has failed. Nothing is written or flushed.
     fn has_failed(&self) -> bool

@@ -1,7 +1,7 @@
 //! The readers and writers of std as devices.
 
 ghost use Rattle.std.specs.Prelude.{◌≡◌, ◌↔◌, ℕ, List, true, false, Some, IsErr};
-ghost use Rattle.mpslp_io.specs.Devices.{raised};
+ghost use Rattle.mpslp_io.specs.Devices.{one_call_more};
 
 use crate::devices::{IoFailed, Sink, Source};
 use std::io::{Read, Write};
@@ -28,7 +28,7 @@ impl Calls {
 
     /// Counts one more call. It is to fail at once where one failed before.
     fn start(&mut self) -> Result<(), IoFailed>
-        ensures counted { self.new.count ≡ raised self.old.count }
+        ensures counted { self.new.count ≡ one_call_more self.old.count }
         ensures kept { self.new.failed ≡ self.old.failed }
         ensures refused { IsErr result ↔ (self.old.failed ≡ true) }
     {

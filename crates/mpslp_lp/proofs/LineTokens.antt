@@ -4,18 +4,18 @@ use Rattle.std.specs.Prelude.{Option, Some, None, Err}
 use Rattle.std.specs.List.{cons_option}
 use Rattle.mpslp_types.specs.FaultOrder.{least_kind}
 use Rattle.mpslp_types.specs.declared.faults.FaultKind.{FaultKind}
-use Rattle.mpslp_reading.specs.declared.errors.LineError.{LineError}
-use Rattle.mpslp_reading.specs.declared.errors.LineError.TheVariants.{Fault, OutOfMemory}
-use Rattle.mpslp_reading.proofs.LeastLemmas.{least-append}
+use Rattle.mpslp_lines.specs.declared.errors.LineError.{LineError}
+use Rattle.mpslp_lines.specs.declared.errors.LineError.TheVariants.{Fault, OutOfMemory}
+use Rattle.mpslp_lines.proofs.LeastLemmas.{least-append}
 use Rattle.mpslp_lp.specs.Token.{Token}
 use Rattle.mpslp_lp.specs.Terminal.{as_terminal}
-use Rattle.mpslp_lp.specs.OwnFault.{token_fault}
-use Rattle.mpslp_lp.specs.declared.before.Before.{Before}
+use Rattle.mpslp_lp.specs.LexicalFault.{token_fault}
+use Rattle.mpslp_lp.specs.declared.context.Context.{Context}
 use Rattle.mpslp_lp.specs.declared.states.State.{State}
-use Rattle.mpslp_lp.specs.Taken.{Taken, Goes, Refuses}
-use Rattle.mpslp_lp.specs.Taking.{take}
-use Rattle.mpslp_lp.specs.ReadingLines.{take_all, token_faults, take_tokens}
-use Rattle.mpslp_lp.specs.Declares.{Takes, error_before, lesser_of, IsLeastError}
+use Rattle.mpslp_lp.specs.AfterToken.{AfterToken, Goes, Refuses}
+use Rattle.mpslp_lp.specs.TokenStep.{take}
+use Rattle.mpslp_lp.specs.LineByLine.{take_all, token_faults, take_tokens}
+use Rattle.mpslp_lp.specs.Declares.{TakesToken, error_before, lesser_of, IsLeastError}
 
 -- ---- the least of faults, from the left
 
@@ -33,33 +33,33 @@ faults-next : (token : Token) (more : List Token) (o : Option FaultKind) → tok
 faults-next token more o h = ap (λ (x : Option FaultKind). cons_option x (token_faults more)) h
 
 -- a token without such a fault, which is taken
-pub tokens-next : (before after : Before) (state next : State) (token : Token) (more : List Token) → token_fault token.kind token.text ≡ None → take before state (as_terminal token) ≡ Goes after next
-    → take_tokens before state (token ∷ more) ≡ take_tokens after next more
-tokens-next before after state next token more none goes =
-    ap (λ (faults : List FaultKind). elim (least_kind faults) as (λ _. Taken) [ Some kind ↦ Refuses kind | None ↦ take_all before state (map as_terminal (token ∷ more)) ]) (faults-next token more None none)
-    ∙ ap (λ (taken : Taken). elim (least_kind (token_faults more)) as (λ _. Taken) [
+pub tokens-next : (context after : Context) (state next : State) (token : Token) (more : List Token) → token_fault token.kind token.text ≡ None → take context state (as_terminal token) ≡ Goes after next
+    → take_tokens context state (token ∷ more) ≡ take_tokens after next more
+tokens-next context after state next token more none goes =
+    ap (λ (faults : List FaultKind). elim (least_kind faults) as (λ _. AfterToken) [ Some kind ↦ Refuses kind | None ↦ take_all context state (map as_terminal (token ∷ more)) ]) (faults-next token more None none)
+    ∙ ap (λ (taken : AfterToken). elim (least_kind (token_faults more)) as (λ _. AfterToken) [
       | Some kind ↦ Refuses kind
-      | None ↦ elim taken as (λ _. Taken) [ Goes b s ↦ take_all b s (map as_terminal more) | Refuses kind ↦ Refuses kind ]
+      | None ↦ elim taken as (λ _. AfterToken) [ Goes b s ↦ take_all b s (map as_terminal more) | Refuses kind ↦ Refuses kind ]
     ]) goes
 
 -- a token with such a fault
-pub tokens-own : (before after : Before) (state : State) (token : Token) (more : List Token) (kind : FaultKind) (error : LineError) → token_fault token.kind token.text ≡ Some kind
-    → IsLeastError (kind ∷ token_faults more) error → Takes (take_tokens before state (token ∷ more)) (Err error) after
-tokens-own before after state token more kind (Fault least) own is =
-    ap (λ (o : Option FaultKind). elim o as (λ _. Taken) [ Some k ↦ Refuses k | None ↦ take_all before state (map as_terminal (token ∷ more)) ])
+pub tokens-own : (context after : Context) (state : State) (token : Token) (more : List Token) (kind : FaultKind) (error : LineError) → token_fault token.kind token.text ≡ Some kind
+    → IsLeastError (kind ∷ token_faults more) error → TakesToken (take_tokens context state (token ∷ more)) (Err error) after
+tokens-own context after state token more kind (Fault least) own is =
+    ap (λ (o : Option FaultKind). elim o as (λ _. AfterToken) [ Some k ↦ Refuses k | None ↦ take_all context state (map as_terminal (token ∷ more)) ])
     (ap least_kind (faults-next token more (Some kind) own) ∙ is)
-tokens-own before after state token more kind OutOfMemory own is = tt
+tokens-own context after state token more kind OutOfMemory own is = tt
 
 -- a token without such a fault that makes another
-pub tokens-refused : (before after : Before) (state : State) (token : Token) (more : List Token) (error : LineError) → token_fault token.kind token.text ≡ None
-    → Takes (take before state (as_terminal token)) (Err error) after → Takes (take_tokens before state (token ∷ more)) (Err (error_before (token_faults more) error)) after
-tokens-refused before after state token more (Fault kind) none refused =
+pub tokens-refused : (context after : Context) (state : State) (token : Token) (more : List Token) (error : LineError) → token_fault token.kind token.text ≡ None
+    → TakesToken (take context state (as_terminal token)) (Err error) after → TakesToken (take_tokens context state (token ∷ more)) (Err (error_before (token_faults more) error)) after
+tokens-refused context after state token more (Fault kind) none refused =
     by (least_kind (token_faults more)) (ap least_kind (faults-next token more None none))
   where
     by : (o : Option FaultKind) → least_kind (token_faults (token ∷ more)) ≡ o
-        → Takes (take_tokens before state (token ∷ more)) (Err (elim o as (λ _. LineError) [ Some own ↦ Fault own | None ↦ Fault kind ])) after
-    by (Some own) e = ap (λ (x : Option FaultKind). elim x as (λ _. Taken) [ Some k ↦ Refuses k | None ↦ take_all before state (map as_terminal (token ∷ more)) ]) e
+        → TakesToken (take_tokens context state (token ∷ more)) (Err (elim o as (λ _. LineError) [ Some own ↦ Fault own | None ↦ Fault kind ])) after
+    by (Some own) e = ap (λ (x : Option FaultKind). elim x as (λ _. AfterToken) [ Some k ↦ Refuses k | None ↦ take_all context state (map as_terminal (token ∷ more)) ]) e
     by None e =
-        ap (λ (x : Option FaultKind). elim x as (λ _. Taken) [ Some k ↦ Refuses k | None ↦ take_all before state (map as_terminal (token ∷ more)) ]) e
-        ∙ ap (λ (taken : Taken). elim taken as (λ _. Taken) [ Goes b s ↦ take_all b s (map as_terminal more) | Refuses k ↦ Refuses k ]) refused
-tokens-refused before after state token more OutOfMemory none refused = tt
+        ap (λ (x : Option FaultKind). elim x as (λ _. AfterToken) [ Some k ↦ Refuses k | None ↦ take_all context state (map as_terminal (token ∷ more)) ]) e
+        ∙ ap (λ (taken : AfterToken). elim taken as (λ _. AfterToken) [ Goes b s ↦ take_all b s (map as_terminal more) | Refuses k ↦ Refuses k ]) refused
+tokens-refused context after state token more OutOfMemory none refused = tt

@@ -1,7 +1,7 @@
 -- Bytes declare a model or have a first fault, and not both.
 use Rattle.std.proofs.Common.{◌≡◌, refl, sym, ap, subst, ◌∙◌, ℕ, List, [], ◌∷◌, true}
 use Rattle.std.specs.Prelude.{Option, Some, None, is_some}
-use Rattle.mpslp_core.specs.Model.{LinearModel}
+use Rattle.mpslp_model_core.specs.Model.{LinearModel}
 use Rattle.mpslp_builder.specs.Declaration.{Declaration, declare_sense, declare_objective, declare_constant, declare_row, declare_rhs, declare_range, declare_column, declare_coefficient, declare_lower, declare_upper, declare_marked, declare_integer, declare_binary, declare_semi, Draft, empty_draft, draft_of}
 use Rattle.mpslp_builder.specs.Meaning.{model_of, file_fault}
 use Rattle.mpslp_types.specs.declared.faults.Fault.{Fault}
@@ -16,14 +16,14 @@ use Rattle.mpslp_builder.proofs.NoFaultFromMeaning.{no_fault-from_means}
 use Rattle.mpslp_lp.specs.Rules.{Outcome}
 use Rattle.mpslp_lp.specs.Rules.Outcome.{Finished, Refused, Open}
 use Rattle.mpslp_lp.specs.Point.{start}
-use Rattle.mpslp_reading.specs.LineAnswer.{fault_on_line}
+use Rattle.mpslp_lines.specs.LineAnswer.{fault_on_line}
 use Rattle.mpslp_lp.specs.Grammar.{text_says, text_declares}
-use Rattle.mpslp_lp.specs.OwnFault.{own_fault}
+use Rattle.mpslp_lp.specs.LexicalFault.{lexical_fault}
 use Rattle.mpslp_lp.specs.LpText.{numbered_lines, sound_terminals, first_own_fault, or_else, lines_say, outcome, is_finished, declarations_of, DeclaresLp}
 use Rattle.mpslp_lp.specs.FirstFault.{fault_of, first_lp_fault}
 use Rattle.mpslp_lp.specs.Laws.{has_lp_name, DeclareLpNames, DeclareOrFail, DeclareUnlessFaulty}
 use Rattle.mpslp_lp.proofs.SoundTokens.{text-sound}
-use Rattle.mpslp_reading.proofs.ObjectiveLemmas.{objective-declared}
+use Rattle.mpslp_lines.proofs.ObjectiveLemmas.{objective-declared}
 use Rattle.mpslp_lp.proofs.TextFacts.{IsDraftAtEnd, IsFineText, text-fine}
 use Rattle.mpslp_lp.proofs.PhraseFacts.{is_lp_legal, legal-from_lp}
 
@@ -37,7 +37,7 @@ whole-legal bytes = imp_all is_lp_legal is_legal (declarations_of bytes) legal-f
 -- no line that has a fault by itself makes text whole
 never_whole : (numbered : List (ℕ × List ℕ)) (all : Draft) → first_own_fault numbered ≡ Finished all → ⊥
 never_whole [] all h = cc
-never_whole (line ∷ more) all h = by (own_fault line.1) h (never_whole more all)
+never_whole (line ∷ more) all h = by (lexical_fault line.1) h (never_whole more all)
   where
     by : (o : Option FaultKind) → (elim o as (λ _. Outcome Fault Draft) [ Some kind ↦ Refused (fault_on_line line.0 kind) | None ↦ first_own_fault more ]) ≡ Finished all
         → (first_own_fault more ≡ Finished all → ⊥) → ⊥

@@ -10,15 +10,15 @@ use Rattle.mpslp_decimal.specs.Literal.{is_digit}
 use Rattle.mpslp_types.specs.Name.{same_bytes, has_name_length, is_visible, marker, is_mps_name, is_letter, is_lp_symbol, is_lp_byte, lower_byte, is_reserved, is_like_exponent, begins_a_number, is_lp_name}
 use Rattle.mpslp_types.specs.declared.faults.FaultKind.TheVariants as faults
 use Rattle.mpslp_types.proofs.BoolLemmas.{both_so, or_right}
-use Rattle.mpslp_reading.specs.Tests.{first_held}
+use Rattle.mpslp_lines.specs.FaultTests.{first_held}
 use Rattle.mpslp_lp.specs.Line.{is_blank, begins_comment, is_period, begins_word, continues_word}
 use Rattle.mpslp_lp.specs.Token.{is_word, is_number, one_byte_operators, two_byte_operators, operator_kind, kind_of, Front, longest_within, longest_token, token_at, Token, tokens_from, tokens}
-use Rattle.mpslp_lp.specs.Words.{word_meanings, meaning_of}
-use Rattle.mpslp_lp.specs.OwnFault.{name_fault}
+use Rattle.mpslp_lp.specs.Words.{word_classes, class_of}
+use Rattle.mpslp_lp.specs.LexicalFault.{name_fault}
 use Rattle.mpslp_lp.specs.declared.tokens.TokenKind.{TokenKind}
 use Rattle.mpslp_lp.specs.declared.tokens.TokenKind.TheVariants as kinds
-use Rattle.mpslp_lp.specs.declared.words.Meaning.{Meaning}
-use Rattle.mpslp_lp.specs.declared.words.Meaning.TheVariants as meanings
+use Rattle.mpslp_lp.specs.declared.words.WordClass.{WordClass}
+use Rattle.mpslp_lp.specs.declared.words.WordClass.TheVariants as meanings
 
 -- ---- a token of this kind is a word
 
@@ -146,34 +146,34 @@ word-text (byte ∷ bytes) h =
 
 -- ---- a word that is not reserved
 
-abbrev is_name_meaning : Meaning → Bool
+abbrev is_name_meaning : WordClass → Bool
 is_name_meaning meanings.Name = true
 is_name_meaning _ = false
 
-abbrev meaning_in : List (List ℕ × Meaning) → List ℕ → Meaning
+abbrev meaning_in : List (List ℕ × WordClass) → List ℕ → WordClass
 meaning_in table lower =
-    option_map_or (λ (entry : List ℕ × Meaning). entry.1) (find (λ (entry : List ℕ × Meaning). same_bytes lower entry.0) table) meanings.Name
+    option_map_or (λ (entry : List ℕ × WordClass). entry.1) (find (λ (entry : List ℕ × WordClass). same_bytes lower entry.0) table) meanings.Name
 
-reserved-meaning : (table : List (List ℕ × Meaning)) (lower : List ℕ) → list_all (λ (e : List ℕ × Meaning). not (is_name_meaning e.1)) table ≡ true
-    → list_any (same_bytes lower) (map (λ (e : List ℕ × Meaning). e.0) table) ≡ true → not (is_name_meaning (meaning_in table lower)) ≡ true
-reserved-meaning [] lower all any = cc
-reserved-meaning (entry ∷ table) lower all any =
-    by (same_bytes lower entry.0) any (reserved-meaning table lower (second_so (not (is_name_meaning entry.1)) (list_all (λ (e : List ℕ × Meaning). not (is_name_meaning e.1)) table) all))
+reserved-word_class : (table : List (List ℕ × WordClass)) (lower : List ℕ) → list_all (λ (e : List ℕ × WordClass). not (is_name_meaning e.1)) table ≡ true
+    → list_any (same_bytes lower) (map (λ (e : List ℕ × WordClass). e.0) table) ≡ true → not (is_name_meaning (meaning_in table lower)) ≡ true
+reserved-word_class [] lower all any = cc
+reserved-word_class (entry ∷ table) lower all any =
+    by (same_bytes lower entry.0) any (reserved-word_class table lower (second_so (not (is_name_meaning entry.1)) (list_all (λ (e : List ℕ × WordClass). not (is_name_meaning e.1)) table) all))
   where
-    by : (b : Bool) → (b || list_any (same_bytes lower) (map (λ (e : List ℕ × Meaning). e.0) table)) ≡ true
-        → (list_any (same_bytes lower) (map (λ (e : List ℕ × Meaning). e.0) table) ≡ true → not (is_name_meaning (meaning_in table lower)) ≡ true)
-        → not (is_name_meaning (option_map_or (λ (e : List ℕ × Meaning). e.1) (cond b (Some entry) (find (λ (e : List ℕ × Meaning). same_bytes lower e.0) table)) meanings.Name)) ≡ true
-    by true h later = first_so (not (is_name_meaning entry.1)) (list_all (λ (e : List ℕ × Meaning). not (is_name_meaning e.1)) table) all
+    by : (b : Bool) → (b || list_any (same_bytes lower) (map (λ (e : List ℕ × WordClass). e.0) table)) ≡ true
+        → (list_any (same_bytes lower) (map (λ (e : List ℕ × WordClass). e.0) table) ≡ true → not (is_name_meaning (meaning_in table lower)) ≡ true)
+        → not (is_name_meaning (option_map_or (λ (e : List ℕ × WordClass). e.1) (cond b (Some entry) (find (λ (e : List ℕ × WordClass). same_bytes lower e.0) table)) meanings.Name)) ≡ true
+    by true h later = first_so (not (is_name_meaning entry.1)) (list_all (λ (e : List ℕ × WordClass). not (is_name_meaning e.1)) table) all
     by false h later = later h
 
-pub name-not_reserved : (word : List ℕ) → meaning_of word ≡ meanings.Name → not (is_reserved word) ≡ true
+pub name-not_reserved : (word : List ℕ) → class_of word ≡ meanings.Name → not (is_reserved word) ≡ true
 name-not_reserved word h = by (is_reserved word) refl
   where
     by : (b : Bool) → is_reserved word ≡ b → not b ≡ true
     by false e = refl
     by true e =
-        let other : not (is_name_meaning (meaning_of word)) ≡ true = reserved-meaning word_meanings (map lower_byte word) refl e in
-        ap (λ (m : Meaning). not (is_name_meaning m)) (sym h) ∙ other
+        let other : not (is_name_meaning (class_of word)) ≡ true = reserved-word_class word_classes (map lower_byte word) refl e in
+        ap (λ (m : WordClass). not (is_name_meaning m)) (sym h) ∙ other
 
 -- ---- what a name without a fault is
 
@@ -193,8 +193,8 @@ name-without_fault name h = by (has_name_length name) (list_all is_visible name)
     by false b c d p q r e h = cc
 
 -- A word that is a name and has no fault is a name in LP.
-pub lp-name : (text : List ℕ) → is_word text ≡ true → meaning_of text ≡ meanings.Name → name_fault text ≡ None → is_lp_name text ≡ true
-lp-name text word meaning none =
+pub lp-name : (text : List ℕ) → is_word text ≡ true → class_of text ≡ meanings.Name → name_fault text ≡ None → is_lp_name text ≡ true
+lp-name text word word_class none =
     let fault = name-without_fault text none in
     let legal = fault.legal in
     let w = word-text text word in
@@ -207,7 +207,7 @@ lp-name text word meaning none =
     (both_so (list_all is_lp_byte text) t2 w.bytes
     (both_so (not (begins_a_number text)) t3 w.no_number
     (both_so (not (is_like_exponent text)) t4 fault.no_exponent
-    (both_so no_marker (not (is_reserved text)) (second_so (list_all is_visible text) no_marker named) (name-not_reserved text meaning)))))
+    (both_so no_marker (not (is_reserved text)) (second_so (list_all is_visible text) no_marker named) (name-not_reserved text word_class)))))
 
 -- ---- the tokens of a line
 

@@ -15,10 +15,10 @@ use Rattle.mpslp_decimal.proofs.CutLemmas.{list_all-digits, decimal-spells}
 use Rattle.mpslp_types.specs.Name.{same_bytes, is_mps_name, is_lp_name, has_name_length, marker, is_letter, is_lp_symbol, is_lp_byte, begins_a_number, is_like_exponent, is_reserved}
 use Rattle.mpslp_types.proofs.EachLemmas.{imp_all}
 use Rattle.mpslp_types.proofs.NameLemmas.{mps_name-from_lp}
-use Rattle.mpslp_types.specs.Sides.{limit_of}
-use Rattle.mpslp_builder.specs.Declaration.{draft_of, Declaration, declare_sense, declare_objective, declare_constant, declare_row, declare_rhs, declare_range, declare_column, declare_coefficient, declare_lower, declare_upper, declare_marked, declare_integer, declare_binary, declare_semi, Declarations, Draft, empty_draft, adding_all, bounds_declared}
+use Rattle.mpslp_types.specs.Limit.{limit_of}
+use Rattle.mpslp_builder.specs.Declaration.{draft_of, Declaration, declare_sense, declare_objective, declare_constant, declare_row, declare_rhs, declare_range, declare_column, declare_coefficient, declare_lower, declare_upper, declare_marked, declare_integer, declare_binary, declare_semi, Declarations, Draft, empty_draft, with_declarations, bounds_declared}
 use Rattle.mpslp_builder.specs.Refusal.{refusals_in_turn, bounds_refusals}
-use Rattle.mpslp_types.specs.Sides.{is_given}
+use Rattle.mpslp_types.specs.Limit.{is_given}
 use Rattle.mpslp_builder.specs.Made.{are_given, is_legal}
 use Rattle.mpslp_types.specs.declared.kinds.Limit.{Limit}
 use Rattle.mpslp_types.specs.declared.kinds.Limit.TheVariants.{MinusInf, PlusInf}
@@ -30,29 +30,29 @@ use Rattle.mpslp_types.specs.declared.faults.FaultKind.TheVariants.{BadToken}
 use Rattle.mpslp_types.proofs.BoolLemmas.{both_so, or_left, or_right}
 use Rattle.mpslp_builder.proofs.MadeDrafts.{refusals_in_turn-append, bounds-in_turn}
 use Rattle.mpslp_builder.proofs.RefusalLemmas.{join_none}
-use Rattle.mpslp_reading.proofs.FieldLemmas.{limit-given}
-use Rattle.mpslp_reading.proofs.ObjectiveLemmas.{named-after}
+use Rattle.mpslp_lines.proofs.FieldLemmas.{limit-given}
+use Rattle.mpslp_lines.proofs.ObjectiveLemmas.{named-after}
 use Rattle.mpslp_lp.specs.Rules.{◌>>=◌, next, ahead}
-use Rattle.mpslp_lp.specs.Rules.Reading.{Reads}
-use Rattle.mpslp_lp.specs.Rules.Step.{Goes, Ends}
+use Rattle.mpslp_lp.specs.Rules.Parsed.{Reads}
+use Rattle.mpslp_lp.specs.Rules.AfterPhrase.{Goes, Ends}
 use Rattle.mpslp_lp.specs.Words.{section_of}
 use Rattle.mpslp_lp.specs.Terminal.{Terminal, TerminalAt}
 use Rattle.mpslp_lp.specs.Terminal.Terminal.{Opens, Name, Number, Sign, Compares, Colon, Infinity, Free, Other}
-use Rattle.mpslp_lp.specs.Point.{Point, start, opened_with, section_fault}
-use Rattle.mpslp_lp.specs.declared.before.Before.{Before}
+use Rattle.mpslp_lp.specs.Point.{Point, start, with_section, section_fault}
+use Rattle.mpslp_lp.specs.declared.context.Context.{Context}
 use Rattle.mpslp_lp.specs.PartialRow.{PartialRow}
 use Rattle.mpslp_lp.specs.declared.states.Place.{Place}
 use Rattle.mpslp_lp.specs.declared.states.Place.TheVariants.{AtStart, BeforeItems, InObjective, BetweenRows, InRow, InBounds, InGenerals, InBinaries, InSemis}
-use Rattle.mpslp_lp.specs.Phrase.{Rule, Follows, fails, refuses, goes_to, unless_refused, declares}
+use Rattle.mpslp_lp.specs.Phrase.{PhraseRule, Follows, fails, refuses, goes_to, unless_refused, declares}
 use Rattle.mpslp_lp.specs.declared.states.LastWord.{LastWord}
 use Rattle.mpslp_lp.specs.declared.states.LastWord.TheVariants.{To, That, Continuous}
-use Rattle.mpslp_lp.specs.Sides.{Side, Limits, signed, infinity, unsigned_side, side_from, side, sense, fits_second, limits_by, turned}
+use Rattle.mpslp_lp.specs.Sides.{Side, Limits, apply_sign, infinity, unsigned_side, side_from, side, next_relation, fits_second, limits_by, flip}
 use Rattle.mpslp_lp.specs.Items.{Item, one, product, number_item, signed_item, item_from, colon}
 use Rattle.mpslp_lp.specs.Items.Item.{Term, Lone}
 use Rattle.mpslp_lp.specs.Objective.{term_declared, objective_item, objective_declared, default_objective, first_item_declared, objective_named, objective_from, objective}
 use Rattle.mpslp_lp.specs.Rows.{numbered_row, default_row, without_terms, row_item, row_first, row_after_left, row_number, row_signed, row_from, row_named, row, fits_left, row_limits, row_declared, row_whole, row_end}
-use Rattle.mpslp_lp.specs.Bounds.{bounded, no_limits, bound_right, bound_after, bound_column, bound_left, bound, second_side}
-use Rattle.mpslp_lp.specs.Grammar.{line_end, opened_by, is_last_word, last_word, semi_from, section_start, section_from, may_begin_section, listed, phrase, phrase_at}
+use Rattle.mpslp_lp.specs.Bounds.{bound_sides, no_limits, bound_right, bound_after, bound_column, bound_left, bound, second_side}
+use Rattle.mpslp_lp.specs.Grammar.{line_end, opened_by, is_last_word, last_word, semi_from, section_start, section_from, may_begin_section, name_in_section, phrase, phrase_at}
 use Rattle.mpslp_lp.specs.declared.relations.Relation.{Relation}
 use Rattle.mpslp_lp.specs.declared.relations.Relation.TheVariants.{AtMost, AtLeast, EqualTo}
 use Rattle.mpslp_lp.specs.declared.words.Section.TheVariants.{Objective}
@@ -101,7 +101,7 @@ decimal-negated (pos zero) e h = h
 decimal-negated (pos (suc n)) e h = h
 decimal-negated (negsuc n) e h = h
 
-signed-decimal : (minus : Bool) (value : Decimal) → is_decimal value ≡ true → is_decimal (signed minus value) ≡ true
+signed-decimal : (minus : Bool) (value : Decimal) → is_decimal value ≡ true → is_decimal (apply_sign minus value) ≡ true
 signed-decimal true value h = decimal-negated value.mantissa value.exponent h
 signed-decimal false value h = h
 
@@ -140,8 +140,8 @@ IsSoundItem (Lone value token) = is_decimal value ≡ true
 
 -- ---- sound points
 
-abbrev pub IsNamed : Before → Type 0
-IsNamed before = (is_some before.earlier.objective ≡ true) × (before.opened.objective ≡ true)
+abbrev pub IsNamed : Context → Type 0
+IsNamed context = (is_some context.earlier.objective ≡ true) × (context.sections_seen.objective ≡ true)
 
 -- before anything was read there is nothing; later the objective has its name
 abbrev pub IsSoundPoint : Point → Type 0
@@ -149,17 +149,17 @@ IsSoundPoint point = at point.place
   where
     at : Place → Type 0
     at AtStart = point ≡ start
-    at (BeforeItems name) = IsNamed point.before
-    at (InObjective name) = IsNamed point.before
-    at BetweenRows = IsNamed point.before
-    at (InRow row) = IsNamed point.before × IsSoundRow row
-    at (InBounds left) = IsNamed point.before
-    at InGenerals = IsNamed point.before
-    at InBinaries = IsNamed point.before
-    at InSemis = IsNamed point.before
+    at (BeforeItems name) = IsNamed point.context
+    at (InObjective name) = IsNamed point.context
+    at BetweenRows = IsNamed point.context
+    at (InRow row) = IsNamed point.context × IsSoundRow row
+    at (InBounds left) = IsNamed point.context
+    at InGenerals = IsNamed point.context
+    at InBinaries = IsNamed point.context
+    at InSemis = IsNamed point.context
 
 pub record IsFineGoing (earlier : Draft) (after : Point) (made : Declarations) : Type 0 where
-  pub drafts : after.before.earlier ≡ adding_all earlier made
+  pub drafts : after.context.earlier ≡ with_declarations earlier made
   pub unrefused : refusals_in_turn earlier made ≡ []
   pub legal : list_all is_lp_legal made ≡ true
   pub sound : IsSoundPoint after
@@ -172,39 +172,39 @@ IsFine earlier (Ends all) = (all ≡ earlier) × (is_some earlier.objective ≡ 
 
 -- a place that asks nothing of what stands before but the objective's name
 abbrev IsPlain : Place → Type 0
-IsPlain place = (before : Before) → IsNamed before → IsSoundPoint (record { place = place; before = before })
+IsPlain place = (context : Context) → IsNamed context → IsSoundPoint (record { place = place; context = context })
 
 in_row-plain : (row : PartialRow) → IsSoundRow row → IsPlain (InRow row)
-in_row-plain row h before named = (named, h)
+in_row-plain row h context named = (named, h)
 
-goes-fine : (before : Before) (place : Place) (made : Declarations) → IsNamed before → IsPlain place → refusals_in_turn before.earlier made ≡ [] → list_all is_lp_legal made ≡ true
-    → Gives (IsFine before.earlier) (goes_to before place made)
-goes-fine before place made named plain unrefused legal tokens sound = record {
+goes-fine : (context : Context) (place : Place) (made : Declarations) → IsNamed context → IsPlain place → refusals_in_turn context.earlier made ≡ [] → list_all is_lp_legal made ≡ true
+    → Gives (IsFine context.earlier) (goes_to context place made)
+goes-fine context place made named plain unrefused legal tokens sound = record {
   drafts = refl;
   unrefused = unrefused;
   legal = legal;
-  sound = plain (record before { earlier = adding_all before.earlier made }) (named-after made before.earlier named.0, named.1);
+  sound = plain (record context { earlier = with_declarations context.earlier made }) (named-after made context.earlier named.0, named.1);
 }
 
-nothing-fine : (before : Before) (place : Place) → IsNamed before → IsPlain place → Gives (IsFine before.earlier) (goes_to before place [])
-nothing-fine before place named plain = goes-fine before place [] named plain refl refl
+nothing-fine : (context : Context) (place : Place) → IsNamed context → IsPlain place → Gives (IsFine context.earlier) (goes_to context place [])
+nothing-fine context place named plain = goes-fine context place [] named plain refl refl
 
-refuses-fine : (before : Before) (token : TerminalAt) (kind : FaultKind) → Gives (IsFine before.earlier) (refuses before token kind)
-refuses-fine before token kind tokens sound = tt
+refuses-fine : (context : Context) (token : TerminalAt) (kind : FaultKind) → Gives (IsFine context.earlier) (refuses context token kind)
+refuses-fine context token kind tokens sound = tt
 
-unless_refused-fine : (before : Before) (token : TerminalAt) (refusals : List BuildFault) (place : Place) (made : Declarations) → IsNamed before → IsPlain place
-    → (refusals ≡ [] → refusals_in_turn before.earlier made ≡ []) → list_all is_lp_legal made ≡ true → Gives (IsFine before.earlier) (unless_refused before token refusals place made)
-unless_refused-fine before token [] place made named plain unrefused legal = goes-fine before place made named plain (unrefused refl) legal
-unless_refused-fine before token (refusal ∷ more) place made named plain unrefused legal = λ tokens sound. tt
+unless_refused-fine : (context : Context) (token : TerminalAt) (refusals : List BuildFault) (place : Place) (made : Declarations) → IsNamed context → IsPlain place
+    → (refusals ≡ [] → refusals_in_turn context.earlier made ≡ []) → list_all is_lp_legal made ≡ true → Gives (IsFine context.earlier) (unless_refused context token refusals place made)
+unless_refused-fine context token [] place made named plain unrefused legal = goes-fine context place made named plain (unrefused refl) legal
+unless_refused-fine context token (refusal ∷ more) place made named plain unrefused legal = λ tokens sound. tt
 
-declares-fine : (before : Before) (token : TerminalAt) (place : Place) (made : Declarations) → IsNamed before → IsPlain place → list_all is_lp_legal made ≡ true
-    → Gives (IsFine before.earlier) (declares before token place made)
-declares-fine before token place made named plain legal =
-    unless_refused-fine before token (refusals_in_turn before.earlier made) place made named plain (λ e. e) legal
+declares-fine : (context : Context) (token : TerminalAt) (place : Place) (made : Declarations) → IsNamed context → IsPlain place → list_all is_lp_legal made ≡ true
+    → Gives (IsFine context.earlier) (declares context token place made)
+declares-fine context token place made named plain legal =
+    unless_refused-fine context token (refusals_in_turn context.earlier made) place made named plain (λ e. e) legal
 
-either-fine : (before : Before) (b : Bool) (r s : Rule Follows) → Gives (IsFine before.earlier) r → Gives (IsFine before.earlier) s → Gives (IsFine before.earlier) (if b then r else s)
-either-fine before true r s h k = h
-either-fine before false r s h k = k
+either-fine : (context : Context) (b : Bool) (r s : PhraseRule Follows) → Gives (IsFine context.earlier) r → Gives (IsFine context.earlier) s → Gives (IsFine context.earlier) (if b then r else s)
+either-fine context true r s h k = h
+either-fine context false r s h k = k
 
 -- ---- items
 
@@ -223,22 +223,22 @@ number-gives minus value h (token ∷ tokens) sound = by token.line token.termin
     by line Free s = signed-decimal minus value h
     by line Other s = signed-decimal minus value h
 
-signed_item-gives : (before : Before) (tokens : List TerminalAt) (minus : Bool) → AreSound tokens → Holds IsSoundItem (signed_item before minus tokens)
-signed_item-gives before [] minus sound = tt
-signed_item-gives before (token ∷ tokens) minus sound = by token.line token.terminal sound.0 (λ m. signed_item-gives before tokens m sound.1)
+signed_item-gives : (context : Context) (tokens : List TerminalAt) (minus : Bool) → AreSound tokens → Holds IsSoundItem (signed_item context minus tokens)
+signed_item-gives context [] minus sound = tt
+signed_item-gives context (token ∷ tokens) minus sound = by token.line token.terminal sound.0 (λ m. signed_item-gives context tokens m sound.1)
   where
-    by : (line : ℕ) (terminal : Terminal) → IsSoundTerminal terminal → ((m : Bool) → Holds IsSoundItem (signed_item before m tokens))
-        → Holds IsSoundItem (signed_item before minus (record { line = line; terminal = terminal } ∷ tokens))
-    by line (Sign more) s later = passed IsSoundItem (signed_item before (product minus more) tokens) (later (product minus more))
+    by : (line : ℕ) (terminal : Terminal) → IsSoundTerminal terminal → ((m : Bool) → Holds IsSoundItem (signed_item context m tokens))
+        → Holds IsSoundItem (signed_item context minus (record { line = line; terminal = terminal } ∷ tokens))
+    by line (Sign more) s later = passed IsSoundItem (signed_item context (product minus more) tokens) (later (product minus more))
     by line (Name column) s later = (signed-decimal minus one refl, s)
     by line (Number value) s later = passed IsSoundItem (number_item minus value tokens) (number-gives minus value s tokens sound.1)
     by line _ s later = tt
 
-item-gives : (before : Before) (line : ℕ) (terminal : Terminal) → IsSoundTerminal terminal → Gives IsSoundItem (item_from before (record { line = line; terminal = terminal }))
-item-gives before line (Sign minus) s = λ tokens sound. signed_item-gives before tokens minus sound
-item-gives before line (Name column) s = λ tokens sound. (refl, s)
-item-gives before line (Number value) s = number-gives false value s
-item-gives before line _ s = λ tokens sound. tt
+item-gives : (context : Context) (line : ℕ) (terminal : Terminal) → IsSoundTerminal terminal → Gives IsSoundItem (item_from context (record { line = line; terminal = terminal }))
+item-gives context line (Sign minus) s = λ tokens sound. signed_item-gives context tokens minus sound
+item-gives context line (Name column) s = λ tokens sound. (refl, s)
+item-gives context line (Number value) s = number-gives false value s
+item-gives context line _ s = λ tokens sound. tt
 
 -- ---- the objective
 
@@ -247,14 +247,14 @@ term-legal row term h =
     both_so (is_lp_name term.0) (is_decimal term.1 && true) (first_so (is_lp_name term.0) (is_decimal term.1) h)
     (both_so (is_decimal term.1) true (second_so (is_lp_name term.0) (is_decimal term.1) h) refl)
 
-objective_item-fine : (before : Before) (name : List ℕ) (item : Item) → IsNamed before → IsSoundItem item → Gives (IsFine before.earlier) (objective_item before name item)
-objective_item-fine before name (Term value column token) named h =
-    declares-fine before token (InObjective name) (term_declared name (column, value)) named (λ b n. n) (term-legal name (column, value) (both_so (is_lp_name column) (is_decimal value) h.1 h.0))
-objective_item-fine before name (Lone value token) named h = by token.line token.terminal
+objective_item-fine : (context : Context) (name : List ℕ) (item : Item) → IsNamed context → IsSoundItem item → Gives (IsFine context.earlier) (objective_item context name item)
+objective_item-fine context name (Term value column token) named h =
+    declares-fine context token (InObjective name) (term_declared name (column, value)) named (λ b n. n) (term-legal name (column, value) (both_so (is_lp_name column) (is_decimal value) h.1 h.0))
+objective_item-fine context name (Lone value token) named h = by token.line token.terminal
   where
-    by : (line : ℕ) (terminal : Terminal) → Gives (IsFine before.earlier) (objective_item before name (Lone value (record { line = line; terminal = terminal })))
-    by line (Sign minus) = declares-fine before (record { line = line; terminal = Sign minus }) (InObjective name) (declare_constant value ∷ []) named (λ b n. n) (both_so (is_decimal value) true h refl)
-    by line (Opens word) = declares-fine before (record { line = line; terminal = Opens word }) (InObjective name) (declare_constant value ∷ []) named (λ b n. n) (both_so (is_decimal value) true h refl)
+    by : (line : ℕ) (terminal : Terminal) → Gives (IsFine context.earlier) (objective_item context name (Lone value (record { line = line; terminal = terminal })))
+    by line (Sign minus) = declares-fine context (record { line = line; terminal = Sign minus }) (InObjective name) (declare_constant value ∷ []) named (λ b n. n) (both_so (is_decimal value) true h refl)
+    by line (Opens word) = declares-fine context (record { line = line; terminal = Opens word }) (InObjective name) (declare_constant value ∷ []) named (λ b n. n) (both_so (is_decimal value) true h refl)
     by line _ = λ tokens sound. tt
 
 -- ---- rows
@@ -266,20 +266,20 @@ terms-legal row (term ∷ terms) h =
     ∙ both_so (list_all is_lp_legal (term_declared row term)) (list_all is_lp_legal (flat_map (term_declared row) terms))
     (term-legal row term (first_so (is_sound_term term) (list_all is_sound_term terms) h)) (terms-legal row terms (second_so (is_sound_term term) (list_all is_sound_term terms) h))
 
-row_item-fine : (before : Before) (row : PartialRow) (item : Item) → IsNamed before → IsSoundRow row → IsSoundItem item → Gives (IsFine before.earlier) (row_item before row item)
-row_item-fine before row (Term value column token) named r h =
+row_item-fine : (context : Context) (row : PartialRow) (item : Item) → IsNamed context → IsSoundRow row → IsSoundItem item → Gives (IsFine context.earlier) (row_item context row item)
+row_item-fine context row (Term value column token) named r h =
     let more : PartialRow = record row { terms = row.terms ++ (column, value) ∷ [] } in
-    either-fine before (list_any (λ term. same_bytes column term.0) row.terms) _ _ (λ tokens sound. tt)
-    (nothing-fine before (InRow more) named (in_row-plain more (record {
+    either-fine context (list_any (λ term. same_bytes column term.0) row.terms) _ _ (λ tokens sound. tt)
+    (nothing-fine context (InRow more) named (in_row-plain more (record {
       name = r.name;
       left = r.left;
       terms = list_all-append is_sound_term row.terms ((column, value) ∷ [])
           ∙ both_so (list_all is_sound_term row.terms) (list_all is_sound_term ((column, value) ∷ [])) r.terms
           (both_so (is_lp_name column && is_decimal value) true (both_so (is_lp_name column) (is_decimal value) h.1 h.0) refl);
     })))
-row_item-fine before row (Lone value token) named r h = by token.line token.terminal
+row_item-fine context row (Lone value token) named r h = by token.line token.terminal
   where
-    by : (line : ℕ) (terminal : Terminal) → Gives (IsFine before.earlier) (row_item before row (Lone value (record { line = line; terminal = terminal })))
+    by : (line : ℕ) (terminal : Terminal) → Gives (IsFine context.earlier) (row_item context row (Lone value (record { line = line; terminal = terminal })))
     by line (Sign minus) = λ tokens sound. tt
     by line (Compares relation) = λ tokens sound. tt
     by line _ = λ tokens sound. tt
@@ -287,30 +287,30 @@ row_item-fine before row (Lone value token) named r h = by token.line token.term
 without-sound : (name : List ℕ) (left : Option (Limit × Relation)) → is_lp_name name ≡ true → is_sound_left left ≡ true → IsSoundRow (without_terms name left)
 without-sound name left h k = record { name = h; left = k; terms = refl }
 
-sense-gives : (before : Before) → Gives (λ (relation : Relation). Unit {0}) (sense before)
-sense-gives before [] sound = tt
-sense-gives before (token ∷ tokens) sound = by token.line token.terminal
+sense-gives : (context : Context) → Gives (λ (relation : Relation). Unit {0}) (next_relation context)
+sense-gives context [] sound = tt
+sense-gives context (token ∷ tokens) sound = by token.line token.terminal
   where
-    by : (line : ℕ) (terminal : Terminal) → Holds (λ (relation : Relation). Unit {0}) (sense before (record { line = line; terminal = terminal } ∷ tokens))
+    by : (line : ℕ) (terminal : Terminal) → Holds (λ (relation : Relation). Unit {0}) (next_relation context (record { line = line; terminal = terminal } ∷ tokens))
     by line (Compares relation) = tt
     by line _ = tt
 
-row_first-fine : (before : Before) (row : PartialRow) (token : TerminalAt) → IsNamed before → IsSoundRow row → IsSoundToken token → Gives (IsFine before.earlier) (row_first before row token)
-row_first-fine before row token named r s =
-    then-gives IsSoundItem (IsFine before.earlier) (item_from before token) (row_item before row) (item-gives before token.line token.terminal s) (λ item h. row_item-fine before row item named r h)
+row_first-fine : (context : Context) (row : PartialRow) (token : TerminalAt) → IsNamed context → IsSoundRow row → IsSoundToken token → Gives (IsFine context.earlier) (row_first context row token)
+row_first-fine context row token named r s =
+    then-gives IsSoundItem (IsFine context.earlier) (item_from context token) (row_item context row) (item-gives context token.line token.terminal s) (λ item h. row_item-fine context row item named r h)
 
-row_left-fine : (before : Before) (name : List ℕ) (limit : Limit) → IsNamed before → is_lp_name name ≡ true → is_given limit ≡ true → Gives (IsFine before.earlier) (row_after_left before name limit)
-row_left-fine before name limit named h g =
-    then-gives (λ (relation : Relation). Unit {0}) (IsFine before.earlier) (sense before) (λ relation. next >>= row_first before (without_terms name (Some (limit, relation)))) (sense-gives before)
-    (λ relation u. then-gives IsSoundToken (IsFine before.earlier) next (row_first before (without_terms name (Some (limit, relation)))) next-gives
-    (λ token s. row_first-fine before (without_terms name (Some (limit, relation))) token named (without-sound name (Some (limit, relation)) h g) s))
+row_left-fine : (context : Context) (name : List ℕ) (limit : Limit) → IsNamed context → is_lp_name name ≡ true → is_given limit ≡ true → Gives (IsFine context.earlier) (row_after_left context name limit)
+row_left-fine context name limit named h g =
+    then-gives (λ (relation : Relation). Unit {0}) (IsFine context.earlier) (next_relation context) (λ relation. next >>= row_first context (without_terms name (Some (limit, relation)))) (sense-gives context)
+    (λ relation u. then-gives IsSoundToken (IsFine context.earlier) next (row_first context (without_terms name (Some (limit, relation)))) next-gives
+    (λ token s. row_first-fine context (without_terms name (Some (limit, relation))) token named (without-sound name (Some (limit, relation)) h g) s))
 
-row_number-fine : (before : Before) (name : List ℕ) (item : Item) → IsNamed before → is_lp_name name ≡ true → IsSoundItem item → Gives (IsFine before.earlier) (row_number before name item)
-row_number-fine before name (Term value column token) named h s = row_item-fine before (without_terms name None) (Term value column token) named (without-sound name None h refl) s
-row_number-fine before name (Lone value token) named h s = by token.line token.terminal
+row_number-fine : (context : Context) (name : List ℕ) (item : Item) → IsNamed context → is_lp_name name ≡ true → IsSoundItem item → Gives (IsFine context.earlier) (row_number context name item)
+row_number-fine context name (Term value column token) named h s = row_item-fine context (without_terms name None) (Term value column token) named (without-sound name None h refl) s
+row_number-fine context name (Lone value token) named h s = by token.line token.terminal
   where
-    by : (line : ℕ) (terminal : Terminal) → Gives (IsFine before.earlier) (row_number before name (Lone value (record { line = line; terminal = terminal })))
-    by line (Compares relation) = row_left-fine before name (limit_of value) named h (limit-given value s)
+    by : (line : ℕ) (terminal : Terminal) → Gives (IsFine context.earlier) (row_number context name (Lone value (record { line = line; terminal = terminal })))
+    by line (Compares relation) = row_left-fine context name (limit_of value) named h (limit-given value s)
     by line (Sign minus) = λ tokens sound. tt
     by line _ = λ tokens sound. tt
 
@@ -338,22 +338,22 @@ numbered-name position fits =
         both_so (has_name_length (99 ∷ ds)) (list_all is_lp_byte (99 ∷ ds) && t2) size
         (both_so (list_all is_lp_byte (99 ∷ ds)) t2 bytes (both_so (not (is_like_exponent (99 ∷ ds))) t4 (exponent ds) refl))
 
-default_row-name : (before : Before) → is_lp_name (default_row before) ≡ true
-default_row-name before =
-    numbered-name (min (length before.earlier.rows + 1) (2 ^ 64 - 1)) (omega (arith, min-le_right (length before.earlier.rows + 1) (2 ^ 64 - 1)))
+default_row-name : (context : Context) → is_lp_name (default_row context) ≡ true
+default_row-name context =
+    numbered-name (min (length context.earlier.rows + 1) (2 ^ 64 - 1)) (omega (arith, min-le_right (length context.earlier.rows + 1) (2 ^ 64 - 1)))
 
-row_signed-fine : (before : Before) (name : List ℕ) (minus : Bool) (second : TerminalAt) → IsNamed before → is_lp_name name ≡ true → IsSoundToken second → Gives (IsFine before.earlier) (row_signed before name minus second)
-row_signed-fine before name minus second named h s = by second.line second.terminal s
+row_signed-fine : (context : Context) (name : List ℕ) (minus : Bool) (second : TerminalAt) → IsNamed context → is_lp_name name ≡ true → IsSoundToken second → Gives (IsFine context.earlier) (row_signed context name minus second)
+row_signed-fine context name minus second named h s = by second.line second.terminal s
   where
-    items : Gives (IsFine before.earlier) (signed_item before minus >>= row_item before (without_terms name None))
-    items = then-gives IsSoundItem (IsFine before.earlier) (signed_item before minus) (row_item before (without_terms name None)) (λ tokens sound. signed_item-gives before tokens minus sound)
-        (λ item i. row_item-fine before (without_terms name None) item named (without-sound name None h refl) i)
+    items : Gives (IsFine context.earlier) (signed_item context minus >>= row_item context (without_terms name None))
+    items = then-gives IsSoundItem (IsFine context.earlier) (signed_item context minus) (row_item context (without_terms name None)) (λ tokens sound. signed_item-gives context tokens minus sound)
+        (λ item i. row_item-fine context (without_terms name None) item named (without-sound name None h refl) i)
 
-    by : (line : ℕ) (terminal : Terminal) → IsSoundTerminal terminal → Gives (IsFine before.earlier) (row_signed before name minus (record { line = line; terminal = terminal }))
-    by line Infinity s = then-gives IsSoundToken (IsFine before.earlier) next (λ word. row_after_left before name (infinity minus)) next-gives (λ word w. row_left-fine before name (infinity minus) named h (infinity-given minus))
+    by : (line : ℕ) (terminal : Terminal) → IsSoundTerminal terminal → Gives (IsFine context.earlier) (row_signed context name minus (record { line = line; terminal = terminal }))
+    by line Infinity s = then-gives IsSoundToken (IsFine context.earlier) next (λ word. row_after_left context name (infinity minus)) next-gives (λ word w. row_left-fine context name (infinity minus) named h (infinity-given minus))
     by line (Number value) s =
-        then-gives IsSoundToken (IsFine before.earlier) next (λ number. number_item minus value >>= row_number before name) next-gives
-        (λ number w. then-gives IsSoundItem (IsFine before.earlier) (number_item minus value) (row_number before name) (number-gives minus value s) (λ item i. row_number-fine before name item named h i))
+        then-gives IsSoundToken (IsFine context.earlier) next (λ number. number_item minus value >>= row_number context name) next-gives
+        (λ number w. then-gives IsSoundItem (IsFine context.earlier) (number_item minus value) (row_number context name) (number-gives minus value s) (λ item i. row_number-fine context name item named h i))
     by line (Opens word) s = items
     by line (Name column) s = items
     by line (Sign more) s = items
@@ -362,16 +362,16 @@ row_signed-fine before name minus second named h s = by second.line second.termi
     by line Free s = items
     by line Other s = items
 
-row_from-fine : (before : Before) (name : List ℕ) (line : ℕ) (terminal : Terminal) → IsNamed before → is_lp_name name ≡ true → IsSoundTerminal terminal
-    → Gives (IsFine before.earlier) (row_from before name (record { line = line; terminal = terminal }))
-row_from-fine before name line Infinity named h s = row_left-fine before name PlusInf named h refl
-row_from-fine before name line (Number value) named h s =
-    then-gives IsSoundItem (IsFine before.earlier) (number_item false value) (row_number before name) (number-gives false value s) (λ item i. row_number-fine before name item named h i)
-row_from-fine before name line (Name column) named h s =
-    row_item-fine before (without_terms name None) (Term one column (record { line = line; terminal = Name column })) named (without-sound name None h refl) (refl, s)
-row_from-fine before name line (Sign minus) named h s =
-    then-gives IsSoundToken (IsFine before.earlier) ahead (row_signed before name minus) ahead-gives (λ second t. row_signed-fine before name minus second named h t)
-row_from-fine before name line _ named h s = λ tokens sound. tt
+row_from-fine : (context : Context) (name : List ℕ) (line : ℕ) (terminal : Terminal) → IsNamed context → is_lp_name name ≡ true → IsSoundTerminal terminal
+    → Gives (IsFine context.earlier) (row_from context name (record { line = line; terminal = terminal }))
+row_from-fine context name line Infinity named h s = row_left-fine context name PlusInf named h refl
+row_from-fine context name line (Number value) named h s =
+    then-gives IsSoundItem (IsFine context.earlier) (number_item false value) (row_number context name) (number-gives false value s) (λ item i. row_number-fine context name item named h i)
+row_from-fine context name line (Name column) named h s =
+    row_item-fine context (without_terms name None) (Term one column (record { line = line; terminal = Name column })) named (without-sound name None h refl) (refl, s)
+row_from-fine context name line (Sign minus) named h s =
+    then-gives IsSoundToken (IsFine context.earlier) ahead (row_signed context name minus) ahead-gives (λ second t. row_signed-fine context name minus second named h t)
+row_from-fine context name line _ named h s = λ tokens sound. tt
 
 colon-gives : Gives (λ (labelled : Bool). Unit {0}) colon
 colon-gives [] sound = tt
@@ -381,45 +381,45 @@ colon-gives (token ∷ tokens) sound = by token.line token.terminal
     by line Colon = tt
     by line _ = tt
 
-row_named-fine : (before : Before) (name : List ℕ) (labelled : Bool) → IsNamed before → is_lp_name name ≡ true → Gives (IsFine before.earlier) (row_named before name labelled)
-row_named-fine before name labelled named h =
-    let row : PartialRow = record { name = default_row before; left = None; terms = (name, one) ∷ [] } in
-    either-fine before labelled _ _
-    (then-gives IsSoundToken (IsFine before.earlier) next (row_from before name) next-gives (λ token s. row_from-fine before name token.line token.terminal named h s))
-    (nothing-fine before (InRow row) named (in_row-plain row (record { name = default_row-name before; left = refl; terms = both_so (is_lp_name name && is_decimal one) true (both_so (is_lp_name name) true h refl) refl })))
+row_named-fine : (context : Context) (name : List ℕ) (labelled : Bool) → IsNamed context → is_lp_name name ≡ true → Gives (IsFine context.earlier) (row_named context name labelled)
+row_named-fine context name labelled named h =
+    let row : PartialRow = record { name = default_row context; left = None; terms = (name, one) ∷ [] } in
+    either-fine context labelled _ _
+    (then-gives IsSoundToken (IsFine context.earlier) next (row_from context name) next-gives (λ token s. row_from-fine context name token.line token.terminal named h s))
+    (nothing-fine context (InRow row) named (in_row-plain row (record { name = default_row-name context; left = refl; terms = both_so (is_lp_name name && is_decimal one) true (both_so (is_lp_name name) true h refl) refl })))
 
-row-fine : (before : Before) (line : ℕ) (terminal : Terminal) → IsNamed before → IsSoundTerminal terminal → Gives (IsFine before.earlier) (row before (record { line = line; terminal = terminal }))
-row-fine before line (Name name) named s = then-gives (λ (labelled : Bool). Unit {0}) (IsFine before.earlier) colon (row_named before name) colon-gives (λ labelled u. row_named-fine before name labelled named s)
-row-fine before line (Opens word) named s = row_from-fine before (default_row before) line (Opens word) named (default_row-name before) s
-row-fine before line (Number value) named s = row_from-fine before (default_row before) line (Number value) named (default_row-name before) s
-row-fine before line (Sign minus) named s = row_from-fine before (default_row before) line (Sign minus) named (default_row-name before) s
-row-fine before line (Compares relation) named s = row_from-fine before (default_row before) line (Compares relation) named (default_row-name before) s
-row-fine before line Colon named s = row_from-fine before (default_row before) line Colon named (default_row-name before) s
-row-fine before line Infinity named s = row_from-fine before (default_row before) line Infinity named (default_row-name before) s
-row-fine before line Free named s = row_from-fine before (default_row before) line Free named (default_row-name before) s
-row-fine before line Other named s = row_from-fine before (default_row before) line Other named (default_row-name before) s
+row-fine : (context : Context) (line : ℕ) (terminal : Terminal) → IsNamed context → IsSoundTerminal terminal → Gives (IsFine context.earlier) (row context (record { line = line; terminal = terminal }))
+row-fine context line (Name name) named s = then-gives (λ (labelled : Bool). Unit {0}) (IsFine context.earlier) colon (row_named context name) colon-gives (λ labelled u. row_named-fine context name labelled named s)
+row-fine context line (Opens word) named s = row_from-fine context (default_row context) line (Opens word) named (default_row-name context) s
+row-fine context line (Number value) named s = row_from-fine context (default_row context) line (Number value) named (default_row-name context) s
+row-fine context line (Sign minus) named s = row_from-fine context (default_row context) line (Sign minus) named (default_row-name context) s
+row-fine context line (Compares relation) named s = row_from-fine context (default_row context) line (Compares relation) named (default_row-name context) s
+row-fine context line Colon named s = row_from-fine context (default_row context) line Colon named (default_row-name context) s
+row-fine context line Infinity named s = row_from-fine context (default_row context) line Infinity named (default_row-name context) s
+row-fine context line Free named s = row_from-fine context (default_row context) line Free named (default_row-name context) s
+row-fine context line Other named s = row_from-fine context (default_row context) line Other named (default_row-name context) s
 
 -- ---- sides
 
-unsigned_side-gives : (before : Before) (minus : Bool) (token : TerminalAt) → IsSoundToken token → Gives IsSoundSide (unsigned_side before minus token)
-unsigned_side-gives before minus token s = by token.line token.terminal s
+unsigned_side-gives : (context : Context) (minus : Bool) (token : TerminalAt) → IsSoundToken token → Gives IsSoundSide (unsigned_side context minus token)
+unsigned_side-gives context minus token s = by token.line token.terminal s
   where
-    by : (line : ℕ) (terminal : Terminal) → IsSoundTerminal terminal → Gives IsSoundSide (unsigned_side before minus (record { line = line; terminal = terminal }))
-    by line (Number value) s = λ tokens sound. limit-given (signed minus value) (signed-decimal minus value s)
+    by : (line : ℕ) (terminal : Terminal) → IsSoundTerminal terminal → Gives IsSoundSide (unsigned_side context minus (record { line = line; terminal = terminal }))
+    by line (Number value) s = λ tokens sound. limit-given (apply_sign minus value) (signed-decimal minus value s)
     by line Infinity s = λ tokens sound. infinity-given minus
     by line _ s = λ tokens sound. tt
 
-side_from-gives : (before : Before) (token : TerminalAt) → IsSoundToken token → Gives IsSoundSide (side_from before token)
-side_from-gives before token s = by token.line token.terminal s
+side_from-gives : (context : Context) (token : TerminalAt) → IsSoundToken token → Gives IsSoundSide (side_from context token)
+side_from-gives context token s = by token.line token.terminal s
   where
-    by : (line : ℕ) (terminal : Terminal) → IsSoundTerminal terminal → Gives IsSoundSide (side_from before (record { line = line; terminal = terminal }))
-    by line (Sign minus) s = then-gives IsSoundToken IsSoundSide next (λ second. unsigned_side before minus second) next-gives (λ second t. unsigned_side-gives before minus second t)
-    by line (Number value) s = unsigned_side-gives before false (record { line = line; terminal = Number value }) s
-    by line Infinity s = unsigned_side-gives before false (record { line = line; terminal = Infinity }) s
+    by : (line : ℕ) (terminal : Terminal) → IsSoundTerminal terminal → Gives IsSoundSide (side_from context (record { line = line; terminal = terminal }))
+    by line (Sign minus) s = then-gives IsSoundToken IsSoundSide next (λ second. unsigned_side context minus second) next-gives (λ second t. unsigned_side-gives context minus second t)
+    by line (Number value) s = unsigned_side-gives context false (record { line = line; terminal = Number value }) s
+    by line Infinity s = unsigned_side-gives context false (record { line = line; terminal = Infinity }) s
     by line _ s = λ tokens sound. tt
 
-side-gives : (before : Before) → Gives IsSoundSide (side before)
-side-gives before = then-gives IsSoundToken IsSoundSide next (side_from before) next-gives (λ token s. side_from-gives before token s)
+side-gives : (context : Context) → Gives IsSoundSide (side context)
+side-gives context = then-gives IsSoundToken IsSoundSide next (side_from context) next-gives (λ token s. side_from-gives context token s)
 
 limits-legal : (left : Option (Limit × Relation)) (relation : Relation) (limit : Limit) → is_sound_left left ≡ true → is_given limit ≡ true → AreGiven (row_limits left relation limit)
 limits-legal None relation limit h k = limits_by-given relation limit k
@@ -435,22 +435,22 @@ upper-given : (o : Option Limit) → IsGiven o → is_given (unwrap_or o PlusInf
 upper-given None h = refl
 upper-given (Some limit) h = h
 
-row_whole-fine : (before : Before) (row : PartialRow) (relation : Relation) (right : Side) → IsNamed before → IsSoundRow row → IsSoundSide right → Gives (IsFine before.earlier) (row_whole before row relation right)
-row_whole-fine before row relation right named r h =
+row_whole-fine : (context : Context) (row : PartialRow) (relation : Relation) (right : Side) → IsNamed context → IsSoundRow row → IsSoundSide right → Gives (IsFine context.earlier) (row_whole context row relation right)
+row_whole-fine context row relation right named r h =
     let limits = row_limits row.left relation right.limit in
     let given = limits-legal row.left relation right.limit r.left h in
     let lower = unwrap_or limits.lower MinusInf in
     let upper = unwrap_or limits.upper PlusInf in
     let terms = flat_map (term_declared row.name) row.terms in
-    declares-fine before right.last BetweenRows (row_declared row limits) named (λ b n. n)
+    declares-fine context right.last BetweenRows (row_declared row limits) named (λ b n. n)
     (both_so (is_lp_name row.name && (is_given lower && is_given upper)) (list_all is_lp_legal terms)
     (both_so (is_lp_name row.name) (is_given lower && is_given upper) r.name (both_so (is_given lower) (is_given upper) (lower-given limits.lower given.0) (upper-given limits.upper given.1)))
     (terms-legal row.name row.terms r.terms))
 
-row_end-fine : (before : Before) (row : PartialRow) (relation : Relation) (token : TerminalAt) → IsNamed before → IsSoundRow row → Gives (IsFine before.earlier) (row_end before row relation token)
-row_end-fine before row relation token named r =
-    either-fine before (fits_left row.left relation) _ _
-    (then-gives IsSoundSide (IsFine before.earlier) (side before) (row_whole before row relation) (side-gives before) (λ right h. row_whole-fine before row relation right named r h))
+row_end-fine : (context : Context) (row : PartialRow) (relation : Relation) (token : TerminalAt) → IsNamed context → IsSoundRow row → Gives (IsFine context.earlier) (row_end context row relation token)
+row_end-fine context row relation token named r =
+    either-fine context (fits_left row.left relation) _ _
+    (then-gives IsSoundSide (IsFine context.earlier) (side context) (row_whole context row relation) (side-gives context) (λ right h. row_whole-fine context row relation right named r h))
     (λ tokens sound. tt)
 
 -- ---- bounds
@@ -462,51 +462,51 @@ sides-legal column None (Some u) h k = both_so (is_given u) true k refl
 sides-legal column (Some l) (Some u) h k = both_so (is_given l) (is_given u && true) h (both_so (is_given u) true k refl)
 
 -- declarations that are not refused come before, and the place asks nothing
-bounded-fine : (before : Before) (front : Declarations) (column : List ℕ) (limits : Limits) (last : TerminalAt) (place : Place) → IsNamed before → IsPlain place
-    → refusals_in_turn before.earlier front ≡ [] → list_all is_lp_legal front ≡ true → AreGiven limits → Gives (IsFine before.earlier) (bounded before front column limits last place)
-bounded-fine before front column limits last place named plain unrefused legal given =
+bounded-fine : (context : Context) (front : Declarations) (column : List ℕ) (limits : Limits) (last : TerminalAt) (place : Place) → IsNamed context → IsPlain place
+    → refusals_in_turn context.earlier front ≡ [] → list_all is_lp_legal front ≡ true → AreGiven limits → Gives (IsFine context.earlier) (bound_sides context front column limits last place)
+bounded-fine context front column limits last place named plain unrefused legal given =
     let sides = bounds_declared column limits.lower limits.upper in
-    let middle = adding_all before.earlier front in
-    unless_refused-fine before last (bounds_refusals middle column limits.lower limits.upper) place (front ++ sides) named plain
-    (λ e. refusals_in_turn-append front sides before.earlier
-    ∙ join_none (refusals_in_turn before.earlier front) (refusals_in_turn middle sides) unrefused (bounds-in_turn middle column limits.lower limits.upper e))
+    let middle = with_declarations context.earlier front in
+    unless_refused-fine context last (bounds_refusals middle column limits.lower limits.upper) place (front ++ sides) named plain
+    (λ e. refusals_in_turn-append front sides context.earlier
+    ∙ join_none (refusals_in_turn context.earlier front) (refusals_in_turn middle sides) unrefused (bounds-in_turn middle column limits.lower limits.upper e))
     (list_all-append is_lp_legal front sides ∙ both_so (list_all is_lp_legal front) (list_all is_lp_legal sides) legal (sides-legal column limits.lower limits.upper given.0 given.1))
 
 column-legal : (column : List ℕ) → is_lp_name column ≡ true → list_all is_lp_legal (declare_column column ∷ []) ≡ true
 column-legal column h = both_so (is_lp_name column) true h refl
 
-bound_after-fine : (before : Before) (column : List ℕ) (token : TerminalAt) → IsNamed before → is_lp_name column ≡ true → Gives (IsFine before.earlier) (bound_after before column token)
-bound_after-fine before column token named h = by token.line token.terminal
+bound_after-fine : (context : Context) (column : List ℕ) (token : TerminalAt) → IsNamed context → is_lp_name column ≡ true → Gives (IsFine context.earlier) (bound_after context column token)
+bound_after-fine context column token named h = by token.line token.terminal
   where
-    by : (line : ℕ) (terminal : Terminal) → Gives (IsFine before.earlier) (bound_after before column (record { line = line; terminal = terminal }))
-    by line Free = bounded-fine before (declare_column column ∷ []) column no_limits (record { line = line; terminal = Free }) (InBounds None) named (λ b n. n) refl (column-legal column h) (refl, refl)
+    by : (line : ℕ) (terminal : Terminal) → Gives (IsFine context.earlier) (bound_after context column (record { line = line; terminal = terminal }))
+    by line Free = bounded-fine context (declare_column column ∷ []) column no_limits (record { line = line; terminal = Free }) (InBounds None) named (λ b n. n) refl (column-legal column h) (refl, refl)
     by line (Compares relation) =
-        then-gives IsSoundSide (IsFine before.earlier) (side before) (bound_right before (declare_column column ∷ []) column relation) (side-gives before)
-        (λ right s. bounded-fine before (declare_column column ∷ []) column (limits_by relation right.limit) right.last (InBounds None) named (λ b n. n) refl (column-legal column h) (limits_by-given relation right.limit s))
+        then-gives IsSoundSide (IsFine context.earlier) (side context) (bound_right context (declare_column column ∷ []) column relation) (side-gives context)
+        (λ right s. bounded-fine context (declare_column column ∷ []) column (limits_by relation right.limit) right.last (InBounds None) named (λ b n. n) refl (column-legal column h) (limits_by-given relation right.limit s))
     by line _ = λ tokens sound. tt
 
-bound_column-fine : (before : Before) (limit : Limit) (relation : Relation) (token : TerminalAt) → IsNamed before → is_given limit ≡ true → IsSoundToken token → Gives (IsFine before.earlier) (bound_column before limit relation token)
-bound_column-fine before limit relation token named g s = by token.line token.terminal s
+bound_column-fine : (context : Context) (limit : Limit) (relation : Relation) (token : TerminalAt) → IsNamed context → is_given limit ≡ true → IsSoundToken token → Gives (IsFine context.earlier) (bound_column context limit relation token)
+bound_column-fine context limit relation token named g s = by token.line token.terminal s
   where
-    by : (line : ℕ) (terminal : Terminal) → IsSoundTerminal terminal → Gives (IsFine before.earlier) (bound_column before limit relation (record { line = line; terminal = terminal }))
+    by : (line : ℕ) (terminal : Terminal) → IsSoundTerminal terminal → Gives (IsFine context.earlier) (bound_column context limit relation (record { line = line; terminal = terminal }))
     by line (Name column) h =
-        bounded-fine before (declare_column column ∷ []) column (limits_by (turned relation) limit) (record { line = line; terminal = Name column }) (InBounds (Some (column, relation)))
-        named (λ b n. n) refl (column-legal column h) (limits_by-given (turned relation) limit g)
+        bounded-fine context (declare_column column ∷ []) column (limits_by (flip relation) limit) (record { line = line; terminal = Name column }) (InBounds (Some (column, relation)))
+        named (λ b n. n) refl (column-legal column h) (limits_by-given (flip relation) limit g)
     by line _ h = λ tokens sound. tt
 
-bound_left-fine : (before : Before) (left : Side) → IsNamed before → IsSoundSide left → Gives (IsFine before.earlier) (bound_left before left)
-bound_left-fine before left named h =
-    then-gives (λ (relation : Relation). Unit {0}) (IsFine before.earlier) (sense before) (λ relation. next >>= bound_column before left.limit relation) (sense-gives before)
-    (λ relation u. then-gives IsSoundToken (IsFine before.earlier) next (bound_column before left.limit relation) next-gives (λ token s. bound_column-fine before left.limit relation token named h s))
+bound_left-fine : (context : Context) (left : Side) → IsNamed context → IsSoundSide left → Gives (IsFine context.earlier) (bound_left context left)
+bound_left-fine context left named h =
+    then-gives (λ (relation : Relation). Unit {0}) (IsFine context.earlier) (next_relation context) (λ relation. next >>= bound_column context left.limit relation) (sense-gives context)
+    (λ relation u. then-gives IsSoundToken (IsFine context.earlier) next (bound_column context left.limit relation) next-gives (λ token s. bound_column-fine context left.limit relation token named h s))
 
-bound-fine : (before : Before) (line : ℕ) (terminal : Terminal) → IsNamed before → IsSoundTerminal terminal → Gives (IsFine before.earlier) (bound before (record { line = line; terminal = terminal }))
-bound-fine before line terminal named s = by terminal s
+bound-fine : (context : Context) (line : ℕ) (terminal : Terminal) → IsNamed context → IsSoundTerminal terminal → Gives (IsFine context.earlier) (bound context (record { line = line; terminal = terminal }))
+bound-fine context line terminal named s = by terminal s
   where
-    sided : (t : Terminal) → IsSoundTerminal t → Gives (IsFine before.earlier) (side_from before (record { line = line; terminal = t }) >>= bound_left before)
-    sided t s = then-gives IsSoundSide (IsFine before.earlier) (side_from before (record { line = line; terminal = t })) (bound_left before) (side_from-gives before (record { line = line; terminal = t }) s) (λ left h. bound_left-fine before left named h)
+    sided : (t : Terminal) → IsSoundTerminal t → Gives (IsFine context.earlier) (side_from context (record { line = line; terminal = t }) >>= bound_left context)
+    sided t s = then-gives IsSoundSide (IsFine context.earlier) (side_from context (record { line = line; terminal = t })) (bound_left context) (side_from-gives context (record { line = line; terminal = t }) s) (λ left h. bound_left-fine context left named h)
 
-    by : (t : Terminal) → IsSoundTerminal t → Gives (IsFine before.earlier) (bound before (record { line = line; terminal = t }))
-    by (Name column) s = then-gives IsSoundToken (IsFine before.earlier) next (bound_after before column) next-gives (λ token h. bound_after-fine before column token named s)
+    by : (t : Terminal) → IsSoundTerminal t → Gives (IsFine context.earlier) (bound context (record { line = line; terminal = t }))
+    by (Name column) s = then-gives IsSoundToken (IsFine context.earlier) next (bound_after context column) next-gives (λ token h. bound_after-fine context column token named s)
     by (Opens word) s = sided (Opens word) s
     by (Number value) s = sided (Number value) s
     by (Sign minus) s = sided (Sign minus) s
@@ -516,82 +516,82 @@ bound-fine before line terminal named s = by terminal s
     by Free s = sided Free s
     by Other s = sided Other s
 
-second_side-fine : (before : Before) (left : Option (List ℕ × Relation)) (relation : Relation) (token : TerminalAt) → IsNamed before → Gives (IsFine before.earlier) (second_side before left relation token)
-second_side-fine before None relation token named = λ tokens sound. tt
-second_side-fine before (Some left) relation token named =
-    either-fine before (fits_second left.1 relation) _ _
-    (then-gives IsSoundSide (IsFine before.earlier) (side before) (bound_right before [] left.0 relation) (side-gives before)
-    (λ right s. bounded-fine before [] left.0 (limits_by relation right.limit) right.last (InBounds None) named (λ b n. n) refl refl (limits_by-given relation right.limit s)))
+second_side-fine : (context : Context) (left : Option (List ℕ × Relation)) (relation : Relation) (token : TerminalAt) → IsNamed context → Gives (IsFine context.earlier) (second_side context left relation token)
+second_side-fine context None relation token named = λ tokens sound. tt
+second_side-fine context (Some left) relation token named =
+    either-fine context (fits_second left.1 relation) _ _
+    (then-gives IsSoundSide (IsFine context.earlier) (side context) (bound_right context [] left.0 relation) (side-gives context)
+    (λ right s. bounded-fine context [] left.0 (limits_by relation right.limit) right.last (InBounds None) named (λ b n. n) refl refl (limits_by-given relation right.limit s)))
     (λ tokens sound. tt)
 
 -- ---- phrases
 
-listed-fine : (place : Place) (kind_declared : List ℕ → Declaration) (before : Before) (line : ℕ) (terminal : Terminal) → IsNamed before → IsPlain place → ((name : List ℕ) → is_lp_legal (kind_declared name) ≡ true)
-    → IsSoundTerminal terminal → Gives (IsFine before.earlier) (listed place kind_declared before (record { line = line; terminal = terminal }))
-listed-fine place kind_declared before line (Name column) named plain legal s =
-    declares-fine before (record { line = line; terminal = Name column }) place (declare_column column ∷ kind_declared column ∷ []) named plain
+listed-fine : (place : Place) (kind_declared : List ℕ → Declaration) (context : Context) (line : ℕ) (terminal : Terminal) → IsNamed context → IsPlain place → ((name : List ℕ) → is_lp_legal (kind_declared name) ≡ true)
+    → IsSoundTerminal terminal → Gives (IsFine context.earlier) (name_in_section place kind_declared context (record { line = line; terminal = terminal }))
+listed-fine place kind_declared context line (Name column) named plain legal s =
+    declares-fine context (record { line = line; terminal = Name column }) place (declare_column column ∷ kind_declared column ∷ []) named plain
     (both_so (is_lp_name column) (is_lp_legal (kind_declared column) && true) s (both_so (is_lp_legal (kind_declared column)) true (legal column) refl))
-listed-fine place kind_declared before line _ named plain legal s = λ tokens sound. tt
+listed-fine place kind_declared context line _ named plain legal s = λ tokens sound. tt
 
-phrase-fine : (place : Place) (before : Before) (line : ℕ) (terminal : Terminal) → IsSoundPoint (record { place = place; before = before }) → IsSoundTerminal terminal
-    → Gives (IsFine before.earlier) (phrase place before (record { line = line; terminal = terminal }))
-phrase-fine AtStart before line terminal point s = λ tokens sound. tt
-phrase-fine (BeforeItems name) before line terminal named s =
-    then-gives IsSoundItem (IsFine before.earlier) (item_from before (record { line = line; terminal = terminal })) (objective_item before name) (item-gives before line terminal s) (λ item i. objective_item-fine before name item named i)
-phrase-fine (InObjective name) before line (Sign minus) named s =
-    then-gives IsSoundItem (IsFine before.earlier) (signed_item before minus) (objective_item before name) (λ tokens sound. signed_item-gives before tokens minus sound) (λ item i. objective_item-fine before name item named i)
-phrase-fine (InObjective name) before line _ named s = λ tokens sound. tt
-phrase-fine BetweenRows before line terminal named s = row-fine before line terminal named s
-phrase-fine (InRow row) before line (Sign minus) point s =
-    then-gives IsSoundItem (IsFine before.earlier) (signed_item before minus) (row_item before row) (λ tokens sound. signed_item-gives before tokens minus sound) (λ item i. row_item-fine before row item point.0 point.1 i)
-phrase-fine (InRow row) before line (Compares relation) point s = row_end-fine before row relation (record { line = line; terminal = Compares relation }) point.0 point.1
-phrase-fine (InRow row) before line _ point s = λ tokens sound. tt
-phrase-fine (InBounds left) before line (Compares relation) named s = second_side-fine before left relation (record { line = line; terminal = Compares relation }) named
-phrase-fine (InBounds left) before line (Name name) named s = bound-fine before line (Name name) named s
-phrase-fine (InBounds left) before line (Opens word) named s = bound-fine before line (Opens word) named s
-phrase-fine (InBounds left) before line (Number value) named s = bound-fine before line (Number value) named s
-phrase-fine (InBounds left) before line (Sign minus) named s = bound-fine before line (Sign minus) named s
-phrase-fine (InBounds left) before line Colon named s = bound-fine before line Colon named s
-phrase-fine (InBounds left) before line Infinity named s = bound-fine before line Infinity named s
-phrase-fine (InBounds left) before line Free named s = bound-fine before line Free named s
-phrase-fine (InBounds left) before line Other named s = bound-fine before line Other named s
-phrase-fine InGenerals before line terminal named s = listed-fine InGenerals declare_integer before line terminal named (λ b n. n) (λ name. refl) s
-phrase-fine InBinaries before line terminal named s = listed-fine InBinaries declare_binary before line terminal named (λ b n. n) (λ name. refl) s
-phrase-fine InSemis before line terminal named s = listed-fine InSemis declare_semi before line terminal named (λ b n. n) (λ name. refl) s
+phrase-fine : (place : Place) (context : Context) (line : ℕ) (terminal : Terminal) → IsSoundPoint (record { place = place; context = context }) → IsSoundTerminal terminal
+    → Gives (IsFine context.earlier) (phrase place context (record { line = line; terminal = terminal }))
+phrase-fine AtStart context line terminal point s = λ tokens sound. tt
+phrase-fine (BeforeItems name) context line terminal named s =
+    then-gives IsSoundItem (IsFine context.earlier) (item_from context (record { line = line; terminal = terminal })) (objective_item context name) (item-gives context line terminal s) (λ item i. objective_item-fine context name item named i)
+phrase-fine (InObjective name) context line (Sign minus) named s =
+    then-gives IsSoundItem (IsFine context.earlier) (signed_item context minus) (objective_item context name) (λ tokens sound. signed_item-gives context tokens minus sound) (λ item i. objective_item-fine context name item named i)
+phrase-fine (InObjective name) context line _ named s = λ tokens sound. tt
+phrase-fine BetweenRows context line terminal named s = row-fine context line terminal named s
+phrase-fine (InRow row) context line (Sign minus) point s =
+    then-gives IsSoundItem (IsFine context.earlier) (signed_item context minus) (row_item context row) (λ tokens sound. signed_item-gives context tokens minus sound) (λ item i. row_item-fine context row item point.0 point.1 i)
+phrase-fine (InRow row) context line (Compares relation) point s = row_end-fine context row relation (record { line = line; terminal = Compares relation }) point.0 point.1
+phrase-fine (InRow row) context line _ point s = λ tokens sound. tt
+phrase-fine (InBounds left) context line (Compares relation) named s = second_side-fine context left relation (record { line = line; terminal = Compares relation }) named
+phrase-fine (InBounds left) context line (Name name) named s = bound-fine context line (Name name) named s
+phrase-fine (InBounds left) context line (Opens word) named s = bound-fine context line (Opens word) named s
+phrase-fine (InBounds left) context line (Number value) named s = bound-fine context line (Number value) named s
+phrase-fine (InBounds left) context line (Sign minus) named s = bound-fine context line (Sign minus) named s
+phrase-fine (InBounds left) context line Colon named s = bound-fine context line Colon named s
+phrase-fine (InBounds left) context line Infinity named s = bound-fine context line Infinity named s
+phrase-fine (InBounds left) context line Free named s = bound-fine context line Free named s
+phrase-fine (InBounds left) context line Other named s = bound-fine context line Other named s
+phrase-fine InGenerals context line terminal named s = listed-fine InGenerals declare_integer context line terminal named (λ b n. n) (λ name. refl) s
+phrase-fine InBinaries context line terminal named s = listed-fine InBinaries declare_binary context line terminal named (λ b n. n) (λ name. refl) s
+phrase-fine InSemis context line terminal named s = listed-fine InSemis declare_semi context line terminal named (λ b n. n) (λ name. refl) s
 
 -- ---- sections
 
-line_end-fine : (before : Before) (line : ℕ) → IsNamed before → Gives (IsFine before.earlier) (line_end before line)
-line_end-fine before line named [] sound = (refl, named.0)
-line_end-fine before line named (token ∷ tokens) sound = by (token.line == line)
+line_end-fine : (context : Context) (line : ℕ) → IsNamed context → Gives (IsFine context.earlier) (line_end context line)
+line_end-fine context line named [] sound = (refl, named.0)
+line_end-fine context line named (token ∷ tokens) sound = by (token.line == line)
   where
-    by : (b : Bool) → Holds (IsFine before.earlier) (if b then refuses before token BadToken tokens else Reads (Ends before.earlier) 0)
+    by : (b : Bool) → Holds (IsFine context.earlier) (if b then refuses context token BadToken tokens else Reads (Ends context.earlier) 0)
     by true = tt
     by false = (refl, named.0)
 
-opened-plain : (wanted : LastWord) → IsPlain (opened_by wanted)
-opened-plain To b n = n
-opened-plain That b n = n
-opened-plain Continuous b n = n
+sections_seen-plain : (wanted : LastWord) → IsPlain (opened_by wanted)
+sections_seen-plain To b n = n
+sections_seen-plain That b n = n
+sections_seen-plain Continuous b n = n
 
-last_word-fine : (before : Before) (wanted : LastWord) (token : TerminalAt) → IsNamed before → Gives (IsFine before.earlier) (last_word before wanted token)
-last_word-fine before wanted token named = by token.line token.terminal
+last_word-fine : (context : Context) (wanted : LastWord) (token : TerminalAt) → IsNamed context → Gives (IsFine context.earlier) (last_word context wanted token)
+last_word-fine context wanted token named = by token.line token.terminal
   where
-    by : (line : ℕ) (terminal : Terminal) → Gives (IsFine before.earlier) (last_word before wanted (record { line = line; terminal = terminal }))
-    by line (Name word) = either-fine before (is_last_word wanted word) _ _ (nothing-fine before (opened_by wanted) named (opened-plain wanted)) (λ tokens sound. tt)
+    by : (line : ℕ) (terminal : Terminal) → Gives (IsFine context.earlier) (last_word context wanted (record { line = line; terminal = terminal }))
+    by line (Name word) = either-fine context (is_last_word wanted word) _ _ (nothing-fine context (opened_by wanted) named (sections_seen-plain wanted)) (λ tokens sound. tt)
     by line _ = λ tokens sound. tt
 
-next_word-fine : (before : Before) (wanted : LastWord) → IsNamed before → Gives (IsFine before.earlier) (next >>= last_word before wanted)
-next_word-fine before wanted named = then-gives IsSoundToken (IsFine before.earlier) next (last_word before wanted) next-gives (λ word w. last_word-fine before wanted word named)
+next_word-fine : (context : Context) (wanted : LastWord) → IsNamed context → Gives (IsFine context.earlier) (next >>= last_word context wanted)
+next_word-fine context wanted named = then-gives IsSoundToken (IsFine context.earlier) next (last_word context wanted) next-gives (λ word w. last_word-fine context wanted word named)
 
-semi-fine : (before : Before) (token : TerminalAt) → IsNamed before → Gives (IsFine before.earlier) (semi_from before token)
-semi-fine before token named = by token.line token.terminal
+semi-fine : (context : Context) (token : TerminalAt) → IsNamed context → Gives (IsFine context.earlier) (semi_from context token)
+semi-fine context token named = by token.line token.terminal
   where
-    by : (line : ℕ) (terminal : Terminal) → Gives (IsFine before.earlier) (semi_from before (record { line = line; terminal = terminal }))
+    by : (line : ℕ) (terminal : Terminal) → Gives (IsFine context.earlier) (semi_from context (record { line = line; terminal = terminal }))
     by line (Sign true) =
-        then-gives IsSoundToken (IsFine before.earlier) next (λ dash. next >>= last_word before Continuous) next-gives
-        (λ dash d. next_word-fine before Continuous named)
-    by line _ = nothing-fine before InSemis named (λ b n. n)
+        then-gives IsSoundToken (IsFine context.earlier) next (λ dash. next >>= last_word context Continuous) next-gives
+        (λ dash d. next_word-fine context Continuous named)
+    by line _ = nothing-fine context InSemis named (λ b n. n)
 
 -- a word of a section after the objective
 abbrev IsLater : SectionWord → Type 0
@@ -599,50 +599,50 @@ IsLater words.Minimize = ⊥
 IsLater words.Maximize = ⊥
 IsLater _ = Unit {0}
 
-start-fine : (before : Before) (token : TerminalAt) (word : SectionWord) → IsLater word → IsNamed before → Gives (IsFine before.earlier) (section_start before token word)
-start-fine before token words.Minimize later named = absurd later
-start-fine before token words.Maximize later named = absurd later
-start-fine before token words.Rows later named = nothing-fine before BetweenRows named (λ b n. n)
-start-fine before token words.Subject later named = next_word-fine before To named
-start-fine before token words.Such later named = next_word-fine before That named
-start-fine before token words.Bounds later named = nothing-fine before (InBounds None) named (λ b n. n)
-start-fine before token words.Generals later named = nothing-fine before InGenerals named (λ b n. n)
-start-fine before token words.Binaries later named = nothing-fine before InBinaries named (λ b n. n)
-start-fine before token words.Semi later named = then-gives IsSoundToken (IsFine before.earlier) ahead (semi_from before) ahead-gives (λ second s. semi-fine before second named)
-start-fine before token words.Semis later named = nothing-fine before InSemis named (λ b n. n)
-start-fine before token words.End later named = line_end-fine before token.line named
+start-fine : (context : Context) (token : TerminalAt) (word : SectionWord) → IsLater word → IsNamed context → Gives (IsFine context.earlier) (section_start context token word)
+start-fine context token words.Minimize later named = absurd later
+start-fine context token words.Maximize later named = absurd later
+start-fine context token words.Rows later named = nothing-fine context BetweenRows named (λ b n. n)
+start-fine context token words.Subject later named = next_word-fine context To named
+start-fine context token words.Such later named = next_word-fine context That named
+start-fine context token words.Bounds later named = nothing-fine context (InBounds None) named (λ b n. n)
+start-fine context token words.Generals later named = nothing-fine context InGenerals named (λ b n. n)
+start-fine context token words.Binaries later named = nothing-fine context InBinaries named (λ b n. n)
+start-fine context token words.Semi later named = then-gives IsSoundToken (IsFine context.earlier) ahead (semi_from context) ahead-gives (λ second s. semi-fine context second named)
+start-fine context token words.Semis later named = nothing-fine context InSemis named (λ b n. n)
+start-fine context token words.End later named = line_end-fine context token.line named
 
-later-fine : (before : Before) (token : TerminalAt) (word : SectionWord) → IsLater word → IsNamed (record before { opened = opened_with before.opened (section_of word) }) → Gives (IsFine before.earlier) (section_from before token word)
-later-fine before token word later named = by (section_fault before.opened (section_of word))
+later-fine : (context : Context) (token : TerminalAt) (word : SectionWord) → IsLater word → IsNamed (record context { sections_seen = with_section context.sections_seen (section_of word) }) → Gives (IsFine context.earlier) (section_from context token word)
+later-fine context token word later named = by (section_fault context.sections_seen (section_of word))
   where
-    by : (o : Option FaultKind) → Gives (IsFine before.earlier) (elim o as (λ _. Rule Follows) [
+    by : (o : Option FaultKind) → Gives (IsFine context.earlier) (elim o as (λ _. PhraseRule Follows) [
       | Some kind ↦ fails token kind
-      | None ↦ section_start (record before { opened = opened_with before.opened (section_of word) }) token word
+      | None ↦ section_start (record context { sections_seen = with_section context.sections_seen (section_of word) }) token word
     ])
     by (Some kind) = λ tokens sound. tt
-    by None = start-fine (record before { opened = opened_with before.opened (section_of word) }) token word later named
+    by None = start-fine (record context { sections_seen = with_section context.sections_seen (section_of word) }) token word later named
 
 -- after the objective was opened
-section-fine : (before : Before) (token : TerminalAt) (word : SectionWord) → IsNamed before → Gives (IsFine before.earlier) (section_from before token word)
-section-fine before token words.Minimize named = rw (named.1, section_from) (λ tokens sound. tt)
-section-fine before token words.Maximize named = rw (named.1, section_from) (λ tokens sound. tt)
-section-fine before token words.Rows named = later-fine before token words.Rows tt named
-section-fine before token words.Subject named = later-fine before token words.Subject tt named
-section-fine before token words.Such named = later-fine before token words.Such tt named
-section-fine before token words.Bounds named = later-fine before token words.Bounds tt named
-section-fine before token words.Generals named = later-fine before token words.Generals tt named
-section-fine before token words.Binaries named = later-fine before token words.Binaries tt named
-section-fine before token words.Semi named = later-fine before token words.Semi tt named
-section-fine before token words.Semis named = later-fine before token words.Semis tt named
-section-fine before token words.End named = later-fine before token words.End tt named
+section-fine : (context : Context) (token : TerminalAt) (word : SectionWord) → IsNamed context → Gives (IsFine context.earlier) (section_from context token word)
+section-fine context token words.Minimize named = rw (named.1, section_from) (λ tokens sound. tt)
+section-fine context token words.Maximize named = rw (named.1, section_from) (λ tokens sound. tt)
+section-fine context token words.Rows named = later-fine context token words.Rows tt named
+section-fine context token words.Subject named = later-fine context token words.Subject tt named
+section-fine context token words.Such named = later-fine context token words.Such tt named
+section-fine context token words.Bounds named = later-fine context token words.Bounds tt named
+section-fine context token words.Generals named = later-fine context token words.Generals tt named
+section-fine context token words.Binaries named = later-fine context token words.Binaries tt named
+section-fine context token words.Semi named = later-fine context token words.Semi tt named
+section-fine context token words.Semis named = later-fine context token words.Semis tt named
+section-fine context token words.End named = later-fine context token words.End tt named
 
 -- ---- the objective, before which there is nothing
 
-abbrev opening : Before
-opening = record { opened = opened_with start.before.opened Objective; earlier = empty_draft }
+abbrev opening : Context
+opening = record { sections_seen = with_section start.context.sections_seen Objective; earlier = empty_draft }
 
 -- declarations that name it
-opens-declared : (token : TerminalAt) (place : Place) (made : Declarations) → ((before : Before) → IsNamed before → IsSoundPoint (record { place = place; before = before }))
+opens-declared : (token : TerminalAt) (place : Place) (made : Declarations) → ((context : Context) → IsNamed context → IsSoundPoint (record { place = place; context = context }))
     → is_some (draft_of made).objective ≡ true → list_all is_lp_legal made ≡ true → Gives (IsFine empty_draft) (declares opening token place made)
 opens-declared token place made plain named legal = by (refusals_in_turn empty_draft made) refl
   where
@@ -676,40 +676,40 @@ objective-fine goal = then-gives IsSoundToken (IsFine empty_draft) ahead (object
         opens-declared (record { line = line; terminal = terminal }) (BeforeItems default_objective) (objective_declared goal default_objective) (λ b n. n) refl refl
 
 -- at the start, no other section may be opened
-first_section-fine : (token : TerminalAt) (word : SectionWord) → Gives (IsFine empty_draft) (section_from start.before token word)
+first_section-fine : (token : TerminalAt) (word : SectionWord) → Gives (IsFine empty_draft) (section_from start.context token word)
 first_section-fine token words.Minimize = objective-fine senses.Minimize
 first_section-fine token words.Maximize = objective-fine senses.Maximize
 first_section-fine token _ = λ tokens sound. tt
 
 -- ---- all phrases
 
-named-point : (place : Place) (before : Before) → may_begin_section place ≡ true → IsSoundPoint (record { place = place; before = before })
-    → (before ≡ start.before) ⊎ IsNamed before
-named-point AtStart before m h = inl (ap (λ (p : Point). p.before) h)
-named-point (BeforeItems name) before m h = inr h
-named-point (InObjective name) before m h = inr h
-named-point BetweenRows before m h = inr h
-named-point (InRow row) before m h = cc
-named-point (InBounds left) before m h = inr h
-named-point InGenerals before m h = inr h
-named-point InBinaries before m h = inr h
-named-point InSemis before m h = inr h
+named-point : (place : Place) (context : Context) → may_begin_section place ≡ true → IsSoundPoint (record { place = place; context = context })
+    → (context ≡ start.context) ⊎ IsNamed context
+named-point AtStart context m h = inl (ap (λ (p : Point). p.context) h)
+named-point (BeforeItems name) context m h = inr h
+named-point (InObjective name) context m h = inr h
+named-point BetweenRows context m h = inr h
+named-point (InRow row) context m h = cc
+named-point (InBounds left) context m h = inr h
+named-point InGenerals context m h = inr h
+named-point InBinaries context m h = inr h
+named-point InSemis context m h = inr h
 
-opens-fine : (place : Place) (before : Before) (token : TerminalAt) (word : SectionWord) (b : Bool) → may_begin_section place ≡ b → IsSoundPoint (record { place = place; before = before })
-    → Gives (IsFine before.earlier) (if b then section_from before token word else refuses before token BadToken)
-opens-fine place before token word false e h = λ tokens sound. tt
-opens-fine place before token word true e h = elim (named-point place before e h) [
-  | inl same ↦ subst (λ (b : Before). Gives (IsFine b.earlier) (section_from b token word)) (sym same) (first_section-fine token word)
-  | inr named ↦ section-fine before token word named
+opens-fine : (place : Place) (context : Context) (token : TerminalAt) (word : SectionWord) (b : Bool) → may_begin_section place ≡ b → IsSoundPoint (record { place = place; context = context })
+    → Gives (IsFine context.earlier) (if b then section_from context token word else refuses context token BadToken)
+opens-fine place context token word false e h = λ tokens sound. tt
+opens-fine place context token word true e h = elim (named-point place context e h) [
+  | inl same ↦ subst (λ (b : Context). Gives (IsFine b.earlier) (section_from b token word)) (sym same) (first_section-fine token word)
+  | inr named ↦ section-fine context token word named
 ]
 
-pub phrase_at-fine : (point : Point) (line : ℕ) (terminal : Terminal) → IsSoundPoint point → IsSoundTerminal terminal → Gives (IsFine point.before.earlier) (phrase_at point (record { line = line; terminal = terminal }))
-phrase_at-fine point line (Opens word) h s = opens-fine point.place point.before (record { line = line; terminal = Opens word }) word (may_begin_section point.place) refl h
-phrase_at-fine point line (Name name) h s = phrase-fine point.place point.before line (Name name) h s
-phrase_at-fine point line (Number value) h s = phrase-fine point.place point.before line (Number value) h s
-phrase_at-fine point line (Sign minus) h s = phrase-fine point.place point.before line (Sign minus) h s
-phrase_at-fine point line (Compares relation) h s = phrase-fine point.place point.before line (Compares relation) h s
-phrase_at-fine point line Colon h s = phrase-fine point.place point.before line Colon h s
-phrase_at-fine point line Infinity h s = phrase-fine point.place point.before line Infinity h s
-phrase_at-fine point line Free h s = phrase-fine point.place point.before line Free h s
-phrase_at-fine point line Other h s = phrase-fine point.place point.before line Other h s
+pub phrase_at-fine : (point : Point) (line : ℕ) (terminal : Terminal) → IsSoundPoint point → IsSoundTerminal terminal → Gives (IsFine point.context.earlier) (phrase_at point (record { line = line; terminal = terminal }))
+phrase_at-fine point line (Opens word) h s = opens-fine point.place point.context (record { line = line; terminal = Opens word }) word (may_begin_section point.place) refl h
+phrase_at-fine point line (Name name) h s = phrase-fine point.place point.context line (Name name) h s
+phrase_at-fine point line (Number value) h s = phrase-fine point.place point.context line (Number value) h s
+phrase_at-fine point line (Sign minus) h s = phrase-fine point.place point.context line (Sign minus) h s
+phrase_at-fine point line (Compares relation) h s = phrase-fine point.place point.context line (Compares relation) h s
+phrase_at-fine point line Colon h s = phrase-fine point.place point.context line Colon h s
+phrase_at-fine point line Infinity h s = phrase-fine point.place point.context line Infinity h s
+phrase_at-fine point line Free h s = phrase-fine point.place point.context line Free h s
+phrase_at-fine point line Other h s = phrase-fine point.place point.context line Other h s

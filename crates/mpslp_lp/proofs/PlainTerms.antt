@@ -6,9 +6,9 @@ use Rattle.std.specs.List.{cons_option}
 use Rattle.std.proofs.lemmas.Option.{none-some}
 use Rattle.mpslp_types.specs.declared.faults.FaultKind.{FaultKind}
 use Rattle.mpslp_types.specs.declared.faults.FaultKind.TheVariants.{DuplicateEntry}
-use Rattle.mpslp_reading.specs.Field.{value_of, number_fault}
-use Rattle.mpslp_reading.specs.declared.errors.LineError.{LineError}
-use Rattle.mpslp_reading.specs.declared.errors.LineError.TheVariants.{Fault, OutOfMemory}
+use Rattle.mpslp_lines.specs.Field.{value_of, number_fault}
+use Rattle.mpslp_lines.specs.declared.errors.LineError.{LineError}
+use Rattle.mpslp_lines.specs.declared.errors.LineError.TheVariants.{Fault, OutOfMemory}
 use Rattle.mpslp_decimal.specs.Decimal.{Number as Decimal, zero_number, trailing_zeros}
 use Rattle.mpslp_decimal.specs.declared.literal.NumberFault.{NumberFault}
 use Rattle.mpslp_lp.specs.Items.{one}
@@ -16,26 +16,26 @@ use Rattle.mpslp_lp.specs.PartialRow.{PartialRow}
 use Rattle.mpslp_lp.specs.Token.{Token}
 use Rattle.mpslp_lp.specs.Terminal.{Terminal, as_terminal, terminal_of}
 use Rattle.mpslp_lp.specs.Terminal.Terminal.{Sign, Number, Name}
-use Rattle.mpslp_lp.specs.OwnFault.{token_fault}
-use Rattle.mpslp_lp.specs.Sides.{signed}
-use Rattle.mpslp_lp.specs.ReadingLines.{take_tokens, token_faults}
-use Rattle.mpslp_lp.specs.Declares.{Takes, AddsTerm, IsLeastError, error_before}
+use Rattle.mpslp_lp.specs.LexicalFault.{token_fault}
+use Rattle.mpslp_lp.specs.Sides.{apply_sign}
+use Rattle.mpslp_lp.specs.LineByLine.{take_tokens, token_faults}
+use Rattle.mpslp_lp.specs.Declares.{TakesToken, AddsTerm, IsLeastError, error_before}
 use Rattle.mpslp_lp.specs.PlainTerm.{Begins, BeginsWithNumber, IsPlainTerm}
-use Rattle.mpslp_lp.specs.Taken.{Taken, Goes, Refuses, refused, with_made}
-use Rattle.mpslp_lp.specs.Taking.{take}
-use Rattle.mpslp_lp.specs.declared.before.Before.{Before}
+use Rattle.mpslp_lp.specs.AfterToken.{AfterToken, Goes, Refuses, refuse, with_made}
+use Rattle.mpslp_lp.specs.TokenStep.{take}
+use Rattle.mpslp_lp.specs.declared.context.Context.{Context}
 use Rattle.mpslp_lp.specs.declared.states.Place.TheVariants.{InRow}
-use Rattle.mpslp_lp.specs.declared.states.Owner.TheVariants.{OfRow}
+use Rattle.mpslp_lp.specs.declared.states.ItemOwner.TheVariants.{OfRow}
 use Rattle.mpslp_lp.specs.declared.states.State.{State}
 use Rattle.mpslp_lp.specs.declared.states.State.TheVariants.{Between, Signs, ItemNumber}
 use Rattle.mpslp_lp.proofs.LineTokens.{tokens-next, tokens-own, tokens-refused}
 use Rattle.mpslp_lp.proofs.TokenAnswers.{one-parsed}
 
 -- a terminal that goes on
-step : (before after : Before) (state next : State) (found more : List Token) (terminal : Terminal) → Begins found terminal more → take before state terminal ≡ Goes after next
-    → take_tokens before state found ≡ take_tokens after next more
-step before after state next found more terminal b goes =
-    ap (take_tokens before state) b.tokens ∙ tokens-next before after state next b.token more b.sound (ap (take before state) b.is ∙ goes)
+step : (context after : Context) (state next : State) (found more : List Token) (terminal : Terminal) → Begins found terminal more → take context state terminal ≡ Goes after next
+    → take_tokens context state found ≡ take_tokens after next more
+step context after state next found more terminal b goes =
+    ap (take_tokens context state) b.tokens ∙ tokens-next context after state next b.token more b.sound (ap (take context state) b.is ∙ goes)
 
 -- a number without a fault is a terminal
 as-begins : (found more : List Token) (literal : List ℕ) → BeginsWithNumber found literal more → number_fault literal ≡ None → Begins found (Number (value_of literal)) more
@@ -54,70 +54,70 @@ unfolding trailing_zeros
 one-sound = refl
 
 -- the state before a term's name, which takes the name as the state behind the number does
-record BeforeName (before : Before) (row : PartialRow) (found behind : List Token) (minus : Bool) (literal column : List ℕ) : Type 0 where
+record BeforeName (context : Context) (row : PartialRow) (found behind : List Token) (minus : Bool) (literal column : List ℕ) : Type 0 where
   state : State
-  comes : take_tokens before (Between (InRow row)) found ≡ take_tokens before state behind
-  takes : take before state (Name column) ≡ take before (ItemNumber (OfRow row) minus (value_of literal)) (Name column)
+  comes : take_tokens context (Between (InRow row)) found ≡ take_tokens context state behind
+  takes : take context state (Name column) ≡ take context (ItemNumber (OfRow row) minus (value_of literal)) (Name column)
 
-module _ (before : Before) (row : PartialRow) (found more : List Token) (minus : Bool) (literal column : List ℕ) (p : IsPlainTerm found minus literal column more) where
+module _ (context : Context) (row : PartialRow) (found more : List Token) (minus : Bool) (literal column : List ℕ) (p : IsPlainTerm found minus literal column more) where
   abbrev signs : State
   signs = Signs (OfRow row) minus
 
   -- up to the number, and up to the name
-  behind-sign : take_tokens before (Between (InRow row)) found ≡ take_tokens before signs p.behind_sign
-  behind-sign = step before before (Between (InRow row)) signs found p.behind_sign (Sign minus) p.sign refl
+  behind-sign : take_tokens context (Between (InRow row)) found ≡ take_tokens context signs p.behind_sign
+  behind-sign = step context context (Between (InRow row)) signs found p.behind_sign (Sign minus) p.sign refl
 
-  before-name : number_fault literal ≡ None → BeforeName before row found p.term.behind_number minus literal column
-  before-name none = elim p.term.number [
+  context-name : number_fault literal ≡ None → BeforeName context row found p.term.behind_number minus literal column
+  context-name none = elim p.term.number [
     | inl number ↦ record {
       state = ItemNumber (OfRow row) minus (value_of literal);
       comes = behind-sign
-          ∙ step before before signs (ItemNumber (OfRow row) minus (value_of literal)) p.behind_sign p.term.behind_number (Number (value_of literal))
+          ∙ step context context signs (ItemNumber (OfRow row) minus (value_of literal)) p.behind_sign p.term.behind_number (Number (value_of literal))
           (as-begins p.behind_sign p.term.behind_number literal number none) refl;
       takes = refl;
     }
     | inr alone ↦ record {
       state = signs;
-      comes = behind-sign ∙ ap (take_tokens before signs) (sym alone.1);
-      takes = ap (λ (value : Decimal). take before (ItemNumber (OfRow row) minus value) (Name column)) (one-value ∙ ap value_of (sym alone.0));
+      comes = behind-sign ∙ ap (take_tokens context signs) (sym alone.1);
+      takes = ap (λ (value : Decimal). take context (ItemNumber (OfRow row) minus value) (Name column)) (one-value ∙ ap value_of (sym alone.0));
     }
   ]
 
   -- a column that is new in the row
-  pub plain-goes : (longer : PartialRow) → number_fault literal ≡ None → AddsTerm row column (signed minus (value_of literal)) (Ok longer)
-      → take_tokens before (Between (InRow longer)) more ≡ take_tokens before (Between (InRow row)) found
+  pub plain-goes : (longer : PartialRow) → number_fault literal ≡ None → AddsTerm row column (apply_sign minus (value_of literal)) (Ok longer)
+      → take_tokens context (Between (InRow longer)) more ≡ take_tokens context (Between (InRow row)) found
   plain-goes longer none adds =
-      let value = signed minus (value_of literal) in
+      let value = apply_sign minus (value_of literal) in
       let next : State = Between (InRow (record row { terms = row.terms ++ (column, value) ∷ [] })) in
-      let named = before-name none in
-      ap (λ (r : PartialRow). take_tokens before (Between (InRow r)) more) adds.1
+      let named = context-name none in
+      ap (λ (r : PartialRow). take_tokens context (Between (InRow r)) more) adds.1
       ∙ sym (named.comes
-      ∙ step before before named.state next p.term.behind_number more (Name column) p.term.name
-      (named.takes ∙ ap (λ (b : Bool). if b then refused before (Name column) DuplicateEntry else Goes (with_made before []) next) adds.0))
+      ∙ step context context named.state next p.term.behind_number more (Name column) p.term.name
+      (named.takes ∙ ap (λ (b : Bool). if b then refuse context (Name column) DuplicateEntry else Goes (with_made context []) next) adds.0))
 
   -- a column that has a term in the row
-  pub plain-refused : (error : LineError) → number_fault literal ≡ None → AddsTerm row column (signed minus (value_of literal)) (Err error)
-      → Takes (take_tokens before (Between (InRow row)) found) (Err (error_before (token_faults more) error)) before
+  pub plain-refused : (error : LineError) → number_fault literal ≡ None → AddsTerm row column (apply_sign minus (value_of literal)) (Err error)
+      → TakesToken (take_tokens context (Between (InRow row)) found) (Err (error_before (token_faults more) error)) context
   plain-refused OutOfMemory none adds = tt
   plain-refused (Fault kind) none adds =
-      let next : State = Between (InRow (record row { terms = row.terms ++ (column, signed minus (value_of literal)) ∷ [] })) in
-      let named = before-name none in
+      let next : State = Between (InRow (record row { terms = row.terms ++ (column, apply_sign minus (value_of literal)) ∷ [] })) in
+      let named = context-name none in
       let name = p.term.name in
-      let told : take before named.state (as_terminal name.token) ≡ Refuses kind =
-      ap (take before named.state) name.is ∙ named.takes ∙ ap (λ (b : Bool). if b then refused before (Name column) DuplicateEntry else Goes (with_made before []) next) adds.0
+      let told : take context named.state (as_terminal name.token) ≡ Refuses kind =
+      ap (take context named.state) name.is ∙ named.takes ∙ ap (λ (b : Bool). if b then refuse context (Name column) DuplicateEntry else Goes (with_made context []) next) adds.0
       ∙ ap (λ (k : FaultKind). Refuses k) (sym adds.1) in
-      subst (λ (taken : Taken). Takes taken (Err (error_before (token_faults more) (Fault kind))) before) (sym (named.comes ∙ ap (take_tokens before named.state) name.tokens))
-      (tokens-refused before before named.state name.token more (Fault kind) name.sound told)
+      subst (λ (taken : AfterToken). TakesToken taken (Err (error_before (token_faults more) (Fault kind))) context) (sym (named.comes ∙ ap (take_tokens context named.state) name.tokens))
+      (tokens-refused context context named.state name.token more (Fault kind) name.sound told)
 
   -- a number with a fault
   pub plain-number : (kind : FaultKind) (error : LineError) → number_fault literal ≡ Some kind → IsLeastError (kind ∷ token_faults more) error
-      → Takes (take_tokens before (Between (InRow row)) found) (Err error) before
+      → TakesToken (take_tokens context (Between (InRow row)) found) (Err error) context
   plain-number kind error some least = elim p.term.number [
     | inl number ↦
         let same : token_faults p.term.behind_number ≡ token_faults more =
         ap token_faults p.term.name.tokens ∙ ap (λ (o : Option FaultKind). cons_option o (token_faults more)) p.term.name.sound in
-        subst (λ (taken : Taken). Takes taken (Err error) before) (sym (behind-sign ∙ ap (take_tokens before signs) number.tokens))
-        (tokens-own before before signs number.token p.term.behind_number kind error ((λ i. token_fault (number.kind i) (number.text i)) ∙ some)
+        subst (λ (taken : AfterToken). TakesToken taken (Err error) context) (sym (behind-sign ∙ ap (take_tokens context signs) number.tokens))
+        (tokens-own context context signs number.token p.term.behind_number kind error ((λ i. token_fault (number.kind i) (number.text i)) ∙ some)
         (subst (λ (faults : List FaultKind). IsLeastError (kind ∷ faults) error) (sym same) least))
     | inr alone ↦ absurd (none-some kind (one-sound ∙ ap number_fault (sym alone.0) ∙ some))
   ]

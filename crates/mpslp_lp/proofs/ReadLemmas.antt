@@ -1,14 +1,14 @@
 -- What the builder answers at the end of a text is what the bytes have.
 use Rattle.std.proofs.Common.{◌≡◌, sym, ap, subst, ◌∙◌, ℕ, List}
 use Rattle.std.specs.Prelude.{Result, Ok, Err}
-use Rattle.mpslp_core.specs.Model.{LinearModel}
+use Rattle.mpslp_model_core.specs.Model.{LinearModel}
 use Rattle.mpslp_builder.specs.Declaration.{Draft}
 use Rattle.mpslp_builder.specs.Meaning.{model_of}
 use Rattle.mpslp_builder.specs.Finish.{Finishes}
 use Rattle.mpslp_types.specs.declared.faults.ReadFault.{ReadFault}
 use Rattle.mpslp_types.specs.declared.faults.ReadFault.TheVariants.{File, Failed, OutOfMemory}
 use Rattle.mpslp_lp.specs.Rules.Outcome.{Finished}
-use Rattle.mpslp_lp.specs.ReadingAnswer.{ReadsLp}
+use Rattle.mpslp_lp.specs.ReadAnswer.{ReadsLp}
 use Rattle.mpslp_lp.specs.LpText.{outcome, DeclaresLp}
 use Rattle.mpslp_lp.specs.FirstFault.{fault_of}
 use Rattle.mpslp_lp.proofs.ModelOrFault.{whole-draft, declares-from_whole}

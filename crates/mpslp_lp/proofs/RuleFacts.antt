@@ -1,34 +1,34 @@
 -- What holds of the values that rules read from sound tokens.
 use Rattle.std.proofs.Common.{ℕ, List, [], ◌∷◌, drop}
 use Rattle.mpslp_types.specs.declared.faults.Fault.{Fault}
-use Rattle.mpslp_lp.specs.Rules.{Reading, and_then, ◌>>=◌, passing, next, ahead}
-use Rattle.mpslp_lp.specs.Rules.Reading.{Reads, Refuses, Unfinished}
+use Rattle.mpslp_lp.specs.Rules.{Parsed, and_then, ◌>>=◌, after_taking, next, ahead}
+use Rattle.mpslp_lp.specs.Rules.Parsed.{Reads, Refuses, Unfinished}
 use Rattle.mpslp_lp.specs.Terminal.{TerminalAt}
-use Rattle.mpslp_lp.specs.Phrase.{Rule}
+use Rattle.mpslp_lp.specs.Phrase.{PhraseRule}
 use Rattle.mpslp_lp.proofs.SoundTokens.{IsSoundTerminal, AreSound, sound-drop}
 
-abbrev pub Holds : {A : Type 0} → (A → Type 0) → Reading Fault A → Type 0
+abbrev pub Holds : {A : Type 0} → (A → Type 0) → Parsed Fault A → Type 0
 Holds P (Reads value taken) = P value
 Holds P (Refuses fault) = Unit {0}
 Holds P Unfinished = Unit {0}
 
 -- the values of a rule have the property, where the tokens are sound
-abbrev pub Gives : {A : Type 0} → (A → Type 0) → Rule A → Type 0
+abbrev pub Gives : {A : Type 0} → (A → Type 0) → PhraseRule A → Type 0
 Gives P rule = (tokens : List TerminalAt) → AreSound tokens → Holds P (rule tokens)
 
-passing-holds : {A : Type 0} (P : A → Type 0) (taken : ℕ) (reading : Reading Fault A) → Holds P reading → Holds P (passing taken reading)
+passing-holds : {A : Type 0} (P : A → Type 0) (taken : ℕ) (reading : Parsed Fault A) → Holds P reading → Holds P (after_taking taken reading)
 passing-holds P taken (Reads value more) h = h
 passing-holds P taken (Refuses fault) h = tt
 passing-holds P taken Unfinished h = tt
 
-pub passed : {A : Type 0} (P : A → Type 0) (reading : Reading Fault A) → Holds P reading → Holds P (passing 1 reading)
+pub passed : {A : Type 0} (P : A → Type 0) (reading : Parsed Fault A) → Holds P reading → Holds P (after_taking 1 reading)
 passed P reading h = passing-holds P 1 reading h
 
-pub then-gives : {A B : Type 0} (P : A → Type 0) (Q : B → Type 0) (rule : Rule A) (following : A → Rule B)
+pub then-gives : {A B : Type 0} (P : A → Type 0) (Q : B → Type 0) (rule : PhraseRule A) (following : A → PhraseRule B)
     → Gives P rule → ((value : A) → P value → Gives Q (following value)) → Gives Q (rule >>= following)
 then-gives {A} {B} P Q rule following h k tokens sound = by (rule tokens) (h tokens sound)
   where
-    by : (reading : Reading Fault A) → Holds P reading → Holds Q (and_then reading following tokens)
+    by : (reading : Parsed Fault A) → Holds P reading → Holds Q (and_then reading following tokens)
     by (Reads value taken) p = passing-holds Q taken (following value (drop taken tokens)) (k value p (drop taken tokens) (sound-drop taken tokens sound))
     by (Refuses fault) p = tt
     by Unfinished p = tt

@@ -9,30 +9,30 @@ use Rattle.mpslp_decimal.specs.declared.literal.NumberFault.{NumberFault}
 use Rattle.mpslp_decimal.specs.declared.literal.NumberFault.TheVariants as numbers
 use Rattle.mpslp_types.specs.declared.faults.FaultKind.{FaultKind}
 use Rattle.mpslp_types.specs.declared.faults.FaultKind.TheVariants as kinds
-use Rattle.mpslp_reading.specs.Tests.{first_held}
-use Rattle.mpslp_reading.specs.Field.{number_fault, number_tests, kind_of_number, is_kind}
+use Rattle.mpslp_lines.specs.FaultTests.{first_held}
+use Rattle.mpslp_lines.specs.Field.{number_fault, number_tests, kind_of_number_fault, is_kind}
 use Rattle.std.specs.List.{list_any, cons_option}
-use Rattle.mpslp_lp.specs.declared.words.Meaning.{Meaning}
-use Rattle.mpslp_lp.specs.declared.words.Meaning.TheVariants as meanings
+use Rattle.mpslp_lp.specs.declared.words.WordClass.{WordClass}
+use Rattle.mpslp_lp.specs.declared.words.WordClass.TheVariants as meanings
 
 -- ---- words
 
 -- a table of words by reference, and the words themselves
-pub found-meaning : (p : List ℕ → Bool) (entries : List (Bor (List ℕ) × Meaning))
-    → option_map_or (λ (entry : Bor (List ℕ) × Meaning). entry.1) (find (λ (entry : Bor (List ℕ) × Meaning). p entry.0.now) entries) meanings.Name
-    ≡ option_map_or (λ (entry : List ℕ × Meaning). entry.1) (find (λ (entry : List ℕ × Meaning). p entry.0) (map (λ (entry : Bor (List ℕ) × Meaning). (entry.0.now, entry.1)) entries)) meanings.Name
-found-meaning p [] = refl
-found-meaning p (entry ∷ entries) = by (p entry.0.now) (found-meaning p entries)
+pub found-word_class : (p : List ℕ → Bool) (entries : List (Bor (List ℕ) × WordClass))
+    → option_map_or (λ (entry : Bor (List ℕ) × WordClass). entry.1) (find (λ (entry : Bor (List ℕ) × WordClass). p entry.0.now) entries) meanings.Name
+    ≡ option_map_or (λ (entry : List ℕ × WordClass). entry.1) (find (λ (entry : List ℕ × WordClass). p entry.0) (map (λ (entry : Bor (List ℕ) × WordClass). (entry.0.now, entry.1)) entries)) meanings.Name
+found-word_class p [] = refl
+found-word_class p (entry ∷ entries) = by (p entry.0.now) (found-word_class p entries)
   where
-    later : Option (Bor (List ℕ) × Meaning)
-    later = find (λ (e : Bor (List ℕ) × Meaning). p e.0.now) entries
+    later : Option (Bor (List ℕ) × WordClass)
+    later = find (λ (e : Bor (List ℕ) × WordClass). p e.0.now) entries
 
-    words : Option (List ℕ × Meaning)
-    words = find (λ (e : List ℕ × Meaning). p e.0) (map (λ (e : Bor (List ℕ) × Meaning). (e.0.now, e.1)) entries)
+    words : Option (List ℕ × WordClass)
+    words = find (λ (e : List ℕ × WordClass). p e.0) (map (λ (e : Bor (List ℕ) × WordClass). (e.0.now, e.1)) entries)
 
-    by : (b : Bool) → option_map_or (λ (e : Bor (List ℕ) × Meaning). e.1) later meanings.Name ≡ option_map_or (λ (e : List ℕ × Meaning). e.1) words meanings.Name
-        → option_map_or (λ (e : Bor (List ℕ) × Meaning). e.1) (cond b (Some entry) later) meanings.Name
-        ≡ option_map_or (λ (e : List ℕ × Meaning). e.1) (cond b (Some (entry.0.now, entry.1)) words) meanings.Name
+    by : (b : Bool) → option_map_or (λ (e : Bor (List ℕ) × WordClass). e.1) later meanings.Name ≡ option_map_or (λ (e : List ℕ × WordClass). e.1) words meanings.Name
+        → option_map_or (λ (e : Bor (List ℕ) × WordClass). e.1) (cond b (Some entry) later) meanings.Name
+        ≡ option_map_or (λ (e : List ℕ × WordClass). e.1) (cond b (Some (entry.0.now, entry.1)) words) meanings.Name
     by true h = refl
     by false h = h
 
@@ -44,7 +44,7 @@ tested-number literal = by (number_fault literal) refl
   where
     kind_in : Result Number NumberFault → Option FaultKind
     kind_in (Ok value) = None
-    kind_in (Err fault) = Some (kind_of_number fault)
+    kind_in (Err fault) = Some (kind_of_number_fault fault)
 
     fault-is : number_fault literal ≡ kind_in (number_of literal)
     fault-is = of (number_of literal) refl

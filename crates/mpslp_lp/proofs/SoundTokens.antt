@@ -6,20 +6,20 @@ use Rattle.mpslp_decimal.specs.Decimal.{is_decimal}
 use Rattle.mpslp_types.specs.Name.{is_lp_name}
 use Rattle.mpslp_types.specs.FaultOrder.{least_kind}
 use Rattle.mpslp_types.specs.declared.faults.FaultKind.{FaultKind}
-use Rattle.mpslp_reading.specs.LegalLine.{legal_tests}
-use Rattle.mpslp_reading.specs.Tests.{first_held}
-use Rattle.mpslp_reading.proofs.FieldLemmas.{value-decimal}
+use Rattle.mpslp_lines.specs.LegalLine.{legal_tests}
+use Rattle.mpslp_lines.specs.FaultTests.{first_held}
+use Rattle.mpslp_lines.proofs.FieldLemmas.{value-decimal}
 use Rattle.mpslp_lp.specs.Line.{outside_comment}
 use Rattle.mpslp_lp.specs.Token.{is_word, Token, tokens}
-use Rattle.mpslp_lp.specs.Words.{meaning_of}
+use Rattle.mpslp_lp.specs.Words.{class_of}
 use Rattle.mpslp_lp.specs.Terminal.{Terminal, TerminalAt, word_terminal, terminal_of, line_terminals}
 use Rattle.mpslp_lp.specs.Terminal.Terminal.{Name, Number}
-use Rattle.mpslp_lp.specs.OwnFault.{word_fault, token_fault, own_fault}
+use Rattle.mpslp_lp.specs.LexicalFault.{word_fault, token_fault, lexical_fault}
 use Rattle.mpslp_lp.specs.LpText.{sound_terminals}
 use Rattle.mpslp_lp.specs.declared.tokens.TokenKind.{TokenKind}
 use Rattle.mpslp_lp.specs.declared.tokens.TokenKind.TheVariants as kinds
-use Rattle.mpslp_lp.specs.declared.words.Meaning.{Meaning}
-use Rattle.mpslp_lp.specs.declared.words.Meaning.TheVariants as meanings
+use Rattle.mpslp_lp.specs.declared.words.WordClass.{WordClass}
+use Rattle.mpslp_lp.specs.declared.words.WordClass.TheVariants as meanings
 use Rattle.mpslp_lp.proofs.NameTokens.{WordIs, AreWords, tokens-words, lp-name}
 
 abbrev pub IsSoundTerminal : Terminal → Type 0
@@ -42,12 +42,12 @@ sound-append (x ∷ xs) ys h k = (h.0, sound-append xs ys h.1 k)
 
 -- ---- a token
 
-word-sound : (text : List ℕ) (meaning : Meaning) → is_word text ≡ true → meaning_of text ≡ meaning → word_fault text meaning ≡ None → IsSoundTerminal (word_terminal text meaning)
+word-sound : (text : List ℕ) (word_class : WordClass) → is_word text ≡ true → class_of text ≡ word_class → word_fault text word_class ≡ None → IsSoundTerminal (word_terminal text word_class)
 word-sound text meanings.Name word is h = lp-name text word is h
 word-sound text _ word is h = tt
 
 token-sound : (kind : TokenKind) (text : List ℕ) → WordIs kind text → token_fault kind text ≡ None → IsSoundTerminal (terminal_of kind text)
-token-sound kinds.Word text word h = word-sound text (meaning_of text) word refl h
+token-sound kinds.Word text word h = word-sound text (class_of text) word refl h
 token-sound kinds.Number text word h = value-decimal text
 token-sound _ text word h = tt
 
@@ -72,7 +72,7 @@ tokens-sound n (token ∷ found) w h =
     by None more e = (refl, e)
     by (Some kind) more e = cc
 
-pub line-sound : (line : ℕ × List ℕ) → own_fault line.1 ≡ None → AreSound (line_terminals line)
+pub line-sound : (line : ℕ × List ℕ) → lexical_fault line.1 ≡ None → AreSound (line_terminals line)
 line-sound line h = tokens-sound line.0 (tokens line.1) (tokens-words line.1) (none-least (token_faults line.1) (by (first_held (legal_tests line.1 (outside_comment line.1))) (token_faults line.1) h))
   where
     by : (legal : Option FaultKind) (found : List FaultKind) → elim legal as (λ _. Option FaultKind) [ Some kind ↦ Some kind | None ↦ least_kind found ] ≡ None → least_kind found ≡ None
@@ -81,9 +81,9 @@ line-sound line h = tokens-sound line.0 (tokens line.1) (tokens-words line.1) (n
 
 pub text-sound : (numbered : List (ℕ × List ℕ)) → AreSound (sound_terminals numbered)
 text-sound [] = tt
-text-sound (line ∷ more) = by (own_fault line.1) refl (text-sound more)
+text-sound (line ∷ more) = by (lexical_fault line.1) refl (text-sound more)
   where
-    by : (o : Option FaultKind) → own_fault line.1 ≡ o → AreSound (sound_terminals more)
+    by : (o : Option FaultKind) → lexical_fault line.1 ≡ o → AreSound (sound_terminals more)
         → AreSound (elim o as (λ _. List TerminalAt) [ Some kind ↦ [] | None ↦ line_terminals line ++ sound_terminals more ])
     by (Some kind) e k = tt
     by None e k = sound-append (line_terminals line) (sound_terminals more) (line-sound line e) k

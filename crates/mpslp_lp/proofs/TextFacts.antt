@@ -3,15 +3,15 @@ use Rattle.std.proofs.Common.{◌≡◌, refl, sym, ap, subst, ◌∙◌, ℕ, z
 use Rattle.std.specs.Prelude.{is_some}
 use Rattle.std.specs.List.{list_all}
 use Rattle.std.proofs.lemmas.List.Folds.{list_all-append}
-use Rattle.mpslp_builder.specs.Declaration.{Declarations, Draft, adding_all}
+use Rattle.mpslp_builder.specs.Declaration.{Declarations, Draft, with_declarations}
 use Rattle.mpslp_builder.specs.Refusal.{refusals_in_turn}
 use Rattle.mpslp_types.specs.declared.faults.Fault.{Fault}
 use Rattle.mpslp_types.proofs.BoolLemmas.{both_so}
-use Rattle.mpslp_builder.proofs.MadeDrafts.{adding_all-append, refusals_in_turn-append}
+use Rattle.mpslp_builder.proofs.MadeDrafts.{with_declarations-append, refusals_in_turn-append}
 use Rattle.mpslp_builder.proofs.RefusalLemmas.{join_none}
-use Rattle.mpslp_lp.specs.Rules.{Reading, Outcome, phrases, made_by}
-use Rattle.mpslp_lp.specs.Rules.Reading.{Reads, Refuses, Unfinished}
-use Rattle.mpslp_lp.specs.Rules.Step.{Goes, Ends}
+use Rattle.mpslp_lp.specs.Rules.{Parsed, Outcome, phrases, made_by}
+use Rattle.mpslp_lp.specs.Rules.Parsed.{Reads, Refuses, Unfinished}
+use Rattle.mpslp_lp.specs.Rules.AfterPhrase.{Goes, Ends}
 use Rattle.mpslp_lp.specs.Rules.Outcome.{Finished, Refused, Open}
 use Rattle.mpslp_lp.specs.Terminal.{TerminalAt}
 use Rattle.mpslp_lp.specs.Point.{Point}
@@ -23,7 +23,7 @@ use Rattle.mpslp_lp.proofs.PhraseFacts.{is_lp_legal, IsSoundPoint, IsFine, phras
 
 -- the draft at the end, which has an objective
 abbrev pub IsDraftAtEnd : Draft → Declarations → Outcome Fault Draft → Type 0
-IsDraftAtEnd earlier made (Finished all) = (all ≡ adding_all earlier made) × (is_some all.objective ≡ true)
+IsDraftAtEnd earlier made (Finished all) = (all ≡ with_declarations earlier made) × (is_some all.objective ≡ true)
 IsDraftAtEnd earlier made (Refused fault) = Unit {0}
 IsDraftAtEnd earlier made Open = Unit {0}
 
@@ -35,32 +35,32 @@ pub record IsFineText (earlier : Draft) (made : Declarations) (outcome : Outcome
 nothing-fine : (earlier : Draft) (outcome : Outcome Fault Draft) → IsDraftAtEnd earlier [] outcome → IsFineText earlier [] outcome
 nothing-fine earlier outcome h = record { unrefused = refl; legal = refl; draft = h }
 
-draft-later : (earlier : Draft) (made more : Declarations) (outcome : Outcome Fault Draft) → IsDraftAtEnd (adding_all earlier made) more outcome → IsDraftAtEnd earlier (made ++ more) outcome
-draft-later earlier made more (Finished all) h = (h.0 ∙ sym (adding_all-append made more earlier), h.1)
+draft-later : (earlier : Draft) (made more : Declarations) (outcome : Outcome Fault Draft) → IsDraftAtEnd (with_declarations earlier made) more outcome → IsDraftAtEnd earlier (made ++ more) outcome
+draft-later earlier made more (Finished all) h = (h.0 ∙ sym (with_declarations-append made more earlier), h.1)
 draft-later earlier made more (Refused fault) h = tt
 draft-later earlier made more Open h = tt
 
 -- a phrase, and the text behind it
-joined-fine : (earlier next : Draft) (made more : Declarations) (outcome : Outcome Fault Draft) → next ≡ adding_all earlier made → refusals_in_turn earlier made ≡ [] → list_all is_lp_legal made ≡ true
+joined-fine : (earlier next : Draft) (made more : Declarations) (outcome : Outcome Fault Draft) → next ≡ with_declarations earlier made → refusals_in_turn earlier made ≡ [] → list_all is_lp_legal made ≡ true
     → IsFineText next more outcome → IsFineText earlier (made ++ more) outcome
 joined-fine earlier next made more outcome is unrefused legal later =
     let rest = subst (λ (d : Draft). IsFineText d more outcome) is later in
     record {
-      unrefused = refusals_in_turn-append made more earlier ∙ join_none (refusals_in_turn earlier made) (refusals_in_turn (adding_all earlier made) more) unrefused rest.unrefused;
+      unrefused = refusals_in_turn-append made more earlier ∙ join_none (refusals_in_turn earlier made) (refusals_in_turn (with_declarations earlier made) more) unrefused rest.unrefused;
       legal = list_all-append is_lp_legal made more ∙ both_so (list_all is_lp_legal made) (list_all is_lp_legal more) legal rest.legal;
       draft = draft-later earlier made more outcome rest.draft;
     }
 
 pub text-fine : (tokens : List TerminalAt) (taken : ℕ) (point : Point) → AreSound tokens → IsSoundPoint point
-    → IsFineText point.before.earlier (made_by phrase_at point taken tokens) (phrases phrase_at point taken tokens)
-text-fine [] taken point sound h = nothing-fine point.before.earlier Open tt
+    → IsFineText point.context.earlier (made_by phrase_at point taken tokens) (phrases phrase_at point taken tokens)
+text-fine [] taken point sound h = nothing-fine point.context.earlier Open tt
 text-fine (token ∷ tokens) (suc taken) point sound h = text-fine tokens taken point sound.1 h
 text-fine (token ∷ tokens) zero point sound h =
     by (phrase_at point token tokens) (phrase_at-fine point token.line token.terminal h sound.0 tokens sound.1) (λ after more s. text-fine tokens more after sound.1 s)
   where
-    by : (reading : Reading Fault Follows) → Holds (IsFine point.before.earlier) reading
-        → ((after : Point) (more : ℕ) → IsSoundPoint after → IsFineText after.before.earlier (made_by phrase_at after more tokens) (phrases phrase_at after more tokens))
-        → IsFineText point.before.earlier (elim reading as (λ _. Declarations) [
+    by : (reading : Parsed Fault Follows) → Holds (IsFine point.context.earlier) reading
+        → ((after : Point) (more : ℕ) → IsSoundPoint after → IsFineText after.context.earlier (made_by phrase_at after more tokens) (phrases phrase_at after more tokens))
+        → IsFineText point.context.earlier (elim reading as (λ _. Declarations) [
           | Reads (Goes after made) more ↦ made ++ made_by phrase_at after more tokens
           | Reads (Ends whole) more ↦ []
           | Refuses fault ↦ []
@@ -72,8 +72,8 @@ text-fine (token ∷ tokens) zero point sound h =
           | Unfinished ↦ Open
         ])
     by (Reads (Goes after made) more) fine later =
-        joined-fine point.before.earlier after.before.earlier made (made_by phrase_at after more tokens) (phrases phrase_at after more tokens) fine.drafts fine.unrefused fine.legal (later after more fine.sound)
+        joined-fine point.context.earlier after.context.earlier made (made_by phrase_at after more tokens) (phrases phrase_at after more tokens) fine.drafts fine.unrefused fine.legal (later after more fine.sound)
     by (Reads (Ends whole) more) fine later =
-        nothing-fine point.before.earlier (Finished whole) (fine.0, ap (λ (d : Draft). is_some d.objective) fine.0 ∙ fine.1)
-    by (Refuses fault) fine later = nothing-fine point.before.earlier (Refused fault) tt
-    by Unfinished fine later = nothing-fine point.before.earlier Open tt
+        nothing-fine point.context.earlier (Finished whole) (fine.0, ap (λ (d : Draft). is_some d.objective) fine.0 ∙ fine.1)
+    by (Refuses fault) fine later = nothing-fine point.context.earlier (Refused fault) tt
+    by Unfinished fine later = nothing-fine point.context.earlier Open tt

@@ -9,40 +9,40 @@ use Rattle.mpslp_types.specs.Name.{same_bytes}
 use Rattle.mpslp_types.specs.declared.faults.BuildFault.{BuildFault}
 use Rattle.mpslp_types.specs.declared.faults.FaultKind.{FaultKind}
 use Rattle.mpslp_builder.specs.Declaration.{Declarations, Draft}
-use Rattle.mpslp_reading.specs.Declaring.{kind_of_refusal}
-use Rattle.mpslp_reading.specs.LineAnswer.{LineResult}
-use Rattle.mpslp_reading.specs.declared.errors.LineError.TheVariants.{Fault, OutOfMemory}
+use Rattle.mpslp_lines.specs.Declaring.{kind_of_build_fault}
+use Rattle.mpslp_lines.specs.LineAnswer.{LineResult}
+use Rattle.mpslp_lines.specs.declared.errors.LineError.TheVariants.{Fault, OutOfMemory}
 use Rattle.mpslp_lp.specs.Terminal.{Terminal}
 use Rattle.mpslp_lp.specs.Phrase.{terminal_fault}
 use Rattle.mpslp_lp.specs.Items.{one}
-use Rattle.mpslp_lp.specs.declared.before.Before.{Before}
+use Rattle.mpslp_lp.specs.declared.context.Context.{Context}
 use Rattle.mpslp_lp.specs.declared.states.Place.{Place}
 use Rattle.mpslp_lp.specs.declared.states.State.TheVariants.{Between}
-use Rattle.mpslp_lp.specs.Taken.{Goes, Refuses, refused, completed}
-use Rattle.mpslp_lp.specs.Declares.{DeclaresUnless, TokenResult, Takes, answer_at}
+use Rattle.mpslp_lp.specs.AfterToken.{Goes, Refuses, refuse, declare_unless_refused}
+use Rattle.mpslp_lp.specs.Declares.{DeclaresUnless, TokenResult, TakesToken, answer_at}
 
 -- ---- declarations
 
-told-kind : (before : Before) (terminal : Terminal) (refusal : BuildFault) (kind : FaultKind) → terminal_fault before terminal ≡ None
-    → ◌≡◌ {A = Option FaultKind} (Some (kind_of_refusal refusal)) (Some kind) → refused before terminal (kind_of_refusal refusal) ≡ Refuses kind
-told-kind before terminal refusal kind none told =
-    let same : kind_of_refusal refusal ≡ kind = cc in
-    ap (λ (o : Option FaultKind). Refuses (unwrap_or o (kind_of_refusal refusal))) none ∙ ap (λ (k : FaultKind). Refuses k) same
+told-kind : (context : Context) (terminal : Terminal) (refusal : BuildFault) (kind : FaultKind) → terminal_fault context terminal ≡ None
+    → ◌≡◌ {A = Option FaultKind} (Some (kind_of_build_fault refusal)) (Some kind) → refuse context terminal (kind_of_build_fault refusal) ≡ Refuses kind
+told-kind context terminal refusal kind none told =
+    let same : kind_of_build_fault refusal ≡ kind = cc in
+    ap (λ (o : Option FaultKind). Refuses (unwrap_or o (kind_of_build_fault refusal))) none ∙ ap (λ (k : FaultKind). Refuses k) same
 
 -- a token that completes declarations
-pub completes : (before : Before) (later : Draft) (terminal : Terminal) (refusals : List BuildFault) (place : Place) (made : Declarations) (answer : LineResult) (result : TokenResult)
-    → terminal_fault before terminal ≡ None → result ≡ answer_at place answer → DeclaresUnless refusals before.earlier made answer later
-    → Takes (completed before terminal refusals place made) result (record before { earlier = later })
-completes before later terminal refusals place made answer result none is declared =
-    subst (λ (r : TokenResult). Takes (completed before terminal refusals place made) r (record before { earlier = later })) (sym is) (by answer refusals declared)
+pub completes : (context : Context) (later : Draft) (terminal : Terminal) (refusals : List BuildFault) (place : Place) (made : Declarations) (answer : LineResult) (result : TokenResult)
+    → terminal_fault context terminal ≡ None → result ≡ answer_at place answer → DeclaresUnless refusals context.earlier made answer later
+    → TakesToken (declare_unless_refused context terminal refusals place made) result (record context { earlier = later })
+completes context later terminal refusals place made answer result none is declared =
+    subst (λ (r : TokenResult). TakesToken (declare_unless_refused context terminal refusals place made) r (record context { earlier = later })) (sym is) (by answer refusals declared)
   where
-    by : (a : LineResult) (faults : List BuildFault) → DeclaresUnless faults before.earlier made a later
-        → Takes (completed before terminal faults place made) (answer_at place a) (record before { earlier = later })
+    by : (a : LineResult) (faults : List BuildFault) → DeclaresUnless faults context.earlier made a later
+        → TakesToken (declare_unless_refused context terminal faults place made) (answer_at place a) (record context { earlier = later })
     by (Ok u) faults h =
-        ap (λ (fs : List BuildFault). completed before terminal fs place made) h.0
-        ∙ ap (λ (d : Draft). Goes (record before { earlier = d }) (Between place)) (sym h.1)
+        ap (λ (fs : List BuildFault). declare_unless_refused context terminal fs place made) h.0
+        ∙ ap (λ (d : Draft). Goes (record context { earlier = d }) (Between place)) (sym h.1)
     by (Err (Fault kind)) [] h = cc
-    by (Err (Fault kind)) (refusal ∷ more) h = told-kind before terminal refusal kind none h
+    by (Err (Fault kind)) (refusal ∷ more) h = told-kind context terminal refusal kind none h
     by (Err OutOfMemory) faults h = tt
 
 -- ---- terms

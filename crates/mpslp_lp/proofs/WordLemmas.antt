@@ -8,28 +8,28 @@ use Rattle.std.proofs.Math.Dec.{leb}
 use Rattle.std.specs.Option.{option_map_or}
 use Rattle.mpslp_types.specs.Name.{same_bytes, lower_byte, reserved_words, is_reserved}
 use Rattle.mpslp_builder.proofs.CoefficientLemmas.{same_bytes-true}
-use Rattle.mpslp_lp.specs.Words.{word_meanings, meaning_of, reserved_beginnings, begins_reserved, may_be_reserved}
-use Rattle.mpslp_lp.specs.declared.words.Meaning.{Meaning}
-use Rattle.mpslp_lp.specs.declared.words.Meaning.TheVariants.{Name}
+use Rattle.mpslp_lp.specs.Words.{word_classes, class_of, reserved_beginnings, begins_reserved, may_be_reserved}
+use Rattle.mpslp_lp.specs.declared.words.WordClass.{WordClass}
+use Rattle.mpslp_lp.specs.declared.words.WordClass.TheVariants.{Name}
 
-pub words-reserved : map (λ (entry : List ℕ × Meaning). entry.0) word_meanings ≡ reserved_words
+pub words-reserved : map (λ (entry : List ℕ × WordClass). entry.0) word_classes ≡ reserved_words
 words-reserved = refl
 
-none-found : (table : List (List ℕ × Meaning)) (lower : List ℕ) → list_any (same_bytes lower) (map (λ (entry : List ℕ × Meaning). entry.0) table) ≡ false
-    → find (λ (entry : List ℕ × Meaning). same_bytes lower entry.0) table ≡ None
+none-found : (table : List (List ℕ × WordClass)) (lower : List ℕ) → list_any (same_bytes lower) (map (λ (entry : List ℕ × WordClass). entry.0) table) ≡ false
+    → find (λ (entry : List ℕ × WordClass). same_bytes lower entry.0) table ≡ None
 none-found [] lower h = refl
 none-found (entry ∷ table) lower h = by (same_bytes lower entry.0) h (none-found table lower)
   where
-    by : (b : Bool) → (b || list_any (same_bytes lower) (map (λ (e : List ℕ × Meaning). e.0) table)) ≡ false
-        → (list_any (same_bytes lower) (map (λ (e : List ℕ × Meaning). e.0) table) ≡ false → find (λ (e : List ℕ × Meaning). same_bytes lower e.0) table ≡ None)
-        → cond b (Some entry) (find (λ (e : List ℕ × Meaning). same_bytes lower e.0) table) ≡ None
+    by : (b : Bool) → (b || list_any (same_bytes lower) (map (λ (e : List ℕ × WordClass). e.0) table)) ≡ false
+        → (list_any (same_bytes lower) (map (λ (e : List ℕ × WordClass). e.0) table) ≡ false → find (λ (e : List ℕ × WordClass). same_bytes lower e.0) table ≡ None)
+        → cond b (Some entry) (find (λ (e : List ℕ × WordClass). same_bytes lower e.0) table) ≡ None
     by true e later = cc
     by false e later = later e
 
 -- a word that is not reserved is a name
-pub meaning-name : (word : List ℕ) → is_reserved word ≡ false → meaning_of word ≡ Name
-meaning-name word h =
-    ap (λ (o : Option (List ℕ × Meaning)). option_map_or (λ (entry : List ℕ × Meaning). entry.1) o Name) (none-found word_meanings (map lower_byte word) h)
+pub word_class-name : (word : List ℕ) → is_reserved word ≡ false → class_of word ≡ Name
+word_class-name word h =
+    ap (λ (o : Option (List ℕ × WordClass)). option_map_or (λ (entry : List ℕ × WordClass). entry.1) o Name) (none-found word_classes (map lower_byte word) h)
 
 -- ---- words that are longer than any reserved one
 
@@ -53,8 +53,8 @@ none-long (w ∷ words) most word h longer = by (leb (length w) most) refl h (λ
     by false e rest later = cc
 
 -- no reserved word has over 8 bytes
-meaning-long : (word : List ℕ) → 8 < length word → meaning_of word ≡ Name
-meaning-long word longer = meaning-name word (none-long reserved_words 8 (map lower_byte word) refl (subst (λ (n : ℕ). 8 < n) (sym (length-map word lower_byte)) longer))
+word_class-long : (word : List ℕ) → 8 < length word → class_of word ≡ Name
+word_class-long word longer = word_class-name word (none-long reserved_words 8 (map lower_byte word) refl (subst (λ (n : ℕ). 8 < n) (sym (length-map word lower_byte)) longer))
 
 -- ---- words that begin with other letters than reserved ones
 
@@ -102,11 +102,11 @@ none-single ((letter ∷ next ∷ word) ∷ words) first h = by (nat_eq first le
     by b false all later = cc
 
 -- a word that is too long for a reserved one, or begins with other letters, is a name
-pub meaning-other : (word : List ℕ) → may_be_reserved word ≡ false → meaning_of word ≡ Name
-meaning-other [] h = refl
-meaning-other (first ∷ []) h = meaning-name (first ∷ []) (none-single reserved_words (lower_byte first) refl)
-meaning-other (first ∷ second ∷ rest) h = by (nat_le (length (first ∷ second ∷ rest)) 8) refl h
+pub word_class-other : (word : List ℕ) → may_be_reserved word ≡ false → class_of word ≡ Name
+word_class-other [] h = refl
+word_class-other (first ∷ []) h = word_class-name (first ∷ []) (none-single reserved_words (lower_byte first) refl)
+word_class-other (first ∷ second ∷ rest) h = by (nat_le (length (first ∷ second ∷ rest)) 8) refl h
   where
-    by : (b : Bool) → nat_le (length (first ∷ second ∷ rest)) 8 ≡ b → (b && begins_reserved first second) ≡ false → meaning_of (first ∷ second ∷ rest) ≡ Name
-    by true e none = meaning-name (first ∷ second ∷ rest) (none-begins reserved_words reserved_beginnings (lower_byte first) (lower_byte second) (map lower_byte rest) refl none)
-    by false e none = meaning-long (first ∷ second ∷ rest) (leb-false (length (first ∷ second ∷ rest)) 8 e)
+    by : (b : Bool) → nat_le (length (first ∷ second ∷ rest)) 8 ≡ b → (b && begins_reserved first second) ≡ false → class_of (first ∷ second ∷ rest) ≡ Name
+    by true e none = word_class-name (first ∷ second ∷ rest) (none-begins reserved_words reserved_beginnings (lower_byte first) (lower_byte second) (map lower_byte rest) refl none)
+    by false e none = word_class-long (first ∷ second ∷ rest) (leb-false (length (first ∷ second ∷ rest)) 8 e)

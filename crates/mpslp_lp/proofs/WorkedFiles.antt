@@ -5,7 +5,7 @@ use Rattle.std.specs.List.{list_all, flat_map}
 use Rattle.std.specs.Fmt.{digits}
 use Rattle.std.specs.FinMap as maps
 use Rattle.mpslp_decimal.specs.Decimal.{Number, trailing_zeros, zero_number}
-use Rattle.mpslp_core.specs.Model.{CoefficientKey, Row, Column, LinearModel}
+use Rattle.mpslp_model_core.specs.Model.{CoefficientKey, Row, Column, LinearModel}
 use Rattle.mpslp_builder.specs.Declaration.{Draft, empty_draft, draft_of}
 use Rattle.mpslp_builder.specs.Consistency.{has_objective}
 use Rattle.mpslp_builder.specs.Refusal.{refusals_in_turn}

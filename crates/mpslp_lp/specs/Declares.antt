@@ -1,35 +1,35 @@
 -- What the code answers of declarations that a token completes, and of a token.
 use Rattle.std.specs.Prelude.{◌≡◌, nat_lt, if◌then◌else◌, ℕ, List, [], ◌∷◌, ◌++◌, true, false, Option, Some, Result, Ok, Err, None}
 use Rattle.std.specs.Option.{option_map}
-use Rattle.mpslp_builder.specs.Declaration.{Declarations, Draft, adding_all, bounds_declared}
-use Rattle.mpslp_core.specs.Lists.{head_of}
+use Rattle.mpslp_builder.specs.Declaration.{Declarations, Draft, with_declarations, bounds_declared}
+use Rattle.mpslp_model_core.specs.Lists.{head_of}
 use Rattle.mpslp_builder.specs.Refusal.{refusals_in_turn, bounds_refusals}
 use Rattle.mpslp_types.specs.declared.faults.BuildFault.{BuildFault}
 use Rattle.mpslp_types.specs.declared.kinds.Limit.{Limit}
-use Rattle.mpslp_reading.specs.Declaring.{kind_of_refusal}
-use Rattle.mpslp_reading.specs.LineAnswer.{LineResult}
-use Rattle.mpslp_reading.specs.declared.errors.LineError.{LineError}
-use Rattle.mpslp_reading.specs.declared.errors.LineError.TheVariants.{Fault, OutOfMemory}
+use Rattle.mpslp_lines.specs.Declaring.{kind_of_build_fault}
+use Rattle.mpslp_lines.specs.LineAnswer.{LineResult}
+use Rattle.mpslp_lines.specs.declared.errors.LineError.{LineError}
+use Rattle.mpslp_lines.specs.declared.errors.LineError.TheVariants.{Fault, OutOfMemory}
 use Rattle.std.specs.List.{list_any}
 use Rattle.mpslp_decimal.specs.Decimal.{Number}
 use Rattle.mpslp_types.specs.Name.{same_bytes}
 use Rattle.mpslp_types.specs.declared.faults.FaultKind.TheVariants.{DuplicateEntry}
 use Rattle.mpslp_lp.specs.PartialRow.{PartialRow}
-use Rattle.mpslp_lp.specs.declared.before.Before.{Before}
+use Rattle.mpslp_lp.specs.declared.context.Context.{Context}
 use Rattle.mpslp_lp.specs.declared.states.Place.{Place}
 use Rattle.mpslp_lp.specs.declared.states.State.{State}
 use Rattle.mpslp_lp.specs.declared.states.State.TheVariants.{Between}
 use Rattle.mpslp_types.specs.FaultOrder.{kind_rank, least_kind}
 use Rattle.mpslp_types.specs.declared.faults.FaultKind.{FaultKind}
-use Rattle.mpslp_lp.specs.Taken.{Taken}
-use Rattle.mpslp_lp.specs.Taken.Taken.{Goes, Refuses}
+use Rattle.mpslp_lp.specs.AfterToken.{AfterToken}
+use Rattle.mpslp_lp.specs.AfterToken.AfterToken.{Goes, Refuses}
 
 -- ---- declarations
 
 -- Declarations that have these refusals are made where they have none, or the first refusal is told, or there was no memory.
 abbrev pub DeclaresUnless : List BuildFault → Draft → Declarations → LineResult → Draft → Type 0
-DeclaresUnless refusals earlier made (Ok _) later = (refusals ≡ []) × (later ≡ adding_all earlier made)
-DeclaresUnless refusals earlier made (Err (Fault kind)) later = option_map kind_of_refusal (head_of refusals) ≡ Some kind
+DeclaresUnless refusals earlier made (Ok _) later = (refusals ≡ []) × (later ≡ with_declarations earlier made)
+DeclaresUnless refusals earlier made (Err (Fault kind)) later = option_map kind_of_build_fault (head_of refusals) ≡ Some kind
 DeclaresUnless refusals earlier made (Err OutOfMemory) later = Unit {0}
 
 -- one after another
@@ -44,7 +44,7 @@ DeclaresBounds earlier column lower upper answer later =
 -- the sides of a column, after other declarations of it
 abbrev pub DeclaresSides : Draft → Declarations → List ℕ → Option Limit → Option Limit → LineResult → Draft → Type 0
 DeclaresSides earlier front column lower upper answer later =
-    DeclaresUnless (bounds_refusals (adding_all earlier front) column lower upper) earlier (front ++ bounds_declared column lower upper) answer later
+    DeclaresUnless (bounds_refusals (with_declarations earlier front) column lower upper) earlier (front ++ bounds_declared column lower upper) answer later
 
 -- ---- terms of a row
 
@@ -61,10 +61,10 @@ abbrev pub TokenResult : Type 0
 TokenResult = Result State LineError
 
 -- The token makes what it makes, and then this stands before; or it makes the fault; or there was no memory.
-abbrev pub Takes : Taken → TokenResult → Before → Type 0
-Takes taken (Ok state) after = taken ≡ Goes after state
-Takes taken (Err (Fault kind)) after = taken ≡ Refuses kind
-Takes taken (Err OutOfMemory) after = Unit {0}
+abbrev pub TakesToken : AfterToken → TokenResult → Context → Type 0
+TakesToken taken (Ok state) after = taken ≡ Goes after state
+TakesToken taken (Err (Fault kind)) after = taken ≡ Refuses kind
+TakesToken taken (Err OutOfMemory) after = Unit {0}
 
 -- a phrase begins where declarations were made
 abbrev pub answer_at : Place → LineResult → TokenResult

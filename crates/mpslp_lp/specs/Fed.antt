@@ -4,13 +4,13 @@ use Rattle.std.specs.List.{enumerate_from}
 use Rattle.mpslp_builder.specs.Declaration.{Draft}
 use Rattle.mpslp_types.specs.declared.faults.Fault.{Fault}
 use Rattle.mpslp_model.specs.CompleteLines.{complete_lines}
-use Rattle.mpslp_reading.specs.Pieces.{IsFed}
-use Rattle.mpslp_reading.specs.declared.piece_reader.PieceReader.{PieceReader}
+use Rattle.mpslp_lines.specs.Pieces.{IsFed}
+use Rattle.mpslp_lines.specs.declared.piece_reader.PieceReader.{PieceReader}
 use Rattle.mpslp_lp.specs.Rules.{Outcome}
 use Rattle.mpslp_lp.specs.Rules.Outcome.{Refused}
 use Rattle.mpslp_lp.specs.LpText.{lines_say}
-use Rattle.mpslp_lp.specs.ReadingLines.{is_at_end, read_from}
-use Rattle.mpslp_lp.specs.declared.before.Before.{Before}
+use Rattle.mpslp_lp.specs.LineByLine.{is_at_end, read_from}
+use Rattle.mpslp_lp.specs.declared.context.Context.{Context}
 use Rattle.mpslp_lp.specs.declared.line_reader.LineReader.{LineReader}
 use Rattle.mpslp_lp.specs.declared.states.State.{State}
 
@@ -28,12 +28,12 @@ IsFaultOfComplete bytes fault = IsFaultOfLines (complete_lines bytes) fault
 
 -- Lines were read from the first on, and none has a fault: whatever lines follow, they decide from what stands before them,
 -- the state that the lines led to, and the number of the next line.
-pub record LedTo (text : List (List ℕ)) (before : Before) (state : State) (number : ℕ) : Type 0 where
+pub record LedTo (text : List (List ℕ)) (context : Context) (state : State) (number : ℕ) : Type 0 where
   pub counted : number ≤ 2 ^ 64 - 1
-  pub decides : (more : List (List ℕ)) → lines_outcome (text ++ more) ≡ read_from before state (enumerate_from number more)
+  pub decides : (more : List (List ℕ)) → lines_outcome (text ++ more) ≡ read_from context state (enumerate_from number more)
 
 abbrev pub HasRead : LineReader → List (List ℕ) → Type 0
-HasRead reader text = LedTo text reader.before reader.state reader.number
+HasRead reader text = LedTo text reader.context reader.state reader.number
 
 -- the line of `end` was read
 abbrev pub is_ended : LineReader → Bool

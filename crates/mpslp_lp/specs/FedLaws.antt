@@ -4,15 +4,15 @@ use Rattle.std.specs.Prelude.{not, is_some, Option, Some, None}
 use Rattle.std.specs.List.{enumerate_from}
 use Rattle.std.specs.Str.Lines.{lines}
 use Rattle.mpslp_types.specs.declared.faults.Fault.{Fault}
-use Rattle.mpslp_model.specs.CompleteLines.{unfinished}
+use Rattle.mpslp_model.specs.CompleteLines.{open_tail}
 use Rattle.mpslp_model.proofs.CompleteLineLemmas.{lines-more}
-use Rattle.mpslp_reading.specs.declared.piece_reader.PieceReader.{PieceReader}
+use Rattle.mpslp_lines.specs.declared.piece_reader.PieceReader.{PieceReader}
 use Rattle.mpslp_lp.specs.Rules.Outcome.{Finished, Refused}
 use Rattle.mpslp_lp.specs.FirstFault.{fault_of, IsFirstLpFault}
-use Rattle.mpslp_lp.specs.Taking.{at_end}
-use Rattle.mpslp_lp.specs.ReadingLines.{is_at_end, read_from}
+use Rattle.mpslp_lp.specs.TokenStep.{at_end}
+use Rattle.mpslp_lp.specs.LineByLine.{is_at_end, read_from}
 use Rattle.mpslp_lp.specs.Fed.{lines_outcome, IsFaultOfLines, IsFaultOfComplete, HasRead, is_ended, IsFedAll}
-use Rattle.mpslp_lp.specs.declared.before.Before.{Before}
+use Rattle.mpslp_lp.specs.declared.context.Context.{Context}
 use Rattle.mpslp_lp.specs.declared.line_reader.LineReader.{LineReader}
 use Rattle.mpslp_lp.specs.declared.states.State.{State}
 use Rattle.mpslp_lp.specs.declared.states.State.TheVariants.{AfterEnd}
@@ -20,18 +20,18 @@ use Rattle.mpslp_lp.specs.declared.states.State.TheVariants.{AfterEnd}
 -- ---- lines behind that of `end`
 
 -- they are not looked at
-pub ended-reads : (before : Before) (state : State) (more : List (ℕ × List ℕ)) → is_at_end state ≡ true → read_from before state more ≡ Finished before.earlier
-ended-reads before AfterEnd [] h = refl
-ended-reads before AfterEnd (line ∷ more) h = refl
-ended-reads before _ more h = cc
+pub ended-reads : (context : Context) (state : State) (more : List (ℕ × List ℕ)) → is_at_end state ≡ true → read_from context state more ≡ Finished context.earlier
+ended-reads context AfterEnd [] h = refl
+ended-reads context AfterEnd (line ∷ more) h = refl
+ended-reads context _ more h = cc
 
 pub read-behind_end : (reader : LineReader) (text more : List (List ℕ)) → HasRead reader text → is_ended reader ≡ true → HasRead reader (text ++ more)
 read-behind_end reader text more led ended = record {
   counted = led.counted;
   decides = λ rest.
       ap lines_outcome (append_assoc text more rest) ∙ led.decides (more ++ rest)
-      ∙ ended-reads reader.before reader.state (enumerate_from reader.number (more ++ rest)) ended
-      ∙ sym (ended-reads reader.before reader.state (enumerate_from reader.number rest) ended);
+      ∙ ended-reads reader.context reader.state (enumerate_from reader.number (more ++ rest)) ended
+      ∙ sym (ended-reads reader.context reader.state (enumerate_from reader.number rest) ended);
 }
 
 -- ---- the first fault
@@ -46,7 +46,7 @@ lines_fault-is_first bytes fault h = ap fault_of (ap lines_outcome (sym (append-
 
 -- The first fault of the lines that are complete is that of the whole text, whatever follows.
 pub complete-is_first : (bytes more : List ℕ) (fault : Fault) → IsFaultOfComplete bytes fault → IsFirstLpFault (bytes ++ more) fault
-complete-is_first bytes more fault h = ap fault_of (ap lines_outcome (lines-more bytes more) ∙ h (lines (unfinished bytes ++ more)))
+complete-is_first bytes more fault h = ap fault_of (ap lines_outcome (lines-more bytes more) ∙ h (lines (open_tail bytes ++ more)))
 
 -- ---- a reader
 
@@ -56,12 +56,12 @@ fed-works None bytes h = absurd h
 fed-works (Some reader) bytes h = refl
 
 -- lines that were read have no fault
-pub never_refused : (before : Before) (state : State) (fault : Fault) → at_end before state ≡ Refused fault → ⊥
-never_refused before AfterEnd fault h = cc
-never_refused before _ fault h = cc
+pub never_refused : (context : Context) (state : State) (fault : Fault) → at_end context state ≡ Refused fault → ⊥
+never_refused context AfterEnd fault h = cc
+never_refused context _ fault h = cc
 
 -- No line that is complete in the bytes that it was fed has a fault.
 pub fed-is_clean : (reader : Option (PieceReader LineReader)) (bytes : List ℕ) (fault : Fault) → IsFedAll reader bytes → IsFaultOfComplete bytes fault → ⊥
 fed-is_clean None bytes fault h found = h
 fed-is_clean (Some reader) bytes fault h found =
-    never_refused reader.lines.before reader.lines.state fault (sym (h.complete.decides []) ∙ found [])
+    never_refused reader.lines.context reader.lines.state fault (sym (h.complete.decides []) ∙ found [])

@@ -6,15 +6,15 @@ use Rattle.mpslp_types.specs.declared.kinds.Sense.TheVariants as senses
 use Rattle.mpslp_types.specs.declared.faults.Fault.{Fault}
 use Rattle.mpslp_types.specs.declared.faults.FaultKind.TheVariants.{BadToken}
 use Rattle.mpslp_lp.specs.Rules.{◌>>=◌, next, ahead, Outcome, phrases, made_by}
-use Rattle.mpslp_lp.specs.Rules.Reading.{Reads}
-use Rattle.mpslp_lp.specs.Rules.Step.{Ends}
+use Rattle.mpslp_lp.specs.Rules.Parsed.{Reads}
+use Rattle.mpslp_lp.specs.Rules.AfterPhrase.{Ends}
 use Rattle.mpslp_lp.specs.Words.{section_of}
 use Rattle.mpslp_lp.specs.Terminal.{TerminalAt}
 use Rattle.mpslp_lp.specs.Terminal.Terminal.{Opens, Name, Sign, Compares}
-use Rattle.mpslp_lp.specs.Point.{section_fault, opened_with, Point, start}
-use Rattle.mpslp_lp.specs.declared.before.Before.{Before}
+use Rattle.mpslp_lp.specs.Point.{section_fault, with_section, Point, start}
+use Rattle.mpslp_lp.specs.declared.context.Context.{Context}
 use Rattle.mpslp_lp.specs.declared.states.Place.{Place}
-use Rattle.mpslp_lp.specs.Phrase.{Rule, Follows, fails, refuses, goes_to, declares}
+use Rattle.mpslp_lp.specs.Phrase.{PhraseRule, Follows, fails, refuses, goes_to, declares}
 use Rattle.mpslp_lp.specs.declared.states.Place.TheVariants.{AtStart, BeforeItems, InObjective, BetweenRows, InRow, InBounds, InGenerals, InBinaries, InSemis}
 use Rattle.mpslp_lp.specs.declared.states.LastWord.{LastWord}
 use Rattle.mpslp_lp.specs.declared.states.LastWord.TheVariants.{To, That, Continuous}
@@ -28,9 +28,9 @@ use Rattle.mpslp_lp.specs.declared.words.SectionWord.TheVariants.{Minimize, Maxi
 -- ---- sections
 
 -- `end` is the last token of its line
-abbrev pub line_end : Before → ℕ → Rule Follows
-line_end before line [] = Reads (Ends before.earlier) 0
-line_end before line (token ∷ tokens) = if token.line == line then refuses before token BadToken tokens else Reads (Ends before.earlier) 0
+abbrev pub line_end : Context → ℕ → PhraseRule Follows
+line_end context line [] = Reads (Ends context.earlier) 0
+line_end context line (token ∷ tokens) = if token.line == line then refuses context token BadToken tokens else Reads (Ends context.earlier) 0
 
 -- the last word of a section's opening, and where it leads
 abbrev pub last_word_text : LastWord → List ℕ
@@ -47,37 +47,37 @@ opened_by Continuous = InSemis
 abbrev pub is_last_word : LastWord → List ℕ → Bool
 is_last_word wanted word = same_bytes (map lower_byte word) (last_word_text wanted)
 
-abbrev pub last_word : Before → LastWord → TerminalAt → Rule Follows
-last_word before wanted token = elim token.terminal [
-  | Name word ↦ if is_last_word wanted word then goes_to before (opened_by wanted) [] else refuses before token BadToken
-  | _ ↦ refuses before token BadToken
+abbrev pub last_word : Context → LastWord → TerminalAt → PhraseRule Follows
+last_word context wanted token = elim token.terminal [
+  | Name word ↦ if is_last_word wanted word then goes_to context (opened_by wanted) [] else refuses context token BadToken
+  | _ ↦ refuses context token BadToken
 ]
 
 -- after `semi`: perhaps `- continuous`
-abbrev pub semi_from : Before → TerminalAt → Rule Follows
-semi_from before token = elim token.terminal [
-  | Sign minus ↦ if minus then (next >>= λ dash. next >>= last_word before Continuous) else goes_to before InSemis []
-  | _ ↦ goes_to before InSemis []
+abbrev pub semi_from : Context → TerminalAt → PhraseRule Follows
+semi_from context token = elim token.terminal [
+  | Sign minus ↦ if minus then (next >>= λ dash. next >>= last_word context Continuous) else goes_to context InSemis []
+  | _ ↦ goes_to context InSemis []
 ]
 
-abbrev pub section_start : Before → TerminalAt → SectionWord → Rule Follows
-section_start before token Minimize = objective before senses.Minimize
-section_start before token Maximize = objective before senses.Maximize
-section_start before token Rows = goes_to before BetweenRows []
-section_start before token Subject = next >>= last_word before To
-section_start before token Such = next >>= last_word before That
-section_start before token Bounds = goes_to before (InBounds None) []
-section_start before token Generals = goes_to before InGenerals []
-section_start before token Binaries = goes_to before InBinaries []
-section_start before token Semi = ahead >>= semi_from before
-section_start before token Semis = goes_to before InSemis []
-section_start before token End = line_end before token.line
+abbrev pub section_start : Context → TerminalAt → SectionWord → PhraseRule Follows
+section_start context token Minimize = objective context senses.Minimize
+section_start context token Maximize = objective context senses.Maximize
+section_start context token Rows = goes_to context BetweenRows []
+section_start context token Subject = next >>= last_word context To
+section_start context token Such = next >>= last_word context That
+section_start context token Bounds = goes_to context (InBounds None) []
+section_start context token Generals = goes_to context InGenerals []
+section_start context token Binaries = goes_to context InBinaries []
+section_start context token Semi = ahead >>= semi_from context
+section_start context token Semis = goes_to context InSemis []
+section_start context token End = line_end context token.line
 
 -- a section's word, where a section may begin
-abbrev pub section_from : Before → TerminalAt → SectionWord → Rule Follows
-section_from before token word = elim (section_fault before.opened (section_of word)) [
+abbrev pub section_from : Context → TerminalAt → SectionWord → PhraseRule Follows
+section_from context token word = elim (section_fault context.sections_seen (section_of word)) [
   | Some kind ↦ fails token kind
-  | None ↦ section_start (record before { opened = opened_with before.opened (section_of word) }) token word
+  | None ↦ section_start (record context { sections_seen = with_section context.sections_seen (section_of word) }) token word
 ]
 
 -- a section begins anywhere but within a row
@@ -87,40 +87,40 @@ may_begin_section _ = true
 
 -- ---- names in Generals, Binaries and semi-continuous columns
 
-abbrev pub listed : Place → (List ℕ → Declaration) → Before → TerminalAt → Rule Follows
-listed place kind_declared before token = elim token.terminal [
-  | Name column ↦ declares before token place (declare_column column ∷ kind_declared column ∷ [])
-  | _ ↦ refuses before token BadToken
+abbrev pub name_in_section : Place → (List ℕ → Declaration) → Context → TerminalAt → PhraseRule Follows
+name_in_section place kind_declared context token = elim token.terminal [
+  | Name column ↦ declares context token place (declare_column column ∷ kind_declared column ∷ [])
+  | _ ↦ refuses context token BadToken
 ]
 
 -- ---- the text
 
 -- the phrase that begins with a token which opens no section. Nothing but a section begins at the start
-abbrev pub phrase : Place → Before → TerminalAt → Rule Follows
-phrase AtStart before token = refuses before token BadToken
-phrase (BeforeItems name) before token = item_from before token >>= objective_item before name
-phrase (InObjective name) before token = elim token.terminal [
-  | Sign minus ↦ signed_item before minus >>= objective_item before name
-  | _ ↦ refuses before token BadToken
+abbrev pub phrase : Place → Context → TerminalAt → PhraseRule Follows
+phrase AtStart context token = refuses context token BadToken
+phrase (BeforeItems name) context token = item_from context token >>= objective_item context name
+phrase (InObjective name) context token = elim token.terminal [
+  | Sign minus ↦ signed_item context minus >>= objective_item context name
+  | _ ↦ refuses context token BadToken
 ]
-phrase BetweenRows before token = row before token
-phrase (InRow partial) before token = elim token.terminal [
-  | Sign minus ↦ signed_item before minus >>= row_item before partial
-  | Compares relation ↦ row_end before partial relation token
-  | _ ↦ refuses before token BadToken
+phrase BetweenRows context token = row context token
+phrase (InRow partial) context token = elim token.terminal [
+  | Sign minus ↦ signed_item context minus >>= row_item context partial
+  | Compares relation ↦ row_end context partial relation token
+  | _ ↦ refuses context token BadToken
 ]
-phrase (InBounds left) before token = elim token.terminal [
-  | Compares relation ↦ second_side before left relation token
-  | _ ↦ bound before token
+phrase (InBounds left) context token = elim token.terminal [
+  | Compares relation ↦ second_side context left relation token
+  | _ ↦ bound context token
 ]
-phrase InGenerals before token = listed InGenerals declare_integer before token
-phrase InBinaries before token = listed InBinaries declare_binary before token
-phrase InSemis before token = listed InSemis declare_semi before token
+phrase InGenerals context token = name_in_section InGenerals declare_integer context token
+phrase InBinaries context token = name_in_section InBinaries declare_binary context token
+phrase InSemis context token = name_in_section InSemis declare_semi context token
 
-abbrev pub phrase_at : Point → TerminalAt → Rule Follows
+abbrev pub phrase_at : Point → TerminalAt → PhraseRule Follows
 phrase_at point token = elim token.terminal [
-  | Opens word ↦ if may_begin_section point.place then section_from point.before token word else refuses point.before token BadToken
-  | _ ↦ phrase point.place point.before token
+  | Opens word ↦ if may_begin_section point.place then section_from point.context token word else refuses point.context token BadToken
+  | _ ↦ phrase point.place point.context token
 ]
 
 -- what the tokens of a text say: they come to `end`, or the first of them that makes a fault, or neither

@@ -2,13 +2,13 @@
 use Rattle.std.specs.Prelude.{ℕ, pos, Bool, true, false, not, if◌then◌else◌, List, [], ◌∷◌}
 use Rattle.mpslp_decimal.specs.Decimal.{Number as Decimal}
 use Rattle.mpslp_types.specs.declared.faults.FaultKind.TheVariants.{BadToken}
-use Rattle.mpslp_lp.specs.Rules.{passing, gives}
-use Rattle.mpslp_lp.specs.Rules.Reading.{Reads, Unfinished}
+use Rattle.mpslp_lp.specs.Rules.{after_taking, gives}
+use Rattle.mpslp_lp.specs.Rules.Parsed.{Reads, Unfinished}
 use Rattle.mpslp_lp.specs.Terminal.{TerminalAt}
 use Rattle.mpslp_lp.specs.Terminal.Terminal.{Name, Number, Sign, Colon}
-use Rattle.mpslp_lp.specs.declared.before.Before.{Before}
-use Rattle.mpslp_lp.specs.Phrase.{Rule, refuses}
-use Rattle.mpslp_lp.specs.Sides.{signed}
+use Rattle.mpslp_lp.specs.declared.context.Context.{Context}
+use Rattle.mpslp_lp.specs.Phrase.{PhraseRule, refuses}
+use Rattle.mpslp_lp.specs.Sides.{apply_sign}
 
 pub data Item : Type 0 where
   -- a coefficient, a column, and the token of its name
@@ -24,34 +24,34 @@ abbrev pub product : Bool → Bool → Bool
 product minus more = if minus then not more else more
 
 -- after signs and a number: perhaps a name
-abbrev pub number_item : (minus : Bool) → Decimal → Rule Item
+abbrev pub number_item : (minus : Bool) → Decimal → PhraseRule Item
 number_item minus value [] = Unfinished
 number_item minus value (token ∷ tokens) = elim token.terminal [
-  | Name column ↦ Reads (Term (signed minus value) column token) 1
-  | _ ↦ Reads (Lone (signed minus value) token) 0
+  | Name column ↦ Reads (Term (apply_sign minus value) column token) 1
+  | _ ↦ Reads (Lone (apply_sign minus value) token) 0
 ]
 
 -- after signs, of which minus is the product: more signs, a name, or a number and perhaps a name
-abbrev pub signed_item : Before → (minus : Bool) → Rule Item
-signed_item before minus [] = Unfinished
-signed_item before minus (token ∷ tokens) = elim token.terminal [
-  | Sign more ↦ passing 1 (signed_item before (product minus more) tokens)
-  | Name column ↦ Reads (Term (signed minus one) column token) 1
-  | Number value ↦ passing 1 (number_item minus value tokens)
-  | _ ↦ refuses before token BadToken tokens
+abbrev pub signed_item : Context → (minus : Bool) → PhraseRule Item
+signed_item context minus [] = Unfinished
+signed_item context minus (token ∷ tokens) = elim token.terminal [
+  | Sign more ↦ after_taking 1 (signed_item context (product minus more) tokens)
+  | Name column ↦ Reads (Term (apply_sign minus one) column token) 1
+  | Number value ↦ after_taking 1 (number_item minus value tokens)
+  | _ ↦ refuses context token BadToken tokens
 ]
 
 -- an item that begins with a token, its run of signs perhaps empty
-abbrev pub item_from : Before → TerminalAt → Rule Item
-item_from before token = elim token.terminal [
-  | Sign minus ↦ signed_item before minus
+abbrev pub item_from : Context → TerminalAt → PhraseRule Item
+item_from context token = elim token.terminal [
+  | Sign minus ↦ signed_item context minus
   | Name column ↦ gives (Term one column token)
   | Number value ↦ number_item false value
-  | _ ↦ refuses before token BadToken
+  | _ ↦ refuses context token BadToken
 ]
 
 -- perhaps a colon, which makes the name before it a label
-abbrev pub colon : Rule Bool
+abbrev pub colon : PhraseRule Bool
 colon [] = Unfinished
 colon (token ∷ tokens) = elim token.terminal [
   | Colon ↦ Reads true 1

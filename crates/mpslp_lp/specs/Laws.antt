@@ -3,7 +3,7 @@ use Rattle.std.specs.Prelude.{◌≡◌, ℕ, ◌+◌, ◌≤◌, ◌<◌, Bool,
 use Rattle.std.specs.List.{list_all}
 use Rattle.mpslp_types.specs.Name.{is_lp_name}
 use Rattle.mpslp_builder.specs.Declaration.{Declaration, declare_objective, declare_row, declare_column}
-use Rattle.mpslp_core.specs.Model.{LinearModel}
+use Rattle.mpslp_model_core.specs.Model.{LinearModel}
 use Rattle.mpslp_types.specs.declared.faults.Fault.{Fault}
 use Rattle.mpslp_lp.specs.Line.{has_legal_bytes}
 use Rattle.mpslp_lp.specs.Token.{Token, tokens}

@@ -2,7 +2,7 @@
 use Rattle.std.specs.Prelude.{ℕ, Bool, ◌&&◌, ◌||◌, not, ◌==◌, List}
 use Rattle.std.specs.List.{list_all, before_first}
 use Rattle.mpslp_types.specs.Name.{is_letter, is_lp_symbol, is_lp_byte}
-use Rattle.mpslp_reading.specs.LegalLine.{is_legal_byte}
+use Rattle.mpslp_lines.specs.LegalLine.{is_legal_byte}
 
 -- a blank or a tab
 abbrev pub is_blank : ℕ → Bool

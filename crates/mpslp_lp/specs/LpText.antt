@@ -2,16 +2,16 @@
 use Rattle.std.specs.Prelude.{ℕ, Bool, true, false, IsTrue, List, [], ◌∷◌, ◌++◌, Some, None}
 use Rattle.std.specs.List.{enumerate_from}
 use Rattle.std.specs.Str.Lines.{lines}
-use Rattle.mpslp_core.specs.Model.{LinearModel}
+use Rattle.mpslp_model_core.specs.Model.{LinearModel}
 use Rattle.mpslp_builder.specs.Declaration.{Declarations, Draft}
 use Rattle.mpslp_builder.specs.Meaning.{Means}
 use Rattle.mpslp_types.specs.declared.faults.Fault.{Fault}
 use Rattle.mpslp_lp.specs.Rules.{Outcome}
 use Rattle.mpslp_lp.specs.Rules.Outcome.{Finished, Refused, Open}
 use Rattle.mpslp_lp.specs.Terminal.{TerminalAt, line_terminals}
-use Rattle.mpslp_reading.specs.LineAnswer.{fault_on_line}
+use Rattle.mpslp_lines.specs.LineAnswer.{fault_on_line}
 use Rattle.mpslp_lp.specs.Grammar.{text_says, text_declares}
-use Rattle.mpslp_lp.specs.OwnFault.{own_fault}
+use Rattle.mpslp_lp.specs.LexicalFault.{lexical_fault}
 
 -- the lines with their numbers, from 1. They end by a line feed, or a carriage return and a line feed
 abbrev pub numbered_lines : List ℕ → List (ℕ × List ℕ)
@@ -20,7 +20,7 @@ numbered_lines bytes = enumerate_from 1 (lines bytes)
 -- the terminals of the lines before the first one that has a fault by itself
 abbrev pub sound_terminals : List (ℕ × List ℕ) → List TerminalAt
 sound_terminals [] = []
-sound_terminals (line ∷ more) = elim (own_fault line.1) [
+sound_terminals (line ∷ more) = elim (lexical_fault line.1) [
   | Some kind ↦ []
   | None ↦ line_terminals line ++ sound_terminals more
 ]
@@ -28,7 +28,7 @@ sound_terminals (line ∷ more) = elim (own_fault line.1) [
 -- the first line that has a fault by itself
 abbrev pub first_own_fault : List (ℕ × List ℕ) → Outcome Fault Draft
 first_own_fault [] = Open
-first_own_fault (line ∷ more) = elim (own_fault line.1) [
+first_own_fault (line ∷ more) = elim (lexical_fault line.1) [
   | Some kind ↦ Refused (fault_on_line line.0 kind)
   | None ↦ first_own_fault more
 ]

@@ -7,8 +7,8 @@ use Rattle.mpslp_types.specs.declared.faults.FaultKind.TheVariants.{BadToken}
 use Rattle.mpslp_lp.specs.Rules.{◌>>=◌, next, ahead}
 use Rattle.mpslp_lp.specs.Terminal.{TerminalAt}
 use Rattle.mpslp_lp.specs.Terminal.Terminal.{Opens, Name, Sign, Colon}
-use Rattle.mpslp_lp.specs.declared.before.Before.{Before}
-use Rattle.mpslp_lp.specs.Phrase.{Rule, Follows, refuses, declares}
+use Rattle.mpslp_lp.specs.declared.context.Context.{Context}
+use Rattle.mpslp_lp.specs.Phrase.{PhraseRule, Follows, refuses, declares}
 use Rattle.mpslp_lp.specs.declared.states.Place.TheVariants.{BeforeItems, InObjective}
 use Rattle.mpslp_lp.specs.Items.{Item, one}
 use Rattle.mpslp_lp.specs.Items.Item.{Term, Lone}
@@ -18,16 +18,16 @@ abbrev pub term_declared : List ℕ → List ℕ × Decimal → Declarations
 term_declared row term = declare_column term.0 ∷ declare_coefficient (record { row = row; column = term.0 }) term.1 ∷ []
 
 -- a number alone is the constant where an item or a section follows
-abbrev pub objective_item : Before → List ℕ → Item → Rule Follows
-objective_item before name (Term value column token) = declares before token (InObjective name) (term_declared name (column, value))
-objective_item before name (Lone value token) = elim token.terminal [
+abbrev pub objective_item : Context → List ℕ → Item → PhraseRule Follows
+objective_item context name (Term value column token) = declares context token (InObjective name) (term_declared name (column, value))
+objective_item context name (Lone value token) = elim token.terminal [
   | Sign minus ↦ constant
   | Opens word ↦ constant
-  | _ ↦ refuses before token BadToken
+  | _ ↦ refuses context token BadToken
 ]
   where
-    constant : Rule Follows
-    constant = declares before token (InObjective name) (declare_constant value ∷ [])
+    constant : PhraseRule Follows
+    constant = declares context token (InObjective name) (declare_constant value ∷ [])
 
 abbrev pub objective_declared : Sense → List ℕ → Declarations
 objective_declared sense name = declare_sense sense ∷ declare_objective name ∷ []
@@ -41,18 +41,18 @@ abbrev pub first_item_declared : Sense → List ℕ → Declarations
 first_item_declared sense column = objective_declared sense default_objective ++ term_declared default_objective (column, one)
 
 -- a name that no colon follows is the first item
-abbrev pub objective_named : Before → Sense → List ℕ → TerminalAt → Rule Follows
-objective_named before sense name second = elim second.terminal [
-  | Colon ↦ next >>= λ colon. declares before second (BeforeItems name) (objective_declared sense name)
-  | _ ↦ declares before second (InObjective default_objective) (first_item_declared sense name)
+abbrev pub objective_named : Context → Sense → List ℕ → TerminalAt → PhraseRule Follows
+objective_named context sense name second = elim second.terminal [
+  | Colon ↦ next >>= λ colon. declares context second (BeforeItems name) (objective_declared sense name)
+  | _ ↦ declares context second (InObjective default_objective) (first_item_declared sense name)
 ]
 
-abbrev pub objective_from : Before → Sense → TerminalAt → Rule Follows
-objective_from before sense token = elim token.terminal [
-  | Name name ↦ next >>= λ first. ahead >>= objective_named before sense name
-  | _ ↦ declares before token (BeforeItems default_objective) (objective_declared sense default_objective)
+abbrev pub objective_from : Context → Sense → TerminalAt → PhraseRule Follows
+objective_from context sense token = elim token.terminal [
+  | Name name ↦ next >>= λ first. ahead >>= objective_named context sense name
+  | _ ↦ declares context token (BeforeItems default_objective) (objective_declared sense default_objective)
 ]
 
 -- after the word of the objective: perhaps `name :`. Nothing is declared before, so nothing of it is refused
-abbrev pub objective : Before → Sense → Rule Follows
-objective before sense = ahead >>= objective_from before sense
+abbrev pub objective : Context → Sense → PhraseRule Follows
+objective context sense = ahead >>= objective_from context sense

@@ -1,15 +1,15 @@
 -- Terms of rows that are taken as a whole: one sign, a number if there is one, and a name.
 use Rattle.std.specs.Prelude.{◌≡◌, ◌⊎◌, ℕ, Bool, List, ◌∷◌, None, Result, Ok, Err, codes}
 use Rattle.mpslp_types.specs.Name.{IsMpsName}
-use Rattle.mpslp_reading.specs.declared.errors.LineError.{LineError}
+use Rattle.mpslp_lines.specs.declared.errors.LineError.{LineError}
 use Rattle.mpslp_lp.specs.PartialRow.{PartialRow}
 use Rattle.mpslp_lp.specs.Token.{Token}
 use Rattle.mpslp_lp.specs.Terminal.{Terminal, as_terminal}
 use Rattle.mpslp_lp.specs.Terminal.Terminal.{Sign, Name}
-use Rattle.mpslp_lp.specs.OwnFault.{token_fault}
-use Rattle.mpslp_lp.specs.ReadingLines.{take_tokens}
-use Rattle.mpslp_lp.specs.Declares.{Takes}
-use Rattle.mpslp_lp.specs.declared.before.Before.{Before}
+use Rattle.mpslp_lp.specs.LexicalFault.{token_fault}
+use Rattle.mpslp_lp.specs.LineByLine.{take_tokens}
+use Rattle.mpslp_lp.specs.Declares.{TakesToken}
+use Rattle.mpslp_lp.specs.declared.context.Context.{Context}
 use Rattle.mpslp_lp.specs.declared.states.Place.TheVariants.{InRow}
 use Rattle.mpslp_lp.specs.declared.states.State.TheVariants.{Between}
 use Rattle.mpslp_lp.specs.declared.tokens.TokenKind.TheVariants as kinds
@@ -42,6 +42,6 @@ pub record IsPlainTerm (found : List Token) (minus : Bool) (literal column : Lis
   pub term : IsUnsignedTerm behind_sign literal column more
 
 -- Where so many tokens were taken within a row, as if all of them were.
-abbrev pub TakesInRow : Before → PartialRow → List Token → Result PartialRow LineError → List Token → Type 0
-TakesInRow before row found (Ok longer) left = take_tokens before (Between (InRow longer)) left ≡ take_tokens before (Between (InRow row)) found
-TakesInRow before row found (Err error) left = Takes (take_tokens before (Between (InRow row)) found) (Err error) before
+abbrev pub TakesInRow : Context → PartialRow → List Token → Result PartialRow LineError → List Token → Type 0
+TakesInRow context row found (Ok longer) left = take_tokens context (Between (InRow longer)) left ≡ take_tokens context (Between (InRow row)) found
+TakesInRow context row found (Err error) left = TakesToken (take_tokens context (Between (InRow row)) found) (Err error) context

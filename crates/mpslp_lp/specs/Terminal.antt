@@ -1,16 +1,16 @@
 -- What the grammar of LP text sees of a token.
 use Rattle.std.specs.Prelude.{ℕ, Bool, true, false, List, map}
 use Rattle.mpslp_decimal.specs.Decimal.{Number as Decimal}
-use Rattle.mpslp_reading.specs.Field.{value_of}
+use Rattle.mpslp_lines.specs.Field.{value_of}
 use Rattle.mpslp_lp.specs.Token.{Token, tokens}
-use Rattle.mpslp_lp.specs.Words.{meaning_of}
+use Rattle.mpslp_lp.specs.Words.{class_of}
 use Rattle.mpslp_lp.specs.declared.relations.Relation.{Relation}
 use Rattle.mpslp_lp.specs.declared.relations.Relation.TheVariants.{AtMost, AtLeast, EqualTo}
 use Rattle.mpslp_lp.specs.declared.tokens.TokenKind.{TokenKind}
 use Rattle.mpslp_lp.specs.declared.tokens.TokenKind.TheVariants as kinds
 use Rattle.mpslp_lp.specs.declared.words.SectionWord.{SectionWord}
-use Rattle.mpslp_lp.specs.declared.words.Meaning.{Meaning}
-use Rattle.mpslp_lp.specs.declared.words.Meaning.TheVariants as words
+use Rattle.mpslp_lp.specs.declared.words.WordClass.{WordClass}
+use Rattle.mpslp_lp.specs.declared.words.WordClass.TheVariants as words
 
 pub data Terminal : Type 0 where
   Opens : SectionWord → Terminal
@@ -24,7 +24,7 @@ pub data Terminal : Type 0 where
   -- no rule takes it
   Other : Terminal
 
-abbrev pub word_terminal : List ℕ → Meaning → Terminal
+abbrev pub word_terminal : List ℕ → WordClass → Terminal
 word_terminal text (words.Opens word) = Opens word
 word_terminal text words.Infinity = Infinity
 word_terminal text words.Free = Free
@@ -32,7 +32,7 @@ word_terminal text words.Name = Name text
 word_terminal text _ = Other
 
 abbrev pub terminal_of : TokenKind → List ℕ → Terminal
-terminal_of kinds.Word text = word_terminal text (meaning_of text)
+terminal_of kinds.Word text = word_terminal text (class_of text)
 terminal_of kinds.Number text = Number (value_of text)
 terminal_of kinds.Less text = Compares AtMost
 terminal_of kinds.Greater text = Compares AtLeast

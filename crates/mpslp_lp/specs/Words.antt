@@ -7,35 +7,35 @@ use Rattle.mpslp_lp.specs.declared.words.Section.{Section}
 use Rattle.mpslp_lp.specs.declared.words.Section.TheVariants as sections
 use Rattle.mpslp_lp.specs.declared.words.SectionWord.{SectionWord}
 use Rattle.mpslp_lp.specs.declared.words.SectionWord.TheVariants.{Minimize, Maximize, Rows, Subject, Such, Bounds, Generals, Binaries, Semi, Semis, End}
-use Rattle.mpslp_lp.specs.declared.words.Meaning.{Meaning}
-use Rattle.mpslp_lp.specs.declared.words.Meaning.TheVariants.{Opens, Infinity, Free, Sos, Name}
+use Rattle.mpslp_lp.specs.declared.words.WordClass.{WordClass}
+use Rattle.mpslp_lp.specs.declared.words.WordClass.TheVariants.{Opens, Infinity, Free, Sos, Name}
 
-abbrev all_mean : Meaning → List (List ℕ) → List (List ℕ × Meaning)
-all_mean meaning words = map (λ word. (word, meaning)) words
+abbrev all_of_class : WordClass → List (List ℕ) → List (List ℕ × WordClass)
+all_of_class word_class words = map (λ word. (word, word_class)) words
 
 -- the reserved words, in lower case
-abbrev pub word_meanings : List (List ℕ × Meaning)
-word_meanings =
-    all_mean (Opens Minimize) (codes "min" ∷ codes "minimize" ∷ codes "minimum" ∷ [])
-    ++ all_mean (Opens Maximize) (codes "max" ∷ codes "maximize" ∷ codes "maximum" ∷ [])
-    ++ all_mean (Opens Subject) (codes "subject" ∷ [])
-    ++ all_mean (Opens Such) (codes "such" ∷ [])
-    ++ all_mean (Opens Rows) (codes "st" ∷ codes "s.t." ∷ codes "st." ∷ [])
-    ++ all_mean (Opens Bounds) (codes "bound" ∷ codes "bounds" ∷ [])
-    ++ all_mean (Opens Generals) (codes "general" ∷ codes "generals" ∷ codes "gen" ∷ codes "integer" ∷ codes "integers" ∷ codes "int" ∷ [])
-    ++ all_mean (Opens Binaries) (codes "binary" ∷ codes "binaries" ∷ codes "bin" ∷ [])
-    ++ all_mean (Opens Semi) (codes "semi" ∷ [])
-    ++ all_mean (Opens Semis) (codes "semis" ∷ [])
-    ++ all_mean Sos (codes "sos" ∷ codes "sos1" ∷ codes "sos2" ∷ [])
-    ++ all_mean Free (codes "free" ∷ [])
-    ++ all_mean Infinity (codes "inf" ∷ codes "infinity" ∷ [])
-    ++ all_mean (Opens End) (codes "end" ∷ [])
+abbrev pub word_classes : List (List ℕ × WordClass)
+word_classes =
+    all_of_class (Opens Minimize) (codes "min" ∷ codes "minimize" ∷ codes "minimum" ∷ [])
+    ++ all_of_class (Opens Maximize) (codes "max" ∷ codes "maximize" ∷ codes "maximum" ∷ [])
+    ++ all_of_class (Opens Subject) (codes "subject" ∷ [])
+    ++ all_of_class (Opens Such) (codes "such" ∷ [])
+    ++ all_of_class (Opens Rows) (codes "st" ∷ codes "s.t." ∷ codes "st." ∷ [])
+    ++ all_of_class (Opens Bounds) (codes "bound" ∷ codes "bounds" ∷ [])
+    ++ all_of_class (Opens Generals) (codes "general" ∷ codes "generals" ∷ codes "gen" ∷ codes "integer" ∷ codes "integers" ∷ codes "int" ∷ [])
+    ++ all_of_class (Opens Binaries) (codes "binary" ∷ codes "binaries" ∷ codes "bin" ∷ [])
+    ++ all_of_class (Opens Semi) (codes "semi" ∷ [])
+    ++ all_of_class (Opens Semis) (codes "semis" ∷ [])
+    ++ all_of_class Sos (codes "sos" ∷ codes "sos1" ∷ codes "sos2" ∷ [])
+    ++ all_of_class Free (codes "free" ∷ [])
+    ++ all_of_class Infinity (codes "inf" ∷ codes "infinity" ∷ [])
+    ++ all_of_class (Opens End) (codes "end" ∷ [])
 
 -- what a word means, in upper case, lower case or both; a word that is not reserved is a name
-abbrev pub meaning_of : List ℕ → Meaning
-meaning_of word =
+abbrev pub class_of : List ℕ → WordClass
+class_of word =
     let lower = map lower_byte word in
-    option_map_or (λ (entry : List ℕ × Meaning). entry.1) (find (λ entry. same_bytes lower entry.0) word_meanings) Name
+    option_map_or (λ (entry : List ℕ × WordClass). entry.1) (find (λ entry. same_bytes lower entry.0) word_classes) Name
 
 -- what reserved words begin with, in lower case
 abbrev pub reserved_beginnings : List (List ℕ)

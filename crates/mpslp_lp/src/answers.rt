@@ -1,17 +1,17 @@
 //! What is answered of a token.
 
 ghost use Rattle.std.specs.Prelude.{◌≡◌, unwrap_or, Err};
-ghost use Rattle.mpslp_reading.specs.declared.errors.LineError.{LineError};
+ghost use Rattle.mpslp_lines.specs.declared.errors.LineError.{LineError};
 ghost use Rattle.mpslp_lp.specs.Phrase.{terminal_fault};
-ghost use Rattle.mpslp_lp.specs.Seen.{seen_terminal};
-ghost use Rattle.mpslp_lp.specs.Declares.{Takes, answer_at};
-ghost use Rattle.mpslp_lp.specs.Taken.{refused};
+ghost use Rattle.mpslp_lp.specs.TerminalToken.{terminal_of_token};
+ghost use Rattle.mpslp_lp.specs.Declares.{TakesToken, answer_at};
+ghost use Rattle.mpslp_lp.specs.AfterToken.{refuse};
 
-use crate::before::Before;
-use crate::seen::Seen;
+use crate::context::Context;
 use crate::states::{Place, State};
+use crate::terminals::TerminalToken;
+use mpslp_lines::LineError;
 use mpslp_model::FaultKind;
-use mpslp_reading::LineError;
 
 /// The state where a phrase begins at a place, if declarations were made.
 pub(crate) fn at_place(answer: Result<(), LineError>, place: Place) -> Result<State, LineError>
@@ -24,8 +24,12 @@ pub(crate) fn at_place(answer: Result<(), LineError>, place: Place) -> Result<St
 }
 
 /// A token that the grammar cannot take for this reason.
-pub(crate) fn refuse(before: &Before, seen: &Seen<'_>, kind: FaultKind) -> Result<State, LineError>
-    ensures { Takes (refused before.now (seen_terminal seen.now) kind) result before.now }
+pub(crate) fn refuse(
+    context: &Context,
+    token: &TerminalToken<'_>,
+    kind: FaultKind,
+) -> Result<State, LineError>
+    ensures { TakesToken (refuse context.now (terminal_of_token token.now) kind) result context.now }
 {
-    Err(before.refused(seen, kind))
+    Err(context.refused(token, kind))
 }

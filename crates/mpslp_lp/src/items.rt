@@ -3,21 +3,21 @@
 ghost use Rattle.std.specs.Prelude.{◌≡◌};
 ghost use Rattle.mpslp_types.specs.Name.{IsMpsName};
 ghost use Rattle.mpslp_lp.specs.Items.{one};
-ghost use Rattle.mpslp_lp.specs.Sides.{signed};
-ghost use Rattle.mpslp_lp.specs.Seen.{IsSound, seen_terminal};
-ghost use Rattle.mpslp_lp.specs.Declares.{AddsTerm, Takes};
+ghost use Rattle.mpslp_lp.specs.Sides.{apply_sign};
+ghost use Rattle.mpslp_lp.specs.TerminalToken.{HasLegalName, terminal_of_token};
+ghost use Rattle.mpslp_lp.specs.Declares.{AddsTerm, TakesToken};
 ghost use Rattle.mpslp_lp.specs.Terminal.{Terminal};
-ghost use Rattle.mpslp_lp.specs.declared.states.Owner.{Owner};
-ghost use Rattle.mpslp_lp.specs.Taken.{term_taken, after_signs, item_begun};
+ghost use Rattle.mpslp_lp.specs.declared.states.ItemOwner.{ItemOwner};
+ghost use Rattle.mpslp_lp.specs.AfterToken.{take_term, take_after_signs, begin_item};
 
 use crate::answers::{at_place, refuse};
-use crate::before::Before;
-use crate::seen::{Seen, SeenKind};
-use crate::states::{Owner, PartialRow, Place, State};
+use crate::context::Context;
+use crate::states::{ItemOwner, PartialRow, Place, State};
 use crate::term_names::TermName;
+use crate::terminals::{TerminalKind, TerminalToken};
 use mpslp_decimal::Decimal;
+use mpslp_lines::LineError;
 use mpslp_model::{FaultKind, Name};
-use mpslp_reading::LineError;
 
 /// The coefficient of a name without a number.
 pub(crate) fn one() -> Decimal
@@ -30,8 +30,8 @@ pub(crate) fn one() -> Decimal
 }
 
 /// The value with the sign of a run of signs.
-pub(crate) fn signed(minus: bool, value: Decimal) -> Decimal
-    ensures { result ≡ signed minus value }
+pub(crate) fn apply_sign(minus: bool, value: Decimal) -> Decimal
+    ensures { result ≡ apply_sign minus value }
 {
     if minus { value.negate() } else { value }
 }
@@ -52,15 +52,15 @@ impl PartialRow {
 
 /// Takes the name of a term of the objective.
 fn take_objective_term(
-    before: &mut Before,
+    context: &mut Context,
     objective: Name,
     column: &[u8],
     value: Decimal,
 ) -> Result<State, LineError>
     requires { IsMpsName column.now }
-    ensures { Takes (term_taken before.old (Owner.OfObjective objective) column.now value (Terminal.Name column.now)) result before.new }
+    ensures { TakesToken (take_term context.old (ItemOwner.OfObjective objective) column.now value (Terminal.Name column.now)) result context.new }
 {
-    let answer = before
+    let answer = context
         .earlier
         .declare_term(objective.as_bytes(), column, value);
     at_place(answer, Place::InObjective(objective))
@@ -68,15 +68,15 @@ fn take_objective_term(
 
 /// Takes the name of a term of a row.
 fn take_row_term(
-    before: &Before,
+    context: &Context,
     row: PartialRow,
     column: &[u8],
     value: Decimal,
 ) -> Result<State, LineError>
     requires { IsMpsName column.now }
-    ensures { Takes (term_taken before.now (Owner.OfRow row) column.now value (Terminal.Name column.now)) result before.now }
+    ensures { TakesToken (take_term context.now (ItemOwner.OfRow row) column.now value (Terminal.Name column.now)) result context.now }
 {
-    let column = TermName::copied(before.earlier.alloc(), column)?;
+    let column = TermName::copied(context.earlier.alloc(), column)?;
     match row.with_term(column, value) {
         Ok(row) => Ok(State::Between(Place::InRow(row))),
         Err(error) => Err(error),
@@ -85,51 +85,51 @@ fn take_row_term(
 
 /// Takes the name of a term.
 pub(crate) fn take_term(
-    before: &mut Before,
-    owner: Owner,
+    context: &mut Context,
+    owner: ItemOwner,
     column: &[u8],
     value: Decimal,
 ) -> Result<State, LineError>
     requires { IsMpsName column.now }
-    ensures { Takes (term_taken before.old owner column.now value (Terminal.Name column.now)) result before.new }
+    ensures { TakesToken (take_term context.old owner column.now value (Terminal.Name column.now)) result context.new }
 {
     match owner {
-        Owner::OfObjective(name) => take_objective_term(before, name, column, value),
-        Owner::OfRow(row) => take_row_term(before, row, column, value),
+        ItemOwner::OfObjective(name) => take_objective_term(context, name, column, value),
+        ItemOwner::OfRow(row) => take_row_term(context, row, column, value),
     }
 }
 
 /// Takes a token of an item after its first sign.
 pub(crate) fn take_after_signs(
-    before: &mut Before,
-    owner: Owner,
+    context: &mut Context,
+    owner: ItemOwner,
     minus: bool,
-    seen: &Seen<'_>,
+    token: &TerminalToken<'_>,
 ) -> Result<State, LineError>
-    requires { IsSound seen.now }
-    ensures { Takes (after_signs before.old owner minus (seen_terminal seen.now)) result before.new }
+    requires { HasLegalName token.now }
+    ensures { TakesToken (take_after_signs context.old owner minus (terminal_of_token token.now)) result context.new }
 {
-    match seen.kind {
-        SeenKind::Sign(more) => Ok(State::Signs(owner, minus != more)),
-        SeenKind::Name => take_term(before, owner, seen.text, signed(minus, one())),
-        SeenKind::Number(value) => Ok(State::ItemNumber(owner, minus, value)),
-        _ => refuse(before, seen, FaultKind::BadToken),
+    match token.kind {
+        TerminalKind::Sign(more) => Ok(State::Signs(owner, minus != more)),
+        TerminalKind::Name => take_term(context, owner, token.text, apply_sign(minus, one())),
+        TerminalKind::Number(value) => Ok(State::ItemNumber(owner, minus, value)),
+        _ => refuse(context, token, FaultKind::BadToken),
     }
 }
 
 /// Takes the first token of an item, where the run of signs may be empty.
 pub(crate) fn begin_item(
-    before: &mut Before,
-    owner: Owner,
-    seen: &Seen<'_>,
+    context: &mut Context,
+    owner: ItemOwner,
+    token: &TerminalToken<'_>,
 ) -> Result<State, LineError>
-    requires { IsSound seen.now }
-    ensures { Takes (item_begun before.old owner (seen_terminal seen.now)) result before.new }
+    requires { HasLegalName token.now }
+    ensures { TakesToken (begin_item context.old owner (terminal_of_token token.now)) result context.new }
 {
-    match seen.kind {
-        SeenKind::Sign(minus) => Ok(State::Signs(owner, minus)),
-        SeenKind::Name => take_term(before, owner, seen.text, one()),
-        SeenKind::Number(value) => Ok(State::ItemNumber(owner, false, value)),
-        _ => refuse(before, seen, FaultKind::BadToken),
+    match token.kind {
+        TerminalKind::Sign(minus) => Ok(State::Signs(owner, minus)),
+        TerminalKind::Name => take_term(context, owner, token.text, one()),
+        TerminalKind::Number(value) => Ok(State::ItemNumber(owner, false, value)),
+        _ => refuse(context, token, FaultKind::BadToken),
     }
 }

@@ -2,25 +2,25 @@
 
 ghost use Rattle.std.specs.Prelude.{◌≡◌};
 ghost use Rattle.mpslp_lp.specs.Point.{start};
-ghost use Rattle.mpslp_lp.specs.ReadingLines.{is_at_end};
+ghost use Rattle.mpslp_lp.specs.LineByLine.{is_at_end};
 
-use crate::before::Before;
-use crate::declared::Declared;
-use crate::lines::read_line;
-use crate::opened::Opened;
+use crate::context::Context;
+use crate::lp_builder::LpBuilder;
+use crate::read_line::read_line;
+use crate::sections_seen::SectionsSeen;
 use crate::states::{Place, State};
+use mpslp_lines::{LineError, ReadLines, read_fault};
 use mpslp_model::{Fault, FaultKind, Model, ReadFault};
-use mpslp_reading::{LineError, ReadLines, read_fault};
 use std::alloc::Global;
 use std::mem::replace;
 
-impl Before {
+impl Context {
     /// What stands before a text.
-    fn start(alloc: Global) -> Before
-        ensures { result ≡ start.before }
+    fn start(alloc: Global) -> Context
+        ensures { result ≡ start.context }
     {
-        Before {
-            opened: Opened {
+        Context {
+            sections_seen: SectionsSeen {
                 objective: false,
                 rows: false,
                 bounds: false,
@@ -29,7 +29,7 @@ impl Before {
                 semis: false,
                 end: false,
             },
-            earlier: Declared::new(alloc),
+            earlier: LpBuilder::new(alloc),
         }
     }
 }
@@ -49,7 +49,7 @@ impl State {
 /// Reads the lines of LP text one after another.
 #[derive(Drop)]
 pub(crate) struct LineReader {
-    before: Before,
+    context: Context,
     state: State,
     /// The number of the next line, up to 2^64 - 1.
     number: u64,
@@ -73,7 +73,7 @@ impl ReadLines for LineReader {
 
     fn new(alloc: Global) -> LineReader {
         LineReader {
-            before: Before::start(alloc),
+            context: Context::start(alloc),
             state: State::Between(Place::AtStart),
             number: 1,
         }
@@ -89,7 +89,7 @@ impl ReadLines for LineReader {
 
     fn read_line(&mut self, line: &[u8]) -> Result<(), ReadFault> {
         let state = replace(&mut self.state, State::AfterEnd);
-        match read_line(&mut self.before, state, line) {
+        match read_line(&mut self.context, state, line) {
             Ok(next) => self.state = next,
             Err(error) => return Err(read_fault(self.number, error)),
         }
@@ -105,7 +105,7 @@ impl ReadLines for LineReader {
                 name: None,
             }));
         }
-        self.before.earlier.into_builder().finish()
+        self.context.earlier.into_builder().finish()
     }
 
     ghost behind_end = { read-behind_end };

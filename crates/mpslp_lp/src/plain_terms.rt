@@ -3,22 +3,22 @@
 
 ghost use Rattle.std.specs.Prelude.{◌≡◌, ◌≤◌, List, Err, IfSome, MatchResult, length};
 ghost use Rattle.mpslp_types.specs.Name.{IsMpsName};
-ghost use Rattle.mpslp_lp.specs.Declares.{Takes};
+ghost use Rattle.mpslp_lp.specs.Declares.{TakesToken};
 ghost use Rattle.mpslp_lp.specs.PlainTerm.{Begins, IsUnsignedTerm, IsPlainTerm, TakesInRow};
-ghost use Rattle.mpslp_lp.specs.ReadingLines.{take_tokens};
+ghost use Rattle.mpslp_lp.specs.LineByLine.{take_tokens};
 ghost use Rattle.mpslp_lp.specs.Terminal.{Terminal};
 ghost use Rattle.mpslp_lp.specs.Token.{Token};
 ghost use Rattle.mpslp_lp.specs.declared.states.Place.{Place};
 ghost use Rattle.mpslp_lp.specs.declared.states.State.{State};
 
-use crate::before::Before;
-use crate::items::signed;
-use crate::lines::{error_before, least_error};
-use crate::seen::{SeenKind, see};
+use crate::context::Context;
+use crate::items::apply_sign;
+use crate::read_line::{error_before, least_error};
 use crate::states::{PartialRow, Place, State};
 use crate::term_names::TermName;
+use crate::terminals::{TerminalKind, classify};
 use crate::tokens::{TokenKind, Tokens};
-use mpslp_reading::{LineError, value_of};
+use mpslp_lines::{LineError, value_of};
 
 /// A sign, the text of a number, which is 1 where there is none, and the name of a column.
 #[derive(Clone, Copy)]
@@ -34,8 +34,8 @@ fn next_sign(tokens: &mut Tokens<'_>) -> Option<bool>
     ensures { IfSome result (λ minus. Begins tokens.old (Terminal.Sign minus) tokens.new) }
 {
     let token = tokens.next()?;
-    match see(token.kind, token.text) {
-        Ok(SeenKind::Sign(minus)) => Some(minus),
+    match classify(token.kind, token.text) {
+        Ok(TerminalKind::Sign(minus)) => Some(minus),
         _ => None,
     }
 }
@@ -47,8 +47,8 @@ fn next_name<'a>(tokens: &mut Tokens<'a>) -> Option<&'a [u8]>
     ensures legal { IfSome result (λ name. IsMpsName name.now) }
 {
     let token = tokens.next()?;
-    match see(token.kind, token.text) {
-        Ok(SeenKind::Name) => Some(token.text),
+    match classify(token.kind, token.text) {
+        Ok(TerminalKind::Name) => Some(token.text),
         _ => None,
     }
 }
@@ -64,8 +64,8 @@ fn unsigned_term<'a>(tokens: &mut Tokens<'a>) -> Option<(&'a [u8], &'a [u8])>
             let column = next_name(tokens)?;
             Some((token.text, column))
         }
-        _ => match see(token.kind, token.text) {
-            Ok(SeenKind::Name) => Some((b"1".as_slice(), token.text)),
+        _ => match classify(token.kind, token.text) {
+            Ok(TerminalKind::Name) => Some((b"1".as_slice(), token.text)),
             _ => None,
         },
     }
@@ -87,19 +87,19 @@ fn plain_term<'a>(tokens: &mut Tokens<'a>) -> Option<PlainTerm<'a>>
 
 /// Takes a term of a row, behind which these tokens are left on its line.
 fn take_plain_term(
-    before: &Before,
+    context: &Context,
     row: PartialRow,
     term: PlainTerm<'_>,
     left: Tokens<'_>,
 ) -> Result<PartialRow, LineError>
     requires { IsMpsName term.column.now }
-    ensures { (found : List Token) → IsPlainTerm found term.entry.minus term.entry.literal.now term.entry.column.now left.entry → TakesInRow before.now row found result left.entry }
+    ensures { (found : List Token) → IsPlainTerm found term.entry.minus term.entry.literal.now term.entry.column.now left.entry → TakesInRow context.now row found result left.entry }
 {
     let value = match value_of(term.literal) {
-        Ok(value) => signed(term.minus, value),
+        Ok(value) => apply_sign(term.minus, value),
         Err(kind) => return Err(least_error(kind, left)),
     };
-    let column = TermName::copied(before.earlier.alloc(), term.column)?;
+    let column = TermName::copied(context.earlier.alloc(), term.column)?;
     match row.with_term(column, value) {
         Ok(longer) => Ok(longer),
         Err(error) => Err(error_before(error, left)),
@@ -108,13 +108,13 @@ fn take_plain_term(
 
 /// Takes the terms of a row that stand next and are plain.
 fn take_plain_terms<'a>(
-    before: &Before,
+    context: &Context,
     row: PartialRow,
     tokens: Tokens<'a>,
 ) -> Result<(PartialRow, Tokens<'a>), LineError>
     ensures { MatchResult result
-        (λ left. (take_tokens before.now (State.Between (Place.InRow left.0)) left.1 ≡ take_tokens before.now (State.Between (Place.InRow row)) tokens.entry) × (length left.1 ≤ length tokens.entry))
-        (λ error. Takes (take_tokens before.now (State.Between (Place.InRow row)) tokens.entry) (Err error) before.now) }
+        (λ left. (take_tokens context.now (State.Between (Place.InRow left.0)) left.1 ≡ take_tokens context.now (State.Between (Place.InRow row)) tokens.entry) × (length left.1 ≤ length tokens.entry))
+        (λ error. TakesToken (take_tokens context.now (State.Between (Place.InRow row)) tokens.entry) (Err error) context.now) }
 {
     let mut row = row;
     let mut tokens = tokens;
@@ -123,7 +123,7 @@ fn take_plain_terms<'a>(
         let Some(term) = plain_term(&mut left) else {
             return Ok((row, tokens));
         };
-        row = take_plain_term(before, row, term, left.again())?;
+        row = take_plain_term(context, row, term, left.again())?;
         tokens = left;
     }
 }
@@ -131,17 +131,17 @@ fn take_plain_terms<'a>(
 /// Takes the plain terms that stand next, where a row goes on.
 #[inline(always)]
 pub(crate) fn take_terms<'a>(
-    before: &Before,
+    context: &Context,
     state: State,
     tokens: Tokens<'a>,
 ) -> Result<(State, Tokens<'a>), LineError>
     ensures { MatchResult result
-        (λ left. (take_tokens before.now left.0 left.1 ≡ take_tokens before.now state tokens.entry) × (length left.1 ≤ length tokens.entry))
-        (λ error. Takes (take_tokens before.now state tokens.entry) (Err error) before.now) }
+        (λ left. (take_tokens context.now left.0 left.1 ≡ take_tokens context.now state tokens.entry) × (length left.1 ≤ length tokens.entry))
+        (λ error. TakesToken (take_tokens context.now state tokens.entry) (Err error) context.now) }
 {
     match state {
         State::Between(Place::InRow(row)) => {
-            let (row, left) = take_plain_terms(before, row, tokens)?;
+            let (row, left) = take_plain_terms(context, row, tokens)?;
             Ok((State::Between(Place::InRow(row)), left))
         }
         other => Ok((other, tokens)),

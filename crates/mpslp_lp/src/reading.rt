@@ -1,6 +1,6 @@
 //! Reading LP text as a whole.
 
-ghost use Rattle.mpslp_lp.specs.ReadingAnswer.{ReadsLp};
+ghost use Rattle.mpslp_lp.specs.ReadAnswer.{ReadsLp};
 
 use crate::reader::LpReader;
 use mpslp_model::{Model, ReadFault, read_whole};

@@ -3,25 +3,25 @@
 ghost use Rattle.std.specs.Prelude.{◌≡◌, None};
 ghost use Rattle.mpslp_lp.specs.Rows.{fits_left, row_limits, row_declared};
 ghost use Rattle.mpslp_lp.specs.Sides.{fits_second};
-ghost use Rattle.mpslp_lp.specs.Seen.{IsSound, seen_terminal};
-ghost use Rattle.mpslp_lp.specs.Declares.{Takes};
+ghost use Rattle.mpslp_lp.specs.TerminalToken.{HasLegalName, terminal_of_token};
+ghost use Rattle.mpslp_lp.specs.Declares.{TakesToken};
 ghost use Rattle.std.specs.Prelude.{IsTrue, unwrap_or};
-ghost use Rattle.mpslp_types.specs.Sides.{is_given};
+ghost use Rattle.mpslp_types.specs.Limit.{is_given};
 ghost use Rattle.mpslp_types.specs.declared.kinds.Limit.{Limit};
 ghost use Rattle.mpslp_lp.specs.Phrase.{terminal_fault};
 ghost use Rattle.mpslp_lp.specs.declared.states.Place.{Place};
-ghost use Rattle.mpslp_lp.specs.Taken.{declared};
-ghost use Rattle.mpslp_lp.specs.Begun.{row_begun};
+ghost use Rattle.mpslp_lp.specs.AfterToken.{declare_at};
+ghost use Rattle.mpslp_lp.specs.FirstToken.{begin_row};
 
 use crate::answers::{at_place, refuse};
-use crate::before::Before;
+use crate::context::Context;
+use crate::given_limit::GivenLimit;
 use crate::items::{one, take_term};
-use crate::limits::GivenLimit;
 use crate::relations::Relation;
-use crate::seen::{Seen, SeenKind};
-use crate::states::{Owner, PartialRow, Place, State};
+use crate::states::{ItemOwner, PartialRow, Place, State};
+use crate::terminals::{TerminalKind, TerminalToken};
+use mpslp_lines::LineError;
 use mpslp_model::{FaultKind, Limit, Name};
-use mpslp_reading::LineError;
 
 /// Whether two senses, of a left side and of the right one, are both `<` or both `>`.
 pub(crate) fn fits_second(first: Relation, second: Relation) -> bool
@@ -46,22 +46,22 @@ pub(crate) fn fits_left(row: &PartialRow, relation: Relation) -> bool
 
 /// Takes the first token of a row, or the first behind its label.
 pub(crate) fn begin_row(
-    before: &mut Before,
+    context: &mut Context,
     name: Name,
-    seen: &Seen<'_>,
+    token: &TerminalToken<'_>,
 ) -> Result<State, LineError>
-    requires { IsSound seen.now }
-    ensures { Takes (row_begun before.old name (seen_terminal seen.now)) result before.new }
+    requires { HasLegalName token.now }
+    ensures { TakesToken (begin_row context.old name (terminal_of_token token.now)) result context.new }
 {
-    match seen.kind {
-        SeenKind::Infinity => Ok(State::RowLeft(name, GivenLimit::infinity(false))),
-        SeenKind::Number(value) => Ok(State::RowNumber(name, false, value)),
-        SeenKind::Name => {
-            let row = before.earlier.row_without_terms(name, None)?;
-            take_term(before, Owner::OfRow(row), seen.text, one())
+    match token.kind {
+        TerminalKind::Infinity => Ok(State::RowLeft(name, GivenLimit::infinity(false))),
+        TerminalKind::Number(value) => Ok(State::RowNumber(name, false, value)),
+        TerminalKind::Name => {
+            let row = context.earlier.row_without_terms(name, None)?;
+            take_term(context, ItemOwner::OfRow(row), token.text, one())
         }
-        SeenKind::Sign(minus) => Ok(State::RowSign(name, minus)),
-        _ => refuse(before, seen, FaultKind::BadToken),
+        TerminalKind::Sign(minus) => Ok(State::RowSign(name, minus)),
+        _ => refuse(context, token, FaultKind::BadToken),
     }
 }
 
@@ -101,18 +101,18 @@ fn upper_limit(row: &PartialRow, relation: Relation, right: &GivenLimit) -> Limi
 
 /// Takes the right side of a row, which declares it.
 pub(crate) fn end_row(
-    before: &mut Before,
+    context: &mut Context,
     row: PartialRow,
     relation: Relation,
     right: &GivenLimit,
-    seen: &Seen<'_>,
+    token: &TerminalToken<'_>,
 ) -> Result<State, LineError>
-    requires { terminal_fault before.old (seen_terminal seen.now) ≡ None }
-    ensures { Takes (declared before.old (seen_terminal seen.now) Place.BetweenRows (row_declared row (row_limits row.left relation right.now))) result before.new }
+    requires { terminal_fault context.old (terminal_of_token token.now) ≡ None }
+    ensures { TakesToken (declare_at context.old (terminal_of_token token.now) Place.BetweenRows (row_declared row (row_limits row.left relation right.now))) result context.new }
 {
     let lower = lower_limit(&row, relation, right);
     let upper = upper_limit(&row, relation, right);
-    let answer = before.earlier.declare_partial(&row, lower, upper);
-    before.earlier.keep_parts(row);
+    let answer = context.earlier.declare_partial(&row, lower, upper);
+    context.earlier.keep_parts(row);
     at_place(answer, Place::BetweenRows)
 }

@@ -1,30 +1,30 @@
 //! Right and left sides of rows and bounds, token by token.
 
 ghost use Rattle.std.specs.Prelude.{◌≡◌};
-ghost use Rattle.mpslp_lp.specs.Sides.{Limits, limits_by, turned};
+ghost use Rattle.mpslp_lp.specs.Sides.{Limits, limits_by, flip};
 ghost use Rattle.mpslp_lp.specs.Bounds.{no_limits};
-ghost use Rattle.mpslp_lp.specs.Seen.{limit_seen, seen_terminal};
+ghost use Rattle.mpslp_lp.specs.TerminalToken.{limit_of_terminal, terminal_of_token};
 
-use crate::items::signed;
-use crate::limits::GivenLimit;
+use crate::given_limit::GivenLimit;
+use crate::items::apply_sign;
 use crate::relations::Relation;
-use crate::seen::{Seen, SeenKind};
+use crate::terminals::{TerminalKind, TerminalToken};
 use mpslp_model::Limit;
 
 /// The limit that a number or an infinity gives after signs; `None` of any other token.
-pub(crate) fn limit_seen(minus: bool, seen: &Seen<'_>) -> Option<GivenLimit>
-    ensures { result ≡ limit_seen minus (seen_terminal seen.now) }
+pub(crate) fn limit_of_terminal(minus: bool, token: &TerminalToken<'_>) -> Option<GivenLimit>
+    ensures { result ≡ limit_of_terminal minus (terminal_of_token token.now) }
 {
-    match seen.kind {
-        SeenKind::Number(value) => Some(GivenLimit::of(signed(minus, value))),
-        SeenKind::Infinity => Some(GivenLimit::infinity(minus)),
+    match token.kind {
+        TerminalKind::Number(value) => Some(GivenLimit::of(apply_sign(minus, value))),
+        TerminalKind::Infinity => Some(GivenLimit::infinity(minus)),
         _ => None,
     }
 }
 
 /// The sense by which a column lies to a side left of it.
-pub(crate) fn turned(relation: Relation) -> Relation
-    ensures { result ≡ turned relation }
+pub(crate) fn flip(relation: Relation) -> Relation
+    ensures { result ≡ flip relation }
 {
     match relation {
         Relation::AtMost => Relation::AtLeast,

@@ -1,6 +1,6 @@
 //! How far a phrase has come: all that a reader keeps of the tokens that it has taken, beside what is declared.
 
-use crate::limits::GivenLimit;
+use crate::given_limit::GivenLimit;
 use crate::relations::Relation;
 use crate::term_names::TermName;
 use indexmap::IndexMap;
@@ -57,7 +57,7 @@ pub enum Place {
 
 /// Whose item it is.
 #[derive(Drop)]
-pub enum Owner {
+pub enum ItemOwner {
     /// The objective's, of this name.
     OfObjective(Name),
     /// A row's.
@@ -66,7 +66,7 @@ pub enum Owner {
 
 /// What stands before a sense that a right side follows.
 #[derive(Drop)]
-pub enum Sided {
+pub enum SideOwner {
     /// The terms of a row.
     SideOfRow(PartialRow, Relation),
     /// A column; and whether no side of this bound was declared before, and so not its column.
@@ -98,9 +98,9 @@ pub enum State {
     /// After `semi`.
     AtSemi,
     /// After the signs of an item; whether their product is a minus.
-    Signs(Owner, bool),
+    Signs(ItemOwner, bool),
     /// After the number of an item.
-    ItemNumber(Owner, bool, Decimal),
+    ItemNumber(ItemOwner, bool, Decimal),
     /// After a name at the beginning of a row, which may be a label.
     RowName(Name),
     /// After the label of a row.
@@ -112,7 +112,7 @@ pub enum State {
     /// After the left side of a row.
     RowLeft(Name, GivenLimit),
     /// After the sense behind the left side of a row.
-    RowLeftSense(PartialRow),
+    RowLeftRelation(PartialRow),
     /// After the column of a bound.
     BoundName(Name),
     /// After the sign of a bound's left side.
@@ -120,11 +120,11 @@ pub enum State {
     /// After the left side of a bound.
     BoundLeft(GivenLimit),
     /// After the sense behind the left side of a bound.
-    BoundLeftSense(GivenLimit, Relation),
+    BoundLeftRelation(GivenLimit, Relation),
     /// Before a right side.
-    AtSide(Sided),
+    AtSide(SideOwner),
     /// After the sign of a right side.
-    SideSign(Sided, bool),
+    SideSign(SideOwner, bool),
     /// After `end`, on its line.
     AfterEnd,
 }

@@ -7,9 +7,9 @@ ghost use Rattle.std.specs.Cmp.{partial_equiv_from_equiv};
 ghost use Rattle.std.specs.Cmp.Lexicographic.{nat_list_eq_equiv};
 ghost use Rattle.std.specs.Cmp.Rules.{hashing};
 ghost use Rattle.mpslp_types.specs.Name.{IsMpsName, same_bytes};
-ghost use Rattle.mpslp_reading.specs.declared.errors.LineError.{LineError};
+ghost use Rattle.mpslp_lines.specs.declared.errors.LineError.{LineError};
 
-use mpslp_reading::LineError;
+use mpslp_lines::LineError;
 use smallvec::SmallVec;
 use std::alloc::Global;
 use std::hash::{Hash, Hasher};

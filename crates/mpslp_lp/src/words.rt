@@ -4,8 +4,8 @@ ghost use Rattle.std.specs.Prelude.{◌≡◌, ℕ, List, map};
 ghost use Rattle.std.specs.List.{find};
 ghost use Rattle.std.specs.Option.{option_map_or};
 ghost use Rattle.mpslp_types.specs.Name.{lower_byte, same_bytes};
-ghost use Rattle.mpslp_lp.specs.declared.words.Meaning.{Meaning};
-ghost use Rattle.mpslp_lp.specs.Words.{begins_reserved, may_be_reserved, meaning_of};
+ghost use Rattle.mpslp_lp.specs.declared.words.WordClass.{WordClass};
+ghost use Rattle.mpslp_lp.specs.Words.{begins_reserved, may_be_reserved, class_of};
 
 /// A section of an LP file. They stand in this order, but those from Bounds to SemiContinuous in any order.
 #[derive(Clone, Copy, Debug, PartialEq, Eq)]
@@ -55,7 +55,7 @@ pub enum SectionWord {
 
 /// What a word means.
 #[derive(Clone, Copy, Debug, PartialEq, Eq)]
-pub enum Meaning {
+pub enum WordClass {
     /// It opens a section.
     Opens(SectionWord),
     /// `inf` or `infinity`.
@@ -69,38 +69,38 @@ pub enum Meaning {
 }
 
 /// The reserved words in lower case, each with its meaning.
-const WORDS: [(&'static [u8], Meaning); 31] = [
-    (b"min", Meaning::Opens(SectionWord::Minimize)),
-    (b"minimize", Meaning::Opens(SectionWord::Minimize)),
-    (b"minimum", Meaning::Opens(SectionWord::Minimize)),
-    (b"max", Meaning::Opens(SectionWord::Maximize)),
-    (b"maximize", Meaning::Opens(SectionWord::Maximize)),
-    (b"maximum", Meaning::Opens(SectionWord::Maximize)),
-    (b"subject", Meaning::Opens(SectionWord::Subject)),
-    (b"such", Meaning::Opens(SectionWord::Such)),
-    (b"st", Meaning::Opens(SectionWord::Rows)),
-    (b"s.t.", Meaning::Opens(SectionWord::Rows)),
-    (b"st.", Meaning::Opens(SectionWord::Rows)),
-    (b"bound", Meaning::Opens(SectionWord::Bounds)),
-    (b"bounds", Meaning::Opens(SectionWord::Bounds)),
-    (b"general", Meaning::Opens(SectionWord::Generals)),
-    (b"generals", Meaning::Opens(SectionWord::Generals)),
-    (b"gen", Meaning::Opens(SectionWord::Generals)),
-    (b"integer", Meaning::Opens(SectionWord::Generals)),
-    (b"integers", Meaning::Opens(SectionWord::Generals)),
-    (b"int", Meaning::Opens(SectionWord::Generals)),
-    (b"binary", Meaning::Opens(SectionWord::Binaries)),
-    (b"binaries", Meaning::Opens(SectionWord::Binaries)),
-    (b"bin", Meaning::Opens(SectionWord::Binaries)),
-    (b"semi", Meaning::Opens(SectionWord::Semi)),
-    (b"semis", Meaning::Opens(SectionWord::Semis)),
-    (b"sos", Meaning::Sos),
-    (b"sos1", Meaning::Sos),
-    (b"sos2", Meaning::Sos),
-    (b"free", Meaning::Free),
-    (b"inf", Meaning::Infinity),
-    (b"infinity", Meaning::Infinity),
-    (b"end", Meaning::Opens(SectionWord::End)),
+const WORDS: [(&'static [u8], WordClass); 31] = [
+    (b"min", WordClass::Opens(SectionWord::Minimize)),
+    (b"minimize", WordClass::Opens(SectionWord::Minimize)),
+    (b"minimum", WordClass::Opens(SectionWord::Minimize)),
+    (b"max", WordClass::Opens(SectionWord::Maximize)),
+    (b"maximize", WordClass::Opens(SectionWord::Maximize)),
+    (b"maximum", WordClass::Opens(SectionWord::Maximize)),
+    (b"subject", WordClass::Opens(SectionWord::Subject)),
+    (b"such", WordClass::Opens(SectionWord::Such)),
+    (b"st", WordClass::Opens(SectionWord::Rows)),
+    (b"s.t.", WordClass::Opens(SectionWord::Rows)),
+    (b"st.", WordClass::Opens(SectionWord::Rows)),
+    (b"bound", WordClass::Opens(SectionWord::Bounds)),
+    (b"bounds", WordClass::Opens(SectionWord::Bounds)),
+    (b"general", WordClass::Opens(SectionWord::Generals)),
+    (b"generals", WordClass::Opens(SectionWord::Generals)),
+    (b"gen", WordClass::Opens(SectionWord::Generals)),
+    (b"integer", WordClass::Opens(SectionWord::Generals)),
+    (b"integers", WordClass::Opens(SectionWord::Generals)),
+    (b"int", WordClass::Opens(SectionWord::Generals)),
+    (b"binary", WordClass::Opens(SectionWord::Binaries)),
+    (b"binaries", WordClass::Opens(SectionWord::Binaries)),
+    (b"bin", WordClass::Opens(SectionWord::Binaries)),
+    (b"semi", WordClass::Opens(SectionWord::Semi)),
+    (b"semis", WordClass::Opens(SectionWord::Semis)),
+    (b"sos", WordClass::Sos),
+    (b"sos1", WordClass::Sos),
+    (b"sos2", WordClass::Sos),
+    (b"free", WordClass::Free),
+    (b"inf", WordClass::Infinity),
+    (b"infinity", WordClass::Infinity),
+    (b"end", WordClass::Opens(SectionWord::End)),
 ];
 
 /// The byte in lower case.
@@ -128,19 +128,22 @@ pub(crate) fn is_word(text: &[u8], word: &[u8]) -> bool
 }
 
 /// The first of the words that the text is, in upper case, lower case or both, with its meaning.
-fn word_among(words: &[(&'static [u8], Meaning)], text: &[u8]) -> Option<(&'static [u8], Meaning)>
+fn word_among(
+    words: &[(&'static [u8], WordClass)],
+    text: &[u8],
+) -> Option<(&'static [u8], WordClass)>
     ensures { result ≡ find (λ entry. same_bytes (map lower_byte text.now) entry.0.now) words.now }
 {
     words.iter().copied().find(|entry| is_word(text, entry.0))
 }
 
 /// What a text means among words with their meanings.
-fn meaning_among(words: &[(&'static [u8], Meaning)], text: &[u8]) -> Meaning
-    ensures { result ≡ option_map_or (λ (entry : List ℕ × Meaning). entry.1) (find (λ entry. same_bytes (map lower_byte text.now) entry.0) (map (λ entry. (entry.0.now, entry.1)) words.now)) Meaning.Name }
+fn class_among(words: &[(&'static [u8], WordClass)], text: &[u8]) -> WordClass
+    ensures { result ≡ option_map_or (λ (entry : List ℕ × WordClass). entry.1) (find (λ entry. same_bytes (map lower_byte text.now) entry.0) (map (λ entry. (entry.0.now, entry.1)) words.now)) WordClass.Name }
 {
     match word_among(words, text) {
-        Some((_word, meaning)) => meaning,
-        None => Meaning::Name,
+        Some((_word, word_class)) => word_class,
+        None => WordClass::Name,
     }
 }
 
@@ -173,12 +176,12 @@ fn may_be_reserved(text: &[u8]) -> bool
 }
 
 /// What a word means, in upper case, lower case or both.
-pub(crate) fn meaning_of(text: &[u8]) -> Meaning
-    ensures { result ≡ meaning_of text.now }
+pub(crate) fn class_of(text: &[u8]) -> WordClass
+    ensures { result ≡ class_of text.now }
 {
     if may_be_reserved(text) {
-        meaning_among(&WORDS, text)
+        class_among(&WORDS, text)
     } else {
-        Meaning::Name
+        WordClass::Name
     }
 }

@@ -4,7 +4,7 @@ use Rattle.std.specs.List.{slice_split, onto_first}
 use Rattle.std.specs.Str.Lines.{lines, lines_of_parts, strip_carriage_return}
 use Rattle.std.proofs.lemmas.List.Splits.{slice_split_none, slice_split_at, slice_split-cons_yes, slice_split-cons_no}
 use Rattle.std.proofs.lemmas.List.Elements.{All-nil, All-cons, All-append}
-use Rattle.mpslp_model.specs.CompleteLines.{is_feed, ended_parts, last_part, complete_lines, unfinished, HasNoFeed}
+use Rattle.mpslp_model.specs.CompleteLines.{is_feed, ended_parts, last_part, complete_lines, open_tail, HasNoFeed}
 
 -- ---- parts between line feeds
 
@@ -72,7 +72,7 @@ ended-going (part ∷ next ∷ more) bytes =
     ended-behind part (going_on (next ∷ more) bytes) (begins-going (next ∷ more) bytes)
     ∙ ap (λ l. strip_carriage_return part ∷ l) (ended-going (next ∷ more) bytes)
 
-last-going : (parts : List (List ℕ)) (bytes : List ℕ) → last_part (going_on parts bytes) ≡ unfinished (last_part parts ++ bytes)
+last-going : (parts : List (List ℕ)) (bytes : List ℕ) → last_part (going_on parts bytes) ≡ open_tail (last_part parts ++ bytes)
 last-going [] bytes = refl
 last-going (part ∷ []) bytes = refl
 last-going (part ∷ next ∷ more) bytes =
@@ -80,11 +80,11 @@ last-going (part ∷ next ∷ more) bytes =
 
 -- ---- one piece more
 
-pub complete-more : (xs ys : List ℕ) → complete_lines (xs ++ ys) ≡ complete_lines xs ++ complete_lines (unfinished xs ++ ys)
+pub complete-more : (xs ys : List ℕ) → complete_lines (xs ++ ys) ≡ complete_lines xs ++ complete_lines (open_tail xs ++ ys)
 complete-more xs ys = ap ended_parts (parts-more xs ys) ∙ ended-going (slice_split is_feed xs) ys
 
-pub unfinished-more : (xs ys : List ℕ) → unfinished (xs ++ ys) ≡ unfinished (unfinished xs ++ ys)
-unfinished-more xs ys = ap last_part (parts-more xs ys) ∙ last-going (slice_split is_feed xs) ys
+pub open_tail-more : (xs ys : List ℕ) → open_tail (xs ++ ys) ≡ open_tail (open_tail xs ++ ys)
+open_tail-more xs ys = ap last_part (parts-more xs ys) ∙ last-going (slice_split is_feed xs) ys
 
 -- ---- all lines
 
@@ -98,15 +98,15 @@ lines-parts (part ∷ []) b = refl
 lines-parts (part ∷ next ∷ more) b =
     ap (λ l. strip_carriage_return part ∷ l) (lines-parts (next ∷ more) (record { part = next; more = more; is = refl }))
 
-pub lines-are : (bytes : List ℕ) → lines bytes ≡ complete_lines bytes ++ last_line (unfinished bytes)
+pub lines-are : (bytes : List ℕ) → lines bytes ≡ complete_lines bytes ++ last_line (open_tail bytes)
 lines-are bytes = lines-parts (slice_split is_feed bytes) (begins bytes)
 
-pub lines-more : (xs ys : List ℕ) → lines (xs ++ ys) ≡ complete_lines xs ++ lines (unfinished xs ++ ys)
+pub lines-more : (xs ys : List ℕ) → lines (xs ++ ys) ≡ complete_lines xs ++ lines (open_tail xs ++ ys)
 lines-more xs ys =
     lines-are (xs ++ ys)
-    ∙ (λ i. complete-more xs ys i ++ last_line (unfinished-more xs ys i))
-    ∙ append_assoc (complete_lines xs) (complete_lines (unfinished xs ++ ys)) (last_line (unfinished (unfinished xs ++ ys)))
-    ∙ ap (λ l. complete_lines xs ++ l) (sym (lines-are (unfinished xs ++ ys)))
+    ∙ (λ i. complete-more xs ys i ++ last_line (open_tail-more xs ys i))
+    ∙ append_assoc (complete_lines xs) (complete_lines (open_tail xs ++ ys)) (last_line (open_tail (open_tail xs ++ ys)))
+    ∙ ap (λ l. complete_lines xs ++ l) (sym (lines-are (open_tail xs ++ ys)))
 
 -- ---- bytes without a line feed
 
@@ -114,51 +114,51 @@ last-onto : (byte : ℕ) (part : List ℕ) (more : List (List ℕ)) → is_feed 
 last-onto byte part [] other h = All-cons (λ b. is_feed b ≡ false) byte part other h
 last-onto byte part (next ∷ more) other h = h
 
-pub unfinished-no_feed : (bytes : List ℕ) → HasNoFeed (unfinished bytes)
-unfinished-no_feed [] = All-nil (λ b. is_feed b ≡ false)
-unfinished-no_feed (x ∷ xs) =
+pub open_tail-no_feed : (bytes : List ℕ) → HasNoFeed (open_tail bytes)
+open_tail-no_feed [] = All-nil (λ b. is_feed b ≡ false)
+open_tail-no_feed (x ∷ xs) =
     let b = begins xs in
-    elim (is_feed x) as (λ b. is_feed x ≡ b → HasNoFeed (unfinished (x ∷ xs))) [
-      | true ↦ λ h. subst HasNoFeed (sym (ap last_part (slice_split-cons_yes is_feed x xs h) ∙ last-behind [] (slice_split is_feed xs) b)) (unfinished-no_feed xs)
+    elim (is_feed x) as (λ b. is_feed x ≡ b → HasNoFeed (open_tail (x ∷ xs))) [
+      | true ↦ λ h. subst HasNoFeed (sym (ap last_part (slice_split-cons_yes is_feed x xs h) ∙ last-behind [] (slice_split is_feed xs) b)) (open_tail-no_feed xs)
       | false ↦ λ h.
           subst HasNoFeed (sym (ap last_part (slice_split-cons_no is_feed x xs h ∙ ap (onto_first x) b.is)))
-          (last-onto x b.part b.more h (subst HasNoFeed (ap last_part b.is) (unfinished-no_feed xs)))
+          (last-onto x b.part b.more h (subst HasNoFeed (ap last_part b.is) (open_tail-no_feed xs)))
     ] refl
 
 pub complete-no_feed : (bytes : List ℕ) → HasNoFeed bytes → complete_lines bytes ≡ []
 complete-no_feed bytes h = ap ended_parts (slice_split_none is_feed bytes h)
 
-pub unfinished-all : (bytes : List ℕ) → HasNoFeed bytes → unfinished bytes ≡ bytes
-unfinished-all bytes h = ap last_part (slice_split_none is_feed bytes h)
+pub open_tail-all : (bytes : List ℕ) → HasNoFeed bytes → open_tail bytes ≡ bytes
+open_tail-all bytes h = ap last_part (slice_split_none is_feed bytes h)
 
-on-no_feed : (bytes part : List ℕ) → HasNoFeed part → HasNoFeed (unfinished bytes ++ part)
-on-no_feed bytes part h = All-append (λ b. is_feed b ≡ false) (unfinished bytes) part (unfinished-no_feed bytes) h
+on-no_feed : (bytes part : List ℕ) → HasNoFeed part → HasNoFeed (open_tail bytes ++ part)
+on-no_feed bytes part h = All-append (λ b. is_feed b ≡ false) (open_tail bytes) part (open_tail-no_feed bytes) h
 
 -- behind other bytes
 pub complete-same : (bytes part : List ℕ) → HasNoFeed part → complete_lines (bytes ++ part) ≡ complete_lines bytes
 complete-same bytes part h =
-    complete-more bytes part ∙ ap (λ l. complete_lines bytes ++ l) (complete-no_feed (unfinished bytes ++ part) (on-no_feed bytes part h)) ∙ append-nil (complete_lines bytes)
+    complete-more bytes part ∙ ap (λ l. complete_lines bytes ++ l) (complete-no_feed (open_tail bytes ++ part) (on-no_feed bytes part h)) ∙ append-nil (complete_lines bytes)
 
-pub unfinished-on : (bytes part : List ℕ) → HasNoFeed part → unfinished (bytes ++ part) ≡ unfinished bytes ++ part
-unfinished-on bytes part h = unfinished-more bytes part ∙ unfinished-all (unfinished bytes ++ part) (on-no_feed bytes part h)
+pub open_tail-on : (bytes part : List ℕ) → HasNoFeed part → open_tail (bytes ++ part) ≡ open_tail bytes ++ part
+open_tail-on bytes part h = open_tail-more bytes part ∙ open_tail-all (open_tail bytes ++ part) (on-no_feed bytes part h)
 
 -- ---- a line feed
 
 -- it completes a line
-pub complete-ended : (bytes : List ℕ) → complete_lines (bytes ++ 10 ∷ []) ≡ complete_lines bytes ++ strip_carriage_return (unfinished bytes) ∷ []
+pub complete-ended : (bytes : List ℕ) → complete_lines (bytes ++ 10 ∷ []) ≡ complete_lines bytes ++ strip_carriage_return (open_tail bytes) ∷ []
 complete-ended bytes =
     complete-more bytes (10 ∷ [])
-    ∙ ap (λ parts. complete_lines bytes ++ ended_parts parts) (slice_split_at is_feed (unfinished bytes) 10 [] (unfinished-no_feed bytes) refl)
+    ∙ ap (λ parts. complete_lines bytes ++ ended_parts parts) (slice_split_at is_feed (open_tail bytes) 10 [] (open_tail-no_feed bytes) refl)
 
-pub unfinished-ended : (bytes : List ℕ) → unfinished (bytes ++ 10 ∷ []) ≡ []
-unfinished-ended bytes = unfinished-more bytes (10 ∷ []) ∙ ap last_part (slice_split_at is_feed (unfinished bytes) 10 [] (unfinished-no_feed bytes) refl)
+pub open_tail-ended : (bytes : List ℕ) → open_tail (bytes ++ 10 ∷ []) ≡ []
+open_tail-ended bytes = open_tail-more bytes (10 ∷ []) ∙ ap last_part (slice_split_at is_feed (open_tail bytes) 10 [] (open_tail-no_feed bytes) refl)
 
 -- ---- bytes behind a line feed
 
-pub complete-from : (bytes part : List ℕ) → unfinished bytes ≡ [] → unfinished part ≡ [] → complete_lines (bytes ++ part) ≡ complete_lines bytes ++ lines part
+pub complete-from : (bytes part : List ℕ) → open_tail bytes ≡ [] → open_tail part ≡ [] → complete_lines (bytes ++ part) ≡ complete_lines bytes ++ lines part
 complete-from bytes part start whole =
     complete-more bytes part ∙ ap (λ l. complete_lines bytes ++ complete_lines (l ++ part)) start
     ∙ ap (λ l. complete_lines bytes ++ l) (sym (lines-are part ∙ ap (λ l. complete_lines part ++ last_line l) whole ∙ append-nil (complete_lines part)))
 
-pub unfinished-from : (bytes part : List ℕ) → unfinished bytes ≡ [] → unfinished (bytes ++ part) ≡ unfinished part
-unfinished-from bytes part start = unfinished-more bytes part ∙ ap (λ l. unfinished (l ++ part)) start
+pub open_tail-from : (bytes part : List ℕ) → open_tail bytes ≡ [] → open_tail (bytes ++ part) ≡ open_tail part
+open_tail-from bytes part start = open_tail-more bytes part ∙ ap (λ l. open_tail (l ++ part)) start

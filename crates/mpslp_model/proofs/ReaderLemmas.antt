@@ -1,7 +1,7 @@
 -- What a reader answers that is fed a whole text as one piece.
 use Rattle.std.proofs.Common.{◌≡◌, sym, subst, ◌∙◌, ◌++◌, ℕ, List, [], Bool, true, false, append-nil}
 use Rattle.std.specs.Prelude.{Result, Ok, Err, IsErrAnd}
-use Rattle.mpslp_core.specs.Model.{LinearModel}
+use Rattle.mpslp_model_core.specs.Model.{LinearModel}
 use Rattle.mpslp_model.specs.Formats.{IsAnswerTo}
 use Rattle.mpslp_model.specs.Readers.{IsFedBy}
 use Rattle.mpslp_types.specs.declared.faults.Fault.{Fault}

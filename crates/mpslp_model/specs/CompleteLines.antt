@@ -23,8 +23,8 @@ abbrev pub complete_lines : List ℕ → List (List ℕ)
 complete_lines bytes = ended_parts (slice_split is_feed bytes)
 
 -- the bytes behind the last line feed. A carriage return at their end is a byte of theirs
-abbrev pub unfinished : List ℕ → List ℕ
-unfinished bytes = last_part (slice_split is_feed bytes)
+abbrev pub open_tail : List ℕ → List ℕ
+open_tail bytes = last_part (slice_split is_feed bytes)
 
 -- There is no line feed in these bytes.
 abbrev pub HasNoFeed : List ℕ → Type 0

@@ -1,6 +1,6 @@
 -- What the calls of a format answer.
 use Rattle.std.specs.Prelude.{◌≡◌, ℕ, ◌-◌, ◌^◌, ◌≤◌, min, List, length, take, Bool, true, Option, None, Some, Result, Ok, Err}
-use Rattle.mpslp_core.specs.Model.{LinearModel}
+use Rattle.mpslp_model_core.specs.Model.{LinearModel}
 use Rattle.mpslp_io.specs.Devices.{Grows}
 use Rattle.mpslp_types.specs.declared.faults.Fault.{Fault}
 use Rattle.mpslp_types.specs.declared.faults.NameAt.{NameAt}

@@ -1,14 +1,14 @@
 //! Formats of model files.
 
 ghost use Rattle.std.specs.Prelude.{◌≡◌, ℕ, ◌+◌, ◌≤◌, ◌↔◌, List, true, false, Option, None, length, IsOk, IsTrue};
-ghost use Rattle.mpslp_core.specs.Model.{LinearModel, IsSound};
+ghost use Rattle.mpslp_model_core.specs.Model.{LinearModel, IsSound};
 ghost use Rattle.mpslp_model.specs.Formats.{IsAnswerTo, IsWritten};
 ghost use Rattle.mpslp_types.specs.declared.faults.Fault.{Fault};
 ghost use Rattle.mpslp_types.specs.declared.faults.NameAt.{NameAt};
 
 use crate::readers::ModelReader;
-use mpslp_core::Model;
 use mpslp_io::Sink;
+use mpslp_model_core::Model;
 use mpslp_types::{ReadFault, WriteFault};
 use std::alloc::Global;
 

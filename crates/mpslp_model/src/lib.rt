@@ -15,8 +15,8 @@ mod readers;
 
 pub use formats::Format;
 pub use mpslp_builder::Builder;
-pub use mpslp_core::Model;
 pub use mpslp_io::{FromRead, IoFailed, Sink, Source, ToWrite, put_all};
+pub use mpslp_model_core::Model;
 pub use mpslp_types::{
     BuildFault, Fault, FaultKind, Kind, Limit, MAX_NAME_LEN, Name, NameAt, NameFault, ReadFault,
     RowType, Sense, WriteFault,

@@ -1,12 +1,12 @@
 //! Readers that are fed a text in pieces.
 
 ghost use Rattle.std.specs.Prelude.{◌≡◌, ◌++◌, ◌↔◌, ℕ, [], List, Bool, true, false, IsErr, IsErrOf};
-ghost use Rattle.mpslp_core.specs.Model.{LinearModel};
+ghost use Rattle.mpslp_model_core.specs.Model.{LinearModel};
 ghost use Rattle.mpslp_model.specs.Formats.{IsAnswerTo};
 ghost use Rattle.mpslp_model.specs.Readers.{IsFedBy};
 ghost use Rattle.mpslp_types.specs.declared.faults.Fault.{Fault};
 
-use mpslp_core::Model;
+use mpslp_model_core::Model;
 use mpslp_types::ReadFault;
 use std::alloc::Global;
 

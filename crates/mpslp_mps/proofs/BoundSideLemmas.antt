@@ -4,11 +4,11 @@ use Rattle.std.specs.Prelude.{◌&&◌, ◌||◌, Option, Some, None, is_some, O
 use Rattle.std.specs.Option.{option_map, option_map_or}
 use Rattle.mpslp_decimal.specs.Decimal.{Number}
 use Rattle.mpslp_builder.specs.Answer.{Answers, first_refusal}
-use Rattle.mpslp_types.specs.Sides.{limit_of, is_plus_infinite, is_minus_infinite}
+use Rattle.mpslp_types.specs.Limit.{limit_of, is_plus_infinite, is_minus_infinite}
 use Rattle.std.proofs.lemmas.List.{append-nil}
 use Rattle.mpslp_builder.specs.Bounds.{zero_limit, one_limit}
-use Rattle.mpslp_builder.specs.Declaration.{Declaration, declare_integer, declare_semi, declare_lower, declare_upper, Draft, adding, adding_all, has_name, has_column, is_integer, is_semi, bounds_declared}
-use Rattle.mpslp_core.specs.Lists.{those_of, when}
+use Rattle.mpslp_builder.specs.Declaration.{Declaration, declare_integer, declare_semi, declare_lower, declare_upper, Draft, with_declaration, with_declarations, has_name, has_column, is_integer, is_semi, bounds_declared}
+use Rattle.mpslp_model_core.specs.Lists.{those_of, when}
 use Rattle.mpslp_types.specs.FaultOrder.{least_kind}
 use Rattle.mpslp_builder.specs.Refusal.{refusals, bounds_refusals, bounds_tests}
 use Rattle.mpslp_types.specs.declared.kinds.Limit.{Limit}
@@ -18,21 +18,21 @@ use Rattle.mpslp_types.specs.declared.faults.FaultKind.{FaultKind}
 use Rattle.mpslp_types.specs.declared.faults.FaultKind.TheVariants as kinds
 use Rattle.mpslp_mps.specs.Line.{Fields}
 use Rattle.mpslp_mps.specs.BoundLine.{BoundLine, bound_type, bound_shape}
-use Rattle.mpslp_mps.specs.LineMeaning.{declared_of, lower_given, upper_given, is_integer_type, is_semi_type, kind_declared, bound_declared, bound_value, bound_line_declared}
+use Rattle.mpslp_mps.specs.LineDeclarations.{declared_if_some, lower_given, upper_given, is_integer_type, is_semi_type, kind_declared, bound_declared, bound_value, bound_line_declared}
 use Rattle.mpslp_mps.specs.KindClash.{type_clash}
-use Rattle.mpslp_reading.specs.Field.{value_of}
-use Rattle.mpslp_reading.specs.Declaring.{kind_of_refusal, declared_fault}
-use Rattle.mpslp_reading.specs.Tests.{first_held}
-use Rattle.mpslp_reading.specs.ErrorOf.{error_of_build}
-use Rattle.mpslp_reading.specs.LineAnswer.{IsErrorOf, LineResult, AreDeclared}
-use Rattle.mpslp_reading.specs.declared.errors.LineError.{LineError}
-use Rattle.mpslp_reading.specs.declared.errors.LineError.TheVariants.{Fault, OutOfMemory}
+use Rattle.mpslp_lines.specs.Field.{value_of}
+use Rattle.mpslp_lines.specs.Declaring.{kind_of_build_fault, declared_fault}
+use Rattle.mpslp_lines.specs.FaultTests.{first_held}
+use Rattle.mpslp_lines.specs.ErrorOf.{error_of_build}
+use Rattle.mpslp_lines.specs.LineAnswer.{IsErrorOf, LineResult, AreDeclared}
+use Rattle.mpslp_lines.specs.declared.errors.LineError.{LineError}
+use Rattle.mpslp_lines.specs.declared.errors.LineError.TheVariants.{Fault, OutOfMemory}
 use Rattle.mpslp_mps.specs.declared.bound_types.BoundType.{BoundType}
 use Rattle.mpslp_mps.specs.declared.bound_types.BoundType.TheVariants as bounds
 use Rattle.mpslp_types.proofs.BoolLemmas.{nor}
-use Rattle.mpslp_builder.proofs.MadeDrafts.{adding_all-append}
-use Rattle.mpslp_reading.proofs.LeastLemmas.{earlier_of}
-use Rattle.mpslp_reading.proofs.RefusedLemmas.{kind_tests, declared-one, declared-append, call-refused, tests-none, tests-error}
+use Rattle.mpslp_builder.proofs.MadeDrafts.{with_declarations-append}
+use Rattle.mpslp_lines.proofs.LeastLemmas.{earlier_of}
+use Rattle.mpslp_lines.proofs.RefusedLemmas.{kind_tests, declared-one, declared-append, call-refused, tests-none, tests-error}
 
 -- the kind of the fault, by whether the column is there, a side is declared already, and one is of the wrong infinity
 abbrev side_kind : Bool → Bool → Bool → Option FaultKind
@@ -74,7 +74,7 @@ sides_fault all column (Some l) None h =
 sides_fault all column None (Some u) h = upper_fault all column u
 sides_fault all column (Some l) (Some u) h =
     declared-append (declare_lower column l ∷ []) (declare_upper column u ∷ []) all
-    ∙ (λ i. earlier_of (lower_fault all column l i) (upper_fault (adding all (declare_lower column l)) column u i))
+    ∙ (λ i. earlier_of (lower_fault all column l i) (upper_fault (with_declaration all (declare_lower column l)) column u i))
     ∙ both_sides (has_column all column) (has_name all.lowers column) (is_plus_infinite l) (has_name all.uppers column) (is_minus_infinite u)
 
 pub sides-refused : (all : Draft) (column : List ℕ) (lower upper : Option Limit) (fault : BuildFault) (P Q : Type 0) → (is_some lower || is_some upper) ≡ true
@@ -102,10 +102,10 @@ one_kind all column other = (not (has_column all column), UnknownColumn) ∷ (ot
 kind_told : (all : Draft) (d : Declaration) (column : List ℕ) (other : Bool) → refusals all d ≡ those_of (one_kind all column other) → other ≡ false
     → declared_fault all (d ∷ []) ≡ cond (not (has_column all column)) (Some kinds.UnknownColumn) None
 kind_told all d column other is apart =
-    ap (λ (faults : List BuildFault). least_kind (map kind_of_refusal faults)) (append-nil (refusals all d) ∙ is ∙ ap (λ (b : Bool). those_of (one_kind all column b)) apart)
+    ap (λ (faults : List BuildFault). least_kind (map kind_of_build_fault faults)) (append-nil (refusals all d) ∙ is ∙ ap (λ (b : Bool). those_of (one_kind all column b)) apart)
     ∙ by (has_column all column)
   where
-    by : (there : Bool) → least_kind (map kind_of_refusal (those_of ((not there, UnknownColumn) ∷ (false, SemiContinuous) ∷ []))) ≡ cond (not there) (Some kinds.UnknownColumn) None
+    by : (there : Bool) → least_kind (map kind_of_build_fault (those_of ((not there, UnknownColumn) ∷ (false, SemiContinuous) ∷ []))) ≡ cond (not there) (Some kinds.UnknownColumn) None
     by true = refl
     by false = refl
 
@@ -131,10 +131,10 @@ semi-error all column fault P Q apart answer = kind_error all (declare_semi colu
 
 -- nothing is refused
 pub integer-none : (all : Draft) (column : List ℕ) → refusals all (declare_integer column) ≡ [] → declared_fault all (declare_integer column ∷ []) ≡ None
-integer-none all column none = ap (λ (faults : List BuildFault). least_kind (map kind_of_refusal faults)) (append-nil (refusals all (declare_integer column)) ∙ none)
+integer-none all column none = ap (λ (faults : List BuildFault). least_kind (map kind_of_build_fault faults)) (append-nil (refusals all (declare_integer column)) ∙ none)
 
 pub semi-none : (all : Draft) (column : List ℕ) → refusals all (declare_semi column) ≡ [] → declared_fault all (declare_semi column ∷ []) ≡ None
-semi-none all column none = ap (λ (faults : List BuildFault). least_kind (map kind_of_refusal faults)) (append-nil (refusals all (declare_semi column)) ∙ none)
+semi-none all column none = ap (λ (faults : List BuildFault). least_kind (map kind_of_build_fault faults)) (append-nil (refusals all (declare_semi column)) ∙ none)
 
 -- ---- by the type of a bound
 
@@ -170,11 +170,11 @@ some-side bounds.IntegerUpper value = refl
 some-side bounds.SemiUpper value = refl
 
 -- the sides' own fault is that of all: where there is no column, it is that fault too
-kind_sides : (all : Draft) (d : Declaration) (column : List ℕ) (lower upper : Option Limit) → bounds_tests (adding all d) column lower upper ≡ bounds_tests all column lower upper
+kind_sides : (all : Draft) (d : Declaration) (column : List ℕ) (lower upper : Option Limit) → bounds_tests (with_declaration all d) column lower upper ≡ bounds_tests all column lower upper
     → declared_fault all (d ∷ []) ≡ cond (not (has_column all column)) (Some kinds.UnknownColumn) None → (is_some lower || is_some upper) ≡ true
-    → declared_fault all (d ∷ bounds_declared column lower upper) ≡ declared_fault (adding all d) (bounds_declared column lower upper)
+    → declared_fault all (d ∷ bounds_declared column lower upper) ≡ declared_fault (with_declaration all d) (bounds_declared column lower upper)
 kind_sides all d column lower upper same fault_is h =
-    let mid = adding all d in
+    let mid = with_declaration all d in
     let sides = sides_fault mid column lower upper h ∙ ap (λ (tests : List (Bool × BuildFault)). first_held (kind_tests tests)) same in
     declared-append (d ∷ []) (bounds_declared column lower upper) all
     ∙ (λ i. earlier_of (fault_is i) (sides i))
@@ -186,16 +186,16 @@ kind_sides all d column lower upper same fault_is h =
     by true b c = refl
 
 integer_sides : (all : Draft) (column : List ℕ) (lower upper : Option Limit) → is_semi all column ≡ false → (is_some lower || is_some upper) ≡ true
-    → declared_fault all (declare_integer column ∷ bounds_declared column lower upper) ≡ declared_fault (adding all (declare_integer column)) (bounds_declared column lower upper)
+    → declared_fault all (declare_integer column ∷ bounds_declared column lower upper) ≡ declared_fault (with_declaration all (declare_integer column)) (bounds_declared column lower upper)
 integer_sides all column lower upper apart some =
     kind_sides all (declare_integer column) column lower upper refl (kind_told all (declare_integer column) column (is_semi all column) refl apart) some
 
 -- that there is no column is told of the sides too
-column_missing : (all : Draft) (d : Declaration) (column : List ℕ) (lower upper : Option Limit) (kind : FaultKind) → bounds_tests (adding all d) column lower upper ≡ bounds_tests all column lower upper
+column_missing : (all : Draft) (d : Declaration) (column : List ℕ) (lower upper : Option Limit) (kind : FaultKind) → bounds_tests (with_declaration all d) column lower upper ≡ bounds_tests all column lower upper
     → declared_fault all (d ∷ []) ≡ cond (not (has_column all column)) (Some kinds.UnknownColumn) None → (is_some lower || is_some upper) ≡ true
     → declared_fault all (d ∷ []) ≡ Some kind → declared_fault all (d ∷ bounds_declared column lower upper) ≡ Some kind
 column_missing all d column lower upper kind same fault_is some is =
-    kind_sides all d column lower upper same fault_is some ∙ sides_fault (adding all d) column lower upper some ∙ ap (λ (tests : List (Bool × BuildFault)). first_held (kind_tests tests)) same
+    kind_sides all d column lower upper same fault_is some ∙ sides_fault (with_declaration all d) column lower upper some ∙ ap (λ (tests : List (Bool × BuildFault)). first_held (kind_tests tests)) same
     ∙ by (has_column all column) ((is_some lower && has_name all.lowers column) || (is_some upper && has_name all.uppers column)) (option_map_or is_plus_infinite lower false || option_map_or is_minus_infinite upper false)
     (sym fault_is ∙ is)
   where
@@ -211,7 +211,7 @@ integer_missing all column lower upper kind apart some is =
 -- whatever kind is declared, where none clashes
 pub bound-told : (all : Draft) (type : BoundType) (column : List ℕ) (value : Limit) → type_clash all type column ≡ false
     → declared_fault all (bound_declared type column value)
-    ≡ declared_fault (adding_all all (kind_declared type column)) (bounds_declared column (lower_given type value) (upper_given type value))
+    ≡ declared_fault (with_declarations all (kind_declared type column)) (bounds_declared column (lower_given type value) (upper_given type value))
 bound-told all bounds.Lower column value apart = refl
 bound-told all bounds.Upper column value apart = refl
 bound-told all bounds.Fixed column value apart = refl
@@ -226,7 +226,7 @@ bound-told all bounds.SemiUpper column value apart =
 
 -- the kind that is declared changes nothing for the sides
 same_sides : (all : Draft) (type : BoundType) (column : List ℕ) (lower upper : Option Limit)
-    → bounds_tests (adding_all all (kind_declared type column)) column lower upper ≡ bounds_tests all column lower upper
+    → bounds_tests (with_declarations all (kind_declared type column)) column lower upper ≡ bounds_tests all column lower upper
 same_sides all bounds.Lower column lower upper = refl
 same_sides all bounds.Upper column lower upper = refl
 same_sides all bounds.Fixed column lower upper = refl
@@ -248,22 +248,22 @@ bound-asked all type column value lower upper apart l u =
     (λ i. declared_fault all (bounds_declared column (l i) (u i)))
     ∙ sides_fault all column below above given
     ∙ ap (λ (tests : List (Bool × BuildFault)). first_held (kind_tests tests)) (sym (same_sides all type column below above))
-    ∙ sym (sides_fault (adding_all all (kind_declared type column)) column below above given)
+    ∙ sym (sides_fault (with_declarations all (kind_declared type column)) column below above given)
     ∙ sym (bound-told all type column value apart)
 
 -- the kind, and then the sides
 pub bound-declares : (all mid later : Draft) (type : BoundType) (column : List ℕ) (value : Limit) (lower upper : Option Limit) (answer : LineResult) → type_clash all type column ≡ false
-    → mid ≡ adding_all all (kind_declared type column) → lower ≡ lower_given type value → upper ≡ upper_given type value
+    → mid ≡ with_declarations all (kind_declared type column) → lower ≡ lower_given type value → upper ≡ upper_given type value
     → AreDeclared mid (bounds_declared column lower upper) answer later → AreDeclared all (bound_declared type column value) answer later
 bound-declares all mid later type column value lower upper answer apart m l u declared = by answer declared
   where
     fault_is : declared_fault all (bound_declared type column value) ≡ declared_fault mid (bounds_declared column lower upper)
     fault_is = bound-told all type column value apart ∙ (λ i. declared_fault (sym m i) (bounds_declared column (sym l i) (sym u i)))
 
-    made : adding_all mid (bounds_declared column lower upper) ≡ adding_all all (bound_declared type column value)
+    made : with_declarations mid (bounds_declared column lower upper) ≡ with_declarations all (bound_declared type column value)
     made =
-        (λ i. adding_all (m i) (bounds_declared column (l i) (u i)))
-        ∙ sym (adding_all-append (kind_declared type column) (bounds_declared column (lower_given type value) (upper_given type value)) all)
+        (λ i. with_declarations (m i) (bounds_declared column (l i) (u i)))
+        ∙ sym (with_declarations-append (kind_declared type column) (bounds_declared column (lower_given type value) (upper_given type value)) all)
 
     by : (a : LineResult) → AreDeclared mid (bounds_declared column lower upper) a later → AreDeclared all (bound_declared type column value) a later
     by (Ok x) h = (fault_is ∙ h.0, h.1 ∙ made)
@@ -299,6 +299,6 @@ value-is (Some literal) value h = ap (λ (v : Option Number). option_map_or limi
 pub bound-is : (letters : List ℕ) (more : Fields) (type : BoundType) (line : BoundLine) (value : Option Number) → bound_type letters ≡ Some type → bound_shape type more ≡ Some line
     → value ≡ option_map value_of line.literal → bound_line_declared (letters ∷ more) ≡ bound_declared type line.column (option_map_or limit_of value zero_limit)
 bound-is letters more type line value t l v =
-    ap (declared_of (λ found. declared_of (λ (parts : BoundLine). bound_declared found parts.column (bound_value parts)) (bound_shape found more))) t
-    ∙ ap (declared_of (λ (parts : BoundLine). bound_declared type parts.column (bound_value parts))) l
+    ap (declared_if_some (λ found. declared_if_some (λ (parts : BoundLine). bound_declared found parts.column (bound_value parts)) (bound_shape found more))) t
+    ∙ ap (declared_if_some (λ (parts : BoundLine). bound_declared type parts.column (bound_value parts))) l
     ∙ ap (bound_declared type line.column) (value-is line.literal value v)

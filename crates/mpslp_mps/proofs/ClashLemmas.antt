@@ -7,9 +7,9 @@ use Rattle.std.specs.Option.{option_map, option_map_or}
 use Rattle.std.proofs.lemmas.List.Folds.{list_any-append}
 use Rattle.mpslp_decimal.specs.Decimal.{Number}
 use Rattle.mpslp_builder.specs.Answer.{Answer, first_refusal}
-use Rattle.mpslp_builder.specs.Declaration.{Declaration, declare_objective, declare_row, by_type, declare_column, declare_marked, declare_integer, declare_semi, Declarations, Draft, adding, has_column, is_integer, is_semi, bounds_declared}
+use Rattle.mpslp_builder.specs.Declaration.{Declaration, declare_objective, declare_row, by_type, declare_column, declare_marked, declare_integer, declare_semi, Declarations, Draft, with_declaration, has_column, is_integer, is_semi, bounds_declared}
 use Rattle.mpslp_builder.specs.Bounds.{zero_limit, one_limit}
-use Rattle.mpslp_core.specs.Lists.{those_of, when}
+use Rattle.mpslp_model_core.specs.Lists.{those_of, when}
 use Rattle.mpslp_builder.specs.Made.{IsMade}
 use Rattle.mpslp_builder.specs.Refusal.{refusals, refusals_in_turn}
 use Rattle.mpslp_types.specs.declared.kinds.Limit.{Limit}
@@ -17,13 +17,13 @@ use Rattle.mpslp_types.specs.declared.kinds.RowType.{RowType}
 use Rattle.mpslp_types.specs.declared.kinds.RowType.TheVariants.{Free, AtMost, AtLeast, Equal}
 use Rattle.mpslp_types.specs.declared.faults.BuildFault.TheVariants as builds
 use Rattle.mpslp_builder.proofs.MadeDrafts.{declared_names-from_made}
-use Rattle.mpslp_reading.specs.Declaring.{is_kind_clash}
-use Rattle.mpslp_reading.proofs.ClashLemmas.{has_kind_clash, says_no_kind, no-clash}
+use Rattle.mpslp_lines.specs.Declaring.{is_kind_clash}
+use Rattle.mpslp_lines.proofs.ClashLemmas.{has_kind_clash, says_no_kind, no-clash}
 use Rattle.mpslp_mps.specs.Line.{Fields}
 use Rattle.mpslp_mps.specs.DataLine.{ValuesLine, word_shape, row_shape, row_type, column_shape, is_marker_line}
 use Rattle.mpslp_mps.specs.BoundLine.{BoundLine, bound_type, bound_shape}
 use Rattle.mpslp_mps.specs.Context.{Context}
-use Rattle.mpslp_mps.specs.LineMeaning.{declared_of, sense_declared, is_new_objective, row_of_type, row_declared, coefficient_declared, column_declared, bound_declared, bound_value, bound_line_declared, default_objective, data_declared, header_declared}
+use Rattle.mpslp_mps.specs.LineDeclarations.{declared_if_some, sense_declared, is_new_objective, row_of_type, row_declared, coefficient_declared, column_declared, bound_declared, bound_value, bound_line_declared, default_objective, data_declared, header_declared}
 use Rattle.mpslp_mps.specs.LineValues.{named_values}
 use Rattle.mpslp_mps.specs.KindClash.{column_clash, type_clash, bound_clash}
 use Rattle.mpslp_mps.specs.declared.bound_types.BoundType.{BoundType}
@@ -64,7 +64,7 @@ kind_clash false false = refl
 then_none : (earlier : Draft) (d : Declaration) (more : Declarations) (other : Bool) → list_any is_kind_clash (refusals earlier d) ≡ other → list_all says_no_kind more ≡ true
     → has_kind_clash earlier (d ∷ more) ≡ (other || false)
 then_none earlier d more other is none =
-    list_any-append is_kind_clash (refusals earlier d) (refusals_in_turn (adding earlier d) more) ∙ (λ i. is i || no-clash more (adding earlier d) none i)
+    list_any-append is_kind_clash (refusals earlier d) (refusals_in_turn (with_declaration earlier d) more) ∙ (λ i. is i || no-clash more (with_declaration earlier d) none i)
 
 and_none : (b : Bool) → (b && false) ≡ false
 and_none true = refl
@@ -78,13 +78,13 @@ or_none false = refl
 pub column-clashes : (context : Context) (earlier : Draft) (fields : Fields) → is_marker_line fields ≡ false
     → has_kind_clash earlier (data_declared context earlier fields (Some Columns)) ≡ column_clash context earlier fields
 column-clashes context earlier fields plain =
-    ap (λ (b : Bool). has_kind_clash earlier (cond b [] (declared_of (column_declared context) (column_shape fields)))) plain ∙ of (column_shape fields)
+    ap (λ (b : Bool). has_kind_clash earlier (cond b [] (declared_if_some (column_declared context) (column_shape fields)))) plain ∙ of (column_shape fields)
   where
     front : (line : ValuesLine) (marked : Bool)
         → has_kind_clash earlier (declare_column line.name ∷ (when marked (declare_marked line.name) ++ flat_map (coefficient_declared line.name) line.pairs))
         ≡ (marked && is_semi earlier line.name)
     front line true =
-        let next = adding earlier (declare_column line.name) in
+        let next = with_declaration earlier (declare_column line.name) in
         then_none next (declare_marked line.name) (flat_map (coefficient_declared line.name) line.pairs) (is_semi earlier line.name)
         (kind_clash (not (has_column next line.name)) (is_semi earlier line.name)) (each-flat says_no_kind (coefficient_declared line.name) line.pairs (λ pair. refl))
         ∙ or_none (is_semi earlier line.name)
@@ -92,7 +92,7 @@ column-clashes context earlier fields plain =
         no-clash (declare_column line.name ∷ flat_map (coefficient_declared line.name) line.pairs) earlier
         (each-flat says_no_kind (coefficient_declared line.name) line.pairs (λ pair. refl))
 
-    of : (o : Option ValuesLine) → has_kind_clash earlier (declared_of (column_declared context) o)
+    of : (o : Option ValuesLine) → has_kind_clash earlier (declared_if_some (column_declared context) o)
         ≡ (context.in_integer_part && option_map_or (λ line. is_semi earlier line.name) o false)
     of None = sym (and_none context.in_integer_part)
     of (Some line) = front line context.in_integer_part
@@ -132,13 +132,13 @@ pub bound-clashes : (earlier : Draft) (fields : Fields) → has_kind_clash earli
 bound-clashes earlier [] = refl
 bound-clashes earlier (letters ∷ more) = typed (bound_type letters)
   where
-    lined : (type : BoundType) (o : Option BoundLine) → has_kind_clash earlier (declared_of (λ (line : BoundLine). bound_declared type line.column (bound_value line)) o)
+    lined : (type : BoundType) (o : Option BoundLine) → has_kind_clash earlier (declared_if_some (λ (line : BoundLine). bound_declared type line.column (bound_value line)) o)
         ≡ option_map_or (λ line. type_clash earlier type line.column) o false
     lined type None = refl
     lined type (Some line) = type-clashes earlier type line.column (bound_value line)
 
     typed : (o : Option BoundType)
-        → has_kind_clash earlier (declared_of (λ type. declared_of (λ (line : BoundLine). bound_declared type line.column (bound_value line)) (bound_shape type more)) o)
+        → has_kind_clash earlier (declared_if_some (λ type. declared_if_some (λ (line : BoundLine). bound_declared type line.column (bound_value line)) (bound_shape type more)) o)
         ≡ option_map_or (λ type. option_map_or (λ line. type_clash earlier type line.column) (bound_shape type more) false) o false
     typed None = refl
     typed (Some type) = lined type (bound_shape type more)
@@ -180,10 +180,10 @@ ranges-apart context earlier fields = no-clash (data_declared context earlier fi
 pub header-apart : (context : Context) (earlier : Draft) (more : Fields) (section : Option Section) → has_kind_clash earlier (header_declared context earlier more section) ≡ false
 header-apart context earlier more None = refl
 header-apart context earlier more (Some Name) = refl
-header-apart context earlier more (Some ObjSense) = no-clash (declared_of sense_declared (word_shape more)) earlier (sense-passes says_no_kind (λ s. refl) more)
+header-apart context earlier more (Some ObjSense) = no-clash (declared_if_some sense_declared (word_shape more)) earlier (sense-passes says_no_kind (λ s. refl) more)
 header-apart context earlier more (Some ObjName) = refl
 header-apart context earlier more (Some Rows) = refl
-header-apart context earlier more (Some Columns) = no-clash (default_objective context earlier) earlier (named (is_none earlier.objective && is_none context.objective_name))
+header-apart context earlier more (Some Columns) = no-clash (default_objective context earlier) earlier (named (is_none earlier.objective && is_none context.objname))
   where
     named : (b : Bool) → list_all says_no_kind (cond b (declare_objective (codes "obj") ∷ []) []) ≡ true
     named true = refl

@@ -7,33 +7,33 @@ use Rattle.std.specs.Option.{option_map, option_or}
 use Rattle.std.proofs.lemmas.Bool.Decides.{nat_tests}
 use Rattle.mpslp_decimal.specs.Decimal.{Number}
 use Rattle.mpslp_types.specs.Name.{same_bytes, has_name_length, is_visible, marker, is_mps_name}
-use Rattle.mpslp_builder.specs.Declaration.{Declarations, Draft, adding_all, has_column}
-use Rattle.mpslp_core.specs.Lists.{those_of}
+use Rattle.mpslp_builder.specs.Declaration.{Declarations, Draft, with_declarations, has_column}
+use Rattle.mpslp_model_core.specs.Lists.{those_of}
 use Rattle.mpslp_types.specs.FaultOrder.{kind_rank, least_kind}
 use Rattle.mpslp_types.specs.declared.faults.FaultKind.{FaultKind}
 use Rattle.mpslp_types.specs.declared.faults.FaultKind.TheVariants as kinds
 use Rattle.mpslp_mps.specs.Line.{Fields, data_line}
 use Rattle.mpslp_mps.specs.DataLine.{Pair, ValuesLine, column_shape, is_marker_line}
 use Rattle.mpslp_mps.specs.Context.{Context}
-use Rattle.mpslp_reading.specs.Tests.{Tests, judged_by, first_held}
-use Rattle.mpslp_reading.specs.Field.{name_tests, number_tests}
+use Rattle.mpslp_lines.specs.FaultTests.{FaultTests, judged_by, first_held}
+use Rattle.mpslp_lines.specs.Field.{name_tests, number_tests}
 use Rattle.mpslp_mps.specs.FieldFault.{literals_of}
 use Rattle.mpslp_mps.specs.LineValues.{row_value, named_values}
 use Rattle.mpslp_mps.specs.DataFault.{is_split, marker_tests, column_tests, data_tests}
-use Rattle.mpslp_mps.specs.LineMeaning.{coefficient_declared, data_declared, declared_of, column_declared}
-use Rattle.mpslp_reading.specs.Declaring.{declaring_faults, declared_fault}
+use Rattle.mpslp_mps.specs.LineDeclarations.{coefficient_declared, data_declared, declared_if_some, column_declared}
+use Rattle.mpslp_lines.specs.Declaring.{declaring_faults, declared_fault}
 use Rattle.mpslp_mps.specs.LineAnswer.{item_fault}
-use Rattle.mpslp_mps.specs.ColumnDeclared.{front_declared, value_declared, has_double}
+use Rattle.mpslp_mps.specs.ColumnDeclared.{front_declared, value_declared, has_duplicate}
 use Rattle.mpslp_mps.specs.declared.sections.Section.{Section}
 use Rattle.mpslp_mps.specs.declared.sections.Section.TheVariants.{Columns}
-use Rattle.mpslp_reading.proofs.HeldLemmas.{held-third, held-among}
-use Rattle.mpslp_reading.proofs.LeastLemmas.{is_from, earlier_of, stays-least, least-those_of, least-append}
-use Rattle.mpslp_reading.specs.LineAnswer.{IsErrorOf}
-use Rattle.mpslp_reading.specs.declared.errors.LineError.{LineError}
-use Rattle.mpslp_reading.specs.declared.errors.LineError.TheVariants as errors
-use Rattle.mpslp_reading.proofs.FirstFaultLemmas.{form-first, is_behind_clash}
+use Rattle.mpslp_lines.proofs.HeldLemmas.{held-third, held-among}
+use Rattle.mpslp_lines.proofs.LeastLemmas.{is_from, earlier_of, stays-least, least-those_of, least-append}
+use Rattle.mpslp_lines.specs.LineAnswer.{IsErrorOf}
+use Rattle.mpslp_lines.specs.declared.errors.LineError.{LineError}
+use Rattle.mpslp_lines.specs.declared.errors.LineError.TheVariants as errors
+use Rattle.mpslp_lines.proofs.FirstFaultLemmas.{form-first, is_behind_clash}
 use Rattle.mpslp_mps.proofs.RisingTests.{data-rising}
-use Rattle.mpslp_reading.proofs.DeclaringLemmas.{declared-after, are_from}
+use Rattle.mpslp_lines.proofs.DeclaringLemmas.{declared-after, are_from}
 use Rattle.mpslp_mps.specs.KindClash.{column_clash}
 use Rattle.mpslp_mps.proofs.TakingLemmas.{is_early}
 use Rattle.mpslp_mps.proofs.TakenLemmas.{clash-told}
@@ -43,10 +43,10 @@ use Rattle.mpslp_mps.proofs.ColumnTaking.{are_rows, front-none, front-there, fro
 -- ---- the form
 
 -- the tests of names and numbers, before that for whether the column's lines stand together
-abbrev pub field_tests : ValuesLine → Tests
+abbrev pub field_tests : ValuesLine → FaultTests
 field_tests line = name_tests line.name ++ number_tests (literals_of line.pairs)
 
-abbrev split_test : Context → Draft → List ℕ → Tests
+abbrev split_test : Context → Draft → List ℕ → FaultTests
 split_test context earlier column = (is_split context earlier column, kinds.ColumnSplit) ∷ []
 
 plain-tests : (context : Context) (earlier : Draft) (fields : Fields) → is_marker_line fields ≡ false
@@ -94,7 +94,7 @@ pub column-clash-told : (context : Context) (earlier : Draft) (fields : Fields) 
     → column_clash context earlier fields ≡ true → item_fault context earlier (data_line fields) ≡ Some kinds.SemiContinuous
 column-clash-told context earlier fields here plain clash =
     clash-told context earlier fields (Some Columns) here
-    (ap (λ (tests : Tests). list_all (λ test. is_behind_clash test.1) tests) (plain-tests context earlier fields plain) ∙ behind_fields context earlier (column_shape fields))
+    (ap (λ (tests : FaultTests). list_all (λ test. is_behind_clash test.1) tests) (plain-tests context earlier fields plain) ∙ behind_fields context earlier (column_shape fields))
     (column-clashes context earlier fields plain ∙ clash)
 
 -- ---- the form and what is declared
@@ -115,7 +115,7 @@ values_declared column [] = refl
 values_declared column (pair ∷ pairs) = ap (λ (ds : Declarations). value_declared column (row_value pair) ++ ds) (values_declared column pairs)
 
 line_declared : (context : Context) (parts : Option ValuesLine) (column : List ℕ) (values : List (List ℕ × Number)) → option_map named_values parts ≡ Some (column, values)
-    → declared_of (column_declared context) parts ≡ front_declared context.in_integer_part column ++ flat_map (value_declared column) values
+    → declared_if_some (column_declared context) parts ≡ front_declared context.in_integer_part column ++ flat_map (value_declared column) values
 line_declared context None column values is = cc
 line_declared context (Some line) column values is =
     ap (λ (ds : Declarations). front_declared context.in_integer_part line.name ++ ds) (values_declared line.name line.pairs)
@@ -125,11 +125,11 @@ pub column-declares : (context : Context) (earlier : Draft) (fields : Fields) (c
     → option_map named_values (column_shape fields) ≡ Some (column, values)
     → data_declared context earlier fields (Some Columns) ≡ front_declared context.in_integer_part column ++ flat_map (value_declared column) values
 column-declares context earlier fields column values plain is =
-    ap (λ (b : Bool). cond b [] (declared_of (column_declared context) (column_shape fields))) plain ∙ line_declared context (column_shape fields) column values is
+    ap (λ (b : Bool). cond b [] (declared_if_some (column_declared context) (column_shape fields))) plain ∙ line_declared context (column_shape fields) column values is
 
 -- the draft in which the column stands
 abbrev pub with_column : Context → Draft → List ℕ → Draft
-with_column context earlier column = adding_all earlier (front_declared context.in_integer_part column)
+with_column context earlier column = with_declarations earlier (front_declared context.in_integer_part column)
 
 pub column-fault : (context : Context) (earlier : Draft) (fields : Fields) (column : List ℕ) (values : List (List ℕ × Number)) → context.section ≡ Some Columns
     → is_marker_line fields ≡ false → column_clash context earlier fields ≡ false → first_held (judged_by field_tests (column_shape fields)) ≡ None
@@ -153,7 +153,7 @@ column-fault context earlier fields column values here plain apart held is =
 -- ---- the place
 
 -- that the rows are declared, and that the column is not split
-abbrev pub place_tests : Context → Draft → List ℕ → List (List ℕ × Number) → Tests
+abbrev pub place_tests : Context → Draft → List ℕ → List (List ℕ × Number) → FaultTests
 place_tests context earlier column values = (not (are_rows earlier values), kinds.UnknownRow) ∷ split_test context earlier column
 
 late_enough : (o : Option FaultKind) → are_from kinds.DuplicateEntry o ≡ true → are_from kinds.ColumnSplit o ≡ true
@@ -213,7 +213,7 @@ placed-fault context earlier fields column values here plain apart held is in_or
 pub double-fault : (context : Context) (earlier : Draft) (fields : Fields) (column : List ℕ) (values : List (List ℕ × Number)) → context.section ≡ Some Columns
     → is_marker_line fields ≡ false → column_clash context earlier fields ≡ false → first_held (judged_by field_tests (column_shape fields)) ≡ None
     → option_map named_values (column_shape fields) ≡ Some (column, values) → first_held (place_tests context earlier column values) ≡ None
-    → item_fault context earlier (data_line fields) ≡ cond (has_double earlier column values) (Some kinds.DuplicateEntry) None
+    → item_fault context earlier (data_line fields) ≡ cond (has_duplicate earlier column values) (Some kinds.DuplicateEntry) None
 double-fault context earlier fields column values here plain apart held is in_order =
     let marked = context.in_integer_part in
     placed-fault context earlier fields column values here plain apart held is in_order
@@ -246,7 +246,7 @@ column-named (Some line) column values h is =
     let same : line.name ≡ column = ap (λ (o : Option (List ℕ × List (List ℕ × Number))). elim o as (λ _. List ℕ) [ None ↦ [] | Some p ↦ p.0 ]) is in
     ap is_mps_name (sym same) ∙ by (has_name_length line.name) (list_all is_visible line.name) (same_bytes line.name marker) h
   where
-    more : Tests
+    more : FaultTests
     more = number_tests (literals_of line.pairs)
 
     by : (long visible named : Bool) → first_held ((not long, kinds.NameLength) ∷ (not visible, kinds.NameByte) ∷ (named, kinds.NameMarker) ∷ more) ≡ None

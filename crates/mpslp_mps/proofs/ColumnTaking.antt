@@ -6,9 +6,9 @@ use Rattle.std.specs.Cmp.{first_so, second_so}
 use Rattle.std.specs.FinMap.{find, put}
 use Rattle.mpslp_decimal.specs.Decimal.{Number}
 use Rattle.mpslp_types.specs.Name.{same_bytes, bytes_cmp}
-use Rattle.mpslp_core.specs.Model.{CoefficientKey, key_cmp}
-use Rattle.mpslp_builder.specs.Declaration.{declare_column, declare_marked, declare_coefficient, Declarations, Draft, adding, adding_all, has_row, has_column, has_entry, is_semi}
-use Rattle.mpslp_core.specs.Lists.{those_of, when}
+use Rattle.mpslp_model_core.specs.Model.{CoefficientKey, key_cmp}
+use Rattle.mpslp_builder.specs.Declaration.{declare_column, declare_marked, declare_coefficient, Declarations, Draft, with_declaration, with_declarations, has_row, has_column, has_coefficient, is_semi}
+use Rattle.mpslp_model_core.specs.Lists.{those_of, when}
 use Rattle.mpslp_types.specs.FaultOrder.{least_kind}
 use Rattle.mpslp_types.specs.declared.faults.BuildFault.{BuildFault}
 use Rattle.mpslp_types.specs.declared.faults.BuildFault.TheVariants.{UnknownColumn, SemiContinuous}
@@ -20,20 +20,20 @@ use Rattle.mpslp_types.specs.declared.faults.FaultKind.TheVariants as kinds
 use Rattle.mpslp_mps.specs.Line.{Fields}
 use Rattle.mpslp_mps.specs.DataLine.{column_shape, is_marker_line, marker_shape}
 use Rattle.mpslp_mps.specs.Context.{Context}
-use Rattle.mpslp_reading.specs.Tests.{judged_by}
+use Rattle.mpslp_lines.specs.FaultTests.{judged_by}
 use Rattle.mpslp_mps.specs.DataFault.{marker_tests, marker_word_tests, is_sos_marker, column_tests, data_tests}
-use Rattle.mpslp_mps.specs.LineMeaning.{data_declared, declared_of, column_declared}
-use Rattle.mpslp_reading.specs.Declaring.{kind_of_refusal, declared_fault}
-use Rattle.mpslp_mps.specs.ColumnDeclared.{front_declared, value_declared, has_double}
-use Rattle.mpslp_reading.specs.LineAnswer.{IsErrorOf}
-use Rattle.mpslp_reading.specs.declared.errors.LineError.{LineError}
-use Rattle.mpslp_reading.specs.declared.errors.LineError.TheVariants.{Fault, OutOfMemory}
+use Rattle.mpslp_mps.specs.LineDeclarations.{data_declared, declared_if_some, column_declared}
+use Rattle.mpslp_lines.specs.Declaring.{kind_of_build_fault, declared_fault}
+use Rattle.mpslp_mps.specs.ColumnDeclared.{front_declared, value_declared, has_duplicate}
+use Rattle.mpslp_lines.specs.LineAnswer.{IsErrorOf}
+use Rattle.mpslp_lines.specs.declared.errors.LineError.{LineError}
+use Rattle.mpslp_lines.specs.declared.errors.LineError.TheVariants.{Fault, OutOfMemory}
 use Rattle.mpslp_mps.specs.declared.sections.Section.TheVariants.{Columns}
-use Rattle.mpslp_reading.proofs.LeastLemmas.{lesser, earlier_of, stays-least}
-use Rattle.mpslp_reading.proofs.ClashLemmas.{has_kind_clash, says_no_kind, no-clash}
-use Rattle.mpslp_reading.proofs.FirstFaultLemmas.{form-first}
-use Rattle.mpslp_reading.proofs.RefusedLemmas.{declared-append, declared-one}
-use Rattle.mpslp_reading.proofs.DeclaringLemmas.{declared-after, are_from, from-earlier}
+use Rattle.mpslp_lines.proofs.LeastLemmas.{lesser, earlier_of, stays-least}
+use Rattle.mpslp_lines.proofs.ClashLemmas.{has_kind_clash, says_no_kind, no-clash}
+use Rattle.mpslp_lines.proofs.FirstFaultLemmas.{form-first}
+use Rattle.mpslp_lines.proofs.RefusedLemmas.{declared-append, declared-one}
+use Rattle.mpslp_lines.proofs.DeclaringLemmas.{declared-after, are_from, from-earlier}
 use Rattle.mpslp_mps.proofs.OrderLemmas.{each-flat}
 use Rattle.mpslp_mps.proofs.TakingLemmas.{is_early}
 
@@ -51,12 +51,12 @@ marker-early context fields = of (marker_shape fields)
     of (Some word) = refl
 
 pub marker-declares : (context : Context) (earlier : Draft) (fields : Fields) → is_marker_line fields ≡ true → data_declared context earlier fields (Some Columns) ≡ []
-marker-declares context earlier fields h = ap (λ (b : Bool). cond b [] (declared_of (column_declared context) (column_shape fields))) h
+marker-declares context earlier fields h = ap (λ (b : Bool). cond b [] (declared_if_some (column_declared context) (column_shape fields))) h
 
 -- ---- what a line of a column declares
 
 -- once a column is declared, it is there
-pub column-there : (earlier : Draft) (column : List ℕ) → has_column (adding earlier (declare_column column)) column ≡ true
+pub column-there : (earlier : Draft) (column : List ℕ) → has_column (with_declaration earlier (declare_column column)) column ≡ true
 column-there earlier column =
     has-put column column tt earlier.columns ∙ ap (λ (b : Bool). b || has_column earlier column) (itself_named column)
 
@@ -64,9 +64,9 @@ column-there earlier column =
 pub front-none : (earlier : Draft) (marked : Bool) (column : List ℕ) → (marked && is_semi earlier column) ≡ false → declared_fault earlier (front_declared marked column) ≡ None
 front-none earlier false column apart = refl
 front-none earlier true column apart = λ i.
-    least_kind (map kind_of_refusal (those_of ((not (column-there earlier column i), UnknownColumn) ∷ (apart i, SemiContinuous) ∷ []) ++ []))
+    least_kind (map kind_of_build_fault (those_of ((not (column-there earlier column i), UnknownColumn) ∷ (apart i, SemiContinuous) ∷ []) ++ []))
 
-pub front-there : (earlier : Draft) (marked : Bool) (column : List ℕ) → has_column (adding_all earlier (front_declared marked column)) column ≡ true
+pub front-there : (earlier : Draft) (marked : Bool) (column : List ℕ) → has_column (with_declarations earlier (front_declared marked column)) column ≡ true
 front-there earlier true column = column-there earlier column
 front-there earlier false column = column-there earlier column
 
@@ -74,17 +74,17 @@ abbrev pub are_rows : Draft → List (List ℕ × Number) → Bool
 are_rows earlier values = list_all (λ value. has_row earlier value.0) values
 
 pub front-rows : (earlier : Draft) (marked : Bool) (column : List ℕ) (values : List (List ℕ × Number))
-    → are_rows (adding_all earlier (front_declared marked column)) values ≡ are_rows earlier values
+    → are_rows (with_declarations earlier (front_declared marked column)) values ≡ are_rows earlier values
 front-rows earlier true column values = refl
 front-rows earlier false column values = refl
 
 -- of one value in a column that is there
 pub value-fault : (earlier : Draft) (column : List ℕ) (value : List ℕ × Number) → has_column earlier column ≡ true
     → declared_fault earlier (value_declared column value)
-    ≡ cond (not (has_row earlier value.0)) (Some kinds.UnknownRow) (cond (has_entry earlier (record { row = value.0; column = column })) (Some kinds.DuplicateEntry) None)
+    ≡ cond (not (has_row earlier value.0)) (Some kinds.UnknownRow) (cond (has_coefficient earlier (record { row = value.0; column = column })) (Some kinds.DuplicateEntry) None)
 value-fault earlier column value there =
     declared-one earlier (declare_coefficient (record { row = value.0; column = column }) value.1) refl
-    ∙ ap (λ (b : Bool). cond (not (has_row earlier value.0)) (Some kinds.UnknownRow) (cond (not b) (Some kinds.UnknownColumn) (cond (has_entry earlier (record { row = value.0; column = column })) (Some kinds.DuplicateEntry) None))) there
+    ∙ ap (λ (b : Bool). cond (not (has_row earlier value.0)) (Some kinds.UnknownRow) (cond (not b) (Some kinds.UnknownColumn) (cond (has_coefficient earlier (record { row = value.0; column = column })) (Some kinds.DuplicateEntry) None))) there
 
 entry-late : (b : Bool) → are_from kinds.DuplicateEntry (cond b (Some kinds.DuplicateEntry) None) ≡ true
 entry-late true = refl
@@ -93,7 +93,7 @@ entry-late false = refl
 value-late : (earlier : Draft) (column : List ℕ) (value : List ℕ × Number) → has_column earlier column ≡ true → has_row earlier value.0 ≡ true
     → are_from kinds.DuplicateEntry (declared_fault earlier (value_declared column value)) ≡ true
 value-late earlier column value there row =
-    let double = has_entry earlier (record { row = value.0; column = column }) in
+    let double = has_coefficient earlier (record { row = value.0; column = column }) in
     ap (are_from kinds.DuplicateEntry)
     (value-fault earlier column value there ∙ ap (λ (b : Bool). cond (not b) (Some kinds.UnknownRow) (cond double (Some kinds.DuplicateEntry) None)) row)
     ∙ entry-late double
@@ -103,7 +103,7 @@ pub values-late : (values : List (List ℕ × Number)) (earlier : Draft) (column
     → are_from kinds.DuplicateEntry (declared_fault earlier (flat_map (value_declared column) values)) ≡ true
 values-late [] earlier column there rows = refl
 values-late (value ∷ values) earlier column there rows =
-    let next = adding_all earlier (value_declared column value) in
+    let next = with_declarations earlier (value_declared column value) in
     let first = declared_fault earlier (value_declared column value) in
     let later = declared_fault next (flat_map (value_declared column) values) in
     ap (are_from kinds.DuplicateEntry) (declared-append (value_declared column value) (flat_map (value_declared column) values) earlier)
@@ -112,17 +112,17 @@ values-late (value ∷ values) earlier column there rows =
 
 -- that fault, by whether a coefficient is there twice
 pub values-double : (values : List (List ℕ × Number)) (earlier : Draft) (column : List ℕ) → has_column earlier column ≡ true → are_rows earlier values ≡ true
-    → declared_fault earlier (flat_map (value_declared column) values) ≡ cond (has_double earlier column values) (Some kinds.DuplicateEntry) None
+    → declared_fault earlier (flat_map (value_declared column) values) ≡ cond (has_duplicate earlier column values) (Some kinds.DuplicateEntry) None
 values-double [] earlier column there rows = refl
 values-double (value ∷ values) earlier column there rows =
-    let next = adding_all earlier (value_declared column value) in
-    let double = has_entry earlier (record { row = value.0; column = column }) in
+    let next = with_declarations earlier (value_declared column value) in
+    let double = has_coefficient earlier (record { row = value.0; column = column }) in
     let row = first_so (has_row earlier value.0) (are_rows earlier values) rows in
     let first = value-fault earlier column value there ∙ ap (λ (b : Bool). cond (not b) (Some kinds.UnknownRow) (cond double (Some kinds.DuplicateEntry) None)) row in
     let later = values-double values next column there (second_so (has_row earlier value.0) (are_rows earlier values) rows) in
     declared-append (value_declared column value) (flat_map (value_declared column) values) earlier
     ∙ (λ i. earlier_of (first i) (later i))
-    ∙ by double (has_double next column values)
+    ∙ by double (has_duplicate next column values)
   where
     by : (a b : Bool) → earlier_of (cond a (Some kinds.DuplicateEntry) None) (cond b (Some kinds.DuplicateEntry) None) ≡ cond (a || b) (Some kinds.DuplicateEntry) None
     by true true = refl
@@ -131,28 +131,28 @@ values-double (value ∷ values) earlier column there rows =
 
 -- which the coefficients alone decide
 same_double : (values : List (List ℕ × Number)) (before after : Draft) (column : List ℕ) → before.coefficients ≡ after.coefficients
-    → has_double before column values ≡ has_double after column values
+    → has_duplicate before column values ≡ has_duplicate after column values
 same_double [] before after column same = refl
 same_double (value ∷ values) before after column same =
     let key : CoefficientKey = record { row = value.0; column = column } in
-    let later = same_double values (adding before (declare_coefficient key value.1)) (adding after (declare_coefficient key value.1)) column (ap (put key_cmp key value.1) same) in
+    let later = same_double values (with_declaration before (declare_coefficient key value.1)) (with_declaration after (declare_coefficient key value.1)) column (ap (put key_cmp key value.1) same) in
     λ i. is_some (find key_cmp key (same i)) || later i
 
 pub front-double : (earlier : Draft) (marked : Bool) (column : List ℕ) (values : List (List ℕ × Number))
-    → has_double (adding_all earlier (front_declared marked column)) column values ≡ has_double earlier column values
-front-double earlier true column values = same_double values (adding_all earlier (front_declared true column)) earlier column refl
-front-double earlier false column values = same_double values (adding_all earlier (front_declared false column)) earlier column refl
+    → has_duplicate (with_declarations earlier (front_declared marked column)) column values ≡ has_duplicate earlier column values
+front-double earlier true column values = same_double values (with_declarations earlier (front_declared true column)) earlier column refl
+front-double earlier false column values = same_double values (with_declarations earlier (front_declared false column)) earlier column refl
 
 -- of two values: the second one is of the first one's row, or its coefficient is declared
 pub two-double : (earlier : Draft) (column : List ℕ) (value other : List ℕ × Number)
-    → (has_entry earlier (record { row = value.0; column = column }) || (same_bytes other.0 value.0 || has_entry earlier (record { row = other.0; column = column })))
-    ≡ has_double earlier column (value ∷ other ∷ [])
+    → (has_coefficient earlier (record { row = value.0; column = column }) || (same_bytes other.0 value.0 || has_coefficient earlier (record { row = other.0; column = column })))
+    ≡ has_duplicate earlier column (value ∷ other ∷ [])
 two-double earlier column value other =
     let key : CoefficientKey = record { row = value.0; column = column } in
     let other_key : CoefficientKey = record { row = other.0; column = column } in
-    ap (λ (b : Bool). has_entry earlier key || b)
-    (by (same_bytes other.0 value.0) (has_entry earlier other_key)
-    ∙ sym (ap (λ (b : Bool). b || false) (has-put_key other_key key value.1 earlier.coefficients ∙ ap (λ (b : Bool). (same_bytes other.0 value.0 && b) || has_entry earlier other_key) (itself_named column))))
+    ap (λ (b : Bool). has_coefficient earlier key || b)
+    (by (same_bytes other.0 value.0) (has_coefficient earlier other_key)
+    ∙ sym (ap (λ (b : Bool). b || false) (has-put_key other_key key value.1 earlier.coefficients ∙ ap (λ (b : Bool). (same_bytes other.0 value.0 && b) || has_coefficient earlier other_key) (itself_named column))))
   where
     by : (a b : Bool) → (a || b) ≡ (((a && true) || b) || false)
     by true b = refl
@@ -169,10 +169,10 @@ pub values-refused : (earlier : Draft) (column : List ℕ) (value : List ℕ × 
     → IsErrorOf (declared_fault earlier (flat_map (value_declared column) (value ∷ values))) error
 values-refused earlier column value values OutOfMemory there rows fault_is = tt
 values-refused earlier column value values (Fault kind) there rows fault_is =
-    let next = adding_all earlier (value_declared column value) in
+    let next = with_declarations earlier (value_declared column value) in
     let later = declared_fault next (flat_map (value_declared column) values) in
     let row = first_so (has_row earlier value.0) (are_rows earlier values) rows in
-    let double = has_entry earlier (record { row = value.0; column = column }) in
+    let double = has_coefficient earlier (record { row = value.0; column = column }) in
     let is : cond double (Some kinds.DuplicateEntry) None ≡ Some kind =
     ap (λ (b : Bool). cond (not b) (Some kinds.UnknownRow) (cond double (Some kinds.DuplicateEntry) None)) (sym row) ∙ sym (value-fault earlier column value there) ∙ fault_is in
     declared-append (value_declared column value) (flat_map (value_declared column) values) earlier
@@ -188,7 +188,7 @@ values-refused earlier column value values (Fault kind) there rows fault_is =
 
 -- the second one is
 pub second-refused : (earlier next : Draft) (column : List ℕ) (value other : List ℕ × Number) (error : LineError)
-    → declared_fault earlier (value_declared column value) ≡ None → next ≡ adding_all earlier (value_declared column value)
+    → declared_fault earlier (value_declared column value) ≡ None → next ≡ with_declarations earlier (value_declared column value)
     → IsErrorOf (declared_fault next (value_declared column other)) error
     → IsErrorOf (declared_fault earlier (flat_map (value_declared column) (value ∷ other ∷ []))) error
 second-refused earlier next column value other error none is fault_is =
@@ -208,13 +208,13 @@ values-unknown (value ∷ values) earlier column there rows =
     more = flat_map (value_declared column) values
 
     next : Draft
-    next = adding_all earlier (value_declared column value)
+    next = with_declarations earlier (value_declared column value)
 
     later : Option FaultKind
     later = declared_fault next more
 
     double : Bool
-    double = has_entry earlier (record { row = value.0; column = column })
+    double = has_coefficient earlier (record { row = value.0; column = column })
 
     values_apart : (all : Draft) → has_kind_clash all more ≡ false
     values_apart all = no-clash more all (each-flat says_no_kind (value_declared column) values (λ _. refl))
@@ -229,12 +229,12 @@ values-unknown (value ∷ values) earlier column there rows =
 
 -- the column is there, so declaring it again changes nothing; and whether it is marked does not depend on the coefficient
 pub next-declared : (earlier : Draft) (marked : Bool) (column : List ℕ) (value : List ℕ × Number) → put bytes_cmp column tt earlier.columns ≡ earlier.columns
-    → adding_all (adding earlier (declare_coefficient (record { row = value.0; column = column }) value.1)) (when marked (declare_marked column))
-    ≡ adding_all (adding_all earlier (front_declared marked column)) (value_declared column value)
+    → with_declarations (with_declaration earlier (declare_coefficient (record { row = value.0; column = column }) value.1)) (when marked (declare_marked column))
+    ≡ with_declarations (with_declarations earlier (front_declared marked column)) (value_declared column value)
 next-declared earlier true column value same =
-    ap (λ (columns : List (List ℕ × Unit {0})). adding (adding (record earlier { columns = columns }) (declare_marked column)) (declare_coefficient (record { row = value.0; column = column }) value.1)) (sym same)
+    ap (λ (columns : List (List ℕ × Unit {0})). with_declaration (with_declaration (record earlier { columns = columns }) (declare_marked column)) (declare_coefficient (record { row = value.0; column = column }) value.1)) (sym same)
 next-declared earlier false column value same =
-    ap (λ (columns : List (List ℕ × Unit {0})). adding (record earlier { columns = columns }) (declare_coefficient (record { row = value.0; column = column }) value.1)) (sym same)
+    ap (λ (columns : List (List ℕ × Unit {0})). with_declaration (record earlier { columns = columns }) (declare_coefficient (record { row = value.0; column = column }) value.1)) (sym same)
 
 -- a call that succeeded had no refusal
 pub call-made : (faults : List BuildFault) (P Q : Type 0) → Answers faults (Ok tt) P Q → (faults ≡ []) × P
@@ -243,6 +243,6 @@ call-made (fault ∷ faults) P Q answer = absurd (let no : Ok tt ≡ Err fault =
 
 -- so the coefficient's fault is that before the column is declared again
 pub next-fault : (earlier : Draft) (marked : Bool) (column : List ℕ) (value : List ℕ × Number) → has_column earlier column ≡ true
-    → declared_fault (adding_all earlier (front_declared marked column)) (flat_map (value_declared column) (value ∷ [])) ≡ declared_fault earlier (value_declared column value)
-next-fault earlier true column value there = value-fault (adding_all earlier (front_declared true column)) column value (front-there earlier true column) ∙ sym (value-fault earlier column value there)
-next-fault earlier false column value there = value-fault (adding_all earlier (front_declared false column)) column value (front-there earlier false column) ∙ sym (value-fault earlier column value there)
+    → declared_fault (with_declarations earlier (front_declared marked column)) (flat_map (value_declared column) (value ∷ [])) ≡ declared_fault earlier (value_declared column value)
+next-fault earlier true column value there = value-fault (with_declarations earlier (front_declared true column)) column value (front-there earlier true column) ∙ sym (value-fault earlier column value there)
+next-fault earlier false column value there = value-fault (with_declarations earlier (front_declared false column)) column value (front-there earlier false column) ∙ sym (value-fault earlier column value there)

@@ -9,11 +9,11 @@ use Rattle.mpslp_types.specs.Name.{same_bytes}
 use Rattle.mpslp_types.specs.declared.kinds.Sense.{Sense}
 use Rattle.mpslp_types.specs.declared.faults.FaultKind.TheVariants as kinds
 use Rattle.mpslp_builder.specs.Declaration.{Draft}
-use Rattle.mpslp_core.specs.Lists.{those_of, is_nonempty, when, head_of}
-use Rattle.mpslp_mps.specs.Line.{Fields, Item, data_line}
+use Rattle.mpslp_model_core.specs.Lists.{those_of, is_nonempty, when, head_of}
+use Rattle.mpslp_mps.specs.Line.{Fields, LineContent, data_line}
 use Rattle.mpslp_mps.specs.Section.{is_section}
 use Rattle.mpslp_mps.specs.DataLine.{opening_word, closing_word, sense_of}
-use Rattle.mpslp_mps.specs.Context.{context_of, current_section, said_after, data_lines, fields_under, marker_word, line_column, vector_set, bound_set, wanted}
+use Rattle.mpslp_mps.specs.Context.{context_of, current_section, said_after, data_lines, fields_under, marker_word, line_column, vector_set, bound_set, word_due}
 use Rattle.mpslp_mps.specs.DataFault.{data_tests, is_split}
 use Rattle.mpslp_mps.specs.TextInWords.{strays, stray_lines, takes_data, word_fields, words_in, has_word_at_most, is_sense, is_row_line, is_columns_line, is_vector_line, is_bound_line, alternate, stand_together, is_one_set}
 use Rattle.mpslp_mps.specs.declared.sections.Section.{Section}
@@ -30,7 +30,7 @@ use Rattle.mpslp_mps.proofs.ColumnsOfWords.{HaveLines, not-split}
 -- ---- data lines
 
 -- what the sections of the whole are together, as its data lines are judged by it
-pub record AreGoodLines (items : List Item) : Type 0 where
+pub record AreGoodLines (items : List LineContent) : Type 0 where
   pub strays : not (is_nonempty (stray_lines items)) ≡ true
   pub sense : has_word_at_most is_sense (words_in ObjSense items) ≡ true
   pub name : has_word_at_most (λ _. true) (words_in ObjName items) ≡ true
@@ -56,11 +56,11 @@ sets-fit set_of lines fields more h set e =
     set-fits (filter_map set_of lines) set (filter_map set_of more)
     (sym (ap is_one_set (filter_map-append set_of lines (fields ∷ more) ∙ ap (λ (o : Option (List ℕ)). filter_map set_of lines ++ cons_option o (filter_map set_of more)) e)) ∙ h)
 
-pub data-good : (before : List Item) (earlier : Draft) (fields : Fields) (rest : List Item) → IsUnderway ObjSense is_sense before → IsUnderway ObjName (λ _. true) before → HaveLines before earlier
+pub data-good : (before : List LineContent) (earlier : Draft) (fields : Fields) (rest : List LineContent) → IsUnderway ObjSense is_sense before → IsUnderway ObjName (λ _. true) before → HaveLines before earlier
     → AreGoodLines (before ++ data_line fields ∷ rest) → IsGood before earlier (data_line fields)
 data-good before earlier fields rest sense name have h = by (current_section before) refl
   where
-    full : List Item
+    full : List LineContent
     full = before ++ data_line fields ∷ rest
 
     later : Section → List Fields
@@ -84,8 +84,8 @@ data-good before earlier fields rest sense name have h = by (current_section bef
         (ap (filter_map marker_word) (stands Columns e) ∙ filter_map-append marker_word (data_lines Columns before) (fields ∷ later Columns)
         ∙ ap (λ (o : Option (List ℕ)). filter_map marker_word (data_lines Columns before) ++ cons_option o (filter_map marker_word (later Columns))) m)) ∙ h.markers)
 
-    goes_on : is_section Columns (current_section before) ≡ true → (column : List ℕ) → line_column fields ≡ Some column → is_split (context_of before) earlier column ≡ false
-    goes_on e column c =
+    continues_column : is_section Columns (current_section before) ≡ true → (column : List ℕ) → line_column fields ≡ Some column → is_split (context_of before) earlier column ≡ false
+    continues_column e column c =
         not-split before earlier column have
         (together-apart (Some column) (columns_of before) (map line_column (later Columns))
         (sym (ap stand_together
@@ -93,7 +93,7 @@ data-good before earlier fields rest sense name have h = by (current_section bef
         ∙ ap (λ (x : Column). columns_of before ++ x ∷ map line_column (later Columns)) c)) ∙ h.together))
 
     single : (section : Section) (test : List ℕ → Bool) → IsUnderway section test before → is_section section (current_section before) ≡ true → has_word_at_most test (words_in section full) ≡ true
-        → (is_some (wanted before) ≡ true) × (is_single test fields ≡ true)
+        → (is_some (word_due before) ≡ true) × (is_single test fields ≡ true)
     single section test under e k =
         line-single section test before fields (said_after (word_fields section) (current_section before) rest) under e
         (sym (ap (has_word_at_most test)
@@ -106,9 +106,9 @@ data-good before earlier fields rest sense name have h = by (current_section bef
         ∙ none-strays (stray_lines before) (not (option_map_or takes_data (current_section before) false)) fields (said_after strays (current_section before) rest)
         (sym (ap (λ (lines : List Fields). not (is_nonempty lines)) (said_after-append strays None before (data_line fields ∷ rest))) ∙ h.strays)
 
-    sense_good : (fs : Fields) → is_some (wanted before) ≡ true → is_single is_sense fs ≡ true → those_of (data_tests (context_of before) earlier fs (Some ObjSense)) ≡ []
+    sense_good : (fs : Fields) → is_some (word_due before) ≡ true → is_single is_sense fs ≡ true → those_of (data_tests (context_of before) earlier fs (Some ObjSense)) ≡ []
     sense_good [] w k = cc
-    sense_good (word ∷ []) w k = of (is_some (wanted before)) w (sense_of word) k
+    sense_good (word ∷ []) w k = of (is_some (word_due before)) w (sense_of word) k
       where
         of : (c : Bool) → c ≡ true → (o : Option Sense) → is_some o ≡ true → those_of ((not c, kinds.SectionOrder) ∷ (is_none o, kinds.BadType) ∷ []) ≡ []
         of true e (Some x) l = refl
@@ -116,9 +116,9 @@ data-good before earlier fields rest sense name have h = by (current_section bef
         of false e o l = cc
     sense_good (word ∷ other ∷ more) w k = cc
 
-    name_good : (fs : Fields) → is_some (wanted before) ≡ true → is_single (λ _. true) fs ≡ true → those_of (data_tests (context_of before) earlier fs (Some ObjName)) ≡ []
+    name_good : (fs : Fields) → is_some (word_due before) ≡ true → is_single (λ _. true) fs ≡ true → those_of (data_tests (context_of before) earlier fs (Some ObjName)) ≡ []
     name_good [] w k = cc
-    name_good (word ∷ []) w k = of (is_some (wanted before)) w
+    name_good (word ∷ []) w k = of (is_some (word_due before)) w
       where
         of : (c : Bool) → c ≡ true → those_of ((not c, kinds.SectionOrder) ∷ []) ≡ []
         of true e = refl
@@ -135,7 +135,7 @@ data-good before earlier fields rest sense name have h = by (current_section bef
     good_at (Some ObjName) e = let line = single ObjName (λ _. true) name (ap (is_section ObjName) e) h.name in name_good fields line.0 line.1
     good_at (Some Rows) e = row-good fields (fits Rows is_row_line (ap (is_section Rows) e) h.rows)
     good_at (Some Columns) e =
-        columns-good (context_of before) earlier fields (fits Columns is_columns_line (ap (is_section Columns) e) h.columns) (marker_fits (ap (is_section Columns) e)) (goes_on (ap (is_section Columns) e))
+        columns-good (context_of before) earlier fields (fits Columns is_columns_line (ap (is_section Columns) e) h.columns) (marker_fits (ap (is_section Columns) e)) (continues_column (ap (is_section Columns) e))
     good_at (Some Rhs) e = vector-good (context_of before).rhs_set fields (fits Rhs is_vector_line (ap (is_section Rhs) e) h.right_sides) (set_fits Rhs vector_set (ap (is_section Rhs) e) h.right_side_set)
     good_at (Some Ranges) e = vector-good (context_of before).ranges_set fields (fits Ranges is_vector_line (ap (is_section Ranges) e) h.ranges) (set_fits Ranges vector_set (ap (is_section Ranges) e) h.range_set)
     good_at (Some Bounds) e = bound-good (context_of before) fields (fits Bounds is_bound_line (ap (is_section Bounds) e) h.bounds) (set_fits Bounds bound_set (ap (is_section Bounds) e) h.bound_sets)

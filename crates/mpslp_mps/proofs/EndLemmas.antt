@@ -3,8 +3,8 @@ use Rattle.std.proofs.Common.{◌≡◌, refl, ℕ, suc, List, [], ◌∷◌, ta
 use Rattle.std.specs.Prelude.{Option, Some, None}
 use Rattle.std.specs.List.{position_or_len}
 use Rattle.std.specs.Option.{option_or}
-use Rattle.mpslp_mps.specs.Line.{Item}
-use Rattle.mpslp_mps.specs.Section.{section_begun, is_section, begins}
+use Rattle.mpslp_mps.specs.Line.{LineContent}
+use Rattle.mpslp_mps.specs.Section.{section_of_header, is_section, begins}
 use Rattle.mpslp_mps.specs.Context.{Context}
 use Rattle.mpslp_mps.specs.NextContext.{next_context}
 use Rattle.mpslp_mps.specs.MpsText.{is_end}
@@ -23,8 +23,8 @@ pub up_to_end-more : (line : List ℕ) (more : List (List ℕ)) → is_end line 
 up_to_end-more = to_end-more
 
 -- a context that does not stand at the end stands there after the line of ENDATA alone
-pub at_end-after : (c : Context) (item : Item) → is_section EndData c.section ≡ false → is_section EndData (next_context c item).section ≡ begins EndData item
-at_end-after c item h = of (section_begun item)
+pub at_end-after : (c : Context) (item : LineContent) → is_section EndData c.section ≡ false → is_section EndData (next_context c item).section ≡ begins EndData item
+at_end-after c item h = of (section_of_header item)
   where
     of : (o : Option Section) → is_section EndData (option_or o c.section) ≡ is_section EndData o
     of None = h

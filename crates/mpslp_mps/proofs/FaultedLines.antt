@@ -14,43 +14,43 @@ use Rattle.mpslp_types.specs.declared.faults.Fault.{Fault}
 use Rattle.mpslp_types.specs.declared.faults.FaultKind.{FaultKind}
 use Rattle.mpslp_types.specs.declared.faults.FaultKind.TheVariants.{LineTooLong, BadByte, MissingEnd, NoColumns}
 use Rattle.mpslp_types.proofs.BoolLemmas.{true_from, both_so, or_left, or_right}
-use Rattle.mpslp_core.specs.Lists.{is_nonempty, head_of, those_of}
-use Rattle.mpslp_builder.specs.Declaration.{Declarations, Draft, adding, adding_all, empty_draft, draft_of}
+use Rattle.mpslp_model_core.specs.Lists.{is_nonempty, head_of, those_of}
+use Rattle.mpslp_builder.specs.Declaration.{Declarations, Draft, with_declaration, with_declarations, empty_draft, draft_of}
 use Rattle.mpslp_builder.specs.Meaning.{named_kinds, whole_fault, names_with, named_faults, file_fault}
 use Rattle.mpslp_builder.specs.Refusal.{refusal_tests, refusals, refusals_in_turn}
-use Rattle.mpslp_reading.specs.Declaring.{kind_of_refusal, declaring_faults, first_fault}
-use Rattle.mpslp_reading.specs.Field.{is_kind}
-use Rattle.mpslp_reading.specs.LegalLine.{has_legal_length, is_legal_byte}
-use Rattle.mpslp_reading.specs.LineAnswer.{fault_on_line}
-use Rattle.mpslp_reading.specs.Tests.{Tests}
-use Rattle.mpslp_reading.proofs.LeastLemmas.{lesser, earlier_of, least-append, least-none}
-use Rattle.mpslp_reading.proofs.FirstFaultLemmas.{faultless}
-use Rattle.mpslp_mps.specs.Line.{Item, item_of, outside_comment}
+use Rattle.mpslp_lines.specs.Declaring.{kind_of_build_fault, declaring_faults, first_fault}
+use Rattle.mpslp_lines.specs.Field.{is_kind}
+use Rattle.mpslp_lines.specs.LegalLine.{has_legal_length, is_legal_byte}
+use Rattle.mpslp_lines.specs.LineAnswer.{fault_on_line}
+use Rattle.mpslp_lines.specs.FaultTests.{FaultTests}
+use Rattle.mpslp_lines.proofs.LeastLemmas.{lesser, earlier_of, least-append, least-none}
+use Rattle.mpslp_lines.proofs.FirstFaultLemmas.{faultless}
+use Rattle.mpslp_mps.specs.Line.{LineContent, content_of, outside_comment}
 use Rattle.mpslp_mps.specs.Context.{context_of}
-use Rattle.mpslp_mps.specs.LineMeaning.{declared}
+use Rattle.mpslp_mps.specs.LineDeclarations.{line_declares}
 use Rattle.mpslp_mps.specs.LineFault.{item_tests, line_tests}
-use Rattle.mpslp_mps.specs.MpsText.{Placed, read_lines, has_end, declared_at, tests_at, placed_after, placed_lines, declarations_of}
+use Rattle.mpslp_mps.specs.MpsText.{LineInContext, read_lines, has_end, declared_at, tests_at, lines_in_context_after, lines_in_context, declarations_of}
 use Rattle.mpslp_mps.specs.FirstFault.{line_fault, first_line_fault, whole_mps_fault}
 use Rattle.mpslp_mps.specs.FaultsInWords.{StandsOn, IsInWords}
 use Rattle.mpslp_mps.proofs.OrderLemmas.{IsGood, never}
-use Rattle.mpslp_mps.proofs.PlacedLemmas.{item-form}
+use Rattle.mpslp_mps.proofs.ContextLineLemmas.{item-form}
 use Rattle.mpslp_mps.proofs.NamesOfWords.{Told, none-told, told-kept}
 
 -- ---- which tests a kind has
 
 -- one of the tests of this kind holds
-abbrev pub holds_of : FaultKind → Tests → Bool
+abbrev pub holds_of : FaultKind → FaultTests → Bool
 holds_of kind [] = false
 holds_of kind (test ∷ more) = if is_kind kind test.1 then (test.0 || holds_of kind more) else holds_of kind more
 
 -- one of the refusals that are told by this kind
 abbrev pub refused_as : FaultKind → List (Bool × BuildFault) → Bool
 refused_as kind [] = false
-refused_as kind (test ∷ more) = if is_kind kind (kind_of_refusal test.1) then (test.0 || refused_as kind more) else refused_as kind more
+refused_as kind (test ∷ more) = if is_kind kind (kind_of_build_fault test.1) then (test.0 || refused_as kind more) else refused_as kind more
 
 abbrev pub refuses : FaultKind → Draft → Declarations → Bool
 refuses kind earlier [] = false
-refuses kind earlier (d ∷ ds) = refused_as kind (refusal_tests earlier d) || refuses kind (adding earlier d) ds
+refuses kind earlier (d ∷ ds) = refused_as kind (refusal_tests earlier d) || refuses kind (with_declaration earlier d) ds
 
 itself : (kind : FaultKind) → is_kind kind kind ≡ true
 itself kind = true_from (kind_rank kind == kind_rank kind) (eqb_refl (kind_rank kind))
@@ -73,7 +73,7 @@ among-least (first ∷ kinds) kind h = by (least_kind kinds) (among-least kinds 
     by None rest e = here (one first kind e)
     by (Some other) rest e = of other rest (nat_lt (kind_rank other) (kind_rank first)) e
 
-any-held : (kind : FaultKind) (tests : Tests) → list_any (is_kind kind) (those_of tests) ≡ holds_of kind tests
+any-held : (kind : FaultKind) (tests : FaultTests) → list_any (is_kind kind) (those_of tests) ≡ holds_of kind tests
 any-held kind [] = refl
 any-held kind ((held, other) ∷ more) = by (any-held kind more) held (is_kind kind other) refl
   where
@@ -84,27 +84,27 @@ any-held kind ((held, other) ∷ more) = by (any-held kind more) held (is_kind k
     by rest false true e = rest
     by rest false false e = rest
 
-any-refused : (kind : FaultKind) (tests : List (Bool × BuildFault)) → list_any (is_kind kind) (map kind_of_refusal (those_of tests)) ≡ refused_as kind tests
+any-refused : (kind : FaultKind) (tests : List (Bool × BuildFault)) → list_any (is_kind kind) (map kind_of_build_fault (those_of tests)) ≡ refused_as kind tests
 any-refused kind [] = refl
-any-refused kind ((held, other) ∷ more) = by (any-refused kind more) held (is_kind kind (kind_of_refusal other)) refl
+any-refused kind ((held, other) ∷ more) = by (any-refused kind more) held (is_kind kind (kind_of_build_fault other)) refl
   where
-    by : list_any (is_kind kind) (map kind_of_refusal (those_of more)) ≡ refused_as kind more → (b c : Bool) → is_kind kind (kind_of_refusal other) ≡ c
-        → list_any (is_kind kind) (map kind_of_refusal (cond b (other ∷ those_of more) (those_of more))) ≡ cond c (b || refused_as kind more) (refused_as kind more)
-    by rest true true e = ap (λ (x : Bool). x || list_any (is_kind kind) (map kind_of_refusal (those_of more))) e
-    by rest true false e = ap (λ (x : Bool). x || list_any (is_kind kind) (map kind_of_refusal (those_of more))) e ∙ rest
+    by : list_any (is_kind kind) (map kind_of_build_fault (those_of more)) ≡ refused_as kind more → (b c : Bool) → is_kind kind (kind_of_build_fault other) ≡ c
+        → list_any (is_kind kind) (map kind_of_build_fault (cond b (other ∷ those_of more) (those_of more))) ≡ cond c (b || refused_as kind more) (refused_as kind more)
+    by rest true true e = ap (λ (x : Bool). x || list_any (is_kind kind) (map kind_of_build_fault (those_of more))) e
+    by rest true false e = ap (λ (x : Bool). x || list_any (is_kind kind) (map kind_of_build_fault (those_of more))) e ∙ rest
     by rest false true e = rest
     by rest false false e = rest
 
 any-declaring : (kind : FaultKind) (earlier : Draft) (ds : Declarations) → list_any (is_kind kind) (declaring_faults earlier ds) ≡ refuses kind earlier ds
 any-declaring kind earlier [] = refl
 any-declaring kind earlier (d ∷ ds) =
-    ap (list_any (is_kind kind)) (map-append kind_of_refusal (refusals earlier d) (refusals_in_turn (adding earlier d) ds))
-    ∙ (list_any-append (is_kind kind) (map kind_of_refusal (refusals earlier d)) (declaring_faults (adding earlier d) ds)
-    ∙ (ap (λ (b : Bool). b || list_any (is_kind kind) (declaring_faults (adding earlier d) ds)) (any-refused kind (refusal_tests earlier d))
-    ∙ ap (λ (b : Bool). refused_as kind (refusal_tests earlier d) || b) (any-declaring kind (adding earlier d) ds)))
+    ap (list_any (is_kind kind)) (map-append kind_of_build_fault (refusals earlier d) (refusals_in_turn (with_declaration earlier d) ds))
+    ∙ (list_any-append (is_kind kind) (map kind_of_build_fault (refusals earlier d)) (declaring_faults (with_declaration earlier d) ds)
+    ∙ (ap (λ (b : Bool). b || list_any (is_kind kind) (declaring_faults (with_declaration earlier d) ds)) (any-refused kind (refusal_tests earlier d))
+    ∙ ap (λ (b : Bool). refused_as kind (refusal_tests earlier d) || b) (any-declaring kind (with_declaration earlier d) ds)))
 
 -- the kind of a line's first fault is that of a test that holds, or of a refusal
-told-by : (tests : Tests) (earlier : Draft) (ds : Declarations) (kind : FaultKind) → first_fault tests earlier ds ≡ Some kind → (holds_of kind tests || refuses kind earlier ds) ≡ true
+told-by : (tests : FaultTests) (earlier : Draft) (ds : Declarations) (kind : FaultKind) → first_fault tests earlier ds ≡ Some kind → (holds_of kind tests || refuses kind earlier ds) ≡ true
 told-by tests earlier ds kind h =
     sym (list_any-append (is_kind kind) (those_of tests) (declaring_faults earlier ds)
     ∙ (ap (λ (b : Bool). b || list_any (is_kind kind) (declaring_faults earlier ds)) (any-held kind tests) ∙ ap (λ (b : Bool). holds_of kind tests || b) (any-declaring kind earlier ds)))
@@ -127,7 +127,7 @@ least-passes p (kind ∷ kinds) h = by (least_kind kinds) (least-passes p kinds 
     by None e = first_so (p kind) (list_all p kinds) h
     by (Some other) e = of other e (nat_lt (kind_rank other) (kind_rank kind))
 
-those-below : (kind : FaultKind) (tests : Tests) → list_all (λ test. is_below kind test.1) tests ≡ true → list_all (is_below kind) (those_of tests) ≡ true
+those-below : (kind : FaultKind) (tests : FaultTests) → list_all (λ test. is_below kind test.1) tests ≡ true → list_all (is_below kind) (those_of tests) ≡ true
 those-below kind [] h = refl
 those-below kind ((held, other) ∷ more) h = by (those-below kind more (second_so (is_below kind other) (list_all (λ test. is_below kind test.1) more) h)) held
   where
@@ -142,7 +142,7 @@ not-below kind other h e = irreflexive (kind_rank kind) (sym (ap (λ (k : FaultK
     irreflexive n k = grind (arith, nat_tests)
 
 -- where the first fault is of such a kind, no test of the form holds
-pub form-holds : (tests : Tests) (earlier : Draft) (ds : Declarations) (kind : FaultKind) → list_all (λ test. is_below kind test.1) tests ≡ true → first_fault tests earlier ds ≡ Some kind → those_of tests ≡ []
+pub form-holds : (tests : FaultTests) (earlier : Draft) (ds : Declarations) (kind : FaultKind) → list_all (λ test. is_below kind test.1) tests ≡ true → first_fault tests earlier ds ≡ Some kind → those_of tests ≡ []
 form-holds tests earlier ds kind below h =
     by (least_kind (those_of tests)) refl (least-passes (is_below kind) (those_of tests) (those-below kind tests below)) (sym (least-append (those_of tests) (declaring_faults earlier ds)) ∙ h)
   where
@@ -167,15 +167,15 @@ form-holds tests earlier ds kind below h =
 -- ---- the line
 
 -- what is known of the line, and of those before it
-pub record Faulted (ls : List (List ℕ)) (before : List Item) (n : ℕ) (fault : Fault) : Type 0 where
+pub record Faulted (ls : List (List ℕ)) (before : List LineContent) (n : ℕ) (fault : Fault) : Type 0 where
   pub front : List (List ℕ)
   pub line : List ℕ
   pub later : List (List ℕ)
   pub earlier : Draft
   pub parted : ls ≡ front ++ line ∷ later
   pub number : fault.line ≡ min (length front + n) (2 ^ 64 - 1)
-  pub known : Told (before ++ map item_of front) earlier
-  pub told : first_fault (line_tests (context_of (before ++ map item_of front)) earlier line) earlier (declared (context_of (before ++ map item_of front)) earlier (item_of line)) ≡ Some fault.kind
+  pub known : Told (before ++ map content_of front) earlier
+  pub told : first_fault (line_tests (context_of (before ++ map content_of front)) earlier line) earlier (line_declares (context_of (before ++ map content_of front)) earlier (content_of line)) ≡ Some fault.kind
 
 one-less : (m n : ℕ) → m + (n + 1) ≡ suc m + n
 one-less m n = grind (arith)
@@ -183,26 +183,26 @@ one-less m n = grind (arith)
 none-before : (n : ℕ) → n ≡ 0 + n
 none-before n = grind (arith)
 
-find-line : (ls : List (List ℕ)) (before : List Item) (earlier : Draft) (n : ℕ) (fault : Fault) → Told before earlier → first_line_fault n (placed_after before earlier ls) ≡ Some fault → Faulted ls before n fault
+find-line : (ls : List (List ℕ)) (before : List LineContent) (earlier : Draft) (n : ℕ) (fault : Fault) → Told before earlier → first_line_fault n (lines_in_context_after before earlier ls) ≡ Some fault → Faulted ls before n fault
 find-line [] before earlier n fault known h = absurd cc
-find-line (line ∷ ls) before earlier n fault known h = by (λ good e. find-line ls (before ++ item_of line ∷ []) next (n + 1) fault (told-kept before earlier (item_of line) good known) e) (line_fault placed) refl h
+find-line (line ∷ ls) before earlier n fault known h = by (λ good e. find-line ls (before ++ content_of line ∷ []) next (n + 1) fault (told-kept before earlier (content_of line) good known) e) (line_fault placed) refl h
   where
-    placed : Placed
+    placed : LineInContext
     placed = record { context = context_of before; earlier = earlier; line = line }
 
     next : Draft
-    next = adding_all earlier (declared_at placed)
+    next = with_declarations earlier (declared_at placed)
 
-    rest : List Placed
-    rest = placed_after (before ++ item_of line ∷ []) next ls
+    rest : List LineInContext
+    rest = lines_in_context_after (before ++ content_of line ∷ []) next ls
 
-    by : (IsGood before earlier (item_of line) → first_line_fault (n + 1) rest ≡ Some fault → Faulted ls (before ++ item_of line ∷ []) (n + 1) fault)
+    by : (IsGood before earlier (content_of line) → first_line_fault (n + 1) rest ≡ Some fault → Faulted ls (before ++ content_of line ∷ []) (n + 1) fault)
         → (o : Option FaultKind) → line_fault placed ≡ o → option_or (option_map (fault_on_line n) o) (first_line_fault (n + 1) rest) ≡ Some fault → Faulted (line ∷ ls) before n fault
     by find None e k =
         let fine = faultless (tests_at placed) earlier (declared_at placed) e in
-        let good : IsGood before earlier (item_of line) = item-form (context_of before) earlier line fine.form in
+        let good : IsGood before earlier (content_of line) = item-form (context_of before) earlier line fine.form in
         let found = find good k in
-        let same : (before ++ item_of line ∷ []) ++ map item_of found.front ≡ before ++ map item_of (line ∷ found.front) = append_assoc before (item_of line ∷ []) (map item_of found.front) in
+        let same : (before ++ content_of line ∷ []) ++ map content_of found.front ≡ before ++ map content_of (line ∷ found.front) = append_assoc before (content_of line ∷ []) (map content_of found.front) in
         record {
           front = line ∷ found.front;
           line = found.line;
@@ -210,8 +210,8 @@ find-line (line ∷ ls) before earlier n fault known h = by (λ good e. find-lin
           earlier = found.earlier;
           parted = ap (λ (more : List (List ℕ)). line ∷ more) found.parted;
           number = found.number ∙ ap (λ (m : ℕ). min m (2 ^ 64 - 1)) (one-less (length found.front) n);
-          known = subst (λ (items : List Item). Told items found.earlier) same found.known;
-          told = subst (λ (items : List Item). first_fault (line_tests (context_of items) found.earlier found.line) found.earlier (declared (context_of items) found.earlier (item_of found.line)) ≡ Some fault.kind) same found.told;
+          known = subst (λ (items : List LineContent). Told items found.earlier) same found.known;
+          told = subst (λ (items : List LineContent). first_fault (line_tests (context_of items) found.earlier found.line) found.earlier (line_declares (context_of items) found.earlier (content_of found.line)) ≡ Some fault.kind) same found.told;
         }
     by find (Some kind) e k =
         let same : fault_on_line n kind ≡ fault = cc in
@@ -223,8 +223,8 @@ find-line (line ∷ ls) before earlier n fault known h = by (λ good e. find-lin
           earlier = earlier;
           parted = refl;
           number = sym (ap (λ (f : Fault). f.line) same) ∙ ap (λ (m : ℕ). min m (2 ^ 64 - 1)) (none-before n);
-          known = subst (λ (items : List Item). Told items earlier) none known;
-          told = subst (λ (items : List Item). first_fault (line_tests (context_of items) earlier line) earlier (declared (context_of items) earlier (item_of line)) ≡ Some fault.kind) none
+          known = subst (λ (items : List LineContent). Told items earlier) none known;
+          told = subst (λ (items : List LineContent). first_fault (line_tests (context_of items) earlier line) earlier (line_declares (context_of items) earlier (content_of line)) ≡ Some fault.kind) none
               (e ∙ ap (λ (f : Fault). Some f.kind) same);
         }
 
@@ -268,28 +268,28 @@ of-whole bytes fault h = by (has_end bytes) h
 -- ---- the law of a kind
 
 -- the tests of a line's length and bytes are of other kinds
-passed : (kind : FaultKind) (first second : Bool) (tests : Tests) → is_kind kind LineTooLong ≡ false → is_kind kind BadByte ≡ false → holds_of kind ((first, LineTooLong) ∷ (second, BadByte) ∷ tests) ≡ holds_of kind tests
+passed : (kind : FaultKind) (first second : Bool) (tests : FaultTests) → is_kind kind LineTooLong ≡ false → is_kind kind BadByte ≡ false → holds_of kind ((first, LineTooLong) ∷ (second, BadByte) ∷ tests) ≡ holds_of kind tests
 passed kind first second tests short legal = rw (short, legal) refl
 
 -- The kind is that of a test of the line's form that holds, or of a refusal of what it declares; the latter alone where it comes after all kinds of its form.
-pub record IsFirst (kind : FaultKind) (before : List Item) (earlier : Draft) (item : Item) : Type 0 where
-  pub told : (holds_of kind (item_tests (context_of before) earlier item) || refuses kind earlier (declared (context_of before) earlier item)) ≡ true
+pub record IsFirst (kind : FaultKind) (before : List LineContent) (earlier : Draft) (item : LineContent) : Type 0 where
+  pub told : (holds_of kind (item_tests (context_of before) earlier item) || refuses kind earlier (line_declares (context_of before) earlier item)) ≡ true
   pub late : is_below kind LineTooLong ≡ true → is_below kind BadByte ≡ true → list_all (λ test. is_below kind test.1) (item_tests (context_of before) earlier item) ≡ true → IsGood before earlier item
 
 -- Where each line whose first fault is of this kind is such a line, so says the law of the kind.
-pub in-words : (kind : FaultKind) (is_such : List Item → Item → Bool) → is_of_whole kind ≡ false → is_kind kind LineTooLong ≡ false → is_kind kind BadByte ≡ false
-    → ((before : List Item) (earlier : Draft) (item : Item) → Told before earlier → IsFirst kind before earlier item → is_such before item ≡ true)
+pub in-words : (kind : FaultKind) (is_such : List LineContent → LineContent → Bool) → is_of_whole kind ≡ false → is_kind kind LineTooLong ≡ false → is_kind kind BadByte ≡ false
+    → ((before : List LineContent) (earlier : Draft) (item : LineContent) → Told before earlier → IsFirst kind before earlier item → is_such before item ≡ true)
     → IsInWords kind is_such
-in-words kind is_such early short legal such bytes fault first k = by (first_line_fault 1 (placed_lines bytes)) refl first
+in-words kind is_such early short legal such bytes fault first k = by (first_line_fault 1 (lines_in_context bytes)) refl first
   where
-    by : (o : Option Fault) → first_line_fault 1 (placed_lines bytes) ≡ o → option_or o (whole_mps_fault bytes) ≡ Some fault → StandsOn is_such bytes fault
+    by : (o : Option Fault) → first_line_fault 1 (lines_in_context bytes) ≡ o → option_or o (whole_mps_fault bytes) ≡ Some fault → StandsOn is_such bytes fault
     by None e h = absurd (never (is_of_whole kind) (ap is_of_whole (sym k) ∙ of-whole bytes fault h) early)
     by (Some other) e h =
         let same : other ≡ fault = cc in
         let found = find-line (read_lines bytes) [] empty_draft 1 fault none-told (e ∙ ap (λ (f : Fault). Some f) same) in
-        let items = map item_of found.front in
-        let ds = declared (context_of items) found.earlier (item_of found.line) in
-        let tests = item_tests (context_of items) found.earlier (item_of found.line) in
+        let items = map content_of found.front in
+        let ds = line_declares (context_of items) found.earlier (content_of found.line) in
+        let tests = item_tests (context_of items) found.earlier (content_of found.line) in
         let first_is = found.told ∙ ap (λ (x : FaultKind). Some x) k in
         let told = told-by (line_tests (context_of items) found.earlier found.line) found.earlier ds kind first_is in
         record {
@@ -298,7 +298,7 @@ in-words kind is_such early short legal such bytes fault first k = by (first_lin
           later = found.later;
           text = found.parted;
           number = found.number;
-          such = such items found.earlier (item_of found.line) found.known
+          such = such items found.earlier (content_of found.line) found.known
               (record {
                 told = sym (ap (λ (b : Bool). b || refuses kind found.earlier ds)
                     (passed kind (not (has_legal_length found.line)) (not (list_all is_legal_byte (outside_comment found.line))) tests short legal))

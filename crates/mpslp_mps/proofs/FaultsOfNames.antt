@@ -14,24 +14,24 @@ use Rattle.mpslp_types.specs.declared.kinds.Limit.{Limit}
 use Rattle.mpslp_types.specs.declared.kinds.RowType.{RowType}
 use Rattle.mpslp_types.specs.declared.kinds.RowType.TheVariants.{Free, AtMost, AtLeast, Equal}
 use Rattle.mpslp_types.proofs.BoolLemmas.{both_so, or_left, or_right, not_so, so_not}
-use Rattle.mpslp_core.specs.Lists.{head_of}
-use Rattle.mpslp_builder.specs.Declaration.{by_type, Declaration, declare_sense, declare_objective, declare_constant, declare_row, declare_rhs, declare_range, declare_column, declare_coefficient, declare_lower, declare_upper, declare_marked, declare_integer, declare_binary, declare_semi, Declarations, Draft, adding, empty_draft, has_row, has_column, is_free_row, rhs_declared}
+use Rattle.mpslp_model_core.specs.Lists.{head_of}
+use Rattle.mpslp_builder.specs.Declaration.{by_type, Declaration, declare_sense, declare_objective, declare_constant, declare_row, declare_rhs, declare_range, declare_column, declare_coefficient, declare_lower, declare_upper, declare_marked, declare_integer, declare_binary, declare_semi, Declarations, Draft, with_declaration, empty_draft, has_row, has_column, is_free_row, rhs_declared}
 use Rattle.mpslp_builder.specs.Refusal.{refusal_tests}
 use Rattle.mpslp_builder.proofs.LaterDrafts.{itself_named}
 use Rattle.mpslp_builder.proofs.SlotLemmas.{same_name, has-put}
-use Rattle.mpslp_reading.specs.Declaring.{kind_of_refusal}
-use Rattle.mpslp_reading.specs.Field.{is_kind, value_of}
-use Rattle.mpslp_reading.specs.Tests.{Tests}
-use Rattle.mpslp_mps.specs.Line.{Fields, Item, skipped, header, data_line}
+use Rattle.mpslp_lines.specs.Declaring.{kind_of_build_fault}
+use Rattle.mpslp_lines.specs.Field.{is_kind, value_of}
+use Rattle.mpslp_lines.specs.FaultTests.{FaultTests}
+use Rattle.mpslp_mps.specs.Line.{Fields, LineContent, skipped, header, data_line}
 use Rattle.mpslp_mps.specs.Section.{section_named, is_section}
 use Rattle.mpslp_mps.specs.DataLine.{Pair, ValuesLine, word_shape, row_shape, row_type, column_shape, is_marker_line, vector_shape}
 use Rattle.mpslp_mps.specs.BoundLine.{BoundLine, bound_type, bound_shape}
-use Rattle.mpslp_mps.specs.Context.{Context, context_of, current_section, has_section, sections_begun, objective_name}
+use Rattle.mpslp_mps.specs.Context.{Context, context_of, current_section, has_section, seen_sections, objname}
 use Rattle.mpslp_mps.specs.HeaderFault.{lacks_objective, section_tests, header_tests}
 use Rattle.mpslp_mps.specs.DataFault.{data_tests}
 use Rattle.mpslp_mps.specs.LineFault.{item_tests}
-use Rattle.mpslp_mps.specs.LineMeaning.{declared_of, is_new_objective, row_of_type, row_declared, coefficient_declared, column_declared, columns_line_declared, right_sides_declared, ranges_declared, bound_declared, bound_value, bound_line_declared, data_declared, header_declared}
-use Rattle.mpslp_mps.specs.TextInWords.{place, words_in, has_free_row, has_named_objective}
+use Rattle.mpslp_mps.specs.LineDeclarations.{declared_if_some, is_new_objective, row_of_type, row_declared, coefficient_declared, column_declared, columns_line_declared, rhs_line_declared, ranges_declared, bound_declared, bound_value, bound_line_declared, data_declared, header_declared}
+use Rattle.mpslp_mps.specs.TextInWords.{section_rank, words_in, has_free_row, has_named_objective}
 use Rattle.mpslp_mps.specs.FaultsInWords.{IsInWords, names_row, has_default_objective, is_row, pairs_in, names_unknown_row, bound_column, names_column, names_unknown_column}
 use Rattle.mpslp_mps.specs.declared.bound_types.BoundType.{BoundType}
 use Rattle.mpslp_mps.specs.declared.bound_types.BoundType.TheVariants as bounds
@@ -48,13 +48,13 @@ use Rattle.mpslp_mps.proofs.KindsOfLines.{is_among, none-holds, left_alone, righ
 
 -- a refusal of this kind is among those of such declarations
 abbrev pub may_refuse : FaultKind → Declaration → Bool
-may_refuse kind d = list_any (λ test. is_kind kind (kind_of_refusal test.1)) (refusal_tests empty_draft d)
+may_refuse kind d = list_any (λ test. is_kind kind (kind_of_build_fault test.1)) (refusal_tests empty_draft d)
 
-none-so : (kind : FaultKind) (tests : List (Bool × BuildFault)) → list_any (λ test. is_kind kind (kind_of_refusal test.1)) tests ≡ false → refused_as kind tests ≡ false
+none-so : (kind : FaultKind) (tests : List (Bool × BuildFault)) → list_any (λ test. is_kind kind (kind_of_build_fault test.1)) tests ≡ false → refused_as kind tests ≡ false
 none-so kind [] h = refl
-none-so kind ((held, fault) ∷ more) h = by (is_kind kind (kind_of_refusal fault)) h (λ e. none-so kind more e)
+none-so kind ((held, fault) ∷ more) h = by (is_kind kind (kind_of_build_fault fault)) h (λ e. none-so kind more e)
   where
-    by : (b : Bool) → (b || list_any (λ test. is_kind kind (kind_of_refusal test.1)) more) ≡ false → (list_any (λ test. is_kind kind (kind_of_refusal test.1)) more ≡ false → refused_as kind more ≡ false)
+    by : (b : Bool) → (b || list_any (λ test. is_kind kind (kind_of_build_fault test.1)) more) ≡ false → (list_any (λ test. is_kind kind (kind_of_build_fault test.1)) more ≡ false → refused_as kind more ≡ false)
         → cond b (held || refused_as kind more) (refused_as kind more) ≡ false
     by true e rest = cc
     by false e rest = rest e
@@ -79,14 +79,14 @@ not-refused kind all (declare_semi c) h = none-so kind (refusal_tests all (decla
 none-refuse : (kind : FaultKind) (ds : Declarations) (all : Draft) → list_all (λ d. not (may_refuse kind d)) ds ≡ true → refuses kind all ds ≡ false
 none-refuse kind [] all h = refl
 none-refuse kind (d ∷ ds) all h =
-    ap (λ (b : Bool). b || refuses kind (adding all d) ds) (not-refused kind all d (first_so (not (may_refuse kind d)) (list_all (λ d. not (may_refuse kind d)) ds) h))
-    ∙ none-refuse kind ds (adding all d) (second_so (not (may_refuse kind d)) (list_all (λ d. not (may_refuse kind d)) ds) h)
+    ap (λ (b : Bool). b || refuses kind (with_declaration all d) ds) (not-refused kind all d (first_so (not (may_refuse kind d)) (list_all (λ d. not (may_refuse kind d)) ds) h))
+    ∙ none-refuse kind ds (with_declaration all d) (second_so (not (may_refuse kind d)) (list_all (λ d. not (may_refuse kind d)) ds) h)
 
 pub no-one : {X : Type 0} (kind : FaultKind) (ds : Declarations) (all : Draft) → list_all (λ d. not (may_refuse kind d)) ds ≡ true → refuses kind all ds ≡ true → X
 no-one kind ds all h k = absurd (never (refuses kind all ds) k (none-refuse kind ds all h))
 
 -- of a kind that comes after those of all forms
-pub form-good : (kind : FaultKind) (before : List Item) (earlier : Draft) (item : Item) → is_below kind kinds.LineTooLong ≡ true → is_below kind kinds.BadByte ≡ true
+pub form-good : (kind : FaultKind) (before : List LineContent) (earlier : Draft) (item : LineContent) → is_below kind kinds.LineTooLong ≡ true → is_below kind kinds.BadByte ≡ true
     → list_all (is_below kind) header_kinds ≡ true → ((o : Option Section) → list_all (is_below kind) (kinds_in o) ≡ true) → IsFirst kind before earlier item → IsGood before earlier item
 form-good kind before earlier item long byte heads lines first = first.late long byte (by item)
   where
@@ -98,13 +98,13 @@ form-good kind before earlier item long byte heads lines first = first.late long
         of true f g rest = ap (λ (n : ℕ). nat_lt n (kind_rank kind)) (same-rank k x f) ∙ first_so (is_below kind x) (list_all (is_below kind) ks) h
         of false f g rest = rest g
 
-    each : (ks : List FaultKind) (tests : Tests) → list_all (is_below kind) ks ≡ true → list_all (λ test. is_among ks test.1) tests ≡ true → list_all (λ test. is_below kind test.1) tests ≡ true
+    each : (ks : List FaultKind) (tests : FaultTests) → list_all (is_below kind) ks ≡ true → list_all (λ test. is_among ks test.1) tests ≡ true → list_all (λ test. is_below kind test.1) tests ≡ true
     each ks [] h e = refl
     each ks ((held, k) ∷ more) h e =
         both_so (is_below kind k) (list_all (λ test. is_below kind test.1) more) (member ks k h (first_so (is_among ks k) (list_all (λ test. is_among ks test.1) more) e))
         (each ks more h (second_so (is_among ks k) (list_all (λ test. is_among ks test.1) more) e))
 
-    by : (x : Item) → list_all (λ test. is_below kind test.1) (item_tests (context_of before) earlier x) ≡ true
+    by : (x : LineContent) → list_all (λ test. is_below kind test.1) (item_tests (context_of before) earlier x) ≡ true
     by skipped = refl
     by (header keyword more) = each header_kinds (header_tests (context_of before) earlier keyword more (section_named keyword)) heads (header-among (context_of before) earlier keyword more (section_named keyword))
     by (data_line fields) = each (kinds_in (current_section before)) (data_tests (context_of before) earlier fields (current_section before)) (lines (current_section before)) (data-among (context_of before) earlier fields (current_section before))
@@ -157,34 +157,34 @@ bounds-unknown type column value all h = by type h
 cells-known : (column : List ℕ) (pairs : List Pair) (all : Draft) → has_column all column ≡ true → refuses kinds.UnknownColumn all (flat_map (coefficient_declared column) pairs) ≡ false
 cells-known column [] all h = refl
 cells-known column (pair ∷ pairs) all h =
-    ap (λ (b : Bool). (not b || false) || refuses kinds.UnknownColumn (adding all (declare_coefficient (record { row = pair.row; column = column }) (value_of pair.literal))) (flat_map (coefficient_declared column) pairs)) h
-    ∙ cells-known column pairs (adding all (declare_coefficient (record { row = pair.row; column = column }) (value_of pair.literal))) h
+    ap (λ (b : Bool). (not b || false) || refuses kinds.UnknownColumn (with_declaration all (declare_coefficient (record { row = pair.row; column = column }) (value_of pair.literal))) (flat_map (coefficient_declared column) pairs)) h
+    ∙ cells-known column pairs (with_declaration all (declare_coefficient (record { row = pair.row; column = column }) (value_of pair.literal))) h
 
 column-known : (context : Context) (earlier : Draft) (fields : Fields) → refuses kinds.UnknownColumn earlier (columns_line_declared context fields) ≡ false
 column-known context earlier fields = by (is_marker_line fields)
   where
-    line : (l : ValuesLine) (b : Bool) → refuses kinds.UnknownColumn (adding earlier (declare_column l.name)) (cond b (declare_marked l.name ∷ []) [] ++ flat_map (coefficient_declared l.name) l.pairs) ≡ false
+    line : (l : ValuesLine) (b : Bool) → refuses kinds.UnknownColumn (with_declaration earlier (declare_column l.name)) (cond b (declare_marked l.name ∷ []) [] ++ flat_map (coefficient_declared l.name) l.pairs) ≡ false
     line l true =
-        ap (λ (b : Bool). (not b || false) || refuses kinds.UnknownColumn (adding (adding earlier (declare_column l.name)) (declare_marked l.name)) (flat_map (coefficient_declared l.name) l.pairs)) (there l)
-        ∙ cells-known l.name l.pairs (adding (adding earlier (declare_column l.name)) (declare_marked l.name)) (there l)
+        ap (λ (b : Bool). (not b || false) || refuses kinds.UnknownColumn (with_declaration (with_declaration earlier (declare_column l.name)) (declare_marked l.name)) (flat_map (coefficient_declared l.name) l.pairs)) (there l)
+        ∙ cells-known l.name l.pairs (with_declaration (with_declaration earlier (declare_column l.name)) (declare_marked l.name)) (there l)
       where
-        there : (v : ValuesLine) → has_column (adding earlier (declare_column v.name)) v.name ≡ true
+        there : (v : ValuesLine) → has_column (with_declaration earlier (declare_column v.name)) v.name ≡ true
         there v = has-put v.name v.name tt earlier.columns ∙ or_left (same_bytes v.name v.name) (has_column earlier v.name) (itself_named v.name)
-    line l false = cells-known l.name l.pairs (adding earlier (declare_column l.name)) (has-put l.name l.name tt earlier.columns ∙ or_left (same_bytes l.name l.name) (has_column earlier l.name) (itself_named l.name))
+    line l false = cells-known l.name l.pairs (with_declaration earlier (declare_column l.name)) (has-put l.name l.name tt earlier.columns ∙ or_left (same_bytes l.name l.name) (has_column earlier l.name) (itself_named l.name))
 
-    of : (o : Option ValuesLine) → refuses kinds.UnknownColumn earlier (declared_of (column_declared context) o) ≡ false
+    of : (o : Option ValuesLine) → refuses kinds.UnknownColumn earlier (declared_if_some (column_declared context) o) ≡ false
     of None = refl
     of (Some l) = line l context.in_integer_part
 
-    by : (b : Bool) → refuses kinds.UnknownColumn earlier (cond b [] (declared_of (column_declared context) (column_shape fields))) ≡ false
+    by : (b : Bool) → refuses kinds.UnknownColumn earlier (cond b [] (declared_if_some (column_declared context) (column_shape fields))) ≡ false
     by true = refl
     by false = of (column_shape fields)
 
-unknown-column : (before : List Item) (earlier : Draft) (item : Item) → Told before earlier → IsFirst kinds.UnknownColumn before earlier item → names_unknown_column before item ≡ true
+unknown-column : (before : List LineContent) (earlier : Draft) (item : LineContent) → Told before earlier → IsFirst kinds.UnknownColumn before earlier item → names_unknown_column before item ≡ true
 unknown-column before earlier skipped told h = let no = h.told in cc
 unknown-column before earlier (header keyword more) told h = by (section_named keyword) (right_alone (holds_of kinds.UnknownColumn tests) (refuses kinds.UnknownColumn earlier (header_declared (context_of before) earlier more (section_named keyword))) (none-holds header_kinds kinds.UnknownColumn tests (header-among (context_of before) earlier keyword more (section_named keyword)) refl) h.told)
   where
-    tests : Tests
+    tests : FaultTests
     tests = header_tests (context_of before) earlier keyword more (section_named keyword)
 
     by : (o : Option Section) → refuses kinds.UnknownColumn earlier (header_declared (context_of before) earlier more o) ≡ true → false ≡ true
@@ -197,7 +197,7 @@ unknown-column before earlier (header keyword more) told h = by (section_named k
         none (Some ObjName) = refl
         none (Some Rows) = refl
         none (Some Columns) =
-            elim (is_none earlier.objective && is_none (context_of before).objective_name) as (λ b. list_all (λ d. not (may_refuse kinds.UnknownColumn d)) (cond b (declare_objective (codes "obj") ∷ []) []) ≡ true) [ true ↦ refl | false ↦ refl ]
+            elim (is_none earlier.objective && is_none (context_of before).objname) as (λ b. list_all (λ d. not (may_refuse kinds.UnknownColumn d)) (cond b (declare_objective (codes "obj") ∷ []) []) ≡ true) [ true ↦ refl | false ↦ refl ]
         none (Some Rhs) = refl
         none (Some Ranges) = refl
         none (Some Bounds) = refl
@@ -230,13 +230,13 @@ unknown-column before earlier (data_line fields) told h =
     bound [] k = cc
     bound (letters ∷ more) k = typed (bound_type letters) k
       where
-        shape : (type : BoundType) (o : Option BoundLine) → refuses kinds.UnknownColumn earlier (declared_of (λ (line : BoundLine). bound_declared type line.column (bound_value line)) o) ≡ true
+        shape : (type : BoundType) (o : Option BoundLine) → refuses kinds.UnknownColumn earlier (declared_if_some (λ (line : BoundLine). bound_declared type line.column (bound_value line)) o) ≡ true
             → option_map_or (λ name. not (names_column before name)) (option_map (λ (line : BoundLine). line.column) o) false ≡ true
         shape type None e = cc
         shape type (Some line) e =
             unnamed (names_column before line.column) (has_column earlier line.column) (told.known.words.there line.column) (bounds-unknown type line.column (bound_value line) earlier e)
 
-        typed : (o : Option BoundType) → refuses kinds.UnknownColumn earlier (declared_of (λ (type : BoundType). declared_of (λ (line : BoundLine). bound_declared type line.column (bound_value line)) (bound_shape type more)) o) ≡ true
+        typed : (o : Option BoundType) → refuses kinds.UnknownColumn earlier (declared_if_some (λ (type : BoundType). declared_if_some (λ (line : BoundLine). bound_declared type line.column (bound_value line)) (bound_shape type more)) o) ≡ true
             → option_map_or (λ name. not (names_column before name)) (option_map_or (λ type. option_map (λ (line : BoundLine). line.column) (bound_shape type more)) o None) false ≡ true
         typed None e = cc
         typed (Some type) e = shape type (bound_shape type more) e
@@ -263,7 +263,7 @@ unknown-columns = in-words kinds.UnknownColumn names_unknown_column refl refl re
 -- ---- UnknownRow
 
 -- a row by the words is there
-row-there : (before : List Item) (earlier : Draft) (name : List ℕ) → Told before earlier → has_section before Columns ≡ true → is_row before name ≡ true → has_row earlier name ≡ true
+row-there : (before : List LineContent) (earlier : Draft) (name : List ℕ) → Told before earlier → has_section before Columns ≡ true → is_row before name ≡ true → has_row earlier name ≡ true
 row-there before earlier name told begun h = by (names_row before name) refl h
   where
     by : (b : Bool) → names_row before name ≡ b → (b || (has_default_objective before && same_bytes name (codes "obj"))) ≡ true → has_row earlier name ≡ true
@@ -273,7 +273,7 @@ row-there before earlier name told begun h = by (names_row before name) refl h
         ∙ told.default_there begun (first_so (has_default_objective before) (same_bytes name (codes "obj")) k)
 
 -- rows that are not there are not named
-rows-unnamed : (before : List Item) (earlier : Draft) (pairs : List Pair) → Told before earlier → has_section before Columns ≡ true → list_any (λ pair. not (has_row earlier pair.row)) pairs ≡ true → list_any (λ pair. not (is_row before pair.row)) pairs ≡ true
+rows-unnamed : (before : List LineContent) (earlier : Draft) (pairs : List Pair) → Told before earlier → has_section before Columns ≡ true → list_any (λ pair. not (has_row earlier pair.row)) pairs ≡ true → list_any (λ pair. not (is_row before pair.row)) pairs ≡ true
 rows-unnamed before earlier pairs told begun =
     some (λ pair. not (has_row earlier pair.row)) (λ pair. not (is_row before pair.row)) pairs
     (λ pair e. unnamed (is_row before pair.row) (has_row earlier pair.row) (row-there before earlier pair.row told begun) e)
@@ -285,7 +285,7 @@ either-pair false c d f h = f h
 cells-unknown : (column : List ℕ) (pairs : List Pair) (all : Draft) → refuses kinds.UnknownRow all (flat_map (coefficient_declared column) pairs) ≡ true → list_any (λ pair. not (has_row all pair.row)) pairs ≡ true
 cells-unknown column [] all h = cc
 cells-unknown column (pair ∷ pairs) all h =
-    let next = adding all (declare_coefficient (record { row = pair.row; column = column }) (value_of pair.literal)) in
+    let next = with_declaration all (declare_coefficient (record { row = pair.row; column = column }) (value_of pair.literal)) in
     either-pair (not (has_row all pair.row)) (refuses kinds.UnknownRow next (flat_map (coefficient_declared column) pairs)) (list_any (λ p. not (has_row all p.row)) pairs) (cells-unknown column pairs next) h
 
 sides-unknown : (earlier : Draft) (pairs : List Pair) (all : Draft) → refuses kinds.UnknownRow all (flat_map (λ (pair : Pair). rhs_declared earlier pair.row (value_of pair.literal)) pairs) ≡ true → list_any (λ pair. not (has_row all pair.row)) pairs ≡ true
@@ -297,13 +297,13 @@ sides-unknown earlier (pair ∷ pairs) all h = by (is_free_row earlier pair.row)
         → (not (has_row all pair.row) || list_any (λ p. not (has_row all p.row)) pairs) ≡ true
     by true rest k = or_right (not (has_row all pair.row)) (list_any (λ p. not (has_row all p.row)) pairs) (rest all k)
     by false rest k =
-        let next = adding all (declare_rhs pair.row (value_of pair.literal)) in
+        let next = with_declaration all (declare_rhs pair.row (value_of pair.literal)) in
         either-pair (not (has_row all pair.row)) (refuses kinds.UnknownRow next (flat_map (λ (pair : Pair). rhs_declared earlier pair.row (value_of pair.literal)) pairs)) (list_any (λ p. not (has_row all p.row)) pairs) (rest next) k
 
 ranges-unknown : (pairs : List Pair) (all : Draft) → refuses kinds.UnknownRow all (map (λ (pair : Pair). declare_range pair.row (value_of pair.literal)) pairs) ≡ true → list_any (λ pair. not (has_row all pair.row)) pairs ≡ true
 ranges-unknown [] all h = cc
 ranges-unknown (pair ∷ pairs) all h =
-    let next = adding all (declare_range pair.row (value_of pair.literal)) in
+    let next = with_declaration all (declare_range pair.row (value_of pair.literal)) in
     either-pair (not (has_row all pair.row)) (refuses kinds.UnknownRow next (map (λ (pair : Pair). declare_range pair.row (value_of pair.literal)) pairs)) (list_any (λ p. not (has_row all p.row)) pairs) (ranges-unknown pairs next) h
 
 -- the word of OBJNAME is the name of no row of type N
@@ -319,38 +319,38 @@ word-unnamed test ((word ∷ next ∷ rest) ∷ more) told h k =
     nowhere true = refl
     nowhere false = refl
 
-objective-missing : (before : List Item) (earlier : Draft) → Told before earlier → lacks_objective (context_of before) earlier ≡ true → not (has_named_objective before) ≡ true
+objective-missing : (before : List LineContent) (earlier : Draft) → Told before earlier → lacks_objective (context_of before) earlier ≡ true → not (has_named_objective before) ≡ true
 objective-missing before earlier told h =
     so_not (has_named_objective before)
-    (named (objective_name before) refl (second_so (is_none earlier.objective) (is_some (objective_name before)) h))
+    (named (objname before) refl (second_so (is_none earlier.objective) (is_some (objname before)) h))
   where
     none : is_none earlier.objective ≡ true
-    none = first_so (is_none earlier.objective) (is_some (objective_name before)) h
+    none = first_so (is_none earlier.objective) (is_some (objname before)) h
 
     apart : (o : Option (List ℕ)) → is_none o ≡ true → is_some o ≡ true → ⊥
     apart None e k = cc
     apart (Some x) e k = cc
 
-    lacks : (word : List ℕ) (b : Bool) → objective_name before ≡ Some word → has_free_row before word ≡ b → b ≡ false
+    lacks : (word : List ℕ) (b : Bool) → objname before ≡ Some word → has_free_row before word ≡ b → b ≡ false
     lacks word true e k = absurd (apart earlier.objective none (told.known.declares word e k))
     lacks word false e k = refl
 
-    named : (o : Option (List ℕ)) → objective_name before ≡ o → is_some o ≡ true → has_named_objective before ≡ false
+    named : (o : Option (List ℕ)) → objname before ≡ o → is_some o ≡ true → has_named_objective before ≡ false
     named None e k = cc
     named (Some word) e k =
         word-unnamed (has_free_row before) (words_in ObjName before) word (ap head_of (told-words None before) ∙ e)
         (lacks word (has_free_row before word) e refl)
 
 -- in a section from COLUMNS on, COLUMNS has begun
-columns-begun : (before : List Item) (s : Section) → AreOrdered (sections_begun before) → nat_le 3 (place s) ≡ true → current_section before ≡ Some s → has_section before Columns ≡ true
-columns-begun before s ordered late e = ordered.columns (last-so (sections_begun before) e)
+columns-begun : (before : List LineContent) (s : Section) → AreOrdered (seen_sections before) → nat_le 3 (section_rank s) ≡ true → current_section before ≡ Some s → has_section before Columns ≡ true
+columns-begun before s ordered late e = ordered.columns (last-so (seen_sections before) e)
   where
-    last-so : (seen : List Section) → last_or None seen ≡ Some s → list_any (λ (x : Section). nat_le 3 (place x)) seen ≡ true
+    last-so : (sections_seen : List Section) → last_or None sections_seen ≡ Some s → list_any (λ (x : Section). nat_le 3 (section_rank x)) sections_seen ≡ true
     last-so [] k = cc
-    last-so (x ∷ []) k = let same : x ≡ s = cc in or_left (nat_le 3 (place x)) false (ap (λ (y : Section). nat_le 3 (place y)) same ∙ late)
-    last-so (x ∷ y ∷ seen) k = or_right (nat_le 3 (place x)) (list_any (λ (z : Section). nat_le 3 (place z)) (y ∷ seen)) (last-so (y ∷ seen) k)
+    last-so (x ∷ []) k = let same : x ≡ s = cc in or_left (nat_le 3 (section_rank x)) false (ap (λ (y : Section). nat_le 3 (section_rank y)) same ∙ late)
+    last-so (x ∷ y ∷ sections_seen) k = or_right (nat_le 3 (section_rank x)) (list_any (λ (z : Section). nat_le 3 (section_rank z)) (y ∷ sections_seen)) (last-so (y ∷ sections_seen) k)
 
-unknown-row : (before : List Item) (earlier : Draft) (item : Item) → Told before earlier → IsFirst kinds.UnknownRow before earlier item → names_unknown_row before item ≡ true
+unknown-row : (before : List LineContent) (earlier : Draft) (item : LineContent) → Told before earlier → IsFirst kinds.UnknownRow before earlier item → names_unknown_row before item ≡ true
 unknown-row before earlier skipped told h = let no = h.told in cc
 unknown-row before earlier (header keyword more) told h = by (section_named keyword) h.told
   where
@@ -361,7 +361,7 @@ unknown-row before earlier (header keyword more) told h = by (section_named keyw
     unrefused (Some ObjName) = refl
     unrefused (Some Rows) = refl
     unrefused (Some Columns) =
-        elim (is_none earlier.objective && is_none (context_of before).objective_name) as (λ b. list_all (λ d. not (may_refuse kinds.UnknownRow d)) (cond b (declare_objective (codes "obj") ∷ []) []) ≡ true) [ true ↦ refl | false ↦ refl ]
+        elim (is_none earlier.objective && is_none (context_of before).objname) as (λ b. list_all (λ d. not (may_refuse kinds.UnknownRow d)) (cond b (declare_objective (codes "obj") ∷ []) []) ≡ true) [ true ↦ refl | false ↦ refl ]
     unrefused (Some Rhs) = refl
     unrefused (Some Ranges) = refl
     unrefused (Some Bounds) = refl
@@ -420,27 +420,27 @@ unknown-row before earlier (data_line fields) told h =
     rows name AtLeast = refl
     rows name Equal = refl
 
-    marks : (line : ValuesLine) (b : Bool) → refuses kinds.UnknownRow (adding earlier (declare_column line.name)) (cond b (declare_marked line.name ∷ []) [] ++ flat_map (coefficient_declared line.name) line.pairs) ≡ true
+    marks : (line : ValuesLine) (b : Bool) → refuses kinds.UnknownRow (with_declaration earlier (declare_column line.name)) (cond b (declare_marked line.name ∷ []) [] ++ flat_map (coefficient_declared line.name) line.pairs) ≡ true
         → list_any (λ pair. not (has_row earlier pair.row)) line.pairs ≡ true
-    marks line true k = cells-unknown line.name line.pairs (adding (adding earlier (declare_column line.name)) (declare_marked line.name)) k
-    marks line false k = cells-unknown line.name line.pairs (adding earlier (declare_column line.name)) k
+    marks line true k = cells-unknown line.name line.pairs (with_declaration (with_declaration earlier (declare_column line.name)) (declare_marked line.name)) k
+    marks line false k = cells-unknown line.name line.pairs (with_declaration earlier (declare_column line.name)) k
 
-    column : has_section before Columns ≡ true → (b : Bool) → refuses kinds.UnknownRow earlier (cond b [] (declared_of (column_declared (context_of before)) (column_shape fields))) ≡ true
+    column : has_section before Columns ≡ true → (b : Bool) → refuses kinds.UnknownRow earlier (cond b [] (declared_if_some (column_declared (context_of before)) (column_shape fields))) ≡ true
         → list_any (λ pair. not (is_row before pair.row)) (option_map_or (λ (line : ValuesLine). line.pairs) (cond b None (column_shape fields)) []) ≡ true
     column begun true k = k
     column begun false k = of (column_shape fields) k
       where
-        of : (o : Option ValuesLine) → refuses kinds.UnknownRow earlier (declared_of (column_declared (context_of before)) o) ≡ true
+        of : (o : Option ValuesLine) → refuses kinds.UnknownRow earlier (declared_if_some (column_declared (context_of before)) o) ≡ true
             → list_any (λ pair. not (is_row before pair.row)) (option_map_or (λ (line : ValuesLine). line.pairs) o []) ≡ true
         of None e = e
         of (Some line) e = rows-unnamed before earlier line.pairs told begun (marks line (context_of before).in_integer_part e)
 
-    sides : has_section before Columns ≡ true → (o : Option ValuesLine) → refuses kinds.UnknownRow earlier (declared_of (right_sides_declared earlier) o) ≡ true
+    sides : has_section before Columns ≡ true → (o : Option ValuesLine) → refuses kinds.UnknownRow earlier (declared_if_some (rhs_line_declared earlier) o) ≡ true
         → list_any (λ pair. not (is_row before pair.row)) (option_map_or (λ (line : ValuesLine). line.pairs) o []) ≡ true
     sides begun None e = e
     sides begun (Some line) e = rows-unnamed before earlier line.pairs told begun (sides-unknown earlier line.pairs earlier e)
 
-    ranges : has_section before Columns ≡ true → (o : Option ValuesLine) → refuses kinds.UnknownRow earlier (declared_of ranges_declared o) ≡ true
+    ranges : has_section before Columns ≡ true → (o : Option ValuesLine) → refuses kinds.UnknownRow earlier (declared_if_some ranges_declared o) ≡ true
         → list_any (λ pair. not (is_row before pair.row)) (option_map_or (λ (line : ValuesLine). line.pairs) o []) ≡ true
     ranges begun None e = e
     ranges begun (Some line) e = rows-unnamed before earlier line.pairs told begun (ranges-unknown line.pairs earlier e)
@@ -448,7 +448,7 @@ unknown-row before earlier (data_line fields) told h =
     passes : Passes (λ d. not (may_refuse kinds.UnknownRow d))
     passes = record { lower = λ _ _. refl; upper = λ _ _. refl; integer = λ _. refl; semi = λ _. refl }
 
-    begun_in : (s : Section) → nat_le 3 (place s) ≡ true → current_section before ≡ Some s → has_section before Columns ≡ true
+    begun_in : (s : Section) → nat_le 3 (section_rank s) ≡ true → current_section before ≡ Some s → has_section before Columns ≡ true
     begun_in s = columns-begun before s told.known.words.ordered
 
     by : (o : Option Section) → current_section before ≡ o → refuses kinds.UnknownRow earlier (data_declared (context_of before) earlier fields o) ≡ true → list_any (λ pair. not (is_row before pair.row)) (pairs_in o fields) ≡ true

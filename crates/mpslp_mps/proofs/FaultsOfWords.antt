@@ -6,15 +6,15 @@ use Rattle.std.specs.Option.{option_map, option_map_or}
 use Rattle.mpslp_types.specs.Name.{same_bytes, is_one_of}
 use Rattle.mpslp_types.specs.declared.faults.FaultKind.TheVariants as kinds
 use Rattle.mpslp_types.proofs.BoolLemmas.{both_so, or_left, or_right, nor, so_not}
-use Rattle.mpslp_core.specs.Lists.{head_of, is_nonempty}
+use Rattle.mpslp_model_core.specs.Lists.{head_of, is_nonempty}
 use Rattle.mpslp_builder.specs.Declaration.{Draft}
-use Rattle.mpslp_reading.specs.Field.{number_tests}
-use Rattle.mpslp_reading.specs.Tests.{judged_by}
-use Rattle.mpslp_mps.specs.Line.{Fields, Item, skipped, header, data_line}
+use Rattle.mpslp_lines.specs.Field.{number_tests}
+use Rattle.mpslp_lines.specs.FaultTests.{judged_by}
+use Rattle.mpslp_mps.specs.Line.{Fields, LineContent, skipped, header, data_line}
 use Rattle.mpslp_mps.specs.Section.{has, section_named, is_section}
 use Rattle.mpslp_mps.specs.DataLine.{word_shape, ValuesLine, column_shape, is_marker_line, marker_shape, opening_word, closing_word, vector_shape}
 use Rattle.mpslp_mps.specs.BoundLine.{BoundLine, bound_type, bound_shape}
-use Rattle.mpslp_mps.specs.Context.{context_of, current_section, has_section, sections_begun, data_lines, takes_word, wanted, marker_word, line_column, vector_set, bound_set}
+use Rattle.mpslp_mps.specs.Context.{context_of, current_section, has_section, seen_sections, data_lines, takes_word, word_due, marker_word, line_column, vector_set, bound_set}
 use Rattle.mpslp_mps.specs.FieldFault.{set_tests}
 use Rattle.mpslp_mps.specs.HeaderFault.{may_begin, is_out_of_order, word_tests, section_tests, header_tests}
 use Rattle.mpslp_mps.specs.DataFault.{marker_word_tests, marker_tests, is_split, column_tests, vector_tests, bound_tests, typed_bound_tests, bound_line_tests, data_tests}
@@ -22,8 +22,8 @@ use Rattle.mpslp_mps.specs.LineFault.{item_tests}
 use Rattle.mpslp_mps.specs.declared.bound_types.BoundType.{BoundType}
 use Rattle.mpslp_mps.specs.declared.sections.Section.{Section}
 use Rattle.mpslp_mps.specs.declared.sections.Section.TheVariants.{Name, ObjSense, ObjName, Rows, Columns, Rhs, Ranges, Bounds, EndData}
-use Rattle.mpslp_mps.specs.TextInWords.{place, is_sense, words_in, is_one_word, alternate, stand_together}
-use Rattle.mpslp_mps.specs.FaultsInWords.{IsInWords, repeats_section, comes_early, comes_late, has_its_word, is_without_word, is_closed, is_out_of_place, breaks_turn, is_wrong_marker, differs_from, has_second_set, is_of_second_set, splits_column}
+use Rattle.mpslp_mps.specs.TextInWords.{section_rank, is_sense, words_in, is_one_word, alternate, stand_together}
+use Rattle.mpslp_mps.specs.FaultsInWords.{IsInWords, repeats_section, comes_early, comes_late, has_its_word, is_without_word, is_closed, stands_out_of_order, breaks_turn, is_wrong_marker, differs_from, has_second_set, is_of_second_set, splits_column}
 use Rattle.mpslp_mps.proofs.OrderLemmas.{never}
 use Rattle.mpslp_mps.proofs.WordsOfColumns.{columns_of}
 use Rattle.mpslp_mps.proofs.WordsOfOneWord.{missing, without_word, with_word, IsUnderway}
@@ -35,7 +35,7 @@ use Rattle.mpslp_mps.proofs.FaultedLines.{holds_of, in-words}
 
 -- ---- SectionRepeated
 
-repeated : (before : List Item) (earlier : Draft) (item : Item) → Told before earlier → holds_of kinds.SectionRepeated (item_tests (context_of before) earlier item) ≡ true → repeats_section before item ≡ true
+repeated : (before : List LineContent) (earlier : Draft) (item : LineContent) → Told before earlier → holds_of kinds.SectionRepeated (item_tests (context_of before) earlier item) ≡ true → repeats_section before item ≡ true
 repeated before earlier skipped known h = cc
 repeated before earlier (header keyword more) known h = by (section_named keyword) h
   where
@@ -67,7 +67,7 @@ section-repeated = in-words kinds.SectionRepeated repeats_section refl refl refl
 
 -- ---- BadMarker
 
-wrong-marker : (before : List Item) (earlier : Draft) (item : Item) → Told before earlier → holds_of kinds.BadMarker (item_tests (context_of before) earlier item) ≡ true → is_wrong_marker before item ≡ true
+wrong-marker : (before : List LineContent) (earlier : Draft) (item : LineContent) → Told before earlier → holds_of kinds.BadMarker (item_tests (context_of before) earlier item) ≡ true → is_wrong_marker before item ≡ true
 wrong-marker before earlier skipped known h = cc
 wrong-marker before earlier (header keyword more) known h = no-header kinds.BadMarker (context_of before) earlier keyword more (section_named keyword) refl h
 wrong-marker before earlier (data_line fields) known h = by (current_section before) h
@@ -115,7 +115,7 @@ bad-marker = in-words kinds.BadMarker is_wrong_marker refl refl refl (by-form ki
 
 -- ---- ColumnSplit
 
-split : (before : List Item) (earlier : Draft) (item : Item) → Told before earlier → holds_of kinds.ColumnSplit (item_tests (context_of before) earlier item) ≡ true → splits_column before item ≡ true
+split : (before : List LineContent) (earlier : Draft) (item : LineContent) → Told before earlier → holds_of kinds.ColumnSplit (item_tests (context_of before) earlier item) ≡ true → splits_column before item ≡ true
 split before earlier skipped known h = cc
 split before earlier (header keyword more) known h = no-header kinds.ColumnSplit (context_of before) earlier keyword more (section_named keyword) refl h
 split before earlier (data_line fields) known h = by (current_section before) h
@@ -161,7 +161,7 @@ other-first : (sets : List (List ℕ)) (set : List ℕ) → option_map_or (λ na
 other-first [] set h = cc
 other-first (first ∷ sets) set h = or_left (not (same_bytes first set)) (differs_from sets set) h
 
-second : (before : List Item) (earlier : Draft) (item : Item) → Told before earlier → holds_of kinds.SecondSet (item_tests (context_of before) earlier item) ≡ true → is_of_second_set before item ≡ true
+second : (before : List LineContent) (earlier : Draft) (item : LineContent) → Told before earlier → holds_of kinds.SecondSet (item_tests (context_of before) earlier item) ≡ true → is_of_second_set before item ≡ true
 second before earlier skipped known h = cc
 second before earlier (header keyword more) known h = no-header kinds.SecondSet (context_of before) earlier keyword more (section_named keyword) refl h
 second before earlier (data_line fields) known h = by (current_section before) h
@@ -209,17 +209,17 @@ second-set = in-words kinds.SecondSet is_of_second_set refl refl refl (by-form k
 -- ---- SectionOrder
 
 -- a word is wanted: the section that goes on has none
-without-word : (section : Section) (test : List ℕ → Bool) (before : List Item) → takes_word section ≡ true → IsUnderway section test before → current_section before ≡ Some section → is_section section (Some section) ≡ true
-    → is_some (wanted before) ≡ true → is_without_word before section ≡ true
+without-word : (section : Section) (test : List ℕ → Bool) (before : List LineContent) → takes_word section ≡ true → IsUnderway section test before → current_section before ≡ Some section → is_section section (Some section) ≡ true
+    → is_some (word_due before) ≡ true → is_without_word before section ≡ true
 without-word section test before takes (missing, (a, b, c)) here own w = absurd (never (is_section section (current_section before)) (ap (is_section section) here ∙ own) c)
 without-word section test before takes (without_word, (a, b, c, d)) here own w = both_so (takes_word section) (not (has_its_word before section)) takes (ap (λ (words : List Fields). not (is_nonempty (flat_map (λ fields. fields) words))) a)
-without-word section test before takes (with_word, (a, b, c)) here own w = absurd (never (is_some (wanted before)) w (c (ap (is_section section) here ∙ own)))
+without-word section test before takes (with_word, (a, b, c)) here own w = absurd (never (is_some (word_due before)) w (c (ap (is_section section) here ∙ own)))
 
 -- none is wanted: it has its word
-with-its_word : (section : Section) (test : List ℕ → Bool) (before : List Item) → takes_word section ≡ true → IsUnderway section test before → current_section before ≡ Some section → is_section section (Some section) ≡ true
-    → is_some (wanted before) ≡ false → (takes_word section && has_its_word before section) ≡ true
+with-its_word : (section : Section) (test : List ℕ → Bool) (before : List LineContent) → takes_word section ≡ true → IsUnderway section test before → current_section before ≡ Some section → is_section section (Some section) ≡ true
+    → is_some (word_due before) ≡ false → (takes_word section && has_its_word before section) ≡ true
 with-its_word section test before takes (missing, (a, b, c)) here own w = absurd (never (is_section section (current_section before)) (ap (is_section section) here ∙ own) c)
-with-its_word section test before takes (without_word, (a, b, c, d)) here own w = absurd (never (is_some (wanted before)) d w)
+with-its_word section test before takes (without_word, (a, b, c, d)) here own w = absurd (never (is_some (word_due before)) d w)
 with-its_word section test before takes (with_word, (a, b, c)) here own w = both_so (takes_word section) (has_its_word before section) takes (one (words_in section before) a)
   where
     one : (words : List Fields) → is_one_word test words ≡ true → is_nonempty (flat_map (λ (fields : Fields). fields) words) ≡ true
@@ -234,15 +234,15 @@ with-its_word section test before takes (with_word, (a, b, c)) here own w = both
     one ((word ∷ other ∷ rest) ∷ more) h = cc
 
 -- a section that has begun has a later place
-later-place : (p q : Section → Bool) (seen : List Section) → ((x : Section) → p x ≡ true → q x ≡ true) → list_any p seen ≡ true → list_any q seen ≡ true
+later-place : (p q : Section → Bool) (sections_seen : List Section) → ((x : Section) → p x ≡ true → q x ≡ true) → list_any p sections_seen ≡ true → list_any q sections_seen ≡ true
 later-place p q [] h k = k
-later-place p q (x ∷ seen) h k = by (λ e. later-place p q seen h e) (p x) refl k
+later-place p q (x ∷ sections_seen) h k = by (λ e. later-place p q sections_seen h e) (p x) refl k
   where
-    by : (list_any p seen ≡ true → list_any q seen ≡ true) → (b : Bool) → p x ≡ b → (b || list_any p seen) ≡ true → (q x || list_any q seen) ≡ true
-    by rest true e l = or_left (q x) (list_any q seen) (h x e)
-    by rest false e l = or_right (q x) (list_any q seen) (rest l)
+    by : (list_any p sections_seen ≡ true → list_any q sections_seen ≡ true) → (b : Bool) → p x ≡ b → (b || list_any p sections_seen) ≡ true → (q x || list_any q sections_seen) ≡ true
+    by rest true e l = or_left (q x) (list_any q sections_seen) (h x e)
+    by rest false e l = or_right (q x) (list_any q sections_seen) (rest l)
 
-rows-later : (x : Section) → is_section Rows (Some x) ≡ true → nat_lt 1 (place x) ≡ true
+rows-later : (x : Section) → is_section Rows (Some x) ≡ true → nat_lt 1 (section_rank x) ≡ true
 rows-later Name h = cc
 rows-later ObjSense h = cc
 rows-later ObjName h = cc
@@ -254,11 +254,11 @@ rows-later Bounds h = cc
 rows-later EndData h = cc
 
 -- any section that has begun, and is not NAME, has a later place than NAME
-first-later : (seen : List Section) → is_none (last_or None seen) ≡ false → has seen Name ≡ false → list_any (λ other. nat_lt 0 (place other)) seen ≡ true
+first-later : (sections_seen : List Section) → is_none (last_or None sections_seen) ≡ false → has sections_seen Name ≡ false → list_any (λ other. nat_lt 0 (section_rank other)) sections_seen ≡ true
 first-later [] h k = cc
-first-later (x ∷ seen) h k = or_left (nat_lt 0 (place x)) (list_any (λ other. nat_lt 0 (place other)) seen) (by x (nor (is_section Name (Some x)) (has seen Name) k).0)
+first-later (x ∷ sections_seen) h k = or_left (nat_lt 0 (section_rank x)) (list_any (λ other. nat_lt 0 (section_rank other)) sections_seen) (by x (nor (is_section Name (Some x)) (has sections_seen Name) k).0)
   where
-    by : (s : Section) → is_section Name (Some s) ≡ false → nat_lt 0 (place s) ≡ true
+    by : (s : Section) → is_section Name (Some s) ≡ false → nat_lt 0 (section_rank s) ≡ true
     by Name e = cc
     by ObjSense e = refl
     by ObjName e = refl
@@ -273,10 +273,10 @@ turned : (b : Bool) → not b ≡ false → b ≡ true
 turned true h = refl
 turned false h = cc
 
-misplaced : (before : List Item) (s : Section) → has_section before s ≡ false → may_begin (context_of before) s ≡ false → (comes_early before s || comes_late before s) ≡ true
-misplaced before Name f g = first-later (sections_begun before) g f
-misplaced before ObjSense f g = later-place (λ x. is_section Rows (Some x)) (λ other. nat_lt 1 (place other)) (sections_begun before) rows-later (turned (has_section before Rows) g)
-misplaced before ObjName f g = later-place (λ x. is_section Rows (Some x)) (λ other. nat_lt 1 (place other)) (sections_begun before) rows-later (turned (has_section before Rows) g)
+misplaced : (before : List LineContent) (s : Section) → has_section before s ≡ false → may_begin (context_of before) s ≡ false → (comes_early before s || comes_late before s) ≡ true
+misplaced before Name f g = first-later (seen_sections before) g f
+misplaced before ObjSense f g = later-place (λ x. is_section Rows (Some x)) (λ other. nat_lt 1 (section_rank other)) (seen_sections before) rows-later (turned (has_section before Rows) g)
+misplaced before ObjName f g = later-place (λ x. is_section Rows (Some x)) (λ other. nat_lt 1 (section_rank other)) (seen_sections before) rows-later (turned (has_section before Rows) g)
 misplaced before Rows f g = cc
 misplaced before Columns f g = or_left (not (has_section before Rows)) (comes_late before Columns) (so_not (has_section before Rows) g)
 misplaced before Rhs f g = or_left (not (has_section before Columns)) (comes_late before Rhs) (so_not (has_section before Columns) g)
@@ -284,28 +284,28 @@ misplaced before Ranges f g = or_left (not (has_section before Columns)) (comes_
 misplaced before Bounds f g = or_left (not (has_section before Columns)) (comes_late before Bounds) (so_not (has_section before Columns) g)
 misplaced before EndData f g = or_left (not (has_section before Columns)) (comes_late before EndData) (so_not (has_section before Columns) g)
 
-out-of-place : (before : List Item) (earlier : Draft) (item : Item) → Told before earlier → holds_of kinds.SectionOrder (item_tests (context_of before) earlier item) ≡ true → is_out_of_place before item ≡ true
+out-of-place : (before : List LineContent) (earlier : Draft) (item : LineContent) → Told before earlier → holds_of kinds.SectionOrder (item_tests (context_of before) earlier item) ≡ true → stands_out_of_order before item ≡ true
 out-of-place before earlier skipped known h = cc
 out-of-place before earlier (header keyword more) known h = by (section_named keyword) h
   where
-    wanting : (o : Option Section) → current_section before ≡ o → is_some (wanted before) ≡ true → option_map_or (is_without_word before) o false ≡ true
-    wanting None e w = let no : false ≡ true = sym (ap (λ (o : Option Section). is_section ObjSense o || is_section ObjName o) e) ∙ known.known.there w in cc
-    wanting (Some ObjSense) e w = without-word ObjSense is_sense before refl known.known.words.sense e refl w
-    wanting (Some ObjName) e w = without-word ObjName (λ _. true) before refl known.known.words.name e refl w
-    wanting (Some Name) e w = let no : false ≡ true = sym (ap (λ (o : Option Section). is_section ObjSense o || is_section ObjName o) e) ∙ known.known.there w in cc
-    wanting (Some Rows) e w = let no : false ≡ true = sym (ap (λ (o : Option Section). is_section ObjSense o || is_section ObjName o) e) ∙ known.known.there w in cc
-    wanting (Some Columns) e w = let no : false ≡ true = sym (ap (λ (o : Option Section). is_section ObjSense o || is_section ObjName o) e) ∙ known.known.there w in cc
-    wanting (Some Rhs) e w = let no : false ≡ true = sym (ap (λ (o : Option Section). is_section ObjSense o || is_section ObjName o) e) ∙ known.known.there w in cc
-    wanting (Some Ranges) e w = let no : false ≡ true = sym (ap (λ (o : Option Section). is_section ObjSense o || is_section ObjName o) e) ∙ known.known.there w in cc
-    wanting (Some Bounds) e w = let no : false ≡ true = sym (ap (λ (o : Option Section). is_section ObjSense o || is_section ObjName o) e) ∙ known.known.there w in cc
-    wanting (Some EndData) e w = let no : false ≡ true = sym (ap (λ (o : Option Section). is_section ObjSense o || is_section ObjName o) e) ∙ known.known.there w in cc
+    word_due_after : (o : Option Section) → current_section before ≡ o → is_some (word_due before) ≡ true → option_map_or (is_without_word before) o false ≡ true
+    word_due_after None e w = let no : false ≡ true = sym (ap (λ (o : Option Section). is_section ObjSense o || is_section ObjName o) e) ∙ known.known.there w in cc
+    word_due_after (Some ObjSense) e w = without-word ObjSense is_sense before refl known.known.words.sense e refl w
+    word_due_after (Some ObjName) e w = without-word ObjName (λ _. true) before refl known.known.words.name e refl w
+    word_due_after (Some Name) e w = let no : false ≡ true = sym (ap (λ (o : Option Section). is_section ObjSense o || is_section ObjName o) e) ∙ known.known.there w in cc
+    word_due_after (Some Rows) e w = let no : false ≡ true = sym (ap (λ (o : Option Section). is_section ObjSense o || is_section ObjName o) e) ∙ known.known.there w in cc
+    word_due_after (Some Columns) e w = let no : false ≡ true = sym (ap (λ (o : Option Section). is_section ObjSense o || is_section ObjName o) e) ∙ known.known.there w in cc
+    word_due_after (Some Rhs) e w = let no : false ≡ true = sym (ap (λ (o : Option Section). is_section ObjSense o || is_section ObjName o) e) ∙ known.known.there w in cc
+    word_due_after (Some Ranges) e w = let no : false ≡ true = sym (ap (λ (o : Option Section). is_section ObjSense o || is_section ObjName o) e) ∙ known.known.there w in cc
+    word_due_after (Some Bounds) e w = let no : false ≡ true = sym (ap (λ (o : Option Section). is_section ObjSense o || is_section ObjName o) e) ∙ known.known.there w in cc
+    word_due_after (Some EndData) e w = let no : false ≡ true = sym (ap (λ (o : Option Section). is_section ObjSense o || is_section ObjName o) e) ∙ known.known.there w in cc
 
     idle : Bool
     idle = option_map_or (is_without_word before) (current_section before) false
 
-    of : (s : Section) (w f g : Bool) → is_some (wanted before) ≡ w → has_section before s ≡ f → may_begin (context_of before) s ≡ g → (w || not (f || g)) ≡ true
+    of : (s : Section) (w f g : Bool) → is_some (word_due before) ≡ w → has_section before s ≡ f → may_begin (context_of before) s ≡ g → (w || not (f || g)) ≡ true
         → (idle || (not (has_section before s) && (comes_early before s || comes_late before s))) ≡ true
-    of s true f g p q r k = or_left idle (not (has_section before s) && (comes_early before s || comes_late before s)) (wanting (current_section before) refl p)
+    of s true f g p q r k = or_left idle (not (has_section before s) && (comes_early before s || comes_late before s)) (word_due_after (current_section before) refl p)
     of s false true g p q r k = cc
     of s false false true p q r k = cc
     of s false false false p q r k =
@@ -320,20 +320,20 @@ out-of-place before earlier (header keyword more) known h = by (section_named ke
         (unknown-among (is_one_of (codes "QSECTION" ∷ codes "QMATRIX" ∷ codes "QUADOBJ" ∷ codes "QCMATRIX" ∷ codes "CSECTION" ∷ []) keyword)
         (is_one_of (codes "SOS" ∷ codes "SOS1" ∷ codes "SOS2" ∷ []) keyword) (is_one_of (codes "INDICATORS" ∷ []) keyword)) refl))
     by (Some s) k =
-        of s (is_some (wanted before)) (has_section before s) (may_begin (context_of before) s) refl refl refl
+        of s (is_some (word_due before)) (has_section before s) (may_begin (context_of before) s) refl refl refl
         (left_alone (is_out_of_order (context_of before) s) (holds_of kinds.SectionOrder (section_tests (context_of before) earlier s more))
         (none-holds (kinds.BadType ∷ kinds.UnknownRow ∷ []) kinds.SectionOrder (section_tests (context_of before) earlier s more) (section-among (context_of before) earlier s more) refl) k)
 out-of-place before earlier (data_line fields) known h = by (current_section before) refl h
   where
     stands : (s : Section) → holds_of kinds.SectionOrder (data_tests (context_of before) earlier fields (Some s)) ≡ true → current_section before ≡ Some s → is_closed before s ≡ true
     stands Name k e = refl
-    stands ObjSense k e = with-its_word ObjSense is_sense before refl known.known.words.sense e refl (word (is_some (wanted before)) (word_shape fields) k)
+    stands ObjSense k e = with-its_word ObjSense is_sense before refl known.known.words.sense e refl (word (is_some (word_due before)) (word_shape fields) k)
       where
         word : (b : Bool) (o : Option (List ℕ)) → holds_of kinds.SectionOrder ((not b, kinds.SectionOrder) ∷ judged_by word_tests o) ≡ true → b ≡ false
         word false o l = refl
         word true None l = cc
         word true (Some x) l = cc
-    stands ObjName k e = with-its_word ObjName (λ _. true) before refl known.known.words.name e refl (word (is_some (wanted before)) (word_shape fields) k)
+    stands ObjName k e = with-its_word ObjName (λ _. true) before refl known.known.words.name e refl (word (is_some (word_due before)) (word_shape fields) k)
       where
         word : (b : Bool) (o : Option (List ℕ)) → holds_of kinds.SectionOrder ((not b, kinds.SectionOrder) ∷ judged_by (λ _. []) o) ≡ true → b ≡ false
         word false o l = refl
@@ -350,5 +350,5 @@ out-of-place before earlier (data_line fields) known h = by (current_section bef
     by None e k = refl
     by (Some s) e k = stands s k e
 
-pub section-order : IsInWords kinds.SectionOrder is_out_of_place
-section-order = in-words kinds.SectionOrder is_out_of_place refl refl refl (by-form kinds.SectionOrder is_out_of_place refl out-of-place)
+pub section-order : IsInWords kinds.SectionOrder stands_out_of_order
+section-order = in-words kinds.SectionOrder stands_out_of_order refl refl refl (by-form kinds.SectionOrder stands_out_of_order refl out-of-place)

@@ -8,14 +8,14 @@ use Rattle.std.proofs.lemmas.List.Folds.{list_any-append}
 use Rattle.mpslp_builder.specs.Declaration.{Draft, empty_draft}
 use Rattle.mpslp_types.specs.declared.faults.Fault.{Fault}
 use Rattle.mpslp_types.specs.declared.faults.FaultKind.{FaultKind}
-use Rattle.mpslp_reading.specs.LineAnswer.{fault_on_line}
+use Rattle.mpslp_lines.specs.LineAnswer.{fault_on_line}
 use Rattle.mpslp_mps.specs.Section.{is_section}
-use Rattle.mpslp_mps.specs.Line.{item_of}
+use Rattle.mpslp_mps.specs.Line.{content_of}
 use Rattle.mpslp_mps.specs.Context.{Context, context_of}
 use Rattle.mpslp_mps.specs.MpsText.{is_end}
 use Rattle.mpslp_mps.specs.FirstFault.{line_fault}
-use Rattle.mpslp_mps.specs.Reading.{placed_in, draft_after, context_after, fault_from, draft_from, context_from}
-use Rattle.mpslp_mps.specs.ReadingAnswer.{lines_to_end}
+use Rattle.mpslp_mps.specs.LineByLine.{placed_in, draft_after, context_after, fault_from, draft_from, context_from}
+use Rattle.mpslp_mps.specs.ReadAnswer.{lines_to_end}
 use Rattle.mpslp_mps.specs.Fed.{lines_fault, LedTo}
 use Rattle.mpslp_mps.specs.FedLaws.{to_end-last, to_end-more}
 use Rattle.mpslp_mps.specs.declared.sections.Section.TheVariants.{EndData}
@@ -146,7 +146,7 @@ module _ (text : List (List ℕ)) (context : Context) (earlier : Draft) (number 
           ∙ ap (context_from (context_of [])) (sym (read_on line));
       draft = later_is ∙ (λ i. draft_after (sym context_here i) (sym draft_here i) line) ∙ sym (draft_from-append text (line ∷ []) (context_of []) empty_draft)
           ∙ ap (draft_from (context_of []) empty_draft) (sym (read_on line));
-      ended = ap (λ (c : Context). is_section EndData c.section) next_is ∙ at_end-after context (item_of line) unended
+      ended = ap (λ (c : Context). is_section EndData c.section) next_is ∙ at_end-after context (content_of line) unended
           ∙ sym (list_any-append is_end text (line ∷ []) ∙ ap (λ (b : Bool). b || (is_end line || false)) none_yet ∙ or_false (is_end line));
       counted = λ h. following_is ∙ ap (λ (n : ℕ). min (n + 1) (2 ^ 64 - 1)) (led.counted none_yet)
           ∙ omega (arith, length-append text (line ∷ []));

@@ -13,16 +13,16 @@ use Rattle.mpslp_types.specs.declared.faults.FaultKind.{FaultKind}
 use Rattle.mpslp_types.specs.declared.faults.FaultKind.TheVariants as kinds
 use Rattle.mpslp_types.proofs.BoolLemmas.{both_so}
 use Rattle.mpslp_builder.specs.Declaration.{Draft}
-use Rattle.mpslp_core.specs.Lists.{those_of}
+use Rattle.mpslp_model_core.specs.Lists.{those_of}
 use Rattle.mpslp_builder.proofs.SlotLemmas.{same_name}
-use Rattle.mpslp_reading.specs.Tests.{Tests, judged_by}
-use Rattle.mpslp_reading.specs.Field.{name_tests, number_fault, is_kind, number_tests}
+use Rattle.mpslp_lines.specs.FaultTests.{FaultTests, judged_by}
+use Rattle.mpslp_lines.specs.Field.{name_tests, number_fault, is_kind, number_tests}
 use Rattle.mpslp_mps.specs.Line.{Fields}
 use Rattle.mpslp_mps.specs.DataLine.{Pair, RowLine, ValuesLine, row_shape, row_type, column_shape, is_marker_line, marker_shape, opening_word, closing_word, vector_shape}
 use Rattle.mpslp_mps.specs.BoundLine.{BoundLine, bound_type, bound_shape}
 use Rattle.mpslp_mps.specs.Context.{Context, marker_word, line_column, vector_set, bound_set}
 use Rattle.mpslp_mps.specs.FieldFault.{literals_of, set_tests}
-use Rattle.mpslp_mps.specs.DataFault.{row_tests, is_sos_marker, marker_word_tests, marker_tests, is_split, column_tests, columns_line_tests, vector_tests, bound_tests, typed_bound_tests, bound_line_tests}
+use Rattle.mpslp_mps.specs.DataFault.{row_line_tests, is_sos_marker, marker_word_tests, marker_tests, is_split, column_tests, columns_line_tests, vector_tests, bound_tests, typed_bound_tests, bound_line_tests}
 use Rattle.mpslp_mps.specs.TextInWords.{is_number, have_numbers, is_row_line, is_columns_line, is_vector_line, is_bound_line}
 use Rattle.mpslp_mps.specs.declared.bound_types.BoundType.{BoundType}
 use Rattle.mpslp_mps.proofs.WordsOfFields.{is_other_set}
@@ -42,13 +42,13 @@ no-faults (pair ∷ pairs) h =
     ap (λ (o : Option FaultKind). cons_option o (filter_map number_fault (literals_of pairs))) (no-fault pair.literal (first_so (is_number pair.literal) (have_numbers pairs) h))
     ∙ no-faults pairs (second_so (is_number pair.literal) (have_numbers pairs) h)
 
-numbers-pass : (pairs : List Pair) (more : Tests) → have_numbers pairs ≡ true → those_of (number_tests (literals_of pairs) ++ more) ≡ those_of more
+numbers-pass : (pairs : List Pair) (more : FaultTests) → have_numbers pairs ≡ true → those_of (number_tests (literals_of pairs) ++ more) ≡ those_of more
 numbers-pass pairs more h =
     ap (λ (faults : List FaultKind). those_of ((list_any (is_kind kinds.BadNumber) faults, kinds.BadNumber) ∷ (list_any (is_kind kinds.LongNumber) faults, kinds.LongNumber)
     ∷ (list_any (is_kind kinds.TooManyDigits) faults, kinds.TooManyDigits) ∷ (list_any (is_kind kinds.ExponentRange) faults, kinds.ExponentRange) ∷ more))
     (no-faults pairs h)
 
-name-passes : (name : List ℕ) (more : Tests) → is_mps_name name ≡ true → those_of (name_tests name ++ more) ≡ those_of more
+name-passes : (name : List ℕ) (more : FaultTests) → is_mps_name name ≡ true → those_of (name_tests name ++ more) ≡ those_of more
 name-passes name more h = by (has_name_length name) (list_all is_visible name) (same_bytes name marker) h
   where
     by : (a b c : Bool) → (a && (b && not c)) ≡ true → those_of ((not a, kinds.NameLength) ∷ (not b, kinds.NameByte) ∷ (c, kinds.NameMarker) ∷ more) ≡ those_of more
@@ -58,20 +58,20 @@ name-passes name more h = by (has_name_length name) (list_all is_visible name) (
     by false b c k = cc
 
 -- a test that does not hold
-passes : (b : Bool) (kind : FaultKind) (more : Tests) → b ≡ false → those_of ((b, kind) ∷ more) ≡ those_of more
+passes : (b : Bool) (kind : FaultKind) (more : FaultTests) → b ≡ false → those_of ((b, kind) ∷ more) ≡ those_of more
 passes true kind more h = cc
 passes false kind more h = refl
 
 -- ---- data lines by section
 
-pub row-good : (fields : Fields) → is_row_line fields ≡ true → those_of (judged_by row_tests (row_shape fields)) ≡ []
+pub row-good : (fields : Fields) → is_row_line fields ≡ true → those_of (judged_by row_line_tests (row_shape fields)) ≡ []
 row-good fields h = by (row_shape fields) h
   where
     there : (line : RowLine) (o : Option RowType) → is_some o ≡ true → is_none o ≡ false
     there line None k = cc
     there line (Some x) k = refl
 
-    by : (o : Option RowLine) → option_map_or (λ (line : RowLine). is_some (row_type line.letter) && is_mps_name line.name) o false ≡ true → those_of (judged_by row_tests o) ≡ []
+    by : (o : Option RowLine) → option_map_or (λ (line : RowLine). is_some (row_type line.letter) && is_mps_name line.name) o false ≡ true → those_of (judged_by row_line_tests o) ≡ []
     by None k = cc
     by (Some line) k =
         passes (is_none (row_type line.letter)) kinds.BadType (name_tests line.name) (there line (row_type line.letter) (first_so (is_some (row_type line.letter)) (is_mps_name line.name) k))
@@ -99,15 +99,15 @@ columns-good context earlier fields h = by (is_marker_line fields) h
         → those_of ((is_sos_marker fields, kinds.Sos) ∷ judged_by (marker_word_tests context) o) ≡ []
     fits None e k m = cc
     fits (Some word) e k m =
-        let wanted = cond context.in_integer_part closing_word opening_word in
+        let word_due = cond context.in_integer_part closing_word opening_word in
         passes (is_sos_marker fields) kinds.Sos (marker_word_tests context word) (no-sos fields context.in_integer_part word e (m word refl))
-        ∙ passes (not (same_bytes word wanted)) kinds.BadMarker [] (ap not (m word refl))
+        ∙ passes (not (same_bytes word word_due)) kinds.BadMarker [] (ap not (m word refl))
 
     of : (o : Option ValuesLine) → option_map_or (λ (line : ValuesLine). is_mps_name line.name && have_numbers line.pairs) o false ≡ true
         → ((name : List ℕ) → option_map (λ (line : ValuesLine). line.name) o ≡ Some name → is_split context earlier name ≡ false) → those_of (judged_by (column_tests context earlier) o) ≡ []
     of None k s = cc
     of (Some line) k s =
-        let last : Tests = (is_split context earlier line.name, kinds.ColumnSplit) ∷ [] in
+        let last : FaultTests = (is_split context earlier line.name, kinds.ColumnSplit) ∷ [] in
         name-passes line.name (number_tests (literals_of line.pairs) ++ last) (first_so (is_mps_name line.name) (have_numbers line.pairs) k)
         ∙ (numbers-pass line.pairs last (second_so (is_mps_name line.name) (have_numbers line.pairs) k)
         ∙ passes (is_split context earlier line.name) kinds.ColumnSplit [] (s line.name refl))

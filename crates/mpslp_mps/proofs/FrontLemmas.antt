@@ -5,7 +5,7 @@ use Rattle.mpslp_builder.specs.Declaration.{Draft}
 use Rattle.mpslp_mps.specs.Line.{Fields, data_line}
 use Rattle.mpslp_mps.specs.Context.{Context}
 use Rattle.mpslp_mps.specs.NextContext.{next_context}
-use Rattle.mpslp_mps.specs.LineMeaning.{data_declared, header_declared}
+use Rattle.mpslp_mps.specs.LineDeclarations.{data_declared, header_declared}
 use Rattle.mpslp_mps.specs.HeaderFault.{header_tests}
 use Rattle.mpslp_mps.specs.DataFault.{data_tests}
 use Rattle.mpslp_mps.specs.declared.sections.Section.{Section}

@@ -1,32 +1,32 @@
 -- A line is taken as its first six fields are.
 use Rattle.std.proofs.Common.{◌≡◌, refl, sym, ap, subst, ◌∙◌, ℕ, List, [], ◌∷◌, ◌++◌, take, Bool, true, false, cond}
 use Rattle.std.specs.Prelude.{Option, Ok, Err}
-use Rattle.mpslp_builder.specs.Declaration.{Draft, adding_all}
-use Rattle.mpslp_core.specs.Lists.{those_of}
+use Rattle.mpslp_builder.specs.Declaration.{Draft, with_declarations}
+use Rattle.mpslp_model_core.specs.Lists.{those_of}
 use Rattle.mpslp_types.specs.FaultOrder.{least_kind}
 use Rattle.mpslp_types.specs.declared.faults.FaultKind.{FaultKind}
-use Rattle.mpslp_mps.specs.Line.{Fields, Item, skipped, header, data_line, header_of, fields, is_skipped, is_data, item_of}
+use Rattle.mpslp_mps.specs.Line.{Fields, LineContent, skipped, header, data_line, header_of, fields, is_skipped, is_data, content_of}
 use Rattle.mpslp_mps.specs.Section.{section_named}
 use Rattle.mpslp_mps.specs.Context.{Context}
 use Rattle.mpslp_mps.specs.NextContext.{next_context}
-use Rattle.mpslp_mps.specs.LineMeaning.{declared}
+use Rattle.mpslp_mps.specs.LineDeclarations.{line_declares}
 use Rattle.mpslp_mps.specs.LineFault.{item_tests}
-use Rattle.mpslp_reading.specs.Declaring.{declaring_faults}
-use Rattle.mpslp_reading.specs.LineAnswer.{LineResult, IsErrorOf}
-use Rattle.mpslp_mps.specs.LineAnswer.{ReadsItem}
+use Rattle.mpslp_lines.specs.Declaring.{declaring_faults}
+use Rattle.mpslp_lines.specs.LineAnswer.{LineResult, IsErrorOf}
+use Rattle.mpslp_mps.specs.LineAnswer.{ReadsContent}
 use Rattle.mpslp_mps.proofs.FrontLemmas.{data_tests-front, data_declared-front, next_context-front, header_tests-front, header_declared-front}
 
 -- items that are judged alike, declare alike and leave the same context are taken alike
-taken_as : (context : Context) (earlier : Draft) (item other : Item) (answer : LineResult) (next : Context) (later : Draft)
-    → item_tests context earlier item ≡ item_tests context earlier other → declared context earlier item ≡ declared context earlier other
-    → next_context context item ≡ next_context context other → ReadsItem context earlier item answer next later → ReadsItem context earlier other answer next later
+taken_as : (context : Context) (earlier : Draft) (item other : LineContent) (answer : LineResult) (next : Context) (later : Draft)
+    → item_tests context earlier item ≡ item_tests context earlier other → line_declares context earlier item ≡ line_declares context earlier other
+    → next_context context item ≡ next_context context other → ReadsContent context earlier item answer next later → ReadsContent context earlier other answer next later
 taken_as context earlier item other (Ok x) next later tests ds step (fault_is, is, draft) =
-    (sym (λ i. least_kind (those_of (tests i) ++ declaring_faults earlier (ds i))) ∙ fault_is, is ∙ step, draft ∙ ap (adding_all earlier) ds)
+    (sym (λ i. least_kind (those_of (tests i) ++ declaring_faults earlier (ds i))) ∙ fault_is, is ∙ step, draft ∙ ap (with_declarations earlier) ds)
 taken_as context earlier item other (Err error) next later tests ds step fault_is =
     subst (λ (o : Option FaultKind). IsErrorOf o error) (λ i. least_kind (those_of (tests i) ++ declaring_faults earlier (ds i))) fault_is
 
 pub data-front : (context : Context) (earlier : Draft) (fields : Fields) (answer : LineResult) (next : Context) (later : Draft)
-    → ReadsItem context earlier (data_line (take 6 fields)) answer next later → ReadsItem context earlier (data_line fields) answer next later
+    → ReadsContent context earlier (data_line (take 6 fields)) answer next later → ReadsContent context earlier (data_line fields) answer next later
 data-front context earlier fields answer next later taken =
     taken_as context earlier (data_line (take 6 fields)) (data_line fields) answer next later (data_tests-front context earlier context.section fields)
     (data_declared-front context earlier context.section fields) (next_context-front context fields) taken
@@ -37,7 +37,7 @@ next_header context keyword (word ∷ []) = refl
 next_header context keyword (word ∷ second ∷ more) = refl
 
 pub header-front : (context : Context) (earlier : Draft) (fields : Fields) (answer : LineResult) (next : Context) (later : Draft)
-    → ReadsItem context earlier (header_of (take 6 fields)) answer next later → ReadsItem context earlier (header_of fields) answer next later
+    → ReadsContent context earlier (header_of (take 6 fields)) answer next later → ReadsContent context earlier (header_of fields) answer next later
 header-front context earlier [] answer next later taken = taken
 header-front context earlier (keyword ∷ more) answer next later taken =
     taken_as context earlier (header keyword (take 5 more)) (header keyword more) answer next later (header_tests-front context earlier keyword (section_named keyword) more)
@@ -45,12 +45,12 @@ header-front context earlier (keyword ∷ more) answer next later taken =
 
 -- ---- which item a line is
 
-pub data-item : (line : List ℕ) → is_skipped line ≡ false → is_data line ≡ true → item_of line ≡ data_line (fields line)
+pub data-item : (line : List ℕ) → is_skipped line ≡ false → is_data line ≡ true → content_of line ≡ data_line (fields line)
 data-item line unread is =
     ap (λ (b : Bool). cond b skipped (cond (is_data line) (data_line (fields line)) (header_of (fields line)))) unread
     ∙ ap (λ (b : Bool). cond b (data_line (fields line)) (header_of (fields line))) is
 
-pub header-item : (line : List ℕ) → is_skipped line ≡ false → is_data line ≡ false → item_of line ≡ header_of (fields line)
+pub header-item : (line : List ℕ) → is_skipped line ≡ false → is_data line ≡ false → content_of line ≡ header_of (fields line)
 header-item line unread is =
     ap (λ (b : Bool). cond b skipped (cond (is_data line) (data_line (fields line)) (header_of (fields line)))) unread
     ∙ ap (λ (b : Bool). cond b (data_line (fields line)) (header_of (fields line))) is

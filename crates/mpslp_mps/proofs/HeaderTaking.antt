@@ -9,17 +9,17 @@ use Rattle.mpslp_types.specs.declared.faults.FaultKind.TheVariants as kinds
 use Rattle.mpslp_mps.specs.Line.{Fields, header}
 use Rattle.mpslp_mps.specs.Section.{section_named}
 use Rattle.mpslp_mps.specs.Context.{Context}
-use Rattle.mpslp_reading.specs.Tests.{first_held}
+use Rattle.mpslp_lines.specs.FaultTests.{first_held}
 use Rattle.mpslp_mps.specs.HeaderFault.{unknown_section, header_tests}
-use Rattle.mpslp_mps.specs.LineMeaning.{header_declared}
+use Rattle.mpslp_mps.specs.LineDeclarations.{header_declared}
 use Rattle.mpslp_mps.specs.LineAnswer.{item_fault}
-use Rattle.mpslp_reading.specs.Declaring.{declared_fault}
+use Rattle.mpslp_lines.specs.Declaring.{declared_fault}
 use Rattle.mpslp_mps.specs.declared.sections.Section.{Section}
 use Rattle.mpslp_mps.specs.declared.sections.Section.TheVariants.{Name, ObjSense, ObjName, Rows, Columns, Rhs, Ranges, Bounds, EndData}
-use Rattle.mpslp_reading.proofs.LeastLemmas.{is_from}
-use Rattle.mpslp_reading.proofs.FirstFaultLemmas.{form-first, declared-first}
+use Rattle.mpslp_lines.proofs.LeastLemmas.{is_from}
+use Rattle.mpslp_lines.proofs.FirstFaultLemmas.{form-first, declared-first}
 use Rattle.mpslp_mps.proofs.ClashLemmas.{header-apart}
-use Rattle.mpslp_reading.proofs.HeldLemmas.{held-among}
+use Rattle.mpslp_lines.proofs.HeldLemmas.{held-among}
 use Rattle.mpslp_mps.proofs.RisingTests.{header-rising}
 use Rattle.mpslp_mps.proofs.TakingLemmas.{is_early}
 

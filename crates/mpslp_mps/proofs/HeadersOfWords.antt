@@ -8,13 +8,13 @@ use Rattle.mpslp_types.specs.declared.faults.FaultKind.{FaultKind}
 use Rattle.mpslp_types.specs.declared.faults.FaultKind.TheVariants as kinds
 use Rattle.mpslp_types.proofs.BoolLemmas.{both_so, both_false, nor, not_so, so_not}
 use Rattle.mpslp_builder.specs.Declaration.{Draft}
-use Rattle.mpslp_core.specs.Lists.{those_of, are_distinct}
-use Rattle.mpslp_reading.specs.Tests.{Tests}
-use Rattle.mpslp_mps.specs.Line.{Fields, Item}
+use Rattle.mpslp_model_core.specs.Lists.{those_of, are_distinct}
+use Rattle.mpslp_lines.specs.FaultTests.{FaultTests}
+use Rattle.mpslp_mps.specs.Line.{Fields, LineContent}
 use Rattle.mpslp_mps.specs.Section.{has, is_section}
-use Rattle.mpslp_mps.specs.Context.{Context, context_of, sections_begun}
+use Rattle.mpslp_mps.specs.Context.{Context, context_of, seen_sections}
 use Rattle.mpslp_mps.specs.HeaderFault.{may_begin, is_out_of_order, may_follow, section_tests, header_tests}
-use Rattle.mpslp_mps.specs.TextInWords.{place, in_order, same_section, are_good_sections}
+use Rattle.mpslp_mps.specs.TextInWords.{section_rank, in_order, same_section, are_good_sections}
 use Rattle.mpslp_mps.specs.declared.sections.Section.{Section}
 use Rattle.mpslp_mps.specs.declared.sections.Section.TheVariants.{Name, ObjSense, ObjName, Rows, Columns, Rhs, Ranges, Bounds, EndData}
 
@@ -34,30 +34,30 @@ none-behind q [] x more h = nor (q x) (list_any q more) h
 none-behind q (y ∷ xs) x more h = none-behind q xs x more (nor (q y) (list_any q (xs ++ x ∷ more)) h).1
 
 -- those before it have no later place, those behind it no earlier one
-pub order-around : (seen : List Section) (section : Section) (later : List Section) → in_order (seen ++ section ∷ later) ≡ true
-    → (list_all (λ (y : Section). nat_le (place y) (place section)) seen ≡ true) × (list_all (λ (y : Section). nat_le (place section) (place y)) later ≡ true)
-order-around [] section later h = (refl, first_so (list_all (λ (y : Section). nat_le (place section) (place y)) later) (in_order later) h)
-order-around (x ∷ seen) section later h =
-    let test : Section → Bool = λ other. nat_le (place x) (place other) in
-    let rest = order-around seen section later (second_so (list_all test (seen ++ section ∷ later)) (in_order (seen ++ section ∷ later)) h) in (
-      both_so (nat_le (place x) (place section)) (list_all (λ (y : Section). nat_le (place y) (place section)) seen)
-          (all-behind test seen section later (first_so (list_all test (seen ++ section ∷ later)) (in_order (seen ++ section ∷ later)) h)).0 rest.0,
+pub order-around : (sections_seen : List Section) (section : Section) (later : List Section) → in_order (sections_seen ++ section ∷ later) ≡ true
+    → (list_all (λ (y : Section). nat_le (section_rank y) (section_rank section)) sections_seen ≡ true) × (list_all (λ (y : Section). nat_le (section_rank section) (section_rank y)) later ≡ true)
+order-around [] section later h = (refl, first_so (list_all (λ (y : Section). nat_le (section_rank section) (section_rank y)) later) (in_order later) h)
+order-around (x ∷ sections_seen) section later h =
+    let test : Section → Bool = λ other. nat_le (section_rank x) (section_rank other) in
+    let rest = order-around sections_seen section later (second_so (list_all test (sections_seen ++ section ∷ later)) (in_order (sections_seen ++ section ∷ later)) h) in (
+      both_so (nat_le (section_rank x) (section_rank section)) (list_all (λ (y : Section). nat_le (section_rank y) (section_rank section)) sections_seen)
+          (all-behind test sections_seen section later (first_so (list_all test (sections_seen ++ section ∷ later)) (in_order (sections_seen ++ section ∷ later)) h)).0 rest.0,
       rest.1,
     )
 
 -- none before it is of the same section
-pub distinct-before : (seen : List Section) (section : Section) (later : List Section) → are_distinct same_section (seen ++ section ∷ later) ≡ true → has seen section ≡ false
+pub distinct-before : (sections_seen : List Section) (section : Section) (later : List Section) → are_distinct same_section (sections_seen ++ section ∷ later) ≡ true → has sections_seen section ≡ false
 distinct-before [] section later h = refl
-distinct-before (x ∷ seen) section later h =
+distinct-before (x ∷ sections_seen) section later h =
     let test : Section → Bool = λ other. same_section other x in
-    let all = list_any test (seen ++ section ∷ later) in
-    both_false (same_section section x) (has seen section)
-    (none-behind test seen section later (not_so all (first_so (not all) (are_distinct same_section (seen ++ section ∷ later)) h))).0
-    (distinct-before seen section later (second_so (not all) (are_distinct same_section (seen ++ section ∷ later)) h))
+    let all = list_any test (sections_seen ++ section ∷ later) in
+    both_false (same_section section x) (has sections_seen section)
+    (none-behind test sections_seen section later (not_so all (first_so (not all) (are_distinct same_section (sections_seen ++ section ∷ later)) h))).0
+    (distinct-before sections_seen section later (second_so (not all) (are_distinct same_section (sections_seen ++ section ∷ later)) h))
 
 -- ---- whether it may begin
 
-rows-later : (x : Section) → nat_le (place x) 1 ≡ true → is_section Rows (Some x) ≡ false
+rows-later : (x : Section) → nat_le (section_rank x) 1 ≡ true → is_section Rows (Some x) ≡ false
 rows-later Name h = refl
 rows-later ObjSense h = refl
 rows-later ObjName h = refl
@@ -68,7 +68,7 @@ rows-later Ranges h = refl
 rows-later Bounds h = refl
 rows-later EndData h = refl
 
-rows-earlier : (x : Section) → nat_le 3 (place x) ≡ true → is_section Rows (Some x) ≡ false
+rows-earlier : (x : Section) → nat_le 3 (section_rank x) ≡ true → is_section Rows (Some x) ≡ false
 rows-earlier Name h = refl
 rows-earlier ObjSense h = refl
 rows-earlier ObjName h = refl
@@ -79,7 +79,7 @@ rows-earlier Ranges h = refl
 rows-earlier Bounds h = refl
 rows-earlier EndData h = refl
 
-columns-earlier : (x : Section) → nat_le 4 (place x) ≡ true → is_section Columns (Some x) ≡ false
+columns-earlier : (x : Section) → nat_le 4 (section_rank x) ≡ true → is_section Columns (Some x) ≡ false
 columns-earlier Name h = refl
 columns-earlier ObjSense h = refl
 columns-earlier ObjName h = refl
@@ -90,11 +90,11 @@ columns-earlier Ranges h = refl
 columns-earlier Bounds h = refl
 columns-earlier EndData h = refl
 
-nothing-first : (seen : List Section) → list_all (λ (y : Section). nat_le (place y) 0) seen ≡ true → has seen Name ≡ false → is_none (last_or None seen) ≡ true
+nothing-first : (sections_seen : List Section) → list_all (λ (y : Section). nat_le (section_rank y) 0) sections_seen ≡ true → has sections_seen Name ≡ false → is_none (last_or None sections_seen) ≡ true
 nothing-first [] h k = refl
-nothing-first (x ∷ seen) h k = by x (first_so (nat_le (place x) 0) (list_all (λ (y : Section). nat_le (place y) 0) seen) h) (nor (is_section Name (Some x)) (has seen Name) k).0
+nothing-first (x ∷ sections_seen) h k = by x (first_so (nat_le (section_rank x) 0) (list_all (λ (y : Section). nat_le (section_rank y) 0) sections_seen) h) (nor (is_section Name (Some x)) (has sections_seen Name) k).0
   where
-    by : (s : Section) → nat_le (place s) 0 ≡ true → is_section Name (Some s) ≡ false → is_none (last_or (Some x) seen) ≡ true
+    by : (s : Section) → nat_le (section_rank s) 0 ≡ true → is_section Name (Some s) ≡ false → is_none (last_or (Some x) sections_seen) ≡ true
     by Name e f = cc
     by ObjSense e f = cc
     by ObjName e f = cc
@@ -106,36 +106,36 @@ nothing-first (x ∷ seen) h k = by x (first_so (nat_le (place x) 0) (list_all (
     by EndData e f = cc
 
 -- a section that stands in the whole, and is neither this one nor behind it, stands before it
-stands-before : (p : Section → Bool) (seen : List Section) (section : Section) (later : List Section) → list_any p (seen ++ section ∷ later) ≡ true → p section ≡ false → list_any p later ≡ false
-    → list_any p seen ≡ true
-stands-before p seen section later h here behind = by (list_any p seen) refl (sym (list_any-append p seen (section ∷ later)) ∙ h)
+stands-before : (p : Section → Bool) (sections_seen : List Section) (section : Section) (later : List Section) → list_any p (sections_seen ++ section ∷ later) ≡ true → p section ≡ false → list_any p later ≡ false
+    → list_any p sections_seen ≡ true
+stands-before p sections_seen section later h here behind = by (list_any p sections_seen) refl (sym (list_any-append p sections_seen (section ∷ later)) ∙ h)
   where
-    by : (b : Bool) → list_any p seen ≡ b → (b || (p section || list_any p later)) ≡ true → list_any p seen ≡ true
+    by : (b : Bool) → list_any p sections_seen ≡ b → (b || (p section || list_any p later)) ≡ true → list_any p sections_seen ≡ true
     by true e k = e
     by false e k = let none : (p section || list_any p later) ≡ false = both_false (p section) (list_any p later) here behind in cc
 
-pub begins-so : (before : List Item) (section : Section) (later : List Section) → are_good_sections (sections_begun before ++ section ∷ later) ≡ true
-    → has (sections_begun before ++ section ∷ later) Rows ≡ true → has (sections_begun before ++ section ∷ later) Columns ≡ true → may_begin (context_of before) section ≡ true
+pub begins-so : (before : List LineContent) (section : Section) (later : List Section) → are_good_sections (seen_sections before ++ section ∷ later) ≡ true
+    → has (seen_sections before ++ section ∷ later) Rows ≡ true → has (seen_sections before ++ section ∷ later) Columns ≡ true → may_begin (context_of before) section ≡ true
 begins-so before section later h rows columns =
-    by section (order-around seen section later (first_so (in_order (seen ++ section ∷ later)) (are_distinct same_section (seen ++ section ∷ later)) h))
-    (distinct-before seen section later (second_so (in_order (seen ++ section ∷ later)) (are_distinct same_section (seen ++ section ∷ later)) h)) rows columns
+    by section (order-around sections_seen section later (first_so (in_order (sections_seen ++ section ∷ later)) (are_distinct same_section (sections_seen ++ section ∷ later)) h))
+    (distinct-before sections_seen section later (second_so (in_order (sections_seen ++ section ∷ later)) (are_distinct same_section (sections_seen ++ section ∷ later)) h)) rows columns
   where
-    seen : List Section
-    seen = sections_begun before
+    sections_seen : List Section
+    sections_seen = seen_sections before
 
-    early : list_all (λ (y : Section). nat_le (place y) 1) seen ≡ true → not (has seen Rows) ≡ true
-    early o = so_not (has seen Rows) (none-of (λ x. is_section Rows (Some x)) (λ y. nat_le (place y) 1) seen rows-later o)
+    early : list_all (λ (y : Section). nat_le (section_rank y) 1) sections_seen ≡ true → not (has sections_seen Rows) ≡ true
+    early o = so_not (has sections_seen Rows) (none-of (λ x. is_section Rows (Some x)) (λ y. nat_le (section_rank y) 1) sections_seen rows-later o)
 
-    late : (s : Section) → is_section Columns (Some s) ≡ false → list_all (λ (y : Section). nat_le 4 (place y)) later ≡ true → has (seen ++ s ∷ later) Columns ≡ true → has seen Columns ≡ true
-    late s e o c = stands-before (λ x. is_section Columns (Some x)) seen s later c e (none-of (λ x. is_section Columns (Some x)) (λ y. nat_le 4 (place y)) later columns-earlier o)
+    late : (s : Section) → is_section Columns (Some s) ≡ false → list_all (λ (y : Section). nat_le 4 (section_rank y)) later ≡ true → has (sections_seen ++ s ∷ later) Columns ≡ true → has sections_seen Columns ≡ true
+    late s e o c = stands-before (λ x. is_section Columns (Some x)) sections_seen s later c e (none-of (λ x. is_section Columns (Some x)) (λ y. nat_le 4 (section_rank y)) later columns-earlier o)
 
-    by : (s : Section) → (list_all (λ (y : Section). nat_le (place y) (place s)) seen ≡ true) × (list_all (λ (y : Section). nat_le (place s) (place y)) later ≡ true) → has seen s ≡ false
-        → has (seen ++ s ∷ later) Rows ≡ true → has (seen ++ s ∷ later) Columns ≡ true → may_begin (context_of before) s ≡ true
-    by Name o f r c = nothing-first seen o.0 f
+    by : (s : Section) → (list_all (λ (y : Section). nat_le (section_rank y) (section_rank s)) sections_seen ≡ true) × (list_all (λ (y : Section). nat_le (section_rank s) (section_rank y)) later ≡ true) → has sections_seen s ≡ false
+        → has (sections_seen ++ s ∷ later) Rows ≡ true → has (sections_seen ++ s ∷ later) Columns ≡ true → may_begin (context_of before) s ≡ true
+    by Name o f r c = nothing-first sections_seen o.0 f
     by ObjSense o f r c = early o.0
     by ObjName o f r c = early o.0
     by Rows o f r c = refl
-    by Columns o f r c = stands-before (λ x. is_section Rows (Some x)) seen Columns later r refl (none-of (λ x. is_section Rows (Some x)) (λ y. nat_le 3 (place y)) later rows-earlier o.1)
+    by Columns o f r c = stands-before (λ x. is_section Rows (Some x)) sections_seen Columns later r refl (none-of (λ x. is_section Rows (Some x)) (λ y. nat_le 3 (section_rank y)) later rows-earlier o.1)
     by Rhs o f r c = late Rhs refl o.1 c
     by Ranges o f r c = late Ranges refl o.1 c
     by Bounds o f r c = late Bounds refl o.1 c
@@ -143,16 +143,16 @@ begins-so before section later h rows columns =
 
 -- ---- the tests of a header
 
-passes : (b : Bool) (kind : FaultKind) (more : Tests) → b ≡ false → those_of ((b, kind) ∷ more) ≡ those_of more
+passes : (b : Bool) (kind : FaultKind) (more : FaultTests) → b ≡ false → those_of ((b, kind) ∷ more) ≡ those_of more
 passes true kind more h = cc
 passes false kind more h = refl
 
-pub header-good : (context : Context) (earlier : Draft) (keyword : List ℕ) (more : Fields) (section : Section) → is_some context.wanted ≡ false → has context.seen section ≡ false
+pub header-good : (context : Context) (earlier : Draft) (keyword : List ℕ) (more : Fields) (section : Section) → is_some context.word_due ≡ false → has context.sections_seen section ≡ false
     → may_begin context section ≡ true → may_follow section more ≡ true → those_of (section_tests context earlier section more) ≡ []
     → those_of (header_tests context earlier keyword more (Some section)) ≡ []
 header-good context earlier keyword more section idle fresh begins follows rest =
     let last = section_tests context earlier section more in
-    let fields : Tests = (not (may_follow section more), kinds.FieldCount) ∷ last in
-    passes (is_out_of_order context section) kinds.SectionOrder ((has context.seen section, kinds.SectionRepeated) ∷ fields)
-    (both_false (is_some context.wanted) (not (has context.seen section || may_begin context section)) idle (ap not (ap (λ (b : Bool). b || may_begin context section) fresh ∙ begins)))
-    ∙ (passes (has context.seen section) kinds.SectionRepeated fields fresh ∙ (passes (not (may_follow section more)) kinds.FieldCount last (ap not follows) ∙ rest))
+    let fields : FaultTests = (not (may_follow section more), kinds.FieldCount) ∷ last in
+    passes (is_out_of_order context section) kinds.SectionOrder ((has context.sections_seen section, kinds.SectionRepeated) ∷ fields)
+    (both_false (is_some context.word_due) (not (has context.sections_seen section || may_begin context section)) idle (ap not (ap (λ (b : Bool). b || may_begin context section) fresh ∙ begins)))
+    ∙ (passes (has context.sections_seen section) kinds.SectionRepeated fields fresh ∙ (passes (not (may_follow section more)) kinds.FieldCount last (ap not follows) ∙ rest))

@@ -10,11 +10,11 @@ use Rattle.mpslp_types.specs.declared.kinds.Sense.{Sense}
 use Rattle.mpslp_types.specs.declared.faults.FaultKind.TheVariants as kinds
 use Rattle.mpslp_types.proofs.BoolLemmas.{both_false, nor, not_so}
 use Rattle.mpslp_builder.specs.Declaration.{Draft}
-use Rattle.mpslp_core.specs.Lists.{those_of, is_nonempty, are_distinct, head_of, when}
-use Rattle.mpslp_mps.specs.Line.{Fields, Item, header}
-use Rattle.mpslp_mps.specs.Section.{has, section_named, section_begun, is_section}
+use Rattle.mpslp_model_core.specs.Lists.{those_of, is_nonempty, are_distinct, head_of, when}
+use Rattle.mpslp_mps.specs.Line.{Fields, LineContent, header}
+use Rattle.mpslp_mps.specs.Section.{has, section_named, section_of_header, is_section}
 use Rattle.mpslp_mps.specs.DataLine.{sense_of}
-use Rattle.mpslp_mps.specs.Context.{context_of, sections_begun, has_section, current_section, said_after, fields_under, data_lines, data_lines_after, objname_word, objective_name, wanted}
+use Rattle.mpslp_mps.specs.Context.{context_of, seen_sections, has_section, current_section, said_after, fields_under, data_lines, data_lines_after, objname_word, objname, word_due}
 use Rattle.mpslp_mps.specs.HeaderFault.{may_follow, may_begin, lacks_objective, section_tests, header_tests}
 use Rattle.mpslp_mps.specs.TextInWords.{in_order, same_section, are_good_sections, may_have_more, is_good_header, word_fields, words_in, has_word_at_most, is_sense, is_free_row_named, has_free_row, has_named_objective}
 use Rattle.mpslp_mps.specs.declared.sections.Section.{Section}
@@ -29,14 +29,14 @@ use Rattle.mpslp_mps.proofs.OneWordOfWords.{IsWantedThere, header-fits, no-more-
 use Rattle.mpslp_mps.proofs.ObjNameOfWords.{IsDeclared, no-more-lines}
 
 -- none behind a section is one of those before it
-distinct-behind : (s : Section) (seen : List Section) (t : Section) (later : List Section) → has seen s ≡ true → are_distinct same_section (seen ++ t ∷ later) ≡ true → has later s ≡ false
+distinct-behind : (s : Section) (sections_seen : List Section) (t : Section) (later : List Section) → has sections_seen s ≡ true → are_distinct same_section (sections_seen ++ t ∷ later) ≡ true → has later s ≡ false
 distinct-behind s [] t later h k = cc
-distinct-behind s (x ∷ seen) t later h k =
-    by (is_section s (Some x)) refl h (not_so all (first_so (not all) (are_distinct same_section (seen ++ t ∷ later)) k))
-    (λ e. distinct-behind s seen t later e (second_so (not all) (are_distinct same_section (seen ++ t ∷ later)) k))
+distinct-behind s (x ∷ sections_seen) t later h k =
+    by (is_section s (Some x)) refl h (not_so all (first_so (not all) (are_distinct same_section (sections_seen ++ t ∷ later)) k))
+    (λ e. distinct-behind s sections_seen t later e (second_so (not all) (are_distinct same_section (sections_seen ++ t ∷ later)) k))
   where
     all : Bool
-    all = list_any (λ (l : Section). same_section l x) (seen ++ t ∷ later)
+    all = list_any (λ (l : Section). same_section l x) (sections_seen ++ t ∷ later)
 
     alike : (l : Section) → is_section s (Some x) ≡ true → same_section l x ≡ false → (b : Bool) → is_section s (Some l) ≡ b → b ≡ false
     alike l e f true g =
@@ -65,14 +65,14 @@ distinct-behind s (x ∷ seen) t later h k =
     behind [] f = (nor (same_section t x) (list_any (λ (l : Section). same_section l x) later) f).1
     behind (y ∷ xs) f = behind xs (nor (same_section y x) (list_any (λ (l : Section). same_section l x) (xs ++ t ∷ later)) f).1
 
-    by : (b : Bool) → is_section s (Some x) ≡ b → (b || has seen s) ≡ true → all ≡ false → (has seen s ≡ true → has later s ≡ false) → has later s ≡ false
-    by true e g f rest = none e later (behind seen f)
+    by : (b : Bool) → is_section s (Some x) ≡ b → (b || has sections_seen s) ≡ true → all ≡ false → (has sections_seen s ≡ true → has later s ≡ false) → has later s ≡ false
+    by true e g f rest = none e later (behind sections_seen f)
     by false e g f rest = rest g
 
 -- what the headers of the whole are together, as each is judged by it
-pub record AreGoodHeaders (items : List Item) : Type 0 where
+pub record AreGoodHeaders (items : List LineContent) : Type 0 where
   pub each : list_all is_good_header items ≡ true
-  pub sections : are_good_sections (sections_begun items) ≡ true
+  pub sections : are_good_sections (seen_sections items) ≡ true
   pub rows : has_section items Rows ≡ true
   pub columns : has_section items Columns ≡ true
   pub sense : has_word_at_most is_sense (words_in ObjSense items) ≡ true
@@ -83,30 +83,30 @@ first-stays : {X : Type 0} (xs ys : List X) (x : X) → head_of xs ≡ Some x �
 first-stays [] ys x h = cc
 first-stays (y ∷ xs) ys x h = h
 
-pub keyword-good : (before : List Item) (earlier : Draft) (keyword : List ℕ) (more : Fields) (rest : List Item) → IsUnderway ObjSense is_sense before → IsUnderway ObjName (λ _. true) before
+pub keyword-good : (before : List LineContent) (earlier : Draft) (keyword : List ℕ) (more : Fields) (rest : List LineContent) → IsUnderway ObjSense is_sense before → IsUnderway ObjName (λ _. true) before
     → IsWantedThere before → IsDeclared before earlier → AreGoodHeaders (before ++ header keyword more ∷ rest) → IsGood before earlier (header keyword more)
 keyword-good before earlier keyword more rest sense name there told h = by (section_named keyword) refl (passes-all is_good_header before (header keyword more) rest h.each)
   where
-    full : List Item
+    full : List LineContent
     full = before ++ header keyword more ∷ rest
 
-    seen : List Section
-    seen = sections_begun before
+    sections_seen : List Section
+    sections_seen = seen_sections before
 
     later : List Section
-    later = sections_begun rest
+    later = seen_sections rest
 
-    begun : (t : Section) → section_named keyword ≡ Some t → sections_begun full ≡ seen ++ t ∷ later
-    begun t e = filter_map-append section_begun before (header keyword more ∷ rest) ∙ ap (λ (o : Option Section). seen ++ cons_option o later) e
+    begun : (t : Section) → section_named keyword ≡ Some t → seen_sections full ≡ sections_seen ++ t ∷ later
+    begun t e = filter_map-append section_of_header before (header keyword more ∷ rest) ∙ ap (λ (o : Option Section). sections_seen ++ cons_option o later) e
 
-    good : (t : Section) → section_named keyword ≡ Some t → are_good_sections (seen ++ t ∷ later) ≡ true
+    good : (t : Section) → section_named keyword ≡ Some t → are_good_sections (sections_seen ++ t ∷ later) ≡ true
     good t e = sym (ap are_good_sections (begun t e)) ∙ h.sections
 
-    distinct : (t : Section) → section_named keyword ≡ Some t → are_distinct same_section (seen ++ t ∷ later) ≡ true
-    distinct t e = second_so (in_order (seen ++ t ∷ later)) (are_distinct same_section (seen ++ t ∷ later)) (good t e)
+    distinct : (t : Section) → section_named keyword ≡ Some t → are_distinct same_section (sections_seen ++ t ∷ later) ≡ true
+    distinct t e = second_so (in_order (sections_seen ++ t ∷ later)) (are_distinct same_section (sections_seen ++ t ∷ later)) (good t e)
 
-    fresh : (t : Section) → section_named keyword ≡ Some t → has seen t ≡ false
-    fresh t e = distinct-before seen t later (distinct t e)
+    fresh : (t : Section) → section_named keyword ≡ Some t → has sections_seen t ≡ false
+    fresh t e = distinct-before sections_seen t later (distinct t e)
 
     may : (t : Section) → section_named keyword ≡ Some t → may_begin (context_of before) t ≡ true
     may t e =
@@ -122,28 +122,28 @@ keyword-good before earlier keyword more rest sense name there told h = by (sect
         header-fits s test before more (said_after (word_fields s) (Some s) rest) under (fresh s e)
         (sym (ap (has_word_at_most test) (words s s e ∙ ap (λ (b : Bool). words_in s before ++ (when b more ++ said_after (word_fields s) (Some s) rest)) itself)) ∙ k)
 
-    idle : (t : Section) → section_named keyword ≡ Some t → is_some (wanted before) ≡ false
-    idle t e = of (is_some (wanted before)) refl
+    idle : (t : Section) → section_named keyword ≡ Some t → is_some (word_due before) ≡ false
+    idle t e = of (is_some (word_due before)) refl
       where
         other : (s : Section) → is_section s (current_section before) ≡ true → (b : Bool) → is_section s (Some t) ≡ b → b ≡ false
         other s here true f =
             let same : Some t ≡ Some s = section-is s (Some t) f in
-            absurd (never (has seen s) (section-begun s seen here) (sym (ap (λ (o : Option Section). option_map_or (has seen) o false) same) ∙ fresh t e))
+            absurd (never (has sections_seen s) (section-begun s sections_seen here) (sym (ap (λ (o : Option Section). option_map_or (has sections_seen) o false) same) ∙ fresh t e))
         other s here false f = refl
 
-        left : (s : Section) (test : List ℕ → Bool) → IsUnderway s test before → is_some (wanted before) ≡ true → is_section s (current_section before) ≡ true → has_word_at_most test (words_in s full) ≡ true → ⊥
+        left : (s : Section) (test : List ℕ → Bool) → IsUnderway s test before → is_some (word_due before) ≡ true → is_section s (current_section before) ≡ true → has_word_at_most test (words_in s full) ≡ true → ⊥
         left s test under w here k =
             let out = other s here (is_section s (Some t)) refl in
-            let none = no-more-words s (Some t) rest out (distinct-behind s seen t later (section-begun s seen here) (distinct t e)) in
+            let none = no-more-words s (Some t) rest out (distinct-behind s sections_seen t later (section-begun s sections_seen here) (distinct t e)) in
             not-left s test before under here w
             (sym (ap (has_word_at_most test) (words s t e ∙ ap (λ (b : Bool). words_in s before ++ (when b more ++ said_after (word_fields s) (Some t) rest)) out
             ∙ ap (λ (ws : List Fields). words_in s before ++ ws) none ∙ append-nil (words_in s before))) ∙ k)
 
-        which : (b : Bool) → is_section ObjSense (current_section before) ≡ b → (b || is_section ObjName (current_section before)) ≡ true → is_some (wanted before) ≡ true → ⊥
+        which : (b : Bool) → is_section ObjSense (current_section before) ≡ b → (b || is_section ObjName (current_section before)) ≡ true → is_some (word_due before) ≡ true → ⊥
         which true f g w = left ObjSense is_sense sense w f h.sense
         which false f g w = left ObjName (λ _. true) name w g h.name
 
-        of : (b : Bool) → is_some (wanted before) ≡ b → is_some (wanted before) ≡ false
+        of : (b : Bool) → is_some (word_due before) ≡ b → is_some (word_due before) ≡ false
         of true w = absurd (which (is_section ObjSense (current_section before)) refl (there w) w)
         of false w = w
 
@@ -170,18 +170,18 @@ keyword-good before earlier keyword more rest sense name there told h = by (sect
 
     -- the N row that has the name stands before COLUMNS
     complete : section_named keyword ≡ Some Columns → lacks_objective (context_of before) earlier ≡ false
-    complete e = of (objective_name before) refl
+    complete e = of (objname before) refl
       where
-        says : Option Section → Item → List (List ℕ)
+        says : Option Section → LineContent → List (List ℕ)
         says current item = cons_option (objname_word current item) []
 
-        row : (word : List ℕ) → objective_name before ≡ Some word → has_free_row before word ≡ true
+        row : (word : List ℕ) → objname before ≡ Some word → has_free_row before word ≡ true
         row word f =
-            let whole : objective_name full ≡ Some word = ap head_of (said_after-append says None before (header keyword more ∷ rest)) ∙ first-stays (said_after says None before) (said_after says (current_section before) (header keyword more ∷ rest)) word f in
+            let whole : objname full ≡ Some word = ap head_of (said_after-append says None before (header keyword more ∷ rest)) ∙ first-stays (said_after says None before) (said_after says (current_section before) (header keyword more ∷ rest)) word f in
             let lines : data_lines Rows full ≡ data_lines Rows before =
             said_after-append (fields_under Rows) None before (header keyword more ∷ rest)
             ∙ ap (λ (o : Option Section). data_lines Rows before ++ data_lines_after Rows (option_or o (current_section before)) rest) e
-            ∙ ap (λ (ls : List Fields). data_lines Rows before ++ ls) (no-more-lines Rows (Some Columns) rest refl (distinct-behind Rows seen Columns later (may Columns e) (distinct Columns e)))
+            ∙ ap (λ (ls : List Fields). data_lines Rows before ++ ls) (no-more-lines Rows (Some Columns) rest refl (distinct-behind Rows sections_seen Columns later (may Columns e) (distinct Columns e)))
             ∙ append-nil (data_lines Rows before) in
             sym (ap (list_any (is_free_row_named word)) lines)
             ∙ (sym (ap (λ (o : Option (List ℕ)). option_map_or (has_free_row full) o true) whole) ∙ (sym (named-in_words full h.name) ∙ h.named))
@@ -194,9 +194,9 @@ keyword-good before earlier keyword more rest sense name there told h = by (sect
         nowhere true = refl
         nowhere false = refl
 
-        of : (o : Option (List ℕ)) → objective_name before ≡ o → (is_none earlier.objective && is_some (objective_name before)) ≡ false
+        of : (o : Option (List ℕ)) → objname before ≡ o → (is_none earlier.objective && is_some (objname before)) ≡ false
         of None f = ap (λ (o : Option (List ℕ)). is_none earlier.objective && is_some o) f ∙ nowhere (is_none earlier.objective)
-        of (Some word) f = none_of earlier.objective (is_some (objective_name before)) (told word f (row word f))
+        of (Some word) f = none_of earlier.objective (is_some (objname before)) (told word f (row word f))
 
     tests : (t : Section) → section_named keyword ≡ Some t → those_of (section_tests (context_of before) earlier t more) ≡ []
     tests Name e = refl

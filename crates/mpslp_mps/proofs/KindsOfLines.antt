@@ -11,20 +11,20 @@ use Rattle.mpslp_types.specs.declared.faults.BuildFault.{BuildFault}
 use Rattle.mpslp_types.specs.declared.faults.BuildFault.TheVariants as builds
 use Rattle.mpslp_types.specs.declared.faults.FaultKind.{FaultKind}
 use Rattle.mpslp_types.specs.declared.faults.FaultKind.TheVariants as kinds
-use Rattle.mpslp_builder.specs.Declaration.{Declarations, Draft, adding}
+use Rattle.mpslp_builder.specs.Declaration.{Declarations, Draft, with_declaration}
 use Rattle.mpslp_builder.specs.Refusal.{refusal_tests}
-use Rattle.mpslp_reading.specs.Declaring.{kind_of_refusal}
-use Rattle.mpslp_reading.specs.Field.{is_kind, number_tests}
-use Rattle.mpslp_reading.specs.Tests.{Tests, judged_by}
-use Rattle.mpslp_mps.specs.Line.{Fields, Item}
+use Rattle.mpslp_lines.specs.Declaring.{kind_of_build_fault}
+use Rattle.mpslp_lines.specs.Field.{is_kind, number_tests}
+use Rattle.mpslp_lines.specs.FaultTests.{FaultTests, judged_by}
+use Rattle.mpslp_mps.specs.Line.{Fields, LineContent}
 use Rattle.mpslp_mps.specs.DataLine.{word_shape, row_shape, column_shape, is_marker_line, marker_shape, vector_shape}
 use Rattle.mpslp_mps.specs.BoundLine.{BoundLine, bound_type, bound_shape}
 use Rattle.mpslp_mps.specs.Context.{Context, context_of}
 use Rattle.mpslp_mps.specs.FieldFault.{set_tests}
 use Rattle.mpslp_mps.specs.HeaderFault.{word_tests, section_tests, header_tests}
-use Rattle.mpslp_mps.specs.DataFault.{row_tests, marker_word_tests, marker_tests, column_tests, vector_tests, bound_tests, typed_bound_tests, bound_line_tests, data_tests}
+use Rattle.mpslp_mps.specs.DataFault.{row_line_tests, marker_word_tests, marker_tests, column_tests, vector_tests, bound_tests, typed_bound_tests, bound_line_tests, data_tests}
 use Rattle.mpslp_mps.specs.LineFault.{item_tests}
-use Rattle.mpslp_mps.specs.LineMeaning.{declared}
+use Rattle.mpslp_mps.specs.LineDeclarations.{line_declares}
 use Rattle.mpslp_mps.specs.declared.bound_types.BoundType.{BoundType}
 use Rattle.mpslp_mps.specs.declared.sections.Section.{Section}
 use Rattle.mpslp_mps.specs.declared.sections.Section.TheVariants.{Name, ObjSense, ObjName, Rows, Columns, Rhs, Ranges, Bounds, EndData}
@@ -44,7 +44,7 @@ alike : (kinds : List FaultKind) (kind other : FaultKind) → is_kind kind other
 alike kinds kind other h = ap (λ (n : ℕ). list_any (λ (k : FaultKind). n == kind_rank k) kinds) (sym (same-rank kind other h))
 
 -- of tests whose kinds are among these, none is of another kind
-pub none-holds : (ks : List FaultKind) (kind : FaultKind) (tests : Tests) → list_all (λ test. is_among ks test.1) tests ≡ true → is_among ks kind ≡ false → holds_of kind tests ≡ false
+pub none-holds : (ks : List FaultKind) (kind : FaultKind) (tests : FaultTests) → list_all (λ test. is_among ks test.1) tests ≡ true → is_among ks kind ≡ false → holds_of kind tests ≡ false
 none-holds ks kind [] h k = refl
 none-holds ks kind ((held, other) ∷ more) h k = by (none-holds ks kind more (second_so (is_among ks other) (list_all (λ test. is_among ks test.1) more) h) k) (is_kind kind other) refl
   where
@@ -55,7 +55,7 @@ none-holds ks kind ((held, other) ∷ more) h k = by (none-holds ks kind more (s
 abbrev refusal_kinds : List FaultKind
 refusal_kinds = kinds.UnknownRow ∷ kinds.UnknownColumn ∷ kinds.DuplicateRow ∷ kinds.DuplicateEntry ∷ kinds.DuplicateRhs ∷ kinds.DuplicateRange ∷ kinds.DuplicateBound ∷ kinds.RangeOnFree ∷ kinds.SemiContinuous ∷ kinds.InfiniteValue ∷ []
 
-refusal-among : (fault : BuildFault) → is_among refusal_kinds (kind_of_refusal fault) ≡ true
+refusal-among : (fault : BuildFault) → is_among refusal_kinds (kind_of_build_fault fault) ≡ true
 refusal-among builds.DuplicateSense = refl
 refusal-among builds.SecondObjective = refl
 refusal-among builds.UnknownRow = refl
@@ -72,16 +72,16 @@ refusal-among builds.OutOfMemory = refl
 
 pub none-refused : (kind : FaultKind) (tests : List (Bool × BuildFault)) → is_among refusal_kinds kind ≡ false → refused_as kind tests ≡ false
 none-refused kind [] k = refl
-none-refused kind ((held, other) ∷ more) k = by (none-refused kind more k) (is_kind kind (kind_of_refusal other)) refl
+none-refused kind ((held, other) ∷ more) k = by (none-refused kind more k) (is_kind kind (kind_of_build_fault other)) refl
   where
-    by : refused_as kind more ≡ false → (b : Bool) → is_kind kind (kind_of_refusal other) ≡ b → cond b (held || refused_as kind more) (refused_as kind more) ≡ false
-    by rest true e = absurd (never (is_among refusal_kinds (kind_of_refusal other)) (refusal-among other) (alike refusal_kinds kind (kind_of_refusal other) e ∙ k))
+    by : refused_as kind more ≡ false → (b : Bool) → is_kind kind (kind_of_build_fault other) ≡ b → cond b (held || refused_as kind more) (refused_as kind more) ≡ false
+    by rest true e = absurd (never (is_among refusal_kinds (kind_of_build_fault other)) (refusal-among other) (alike refusal_kinds kind (kind_of_build_fault other) e ∙ k))
     by rest false e = rest
 
 -- a kind of a line's form alone
 form-alone : (kind : FaultKind) → is_among refusal_kinds kind ≡ false → (ds : Declarations) (earlier : Draft) → refuses kind earlier ds ≡ false
 form-alone kind k [] earlier = refl
-form-alone kind k (d ∷ ds) earlier = ap (λ (b : Bool). b || refuses kind (adding earlier d) ds) (none-refused kind (refusal_tests earlier d) k) ∙ form-alone kind k ds (adding earlier d)
+form-alone kind k (d ∷ ds) earlier = ap (λ (b : Bool). b || refuses kind (with_declaration earlier d) ds) (none-refused kind (refusal_tests earlier d) k) ∙ form-alone kind k ds (with_declaration earlier d)
 
 pub left_alone : (a b : Bool) → b ≡ false → (a || b) ≡ true → a ≡ true
 left_alone true b e h = refl
@@ -114,10 +114,10 @@ kinds_in (Some Ranges) = number_kinds
 kinds_in (Some Bounds) = number_kinds
 kinds_in _ = kinds.SectionOrder ∷ kinds.FieldCount ∷ kinds.BadType ∷ []
 
-abbrev pub AreAmong : List FaultKind → Tests → Type 0
+abbrev pub AreAmong : List FaultKind → FaultTests → Type 0
 AreAmong ks tests = list_all (λ test. is_among ks test.1) tests ≡ true
 
-judged-among : {X : Type 0} (ks : List FaultKind) (tests : X → Tests) (o : Option X) → is_among ks kinds.FieldCount ≡ true → ((x : X) → AreAmong ks (tests x)) → AreAmong ks (judged_by tests o)
+judged-among : {X : Type 0} (ks : List FaultKind) (tests : X → FaultTests) (o : Option X) → is_among ks kinds.FieldCount ≡ true → ((x : X) → AreAmong ks (tests x)) → AreAmong ks (judged_by tests o)
 judged-among ks tests None f h = ap (λ (b : Bool). b && true) f
 judged-among ks tests (Some x) f h = h x
 
@@ -165,7 +165,7 @@ data-among context earlier fields None = refl
 data-among context earlier fields (Some Name) = refl
 data-among context earlier fields (Some ObjSense) = judged-among (kinds_in (Some ObjSense)) word_tests (word_shape fields) refl (λ _. refl)
 data-among context earlier fields (Some ObjName) = judged-among (kinds_in (Some ObjName)) (λ _. []) (word_shape fields) refl (λ _. refl)
-data-among context earlier fields (Some Rows) = judged-among (kinds_in (Some Rows)) row_tests (row_shape fields) refl (λ _. refl)
+data-among context earlier fields (Some Rows) = judged-among (kinds_in (Some Rows)) row_line_tests (row_shape fields) refl (λ _. refl)
 data-among context earlier fields (Some Columns) = by (is_marker_line fields)
   where
     marker : (o : Option (List ℕ)) → AreAmong (kinds_in (Some Columns)) (judged_by (marker_word_tests context) o)
@@ -211,10 +211,10 @@ no-header kind context earlier keyword more o k h =
     absurd (never (holds_of kind (header_tests context earlier keyword more o)) h (none-holds header_kinds kind (header_tests context earlier keyword more o) (header-among context earlier keyword more o) k))
 
 -- what is left of a line's tests, where no declaration is refused by the kind
-pub by-form : (kind : FaultKind) (is_such : List Item → Item → Bool) → is_among refusal_kinds kind ≡ false
-    → ((before : List Item) (earlier : Draft) (item : Item) → Told before earlier → holds_of kind (item_tests (context_of before) earlier item) ≡ true → is_such before item ≡ true)
-    → (before : List Item) (earlier : Draft) (item : Item) → Told before earlier → IsFirst kind before earlier item → is_such before item ≡ true
+pub by-form : (kind : FaultKind) (is_such : List LineContent → LineContent → Bool) → is_among refusal_kinds kind ≡ false
+    → ((before : List LineContent) (earlier : Draft) (item : LineContent) → Told before earlier → holds_of kind (item_tests (context_of before) earlier item) ≡ true → is_such before item ≡ true)
+    → (before : List LineContent) (earlier : Draft) (item : LineContent) → Told before earlier → IsFirst kind before earlier item → is_such before item ≡ true
 by-form kind is_such k such before earlier item known h =
     such before earlier item known
-    (left_alone (holds_of kind (item_tests (context_of before) earlier item)) (refuses kind earlier (declared (context_of before) earlier item))
-    (form-alone kind k (declared (context_of before) earlier item) earlier) h.told)
+    (left_alone (holds_of kind (item_tests (context_of before) earlier item)) (refuses kind earlier (line_declares (context_of before) earlier item))
+    (form-alone kind k (line_declares (context_of before) earlier item) earlier) h.told)

@@ -4,10 +4,10 @@ use Rattle.std.specs.Prelude.{Option, Some, None, is_none, ◌&&◌, not, codes}
 use Rattle.std.specs.List.{list_all, flat_map}
 use Rattle.std.specs.Cmp.{first_so, second_so}
 use Rattle.std.proofs.lemmas.List.Folds.{list_all-append}
-use Rattle.mpslp_builder.specs.Declaration.{by_type, Declaration, declare_sense, declare_objective, declare_row, declare_rhs, declare_range, declare_column, declare_coefficient, declare_marked, Declarations, Draft, adding, adding_all, has_row, has_column, is_free_row, rhs_declared}
+use Rattle.mpslp_builder.specs.Declaration.{by_type, Declaration, declare_sense, declare_objective, declare_row, declare_rhs, declare_range, declare_column, declare_coefficient, declare_marked, Declarations, Draft, with_declaration, with_declarations, has_row, has_column, is_free_row, rhs_declared}
 use Rattle.mpslp_builder.specs.Consistency.{is_known}
 use Rattle.mpslp_types.specs.Name.{same_bytes}
-use Rattle.mpslp_core.specs.Lists.{those_of, is_nonempty, when}
+use Rattle.mpslp_model_core.specs.Lists.{those_of, is_nonempty, when}
 use Rattle.mpslp_types.specs.declared.kinds.Sense.{Sense}
 use Rattle.mpslp_types.specs.declared.kinds.Limit.{Limit}
 use Rattle.mpslp_types.specs.declared.kinds.RowType.{RowType}
@@ -16,33 +16,33 @@ use Rattle.mpslp_types.proofs.BoolLemmas.{both_so, or_left}
 use Rattle.mpslp_builder.proofs.RefusalLemmas.{are_known_in_turn}
 use Rattle.mpslp_builder.proofs.LaterDrafts.{itself_named}
 use Rattle.mpslp_builder.proofs.SlotLemmas.{has-put}
-use Rattle.mpslp_mps.specs.Line.{Fields, Item, skipped, header, data_line}
+use Rattle.mpslp_mps.specs.Line.{Fields, LineContent, skipped, header, data_line}
 use Rattle.mpslp_mps.specs.Section.{has, section_named, begins, is_section}
 use Rattle.mpslp_mps.specs.DataLine.{RowLine, Pair, ValuesLine, word_shape, sense_of, row_shape, row_type, column_shape, is_marker_line, vector_shape}
 use Rattle.mpslp_mps.specs.BoundLine.{BoundLine, bound_type, bound_shape}
 use Rattle.mpslp_mps.specs.Context.{Context, context_of, current_section, has_section}
-use Rattle.mpslp_mps.specs.LineMeaning.{declared_of, sense_declared, is_new_objective, row_of_type, row_declared, coefficient_declared, column_declared, columns_line_declared, right_sides_declared, ranges_declared, bound_declared, bound_value, bound_line_declared, data_declared, header_declared, declared}
-use Rattle.mpslp_reading.specs.Field.{value_of}
+use Rattle.mpslp_mps.specs.LineDeclarations.{declared_if_some, sense_declared, is_new_objective, row_of_type, row_declared, coefficient_declared, column_declared, columns_line_declared, rhs_line_declared, ranges_declared, bound_declared, bound_value, bound_line_declared, data_declared, header_declared, line_declares}
+use Rattle.mpslp_lines.specs.Field.{value_of}
 use Rattle.mpslp_mps.specs.HeaderFault.{header_tests}
-use Rattle.mpslp_mps.proofs.PlacedLemmas.{form_faults, declared_items, have_good_form, no_faults}
+use Rattle.mpslp_mps.proofs.ContextLineLemmas.{form_faults, declared_items, are_well_formed, no_faults}
 use Rattle.mpslp_mps.specs.declared.sections.Section.{Section}
 use Rattle.mpslp_mps.specs.declared.sections.Section.TheVariants.{Name, ObjSense, ObjName, Rows, Columns, Rhs, Ranges, Bounds, EndData}
 use Rattle.mpslp_mps.specs.declared.bound_types.BoundType.{BoundType}
 use Rattle.mpslp_mps.specs.declared.bound_types.BoundType.TheVariants as bounds
-use Rattle.mpslp_builder.proofs.MadeDrafts.{adding_all-append}
+use Rattle.mpslp_builder.proofs.MadeDrafts.{with_declarations-append}
 use Rattle.mpslp_mps.proofs.SectionLemmas.{has_section-push}
 use Rattle.mpslp_mps.proofs.OrderLemmas.{header-fresh, Past, past-rows, past-columns, never, IsGood, is_late, Ordered, ordered-push, declares_row, declares_column, no_rows, no_columns, rows-kept, columns-kept, each-declared, sense-passes, sides-passes, ranges-passes, bounds-passes, columns-line-no-rows, passes-no_rows, passes-no_columns}
 
 -- ---- once ROWS is past no rows are declared, once COLUMNS is past no columns
 
-no-rows-header : (context : Context) (earlier : Draft) (keyword : List ℕ) (more : Fields) (o : Option Section) → those_of (header_tests context earlier keyword more o) ≡ [] → has context.seen Columns ≡ true
+no-rows-header : (context : Context) (earlier : Draft) (keyword : List ℕ) (more : Fields) (o : Option Section) → those_of (header_tests context earlier keyword more o) ≡ [] → has context.sections_seen Columns ≡ true
     → no_rows (header_declared context earlier more o) ≡ true
 no-rows-header context earlier keyword more None h c = refl
 no-rows-header context earlier keyword more (Some Name) h c = refl
 no-rows-header context earlier keyword more (Some ObjSense) h c = sense-passes (λ d. not (declares_row d)) (λ _. refl) more
 no-rows-header context earlier keyword more (Some ObjName) h c = refl
 no-rows-header context earlier keyword more (Some Rows) h c = refl
-no-rows-header context earlier keyword more (Some Columns) h c = absurd (never (has context.seen Columns) c (header-fresh context earlier keyword more Columns h))
+no-rows-header context earlier keyword more (Some Columns) h c = absurd (never (has context.sections_seen Columns) c (header-fresh context earlier keyword more Columns h))
 no-rows-header context earlier keyword more (Some Rhs) h c = refl
 no-rows-header context earlier keyword more (Some Ranges) h c = refl
 no-rows-header context earlier keyword more (Some Bounds) h c = refl
@@ -60,8 +60,8 @@ no-rows-data context earlier fields (Some Ranges) h = ranges-passes (λ d. not (
 no-rows-data context earlier fields (Some Bounds) h = bounds-passes (λ d. not (declares_row d)) passes-no_rows fields
 no-rows-data context earlier fields (Some EndData) h = refl
 
-no-rows-line : (before : List Item) (earlier : Draft) (item : Item) → IsGood before earlier item → Past Rows before → has_section before Columns ≡ true
-    → no_rows (declared (context_of before) earlier item) ≡ true
+no-rows-line : (before : List LineContent) (earlier : Draft) (item : LineContent) → IsGood before earlier item → Past Rows before → has_section before Columns ≡ true
+    → no_rows (line_declares (context_of before) earlier item) ≡ true
 no-rows-line before earlier skipped h past columns = refl
 no-rows-line before earlier (header keyword more) h past columns = no-rows-header (context_of before) earlier keyword more (section_named keyword) h columns
 no-rows-line before earlier (data_line fields) h past columns = no-rows-data (context_of before) earlier fields (current_section before) past.left
@@ -72,7 +72,7 @@ no-columns-header context earlier more (Some Name) = refl
 no-columns-header context earlier more (Some ObjSense) = sense-passes (λ d. not (declares_column d)) (λ _. refl) more
 no-columns-header context earlier more (Some ObjName) = refl
 no-columns-header context earlier more (Some Rows) = refl
-no-columns-header context earlier more (Some Columns) = elim (is_none earlier.objective && is_none context.objective_name) as (λ b. no_columns (cond b (declare_objective (codes "obj") ∷ []) []) ≡ true) [ true ↦ refl | false ↦ refl ]
+no-columns-header context earlier more (Some Columns) = elim (is_none earlier.objective && is_none context.objname) as (λ b. no_columns (cond b (declare_objective (codes "obj") ∷ []) []) ≡ true) [ true ↦ refl | false ↦ refl ]
 no-columns-header context earlier more (Some Rhs) = refl
 no-columns-header context earlier more (Some Ranges) = refl
 no-columns-header context earlier more (Some Bounds) = refl
@@ -98,44 +98,44 @@ no-columns-data context earlier fields (Some Ranges) h = ranges-passes (λ d. no
 no-columns-data context earlier fields (Some Bounds) h = bounds-passes (λ d. not (declares_column d)) passes-no_columns fields
 no-columns-data context earlier fields (Some EndData) h = refl
 
-no-columns-line : (before : List Item) (earlier : Draft) (item : Item) → Past Columns before → no_columns (declared (context_of before) earlier item) ≡ true
+no-columns-line : (before : List LineContent) (earlier : Draft) (item : LineContent) → Past Columns before → no_columns (line_declares (context_of before) earlier item) ≡ true
 no-columns-line before earlier skipped past = refl
 no-columns-line before earlier (header keyword more) past = no-columns-header (context_of before) earlier more (section_named keyword)
 no-columns-line before earlier (data_line fields) past = no-columns-data (context_of before) earlier fields (current_section before) past.left
 
 -- the first of lines of a good form, and the rest
-pub good-first : (before : List Item) (earlier : Draft) (item : Item) (items : List Item) → have_good_form before earlier (item ∷ items) ≡ true → IsGood before earlier item
+pub good-first : (before : List LineContent) (earlier : Draft) (item : LineContent) (items : List LineContent) → are_well_formed before earlier (item ∷ items) ≡ true → IsGood before earlier item
 good-first before earlier item items h =
     no_faults (form_faults (context_of before) earlier item)
-    (first_so (not (is_nonempty (form_faults (context_of before) earlier item))) (have_good_form (before ++ item ∷ []) (adding_all earlier (declared (context_of before) earlier item)) items) h)
+    (first_so (not (is_nonempty (form_faults (context_of before) earlier item))) (are_well_formed (before ++ item ∷ []) (with_declarations earlier (line_declares (context_of before) earlier item)) items) h)
 
-pub good-rest : (before : List Item) (earlier : Draft) (item : Item) (items : List Item) → have_good_form before earlier (item ∷ items) ≡ true
-    → have_good_form (before ++ item ∷ []) (adding_all earlier (declared (context_of before) earlier item)) items ≡ true
+pub good-rest : (before : List LineContent) (earlier : Draft) (item : LineContent) (items : List LineContent) → are_well_formed before earlier (item ∷ items) ≡ true
+    → are_well_formed (before ++ item ∷ []) (with_declarations earlier (line_declares (context_of before) earlier item)) items ≡ true
 good-rest before earlier item items h =
-    second_so (not (is_nonempty (form_faults (context_of before) earlier item))) (have_good_form (before ++ item ∷ []) (adding_all earlier (declared (context_of before) earlier item)) items) h
+    second_so (not (is_nonempty (form_faults (context_of before) earlier item))) (are_well_formed (before ++ item ∷ []) (with_declarations earlier (line_declares (context_of before) earlier item)) items) h
 
-no-rows-later : (items before : List Item) (earlier : Draft) → have_good_form before earlier items ≡ true → Past Rows before → has_section before Columns ≡ true
+no-rows-later : (items before : List LineContent) (earlier : Draft) → are_well_formed before earlier items ≡ true → Past Rows before → has_section before Columns ≡ true
     → no_rows (declared_items before earlier items) ≡ true
 no-rows-later [] before earlier h past columns = refl
 no-rows-later (item ∷ items) before earlier h past columns =
-    let here = declared (context_of before) earlier item in
+    let here = line_declares (context_of before) earlier item in
     let good = good-first before earlier item items h in
-    list_all-append (λ d. not (declares_row d)) here (declared_items (before ++ item ∷ []) (adding_all earlier here) items)
-    ∙ both_so (no_rows here) (no_rows (declared_items (before ++ item ∷ []) (adding_all earlier here) items))
+    list_all-append (λ d. not (declares_row d)) here (declared_items (before ++ item ∷ []) (with_declarations earlier here) items)
+    ∙ both_so (no_rows here) (no_rows (declared_items (before ++ item ∷ []) (with_declarations earlier here) items))
     (no-rows-line before earlier item good past columns)
-    (no-rows-later items (before ++ item ∷ []) (adding_all earlier here) (good-rest before earlier item items h) (past-rows before earlier item good past)
+    (no-rows-later items (before ++ item ∷ []) (with_declarations earlier here) (good-rest before earlier item items h) (past-rows before earlier item good past)
     (has_section-push Columns before item ∙ or_left (has_section before Columns) (begins Columns item) columns))
 
-no-columns-later : (items before : List Item) (earlier : Draft) → have_good_form before earlier items ≡ true → Past Columns before
+no-columns-later : (items before : List LineContent) (earlier : Draft) → are_well_formed before earlier items ≡ true → Past Columns before
     → no_columns (declared_items before earlier items) ≡ true
 no-columns-later [] before earlier h past = refl
 no-columns-later (item ∷ items) before earlier h past =
-    let here = declared (context_of before) earlier item in
+    let here = line_declares (context_of before) earlier item in
     let good = good-first before earlier item items h in
-    list_all-append (λ d. not (declares_column d)) here (declared_items (before ++ item ∷ []) (adding_all earlier here) items)
-    ∙ both_so (no_columns here) (no_columns (declared_items (before ++ item ∷ []) (adding_all earlier here) items))
+    list_all-append (λ d. not (declares_column d)) here (declared_items (before ++ item ∷ []) (with_declarations earlier here) items)
+    ∙ both_so (no_columns here) (no_columns (declared_items (before ++ item ∷ []) (with_declarations earlier here) items))
     (no-columns-line before earlier item past)
-    (no-columns-later items (before ++ item ∷ []) (adding_all earlier here) (good-rest before earlier item items h) (past-columns before earlier item good past))
+    (no-columns-later items (before ++ item ∷ []) (with_declarations earlier here) (good-rest before earlier item items h) (past-columns before earlier item good past))
 
 -- ---- what a line names, of a later draft's rows and columns, is there before
 
@@ -155,33 +155,33 @@ cells-known final before column [] rows c h = refl
 cells-known final before column (pair ∷ pairs) rows c h =
     let d : Declaration = declare_coefficient (record { row = pair.row; column = column }) (value_of pair.literal) in
     let row = first_so (has_row final pair.row) (has_column final column) (first_so (is_known final d) (list_all (is_known final) (flat_map (coefficient_declared column) pairs)) h) in
-    both_so (is_known before d) (are_known_in_turn (adding before d) (flat_map (coefficient_declared column) pairs))
+    both_so (is_known before d) (are_known_in_turn (with_declaration before d) (flat_map (coefficient_declared column) pairs))
     (both_so (has_row before pair.row) (has_column before column) (rows pair.row row) c)
-    (cells-known final (adding before d) column pairs rows c (second_so (is_known final d) (list_all (is_known final) (flat_map (coefficient_declared column) pairs)) h))
+    (cells-known final (with_declaration before d) column pairs rows c (second_so (is_known final d) (list_all (is_known final) (flat_map (coefficient_declared column) pairs)) h))
 
-column-there : (before : Draft) (column : List ℕ) → has_column (adding before (declare_column column)) column ≡ true
+column-there : (before : Draft) (column : List ℕ) → has_column (with_declaration before (declare_column column)) column ≡ true
 column-there before column = has-put column column tt before.columns ∙ or_left (same_bytes column column) _ (itself_named column)
 
 column-line-known : (final before : Draft) (marked : Bool) (line : ValuesLine) → HasRowsOf final before
     → AreKnown final (declare_column line.name ∷ (when marked (declare_marked line.name) ++ flat_map (coefficient_declared line.name) line.pairs))
     → are_known_in_turn before (declare_column line.name ∷ (when marked (declare_marked line.name) ++ flat_map (coefficient_declared line.name) line.pairs)) ≡ true
 column-line-known final before true line rows h =
-    let next = adding before (declare_column line.name) in
+    let next = with_declaration before (declare_column line.name) in
     let c = column-there before line.name in
-    both_so (has_column next line.name) (are_known_in_turn (adding next (declare_marked line.name)) (flat_map (coefficient_declared line.name) line.pairs)) c
-    (cells-known final (adding next (declare_marked line.name)) line.name line.pairs rows c
+    both_so (has_column next line.name) (are_known_in_turn (with_declaration next (declare_marked line.name)) (flat_map (coefficient_declared line.name) line.pairs)) c
+    (cells-known final (with_declaration next (declare_marked line.name)) line.name line.pairs rows c
     (second_so (has_column final line.name) (list_all (is_known final) (flat_map (coefficient_declared line.name) line.pairs)) h))
-column-line-known final before false line rows h = cells-known final (adding before (declare_column line.name)) line.name line.pairs rows (column-there before line.name) h
+column-line-known final before false line rows h = cells-known final (with_declaration before (declare_column line.name)) line.name line.pairs rows (column-there before line.name) h
 
 columns-known : (context : Context) (final before : Draft) (fields : Fields) → HasRowsOf final before
     → AreKnown final (columns_line_declared context fields) → are_known_in_turn before (columns_line_declared context fields) ≡ true
 columns-known context final before fields rows h = by (is_marker_line fields) h
   where
-    of : (o : Option ValuesLine) → AreKnown final (declared_of (column_declared context) o) → are_known_in_turn before (declared_of (column_declared context) o) ≡ true
+    of : (o : Option ValuesLine) → AreKnown final (declared_if_some (column_declared context) o) → are_known_in_turn before (declared_if_some (column_declared context) o) ≡ true
     of None k = refl
     of (Some line) k = column-line-known final before context.in_integer_part line rows k
 
-    by : (b : Bool) → AreKnown final (cond b [] (declared_of (column_declared context) (column_shape fields))) → are_known_in_turn before (cond b [] (declared_of (column_declared context) (column_shape fields))) ≡ true
+    by : (b : Bool) → AreKnown final (cond b [] (declared_if_some (column_declared context) (column_shape fields))) → are_known_in_turn before (cond b [] (declared_if_some (column_declared context) (column_shape fields))) ≡ true
     by true k = refl
     by false k = of (column_shape fields) k
 
@@ -194,9 +194,9 @@ sides-known earlier final before (pair ∷ pairs) rows h =
     let more = flat_map (λ (pair : Pair). rhs_declared earlier pair.row (value_of pair.literal)) pairs in
     elim (is_free_row earlier pair.row) as (λ b. AreKnown final (cond b [] (declare_rhs pair.row v ∷ []) ++ more) → are_known_in_turn before (cond b [] (declare_rhs pair.row v ∷ []) ++ more) ≡ true) [
       | true ↦ λ k. sides-known earlier final before pairs rows k
-      | false ↦ λ k. both_so (has_row before pair.row) (are_known_in_turn (adding before (declare_rhs pair.row v)) more)
+      | false ↦ λ k. both_so (has_row before pair.row) (are_known_in_turn (with_declaration before (declare_rhs pair.row v)) more)
           (rows pair.row (first_so (has_row final pair.row) (list_all (is_known final) more) k))
-          (sides-known earlier final (adding before (declare_rhs pair.row v)) pairs rows (second_so (has_row final pair.row) (list_all (is_known final) more) k))
+          (sides-known earlier final (with_declaration before (declare_rhs pair.row v)) pairs rows (second_so (has_row final pair.row) (list_all (is_known final) more) k))
     ] h
 
 ranges-known : (final before : Draft) (pairs : List Pair) → HasRowsOf final before → AreKnown final (ranges_declared (record { name = []; pairs = pairs }))
@@ -205,9 +205,9 @@ ranges-known final before [] rows h = refl
 ranges-known final before (pair ∷ pairs) rows h =
     let more = ranges_declared (record { name = []; pairs = pairs }) in
     let d : Declaration = declare_range pair.row (value_of pair.literal) in
-    both_so (has_row before pair.row) (are_known_in_turn (adding before d) more)
+    both_so (has_row before pair.row) (are_known_in_turn (with_declaration before d) more)
     (rows pair.row (first_so (has_row final pair.row) (list_all (is_known final) more) h))
-    (ranges-known final (adding before d) pairs rows (second_so (has_row final pair.row) (list_all (is_known final) more) h))
+    (ranges-known final (with_declaration before d) pairs rows (second_so (has_row final pair.row) (list_all (is_known final) more) h))
 
 bound-known : (final before : Draft) (type : BoundType) (c : List ℕ) (v : Limit) → HasColumnsOf final before
     → AreKnown final (bound_declared type c v) → are_known_in_turn before (bound_declared type c v) ≡ true
@@ -226,13 +226,13 @@ bounds-known : (final before : Draft) (fields : Fields) → HasColumnsOf final b
 bounds-known final before [] columns h = refl
 bounds-known final before (letters ∷ more) columns h = typed (bound_type letters) h
   where
-    lined : (type : BoundType) (o : Option BoundLine) → AreKnown final (declared_of (λ (line : BoundLine). bound_declared type line.column (bound_value line)) o)
-        → are_known_in_turn before (declared_of (λ (line : BoundLine). bound_declared type line.column (bound_value line)) o) ≡ true
+    lined : (type : BoundType) (o : Option BoundLine) → AreKnown final (declared_if_some (λ (line : BoundLine). bound_declared type line.column (bound_value line)) o)
+        → are_known_in_turn before (declared_if_some (λ (line : BoundLine). bound_declared type line.column (bound_value line)) o) ≡ true
     lined type None k = refl
     lined type (Some line) k = bound-known final before type line.column (bound_value line) columns k
 
-    typed : (o : Option BoundType) → AreKnown final (declared_of (λ type. declared_of (λ (line : BoundLine). bound_declared type line.column (bound_value line)) (bound_shape type more)) o)
-        → are_known_in_turn before (declared_of (λ type. declared_of (λ (line : BoundLine). bound_declared type line.column (bound_value line)) (bound_shape type more)) o) ≡ true
+    typed : (o : Option BoundType) → AreKnown final (declared_if_some (λ type. declared_if_some (λ (line : BoundLine). bound_declared type line.column (bound_value line)) (bound_shape type more)) o)
+        → are_known_in_turn before (declared_if_some (λ type. declared_if_some (λ (line : BoundLine). bound_declared type line.column (bound_value line)) (bound_shape type more)) o) ≡ true
     typed None k = refl
     typed (Some type) k = lined type (bound_shape type more) k
 
@@ -244,28 +244,28 @@ is_rowed (Some Ranges) = true
 is_rowed _ = false
 
 -- a sense, an objective and a row name nothing that is to be there
-sense-known : (before : Draft) (fields : Fields) → are_known_in_turn before (declared_of sense_declared (word_shape fields)) ≡ true
+sense-known : (before : Draft) (fields : Fields) → are_known_in_turn before (declared_if_some sense_declared (word_shape fields)) ≡ true
 sense-known before fields = worded (word_shape fields)
   where
-    sensed : (o : Option Sense) → are_known_in_turn before (declared_of (λ sense. declare_sense sense ∷ []) o) ≡ true
+    sensed : (o : Option Sense) → are_known_in_turn before (declared_if_some (λ sense. declare_sense sense ∷ []) o) ≡ true
     sensed None = refl
     sensed (Some sense) = refl
 
-    worded : (o : Option (List ℕ)) → are_known_in_turn before (declared_of sense_declared o) ≡ true
+    worded : (o : Option (List ℕ)) → are_known_in_turn before (declared_if_some sense_declared o) ≡ true
     worded None = refl
     worded (Some word) = sensed (sense_of word)
 
-rows-known : (context : Context) (earlier before : Draft) (fields : Fields) → are_known_in_turn before (declared_of (row_declared context earlier) (row_shape fields)) ≡ true
+rows-known : (context : Context) (earlier before : Draft) (fields : Fields) → are_known_in_turn before (declared_if_some (row_declared context earlier) (row_shape fields)) ≡ true
 rows-known context earlier before fields = lined (row_shape fields)
   where
-    typed : (name : List ℕ) (o : Option RowType) → are_known_in_turn before (declared_of (row_of_type context earlier name) o) ≡ true
+    typed : (name : List ℕ) (o : Option RowType) → are_known_in_turn before (declared_if_some (row_of_type context earlier name) o) ≡ true
     typed name None = refl
     typed name (Some Free) = elim (is_new_objective context earlier name) as (λ b. are_known_in_turn before (cond b (declare_objective name ∷ []) (declare_row name (by_type Free) ∷ [])) ≡ true) [ true ↦ refl | false ↦ refl ]
     typed name (Some AtMost) = refl
     typed name (Some AtLeast) = refl
     typed name (Some Equal) = refl
 
-    lined : (o : Option RowLine) → are_known_in_turn before (declared_of (row_declared context earlier) o) ≡ true
+    lined : (o : Option RowLine) → are_known_in_turn before (declared_if_some (row_declared context earlier) o) ≡ true
     lined None = refl
     lined (Some line) = typed line.name (row_type line.letter)
 
@@ -275,7 +275,7 @@ header-known context earlier more (Some Name) = refl
 header-known context earlier more (Some ObjSense) = sense-known earlier more
 header-known context earlier more (Some ObjName) = refl
 header-known context earlier more (Some Rows) = refl
-header-known context earlier more (Some Columns) = elim (is_none earlier.objective && is_none context.objective_name) as (λ b. are_known_in_turn earlier (cond b (declare_objective (codes "obj") ∷ []) []) ≡ true) [ true ↦ refl | false ↦ refl ]
+header-known context earlier more (Some Columns) = elim (is_none earlier.objective && is_none context.objname) as (λ b. are_known_in_turn earlier (cond b (declare_objective (codes "obj") ∷ []) []) ≡ true) [ true ↦ refl | false ↦ refl ]
 header-known context earlier more (Some Rhs) = refl
 header-known context earlier more (Some Ranges) = refl
 header-known context earlier more (Some Bounds) = refl
@@ -291,12 +291,12 @@ data-known context final earlier fields (Some Rows) rows columns h = rows-known 
 data-known context final earlier fields (Some Columns) rows columns h = columns-known context final earlier fields (rows refl) h
 data-known context final earlier fields (Some Rhs) rows columns h = of (vector_shape fields) h
   where
-    of : (o : Option ValuesLine) → AreKnown final (declared_of (right_sides_declared earlier) o) → are_known_in_turn earlier (declared_of (right_sides_declared earlier) o) ≡ true
+    of : (o : Option ValuesLine) → AreKnown final (declared_if_some (rhs_line_declared earlier) o) → are_known_in_turn earlier (declared_if_some (rhs_line_declared earlier) o) ≡ true
     of None k = refl
     of (Some line) k = sides-known earlier final earlier line.pairs (rows refl) k
 data-known context final earlier fields (Some Ranges) rows columns h = of (vector_shape fields) h
   where
-    of : (o : Option ValuesLine) → AreKnown final (declared_of ranges_declared o) → are_known_in_turn earlier (declared_of ranges_declared o) ≡ true
+    of : (o : Option ValuesLine) → AreKnown final (declared_if_some ranges_declared o) → are_known_in_turn earlier (declared_if_some ranges_declared o) ≡ true
     of None k = refl
     of (Some line) k = ranges-known final earlier line.pairs (rows refl) k
 data-known context final earlier fields (Some Bounds) rows columns h = bounds-known final earlier fields (columns refl) h
@@ -304,19 +304,19 @@ data-known context final earlier fields (Some EndData) rows columns h = refl
 
 -- ---- all lines in turn
 
-known-append : (before : Draft) (xs ys : Declarations) → are_known_in_turn before xs ≡ true → are_known_in_turn (adding_all before xs) ys ≡ true → are_known_in_turn before (xs ++ ys) ≡ true
+known-append : (before : Draft) (xs ys : Declarations) → are_known_in_turn before xs ≡ true → are_known_in_turn (with_declarations before xs) ys ≡ true → are_known_in_turn before (xs ++ ys) ≡ true
 known-append before [] ys h k = k
 known-append before (d ∷ ds) ys h k =
-    both_so (is_known before d) (are_known_in_turn (adding before d) (ds ++ ys)) (first_so (is_known before d) (are_known_in_turn (adding before d) ds) h)
-    (known-append (adding before d) ds ys (second_so (is_known before d) (are_known_in_turn (adding before d) ds) h) k)
+    both_so (is_known before d) (are_known_in_turn (with_declaration before d) (ds ++ ys)) (first_so (is_known before d) (are_known_in_turn (with_declaration before d) ds) h)
+    (known-append (with_declaration before d) ds ys (second_so (is_known before d) (are_known_in_turn (with_declaration before d) ds) h) k)
 
 -- what is declared from a line on leaves rows and columns as they are, once their sections are past
-same-rows : (before : List Item) (earlier : Draft) (items : List Item) → have_good_form before earlier items ≡ true → Past Rows before → has_section before Columns ≡ true
-    → HasRowsOf (adding_all earlier (declared_items before earlier items)) earlier
+same-rows : (before : List LineContent) (earlier : Draft) (items : List LineContent) → are_well_formed before earlier items ≡ true → Past Rows before → has_section before Columns ≡ true
+    → HasRowsOf (with_declarations earlier (declared_items before earlier items)) earlier
 same-rows before earlier items h past columns r known = sym (rows-kept (declared_items before earlier items) earlier r (no-rows-later items before earlier h past columns)) ∙ known
 
-same-columns : (before : List Item) (earlier : Draft) (items : List Item) → have_good_form before earlier items ≡ true → Past Columns before
-    → HasColumnsOf (adding_all earlier (declared_items before earlier items)) earlier
+same-columns : (before : List LineContent) (earlier : Draft) (items : List LineContent) → are_well_formed before earlier items ≡ true → Past Columns before
+    → HasColumnsOf (with_declarations earlier (declared_items before earlier items)) earlier
 same-columns before earlier items h past c known = sym (columns-kept (declared_items before earlier items) earlier c (no-columns-later items before earlier h past)) ∙ known
 
 rowed-late : (o : Option Section) → is_rowed o ≡ true → (is_late o ≡ true) × (is_section Rows o ≡ false)
@@ -343,37 +343,37 @@ bounds-late (Some Ranges) h = cc
 bounds-late (Some Bounds) h = (refl, refl)
 bounds-late (Some EndData) h = cc
 
-line-known : (before : List Item) (earlier : Draft) (item : Item) (items : List Item) → have_good_form before earlier (item ∷ items) ≡ true → Ordered before
-    → AreKnown (adding_all earlier (declared_items before earlier (item ∷ items))) (declared (context_of before) earlier item)
-    → are_known_in_turn earlier (declared (context_of before) earlier item) ≡ true
+line-known : (before : List LineContent) (earlier : Draft) (item : LineContent) (items : List LineContent) → are_well_formed before earlier (item ∷ items) ≡ true → Ordered before
+    → AreKnown (with_declarations earlier (declared_items before earlier (item ∷ items))) (line_declares (context_of before) earlier item)
+    → are_known_in_turn earlier (line_declares (context_of before) earlier item) ≡ true
 line-known before earlier skipped items h o known = refl
 line-known before earlier (header keyword more) items h o known = header-known (context_of before) earlier more (section_named keyword)
 line-known before earlier (data_line fields) items h o known =
-    data-known (context_of before) (adding_all earlier (declared_items before earlier (data_line fields ∷ items))) earlier fields (current_section before) rows columns known
+    data-known (context_of before) (with_declarations earlier (declared_items before earlier (data_line fields ∷ items))) earlier fields (current_section before) rows columns known
   where
-    rows : is_rowed (current_section before) ≡ true → HasRowsOf (adding_all earlier (declared_items before earlier (data_line fields ∷ items))) earlier
+    rows : is_rowed (current_section before) ≡ true → HasRowsOf (with_declarations earlier (declared_items before earlier (data_line fields ∷ items))) earlier
     rows rowed =
         let late = rowed-late (current_section before) rowed in
         let begun = o.columns late.0 in
         same-rows before earlier (data_line fields ∷ items) h (record { begun = o.rows begun; left = late.1 }) begun
 
-    columns : is_section Bounds (current_section before) ≡ true → HasColumnsOf (adding_all earlier (declared_items before earlier (data_line fields ∷ items))) earlier
+    columns : is_section Bounds (current_section before) ≡ true → HasColumnsOf (with_declarations earlier (declared_items before earlier (data_line fields ∷ items))) earlier
     columns bound =
         let late = bounds-late (current_section before) bound in
         same-columns before earlier (data_line fields ∷ items) h (record { begun = o.columns late.0; left = late.1 })
 
 -- Each row and column that the lines name, and that is declared somewhere, is declared before.
-pub known-lines : (items before : List Item) (earlier : Draft) → have_good_form before earlier items ≡ true → Ordered before
-    → AreKnown (adding_all earlier (declared_items before earlier items)) (declared_items before earlier items)
+pub known-lines : (items before : List LineContent) (earlier : Draft) → are_well_formed before earlier items ≡ true → Ordered before
+    → AreKnown (with_declarations earlier (declared_items before earlier items)) (declared_items before earlier items)
     → are_known_in_turn earlier (declared_items before earlier items) ≡ true
 known-lines [] before earlier h o known = refl
 known-lines (item ∷ items) before earlier h o known =
-    let here = declared (context_of before) earlier item in
-    let more = declared_items (before ++ item ∷ []) (adding_all earlier here) items in
-    let final = adding_all earlier (here ++ more) in
+    let here = line_declares (context_of before) earlier item in
+    let more = declared_items (before ++ item ∷ []) (with_declarations earlier here) items in
+    let final = with_declarations earlier (here ++ more) in
     let parts = sym (list_all-append (is_known final) here more) ∙ known in
-    let same : final ≡ adding_all (adding_all earlier here) more = adding_all-append here more earlier in
+    let same : final ≡ with_declarations (with_declarations earlier here) more = with_declarations-append here more earlier in
     known-append earlier here more
     (line-known before earlier item items h o (first_so (list_all (is_known final) here) (list_all (is_known final) more) parts))
-    (known-lines items (before ++ item ∷ []) (adding_all earlier here) (good-rest before earlier item items h) (ordered-push before earlier item (good-first before earlier item items h) o)
+    (known-lines items (before ++ item ∷ []) (with_declarations earlier here) (good-rest before earlier item items h) (ordered-push before earlier item (good-first before earlier item items h) o)
     (subst (λ (all : Draft). AreKnown all more) same (second_so (list_all (is_known final) here) (list_all (is_known final) more) parts)))

@@ -5,39 +5,39 @@ use Rattle.std.specs.List.{list_all, flat_map}
 use Rattle.std.specs.Option.{option_map_or}
 use Rattle.std.proofs.lemmas.List.Folds.{list_all-append}
 use Rattle.mpslp_types.specs.Name.{is_mps_name}
-use Rattle.mpslp_types.specs.Sides.{limit_of, is_given}
-use Rattle.mpslp_builder.specs.Declaration.{by_type, declare_sense, declare_objective, declare_row, declare_rhs, declare_range, declare_marked, Draft, adding_all, is_free_row, rhs_declared}
+use Rattle.mpslp_types.specs.Limit.{limit_of, is_given}
+use Rattle.mpslp_builder.specs.Declaration.{by_type, declare_sense, declare_objective, declare_row, declare_rhs, declare_range, declare_marked, Draft, with_declarations, is_free_row, rhs_declared}
 use Rattle.mpslp_builder.specs.Bounds.{zero_limit}
 use Rattle.mpslp_builder.specs.Made.{is_legal}
-use Rattle.mpslp_core.specs.Lists.{those_of}
+use Rattle.mpslp_model_core.specs.Lists.{those_of}
 use Rattle.mpslp_types.specs.declared.kinds.Limit.{Limit}
 use Rattle.mpslp_types.specs.declared.kinds.RowType.{RowType}
 use Rattle.mpslp_types.specs.declared.kinds.RowType.TheVariants.{Free, AtMost, AtLeast, Equal}
 use Rattle.mpslp_types.specs.declared.faults.FaultKind.TheVariants as kinds
 use Rattle.mpslp_types.proofs.BoolLemmas.{both_so}
-use Rattle.mpslp_reading.proofs.FieldLemmas.{name-legal, value-decimal, limit-given}
-use Rattle.mpslp_mps.specs.Line.{Fields, Item, skipped, header, data_line}
+use Rattle.mpslp_lines.proofs.FieldLemmas.{name-legal, value-decimal, limit-given}
+use Rattle.mpslp_mps.specs.Line.{Fields, LineContent, skipped, header, data_line}
 use Rattle.mpslp_mps.specs.Section.{section_named}
 use Rattle.mpslp_mps.specs.DataLine.{RowLine, Pair, ValuesLine, word_shape, sense_of, row_shape, row_type, column_shape, is_marker_line, vector_shape}
 use Rattle.mpslp_mps.specs.BoundLine.{BoundLine, bound_type, bound_shape}
 use Rattle.mpslp_mps.specs.Context.{Context, context_of, current_section}
-use Rattle.mpslp_mps.specs.LineMeaning.{declared_of, sense_declared, is_new_objective, row_of_type, row_declared, coefficient_declared, column_declared, columns_line_declared, right_sides_declared, ranges_declared, bound_declared, bound_value, bound_line_declared, data_declared, header_declared, declared}
-use Rattle.mpslp_reading.specs.Field.{value_of, name_tests, number_tests}
-use Rattle.mpslp_reading.specs.Tests.{judged_by}
+use Rattle.mpslp_mps.specs.LineDeclarations.{declared_if_some, sense_declared, is_new_objective, row_of_type, row_declared, coefficient_declared, column_declared, columns_line_declared, rhs_line_declared, ranges_declared, bound_declared, bound_value, bound_line_declared, data_declared, header_declared, line_declares}
+use Rattle.mpslp_lines.specs.Field.{value_of, name_tests, number_tests}
+use Rattle.mpslp_lines.specs.FaultTests.{judged_by}
 use Rattle.mpslp_mps.specs.FieldFault.{literals_of}
-use Rattle.mpslp_mps.specs.DataFault.{row_tests, marker_tests, is_split, column_tests, columns_line_tests, data_tests}
+use Rattle.mpslp_mps.specs.DataFault.{row_line_tests, marker_tests, is_split, column_tests, columns_line_tests, data_tests}
 use Rattle.mpslp_mps.specs.declared.sections.Section.{Section}
 use Rattle.mpslp_mps.specs.declared.sections.Section.TheVariants.{Name, ObjSense, ObjName, Rows, Columns, Rhs, Ranges, Bounds, EndData}
 use Rattle.mpslp_mps.specs.declared.bound_types.BoundType.{BoundType}
 use Rattle.mpslp_mps.specs.declared.bound_types.BoundType.TheVariants as bounds
-use Rattle.mpslp_mps.proofs.PlacedLemmas.{declared_items, have_good_form}
-use Rattle.mpslp_reading.proofs.HeldLemmas.{later_tests}
+use Rattle.mpslp_mps.proofs.ContextLineLemmas.{declared_items, are_well_formed}
+use Rattle.mpslp_lines.proofs.HeldLemmas.{later_tests}
 use Rattle.mpslp_mps.proofs.OrderLemmas.{IsGood, each-declared, each-flat, each-mapped}
 use Rattle.mpslp_mps.proofs.KnownLemmas.{good-first, good-rest}
 
 -- ---- lines
 
-sense-legal : (fields : Fields) → list_all is_legal (declared_of sense_declared (word_shape fields)) ≡ true
+sense-legal : (fields : Fields) → list_all is_legal (declared_if_some sense_declared (word_shape fields)) ≡ true
 sense-legal fields =
     each-declared is_legal sense_declared (word_shape fields) (λ word. each-declared is_legal (λ sense. declare_sense sense ∷ []) (sense_of word) (λ s. refl))
 
@@ -48,7 +48,7 @@ row-type-legal context earlier name AtMost h = rw h refl
 row-type-legal context earlier name AtLeast h = rw h refl
 row-type-legal context earlier name Equal h = rw h refl
 
-row-legal : (context : Context) (earlier : Draft) (o : Option RowLine) → those_of (judged_by row_tests o) ≡ [] → list_all is_legal (declared_of (row_declared context earlier) o) ≡ true
+row-legal : (context : Context) (earlier : Draft) (o : Option RowLine) → those_of (judged_by row_line_tests o) ≡ [] → list_all is_legal (declared_if_some (row_declared context earlier) o) ≡ true
 row-legal context earlier None h = refl
 row-legal context earlier (Some line) h =
     let name = name-legal line.name [] (later_tests (is_none (row_type line.letter)) kinds.BadType (name_tests line.name) h) in
@@ -58,7 +58,7 @@ cells-legal : (column : List ℕ) (pairs : List Pair) → list_all is_legal (fla
 cells-legal column pairs = each-flat is_legal (coefficient_declared column) pairs (λ pair. rw (value-decimal pair.literal) refl)
 
 column-legal : (context : Context) (earlier : Draft) (o : Option ValuesLine) → those_of (judged_by (column_tests context earlier) o) ≡ []
-    → list_all is_legal (declared_of (column_declared context) o) ≡ true
+    → list_all is_legal (declared_if_some (column_declared context) o) ≡ true
 column-legal context earlier None h = refl
 column-legal context earlier (Some line) h =
     both_so (is_mps_name line.name) _ (name-legal line.name (number_tests (literals_of line.pairs) ++ (is_split context earlier line.name, kinds.ColumnSplit) ∷ []) h) (marked context.in_integer_part)
@@ -72,20 +72,20 @@ columns-legal : (context : Context) (earlier : Draft) (fields : Fields) → thos
 columns-legal context earlier fields h = by (is_marker_line fields) h
   where
     by : (b : Bool) → those_of (cond b (marker_tests context fields) (judged_by (column_tests context earlier) (column_shape fields))) ≡ []
-        → list_all is_legal (cond b [] (declared_of (column_declared context) (column_shape fields))) ≡ true
+        → list_all is_legal (cond b [] (declared_if_some (column_declared context) (column_shape fields))) ≡ true
     by true k = refl
     by false k = column-legal context earlier (column_shape fields) k
 
-sides-legal : (earlier : Draft) (fields : Fields) → list_all is_legal (declared_of (right_sides_declared earlier) (vector_shape fields)) ≡ true
+sides-legal : (earlier : Draft) (fields : Fields) → list_all is_legal (declared_if_some (rhs_line_declared earlier) (vector_shape fields)) ≡ true
 sides-legal earlier fields =
-    each-declared is_legal (right_sides_declared earlier) (vector_shape fields)
+    each-declared is_legal (rhs_line_declared earlier) (vector_shape fields)
     (λ line. each-flat is_legal (λ (pair : Pair). rhs_declared earlier pair.row (value_of pair.literal)) line.pairs (λ pair. one pair (is_free_row earlier pair.row)))
   where
     one : (pair : Pair) (b : Bool) → list_all is_legal (cond b [] (declare_rhs pair.row (value_of pair.literal) ∷ [])) ≡ true
     one pair true = refl
     one pair false = rw (value-decimal pair.literal) refl
 
-ranges-legal : (fields : Fields) → list_all is_legal (declared_of ranges_declared (vector_shape fields)) ≡ true
+ranges-legal : (fields : Fields) → list_all is_legal (declared_if_some ranges_declared (vector_shape fields)) ≡ true
 ranges-legal fields =
     each-declared is_legal ranges_declared (vector_shape fields)
     (λ line. each-mapped is_legal (λ (pair : Pair). declare_range pair.row (value_of pair.literal)) line.pairs (λ pair. value-decimal pair.literal))
@@ -112,7 +112,7 @@ bound-value-given line = by line.literal
 bounds-legal : (fields : Fields) → list_all is_legal (bound_line_declared fields) ≡ true
 bounds-legal [] = refl
 bounds-legal (letters ∷ more) =
-    each-declared is_legal (λ type. declared_of (λ (line : BoundLine). bound_declared type line.column (bound_value line)) (bound_shape type more)) (bound_type letters)
+    each-declared is_legal (λ type. declared_if_some (λ (line : BoundLine). bound_declared type line.column (bound_value line)) (bound_shape type more)) (bound_type letters)
     (λ type. each-declared is_legal (λ (line : BoundLine). bound_declared type line.column (bound_value line)) (bound_shape type more)
     (λ line. bound-legal type line.column (bound_value line) (bound-value-given line)))
 
@@ -122,7 +122,7 @@ header-legal context earlier more (Some Name) = refl
 header-legal context earlier more (Some ObjSense) = sense-legal more
 header-legal context earlier more (Some ObjName) = refl
 header-legal context earlier more (Some Rows) = refl
-header-legal context earlier more (Some Columns) = elim (is_none earlier.objective && is_none context.objective_name) as (λ b. list_all is_legal (cond b (declare_objective (codes "obj") ∷ []) []) ≡ true) [ true ↦ refl | false ↦ refl ]
+header-legal context earlier more (Some Columns) = elim (is_none earlier.objective && is_none context.objname) as (λ b. list_all is_legal (cond b (declare_objective (codes "obj") ∷ []) []) ≡ true) [ true ↦ refl | false ↦ refl ]
 header-legal context earlier more (Some Rhs) = refl
 header-legal context earlier more (Some Ranges) = refl
 header-legal context earlier more (Some Bounds) = refl
@@ -141,16 +141,16 @@ data-legal context earlier fields (Some Ranges) h = ranges-legal fields
 data-legal context earlier fields (Some Bounds) h = bounds-legal fields
 data-legal context earlier fields (Some EndData) h = refl
 
-pub line-legal : (before : List Item) (earlier : Draft) (item : Item) → IsGood before earlier item → list_all is_legal (declared (context_of before) earlier item) ≡ true
+pub line-legal : (before : List LineContent) (earlier : Draft) (item : LineContent) → IsGood before earlier item → list_all is_legal (line_declares (context_of before) earlier item) ≡ true
 line-legal before earlier skipped h = refl
 line-legal before earlier (header keyword more) h = header-legal (context_of before) earlier more (section_named keyword)
 line-legal before earlier (data_line fields) h = data-legal (context_of before) earlier fields (current_section before) h
 
-pub lines-legal : (items before : List Item) (earlier : Draft) → have_good_form before earlier items ≡ true → list_all is_legal (declared_items before earlier items) ≡ true
+pub lines-legal : (items before : List LineContent) (earlier : Draft) → are_well_formed before earlier items ≡ true → list_all is_legal (declared_items before earlier items) ≡ true
 lines-legal [] before earlier h = refl
 lines-legal (item ∷ items) before earlier h =
-    let here = declared (context_of before) earlier item in
-    let more = declared_items (before ++ item ∷ []) (adding_all earlier here) items in
+    let here = line_declares (context_of before) earlier item in
+    let more = declared_items (before ++ item ∷ []) (with_declarations earlier here) items in
     list_all-append is_legal here more
     ∙ both_so (list_all is_legal here) (list_all is_legal more) (line-legal before earlier item (good-first before earlier item items h))
-    (lines-legal items (before ++ item ∷ []) (adding_all earlier here) (good-rest before earlier item items h))
+    (lines-legal items (before ++ item ∷ []) (with_declarations earlier here) (good-rest before earlier item items h))

@@ -1,7 +1,7 @@
 pub mod WorkedFaults
 pub mod WorkedFiles
 pub mod SectionLemmas
-pub mod PlacedLemmas
+pub mod ContextLineLemmas
 pub mod OrderLemmas
 pub mod KnownLemmas
 pub mod LegalLemmas
@@ -21,7 +21,7 @@ pub mod RowTaking
 pub mod ColumnTaking
 pub mod ColumnLine
 pub mod HeaderTaking
-pub mod RightSideLemmas
+pub mod RhsLemmas
 pub mod TakenLemmas
 pub mod RangeLemmas
 pub mod BoundSideLemmas

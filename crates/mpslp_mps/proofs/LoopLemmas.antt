@@ -4,47 +4,47 @@ use Rattle.std.specs.Prelude.{Some, None}
 use Rattle.std.specs.List.{list_all}
 use Rattle.mpslp_builder.specs.Declaration.{Draft}
 use Rattle.mpslp_types.specs.declared.faults.FaultKind.TheVariants.{LineTooLong, BadByte}
-use Rattle.mpslp_reading.specs.LegalLine.{has_legal_length, is_legal_byte}
-use Rattle.mpslp_reading.proofs.LeastLemmas.{are_rising}
-use Rattle.mpslp_reading.proofs.FirstFaultLemmas.{faultless, no_fault, too-long, bad-byte, legal-first}
+use Rattle.mpslp_lines.specs.LegalLine.{has_legal_length, is_legal_byte}
+use Rattle.mpslp_lines.proofs.LeastLemmas.{are_rising}
+use Rattle.mpslp_lines.proofs.FirstFaultLemmas.{faultless, no_fault, too-long, bad-byte, legal-first}
 use Rattle.mpslp_mps.specs.LineFault.{item_tests, line_tests}
-use Rattle.mpslp_mps.specs.LineMeaning.{declared}
-use Rattle.mpslp_mps.proofs.PlacedLemmas.{item-form}
+use Rattle.mpslp_mps.specs.LineDeclarations.{line_declares}
+use Rattle.mpslp_mps.proofs.ContextLineLemmas.{item-form}
 use Rattle.mpslp_mps.proofs.RisingTests.{item-rising}
-use Rattle.mpslp_mps.specs.Line.{item_of, outside_comment}
+use Rattle.mpslp_mps.specs.Line.{content_of, outside_comment}
 use Rattle.mpslp_mps.specs.Context.{Context}
 use Rattle.mpslp_mps.specs.LineAnswer.{item_fault}
 use Rattle.mpslp_mps.specs.FirstFault.{line_fault}
-use Rattle.mpslp_mps.specs.Reading.{placed_in, draft_after}
+use Rattle.mpslp_mps.specs.LineByLine.{placed_in, draft_after}
 use Rattle.mpslp_mps.specs.VectorDeclared.{HasMpsSides}
 use Rattle.mpslp_mps.proofs.MpsSidesLemmas.{sides-kept}
 
-pub no-item : (context : Context) (earlier : Draft) (line : List ℕ) → line_fault (placed_in context earlier line) ≡ None → item_fault context earlier (item_of line) ≡ None
+pub no-item : (context : Context) (earlier : Draft) (line : List ℕ) → line_fault (placed_in context earlier line) ≡ None → item_fault context earlier (content_of line) ≡ None
 no-item context earlier line h =
-    let fine = faultless (line_tests context earlier line) earlier (declared context earlier (item_of line)) h in
-    no_fault (item_tests context earlier (item_of line)) earlier (declared context earlier (item_of line)) (item-form context earlier line fine.form) fine.unrefused
+    let fine = faultless (line_tests context earlier line) earlier (line_declares context earlier (content_of line)) h in
+    no_fault (item_tests context earlier (content_of line)) earlier (line_declares context earlier (content_of line)) (item-form context earlier line fine.form) fine.unrefused
 
 -- ---- a line's length and bytes
 
 line-rising : (context : Context) (earlier : Draft) (line : List ℕ) → are_rising (line_tests context earlier line) ≡ true
-line-rising context earlier line = item-rising context earlier (item_of line)
+line-rising context earlier line = item-rising context earlier (content_of line)
 
 pub line-too_long : (context : Context) (earlier : Draft) (line : List ℕ) → has_legal_length line ≡ false → line_fault (placed_in context earlier line) ≡ Some LineTooLong
 line-too_long context earlier line =
-    too-long line (outside_comment line) (item_tests context earlier (item_of line)) earlier (declared context earlier (item_of line)) (line-rising context earlier line)
+    too-long line (outside_comment line) (item_tests context earlier (content_of line)) earlier (line_declares context earlier (content_of line)) (line-rising context earlier line)
 
 pub line-bad_byte : (context : Context) (earlier : Draft) (line : List ℕ) → has_legal_length line ≡ true → list_all is_legal_byte (outside_comment line) ≡ false
     → line_fault (placed_in context earlier line) ≡ Some BadByte
 line-bad_byte context earlier line =
-    bad-byte line (outside_comment line) (item_tests context earlier (item_of line)) earlier (declared context earlier (item_of line)) (line-rising context earlier line)
+    bad-byte line (outside_comment line) (item_tests context earlier (content_of line)) earlier (line_declares context earlier (content_of line)) (line-rising context earlier line)
 
 pub line-legal : (context : Context) (earlier : Draft) (line : List ℕ) → has_legal_length line ≡ true → list_all is_legal_byte (outside_comment line) ≡ true
-    → line_fault (placed_in context earlier line) ≡ item_fault context earlier (item_of line)
-line-legal context earlier line = legal-first line (outside_comment line) (item_tests context earlier (item_of line)) earlier (declared context earlier (item_of line))
+    → line_fault (placed_in context earlier line) ≡ item_fault context earlier (content_of line)
+line-legal context earlier line = legal-first line (outside_comment line) (item_tests context earlier (content_of line)) earlier (line_declares context earlier (content_of line))
 
 -- ---- what every line keeps
 
 pub sides-next : (line : List ℕ) (context : Context) (earlier later : Draft) → HasMpsSides earlier → line_fault (placed_in context earlier line) ≡ None
     → later ≡ draft_after context earlier line → HasMpsSides later
 sides-next line context earlier later sides none draft =
-    subst HasMpsSides (sym draft) (sides-kept context earlier (item_of line) (no-item context earlier line none) sides)
+    subst HasMpsSides (sym draft) (sides-kept context earlier (content_of line) (no-item context earlier line none) sides)

@@ -4,8 +4,8 @@ use Rattle.std.specs.Prelude.{Option, Some, None, is_some, ◌||◌, not}
 use Rattle.std.specs.List.{list_all, list_any, flat_map, position_or_len}
 use Rattle.std.specs.Option.{option_map, option_or}
 use Rattle.std.specs.Str.Lines.{lines}
-use Rattle.mpslp_builder.specs.Declaration.{Declarations, Draft, adding_all, empty_draft, draft_of}
-use Rattle.mpslp_core.specs.Lists.{is_nonempty}
+use Rattle.mpslp_builder.specs.Declaration.{Declarations, Draft, with_declarations, empty_draft, draft_of}
+use Rattle.mpslp_model_core.specs.Lists.{is_nonempty}
 use Rattle.mpslp_builder.specs.Refusal.{refusals_in_turn}
 use Rattle.mpslp_builder.specs.Made.{is_legal}
 use Rattle.mpslp_builder.specs.Meaning.{model_of, whole_fault, file_fault}
@@ -16,16 +16,16 @@ use Rattle.mpslp_types.proofs.BoolLemmas.{both_so, or_left, or_right}
 use Rattle.mpslp_builder.proofs.RefusalLemmas.{join_none}
 use Rattle.mpslp_builder.proofs.MadeDrafts.{refusals_in_turn-append}
 use Rattle.mpslp_builder.proofs.Acceptance.{means-from_none}
-use Rattle.mpslp_reading.specs.LineAnswer.{fault_on_line}
-use Rattle.mpslp_reading.proofs.FirstFaultLemmas.{faultless}
-use Rattle.mpslp_reading.proofs.ObjectiveLemmas.{objective-declared}
-use Rattle.mpslp_reading.proofs.AnswerLemmas.{no_fault-unless}
-use Rattle.mpslp_mps.specs.Line.{Item, item_of}
+use Rattle.mpslp_lines.specs.LineAnswer.{fault_on_line}
+use Rattle.mpslp_lines.proofs.FirstFaultLemmas.{faultless}
+use Rattle.mpslp_lines.proofs.ObjectiveLemmas.{objective-declared}
+use Rattle.mpslp_lines.proofs.AnswerLemmas.{no_fault-unless}
+use Rattle.mpslp_mps.specs.Line.{LineContent, content_of}
 use Rattle.mpslp_mps.specs.Context.{context_of}
-use Rattle.mpslp_mps.specs.MpsText.{Placed, is_end, read_lines, has_end, declared_at, tests_at, has_good_form, placed_after, placed_lines, declarations_of, DeclaresMps}
+use Rattle.mpslp_mps.specs.MpsText.{LineInContext, is_end, read_lines, has_end, declared_at, tests_at, is_well_formed, lines_in_context_after, lines_in_context, declarations_of, DeclaresMps}
 use Rattle.mpslp_mps.specs.FirstFault.{line_fault, first_line_fault, whole_mps_fault, first_mps_fault}
 use Rattle.mpslp_mps.specs.Laws.{DeclareUnlessFaulty}
-use Rattle.mpslp_mps.proofs.PlacedLemmas.{lines-declare, items-good}
+use Rattle.mpslp_mps.proofs.ContextLineLemmas.{lines-declare, items-good}
 use Rattle.mpslp_mps.proofs.LegalLemmas.{lines-legal}
 use Rattle.mpslp_mps.proofs.ObjectiveLemmas.{named-lines}
 
@@ -39,22 +39,22 @@ mapped-none : {X Y : Type 0} (f : X → Y) (o : Option X) → option_map f o ≡
 mapped-none f None h = refl
 mapped-none f (Some x) h = cc
 
-pub record AreFaultless (lines : List (List ℕ)) (before : List Item) (earlier : Draft) : Type 0 where
-  pub good : list_all has_good_form (placed_after before earlier lines) ≡ true
-  pub unrefused : refusals_in_turn earlier (flat_map declared_at (placed_after before earlier lines)) ≡ []
+pub record AreFaultless (lines : List (List ℕ)) (before : List LineContent) (earlier : Draft) : Type 0 where
+  pub good : list_all is_well_formed (lines_in_context_after before earlier lines) ≡ true
+  pub unrefused : refusals_in_turn earlier (flat_map declared_at (lines_in_context_after before earlier lines)) ≡ []
 
-lines-faultless : (n : ℕ) (lines : List (List ℕ)) (before : List Item) (earlier : Draft) → first_line_fault n (placed_after before earlier lines) ≡ None → AreFaultless lines before earlier
+lines-faultless : (n : ℕ) (lines : List (List ℕ)) (before : List LineContent) (earlier : Draft) → first_line_fault n (lines_in_context_after before earlier lines) ≡ None → AreFaultless lines before earlier
 lines-faultless n [] before earlier h = record { good = refl; unrefused = refl }
 lines-faultless n (line ∷ lines) before earlier h =
-    let placed : Placed = record { context = context_of before; earlier = earlier; line = line } in
+    let placed : LineInContext = record { context = context_of before; earlier = earlier; line = line } in
     let here = declared_at placed in
-    let next = adding_all earlier here in
-    let later = placed_after (before ++ item_of line ∷ []) next lines in
+    let next = with_declarations earlier here in
+    let later = lines_in_context_after (before ++ content_of line ∷ []) next lines in
     let parts = or-none (option_map (fault_on_line n) (line_fault placed)) (first_line_fault (n + 1) later) h in
     let fine = faultless (tests_at placed) earlier here (mapped-none (fault_on_line n) (line_fault placed) parts.0) in
-    let more = lines-faultless (n + 1) lines (before ++ item_of line ∷ []) next parts.1 in
+    let more = lines-faultless (n + 1) lines (before ++ content_of line ∷ []) next parts.1 in
     record {
-      good = both_so (has_good_form placed) (list_all has_good_form later) (ap (λ (faults : List FaultKind). not (is_nonempty faults)) fine.form) more.good;
+      good = both_so (is_well_formed placed) (list_all is_well_formed later) (ap (λ (faults : List FaultKind). not (is_nonempty faults)) fine.form) more.good;
       unrefused = refusals_in_turn-append here (flat_map declared_at later) earlier
           ∙ join_none (refusals_in_turn earlier here) (refusals_in_turn next (flat_map declared_at later)) fine.unrefused more.unrefused;
     }
@@ -87,17 +87,17 @@ whole-faultless bytes h = by (has_end bytes) refl h
 -- Bytes without a first fault declare the model of what their lines declare.
 pub declares-from_no_fault : (bytes : List ℕ) → first_mps_fault bytes ≡ None → DeclaresMps bytes (model_of (draft_of (declarations_of bytes)))
 declares-from_no_fault bytes h =
-    let items = map item_of (read_lines bytes) in
-    let parts = or-none (first_line_fault 1 (placed_lines bytes)) (whole_mps_fault bytes) h in
+    let items = map content_of (read_lines bytes) in
+    let parts = or-none (first_line_fault 1 (lines_in_context bytes)) (whole_mps_fault bytes) h in
     let fine = lines-faultless 1 (read_lines bytes) [] empty_draft parts.0 in
     let whole = whole-faultless bytes parts.1 in
     let good = items-good [] empty_draft (read_lines bytes) fine.good in
     let same = lines-declare [] empty_draft (read_lines bytes) in
     let named = named-lines (read_lines bytes) [] empty_draft (end-read (lines bytes) whole.ends) good (λ e. cc) in
     record {
-      text = both_so (has_end bytes) (list_all has_good_form (placed_lines bytes)) whole.ends fine.good;
+      text = both_so (has_end bytes) (list_all is_well_formed (lines_in_context bytes)) whole.ends fine.good;
       means = means-from_none (declarations_of bytes)
-          (objective-declared (declarations_of bytes) empty_draft (ap (λ (ds : Declarations). is_some (adding_all empty_draft ds).objective) same ∙ named))
+          (objective-declared (declarations_of bytes) empty_draft (ap (λ (ds : Declarations). is_some (with_declarations empty_draft ds).objective) same ∙ named))
           (ap (list_all is_legal) same ∙ lines-legal items [] empty_draft good) fine.unrefused whole.file;
     }
 

@@ -4,56 +4,56 @@ use Rattle.std.specs.Prelude.{Option, None}
 use Rattle.std.specs.List.{list_all, flat_map}
 use Rattle.std.specs.Option.{option_map, option_or}
 use Rattle.std.specs.Cmp.{first_so, second_so}
-use Rattle.mpslp_core.specs.Model.{LinearModel}
-use Rattle.mpslp_builder.specs.Declaration.{Declarations, Draft, empty_draft, adding_all, draft_of}
-use Rattle.mpslp_core.specs.Lists.{those_of}
+use Rattle.mpslp_model_core.specs.Model.{LinearModel}
+use Rattle.mpslp_builder.specs.Declaration.{Declarations, Draft, empty_draft, with_declarations, draft_of}
+use Rattle.mpslp_model_core.specs.Lists.{those_of}
 use Rattle.mpslp_builder.specs.Refusal.{refusals_in_turn}
 use Rattle.mpslp_builder.specs.Meaning.{file_fault, Means}
 use Rattle.mpslp_types.specs.declared.faults.FaultKind.{FaultKind}
 use Rattle.mpslp_builder.proofs.RefusalLemmas.{left_none, right_none}
 use Rattle.mpslp_builder.proofs.MadeDrafts.{refusals_in_turn-append}
 use Rattle.mpslp_builder.proofs.Acceptance.{none-from_means}
-use Rattle.mpslp_reading.specs.LineAnswer.{fault_on_line}
-use Rattle.mpslp_reading.proofs.FirstFaultLemmas.{no_fault}
-use Rattle.mpslp_reading.proofs.AnswerLemmas.{model-or_fault as one_of_both}
-use Rattle.mpslp_mps.specs.Line.{Item, item_of}
+use Rattle.mpslp_lines.specs.LineAnswer.{fault_on_line}
+use Rattle.mpslp_lines.proofs.FirstFaultLemmas.{no_fault}
+use Rattle.mpslp_lines.proofs.AnswerLemmas.{model-or_fault as one_of_both}
+use Rattle.mpslp_mps.specs.Line.{LineContent, content_of}
 use Rattle.mpslp_mps.specs.Context.{context_of}
-use Rattle.mpslp_mps.specs.MpsText.{Placed, read_lines, has_end, declared_at, tests_at, has_good_form, placed_after, placed_lines, DeclaresMps}
+use Rattle.mpslp_mps.specs.MpsText.{LineInContext, read_lines, has_end, declared_at, tests_at, is_well_formed, lines_in_context_after, lines_in_context, DeclaresMps}
 use Rattle.mpslp_mps.specs.FirstFault.{first_line_fault, whole_mps_fault, first_mps_fault}
 use Rattle.mpslp_mps.specs.Laws.{DeclareOrFail}
-use Rattle.mpslp_mps.proofs.PlacedLemmas.{declared_items, have_good_form, no_faults, lines-declare, items-good}
+use Rattle.mpslp_mps.proofs.ContextLineLemmas.{declared_items, are_well_formed, no_faults, lines-declare, items-good}
 use Rattle.mpslp_mps.proofs.OrderLemmas.{ordered-nil}
 use Rattle.mpslp_mps.proofs.KnownLemmas.{known-lines}
 use Rattle.mpslp_mps.proofs.LegalLemmas.{lines-legal}
 
 -- lines of a good form, none of whose declarations is refused
-lines-no_fault : (n : ℕ) (lines : List (List ℕ)) (before : List Item) (earlier : Draft) → list_all has_good_form (placed_after before earlier lines) ≡ true
-    → refusals_in_turn earlier (flat_map declared_at (placed_after before earlier lines)) ≡ [] → first_line_fault n (placed_after before earlier lines) ≡ None
+lines-no_fault : (n : ℕ) (lines : List (List ℕ)) (before : List LineContent) (earlier : Draft) → list_all is_well_formed (lines_in_context_after before earlier lines) ≡ true
+    → refusals_in_turn earlier (flat_map declared_at (lines_in_context_after before earlier lines)) ≡ [] → first_line_fault n (lines_in_context_after before earlier lines) ≡ None
 lines-no_fault n [] before earlier good none = refl
 lines-no_fault n (line ∷ lines) before earlier good none =
-    let placed : Placed = record { context = context_of before; earlier = earlier; line = line } in
+    let placed : LineInContext = record { context = context_of before; earlier = earlier; line = line } in
     let here = declared_at placed in
-    let next = adding_all earlier here in
-    let later = placed_after (before ++ item_of line ∷ []) next lines in
+    let next = with_declarations earlier here in
+    let later = lines_in_context_after (before ++ content_of line ∷ []) next lines in
     let more = flat_map declared_at later in
     let parts = sym (refusals_in_turn-append here more earlier) ∙ none in
-    let form = no_faults (those_of (tests_at placed)) (first_so (has_good_form placed) (list_all has_good_form later) good) in
+    let form = no_faults (those_of (tests_at placed)) (first_so (is_well_formed placed) (list_all is_well_formed later) good) in
     let fine = no_fault (tests_at placed) earlier here form (left_none (refusals_in_turn earlier here) (refusals_in_turn next more) parts) in
     ap (λ (o : Option FaultKind). option_or (option_map (fault_on_line n) o) (first_line_fault (n + 1) later)) fine
-    ∙ lines-no_fault (n + 1) lines (before ++ item_of line ∷ []) next (second_so (has_good_form placed) (list_all has_good_form later) good)
+    ∙ lines-no_fault (n + 1) lines (before ++ content_of line ∷ []) next (second_so (is_well_formed placed) (list_all is_well_formed later) good)
     (right_none (refusals_in_turn earlier here) (refusals_in_turn next more) parts)
 
 pub no_fault-from_declares : (bytes : List ℕ) (m : LinearModel) → DeclaresMps bytes m → first_mps_fault bytes ≡ None
 no_fault-from_declares bytes m declares =
-    let items = map item_of (read_lines bytes) in
+    let items = map content_of (read_lines bytes) in
     let same = lines-declare [] empty_draft (read_lines bytes) in
-    let formed = second_so (has_end bytes) (list_all has_good_form (placed_lines bytes)) declares.text in
-    let good : have_good_form [] empty_draft items ≡ true = items-good [] empty_draft (read_lines bytes) formed in
+    let formed = second_so (has_end bytes) (list_all is_well_formed (lines_in_context bytes)) declares.text in
+    let good : are_well_formed [] empty_draft items ≡ true = items-good [] empty_draft (read_lines bytes) formed in
     let means : Means (declared_items [] empty_draft items) m = subst (λ (ds : Declarations). Means ds m) same declares.means in
     let known = known-lines items [] empty_draft good ordered-nil means.consistent.known in
     let none = none-from_means (declared_items [] empty_draft items) m (lines-legal items [] empty_draft good) known means in
     (λ i. option_or (lines-no_fault 1 (read_lines bytes) [] empty_draft formed (ap (refusals_in_turn empty_draft) same ∙ none.0) i) (whole_mps_fault bytes))
-    ∙ rw (first_so (has_end bytes) (list_all has_good_form (placed_lines bytes)) declares.text) (ap (λ (ds : Declarations). file_fault (draft_of ds)) same ∙ none.1)
+    ∙ rw (first_so (has_end bytes) (list_all is_well_formed (lines_in_context bytes)) declares.text) (ap (λ (ds : Declarations). file_fault (draft_of ds)) same ∙ none.1)
 
 pub model-or_fault : DeclareOrFail
 model-or_fault = one_of_both DeclaresMps first_mps_fault no_fault-from_declares

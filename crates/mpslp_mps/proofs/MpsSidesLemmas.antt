@@ -5,8 +5,8 @@ use Rattle.std.specs.List.{list_all, flat_map}
 use Rattle.std.specs.Option.{option_map_or}
 use Rattle.std.specs.Cmp.{first_so, second_so}
 use Rattle.mpslp_types.specs.Name.{same_bytes}
-use Rattle.mpslp_builder.specs.Declaration.{RowForm, by_type, Declaration, declare_sense, declare_objective, declare_constant, declare_row, declare_rhs, declare_range, declare_column, declare_coefficient, declare_lower, declare_upper, declare_marked, declare_integer, declare_binary, declare_semi, Declarations, Draft, empty_draft, adding, adding_all, at_name, has_name, has_row, is_objective, is_free_form, is_free_row, rhs_declared}
-use Rattle.mpslp_core.specs.Lists.{when}
+use Rattle.mpslp_builder.specs.Declaration.{RowDefinition, by_type, Declaration, declare_sense, declare_objective, declare_constant, declare_row, declare_rhs, declare_range, declare_column, declare_coefficient, declare_lower, declare_upper, declare_marked, declare_integer, declare_binary, declare_semi, Declarations, Draft, empty_draft, with_declaration, with_declarations, at_name, has_name, has_row, is_objective, is_free_definition, is_free_row, rhs_declared}
+use Rattle.mpslp_model_core.specs.Lists.{when}
 use Rattle.mpslp_types.specs.FaultOrder.{least_kind}
 use Rattle.mpslp_types.specs.declared.kinds.Limit.{Limit}
 use Rattle.mpslp_types.specs.declared.kinds.RowType.{RowType}
@@ -14,27 +14,27 @@ use Rattle.mpslp_types.specs.declared.kinds.RowType.TheVariants.{Free, AtMost, A
 use Rattle.mpslp_types.specs.declared.faults.FaultKind.{FaultKind}
 use Rattle.mpslp_types.specs.declared.faults.FaultKind.TheVariants as kinds
 use Rattle.mpslp_types.proofs.BoolLemmas.{or_right}
-use Rattle.mpslp_builder.proofs.MadeDrafts.{adding_all-append}
+use Rattle.mpslp_builder.proofs.MadeDrafts.{with_declarations-append}
 use Rattle.mpslp_builder.proofs.SlotLemmas.{at-put, has-put, same_name}
-use Rattle.mpslp_mps.specs.Line.{Fields, Item, skipped, header, data_line}
+use Rattle.mpslp_mps.specs.Line.{Fields, LineContent, skipped, header, data_line}
 use Rattle.mpslp_mps.specs.Section.{section_named}
 use Rattle.mpslp_mps.specs.DataLine.{RowLine, Pair, ValuesLine, word_shape, row_shape, row_type, column_shape, is_marker_line, vector_shape}
 use Rattle.mpslp_mps.specs.BoundLine.{BoundLine, bound_type, bound_shape}
 use Rattle.mpslp_mps.specs.Context.{Context}
-use Rattle.mpslp_mps.specs.LineMeaning.{declared_of, sense_declared, is_new_objective, row_of_type, row_declared, coefficient_declared, column_declared, columns_line_declared, right_sides_declared, ranges_declared, bound_declared, bound_value, bound_line_declared, default_objective, data_declared, header_declared, declared}
-use Rattle.mpslp_reading.specs.Field.{value_of}
-use Rattle.mpslp_reading.specs.Declaring.{declaring_faults, declared_fault}
-use Rattle.mpslp_mps.proofs.PlacedLemmas.{form_faults}
+use Rattle.mpslp_mps.specs.LineDeclarations.{declared_if_some, sense_declared, is_new_objective, row_of_type, row_declared, coefficient_declared, column_declared, columns_line_declared, rhs_line_declared, ranges_declared, bound_declared, bound_value, bound_line_declared, default_objective, data_declared, header_declared, line_declares}
+use Rattle.mpslp_lines.specs.Field.{value_of}
+use Rattle.mpslp_lines.specs.Declaring.{declaring_faults, declared_fault}
+use Rattle.mpslp_mps.proofs.ContextLineLemmas.{form_faults}
 use Rattle.mpslp_mps.specs.LineAnswer.{item_fault}
 use Rattle.mpslp_mps.specs.VectorDeclared.{HasMpsSides}
 use Rattle.mpslp_mps.specs.declared.bound_types.BoundType.{BoundType}
 use Rattle.mpslp_mps.specs.declared.bound_types.BoundType.TheVariants as bounds
 use Rattle.mpslp_mps.specs.declared.sections.Section.{Section}
 use Rattle.mpslp_mps.specs.declared.sections.Section.TheVariants.{Name, ObjSense, ObjName, Rows, Columns, Rhs, Ranges, Bounds, EndData}
-use Rattle.mpslp_reading.proofs.LeastLemmas.{earlier_of, least-append}
+use Rattle.mpslp_lines.proofs.LeastLemmas.{earlier_of, least-append}
 use Rattle.mpslp_mps.proofs.OrderLemmas.{each-declared, each-flat, each-mapped, sense-passes}
-use Rattle.mpslp_reading.proofs.RefusedLemmas.{declared-one, declared-append}
-use Rattle.mpslp_mps.proofs.RightSideLemmas.{side_kind, limited, side_fault, same_free, sides-after}
+use Rattle.mpslp_lines.proofs.RefusedLemmas.{declared-one, declared-append}
+use Rattle.mpslp_mps.proofs.RhsLemmas.{side_kind, limited, side_fault, same_free, sides-after}
 
 pub empty_sides : HasMpsSides empty_draft
 empty_sides = record { known = λ row h. absurd cc; limited = λ row h. refl; constant = refl }
@@ -52,7 +52,7 @@ stays (declare_row name form) = false
 stays (declare_rhs row value) = false
 stays _ = true
 
-stays-one : (all : Draft) (d : Declaration) → stays d ≡ true → HasMpsSides all → HasMpsSides (adding all d)
+stays-one : (all : Draft) (d : Declaration) → stays d ≡ true → HasMpsSides all → HasMpsSides (with_declaration all d)
 stays-one all (declare_sense sense) h sides = record { known = sides.known; limited = sides.limited; constant = sides.constant }
 stays-one all (declare_objective name) h sides = cc
 stays-one all (declare_constant value) h sides = cc
@@ -68,16 +68,16 @@ stays-one all (declare_integer column) h sides = record { known = sides.known; l
 stays-one all (declare_binary column) h sides = record { known = sides.known; limited = sides.limited; constant = sides.constant }
 stays-one all (declare_semi column) h sides = record { known = sides.known; limited = sides.limited; constant = sides.constant }
 
-stays-kept : (ds : Declarations) (all : Draft) → list_all stays ds ≡ true → HasMpsSides all → HasMpsSides (adding_all all ds)
+stays-kept : (ds : Declarations) (all : Draft) → list_all stays ds ≡ true → HasMpsSides all → HasMpsSides (with_declarations all ds)
 stays-kept [] all h sides = sides
-stays-kept (d ∷ ds) all h sides = stays-kept ds (adding all d) (second_so (stays d) (list_all stays ds) h) (stays-one all d (first_so (stays d) (list_all stays ds) h) sides)
+stays-kept (d ∷ ds) all h sides = stays-kept ds (with_declaration all d) (second_so (stays d) (list_all stays ds) h) (stays-one all d (first_so (stays d) (list_all stays ds) h) sides)
 
-sense-stays : (fields : Fields) → list_all stays (declared_of sense_declared (word_shape fields)) ≡ true
+sense-stays : (fields : Fields) → list_all stays (declared_if_some sense_declared (word_shape fields)) ≡ true
 sense-stays fields = sense-passes stays (λ s. refl) fields
 
 columns-stay : (context : Context) (fields : Fields) → list_all stays (columns_line_declared context fields) ≡ true
 columns-stay context fields =
-    elim (is_marker_line fields) as (λ b. list_all stays (cond b [] (declared_of (column_declared context) (column_shape fields))) ≡ true) [
+    elim (is_marker_line fields) as (λ b. list_all stays (cond b [] (declared_if_some (column_declared context) (column_shape fields))) ≡ true) [
       | true ↦ refl
       | false ↦ each-declared stays (column_declared context) (column_shape fields) line
     ]
@@ -91,7 +91,7 @@ columns-stay context fields =
         marked parts.name (flat_map (coefficient_declared parts.name) parts.pairs) context.in_integer_part
         (each-flat stays (coefficient_declared parts.name) parts.pairs (λ pair. refl))
 
-ranges-stay : (fields : Fields) → list_all stays (declared_of ranges_declared (vector_shape fields)) ≡ true
+ranges-stay : (fields : Fields) → list_all stays (declared_if_some ranges_declared (vector_shape fields)) ≡ true
 ranges-stay fields =
     each-declared stays ranges_declared (vector_shape fields)
     (λ line. each-mapped stays (λ (pair : Pair). declare_range pair.row (value_of pair.literal)) line.pairs (λ pair. refl))
@@ -111,25 +111,25 @@ bound-stays bounds.SemiUpper column value = refl
 bounds-stay : (fields : Fields) → list_all stays (bound_line_declared fields) ≡ true
 bounds-stay [] = refl
 bounds-stay (letters ∷ more) =
-    each-declared stays (λ type. declared_of (λ (line : BoundLine). bound_declared type line.column (bound_value line)) (bound_shape type more)) (bound_type letters)
+    each-declared stays (λ type. declared_if_some (λ (line : BoundLine). bound_declared type line.column (bound_value line)) (bound_shape type more)) (bound_type letters)
     (λ type. each-declared stays (λ (line : BoundLine). bound_declared type line.column (bound_value line)) (bound_shape type more) (λ line. bound-stays type line.column (bound_value line)))
 
 -- ---- the objective and rows
 
 -- an objective where there is none
-objective-kept : (all : Draft) (name : List ℕ) → all.objective ≡ None → HasMpsSides all → HasMpsSides (adding all (declare_objective name))
+objective-kept : (all : Draft) (name : List ℕ) → all.objective ≡ None → HasMpsSides all → HasMpsSides (with_declaration all (declare_objective name))
 objective-kept all name none sides = record { known = known; limited = sides.limited; constant = sides.constant }
   where
-    known : (row : List ℕ) → has_name all.rhs_values row ≡ true → has_row (adding all (declare_objective name)) row ≡ true
+    known : (row : List ℕ) → has_name all.rhs_values row ≡ true → has_row (with_declaration all (declare_objective name)) row ≡ true
     known row h =
         let named : has_name all.rows row ≡ true = ap (λ (o : Option (List ℕ)). option_map_or (same_bytes row) o false || has_name all.rows row) (sym none) ∙ sides.known row h in
         or_right (same_bytes row name) (has_name all.rows row) named
 
 -- a row of a new name
-row-kept : (all : Draft) (name : List ℕ) (form : RowForm) → has_row all name ≡ false → HasMpsSides all → HasMpsSides (adding all (declare_row name form))
+row-kept : (all : Draft) (name : List ℕ) (form : RowDefinition) → has_row all name ≡ false → HasMpsSides all → HasMpsSides (with_declaration all (declare_row name form))
 row-kept all name form new sides = record { known = known; limited = limits; constant = sides.constant }
   where
-    known : (row : List ℕ) → has_name all.rhs_values row ≡ true → has_row (adding all (declare_row name form)) row ≡ true
+    known : (row : List ℕ) → has_name all.rhs_values row ≡ true → has_row (with_declaration all (declare_row name form)) row ≡ true
     known row h = ap (λ (b : Bool). is_objective all row || b) (has-put row name form all.rows) ∙ by (is_objective all row) (same_bytes row name) (has_name all.rows row) (sides.known row h)
       where
         by : (a b c : Bool) → (a || c) ≡ true → (a || (b || c)) ≡ true
@@ -137,15 +137,15 @@ row-kept all name form new sides = record { known = known; limited = limits; con
         by false true c k = refl
         by false false c k = k
 
-    limits : (row : List ℕ) → is_free_row (adding all (declare_row name form)) row ≡ true → has_name all.rhs_values row ≡ false
+    limits : (row : List ℕ) → is_free_row (with_declaration all (declare_row name form)) row ≡ true → has_name all.rhs_values row ≡ false
     limits row h =
-        by (same_bytes row name) refl (sym (ap (λ (o : Option RowForm). option_map_or is_free_form o false) (at-put row name form all.rows)) ∙ h)
+        by (same_bytes row name) refl (sym (ap (λ (o : Option RowDefinition). option_map_or is_free_definition o false) (at-put row name form all.rows)) ∙ h)
       where
         none : (b : Bool) → has_name all.rhs_values row ≡ b → has_row all row ≡ false → has_name all.rhs_values row ≡ false
         none true given absent = let there = sides.known row given in cc
         none false given absent = given
 
-        by : (b : Bool) → same_bytes row name ≡ b → option_map_or is_free_form (cond b (Some form) (at_name all.rows row)) false ≡ true → has_name all.rhs_values row ≡ false
+        by : (b : Bool) → same_bytes row name ≡ b → option_map_or is_free_definition (cond b (Some form) (at_name all.rows row)) false ≡ true → has_name all.rhs_values row ≡ false
         by true same k = none (has_name all.rhs_values row) refl (ap (has_row all) (same_name row name same) ∙ new)
         by false same k = sides.limited row k
 
@@ -164,34 +164,34 @@ new_row all name type fault_is = by (has_row all name) (sym is ∙ fault_is)
     by true k = cc
     by false k = refl
 
-objective-or_row : (context : Context) (all : Draft) (name : List ℕ) → declared_fault all (row_of_type context all name Free) ≡ None → HasMpsSides all → HasMpsSides (adding_all all (row_of_type context all name Free))
+objective-or_row : (context : Context) (all : Draft) (name : List ℕ) → declared_fault all (row_of_type context all name Free) ≡ None → HasMpsSides all → HasMpsSides (with_declarations all (row_of_type context all name Free))
 objective-or_row context all name fault_is sides = by (is_new_objective context all name) refl fault_is
   where
     by : (b : Bool) → is_new_objective context all name ≡ b → declared_fault all (cond b (declare_objective name ∷ []) (declare_row name (by_type Free) ∷ [])) ≡ None
-        → HasMpsSides (adding_all all (cond b (declare_objective name ∷ []) (declare_row name (by_type Free) ∷ [])))
-    by true new k = objective-kept all name (none_so all.objective (first_so (is_none all.objective) (option_map_or (same_bytes name) context.objective_name true) new)) sides
+        → HasMpsSides (with_declarations all (cond b (declare_objective name ∷ []) (declare_row name (by_type Free) ∷ [])))
+    by true new k = objective-kept all name (none_so all.objective (first_so (is_none all.objective) (option_map_or (same_bytes name) context.objname true) new)) sides
     by false there k = row-kept all name (by_type Free) (new_row all name Free k) sides
 
-rows-kept : (context : Context) (all : Draft) (fields : Fields) → declared_fault all (declared_of (row_declared context all) (row_shape fields)) ≡ None → HasMpsSides all
-    → HasMpsSides (adding_all all (declared_of (row_declared context all) (row_shape fields)))
+rows-kept : (context : Context) (all : Draft) (fields : Fields) → declared_fault all (declared_if_some (row_declared context all) (row_shape fields)) ≡ None → HasMpsSides all
+    → HasMpsSides (with_declarations all (declared_if_some (row_declared context all) (row_shape fields)))
 rows-kept context all fields fault_is sides = lined (row_shape fields) fault_is
   where
-    typed : (name : List ℕ) (o : Option RowType) → declared_fault all (declared_of (row_of_type context all name) o) ≡ None → HasMpsSides (adding_all all (declared_of (row_of_type context all name) o))
+    typed : (name : List ℕ) (o : Option RowType) → declared_fault all (declared_if_some (row_of_type context all name) o) ≡ None → HasMpsSides (with_declarations all (declared_if_some (row_of_type context all name) o))
     typed name None k = sides
     typed name (Some Free) k = objective-or_row context all name k sides
     typed name (Some AtMost) k = row-kept all name (by_type AtMost) (new_row all name AtMost k) sides
     typed name (Some AtLeast) k = row-kept all name (by_type AtLeast) (new_row all name AtLeast k) sides
     typed name (Some Equal) k = row-kept all name (by_type Equal) (new_row all name Equal k) sides
 
-    lined : (o : Option RowLine) → declared_fault all (declared_of (row_declared context all) o) ≡ None → HasMpsSides (adding_all all (declared_of (row_declared context all) o))
+    lined : (o : Option RowLine) → declared_fault all (declared_if_some (row_declared context all) o) ≡ None → HasMpsSides (with_declarations all (declared_if_some (row_declared context all) o))
     lined None k = sides
     lined (Some line) k = typed line.name (row_type line.letter) k
 
-default-kept : (context : Context) (all : Draft) → HasMpsSides all → HasMpsSides (adding_all all (default_objective context all))
-default-kept context all sides = by (is_none all.objective && is_none context.objective_name) refl
+default-kept : (context : Context) (all : Draft) → HasMpsSides all → HasMpsSides (with_declarations all (default_objective context all))
+default-kept context all sides = by (is_none all.objective && is_none context.objname) refl
   where
-    by : (b : Bool) → (is_none all.objective && is_none context.objective_name) ≡ b → HasMpsSides (adding_all all (cond b (declare_objective (codes "obj") ∷ []) []))
-    by true none = objective-kept all (codes "obj") (none_so all.objective (first_so (is_none all.objective) (is_none context.objective_name) none)) sides
+    by : (b : Bool) → (is_none all.objective && is_none context.objname) ≡ b → HasMpsSides (with_declarations all (cond b (declare_objective (codes "obj") ∷ []) []))
+    by true none = objective-kept all (codes "obj") (none_so all.objective (first_so (is_none all.objective) (is_none context.objname) none)) sides
     by false there = sides
 
 -- ---- right sides
@@ -203,31 +203,31 @@ there_so false sided h = cc
 -- by the rows before the line, which are those after each of its right sides
 pairs-kept : (pairs : List Pair) (earlier all : Draft) → ((row : List ℕ) → is_free_row all row ≡ is_free_row earlier row) → HasMpsSides all
     → declared_fault all (flat_map (λ (pair : Pair). rhs_declared earlier pair.row (value_of pair.literal)) pairs) ≡ None
-    → HasMpsSides (adding_all all (flat_map (λ (pair : Pair). rhs_declared earlier pair.row (value_of pair.literal)) pairs))
+    → HasMpsSides (with_declarations all (flat_map (λ (pair : Pair). rhs_declared earlier pair.row (value_of pair.literal)) pairs))
 pairs-kept [] earlier all free sides fault_is = sides
 pairs-kept (pair ∷ pairs) earlier all free sides fault_is =
     let value = value_of pair.literal in
     let here = rhs_declared earlier pair.row value in
     let more = flat_map (λ (pair : Pair). rhs_declared earlier pair.row (value_of pair.literal)) pairs in
     let same : rhs_declared all pair.row value ≡ here = ap (λ (b : Bool). cond b [] (declare_rhs pair.row value ∷ [])) (free pair.row) in
-    let none = both_none (declared_fault all here) (declared_fault (adding_all all here) more) (sym (declared-append here more all) ∙ fault_is) in
+    let none = both_none (declared_fault all here) (declared_fault (with_declarations all here) more) (sym (declared-append here more all) ∙ fault_is) in
     let there = there_so (has_row all pair.row) _ (sym (side_fault all pair.row value (limited all sides)) ∙ ap (declared_fault all) same ∙ none.0) in
-    let next = subst (λ (ds : Declarations). HasMpsSides (adding_all all ds)) same (sides-after all pair.row value sides there) in
-    let after : (row : List ℕ) → is_free_row (adding_all all here) row ≡ is_free_row earlier row =
-    λ row. ap (λ (ds : Declarations). is_free_row (adding_all all ds) row) (sym same) ∙ same_free all pair.row value row ∙ free row in
-    subst HasMpsSides (sym (adding_all-append here more all)) (pairs-kept pairs earlier (adding_all all here) after next none.1)
+    let next = subst (λ (ds : Declarations). HasMpsSides (with_declarations all ds)) same (sides-after all pair.row value sides there) in
+    let after : (row : List ℕ) → is_free_row (with_declarations all here) row ≡ is_free_row earlier row =
+    λ row. ap (λ (ds : Declarations). is_free_row (with_declarations all ds) row) (sym same) ∙ same_free all pair.row value row ∙ free row in
+    subst HasMpsSides (sym (with_declarations-append here more all)) (pairs-kept pairs earlier (with_declarations all here) after next none.1)
 
-rhs_values-kept : (all : Draft) (fields : Fields) → declared_fault all (declared_of (right_sides_declared all) (vector_shape fields)) ≡ None → HasMpsSides all
-    → HasMpsSides (adding_all all (declared_of (right_sides_declared all) (vector_shape fields)))
+rhs_values-kept : (all : Draft) (fields : Fields) → declared_fault all (declared_if_some (rhs_line_declared all) (vector_shape fields)) ≡ None → HasMpsSides all
+    → HasMpsSides (with_declarations all (declared_if_some (rhs_line_declared all) (vector_shape fields)))
 rhs_values-kept all fields fault_is sides = lined (vector_shape fields) fault_is
   where
-    lined : (o : Option ValuesLine) → declared_fault all (declared_of (right_sides_declared all) o) ≡ None → HasMpsSides (adding_all all (declared_of (right_sides_declared all) o))
+    lined : (o : Option ValuesLine) → declared_fault all (declared_if_some (rhs_line_declared all) o) ≡ None → HasMpsSides (with_declarations all (declared_if_some (rhs_line_declared all) o))
     lined None k = sides
     lined (Some line) k = pairs-kept line.pairs all all (λ row. refl) sides k
 
 -- ---- a line
 
-header-kept : (context : Context) (earlier : Draft) (more : Fields) (o : Option Section) → HasMpsSides earlier → HasMpsSides (adding_all earlier (header_declared context earlier more o))
+header-kept : (context : Context) (earlier : Draft) (more : Fields) (o : Option Section) → HasMpsSides earlier → HasMpsSides (with_declarations earlier (header_declared context earlier more o))
 header-kept context earlier more None sides = sides
 header-kept context earlier more (Some Name) sides = sides
 header-kept context earlier more (Some ObjSense) sides = stays-kept (header_declared context earlier more (Some ObjSense)) earlier (sense-stays more) sides
@@ -240,7 +240,7 @@ header-kept context earlier more (Some Bounds) sides = sides
 header-kept context earlier more (Some EndData) sides = sides
 
 data-kept : (context : Context) (earlier : Draft) (fields : Fields) (o : Option Section) → declared_fault earlier (data_declared context earlier fields o) ≡ None → HasMpsSides earlier
-    → HasMpsSides (adding_all earlier (data_declared context earlier fields o))
+    → HasMpsSides (with_declarations earlier (data_declared context earlier fields o))
 data-kept context earlier fields None fault_is sides = sides
 data-kept context earlier fields (Some Name) fault_is sides = sides
 data-kept context earlier fields (Some ObjSense) fault_is sides = stays-kept (data_declared context earlier fields (Some ObjSense)) earlier (sense-stays fields) sides
@@ -248,13 +248,13 @@ data-kept context earlier fields (Some ObjName) fault_is sides = sides
 data-kept context earlier fields (Some Rows) fault_is sides = rows-kept context earlier fields fault_is sides
 data-kept context earlier fields (Some Columns) fault_is sides = stays-kept (columns_line_declared context fields) earlier (columns-stay context fields) sides
 data-kept context earlier fields (Some Rhs) fault_is sides = rhs_values-kept earlier fields fault_is sides
-data-kept context earlier fields (Some Ranges) fault_is sides = stays-kept (declared_of ranges_declared (vector_shape fields)) earlier (ranges-stay fields) sides
+data-kept context earlier fields (Some Ranges) fault_is sides = stays-kept (declared_if_some ranges_declared (vector_shape fields)) earlier (ranges-stay fields) sides
 data-kept context earlier fields (Some Bounds) fault_is sides = stays-kept (bound_line_declared fields) earlier (bounds-stay fields) sides
 data-kept context earlier fields (Some EndData) fault_is sides = sides
 
 -- after a line that has no fault
-pub sides-kept : (context : Context) (earlier : Draft) (item : Item) → item_fault context earlier item ≡ None → HasMpsSides earlier
-    → HasMpsSides (adding_all earlier (declared context earlier item))
+pub sides-kept : (context : Context) (earlier : Draft) (item : LineContent) → item_fault context earlier item ≡ None → HasMpsSides earlier
+    → HasMpsSides (with_declarations earlier (line_declares context earlier item))
 sides-kept context earlier skipped fault_is sides = sides
 sides-kept context earlier (header keyword more) fault_is sides = header-kept context earlier more (section_named keyword) sides
 sides-kept context earlier (data_line fields) fault_is sides =

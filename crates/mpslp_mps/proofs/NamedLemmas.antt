@@ -3,35 +3,35 @@ use Rattle.std.proofs.Common.{◌≡◌, refl, sym, ap, ◌∙◌, ℕ, ◌+◌,
 use Rattle.std.specs.Prelude.{◌||◌, Option, Some, None, is_some}
 use Rattle.std.specs.List.{list_any}
 use Rattle.std.specs.Option.{option_map, option_or}
-use Rattle.mpslp_builder.specs.Declaration.{Draft, adding_all}
-use Rattle.mpslp_core.specs.Lists.{those_of}
-use Rattle.mpslp_reading.proofs.LeastLemmas.{least-none}
+use Rattle.mpslp_builder.specs.Declaration.{Draft, with_declarations}
+use Rattle.mpslp_model_core.specs.Lists.{those_of}
+use Rattle.mpslp_lines.proofs.LeastLemmas.{least-none}
 use Rattle.mpslp_types.specs.declared.faults.Fault.{Fault}
 use Rattle.mpslp_types.specs.declared.faults.FaultKind.{FaultKind}
-use Rattle.mpslp_mps.specs.Line.{Fields, Item, skipped, header, data_line, item_of}
-use Rattle.mpslp_mps.specs.Section.{has, section_named, section_begun, begins}
+use Rattle.mpslp_mps.specs.Line.{Fields, LineContent, skipped, header, data_line, content_of}
+use Rattle.mpslp_mps.specs.Section.{has, section_named, section_of_header, begins}
 use Rattle.mpslp_mps.specs.Context.{Context}
 use Rattle.mpslp_mps.specs.NextContext.{next_context}
 use Rattle.mpslp_mps.specs.HeaderFault.{header_tests}
-use Rattle.mpslp_mps.specs.LineMeaning.{header_declared, declared}
-use Rattle.mpslp_reading.specs.Declaring.{declaring_faults}
+use Rattle.mpslp_mps.specs.LineDeclarations.{header_declared, line_declares}
+use Rattle.mpslp_lines.specs.Declaring.{declaring_faults}
 use Rattle.mpslp_mps.specs.MpsText.{is_end}
 use Rattle.mpslp_mps.specs.LineAnswer.{item_fault}
 use Rattle.mpslp_mps.specs.FirstFault.{line_fault}
-use Rattle.mpslp_reading.specs.LineAnswer.{fault_on_line}
-use Rattle.mpslp_mps.specs.Reading.{placed_in, context_after, draft_after, fault_from, draft_from}
-use Rattle.mpslp_mps.specs.ReadingAnswer.{lines_to_end}
+use Rattle.mpslp_lines.specs.LineAnswer.{fault_on_line}
+use Rattle.mpslp_mps.specs.LineByLine.{placed_in, context_after, draft_after, fault_from, draft_from}
+use Rattle.mpslp_mps.specs.ReadAnswer.{lines_to_end}
 use Rattle.mpslp_mps.specs.declared.sections.Section.TheVariants.{Columns, EndData}
 use Rattle.mpslp_builder.proofs.RefusalLemmas.{left_none}
 use Rattle.mpslp_mps.proofs.SectionLemmas.{has-more}
 use Rattle.mpslp_mps.proofs.ObjectiveLemmas.{columns-name, end-after}
-use Rattle.mpslp_reading.proofs.ObjectiveLemmas.{named-after}
+use Rattle.mpslp_lines.proofs.ObjectiveLemmas.{named-after}
 use Rattle.mpslp_mps.proofs.EndLemmas.{up_to_end-last, up_to_end-more}
 use Rattle.mpslp_mps.proofs.LoopLemmas.{no-item}
 
 -- once COLUMNS has begun, the objective is there
 abbrev pub HasName : Context → Draft → Type 0
-HasName context earlier = has context.seen Columns ≡ true → is_some earlier.objective ≡ true
+HasName context earlier = has context.sections_seen Columns ≡ true → is_some earlier.objective ≡ true
 
 -- a header without a fault has a good form
 header_good : (context : Context) (earlier : Draft) (keyword : List ℕ) (more : Fields) → item_fault context earlier (header keyword more) ≡ None
@@ -41,24 +41,24 @@ header_good context earlier keyword more none =
     let tests = header_tests context earlier keyword more (section_named keyword) in
     left_none (those_of tests) faults (least-none (those_of tests ++ faults) none)
 
-named_begun : (context : Context) (earlier : Draft) (item : Item) → item_fault context earlier item ≡ None → begins Columns item ≡ true
-    → is_some (adding_all earlier (declared context earlier item)).objective ≡ true
+named_begun : (context : Context) (earlier : Draft) (item : LineContent) → item_fault context earlier item ≡ None → begins Columns item ≡ true
+    → is_some (with_declarations earlier (line_declares context earlier item)).objective ≡ true
 named_begun context earlier skipped none h = cc
 named_begun context earlier (header keyword more) none h =
     columns-name context earlier keyword more (section_named keyword) (header_good context earlier keyword more none) h
 named_begun context earlier (data_line fields) none h = cc
 
-named_next : (context : Context) (earlier : Draft) (item : Item) → item_fault context earlier item ≡ None → HasName context earlier
-    → HasName (next_context context item) (adding_all earlier (declared context earlier item))
-named_next context earlier item none named h = by (has context.seen Columns) refl (sym (has-more Columns context.seen (section_begun item)) ∙ h)
+named_next : (context : Context) (earlier : Draft) (item : LineContent) → item_fault context earlier item ≡ None → HasName context earlier
+    → HasName (next_context context item) (with_declarations earlier (line_declares context earlier item))
+named_next context earlier item none named h = by (has context.sections_seen Columns) refl (sym (has-more Columns context.sections_seen (section_of_header item)) ∙ h)
   where
-    by : (b : Bool) → has context.seen Columns ≡ b → (b || begins Columns item) ≡ true → is_some (adding_all earlier (declared context earlier item)).objective ≡ true
-    by true e k = named-after (declared context earlier item) earlier (named e)
+    by : (b : Bool) → has context.sections_seen Columns ≡ b → (b || begins Columns item) ≡ true → is_some (with_declarations earlier (line_declares context earlier item)).objective ≡ true
+    by true e k = named-after (line_declares context earlier item) earlier (named e)
     by false e k = named_begun context earlier item none k
 
 -- ENDATA stands after COLUMNS
-ended_columns : (context : Context) (earlier : Draft) (item : Item) → item_fault context earlier item ≡ None → begins EndData item ≡ true
-    → has context.seen Columns ≡ true
+ended_columns : (context : Context) (earlier : Draft) (item : LineContent) → item_fault context earlier item ≡ None → begins EndData item ≡ true
+    → has context.sections_seen Columns ≡ true
 ended_columns context earlier skipped none h = cc
 ended_columns context earlier (header keyword more) none h =
     end-after context earlier keyword more (section_named keyword) (header_good context earlier keyword more none) h
@@ -93,11 +93,11 @@ named-lines_to_end (line ∷ more) n context earlier named none ended =
         let alone : fault_from n context earlier (line ∷ []) ≡ None = ap (fault_from n context earlier) (sym last) ∙ none in
         let item = no-item context earlier line (first_none n fault_is None alone) in
         ap (λ (text : List (List ℕ)). is_some (draft_from context earlier text).objective) last
-        ∙ named-after (declared context earlier (item_of line)) earlier (named (ended_columns context earlier (item_of line) item e))
+        ∙ named-after (line_declares context earlier (content_of line)) earlier (named (ended_columns context earlier (content_of line) item e))
     by false e h later =
         let next = up_to_end-more line more e in
         let both : fault_from n context earlier (line ∷ lines_to_end more) ≡ None = ap (fault_from n context earlier) (sym next) ∙ none in
         let rest = fault_from (n + 1) (context_after context line) (draft_after context earlier line) (lines_to_end more) in
         let item = no-item context earlier line (first_none n fault_is rest both) in
         ap (λ (text : List (List ℕ)). is_some (draft_from context earlier text).objective) next
-        ∙ later (named_next context earlier (item_of line) item named) (rest_none n fault_is rest both) h
+        ∙ later (named_next context earlier (content_of line) item named) (rest_none n fault_is rest both) h

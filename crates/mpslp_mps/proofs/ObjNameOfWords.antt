@@ -8,14 +8,14 @@ use Rattle.mpslp_types.specs.Name.{same_bytes}
 use Rattle.mpslp_types.specs.declared.kinds.RowType.{RowType}
 use Rattle.mpslp_types.specs.declared.kinds.RowType.TheVariants.{Free, AtMost, AtLeast, Equal}
 use Rattle.mpslp_types.proofs.BoolLemmas.{nor}
-use Rattle.mpslp_builder.specs.Declaration.{by_type, declare_objective, declare_row, Draft, adding_all}
-use Rattle.mpslp_core.specs.Lists.{when}
-use Rattle.mpslp_reading.proofs.ObjectiveLemmas.{named-after}
-use Rattle.mpslp_mps.specs.Line.{Fields, Item, skipped, header, data_line}
-use Rattle.mpslp_mps.specs.Section.{has, section_named, section_begun, is_section}
+use Rattle.mpslp_builder.specs.Declaration.{by_type, declare_objective, declare_row, Draft, with_declarations}
+use Rattle.mpslp_model_core.specs.Lists.{when}
+use Rattle.mpslp_lines.proofs.ObjectiveLemmas.{named-after}
+use Rattle.mpslp_mps.specs.Line.{Fields, LineContent, skipped, header, data_line}
+use Rattle.mpslp_mps.specs.Section.{has, section_named, section_of_header, is_section}
 use Rattle.mpslp_mps.specs.DataLine.{RowLine, row_shape, row_type}
-use Rattle.mpslp_mps.specs.Context.{context_of, sections_begun, has_section, current_section, fields_under, data_lines, data_lines_after, objective_name}
-use Rattle.mpslp_mps.specs.LineMeaning.{declared_of, row_of_type, row_declared, data_declared, declared}
+use Rattle.mpslp_mps.specs.Context.{context_of, seen_sections, has_section, current_section, fields_under, data_lines, data_lines_after, objname}
+use Rattle.mpslp_mps.specs.LineDeclarations.{declared_if_some, row_of_type, row_declared, data_declared, line_declares}
 use Rattle.mpslp_mps.specs.TextInWords.{is_free, is_free_row_named, has_free_row}
 use Rattle.mpslp_mps.specs.declared.sections.Section.{Section}
 use Rattle.mpslp_mps.specs.declared.sections.Section.TheVariants.{Rows}
@@ -25,11 +25,11 @@ use Rattle.mpslp_mps.proofs.WordsOfFields.{section-is}
 use Rattle.mpslp_mps.proofs.WordsOfObjName.{IsWantedEarly, same-name, section-begun}
 
 -- a section that has not begun, or is left for good, has no lines
-pub no-more-lines : (section : Section) (current : Option Section) (items : List Item) → is_section section current ≡ false → has_section items section ≡ false → data_lines_after section current items ≡ []
+pub no-more-lines : (section : Section) (current : Option Section) (items : List LineContent) → is_section section current ≡ false → has_section items section ≡ false → data_lines_after section current items ≡ []
 no-more-lines section current [] h k = refl
 no-more-lines section current (item ∷ items) h k = by item k (λ c e f. no-more-lines section c items e f)
   where
-    of : (o : Option Section) → has (cons_option o (sections_begun items)) section ≡ false
+    of : (o : Option Section) → has (cons_option o (seen_sections items)) section ≡ false
         → ((c : Option Section) → is_section section c ≡ false → has_section items section ≡ false → data_lines_after section c items ≡ [])
         → data_lines_after section (option_or o current) items ≡ []
     of None e rest = rest current h e
@@ -37,36 +37,36 @@ no-more-lines section current (item ∷ items) h k = by item k (λ c e f. no-mor
         let parts = nor (is_section section (Some s)) (has_section items section) e in
         rest (Some s) parts.0 parts.1
 
-    by : (x : Item) → has_section (x ∷ items) section ≡ false
+    by : (x : LineContent) → has_section (x ∷ items) section ≡ false
         → ((c : Option Section) → is_section section c ≡ false → has_section items section ≡ false → data_lines_after section c items ≡ [])
-        → fields_under section current x ++ data_lines_after section (option_or (section_begun x) current) items ≡ []
+        → fields_under section current x ++ data_lines_after section (option_or (section_of_header x) current) items ≡ []
     by skipped e rest = rest current h e
     by (header keyword more) e rest = of (section_named keyword) e rest
     by (data_line fields) e rest = ap (λ (b : Bool). when b fields ++ data_lines_after section current items) h ∙ rest current h e
 
 -- an N row of the name that was told is the objective
-abbrev pub IsDeclared : List Item → Draft → Type 0
-IsDeclared before earlier = (told : List ℕ) → objective_name before ≡ Some told → has_free_row before told ≡ true → is_some earlier.objective ≡ true
+abbrev pub IsDeclared : List LineContent → Draft → Type 0
+IsDeclared before earlier = (told : List ℕ) → objname before ≡ Some told → has_free_row before told ≡ true → is_some earlier.objective ≡ true
 
-rows_begun : (before : List Item) (told : List ℕ) → has_free_row before told ≡ true → has_section before Rows ≡ true
+rows_begun : (before : List LineContent) (told : List ℕ) → has_free_row before told ≡ true → has_section before Rows ≡ true
 rows_begun before told h = by (has_section before Rows) refl
   where
     by : (b : Bool) → has_section before Rows ≡ b → has_section before Rows ≡ true
     by true e = e
     by false e = let none : has_free_row before told ≡ false = ap (list_any (is_free_row_named told)) (no-more-lines Rows None before refl e) in cc
 
-pub declared-kept : (before : List Item) (earlier : Draft) (item : Item) → IsGood before earlier item → IsWantedEarly before → IsDeclared before earlier
-    → IsDeclared (before ++ item ∷ []) (adding_all earlier (declared (context_of before) earlier item))
+pub declared-kept : (before : List LineContent) (earlier : Draft) (item : LineContent) → IsGood before earlier item → IsWantedEarly before → IsDeclared before earlier
+    → IsDeclared (before ++ item ∷ []) (with_declarations earlier (line_declares (context_of before) earlier item))
 declared-kept before earlier item good early there told name row = by item good name
     (sym (ap (list_any (is_free_row_named told)) (data_lines-push Rows before item)
     ∙ list_any-append (is_free_row_named told) (data_lines Rows before) (fields_under Rows (current_section before) item)) ∙ row)
   where
-    next : Item → Draft
-    next x = adding_all earlier (declared (context_of before) earlier x)
+    next : LineContent → Draft
+    next x = with_declarations earlier (line_declares (context_of before) earlier x)
 
-    old : (x : Item) → IsGood before earlier x → objective_name (before ++ x ∷ []) ≡ Some told → has_free_row before told ≡ true → is_some (next x).objective ≡ true
+    old : (x : LineContent) → IsGood before earlier x → objname (before ++ x ∷ []) ≡ Some told → has_free_row before told ≡ true → is_some (next x).objective ≡ true
     old x g n r =
-        named-after (declared (context_of before) earlier x) earlier
+        named-after (line_declares (context_of before) earlier x) earlier
         (there told (sym (same-name before earlier x g early (rows_begun before told r)) ∙ n) r)
 
     only : (b : Bool) → (b || false) ≡ true → b ≡ true
@@ -74,44 +74,44 @@ declared-kept before earlier item good early there told name row = by item good 
     only false e = e
 
     -- the first one that is told so is declared here, if none was before
-    new_row : (line : RowLine) (o : Option (List ℕ)) → earlier.objective ≡ o → objective_name before ≡ Some told → row_type line.letter ≡ Some Free → same_bytes line.name told ≡ true
-        → is_some (adding_all earlier (row_declared (context_of before) earlier line)).objective ≡ true
+    new_row : (line : RowLine) (o : Option (List ℕ)) → earlier.objective ≡ o → objname before ≡ Some told → row_type line.letter ≡ Some Free → same_bytes line.name told ≡ true
+        → is_some (with_declarations earlier (row_declared (context_of before) earlier line)).objective ≡ true
     new_row line (Some other) e n t s = named-after (row_declared (context_of before) earlier line) earlier (ap (λ (o : Option (List ℕ)). is_some o) e)
     new_row line None e n t s =
-        let new : (is_none earlier.objective && option_map_or (same_bytes line.name) (objective_name before) true) ≡ true =
-        ap (λ (o : Option (List ℕ)). is_none o && option_map_or (same_bytes line.name) (objective_name before) true) e ∙ ap (λ (o : Option (List ℕ)). option_map_or (same_bytes line.name) o true) n ∙ s in
-        ap (λ (o : Option RowType). is_some (adding_all earlier (declared_of (row_of_type (context_of before) earlier line.name) o)).objective) t
-        ∙ ap (λ (b : Bool). is_some (adding_all earlier (cond b (declare_objective line.name ∷ []) (declare_row line.name (by_type Free) ∷ []))).objective) new
+        let new : (is_none earlier.objective && option_map_or (same_bytes line.name) (objname before) true) ≡ true =
+        ap (λ (o : Option (List ℕ)). is_none o && option_map_or (same_bytes line.name) (objname before) true) e ∙ ap (λ (o : Option (List ℕ)). option_map_or (same_bytes line.name) o true) n ∙ s in
+        ap (λ (o : Option RowType). is_some (with_declarations earlier (declared_if_some (row_of_type (context_of before) earlier line.name) o)).objective) t
+        ∙ ap (λ (b : Bool). is_some (with_declarations earlier (cond b (declare_objective line.name ∷ []) (declare_row line.name (by_type Free) ∷ []))).objective) new
 
-    of_type : (line : RowLine) → objective_name before ≡ Some told → (o : Option RowType) → row_type line.letter ≡ o → (is_free o && same_bytes line.name told) ≡ true
-        → is_some (adding_all earlier (row_declared (context_of before) earlier line)).objective ≡ true
+    of_type : (line : RowLine) → objname before ≡ Some told → (o : Option RowType) → row_type line.letter ≡ o → (is_free o && same_bytes line.name told) ≡ true
+        → is_some (with_declarations earlier (row_declared (context_of before) earlier line)).objective ≡ true
     of_type line n None t k = cc
     of_type line n (Some Free) t k = new_row line earlier.objective refl n t k
     of_type line n (Some AtMost) t k = cc
     of_type line n (Some AtLeast) t k = cc
     of_type line n (Some Equal) t k = cc
 
-    of_row : (o : Option RowLine) → objective_name before ≡ Some told → option_map_or (λ (line : RowLine). is_free (row_type line.letter) && same_bytes line.name told) o false ≡ true
-        → is_some (adding_all earlier (declared_of (row_declared (context_of before) earlier) o)).objective ≡ true
+    of_row : (o : Option RowLine) → objname before ≡ Some told → option_map_or (λ (line : RowLine). is_free (row_type line.letter) && same_bytes line.name told) o false ≡ true
+        → is_some (with_declarations earlier (declared_if_some (row_declared (context_of before) earlier) o)).objective ≡ true
     of_row None n k = cc
     of_row (Some line) n k = of_type line n (row_type line.letter) refl k
 
-    in_rows : (fields : Fields) → IsGood before earlier (data_line fields) → objective_name (before ++ data_line fields ∷ []) ≡ Some told → is_section Rows (current_section before) ≡ true
+    in_rows : (fields : Fields) → IsGood before earlier (data_line fields) → objname (before ++ data_line fields ∷ []) ≡ Some told → is_section Rows (current_section before) ≡ true
         → (b : Bool) → has_free_row before told ≡ b → (b || (is_free_row_named told fields || false)) ≡ true → is_some (next (data_line fields)).objective ≡ true
     in_rows fields g n here true e k = old (data_line fields) g n e
     in_rows fields g n here false e k =
-        subst (λ o. is_some (adding_all earlier (data_declared (context_of before) earlier fields o)).objective ≡ true) (sym (section-is Rows (current_section before) here))
-        (of_row (row_shape fields) (sym (same-name before earlier (data_line fields) g early (section-begun Rows (sections_begun before) here)) ∙ n) (only (is_free_row_named told fields) k))
+        subst (λ o. is_some (with_declarations earlier (data_declared (context_of before) earlier fields o)).objective ≡ true) (sym (section-is Rows (current_section before) here))
+        (of_row (row_shape fields) (sym (same-name before earlier (data_line fields) g early (section-begun Rows (seen_sections before) here)) ∙ n) (only (is_free_row_named told fields) k))
 
-    none_new : (x : Item) → IsGood before earlier x → objective_name (before ++ x ∷ []) ≡ Some told → (has_free_row before told || false) ≡ true → is_some (next x).objective ≡ true
+    none_new : (x : LineContent) → IsGood before earlier x → objname (before ++ x ∷ []) ≡ Some told → (has_free_row before told || false) ≡ true → is_some (next x).objective ≡ true
     none_new x g n k = old x g n (only (has_free_row before told) k)
 
-    under : (fields : Fields) → IsGood before earlier (data_line fields) → objective_name (before ++ data_line fields ∷ []) ≡ Some told → (b : Bool) → is_section Rows (current_section before) ≡ b
+    under : (fields : Fields) → IsGood before earlier (data_line fields) → objname (before ++ data_line fields ∷ []) ≡ Some told → (b : Bool) → is_section Rows (current_section before) ≡ b
         → (has_free_row before told || list_any (is_free_row_named told) (when b fields)) ≡ true → is_some (next (data_line fields)).objective ≡ true
     under fields g n true e k = in_rows fields g n e (has_free_row before told) refl k
     under fields g n false e k = none_new (data_line fields) g n k
 
-    by : (x : Item) → IsGood before earlier x → objective_name (before ++ x ∷ []) ≡ Some told
+    by : (x : LineContent) → IsGood before earlier x → objname (before ++ x ∷ []) ≡ Some told
         → (has_free_row before told || list_any (is_free_row_named told) (fields_under Rows (current_section before) x)) ≡ true → is_some (next x).objective ≡ true
     by skipped g n k = none_new skipped g n k
     by (header keyword more) g n k = none_new (header keyword more) g n k

@@ -2,29 +2,29 @@
 use Rattle.std.proofs.Common.{◌≡◌, refl, sym, ap, ◌∙◌, List, [], ◌∷◌, ◌++◌, ℕ, Bool, true, false, cond, map}
 use Rattle.std.specs.Prelude.{Option, Some, None, is_some, is_none, ◌&&◌, ◌||◌, codes}
 use Rattle.std.specs.List.{list_any}
-use Rattle.mpslp_builder.specs.Declaration.{declare_objective, Draft, adding_all}
-use Rattle.mpslp_core.specs.Lists.{those_of}
-use Rattle.mpslp_builder.proofs.MadeDrafts.{adding_all-append}
-use Rattle.mpslp_reading.proofs.ObjectiveLemmas.{named-after}
-use Rattle.mpslp_mps.specs.Line.{Fields, Item, skipped, header, data_line, item_of}
+use Rattle.mpslp_builder.specs.Declaration.{declare_objective, Draft, with_declarations}
+use Rattle.mpslp_model_core.specs.Lists.{those_of}
+use Rattle.mpslp_builder.proofs.MadeDrafts.{with_declarations-append}
+use Rattle.mpslp_lines.proofs.ObjectiveLemmas.{named-after}
+use Rattle.mpslp_mps.specs.Line.{Fields, LineContent, skipped, header, data_line, content_of}
 use Rattle.mpslp_mps.specs.Section.{has, section_named, begins, is_section}
 use Rattle.mpslp_mps.specs.Context.{Context, context_of, has_section}
-use Rattle.mpslp_mps.specs.LineMeaning.{header_declared, declared}
+use Rattle.mpslp_mps.specs.LineDeclarations.{header_declared, line_declares}
 use Rattle.mpslp_mps.specs.HeaderFault.{header_tests}
 use Rattle.mpslp_mps.specs.MpsText.{is_end}
 use Rattle.mpslp_mps.specs.declared.sections.Section.{Section}
 use Rattle.mpslp_mps.specs.declared.sections.Section.TheVariants.{Name, ObjSense, ObjName, Rows, Columns, Rhs, Ranges, Bounds, EndData}
 use Rattle.mpslp_mps.proofs.SectionLemmas.{has_section-push}
-use Rattle.mpslp_mps.proofs.PlacedLemmas.{declared_items, have_good_form}
+use Rattle.mpslp_mps.proofs.ContextLineLemmas.{declared_items, are_well_formed}
 use Rattle.mpslp_mps.proofs.OrderLemmas.{header-begins, header-complete, IsGood}
 use Rattle.mpslp_mps.proofs.KnownLemmas.{good-first, good-rest}
 
 -- once COLUMNS has begun the objective is there
-abbrev pub IsNamed : List Item → Draft → Type 0
+abbrev pub IsNamed : List LineContent → Draft → Type 0
 IsNamed before earlier = has_section before Columns ≡ true → is_some earlier.objective ≡ true
 
 pub columns-name : (context : Context) (earlier : Draft) (keyword : List ℕ) (more : Fields) (o : Option Section) → those_of (header_tests context earlier keyword more o) ≡ []
-    → is_section Columns o ≡ true → is_some (adding_all earlier (header_declared context earlier more o)).objective ≡ true
+    → is_section Columns o ≡ true → is_some (with_declarations earlier (header_declared context earlier more o)).objective ≡ true
 columns-name context earlier keyword more None h e = cc
 columns-name context earlier keyword more (Some Name) h e = cc
 columns-name context earlier keyword more (Some ObjSense) h e = cc
@@ -32,34 +32,34 @@ columns-name context earlier keyword more (Some ObjName) h e = cc
 columns-name context earlier keyword more (Some Rows) h e = cc
 columns-name context earlier keyword more (Some Columns) h e = by earlier.objective refl (header-complete context earlier keyword more h)
   where
-    unnamed : (wanted : Option (List ℕ)) → (true && is_some wanted) ≡ false
-        → is_some (adding_all earlier (cond (true && is_none wanted) (declare_objective (codes "obj") ∷ []) [])).objective ≡ true
+    unnamed : (word_due : Option (List ℕ)) → (true && is_some word_due) ≡ false
+        → is_some (with_declarations earlier (cond (true && is_none word_due) (declare_objective (codes "obj") ∷ []) [])).objective ≡ true
     unnamed None k = refl
     unnamed (Some name) k = cc
 
-    by : (o : Option (List ℕ)) → earlier.objective ≡ o → (is_none o && is_some context.objective_name) ≡ false
-        → is_some (adding_all earlier (cond (is_none o && is_none context.objective_name) (declare_objective (codes "obj") ∷ []) [])).objective ≡ true
-    by None is k = unnamed context.objective_name k
+    by : (o : Option (List ℕ)) → earlier.objective ≡ o → (is_none o && is_some context.objname) ≡ false
+        → is_some (with_declarations earlier (cond (is_none o && is_none context.objname) (declare_objective (codes "obj") ∷ []) [])).objective ≡ true
+    by None is k = unnamed context.objname k
     by (Some name) is k = ap (λ (o : Option (List ℕ)). is_some o) is
 columns-name context earlier keyword more (Some Rhs) h e = cc
 columns-name context earlier keyword more (Some Ranges) h e = cc
 columns-name context earlier keyword more (Some Bounds) h e = cc
 columns-name context earlier keyword more (Some EndData) h e = cc
 
-named-push : (before : List Item) (earlier : Draft) (item : Item) → IsGood before earlier item → IsNamed before earlier → IsNamed (before ++ item ∷ []) (adding_all earlier (declared (context_of before) earlier item))
+named-push : (before : List LineContent) (earlier : Draft) (item : LineContent) → IsGood before earlier item → IsNamed before earlier → IsNamed (before ++ item ∷ []) (with_declarations earlier (line_declares (context_of before) earlier item))
 named-push before earlier item good named begun = by (has_section before Columns) refl (sym (has_section-push Columns before item) ∙ begun)
   where
-    new : (x : Item) → IsGood before earlier x → begins Columns x ≡ true → is_some (adding_all earlier (declared (context_of before) earlier x)).objective ≡ true
+    new : (x : LineContent) → IsGood before earlier x → begins Columns x ≡ true → is_some (with_declarations earlier (line_declares (context_of before) earlier x)).objective ≡ true
     new skipped g h = cc
     new (header keyword more) g h = columns-name (context_of before) earlier keyword more (section_named keyword) g h
     new (data_line fields) g h = cc
 
-    by : (b : Bool) → has_section before Columns ≡ b → (b || begins Columns item) ≡ true → is_some (adding_all earlier (declared (context_of before) earlier item)).objective ≡ true
-    by true e k = named-after (declared (context_of before) earlier item) earlier (named e)
+    by : (b : Bool) → has_section before Columns ≡ b → (b || begins Columns item) ≡ true → is_some (with_declarations earlier (line_declares (context_of before) earlier item)).objective ≡ true
+    by true e k = named-after (line_declares (context_of before) earlier item) earlier (named e)
     by false e k = new item good k
 
 -- ENDATA stands after COLUMNS
-pub end-after : (context : Context) (earlier : Draft) (keyword : List ℕ) (more : Fields) (o : Option Section) → those_of (header_tests context earlier keyword more o) ≡ [] → is_section EndData o ≡ true → has context.seen Columns ≡ true
+pub end-after : (context : Context) (earlier : Draft) (keyword : List ℕ) (more : Fields) (o : Option Section) → those_of (header_tests context earlier keyword more o) ≡ [] → is_section EndData o ≡ true → has context.sections_seen Columns ≡ true
 end-after context earlier keyword more None h e = cc
 end-after context earlier keyword more (Some Name) h e = cc
 end-after context earlier keyword more (Some ObjSense) h e = cc
@@ -72,20 +72,20 @@ end-after context earlier keyword more (Some Bounds) h e = cc
 end-after context earlier keyword more (Some EndData) h e = header-begins context earlier keyword more EndData h
 
 -- lines of a good form, one of which is ENDATA
-pub named-lines : (lines : List (List ℕ)) (before : List Item) (earlier : Draft) → list_any is_end lines ≡ true → have_good_form before earlier (map item_of lines) ≡ true → IsNamed before earlier
-    → is_some (adding_all earlier (declared_items before earlier (map item_of lines))).objective ≡ true
+pub named-lines : (lines : List (List ℕ)) (before : List LineContent) (earlier : Draft) → list_any is_end lines ≡ true → are_well_formed before earlier (map content_of lines) ≡ true → IsNamed before earlier
+    → is_some (with_declarations earlier (declared_items before earlier (map content_of lines))).objective ≡ true
 named-lines [] before earlier h g named = cc
 named-lines (line ∷ lines) before earlier h g named =
-    let item = item_of line in
-    let here = declared (context_of before) earlier item in
-    let more = declared_items (before ++ item ∷ []) (adding_all earlier here) (map item_of lines) in
-    elim (is_end line) as (λ b. is_end line ≡ b → (b || list_any is_end lines) ≡ true → is_some (adding_all earlier (here ++ more)).objective ≡ true) [
-      | true ↦ λ e _. named-after (here ++ more) earlier (named (at_end item e (good-first before earlier item (map item_of lines) g)))
-      | false ↦ λ _ k. ap (λ (all : Draft). is_some all.objective) (adding_all-append here more earlier)
-          ∙ named-lines lines (before ++ item ∷ []) (adding_all earlier here) k (good-rest before earlier item (map item_of lines) g) (named-push before earlier item (good-first before earlier item (map item_of lines) g) named)
+    let item = content_of line in
+    let here = line_declares (context_of before) earlier item in
+    let more = declared_items (before ++ item ∷ []) (with_declarations earlier here) (map content_of lines) in
+    elim (is_end line) as (λ b. is_end line ≡ b → (b || list_any is_end lines) ≡ true → is_some (with_declarations earlier (here ++ more)).objective ≡ true) [
+      | true ↦ λ e _. named-after (here ++ more) earlier (named (at_end item e (good-first before earlier item (map content_of lines) g)))
+      | false ↦ λ _ k. ap (λ (all : Draft). is_some all.objective) (with_declarations-append here more earlier)
+          ∙ named-lines lines (before ++ item ∷ []) (with_declarations earlier here) k (good-rest before earlier item (map content_of lines) g) (named-push before earlier item (good-first before earlier item (map content_of lines) g) named)
     ] refl h
   where
-    at_end : (x : Item) → begins EndData x ≡ true → IsGood before earlier x → has_section before Columns ≡ true
+    at_end : (x : LineContent) → begins EndData x ≡ true → IsGood before earlier x → has_section before Columns ≡ true
     at_end skipped e good = cc
     at_end (header keyword m) e good = end-after (context_of before) earlier keyword m (section_named keyword) good e
     at_end (data_line fields) e good = cc

@@ -4,47 +4,47 @@ use Rattle.std.specs.Prelude.{Option, Some, None, is_some, ◌||◌}
 use Rattle.std.specs.List.{cons_option}
 use Rattle.std.specs.Option.{option_map_or, option_or}
 use Rattle.mpslp_types.proofs.BoolLemmas.{nor}
-use Rattle.mpslp_core.specs.Lists.{when}
-use Rattle.mpslp_mps.specs.Line.{Fields, Item, skipped, header, data_line}
-use Rattle.mpslp_mps.specs.Section.{has, section_named, section_begun, is_section}
-use Rattle.mpslp_mps.specs.Context.{sections_begun, has_section, current_section, said_after, is_read, word_wanted, wanting, wanted}
+use Rattle.mpslp_model_core.specs.Lists.{when}
+use Rattle.mpslp_mps.specs.Line.{Fields, LineContent, skipped, header, data_line}
+use Rattle.mpslp_mps.specs.Section.{has, section_named, section_of_header, is_section}
+use Rattle.mpslp_mps.specs.Context.{seen_sections, has_section, current_section, said_after, is_read, section_of_word_due, word_due_after, word_due}
 use Rattle.mpslp_mps.specs.TextInWords.{word_fields, words_in, is_one_word, has_word_at_most}
 use Rattle.mpslp_mps.specs.declared.sections.Section.{Section}
 use Rattle.mpslp_mps.specs.declared.sections.Section.TheVariants.{Name, ObjSense, ObjName, Rows, Columns, Rhs, Ranges, Bounds, EndData}
 use Rattle.mpslp_mps.proofs.OrderLemmas.{never}
 use Rattle.mpslp_mps.proofs.SectionLemmas.{current_section-push}
-use Rattle.mpslp_mps.proofs.ContextLemmas.{wanted-push}
+use Rattle.mpslp_mps.proofs.ContextLemmas.{word_due-push}
 use Rattle.mpslp_mps.proofs.WordsOfOneWord.{fits_word, is_single, missing, without_word, with_word, IsUnderway}
-use Rattle.mpslp_mps.proofs.WordsOfObjName.{none-wanted}
+use Rattle.mpslp_mps.proofs.WordsOfObjName.{none-word_due}
 
 -- ---- a word is wanted under OBJSENSE or OBJNAME alone
 
-abbrev pub IsWantedThere : List Item → Type 0
-IsWantedThere before = is_some (wanted before) ≡ true → (is_section ObjSense (current_section before) || is_section ObjName (current_section before)) ≡ true
+abbrev pub IsWantedThere : List LineContent → Type 0
+IsWantedThere before = is_some (word_due before) ≡ true → (is_section ObjSense (current_section before) || is_section ObjName (current_section before)) ≡ true
 
-pub wanted_there-kept : (before : List Item) (item : Item) → IsWantedThere before → IsWantedThere (before ++ item ∷ [])
+pub wanted_there-kept : (before : List LineContent) (item : LineContent) → IsWantedThere before → IsWantedThere (before ++ item ∷ [])
 wanted_there-kept before item there h =
     ap (λ (o : Option Section). is_section ObjSense o || is_section ObjName o) (current_section-push before item)
-    ∙ by item (sym (ap (λ (o : Option Section). is_some o) (wanted-push before item)) ∙ h)
+    ∙ by item (sym (ap (λ (o : Option Section). is_some o) (word_due-push before item)) ∙ h)
   where
-    named : (more : Fields) (s : Section) → is_some (word_wanted s more) ≡ true → (is_section ObjSense (Some s) || is_section ObjName (Some s)) ≡ true
-    named more Name k = absurd (none-wanted Name more refl k)
+    named : (more : Fields) (s : Section) → is_some (section_of_word_due s more) ≡ true → (is_section ObjSense (Some s) || is_section ObjName (Some s)) ≡ true
+    named more Name k = absurd (none-word_due Name more refl k)
     named more ObjSense k = refl
     named more ObjName k = refl
-    named more Rows k = absurd (none-wanted Rows more refl k)
-    named more Columns k = absurd (none-wanted Columns more refl k)
-    named more Rhs k = absurd (none-wanted Rhs more refl k)
-    named more Ranges k = absurd (none-wanted Ranges more refl k)
-    named more Bounds k = absurd (none-wanted Bounds more refl k)
-    named more EndData k = absurd (none-wanted EndData more refl k)
+    named more Rows k = absurd (none-word_due Rows more refl k)
+    named more Columns k = absurd (none-word_due Columns more refl k)
+    named more Rhs k = absurd (none-word_due Rhs more refl k)
+    named more Ranges k = absurd (none-word_due Ranges more refl k)
+    named more Bounds k = absurd (none-word_due Bounds more refl k)
+    named more EndData k = absurd (none-word_due EndData more refl k)
 
-    of : (more : Fields) (o : Option Section) → is_some (option_map_or (λ (s : Section). word_wanted s more) o None) ≡ true
+    of : (more : Fields) (o : Option Section) → is_some (option_map_or (λ (s : Section). section_of_word_due s more) o None) ≡ true
         → (is_section ObjSense (option_or o (current_section before)) || is_section ObjName (option_or o (current_section before))) ≡ true
     of more None k = cc
     of more (Some s) k = named more s k
 
-    by : (x : Item) → is_some (cond (is_read x) (wanting x) (wanted before)) ≡ true
-        → (is_section ObjSense (option_or (section_begun x) (current_section before)) || is_section ObjName (option_or (section_begun x) (current_section before))) ≡ true
+    by : (x : LineContent) → is_some (cond (is_read x) (word_due_after x) (word_due before)) ≡ true
+        → (is_section ObjSense (option_or (section_of_header x) (current_section before)) || is_section ObjName (option_or (section_of_header x) (current_section before))) ≡ true
     by skipped k = there k
     by (header keyword more) k = of more (section_named keyword) k
     by (data_line fields) k = cc
@@ -63,8 +63,8 @@ too-many test ((word ∷ []) ∷ next ∷ rest) fields more h k = cc
 too-many test ((word ∷ other ∷ others) ∷ rest) fields more h k = cc
 
 -- a data line of the section holds its word, which was wanted
-pub line-single : (section : Section) (test : List ℕ → Bool) (before : List Item) (fields : Fields) (more : List Fields) → IsUnderway section test before → is_section section (current_section before) ≡ true
-    → has_word_at_most test (words_in section before ++ fields ∷ more) ≡ true → (is_some (wanted before) ≡ true) × (is_single test fields ≡ true)
+pub line-single : (section : Section) (test : List ℕ → Bool) (before : List LineContent) (fields : Fields) (more : List Fields) → IsUnderway section test before → is_section section (current_section before) ≡ true
+    → has_word_at_most test (words_in section before ++ fields ∷ more) ≡ true → (is_some (word_due before) ≡ true) × (is_single test fields ≡ true)
 line-single section test before fields more (missing, (a, b, c)) here h = absurd (never (is_section section (current_section before)) here c)
 line-single section test before fields more (with_word, (a, b, c)) here h = absurd (too-many test (words_in section before) fields more a h)
 line-single section test before fields more (without_word, (a, b, c, d)) here h = (d, by fields more (sym (ap (λ (w : List Fields). has_word_at_most test (w ++ fields ∷ more)) a) ∙ h))
@@ -76,7 +76,7 @@ line-single section test before fields more (without_word, (a, b, c, d)) here h 
     by (word ∷ other ∷ others) rest k = cc
 
 -- its header holds its word, or nothing
-pub header-fits : (section : Section) (test : List ℕ → Bool) (before : List Item) (fields : Fields) (more : List Fields) → IsUnderway section test before → has_section before section ≡ false
+pub header-fits : (section : Section) (test : List ℕ → Bool) (before : List LineContent) (fields : Fields) (more : List Fields) → IsUnderway section test before → has_section before section ≡ false
     → has_word_at_most test (words_in section before ++ fields ∷ more) ≡ true → fits_word test fields ≡ true
 header-fits section test before fields more (without_word, (a, b, c, d)) fresh h = absurd (never (has_section before section) b fresh)
 header-fits section test before fields more (with_word, (a, b, c)) fresh h = absurd (never (has_section before section) b fresh)
@@ -89,11 +89,11 @@ header-fits section test before fields more (missing, (a, b, c)) fresh h = by fi
     by (word ∷ other ∷ others) rest k = cc
 
 -- a section that has begun, and is left, has no words more
-pub no-more-words : (section : Section) (current : Option Section) (items : List Item) → is_section section current ≡ false → has_section items section ≡ false → said_after (word_fields section) current items ≡ []
+pub no-more-words : (section : Section) (current : Option Section) (items : List LineContent) → is_section section current ≡ false → has_section items section ≡ false → said_after (word_fields section) current items ≡ []
 no-more-words section current [] h k = refl
 no-more-words section current (item ∷ items) h k = by item k (λ c e f. no-more-words section c items e f)
   where
-    of : (o : Option Section) (more : Fields) → has (cons_option o (sections_begun items)) section ≡ false
+    of : (o : Option Section) (more : Fields) → has (cons_option o (seen_sections items)) section ≡ false
         → ((c : Option Section) → is_section section c ≡ false → has_section items section ≡ false → said_after (word_fields section) c items ≡ [])
         → when (is_section section o) more ++ said_after (word_fields section) (option_or o current) items ≡ []
     of None more e rest = rest current h e
@@ -101,16 +101,16 @@ no-more-words section current (item ∷ items) h k = by item k (λ c e f. no-mor
         let parts = nor (is_section section (Some s)) (has_section items section) e in
         ap (λ (b : Bool). when b more ++ said_after (word_fields section) (Some s) items) parts.0 ∙ rest (Some s) parts.0 parts.1
 
-    by : (x : Item) → has_section (x ∷ items) section ≡ false
+    by : (x : LineContent) → has_section (x ∷ items) section ≡ false
         → ((c : Option Section) → is_section section c ≡ false → has_section items section ≡ false → said_after (word_fields section) c items ≡ [])
-        → word_fields section current x ++ said_after (word_fields section) (option_or (section_begun x) current) items ≡ []
+        → word_fields section current x ++ said_after (word_fields section) (option_or (section_of_header x) current) items ≡ []
     by skipped e rest = rest current h e
     by (header keyword more) e rest = of (section_named keyword) more e rest
     by (data_line fields) e rest = ap (λ (b : Bool). when b fields ++ said_after (word_fields section) current items) h ∙ rest current h e
 
 -- a section that wants its word is left by no header
-pub not-left : (section : Section) (test : List ℕ → Bool) (before : List Item) → IsUnderway section test before → is_section section (current_section before) ≡ true → is_some (wanted before) ≡ true
+pub not-left : (section : Section) (test : List ℕ → Bool) (before : List LineContent) → IsUnderway section test before → is_section section (current_section before) ≡ true → is_some (word_due before) ≡ true
     → has_word_at_most test (words_in section before) ≡ true → ⊥
 not-left section test before (missing, (a, b, c)) here there h = never (is_section section (current_section before)) here c
-not-left section test before (with_word, (a, b, c)) here there h = never (is_some (wanted before)) there (c here)
+not-left section test before (with_word, (a, b, c)) here there h = never (is_some (word_due before)) there (c here)
 not-left section test before (without_word, (a, b, c, d)) here there h = let k : has_word_at_most test ([] ∷ []) ≡ true = sym (ap (has_word_at_most test) a) ∙ h in cc

@@ -6,23 +6,23 @@ use Rattle.std.specs.Option.{option_or}
 use Rattle.std.specs.Cmp.{first_so, second_so}
 use Rattle.std.proofs.lemmas.List.Folds.{list_all-append}
 use Rattle.mpslp_decimal.specs.Decimal.{Number}
-use Rattle.mpslp_builder.specs.Declaration.{Declaration, declare_sense, declare_objective, declare_constant, declare_row, declare_rhs, declare_range, declare_column, declare_coefficient, declare_lower, declare_upper, declare_marked, declare_integer, declare_binary, declare_semi, Declarations, Draft, adding, adding_all, is_free_row, has_row, has_column, rhs_declared}
-use Rattle.mpslp_core.specs.Lists.{those_of}
+use Rattle.mpslp_builder.specs.Declaration.{Declaration, declare_sense, declare_objective, declare_constant, declare_row, declare_rhs, declare_range, declare_column, declare_coefficient, declare_lower, declare_upper, declare_marked, declare_integer, declare_binary, declare_semi, Declarations, Draft, with_declaration, with_declarations, is_free_row, has_row, has_column, rhs_declared}
+use Rattle.mpslp_model_core.specs.Lists.{those_of}
 use Rattle.mpslp_types.specs.declared.kinds.Sense.{Sense}
 use Rattle.mpslp_types.specs.declared.kinds.Limit.{Limit}
 use Rattle.mpslp_types.specs.declared.faults.FaultKind.TheVariants as kinds
 use Rattle.mpslp_types.proofs.BoolLemmas.{both_so, or_left, or_right, nor}
-use Rattle.mpslp_reading.proofs.HeldLemmas.{first_test, later_tests}
-use Rattle.mpslp_mps.specs.Line.{Fields, Item, skipped, header, data_line}
-use Rattle.mpslp_mps.specs.Section.{has, section_named, section_begun, begins, is_section}
+use Rattle.mpslp_lines.proofs.HeldLemmas.{first_test, later_tests}
+use Rattle.mpslp_mps.specs.Line.{Fields, LineContent, skipped, header, data_line}
+use Rattle.mpslp_mps.specs.Section.{has, section_named, section_of_header, begins, is_section}
 use Rattle.mpslp_mps.specs.DataLine.{Pair, ValuesLine, word_shape, sense_of, column_shape, is_marker_line, vector_shape}
 use Rattle.mpslp_mps.specs.BoundLine.{BoundLine, bound_type, bound_shape}
 use Rattle.mpslp_mps.specs.Context.{Context, context_of, current_section, has_section}
-use Rattle.mpslp_mps.specs.LineMeaning.{declared_of, sense_declared, coefficient_declared, column_declared, columns_line_declared, right_sides_declared, ranges_declared, bound_declared, bound_value, bound_line_declared}
-use Rattle.mpslp_reading.specs.Field.{value_of}
-use Rattle.mpslp_reading.specs.Tests.{Tests}
+use Rattle.mpslp_mps.specs.LineDeclarations.{declared_if_some, sense_declared, coefficient_declared, column_declared, columns_line_declared, rhs_line_declared, ranges_declared, bound_declared, bound_value, bound_line_declared}
+use Rattle.mpslp_lines.specs.Field.{value_of}
+use Rattle.mpslp_lines.specs.FaultTests.{FaultTests}
 use Rattle.mpslp_mps.specs.HeaderFault.{may_begin, is_out_of_order, may_follow, lacks_objective, section_tests, header_tests}
-use Rattle.mpslp_mps.proofs.PlacedLemmas.{form_faults}
+use Rattle.mpslp_mps.proofs.ContextLineLemmas.{form_faults}
 use Rattle.mpslp_mps.specs.declared.sections.Section.{Section}
 use Rattle.mpslp_mps.specs.declared.sections.Section.TheVariants.{Name, ObjSense, ObjName, Rows, Columns, Rhs, Ranges, Bounds, EndData}
 use Rattle.mpslp_mps.specs.declared.bound_types.BoundType.{BoundType}
@@ -31,29 +31,29 @@ use Rattle.mpslp_mps.proofs.SectionLemmas.{current_section-push, has_section-pus
 
 -- ---- headers of a good form
 
-abbrev tests_of_fields : Context → Draft → Fields → Section → Tests
+abbrev tests_of_fields : Context → Draft → Fields → Section → FaultTests
 tests_of_fields context earlier more section = (not (may_follow section more), kinds.FieldCount) ∷ section_tests context earlier section more
 
-abbrev tests_after_order : Context → Draft → Fields → Section → Tests
-tests_after_order context earlier more section = (has context.seen section, kinds.SectionRepeated) ∷ tests_of_fields context earlier more section
+abbrev tests_after_order : Context → Draft → Fields → Section → FaultTests
+tests_after_order context earlier more section = (has context.sections_seen section, kinds.SectionRepeated) ∷ tests_of_fields context earlier more section
 
 pub header-ordered : (context : Context) (earlier : Draft) (keyword : List ℕ) (more : Fields) (section : Section) → those_of (header_tests context earlier keyword more (Some section)) ≡ []
     → is_out_of_order context section ≡ false
 header-ordered context earlier keyword more section h = first_test (is_out_of_order context section) kinds.SectionOrder (tests_after_order context earlier more section) h
 
 pub header-fresh : (context : Context) (earlier : Draft) (keyword : List ℕ) (more : Fields) (section : Section) → those_of (header_tests context earlier keyword more (Some section)) ≡ []
-    → has context.seen section ≡ false
+    → has context.sections_seen section ≡ false
 header-fresh context earlier keyword more section h =
-    first_test (has context.seen section) kinds.SectionRepeated (tests_of_fields context earlier more section)
+    first_test (has context.sections_seen section) kinds.SectionRepeated (tests_of_fields context earlier more section)
     (later_tests (is_out_of_order context section) kinds.SectionOrder (tests_after_order context earlier more section) h)
 
 pub header-begins : (context : Context) (earlier : Draft) (keyword : List ℕ) (more : Fields) (section : Section) → those_of (header_tests context earlier keyword more (Some section)) ≡ []
     → may_begin context section ≡ true
 header-begins context earlier keyword more section h =
-    by (has context.seen section) (may_begin context section) (header-fresh context earlier keyword more section h)
-    (nor (is_some context.wanted) (not (has context.seen section || may_begin context section)) (header-ordered context earlier keyword more section h)).1
+    by (has context.sections_seen section) (may_begin context section) (header-fresh context earlier keyword more section h)
+    (nor (is_some context.word_due) (not (has context.sections_seen section || may_begin context section)) (header-ordered context earlier keyword more section h)).1
   where
-    by : (seen may : Bool) → seen ≡ false → not (seen || may) ≡ false → may ≡ true
+    by : (sections_seen may : Bool) → sections_seen ≡ false → not (sections_seen || may) ≡ false → may ≡ true
     by true may e f = cc
     by false true e f = refl
     by false false e f = cc
@@ -64,17 +64,17 @@ pub header-complete : (context : Context) (earlier : Draft) (keyword : List ℕ)
 header-complete context earlier keyword more h =
     first_test (lacks_objective context earlier) kinds.UnknownRow []
     (later_tests (not (may_follow Columns more)) kinds.FieldCount (section_tests context earlier Columns more)
-    (later_tests (has context.seen Columns) kinds.SectionRepeated (tests_of_fields context earlier more Columns)
+    (later_tests (has context.sections_seen Columns) kinds.SectionRepeated (tests_of_fields context earlier more Columns)
     (later_tests (is_out_of_order context Columns) kinds.SectionOrder (tests_after_order context earlier more Columns) h)))
 
 -- ---- a section that is past
 
 -- it has begun, and another one goes on
-pub record Past (section : Section) (before : List Item) : Type 0 where
+pub record Past (section : Section) (before : List LineContent) : Type 0 where
   pub begun : has_section before section ≡ true
   pub left : is_section section (current_section before) ≡ false
 
-rows-again : (context : Context) (earlier : Draft) (keyword : List ℕ) (more : Fields) (o : Option Section) → those_of (header_tests context earlier keyword more o) ≡ [] → is_section Rows o ≡ true → has context.seen Rows ≡ false
+rows-again : (context : Context) (earlier : Draft) (keyword : List ℕ) (more : Fields) (o : Option Section) → those_of (header_tests context earlier keyword more o) ≡ [] → is_section Rows o ≡ true → has context.sections_seen Rows ≡ false
 rows-again context earlier keyword more None h e = cc
 rows-again context earlier keyword more (Some Name) h e = cc
 rows-again context earlier keyword more (Some ObjSense) h e = cc
@@ -86,7 +86,7 @@ rows-again context earlier keyword more (Some Ranges) h e = cc
 rows-again context earlier keyword more (Some Bounds) h e = cc
 rows-again context earlier keyword more (Some EndData) h e = cc
 
-columns-again : (context : Context) (earlier : Draft) (keyword : List ℕ) (more : Fields) (o : Option Section) → those_of (header_tests context earlier keyword more o) ≡ [] → is_section Columns o ≡ true → has context.seen Columns ≡ false
+columns-again : (context : Context) (earlier : Draft) (keyword : List ℕ) (more : Fields) (o : Option Section) → those_of (header_tests context earlier keyword more o) ≡ [] → is_section Columns o ≡ true → has context.sections_seen Columns ≡ false
 columns-again context earlier keyword more None h e = cc
 columns-again context earlier keyword more (Some Name) h e = cc
 columns-again context earlier keyword more (Some ObjSense) h e = cc
@@ -110,29 +110,29 @@ pub never : (b : Bool) → b ≡ true → b ≡ false → ⊥
 never true h k = cc
 never false h k = cc
 
-abbrev pub IsGood : List Item → Draft → Item → Type 0
+abbrev pub IsGood : List LineContent → Draft → LineContent → Type 0
 IsGood before earlier item = form_faults (context_of before) earlier item ≡ []
 
-pub past-rows : (before : List Item) (earlier : Draft) (item : Item) → IsGood before earlier item → Past Rows before → Past Rows (before ++ item ∷ [])
+pub past-rows : (before : List LineContent) (earlier : Draft) (item : LineContent) → IsGood before earlier item → Past Rows before → Past Rows (before ++ item ∷ [])
 past-rows before earlier item h past =
     record {
       begun = has_section-push Rows before item ∙ or_left (has_section before Rows) (begins Rows item) past.begun;
-      left = ap (is_section Rows) (current_section-push before item) ∙ stays-left Rows (section_begun item) (current_section before) (by item h) past.left;
+      left = ap (is_section Rows) (current_section-push before item) ∙ stays-left Rows (section_of_header item) (current_section before) (by item h) past.left;
     }
   where
-    by : (x : Item) → IsGood before earlier x → is_section Rows (section_begun x) ≡ true → ⊥
+    by : (x : LineContent) → IsGood before earlier x → is_section Rows (section_of_header x) ≡ true → ⊥
     by skipped g e = cc
     by (header keyword more) g e = never (has_section before Rows) past.begun (rows-again (context_of before) earlier keyword more (section_named keyword) g e)
     by (data_line fields) g e = cc
 
-pub past-columns : (before : List Item) (earlier : Draft) (item : Item) → IsGood before earlier item → Past Columns before → Past Columns (before ++ item ∷ [])
+pub past-columns : (before : List LineContent) (earlier : Draft) (item : LineContent) → IsGood before earlier item → Past Columns before → Past Columns (before ++ item ∷ [])
 past-columns before earlier item h past =
     record {
       begun = has_section-push Columns before item ∙ or_left (has_section before Columns) (begins Columns item) past.begun;
-      left = ap (is_section Columns) (current_section-push before item) ∙ stays-left Columns (section_begun item) (current_section before) (by item h) past.left;
+      left = ap (is_section Columns) (current_section-push before item) ∙ stays-left Columns (section_of_header item) (current_section before) (by item h) past.left;
     }
   where
-    by : (x : Item) → IsGood before earlier x → is_section Columns (section_begun x) ≡ true → ⊥
+    by : (x : LineContent) → IsGood before earlier x → is_section Columns (section_of_header x) ≡ true → ⊥
     by skipped g e = cc
     by (header keyword more) g e = never (has_section before Columns) past.begun (columns-again (context_of before) earlier keyword more (section_named keyword) g e)
     by (data_line fields) g e = cc
@@ -147,7 +147,7 @@ is_late (Some Ranges) = true
 is_late (Some Bounds) = true
 is_late _ = false
 
-pub record Ordered (before : List Item) : Type 0 where
+pub record Ordered (before : List LineContent) : Type 0 where
   pub rows : has_section before Columns ≡ true → has_section before Rows ≡ true
   pub columns : is_late (current_section before) ≡ true → has_section before Columns ≡ true
 
@@ -155,7 +155,7 @@ pub ordered-nil : Ordered []
 ordered-nil = record { rows = λ h. cc; columns = λ h. cc }
 
 -- COLUMNS begins after ROWS; what begins after COLUMNS
-columns-after : (context : Context) (earlier : Draft) (keyword : List ℕ) (more : Fields) (o : Option Section) → those_of (header_tests context earlier keyword more o) ≡ [] → is_section Columns o ≡ true → has context.seen Rows ≡ true
+columns-after : (context : Context) (earlier : Draft) (keyword : List ℕ) (more : Fields) (o : Option Section) → those_of (header_tests context earlier keyword more o) ≡ [] → is_section Columns o ≡ true → has context.sections_seen Rows ≡ true
 columns-after context earlier keyword more None h e = cc
 columns-after context earlier keyword more (Some Name) h e = cc
 columns-after context earlier keyword more (Some ObjSense) h e = cc
@@ -168,26 +168,26 @@ columns-after context earlier keyword more (Some Bounds) h e = cc
 columns-after context earlier keyword more (Some EndData) h e = cc
 
 late-after : (context : Context) (earlier : Draft) (keyword : List ℕ) (more : Fields) (o current : Option Section) → those_of (header_tests context earlier keyword more o) ≡ []
-    → (is_late current ≡ true → has context.seen Columns ≡ true) → is_late (option_or o current) ≡ true → (has context.seen Columns || is_section Columns o) ≡ true
-late-after context earlier keyword more None current h old e = or_left (has context.seen Columns) false (old e)
+    → (is_late current ≡ true → has context.sections_seen Columns ≡ true) → is_late (option_or o current) ≡ true → (has context.sections_seen Columns || is_section Columns o) ≡ true
+late-after context earlier keyword more None current h old e = or_left (has context.sections_seen Columns) false (old e)
 late-after context earlier keyword more (Some Name) current h old e = cc
 late-after context earlier keyword more (Some ObjSense) current h old e = cc
 late-after context earlier keyword more (Some ObjName) current h old e = cc
 late-after context earlier keyword more (Some Rows) current h old e = cc
-late-after context earlier keyword more (Some Columns) current h old e = or_right (has context.seen Columns) true refl
-late-after context earlier keyword more (Some Rhs) current h old e = or_left (has context.seen Columns) false (header-begins context earlier keyword more Rhs h)
-late-after context earlier keyword more (Some Ranges) current h old e = or_left (has context.seen Columns) false (header-begins context earlier keyword more Ranges h)
-late-after context earlier keyword more (Some Bounds) current h old e = or_left (has context.seen Columns) false (header-begins context earlier keyword more Bounds h)
+late-after context earlier keyword more (Some Columns) current h old e = or_right (has context.sections_seen Columns) true refl
+late-after context earlier keyword more (Some Rhs) current h old e = or_left (has context.sections_seen Columns) false (header-begins context earlier keyword more Rhs h)
+late-after context earlier keyword more (Some Ranges) current h old e = or_left (has context.sections_seen Columns) false (header-begins context earlier keyword more Ranges h)
+late-after context earlier keyword more (Some Bounds) current h old e = or_left (has context.sections_seen Columns) false (header-begins context earlier keyword more Bounds h)
 late-after context earlier keyword more (Some EndData) current h old e = cc
 
-pub ordered-push : (before : List Item) (earlier : Draft) (item : Item) → IsGood before earlier item → Ordered before → Ordered (before ++ item ∷ [])
+pub ordered-push : (before : List LineContent) (earlier : Draft) (item : LineContent) → IsGood before earlier item → Ordered before → Ordered (before ++ item ∷ [])
 ordered-push before earlier item h o =
     record {
       rows = λ begun. has_section-push Rows before item ∙ or_left (has_section before Rows) (begins Rows item) (earlier_rows (has_section before Columns) refl (sym (has_section-push Columns before item) ∙ begun));
       columns = λ late. has_section-push Columns before item ∙ late_columns item h (ap is_late (sym (current_section-push before item)) ∙ late);
     }
   where
-    new_rows : (x : Item) → IsGood before earlier x → begins Columns x ≡ true → has_section before Rows ≡ true
+    new_rows : (x : LineContent) → IsGood before earlier x → begins Columns x ≡ true → has_section before Rows ≡ true
     new_rows skipped g e = cc
     new_rows (header keyword more) g e = columns-after (context_of before) earlier keyword more (section_named keyword) g e
     new_rows (data_line fields) g e = cc
@@ -196,7 +196,7 @@ ordered-push before earlier item h o =
     earlier_rows true e k = o.rows e
     earlier_rows false e k = new_rows item h k
 
-    late_columns : (x : Item) → IsGood before earlier x → is_late (option_or (section_begun x) (current_section before)) ≡ true → (has_section before Columns || begins Columns x) ≡ true
+    late_columns : (x : LineContent) → IsGood before earlier x → is_late (option_or (section_of_header x) (current_section before)) ≡ true → (has_section before Columns || begins Columns x) ≡ true
     late_columns skipped g e = or_left (has_section before Columns) false (o.columns e)
     late_columns (header keyword more) g e = late-after (context_of before) earlier keyword more (section_named keyword) (current_section before) g o.columns e
     late_columns (data_line fields) g e = or_left (has_section before Columns) false (o.columns e)
@@ -218,7 +218,7 @@ no_rows ds = list_all (λ d. not (declares_row d)) ds
 abbrev pub no_columns : Declarations → Bool
 no_columns ds = list_all (λ d. not (declares_column d)) ds
 
-row-kept : (all : Draft) (d : Declaration) (r : List ℕ) → not (declares_row d) ≡ true → has_row (adding all d) r ≡ has_row all r
+row-kept : (all : Draft) (d : Declaration) (r : List ℕ) → not (declares_row d) ≡ true → has_row (with_declaration all d) r ≡ has_row all r
 row-kept all (declare_objective _) r h = cc
 row-kept all (declare_row _ _) r h = cc
 row-kept all (declare_sense _) r h = refl
@@ -234,12 +234,12 @@ row-kept all (declare_integer _) r h = refl
 row-kept all (declare_binary _) r h = refl
 row-kept all (declare_semi _) r h = refl
 
-pub rows-kept : (ds : Declarations) (all : Draft) (r : List ℕ) → no_rows ds ≡ true → has_row (adding_all all ds) r ≡ has_row all r
+pub rows-kept : (ds : Declarations) (all : Draft) (r : List ℕ) → no_rows ds ≡ true → has_row (with_declarations all ds) r ≡ has_row all r
 rows-kept [] all r h = refl
 rows-kept (d ∷ ds) all r h =
-    rows-kept ds (adding all d) r (second_so (not (declares_row d)) (no_rows ds) h) ∙ row-kept all d r (first_so (not (declares_row d)) (no_rows ds) h)
+    rows-kept ds (with_declaration all d) r (second_so (not (declares_row d)) (no_rows ds) h) ∙ row-kept all d r (first_so (not (declares_row d)) (no_rows ds) h)
 
-column-kept : (all : Draft) (d : Declaration) (c : List ℕ) → not (declares_column d) ≡ true → has_column (adding all d) c ≡ has_column all c
+column-kept : (all : Draft) (d : Declaration) (c : List ℕ) → not (declares_column d) ≡ true → has_column (with_declaration all d) c ≡ has_column all c
 column-kept all (declare_column _) c h = cc
 column-kept all (declare_objective _) c h = refl
 column-kept all (declare_row _ _) c h = refl
@@ -255,15 +255,15 @@ column-kept all (declare_integer _) c h = refl
 column-kept all (declare_binary _) c h = refl
 column-kept all (declare_semi _) c h = refl
 
-pub columns-kept : (ds : Declarations) (all : Draft) (c : List ℕ) → no_columns ds ≡ true → has_column (adding_all all ds) c ≡ has_column all c
+pub columns-kept : (ds : Declarations) (all : Draft) (c : List ℕ) → no_columns ds ≡ true → has_column (with_declarations all ds) c ≡ has_column all c
 columns-kept [] all c h = refl
 columns-kept (d ∷ ds) all c h =
-    columns-kept ds (adding all d) c (second_so (not (declares_column d)) (no_columns ds) h) ∙ column-kept all d c (first_so (not (declares_column d)) (no_columns ds) h)
+    columns-kept ds (with_declaration all d) c (second_so (not (declares_column d)) (no_columns ds) h) ∙ column-kept all d c (first_so (not (declares_column d)) (no_columns ds) h)
 
 -- ---- which lines declare none
 
 -- a test that what is declared of anything passes
-pub each-declared : {X : Type 0} (p : Declaration → Bool) (f : X → Declarations) (o : Option X) → ((x : X) → list_all p (f x) ≡ true) → list_all p (declared_of f o) ≡ true
+pub each-declared : {X : Type 0} (p : Declaration → Bool) (f : X → Declarations) (o : Option X) → ((x : X) → list_all p (f x) ≡ true) → list_all p (declared_if_some f o) ≡ true
 each-declared p f None h = refl
 each-declared p f (Some x) h = h x
 
@@ -283,16 +283,16 @@ pub record Passes (p : Declaration → Bool) : Type 0 where
   pub semi : (c : List ℕ) → p (declare_semi c) ≡ true
 
 -- a sense that is declared
-pub sense-passes : (p : Declaration → Bool) → ((s : Sense) → p (declare_sense s) ≡ true) → (fields : Fields) → list_all p (declared_of sense_declared (word_shape fields)) ≡ true
+pub sense-passes : (p : Declaration → Bool) → ((s : Sense) → p (declare_sense s) ≡ true) → (fields : Fields) → list_all p (declared_if_some sense_declared (word_shape fields)) ≡ true
 sense-passes p h fields =
     each-declared p sense_declared (word_shape fields)
     (λ word. each-declared p (λ sense. declare_sense sense ∷ []) (sense_of word) (λ s. both_so (p (declare_sense s)) true (h s) refl))
 
 -- right sides and ranges that are declared
 pub sides-passes : (p : Declaration → Bool) → ((r : List ℕ) (v : Number) → p (declare_rhs r v) ≡ true) → (earlier : Draft) (fields : Fields)
-    → list_all p (declared_of (right_sides_declared earlier) (vector_shape fields)) ≡ true
+    → list_all p (declared_if_some (rhs_line_declared earlier) (vector_shape fields)) ≡ true
 sides-passes p h earlier fields =
-    each-declared p (right_sides_declared earlier) (vector_shape fields)
+    each-declared p (rhs_line_declared earlier) (vector_shape fields)
     (λ line. each-flat p (λ (pair : Pair). rhs_declared earlier pair.row (value_of pair.literal)) line.pairs (λ pair. one pair (is_free_row earlier pair.row)))
   where
     one : (pair : Pair) (b : Bool) → list_all p (cond b [] (declare_rhs pair.row (value_of pair.literal) ∷ [])) ≡ true
@@ -300,7 +300,7 @@ sides-passes p h earlier fields =
     one pair false = both_so (p (declare_rhs pair.row (value_of pair.literal))) true (h pair.row (value_of pair.literal)) refl
 
 pub ranges-passes : (p : Declaration → Bool) → ((r : List ℕ) (v : Number) → p (declare_range r v) ≡ true) → (fields : Fields)
-    → list_all p (declared_of ranges_declared (vector_shape fields)) ≡ true
+    → list_all p (declared_if_some ranges_declared (vector_shape fields)) ≡ true
 ranges-passes p h fields =
     each-declared p ranges_declared (vector_shape fields)
     (λ line. each-mapped p (λ (pair : Pair). declare_range pair.row (value_of pair.literal)) line.pairs (λ pair. h pair.row (value_of pair.literal)))
@@ -321,7 +321,7 @@ module _ (p : Declaration → Bool) (passes : Passes p) where
   pub bounds-passes : (fields : Fields) → list_all p (bound_line_declared fields) ≡ true
   bounds-passes [] = refl
   bounds-passes (letters ∷ more) =
-      each-declared p (λ type. declared_of (λ (line : BoundLine). bound_declared type line.column (bound_value line)) (bound_shape type more)) (bound_type letters)
+      each-declared p (λ type. declared_if_some (λ (line : BoundLine). bound_declared type line.column (bound_value line)) (bound_shape type more)) (bound_type letters)
       (λ type. each-declared p (λ (line : BoundLine). bound_declared type line.column (bound_value line)) (bound_shape type more) (λ line. bound-passes type line.column (bound_value line)))
 
 -- the lines of COLUMNS declare no rows
@@ -338,7 +338,7 @@ columns-line-no-rows context fields = by (is_marker_line fields)
         marked true = cells line.name line.pairs
         marked false = cells line.name line.pairs
 
-    by : (b : Bool) → no_rows (cond b [] (declared_of (column_declared context) (column_shape fields))) ≡ true
+    by : (b : Bool) → no_rows (cond b [] (declared_if_some (column_declared context) (column_shape fields))) ≡ true
     by true = refl
     by false = each-declared (λ d. not (declares_row d)) (column_declared context) (column_shape fields) line-no-rows
 

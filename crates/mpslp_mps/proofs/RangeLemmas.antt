@@ -3,14 +3,14 @@ use Rattle.std.proofs.Common.{◌≡◌, refl, sym, ap, subst, ◌∙◌, ℕ, L
 use Rattle.std.specs.Prelude.{◌||◌, Option, Some, None, MatchResult}
 use Rattle.mpslp_decimal.specs.Decimal.{Number, is_infinite_size}
 use Rattle.mpslp_types.specs.Name.{same_bytes}
-use Rattle.mpslp_builder.specs.Declaration.{declare_range, Draft, adding, has_name, has_row, is_objective, is_free_row, is_row_by_limits}
+use Rattle.mpslp_builder.specs.Declaration.{declare_range, Draft, with_declaration, has_name, has_row, is_objective, is_free_row, is_row_by_limits}
 use Rattle.mpslp_types.specs.declared.faults.FaultKind.{FaultKind}
 use Rattle.mpslp_types.specs.declared.faults.FaultKind.TheVariants as kinds
 use Rattle.mpslp_builder.proofs.SlotLemmas.{has-put, same_name}
-use Rattle.mpslp_reading.specs.Declaring.{declared_fault}
-use Rattle.mpslp_reading.specs.LineAnswer.{LineResult, IsErrorOf}
-use Rattle.mpslp_reading.proofs.LeastLemmas.{earlier_of}
-use Rattle.mpslp_reading.proofs.RefusedLemmas.{declared-one, declared-append}
+use Rattle.mpslp_lines.specs.Declaring.{declared_fault}
+use Rattle.mpslp_lines.specs.LineAnswer.{LineResult, IsErrorOf}
+use Rattle.mpslp_lines.proofs.LeastLemmas.{earlier_of}
+use Rattle.mpslp_lines.proofs.RefusedLemmas.{declared-one, declared-append}
 
 -- the kind of the fault, by whether the row is there, has a range, can have none, and by whether the value is infinite
 abbrev range_kind : Bool → Bool → Bool → Bool → Option FaultKind
@@ -30,10 +30,10 @@ range_fault all row value =
 
 -- of another row a range says nothing
 range-apart : (all : Draft) (row : List ℕ) (value : Number) (other : List ℕ) (second : Number) → same_bytes other row ≡ false
-    → declared_fault (adding all (declare_range row value)) (declare_range other second ∷ []) ≡ declared_fault all (declare_range other second ∷ [])
+    → declared_fault (with_declaration all (declare_range row value)) (declare_range other second ∷ []) ≡ declared_fault all (declare_range other second ∷ [])
 range-apart all row value other second apart =
     let ranged = has-put other row value all.ranges ∙ ap (λ (b : Bool). b || has_name all.ranges other) apart in
-    range_fault (adding all (declare_range row value)) other second
+    range_fault (with_declaration all (declare_range row value)) other second
     ∙ ap (λ (b : Bool). range_kind (has_row all other) (b || is_row_by_limits all other) (has_no_sides all other) (is_infinite_size second)) ranged
     ∙ sym (range_fault all other second)
 
@@ -59,7 +59,7 @@ pub ranges-of_one : (all : Draft) (row : List ℕ) (value : Number) (other : Lis
     → declared_fault all (declare_range row value ∷ declare_range other second ∷ []) ≡ Some (cond (has_row all row) kinds.DuplicateRange kinds.UnknownRow)
 ranges-of_one all row value other second same =
     let ranged = has-put other row value all.ranges ∙ ap (λ (b : Bool). b || has_name all.ranges other) same in
-    let next = adding all (declare_range row value) in
+    let next = with_declaration all (declare_range row value) in
     declared-append (declare_range row value ∷ []) (declare_range other second ∷ []) all
     ∙ (λ i. earlier_of (range_fault all row value i) (range_fault next other second i))
     ∙ (λ i. earlier_of (range_kind (has_row all row) (is_ranged all row) (has_no_sides all row) (is_infinite_size value))

@@ -3,36 +3,36 @@ use Rattle.std.proofs.Common.{◌≡◌, refl, ap, ◌∙◌, ℕ, ◌+◌, List
 use Rattle.std.specs.Prelude.{Option}
 use Rattle.std.specs.List.{flat_map}
 use Rattle.std.specs.Option.{option_map, option_or}
-use Rattle.mpslp_builder.specs.Declaration.{Draft, empty_draft, adding_all, draft_of}
+use Rattle.mpslp_builder.specs.Declaration.{Draft, empty_draft, with_declarations, draft_of}
 use Rattle.mpslp_types.specs.declared.faults.Fault.{Fault}
-use Rattle.mpslp_builder.proofs.MadeDrafts.{adding_all-append}
-use Rattle.mpslp_mps.specs.Line.{Item, item_of}
+use Rattle.mpslp_builder.proofs.MadeDrafts.{with_declarations-append}
+use Rattle.mpslp_mps.specs.Line.{LineContent, content_of}
 use Rattle.mpslp_mps.specs.Context.{Context, context_of}
-use Rattle.mpslp_mps.specs.LineMeaning.{declared}
-use Rattle.mpslp_mps.specs.MpsText.{read_lines, declared_at, placed_after, declarations_of}
+use Rattle.mpslp_mps.specs.LineDeclarations.{line_declares}
+use Rattle.mpslp_mps.specs.MpsText.{read_lines, declared_at, lines_in_context_after, declarations_of}
 use Rattle.mpslp_mps.specs.FirstFault.{line_fault, first_line_fault, whole_mps_fault, first_mps_fault}
-use Rattle.mpslp_reading.specs.LineAnswer.{fault_on_line}
-use Rattle.mpslp_mps.specs.Reading.{placed_in, fault_from, draft_from}
+use Rattle.mpslp_lines.specs.LineAnswer.{fault_on_line}
+use Rattle.mpslp_mps.specs.LineByLine.{placed_in, fault_from, draft_from}
 use Rattle.mpslp_mps.proofs.ContextLemmas.{context-push}
 
-pub fault_from-is : (lines : List (List ℕ)) (n : ℕ) (before : List Item) (earlier : Draft)
-    → first_line_fault n (placed_after before earlier lines) ≡ fault_from n (context_of before) earlier lines
+pub fault_from-is : (lines : List (List ℕ)) (n : ℕ) (before : List LineContent) (earlier : Draft)
+    → first_line_fault n (lines_in_context_after before earlier lines) ≡ fault_from n (context_of before) earlier lines
 fault_from-is [] n before earlier = refl
 fault_from-is (line ∷ lines) n before earlier =
-    let next = adding_all earlier (declared (context_of before) earlier (item_of line)) in
+    let next = with_declarations earlier (line_declares (context_of before) earlier (content_of line)) in
     ap (option_or (option_map (fault_on_line n) (line_fault (placed_in (context_of before) earlier line))))
-    (fault_from-is lines (n + 1) (before ++ item_of line ∷ []) next
-    ∙ ap (λ (context : Context). fault_from (n + 1) context next lines) (context-push before (item_of line)))
+    (fault_from-is lines (n + 1) (before ++ content_of line ∷ []) next
+    ∙ ap (λ (context : Context). fault_from (n + 1) context next lines) (context-push before (content_of line)))
 
-pub draft_from-is : (lines : List (List ℕ)) (before : List Item) (earlier : Draft)
-    → adding_all earlier (flat_map declared_at (placed_after before earlier lines)) ≡ draft_from (context_of before) earlier lines
+pub draft_from-is : (lines : List (List ℕ)) (before : List LineContent) (earlier : Draft)
+    → with_declarations earlier (flat_map declared_at (lines_in_context_after before earlier lines)) ≡ draft_from (context_of before) earlier lines
 draft_from-is [] before earlier = refl
 draft_from-is (line ∷ lines) before earlier =
-    let here = declared (context_of before) earlier (item_of line) in
-    let next = adding_all earlier here in
-    adding_all-append here (flat_map declared_at (placed_after (before ++ item_of line ∷ []) next lines)) earlier
-    ∙ draft_from-is lines (before ++ item_of line ∷ []) next
-    ∙ ap (λ (context : Context). draft_from context next lines) (context-push before (item_of line))
+    let here = line_declares (context_of before) earlier (content_of line) in
+    let next = with_declarations earlier here in
+    with_declarations-append here (flat_map declared_at (lines_in_context_after (before ++ content_of line ∷ []) next lines)) earlier
+    ∙ draft_from-is lines (before ++ content_of line ∷ []) next
+    ∙ ap (λ (context : Context). draft_from context next lines) (context-push before (content_of line))
 
 -- of all the lines that are read, from the context of none
 pub first_fault-is : (bytes : List ℕ) → first_mps_fault bytes ≡ option_or (fault_from 1 (context_of []) empty_draft (read_lines bytes)) (whole_mps_fault bytes)

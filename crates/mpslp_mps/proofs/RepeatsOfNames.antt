@@ -12,21 +12,21 @@ use Rattle.mpslp_types.specs.declared.kinds.RowType.{RowType}
 use Rattle.mpslp_types.specs.declared.kinds.RowType.TheVariants.{Free, AtMost, AtLeast, Equal}
 use Rattle.mpslp_types.specs.declared.kinds.Sense.{Sense}
 use Rattle.mpslp_types.proofs.BoolLemmas.{both_so, both_false, or_left, or_right, so_not}
-use Rattle.mpslp_core.specs.Lists.{head_of, is_nonempty, those_of}
-use Rattle.mpslp_core.specs.Model.{CoefficientKey}
-use Rattle.mpslp_builder.specs.Declaration.{by_type, declare_sense, declare_objective, declare_row, declare_column, declare_coefficient, declare_marked, Draft, adding, has_row, has_entry}
+use Rattle.mpslp_model_core.specs.Lists.{head_of, is_nonempty, those_of}
+use Rattle.mpslp_model_core.specs.Model.{CoefficientKey}
+use Rattle.mpslp_builder.specs.Declaration.{by_type, declare_sense, declare_objective, declare_row, declare_column, declare_coefficient, declare_marked, Draft, with_declaration, has_row, has_coefficient}
 use Rattle.mpslp_builder.proofs.SlotLemmas.{has-put_key}
-use Rattle.mpslp_reading.specs.Field.{is_kind, value_of}
-use Rattle.mpslp_reading.specs.Tests.{Tests}
-use Rattle.mpslp_mps.specs.Line.{Fields, Item, skipped, header, data_line}
+use Rattle.mpslp_lines.specs.Field.{is_kind, value_of}
+use Rattle.mpslp_lines.specs.FaultTests.{FaultTests}
+use Rattle.mpslp_mps.specs.Line.{Fields, LineContent, skipped, header, data_line}
 use Rattle.mpslp_mps.specs.Section.{has, section_named, is_section}
 use Rattle.mpslp_mps.specs.DataLine.{RowLine, Pair, ValuesLine, word_shape, sense_of, row_shape, row_type, column_shape, is_marker_line}
-use Rattle.mpslp_mps.specs.Context.{context_of, current_section, has_section, sections_begun, data_lines, objective_name, wanted}
+use Rattle.mpslp_mps.specs.Context.{context_of, current_section, has_section, seen_sections, data_lines, objname, word_due}
 use Rattle.mpslp_mps.specs.HeaderFault.{header_tests}
 use Rattle.mpslp_mps.specs.DataFault.{data_tests}
 use Rattle.mpslp_mps.specs.LineFault.{item_tests}
-use Rattle.mpslp_mps.specs.LineMeaning.{declared_of, sense_declared, is_new_objective, row_of_type, row_declared, coefficient_declared, column_declared, data_declared, header_declared, declared}
-use Rattle.mpslp_mps.specs.TextInWords.{place, is_sense, is_one_word, in_order, words_in}
+use Rattle.mpslp_mps.specs.LineDeclarations.{declared_if_some, sense_declared, is_new_objective, row_of_type, row_declared, coefficient_declared, column_declared, data_declared, header_declared, line_declares}
+use Rattle.mpslp_mps.specs.TextInWords.{section_rank, is_sense, is_one_word, in_order, words_in}
 use Rattle.mpslp_mps.specs.FaultsInWords.{IsInWords, has_its_word, names_row, row_name, is_free_row_line, has_default_objective, repeats_row, column_line, has_row_twice, has_entry_of, repeats_entry_of, repeats_entry}
 use Rattle.mpslp_mps.specs.declared.sections.Section.{Section}
 use Rattle.mpslp_mps.specs.declared.sections.Section.TheVariants.{Name, ObjSense, ObjName, Rows, Columns, Rhs, Ranges, Bounds, EndData}
@@ -41,33 +41,33 @@ use Rattle.mpslp_mps.proofs.FaultsOfNames.{may_refuse, no-one, form-good, some}
 -- ---- DuplicateRow
 
 -- up to the header of COLUMNS a line of ROWS has the name of each row that is there
-row-named : (before : List Item) (earlier : Draft) (name : List ℕ) → Told before earlier → has_section before Columns ≡ false → has_row earlier name ≡ true → names_row before name ≡ true
+row-named : (before : List LineContent) (earlier : Draft) (name : List ℕ) → Told before earlier → has_section before Columns ≡ false → has_row earlier name ≡ true → names_row before name ≡ true
 row-named before earlier name told out h = left_alone (names_row before name) (has_section before Columns) out (told.row_lines name h)
 
 -- in ROWS the header of COLUMNS has not come
-last-place : (seen : List Section) (s : Section) → in_order seen ≡ true → last_or None seen ≡ Some s → list_all (λ (x : Section). nat_le (place x) (place s)) seen ≡ true
+last-place : (sections_seen : List Section) (s : Section) → in_order sections_seen ≡ true → last_or None sections_seen ≡ Some s → list_all (λ (x : Section). nat_le (section_rank x) (section_rank s)) sections_seen ≡ true
 last-place [] s h k = refl
-last-place (x ∷ []) s h k = let same : x ≡ s = cc in both_so (nat_le (place x) (place s)) true (ap (λ (y : Section). nat_le (place y) (place s)) same ∙ itself (place s)) refl
+last-place (x ∷ []) s h k = let same : x ≡ s = cc in both_so (nat_le (section_rank x) (section_rank s)) true (ap (λ (y : Section). nat_le (section_rank y) (section_rank s)) same ∙ itself (section_rank s)) refl
   where
     itself : (n : ℕ) → nat_le n n ≡ true
     itself n = grind (arith, nat_tests)
-last-place (x ∷ y ∷ seen) s h k =
-    let rest = last-place (y ∷ seen) s (second_so (list_all (λ other. nat_le (place x) (place other)) (y ∷ seen)) (in_order (y ∷ seen)) h) k in
-    both_so (nat_le (place x) (place s)) (list_all (λ (z : Section). nat_le (place z) (place s)) (y ∷ seen))
-    (both-steps (place x) (place y) (place s)
-    (first_so (nat_le (place x) (place y)) (list_all (λ other. nat_le (place x) (place other)) seen) (first_so (list_all (λ other. nat_le (place x) (place other)) (y ∷ seen)) (in_order (y ∷ seen)) h))
-    (first_so (nat_le (place y) (place s)) (list_all (λ (z : Section). nat_le (place z) (place s)) seen) rest)) rest
+last-place (x ∷ y ∷ sections_seen) s h k =
+    let rest = last-place (y ∷ sections_seen) s (second_so (list_all (λ other. nat_le (section_rank x) (section_rank other)) (y ∷ sections_seen)) (in_order (y ∷ sections_seen)) h) k in
+    both_so (nat_le (section_rank x) (section_rank s)) (list_all (λ (z : Section). nat_le (section_rank z) (section_rank s)) (y ∷ sections_seen))
+    (both-steps (section_rank x) (section_rank y) (section_rank s)
+    (first_so (nat_le (section_rank x) (section_rank y)) (list_all (λ other. nat_le (section_rank x) (section_rank other)) sections_seen) (first_so (list_all (λ other. nat_le (section_rank x) (section_rank other)) (y ∷ sections_seen)) (in_order (y ∷ sections_seen)) h))
+    (first_so (nat_le (section_rank y) (section_rank s)) (list_all (λ (z : Section). nat_le (section_rank z) (section_rank s)) sections_seen) rest)) rest
   where
     both-steps : (a b c : ℕ) → nat_le a b ≡ true → nat_le b c ≡ true → nat_le a c ≡ true
     both-steps a b c e f = grind (arith, nat_tests)
 
-columns-out : (seen : List Section) → list_all (λ (x : Section). nat_le (place x) 2) seen ≡ true → has seen Columns ≡ false
+columns-out : (sections_seen : List Section) → list_all (λ (x : Section). nat_le (section_rank x) 2) sections_seen ≡ true → has sections_seen Columns ≡ false
 columns-out [] h = refl
-columns-out (x ∷ seen) h =
-    both_false (is_section Columns (Some x)) (has seen Columns) (by x (first_so (nat_le (place x) 2) (list_all (λ (y : Section). nat_le (place y) 2) seen) h))
-    (columns-out seen (second_so (nat_le (place x) 2) (list_all (λ (y : Section). nat_le (place y) 2) seen) h))
+columns-out (x ∷ sections_seen) h =
+    both_false (is_section Columns (Some x)) (has sections_seen Columns) (by x (first_so (nat_le (section_rank x) 2) (list_all (λ (y : Section). nat_le (section_rank y) 2) sections_seen) h))
+    (columns-out sections_seen (second_so (nat_le (section_rank x) 2) (list_all (λ (y : Section). nat_le (section_rank y) 2) sections_seen) h))
   where
-    by : (s : Section) → nat_le (place s) 2 ≡ true → is_section Columns (Some s) ≡ false
+    by : (s : Section) → nat_le (section_rank s) 2 ≡ true → is_section Columns (Some s) ≡ false
     by Name e = refl
     by ObjSense e = refl
     by ObjName e = refl
@@ -92,7 +92,7 @@ below-all kind none rows columns numbers (Some Bounds) = numbers
 below-all kind none rows columns numbers (Some EndData) = none
 
 -- no test of a good form holds
-good-none : (kind : FaultKind) (tests : Tests) → those_of tests ≡ [] → holds_of kind tests ≡ false
+good-none : (kind : FaultKind) (tests : FaultTests) → those_of tests ≡ [] → holds_of kind tests ≡ false
 good-none kind [] h = refl
 good-none kind ((held, other) ∷ more) h = by held h (λ e. good-none kind more e)
   where
@@ -105,12 +105,12 @@ good-none kind ((held, other) ∷ more) h = by held h (λ e. good-none kind more
         either false = rest e
 
 -- so one of its declarations is refused
-good-refused : (kind : FaultKind) (before : List Item) (earlier : Draft) (item : Item) → IsGood before earlier item → IsFirst kind before earlier item → refuses kind earlier (declared (context_of before) earlier item) ≡ true
+good-refused : (kind : FaultKind) (before : List LineContent) (earlier : Draft) (item : LineContent) → IsGood before earlier item → IsFirst kind before earlier item → refuses kind earlier (line_declares (context_of before) earlier item) ≡ true
 good-refused kind before earlier item good first =
-    right_alone (holds_of kind (item_tests (context_of before) earlier item)) (refuses kind earlier (declared (context_of before) earlier item)) (good-none kind (item_tests (context_of before) earlier item) good) first.told
+    right_alone (holds_of kind (item_tests (context_of before) earlier item)) (refuses kind earlier (line_declares (context_of before) earlier item)) (good-none kind (item_tests (context_of before) earlier item) good) first.told
 
 -- where there is no objective, and OBJNAME tells no name, no row is of type N, and OBJNAME has no word
-default-in_words : (before : List Item) (earlier : Draft) → Told before earlier → is_none earlier.objective ≡ true → is_none (objective_name before) ≡ true → has_default_objective before ≡ true
+default-in_words : (before : List LineContent) (earlier : Draft) → Told before earlier → is_none earlier.objective ≡ true → is_none (objname before) ≡ true → has_default_objective before ≡ true
 default-in_words before earlier told none untold =
     both_so (not (list_any is_free_row_line (data_lines Rows before))) (not (has_its_word before ObjName))
     (so_not (list_any is_free_row_line (data_lines Rows before)) (no_row (list_any is_free_row_line (data_lines Rows before)) refl))
@@ -122,7 +122,7 @@ default-in_words before earlier told none untold =
     nothing None (Some y) e f = cc
 
     no_row : (b : Bool) → list_any is_free_row_line (data_lines Rows before) ≡ b → b ≡ false
-    no_row true e = absurd (never (is_some earlier.objective || is_some (objective_name before)) (told.free_named e) (nothing earlier.objective (objective_name before) none untold))
+    no_row true e = absurd (never (is_some earlier.objective || is_some (objname before)) (told.free_named e) (nothing earlier.objective (objname before) none untold))
     no_row false e = refl
 
     word : (words : List Fields) → is_one_word (λ _. true) words ≡ true → is_none (head_of (filter_map word_shape words)) ≡ false
@@ -140,9 +140,9 @@ default-in_words before earlier told none untold =
     no_word (missing, (a, b, c)) = ap (λ (words : List Fields). is_nonempty (flat_map (λ fields. fields) words)) a
     no_word (without_word, (a, b, c, d)) = ap (λ (words : List Fields). is_nonempty (flat_map (λ fields. fields) words)) a
     no_word (with_word, (a, b, c)) =
-        absurd (never (is_none (objective_name before)) untold (sym (ap (λ (names : List (List ℕ)). is_none (head_of names)) (told-words None before)) ∙ word (words_in ObjName before) a))
+        absurd (never (is_none (objname before)) untold (sym (ap (λ (names : List (List ℕ)). is_none (head_of names)) (told-words None before)) ∙ word (words_in ObjName before) a))
 
-repeated-row : (before : List Item) (earlier : Draft) (item : Item) → Told before earlier → IsFirst kinds.DuplicateRow before earlier item → repeats_row before item ≡ true
+repeated-row : (before : List LineContent) (earlier : Draft) (item : LineContent) → Told before earlier → IsFirst kinds.DuplicateRow before earlier item → repeats_row before item ≡ true
 repeated-row before earlier item told first =
     let good = form-good kinds.DuplicateRow before earlier item refl refl refl (below-all kinds.DuplicateRow refl refl refl refl) first in
     by item good (good-refused kinds.DuplicateRow before earlier item good first)
@@ -155,16 +155,16 @@ repeated-row before earlier item told first =
     head keyword more (Some ObjName) g k = cc
     head keyword more (Some Rows) g k = cc
     head keyword more (Some Columns) g k =
-        default (is_none earlier.objective && is_none (objective_name before)) refl k
+        default (is_none earlier.objective && is_none (objname before)) refl k
       where
         fresh : has_section before Columns ≡ false
         fresh = header-fresh (context_of before) earlier keyword more Columns g
 
-        default : (b : Bool) → (is_none earlier.objective && is_none (objective_name before)) ≡ b → refuses kinds.DuplicateRow earlier (cond b (declare_objective (codes "obj") ∷ []) []) ≡ true
+        default : (b : Bool) → (is_none earlier.objective && is_none (objname before)) ≡ b → refuses kinds.DuplicateRow earlier (cond b (declare_objective (codes "obj") ∷ []) []) ≡ true
             → (has_default_objective before && names_row before (codes "obj")) ≡ true
         default true e f =
             both_so (has_default_objective before) (names_row before (codes "obj"))
-            (default-in_words before earlier told (first_so (is_none earlier.objective) (is_none (objective_name before)) e) (second_so (is_none earlier.objective) (is_none (objective_name before)) e))
+            (default-in_words before earlier told (first_so (is_none earlier.objective) (is_none (objname before)) e) (second_so (is_none earlier.objective) (is_none (objname before)) e))
             (row-named before earlier (codes "obj") told fresh (left_alone (has_row earlier (codes "obj")) false refl (left_alone (has_row earlier (codes "obj") || false) false refl f)))
         default false e f = cc
     head keyword more (Some Rhs) g k = cc
@@ -175,7 +175,7 @@ repeated-row before earlier item told first =
     passes : Passes (λ d. not (may_refuse kinds.DuplicateRow d))
     passes = record { lower = λ _ _. refl; upper = λ _ _. refl; integer = λ _. refl; semi = λ _. refl }
 
-    column : (fields : Fields) (b : Bool) → list_all (λ d. not (may_refuse kinds.DuplicateRow d)) (cond b [] (declared_of (column_declared (context_of before)) (column_shape fields))) ≡ true
+    column : (fields : Fields) (b : Bool) → list_all (λ d. not (may_refuse kinds.DuplicateRow d)) (cond b [] (declared_if_some (column_declared (context_of before)) (column_shape fields))) ≡ true
     column fields true = refl
     column fields false = each-declared (λ d. not (may_refuse kinds.DuplicateRow d)) (column_declared (context_of before)) (column_shape fields) line
       where
@@ -206,11 +206,11 @@ repeated-row before earlier item told first =
         of AtLeast e = one (has_row earlier name) e
         of Equal e = one (has_row earlier name) e
 
-    row : (o : Option RowLine) → has_section before Columns ≡ false → refuses kinds.DuplicateRow earlier (declared_of (row_declared (context_of before) earlier) o) ≡ true → option_map_or (names_row before) (option_map (λ (line : RowLine). line.name) o) false ≡ true
+    row : (o : Option RowLine) → has_section before Columns ≡ false → refuses kinds.DuplicateRow earlier (declared_if_some (row_declared (context_of before) earlier) o) ≡ true → option_map_or (names_row before) (option_map (λ (line : RowLine). line.name) o) false ≡ true
     row None out k = cc
     row (Some line) out k = of (row_type line.letter) k
       where
-        of : (t : Option RowType) → refuses kinds.DuplicateRow earlier (declared_of (row_of_type (context_of before) earlier line.name) t) ≡ true → names_row before line.name ≡ true
+        of : (t : Option RowType) → refuses kinds.DuplicateRow earlier (declared_if_some (row_of_type (context_of before) earlier line.name) t) ≡ true → names_row before line.name ≡ true
         of None e = cc
         of (Some type) e = row-named before earlier line.name told out (typed line.name type e)
 
@@ -219,14 +219,14 @@ repeated-row before earlier item told first =
     data_in fields (Some Name) e k = cc
     data_in fields (Some ObjSense) e k = no-one kinds.DuplicateRow (data_declared (context_of before) earlier fields (Some ObjSense)) earlier (sense-passes (λ d. not (may_refuse kinds.DuplicateRow d)) (λ _. refl) fields) k
     data_in fields (Some ObjName) e k = cc
-    data_in fields (Some Rows) e k = row (row_shape fields) (columns-out (sections_begun before) (last-place (sections_begun before) Rows told.known.words.ordered.order e)) k
+    data_in fields (Some Rows) e k = row (row_shape fields) (columns-out (seen_sections before) (last-place (seen_sections before) Rows told.known.words.ordered.order e)) k
     data_in fields (Some Columns) e k = no-one kinds.DuplicateRow (data_declared (context_of before) earlier fields (Some Columns)) earlier (column fields (is_marker_line fields)) k
     data_in fields (Some Rhs) e k = no-one kinds.DuplicateRow (data_declared (context_of before) earlier fields (Some Rhs)) earlier (sides-passes (λ d. not (may_refuse kinds.DuplicateRow d)) (λ r v. refl) earlier fields) k
     data_in fields (Some Ranges) e k = no-one kinds.DuplicateRow (data_declared (context_of before) earlier fields (Some Ranges)) earlier (ranges-passes (λ d. not (may_refuse kinds.DuplicateRow d)) (λ r v. refl) fields) k
     data_in fields (Some Bounds) e k = no-one kinds.DuplicateRow (data_declared (context_of before) earlier fields (Some Bounds)) earlier (bounds-passes (λ d. not (may_refuse kinds.DuplicateRow d)) passes fields) k
     data_in fields (Some EndData) e k = cc
 
-    by : (x : Item) → IsGood before earlier x → refuses kinds.DuplicateRow earlier (declared (context_of before) earlier x) ≡ true → repeats_row before x ≡ true
+    by : (x : LineContent) → IsGood before earlier x → refuses kinds.DuplicateRow earlier (line_declares (context_of before) earlier x) ≡ true → repeats_row before x ≡ true
     by skipped g k = cc
     by (header keyword more) g k = head keyword more (section_named keyword) g k
     by (data_line fields) g k = data_in fields (current_section before) refl k
@@ -248,26 +248,26 @@ some-either p q (x ∷ xs) = ap (λ (b : Bool). (p x || q x) || b) (some-either 
     mix false false c d = refl
 
 cells-repeat : (column : List ℕ) (pairs : List Pair) (all : Draft) → refuses kinds.DuplicateEntry all (flat_map (coefficient_declared column) pairs) ≡ true
-    → (has_row_twice pairs || list_any (λ pair. has_entry all (record { row = pair.row; column = column })) pairs) ≡ true
+    → (has_row_twice pairs || list_any (λ pair. has_coefficient all (record { row = pair.row; column = column })) pairs) ≡ true
 cells-repeat column [] all h = h
-cells-repeat column (pair ∷ pairs) all h = by (has_entry all (key pair)) refl h (λ e. cells-repeat column pairs next e)
+cells-repeat column (pair ∷ pairs) all h = by (has_coefficient all (key pair)) refl h (λ e. cells-repeat column pairs next e)
   where
     key : Pair → CoefficientKey
     key p = record { row = p.row; column = column }
 
     next : Draft
-    next = adding all (declare_coefficient (record { row = pair.row; column = column }) (value_of pair.literal))
+    next = with_declaration all (declare_coefficient (record { row = pair.row; column = column }) (value_of pair.literal))
 
-    now : list_any (λ p. has_entry next (record { row = p.row; column = column })) pairs ≡ (list_any (λ other. same_bytes other.row pair.row && same_bytes column column) pairs || list_any (λ p. has_entry all (record { row = p.row; column = column })) pairs)
+    now : list_any (λ p. has_coefficient next (record { row = p.row; column = column })) pairs ≡ (list_any (λ other. same_bytes other.row pair.row && same_bytes column column) pairs || list_any (λ p. has_coefficient all (record { row = p.row; column = column })) pairs)
     now =
         same-any pairs
-        ∙ some-either (λ other. same_bytes other.row pair.row && same_bytes column column) (λ p. has_entry all (record { row = p.row; column = column })) pairs
+        ∙ some-either (λ other. same_bytes other.row pair.row && same_bytes column column) (λ p. has_coefficient all (record { row = p.row; column = column })) pairs
       where
-        same-any : (ps : List Pair) → list_any (λ p. has_entry next (record { row = p.row; column = column })) ps ≡ list_any (λ p. (same_bytes p.row pair.row && same_bytes column column) || has_entry all (record { row = p.row; column = column })) ps
+        same-any : (ps : List Pair) → list_any (λ p. has_coefficient next (record { row = p.row; column = column })) ps ≡ list_any (λ p. (same_bytes p.row pair.row && same_bytes column column) || has_coefficient all (record { row = p.row; column = column })) ps
         same-any [] = refl
         same-any (p ∷ ps) =
-            ap (λ (b : Bool). b || list_any (λ p. has_entry next (record { row = p.row; column = column })) ps) (has-put_key (record { row = p.row; column = column }) (record { row = pair.row; column = column }) (value_of pair.literal) all.coefficients)
-            ∙ ap (λ (b : Bool). ((same_bytes p.row pair.row && same_bytes column column) || has_entry all (record { row = p.row; column = column })) || b) (same-any ps)
+            ap (λ (b : Bool). b || list_any (λ p. has_coefficient next (record { row = p.row; column = column })) ps) (has-put_key (record { row = p.row; column = column }) (record { row = pair.row; column = column }) (value_of pair.literal) all.coefficients)
+            ∙ ap (λ (b : Bool). ((same_bytes p.row pair.row && same_bytes column column) || has_coefficient all (record { row = p.row; column = column })) || b) (same-any ps)
 
     one_column : list_any (λ other. same_bytes other.row pair.row && same_bytes column column) pairs ≡ true → list_any (λ other. same_bytes other.row pair.row) pairs ≡ true
     one_column e = some (λ other. same_bytes other.row pair.row && same_bytes column column) (λ other. same_bytes other.row pair.row) pairs (λ other f. first_so (same_bytes other.row pair.row) (same_bytes column column) f) e
@@ -277,30 +277,30 @@ cells-repeat column (pair ∷ pairs) all h = by (has_entry all (key pair)) refl 
     gather false true b e k = or_left (list_any (λ other. same_bytes other.row pair.row) pairs || false) b (or_left (list_any (λ other. same_bytes other.row pair.row) pairs) false (one_column (sym e)))
     gather false false b e k = or_right (list_any (λ other. same_bytes other.row pair.row) pairs || false) b k
 
-    by : (b : Bool) → has_entry all (record { row = pair.row; column = column }) ≡ b → ((b || false) || refuses kinds.DuplicateEntry next (flat_map (coefficient_declared column) pairs)) ≡ true
-        → (refuses kinds.DuplicateEntry next (flat_map (coefficient_declared column) pairs) ≡ true → (has_row_twice pairs || list_any (λ p. has_entry next (record { row = p.row; column = column })) pairs) ≡ true)
-        → ((list_any (λ other. same_bytes other.row pair.row) pairs || has_row_twice pairs) || (b || list_any (λ p. has_entry all (record { row = p.row; column = column })) pairs)) ≡ true
+    by : (b : Bool) → has_coefficient all (record { row = pair.row; column = column }) ≡ b → ((b || false) || refuses kinds.DuplicateEntry next (flat_map (coefficient_declared column) pairs)) ≡ true
+        → (refuses kinds.DuplicateEntry next (flat_map (coefficient_declared column) pairs) ≡ true → (has_row_twice pairs || list_any (λ p. has_coefficient next (record { row = p.row; column = column })) pairs) ≡ true)
+        → ((list_any (λ other. same_bytes other.row pair.row) pairs || has_row_twice pairs) || (b || list_any (λ p. has_coefficient all (record { row = p.row; column = column })) pairs)) ≡ true
     by true e k rest = or_right (list_any (λ other. same_bytes other.row pair.row) pairs || has_row_twice pairs) true refl
     by false e k rest =
-        gather (has_row_twice pairs) (list_any (λ other. same_bytes other.row pair.row && same_bytes column column) pairs) (list_any (λ p. has_entry all (record { row = p.row; column = column })) pairs) refl
+        gather (has_row_twice pairs) (list_any (λ other. same_bytes other.row pair.row && same_bytes column column) pairs) (list_any (λ p. has_coefficient all (record { row = p.row; column = column })) pairs) refl
         (sym (ap (λ (b : Bool). has_row_twice pairs || b) now) ∙ rest k)
 
 -- a line of a good form does not declare a second sense: OBJSENSE has not begun, or has no word yet
-fresh-sense : (before : List Item) (earlier : Draft) → Told before earlier → is_nonempty (flat_map (λ fields. fields) (words_in ObjSense before)) ≡ false → is_some earlier.sense ≡ false
+fresh-sense : (before : List LineContent) (earlier : Draft) → Told before earlier → is_nonempty (flat_map (λ fields. fields) (words_in ObjSense before)) ≡ false → is_some earlier.sense ≡ false
 fresh-sense before earlier told none = by (is_some earlier.sense) refl
   where
     by : (b : Bool) → is_some earlier.sense ≡ b → b ≡ false
     by true e = absurd (never (is_nonempty (flat_map (λ fields. fields) (words_in ObjSense before))) (told.sense_word e) none)
     by false e = refl
 
-sense-once : (fields : Fields) (all : Draft) → is_some all.sense ≡ false → refuses kinds.DuplicateEntry all (declared_of sense_declared (word_shape fields)) ≡ false
+sense-once : (fields : Fields) (all : Draft) → is_some all.sense ≡ false → refuses kinds.DuplicateEntry all (declared_if_some sense_declared (word_shape fields)) ≡ false
 sense-once fields all none = by (word_shape fields)
   where
-    of : (o : Option Sense) → refuses kinds.DuplicateEntry all (declared_of (λ sense. declare_sense sense ∷ []) o) ≡ false
+    of : (o : Option Sense) → refuses kinds.DuplicateEntry all (declared_if_some (λ sense. declare_sense sense ∷ []) o) ≡ false
     of None = refl
     of (Some s) = ap (λ (b : Bool). (b || false) || false) none
 
-    by : (o : Option (List ℕ)) → refuses kinds.DuplicateEntry all (declared_of sense_declared o) ≡ false
+    by : (o : Option (List ℕ)) → refuses kinds.DuplicateEntry all (declared_if_some sense_declared o) ≡ false
     by None = refl
     by (Some word) = of (sense_of word)
 
@@ -312,7 +312,7 @@ objective-once all name h = by all.objective h
     by None e = refl
     by (Some x) e = cc
 
-repeated-entry : (before : List Item) (earlier : Draft) (item : Item) → Told before earlier → IsFirst kinds.DuplicateEntry before earlier item → repeats_entry before item ≡ true
+repeated-entry : (before : List LineContent) (earlier : Draft) (item : LineContent) → Told before earlier → IsFirst kinds.DuplicateEntry before earlier item → repeats_entry before item ≡ true
 repeated-entry before earlier item told first =
     let good = form-good kinds.DuplicateEntry before earlier item refl refl refl (below-all kinds.DuplicateEntry refl refl refl refl) first in
     by item good (good-refused kinds.DuplicateEntry before earlier item good first)
@@ -325,27 +325,27 @@ repeated-entry before earlier item told first =
         stage (without_word, (a, b, c, d)) = absurd (never (has_section before ObjSense) b out)
         stage (with_word, (a, b, c)) = absurd (never (has_section before ObjSense) b out)
 
-    no_word : current_section before ≡ Some ObjSense → is_some (wanted before) ≡ true → is_some earlier.sense ≡ false
+    no_word : current_section before ≡ Some ObjSense → is_some (word_due before) ≡ true → is_some earlier.sense ≡ false
     no_word e w = stage told.known.words.sense
       where
         stage : IsUnderway ObjSense is_sense before → is_some earlier.sense ≡ false
         stage (missing, (a, b, c)) = fresh-sense before earlier told (ap (λ (words : List Fields). is_nonempty (flat_map (λ fields. fields) words)) a)
         stage (without_word, (a, b, c, d)) = fresh-sense before earlier told (ap (λ (words : List Fields). is_nonempty (flat_map (λ fields. fields) words)) a)
-        stage (with_word, (a, b, c)) = absurd (never (is_some (wanted before)) w (c (ap (is_section ObjSense) e)))
+        stage (with_word, (a, b, c)) = absurd (never (is_some (word_due before)) w (c (ap (is_section ObjSense) e)))
 
     head : (keyword : List ℕ) (more : Fields) (o : Option Section) → those_of (header_tests (context_of before) earlier keyword more o) ≡ [] → refuses kinds.DuplicateEntry earlier (header_declared (context_of before) earlier more o) ≡ true → false ≡ true
     head keyword more None g k = k
     head keyword more (Some Name) g k = k
     head keyword more (Some ObjSense) g k =
-        absurd (never (refuses kinds.DuplicateEntry earlier (declared_of sense_declared (word_shape more))) k (sense-once more earlier (not_begun (header-fresh (context_of before) earlier keyword more ObjSense g))))
+        absurd (never (refuses kinds.DuplicateEntry earlier (declared_if_some sense_declared (word_shape more))) k (sense-once more earlier (not_begun (header-fresh (context_of before) earlier keyword more ObjSense g))))
     head keyword more (Some ObjName) g k = k
     head keyword more (Some Rows) g k = k
-    head keyword more (Some Columns) g k = default (is_none earlier.objective && is_none (context_of before).objective_name) refl k
+    head keyword more (Some Columns) g k = default (is_none earlier.objective && is_none (context_of before).objname) refl k
       where
-        default : (b : Bool) → (is_none earlier.objective && is_none (context_of before).objective_name) ≡ b → refuses kinds.DuplicateEntry earlier (cond b (declare_objective (codes "obj") ∷ []) []) ≡ true → false ≡ true
+        default : (b : Bool) → (is_none earlier.objective && is_none (context_of before).objname) ≡ b → refuses kinds.DuplicateEntry earlier (cond b (declare_objective (codes "obj") ∷ []) []) ≡ true → false ≡ true
         default true e f =
             absurd (never (refuses kinds.DuplicateEntry earlier (declare_objective (codes "obj") ∷ [])) f
-            (objective-once earlier (codes "obj") (first_so (is_none earlier.objective) (is_none (context_of before).objective_name) e)))
+            (objective-once earlier (codes "obj") (first_so (is_none earlier.objective) (is_none (context_of before).objname) e)))
         default false e f = f
     head keyword more (Some Rhs) g k = k
     head keyword more (Some Ranges) g k = k
@@ -361,40 +361,40 @@ repeated-entry before earlier item told first =
         free : (b : Bool) → is_new_objective (context_of before) earlier name ≡ b → refuses kinds.DuplicateEntry earlier (cond b (declare_objective name ∷ []) (declare_row name (by_type Free) ∷ [])) ≡ true → false ≡ true
         free true e f =
             absurd (never (refuses kinds.DuplicateEntry earlier (declare_objective name ∷ [])) f
-            (objective-once earlier name (first_so (is_none earlier.objective) (option_map_or (same_bytes name) (context_of before).objective_name true) e)))
+            (objective-once earlier name (first_so (is_none earlier.objective) (option_map_or (same_bytes name) (context_of before).objname true) e)))
         free false e f = f
     row name AtMost k = k
     row name AtLeast k = k
     row name Equal k = k
 
-    rows : (o : Option RowLine) → refuses kinds.DuplicateEntry earlier (declared_of (row_declared (context_of before) earlier) o) ≡ true → false ≡ true
+    rows : (o : Option RowLine) → refuses kinds.DuplicateEntry earlier (declared_if_some (row_declared (context_of before) earlier) o) ≡ true → false ≡ true
     rows None k = k
     rows (Some line) k = of (row_type line.letter) k
       where
-        of : (t : Option RowType) → refuses kinds.DuplicateEntry earlier (declared_of (row_of_type (context_of before) earlier line.name) t) ≡ true → false ≡ true
+        of : (t : Option RowType) → refuses kinds.DuplicateEntry earlier (declared_if_some (row_of_type (context_of before) earlier line.name) t) ≡ true → false ≡ true
         of None e = e
         of (Some type) e = row line.name type e
 
     -- each coefficient that is there has a line
-    lines : (line : ValuesLine) (all : Draft) → ((key : CoefficientKey) → has_entry all key ≡ has_entry earlier key) → refuses kinds.DuplicateEntry all (flat_map (coefficient_declared line.name) line.pairs) ≡ true → repeats_entry_of before line ≡ true
+    lines : (line : ValuesLine) (all : Draft) → ((key : CoefficientKey) → has_coefficient all key ≡ has_coefficient earlier key) → refuses kinds.DuplicateEntry all (flat_map (coefficient_declared line.name) line.pairs) ≡ true → repeats_entry_of before line ≡ true
     lines line all same k = of (has_row_twice line.pairs) (cells-repeat line.name line.pairs all k)
       where
-        of : (b : Bool) → (b || list_any (λ pair. has_entry all (record { row = pair.row; column = line.name })) line.pairs) ≡ true → (b || list_any (λ pair. list_any (has_entry_of line.name pair.row) (data_lines Columns before)) line.pairs) ≡ true
+        of : (b : Bool) → (b || list_any (λ pair. has_coefficient all (record { row = pair.row; column = line.name })) line.pairs) ≡ true → (b || list_any (λ pair. list_any (has_entry_of line.name pair.row) (data_lines Columns before)) line.pairs) ≡ true
         of true e = refl
         of false e =
-            some (λ pair. has_entry all (record { row = pair.row; column = line.name })) (λ pair. list_any (has_entry_of line.name pair.row) (data_lines Columns before)) line.pairs
+            some (λ pair. has_coefficient all (record { row = pair.row; column = line.name })) (λ pair. list_any (has_entry_of line.name pair.row) (data_lines Columns before)) line.pairs
             (λ pair f. told.entry_lines (record { row = pair.row; column = line.name }) (sym (same (record { row = pair.row; column = line.name })) ∙ f)) e
 
-    marks : (line : ValuesLine) (b : Bool) → refuses kinds.DuplicateEntry (adding earlier (declare_column line.name)) (cond b (declare_marked line.name ∷ []) [] ++ flat_map (coefficient_declared line.name) line.pairs) ≡ true → repeats_entry_of before line ≡ true
-    marks line true k = lines line (adding (adding earlier (declare_column line.name)) (declare_marked line.name)) (λ key. refl) k
-    marks line false k = lines line (adding earlier (declare_column line.name)) (λ key. refl) k
+    marks : (line : ValuesLine) (b : Bool) → refuses kinds.DuplicateEntry (with_declaration earlier (declare_column line.name)) (cond b (declare_marked line.name ∷ []) [] ++ flat_map (coefficient_declared line.name) line.pairs) ≡ true → repeats_entry_of before line ≡ true
+    marks line true k = lines line (with_declaration (with_declaration earlier (declare_column line.name)) (declare_marked line.name)) (λ key. refl) k
+    marks line false k = lines line (with_declaration earlier (declare_column line.name)) (λ key. refl) k
 
-    column : (fields : Fields) (b : Bool) → refuses kinds.DuplicateEntry earlier (cond b [] (declared_of (column_declared (context_of before)) (column_shape fields))) ≡ true
+    column : (fields : Fields) (b : Bool) → refuses kinds.DuplicateEntry earlier (cond b [] (declared_if_some (column_declared (context_of before)) (column_shape fields))) ≡ true
         → option_map_or (repeats_entry_of before) (cond b None (column_shape fields)) false ≡ true
     column fields true k = k
     column fields false k = of (column_shape fields) k
       where
-        of : (o : Option ValuesLine) → refuses kinds.DuplicateEntry earlier (declared_of (column_declared (context_of before)) o) ≡ true → option_map_or (repeats_entry_of before) o false ≡ true
+        of : (o : Option ValuesLine) → refuses kinds.DuplicateEntry earlier (declared_if_some (column_declared (context_of before)) o) ≡ true → option_map_or (repeats_entry_of before) o false ≡ true
         of None e = e
         of (Some line) e = marks line (context_of before).in_integer_part e
 
@@ -403,7 +403,7 @@ repeated-entry before earlier item told first =
     data_in fields None e g k = k
     data_in fields (Some Name) e g k = k
     data_in fields (Some ObjSense) e g k =
-        absurd (never (refuses kinds.DuplicateEntry earlier (declared_of sense_declared (word_shape fields))) k
+        absurd (never (refuses kinds.DuplicateEntry earlier (declared_if_some sense_declared (word_shape fields))) k
         (sense-once fields earlier (no_word e (sense-word.on_line (context_of before) earlier fields g).0)))
     data_in fields (Some ObjName) e g k = k
     data_in fields (Some Rows) e g k = rows (row_shape fields) k
@@ -413,7 +413,7 @@ repeated-entry before earlier item told first =
     data_in fields (Some Bounds) e g k = no-one kinds.DuplicateEntry (data_declared (context_of before) earlier fields (Some Bounds)) earlier (bounds-passes (λ d. not (may_refuse kinds.DuplicateEntry d)) passes fields) k
     data_in fields (Some EndData) e g k = k
 
-    by : (x : Item) → IsGood before earlier x → refuses kinds.DuplicateEntry earlier (declared (context_of before) earlier x) ≡ true → repeats_entry before x ≡ true
+    by : (x : LineContent) → IsGood before earlier x → refuses kinds.DuplicateEntry earlier (line_declares (context_of before) earlier x) ≡ true → repeats_entry before x ≡ true
     by skipped g k = k
     by (header keyword more) g k = head keyword more (section_named keyword) g k
     by (data_line fields) g k =

@@ -7,35 +7,35 @@ use Rattle.std.specs.Option.{option_map_or}
 use Rattle.std.specs.Cmp.{second_so}
 use Rattle.mpslp_builder.specs.Declaration.{Draft}
 use Rattle.mpslp_types.specs.declared.faults.FaultKind.TheVariants as kinds
-use Rattle.mpslp_mps.specs.Line.{Fields, Item, skipped, header, data_line}
+use Rattle.mpslp_mps.specs.Line.{Fields, LineContent, skipped, header, data_line}
 use Rattle.mpslp_mps.specs.Section.{section_named}
 use Rattle.mpslp_mps.specs.LineFault.{item_tests}
 use Rattle.mpslp_mps.specs.DataLine.{word_shape, row_shape, column_shape, is_marker_line, marker_shape, vector_shape}
 use Rattle.mpslp_mps.specs.BoundLine.{BoundLine, bound_type, bound_shape}
 use Rattle.mpslp_mps.specs.Context.{Context}
-use Rattle.mpslp_reading.specs.Tests.{Tests, judged_by}
-use Rattle.mpslp_reading.specs.Field.{number_tests}
+use Rattle.mpslp_lines.specs.FaultTests.{FaultTests, judged_by}
+use Rattle.mpslp_lines.specs.Field.{number_tests}
 use Rattle.mpslp_mps.specs.FieldFault.{set_tests}
 use Rattle.mpslp_mps.specs.HeaderFault.{header_tests, word_tests}
-use Rattle.mpslp_mps.specs.DataFault.{row_tests, is_sos_marker, marker_tests, marker_word_tests, typed_bound_tests, column_tests, vector_tests, bound_tests, data_tests}
+use Rattle.mpslp_mps.specs.DataFault.{row_line_tests, is_sos_marker, marker_tests, marker_word_tests, typed_bound_tests, column_tests, vector_tests, bound_tests, data_tests}
 use Rattle.mpslp_mps.specs.declared.bound_types.BoundType.{BoundType}
 use Rattle.mpslp_mps.specs.declared.sections.Section.{Section}
 use Rattle.mpslp_mps.specs.declared.sections.Section.TheVariants.{Name, ObjSense, ObjName, Rows, Columns, Rhs, Ranges, Bounds, EndData}
-use Rattle.mpslp_reading.proofs.LeastLemmas.{is_from, are_rising}
+use Rattle.mpslp_lines.proofs.LeastLemmas.{is_from, are_rising}
 
 -- tests that stand in the order of kinds, behind those of a line's length and bytes
-abbrev pub AreRising : Tests → Type 0
+abbrev pub AreRising : FaultTests → Type 0
 AreRising tests = are_rising ((false, kinds.LineTooLong) ∷ (false, kinds.BadByte) ∷ tests) ≡ true
 
 -- and so by themselves
-pub rising-alone : (tests : Tests) → AreRising tests → are_rising tests ≡ true
+pub rising-alone : (tests : FaultTests) → AreRising tests → are_rising tests ≡ true
 rising-alone tests h =
     second_so (list_all (λ later. is_from kinds.BadByte later.1) tests) (are_rising tests)
     (second_so (list_all (λ later. is_from kinds.LineTooLong later.1) ((false, kinds.BadByte) ∷ tests)) (are_rising ((false, kinds.BadByte) ∷ tests)) h)
 
 -- ---- by the shape of a line
 
-judged-rising : {X : Type 0} (tests : X → Tests) (o : Option X) → ((x : X) → AreRising (tests x)) → AreRising (judged_by tests o)
+judged-rising : {X : Type 0} (tests : X → FaultTests) (o : Option X) → ((x : X) → AreRising (tests x)) → AreRising (judged_by tests o)
 judged-rising tests None h = refl
 judged-rising tests (Some x) h = h x
 
@@ -51,7 +51,7 @@ typed-rising : (context : Context) (more : Fields) (o : Option BoundType)
 typed-rising context more None = refl
 typed-rising context more (Some type) = judged-rising (bound_tests context) (bound_shape type more) (bound-rising context)
 
-rising-if : (b : Bool) (x y : Tests) → AreRising x → AreRising y → AreRising (cond b x y)
+rising-if : (b : Bool) (x y : FaultTests) → AreRising x → AreRising y → AreRising (cond b x y)
 rising-if true x y h k = h
 rising-if false x y h k = k
 
@@ -70,9 +70,9 @@ marker-rising b context (Some word) = refl
 data-behind : (context : Context) (earlier : Draft) (fields : Fields) (section : Option Section) → AreRising (data_tests context earlier fields section)
 data-behind context earlier fields None = refl
 data-behind context earlier fields (Some Name) = refl
-data-behind context earlier fields (Some ObjSense) = sense-rising (not (is_some context.wanted)) (word_shape fields)
-data-behind context earlier fields (Some ObjName) = judged-after-order (not (is_some context.wanted)) (word_shape fields)
-data-behind context earlier fields (Some Rows) = judged-rising row_tests (row_shape fields) (λ _. refl)
+data-behind context earlier fields (Some ObjSense) = sense-rising (not (is_some context.word_due)) (word_shape fields)
+data-behind context earlier fields (Some ObjName) = judged-after-order (not (is_some context.word_due)) (word_shape fields)
+data-behind context earlier fields (Some Rows) = judged-rising row_line_tests (row_shape fields) (λ _. refl)
 data-behind context earlier fields (Some Columns) =
     rising-if (is_marker_line fields) (marker_tests context fields) (judged_by (column_tests context earlier) (column_shape fields)) (marker-rising (is_sos_marker fields) context (marker_shape fields)) (judged-rising (column_tests context earlier) (column_shape fields) (λ _. refl))
 data-behind context earlier fields (Some Rhs) = judged-rising (vector_tests context.rhs_set) (vector_shape fields) (λ _. refl)
@@ -104,7 +104,7 @@ header-behind context earlier keyword more (Some Ranges) = refl
 header-behind context earlier keyword more (Some Bounds) = refl
 header-behind context earlier keyword more (Some EndData) = refl
 
-pub item-rising : (context : Context) (earlier : Draft) (item : Item) → AreRising (item_tests context earlier item)
+pub item-rising : (context : Context) (earlier : Draft) (item : LineContent) → AreRising (item_tests context earlier item)
 item-rising context earlier skipped = refl
 item-rising context earlier (header keyword more) = header-behind context earlier keyword more (section_named keyword)
 item-rising context earlier (data_line fields) = data-behind context earlier fields context.section

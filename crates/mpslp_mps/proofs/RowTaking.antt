@@ -4,9 +4,9 @@ use Rattle.std.specs.Prelude.{Option, Some, None}
 use Rattle.std.specs.List.{list_all}
 use Rattle.mpslp_types.specs.declared.faults.FaultKind.TheVariants as kinds
 use Rattle.mpslp_mps.specs.DataLine.{RowLine}
-use Rattle.mpslp_reading.specs.Tests.{judged_by}
+use Rattle.mpslp_lines.specs.FaultTests.{judged_by}
 use Rattle.mpslp_mps.specs.HeaderFault.{word_tests}
-use Rattle.mpslp_mps.specs.DataFault.{row_tests}
+use Rattle.mpslp_mps.specs.DataFault.{row_line_tests}
 use Rattle.mpslp_mps.proofs.TakingLemmas.{is_early}
 
 pub sense-early : (b : Bool) (o : Option (List ℕ)) → list_all is_early ((b, kinds.SectionOrder) ∷ judged_by word_tests o) ≡ true
@@ -17,6 +17,6 @@ pub objective-name-early : (b : Bool) (o : Option (List ℕ)) → list_all is_ea
 objective-name-early b None = refl
 objective-name-early b (Some word) = refl
 
-pub row-early : (o : Option RowLine) → list_all is_early (judged_by row_tests o) ≡ true
+pub row-early : (o : Option RowLine) → list_all is_early (judged_by row_line_tests o) ≡ true
 row-early None = refl
 row-early (Some line) = refl

@@ -6,9 +6,9 @@ use Rattle.std.specs.Option.{option_or}
 use Rattle.std.proofs.lemmas.List.{append-nil}
 use Rattle.std.proofs.lemmas.List.Elements.{filter_map-append}
 use Rattle.std.proofs.lemmas.List.Folds.{list_any-append}
-use Rattle.mpslp_mps.specs.Line.{Item}
-use Rattle.mpslp_mps.specs.Section.{section_begun, begins, is_section, has}
-use Rattle.mpslp_mps.specs.Context.{sections_begun, section_after, current_section, has_section, fields_under, said_after, data_lines}
+use Rattle.mpslp_mps.specs.Line.{LineContent}
+use Rattle.mpslp_mps.specs.Section.{section_of_header, begins, is_section, has}
+use Rattle.mpslp_mps.specs.Context.{seen_sections, section_after, current_section, has_section, fields_under, said_after, data_lines}
 use Rattle.mpslp_mps.specs.declared.sections.Section.{Section}
 
 pub last_or-append : {X : Type 0} (o : Option X) (xs ys : List X) → last_or o (xs ++ ys) ≡ last_or (last_or o xs) ys
@@ -20,10 +20,10 @@ last-one None c = refl
 last-one (Some s) c = refl
 
 -- the section after a line: that which it begins, or the one before
-pub current_section-push : (before : List Item) (item : Item) → current_section (before ++ item ∷ []) ≡ option_or (section_begun item) (current_section before)
+pub current_section-push : (before : List LineContent) (item : LineContent) → current_section (before ++ item ∷ []) ≡ option_or (section_of_header item) (current_section before)
 current_section-push before item =
-    ap (last_or None) (filter_map-append section_begun before (item ∷ [])) ∙ last_or-append None (filter_map section_begun before) (cons_option (section_begun item) [])
-    ∙ last-one (section_begun item) (current_section before)
+    ap (last_or None) (filter_map-append section_of_header before (item ∷ [])) ∙ last_or-append None (filter_map section_of_header before) (cons_option (section_of_header item) [])
+    ∙ last-one (section_of_header item) (current_section before)
 
 or_false : (b : Bool) → (b || false) ≡ b
 or_false true = refl
@@ -39,41 +39,41 @@ has-more section begun o =
     by (Some s) = or_false (is_section section (Some s))
 
 -- a section has begun once its header has been passed
-pub has_section-push : (section : Section) (before : List Item) (item : Item) → has_section (before ++ item ∷ []) section ≡ (has_section before section || begins section item)
+pub has_section-push : (section : Section) (before : List LineContent) (item : LineContent) → has_section (before ++ item ∷ []) section ≡ (has_section before section || begins section item)
 has_section-push section before item =
-    ap (λ (begun : List Section). has begun section) (filter_map-append section_begun before (item ∷ []))
-    ∙ has-more section (sections_begun before) (section_begun item)
+    ap (λ (begun : List Section). has begun section) (filter_map-append section_of_header before (item ∷ []))
+    ∙ has-more section (seen_sections before) (section_of_header item)
 
-pub has_section-append : (section : Section) (before items : List Item) → has_section (before ++ items) section ≡ (has_section before section || has_section items section)
+pub has_section-append : (section : Section) (before items : List LineContent) → has_section (before ++ items) section ≡ (has_section before section || has_section items section)
 has_section-append section before items =
-    ap (λ (begun : List Section). has begun section) (filter_map-append section_begun before items)
-    ∙ list_any-append (λ other. is_section section (Some other)) (sections_begun before) (sections_begun items)
+    ap (λ (begun : List Section). has begun section) (filter_map-append section_of_header before items)
+    ∙ list_any-append (λ other. is_section section (Some other)) (seen_sections before) (seen_sections items)
 
-pub has_section-cons : (section : Section) (item : Item) (before : List Item) → has_section (item ∷ before) section ≡ (begins section item || has_section before section)
-has_section-cons section item before = by (section_begun item)
+pub has_section-cons : (section : Section) (item : LineContent) (before : List LineContent) → has_section (item ∷ before) section ≡ (begins section item || has_section before section)
+has_section-cons section item before = by (section_of_header item)
   where
-    by : (o : Option Section) → has (cons_option o (sections_begun before)) section ≡ (is_section section o || has_section before section)
+    by : (o : Option Section) → has (cons_option o (seen_sections before)) section ≡ (is_section section o || has_section before section)
     by None = refl
     by (Some s) = refl
 
-section_after-cons : (current : Option Section) (x : Item) (before : List Item) → section_after current (x ∷ before) ≡ section_after (option_or (section_begun x) current) before
-section_after-cons current x before = by (section_begun x)
+section_after-cons : (current : Option Section) (x : LineContent) (before : List LineContent) → section_after current (x ∷ before) ≡ section_after (option_or (section_of_header x) current) before
+section_after-cons current x before = by (section_of_header x)
   where
-    by : (o : Option Section) → last_or current (cons_option o (filter_map section_begun before)) ≡ last_or (option_or o current) (filter_map section_begun before)
+    by : (o : Option Section) → last_or current (cons_option o (filter_map section_of_header before)) ≡ last_or (option_or o current) (filter_map section_of_header before)
     by None = refl
     by (Some s) = refl
 
 -- what lines say where they stand: this one too
-pub said_after-push : {X : Type 0} (says : Option Section → Item → List X) (current : Option Section) (before : List Item) (item : Item)
+pub said_after-push : {X : Type 0} (says : Option Section → LineContent → List X) (current : Option Section) (before : List LineContent) (item : LineContent)
     → said_after says current (before ++ item ∷ []) ≡ said_after says current before ++ says (section_after current before) item
 said_after-push says current [] item = append-nil (says current item)
 said_after-push {X} says current (x ∷ before) item =
-    let next = option_or (section_begun x) current in
+    let next = option_or (section_of_header x) current in
     ap (λ (more : List X). says current x ++ more)
     (said_after-push says next before item ∙ ap (λ (c : Option Section). said_after says next before ++ says c item) (sym (section_after-cons current x before)))
     ∙ sym (append_assoc (says current x) (said_after says next before) _)
 
 -- the data lines of a section: this one too, where it stands in it
-pub data_lines-push : (section : Section) (before : List Item) (item : Item)
+pub data_lines-push : (section : Section) (before : List LineContent) (item : LineContent)
     → data_lines section (before ++ item ∷ []) ≡ data_lines section before ++ fields_under section (current_section before) item
 data_lines-push section before item = said_after-push (fields_under section) None before item

@@ -7,12 +7,12 @@ use Rattle.std.specs.Cmp.{first_so, second_so}
 use Rattle.std.proofs.lemmas.List.Folds.{list_all-append, list_any-append}
 use Rattle.mpslp_types.specs.Name.{same_bytes}
 use Rattle.mpslp_types.proofs.BoolLemmas.{or_left, or_right, not_so}
-use Rattle.mpslp_core.specs.Lists.{head_of, when}
-use Rattle.mpslp_mps.specs.Line.{Fields, Item, data_line}
-use Rattle.mpslp_mps.specs.Section.{section_begun, is_section}
+use Rattle.mpslp_model_core.specs.Lists.{head_of, when}
+use Rattle.mpslp_mps.specs.Line.{Fields, LineContent, data_line}
+use Rattle.mpslp_mps.specs.Section.{section_of_header, is_section}
 use Rattle.mpslp_mps.specs.DataLine.{opening_word, closing_word}
-use Rattle.mpslp_mps.specs.Context.{sections_begun, section_after, current_section, fields_under, said_after, data_lines}
-use Rattle.mpslp_mps.specs.TextInWords.{alternate, is_one_set, same_column, behind, stand_together}
+use Rattle.mpslp_mps.specs.Context.{seen_sections, section_after, current_section, fields_under, said_after, data_lines}
+use Rattle.mpslp_mps.specs.TextInWords.{alternate, is_one_set, same_column, entries_after, stand_together}
 use Rattle.mpslp_mps.specs.declared.sections.Section.{Section}
 use Rattle.mpslp_mps.proofs.WordsOfFields.{is_other_set}
 use Rattle.mpslp_mps.proofs.WordsOfSections.{next_word, opens, opens-next}
@@ -20,24 +20,24 @@ use Rattle.mpslp_mps.proofs.WordsOfColumns.{Column, last_of, comes_again, one_co
 
 -- ---- lines, and those behind them
 
-pub section_after-more : (current : Option Section) (item : Item) (items : List Item) → section_after current (item ∷ items) ≡ section_after (option_or (section_begun item) current) items
-section_after-more current item items = by (section_begun item)
+pub section_after-more : (current : Option Section) (item : LineContent) (items : List LineContent) → section_after current (item ∷ items) ≡ section_after (option_or (section_of_header item) current) items
+section_after-more current item items = by (section_of_header item)
   where
-    by : (o : Option Section) → last_or current (cons_option o (sections_begun items)) ≡ last_or (option_or o current) (sections_begun items)
+    by : (o : Option Section) → last_or current (cons_option o (seen_sections items)) ≡ last_or (option_or o current) (seen_sections items)
     by None = refl
     by (Some s) = refl
 
-pub said_after-append : {X : Type 0} (says : Option Section → Item → List X) (current : Option Section) (before items : List Item)
+pub said_after-append : {X : Type 0} (says : Option Section → LineContent → List X) (current : Option Section) (before items : List LineContent)
     → said_after says current (before ++ items) ≡ said_after says current before ++ said_after says (section_after current before) items
 said_after-append says current [] items = refl
 said_after-append {X} says current (item ∷ before) items =
-    let next = option_or (section_begun item) current in
+    let next = option_or (section_of_header item) current in
     ap (λ (more : List X). says current item ++ more)
     (said_after-append says next before items ∙ ap (λ (c : Option Section). said_after says next before ++ said_after says c items) (sym (section_after-more current item before)))
     ∙ sym (append_assoc (says current item) (said_after says next before) _)
 
 -- a data line of the section stands between those before it and those behind
-pub data-stands : (section : Section) (before : List Item) (fields : Fields) (rest : List Item) → is_section section (current_section before) ≡ true
+pub data-stands : (section : Section) (before : List LineContent) (fields : Fields) (rest : List LineContent) → is_section section (current_section before) ≡ true
     → data_lines section (before ++ data_line fields ∷ rest) ≡ data_lines section before ++ fields ∷ said_after (fields_under section) (current_section before) rest
 data-stands section before fields rest h =
     said_after-append (fields_under section) None before (data_line fields ∷ rest)
@@ -68,16 +68,16 @@ found-later c x d columns more h =
     list_any-append (same_column c) (d ∷ columns) (x ∷ more)
     ∙ or_right (list_any (same_column c) (d ∷ columns)) (same_column c x || list_any (same_column c) more) (or_left (same_column c x) (list_any (same_column c) more) h)
 
-comes-later : (c x d : Column) (columns more : List Column) → same_column c x ≡ true → same_column c (last_of d columns) ≡ false → list_any (same_column c) (behind c (d ∷ (columns ++ x ∷ more))) ≡ true
+comes-later : (c x d : Column) (columns more : List Column) → same_column c x ≡ true → same_column c (last_of d columns) ≡ false → list_any (same_column c) (entries_after c (d ∷ (columns ++ x ∷ more))) ≡ true
 comes-later c x d [] more h k = by (same_column c d) k
   where
-    by : (b : Bool) → b ≡ false → list_any (same_column c) (cond b (behind c (x ∷ more)) (d ∷ x ∷ more)) ≡ true
+    by : (b : Bool) → b ≡ false → list_any (same_column c) (cond b (entries_after c (x ∷ more)) (d ∷ x ∷ more)) ≡ true
     by true e = cc
     by false e = found-later c x d [] more h
 comes-later c x d (e ∷ columns) more h k = by (comes-later c x e columns more h k) (same_column c d)
   where
-    by : list_any (same_column c) (behind c (e ∷ (columns ++ x ∷ more))) ≡ true
-        → (b : Bool) → list_any (same_column c) (cond b (behind c (e ∷ (columns ++ x ∷ more))) (d ∷ e ∷ (columns ++ x ∷ more))) ≡ true
+    by : list_any (same_column c) (entries_after c (e ∷ (columns ++ x ∷ more))) ≡ true
+        → (b : Bool) → list_any (same_column c) (cond b (entries_after c (e ∷ (columns ++ x ∷ more))) (d ∷ e ∷ (columns ++ x ∷ more))) ≡ true
     by rest true = rest
     by rest false = found-later c x d (e ∷ columns) more h
 
@@ -89,11 +89,11 @@ together-apart x (c ∷ []) more h = by (same_column x c)
     by true = refl
     by false = refl
 together-apart x (c ∷ d ∷ columns) more h =
-    by (same_column x c) refl (together-apart x (d ∷ columns) more (second_so (not (list_any (same_column c) (behind c (d ∷ (columns ++ x ∷ more))))) (stand_together (d ∷ (columns ++ x ∷ more))) h))
+    by (same_column x c) refl (together-apart x (d ∷ columns) more (second_so (not (list_any (same_column c) (entries_after c (d ∷ (columns ++ x ∷ more))))) (stand_together (d ∷ (columns ++ x ∷ more))) h))
   where
-    none : list_any (same_column c) (behind c (d ∷ (columns ++ x ∷ more))) ≡ false
-    none = not_so (list_any (same_column c) (behind c (d ∷ (columns ++ x ∷ more))))
-        (first_so (not (list_any (same_column c) (behind c (d ∷ (columns ++ x ∷ more))))) (stand_together (d ∷ (columns ++ x ∷ more))) h)
+    none : list_any (same_column c) (entries_after c (d ∷ (columns ++ x ∷ more))) ≡ false
+    none = not_so (list_any (same_column c) (entries_after c (d ∷ (columns ++ x ∷ more))))
+        (first_so (not (list_any (same_column c) (entries_after c (d ∷ (columns ++ x ∷ more))))) (stand_together (d ∷ (columns ++ x ∷ more))) h)
 
     last : Column
     last = last_of d columns

@@ -10,10 +10,10 @@ use Rattle.mpslp_mps.specs.Line.{Fields, skipped, header, data_line}
 use Rattle.mpslp_mps.specs.Section.{is_section, section_named}
 use Rattle.mpslp_mps.specs.DataLine.{ValuesLine, word_shape, column_shape, is_marker_line, marker_shape, opening_word, vector_shape}
 use Rattle.mpslp_mps.specs.BoundLine.{BoundLine, bound_type, bound_shape}
-use Rattle.mpslp_mps.specs.Context.{Context, word_wanted, line_column, vector_set, bound_set}
+use Rattle.mpslp_mps.specs.Context.{Context, section_of_word_due, line_column, vector_set, bound_set}
 use Rattle.mpslp_mps.specs.NextContext.{next_part, next_set, next_context}
 use Rattle.mpslp_mps.specs.LineValues.{named_values}
-use Rattle.mpslp_mps.specs.ContextStep.{named_objective, after_header, after_objective_name, after_data, after_marker, after_column, after_right_side, after_range, after_bound}
+use Rattle.mpslp_mps.specs.ContextStep.{header_objname, after_header, after_objname, after_data, after_marker, after_column, after_rhs, after_range, after_bound}
 use Rattle.mpslp_mps.specs.declared.bound_types.BoundType.{BoundType}
 use Rattle.mpslp_mps.specs.declared.sections.Section.{Section}
 use Rattle.mpslp_mps.specs.declared.sections.Section.TheVariants.{ObjSense, ObjName, Rows, Columns, Rhs, Ranges, Bounds}
@@ -24,18 +24,18 @@ same-option None = refl
 same-option (Some x) = refl
 
 pub step-skipped : (c : Context) → next_context c skipped ≡ c
-step-skipped c = λ i. record c { seen = append-nil c.seen i; objective_name = same-option c.objective_name i }
+step-skipped c = λ i. record c { sections_seen = append-nil c.sections_seen i; objname = same-option c.objname i }
 
 -- ---- headers
 
 pub step-header : (c : Context) (keyword : List ℕ) (more : Fields) (section : Section) → section_named keyword ≡ Some section
-    → next_context c (header keyword more) ≡ after_header c section (word_wanted section more) (named_objective section more)
+    → next_context c (header keyword more) ≡ after_header c section (section_of_word_due section more) (header_objname section more)
 step-header c keyword more section h =
     ap (λ (o : Option Section). record c {
       section = option_or o c.section;
-      seen = c.seen ++ cons_option o [];
-      wanted = option_map_or (λ begun. word_wanted begun more) o None;
-      objective_name = option_or c.objective_name (cond (is_section ObjName o) (word_shape more) None);
+      sections_seen = c.sections_seen ++ cons_option o [];
+      word_due = option_map_or (λ begun. section_of_word_due begun more) o None;
+      objname = option_or c.objname (cond (is_section ObjName o) (word_shape more) None);
     }) h
 
 -- ---- data lines
@@ -43,9 +43,9 @@ step-header c keyword more section h =
 -- after a data line of a section
 abbrev under : Context → Fields → Option Section → Context
 under c fields section = record c {
-  seen = c.seen ++ [];
-  wanted = None;
-  objective_name = option_or c.objective_name (cond (is_section ObjName section) (word_shape fields) None);
+  sections_seen = c.sections_seen ++ [];
+  word_due = None;
+  objname = option_or c.objname (cond (is_section ObjName section) (word_shape fields) None);
   in_integer_part = cond (is_section Columns section) (next_part fields c.in_integer_part) c.in_integer_part;
   last_column = cond (is_section Columns section) (line_column fields) c.last_column;
   rhs_set = cond (is_section Rhs section) (next_set vector_set fields c.rhs_set) c.rhs_set;
@@ -53,22 +53,22 @@ under c fields section = record c {
   bounds_set = cond (is_section Bounds section) (next_set bound_set fields c.bounds_set) c.bounds_set;
 }
 
-pub step-objective_name : (c : Context) (fields : Fields) (name : List ℕ) → c.section ≡ Some ObjName → word_shape fields ≡ Some name
-    → next_context c (data_line fields) ≡ after_objective_name c name
-step-objective_name c fields name h k =
-    ap (under c fields) h ∙ (λ i. record c { seen = append-nil c.seen i; wanted = None; objective_name = option_or c.objective_name (k i) })
+pub step-objname : (c : Context) (fields : Fields) (name : List ℕ) → c.section ≡ Some ObjName → word_shape fields ≡ Some name
+    → next_context c (data_line fields) ≡ after_objname c name
+step-objname c fields name h k =
+    ap (under c fields) h ∙ (λ i. record c { sections_seen = append-nil c.sections_seen i; word_due = None; objname = option_or c.objname (k i) })
 
 pub step-sense : (c : Context) (fields : Fields) → c.section ≡ Some ObjSense → next_context c (data_line fields) ≡ after_data c
-step-sense c fields h = ap (under c fields) h ∙ (λ i. record c { seen = append-nil c.seen i; wanted = None; objective_name = same-option c.objective_name i })
+step-sense c fields h = ap (under c fields) h ∙ (λ i. record c { sections_seen = append-nil c.sections_seen i; word_due = None; objname = same-option c.objname i })
 
 pub step-row : (c : Context) (fields : Fields) → c.section ≡ Some Rows → next_context c (data_line fields) ≡ after_data c
-step-row c fields h = ap (under c fields) h ∙ (λ i. record c { seen = append-nil c.seen i; wanted = None; objective_name = same-option c.objective_name i })
+step-row c fields h = ap (under c fields) h ∙ (λ i. record c { sections_seen = append-nil c.sections_seen i; word_due = None; objname = same-option c.objname i })
 
 pub step-column : (c : Context) (fields : Fields) (column : List ℕ) (values : List (List ℕ × Number)) → c.section ≡ Some Columns → is_marker_line fields ≡ false
     → option_map named_values (column_shape fields) ≡ Some (column, values) → next_context c (data_line fields) ≡ after_column c column
 step-column c fields column values h plain k =
     ap (under c fields) h
-    ∙ (λ i. record c { seen = append-nil c.seen i; wanted = None; objective_name = same-option c.objective_name i; in_integer_part = part i; last_column = last i })
+    ∙ (λ i. record c { sections_seen = append-nil c.sections_seen i; word_due = None; objname = same-option c.objname i; in_integer_part = part i; last_column = last i })
   where
     part : next_part fields c.in_integer_part ≡ c.in_integer_part
     part = ap (λ (b : Bool). option_map_or (same_bytes opening_word) (cond b (marker_shape fields) None) c.in_integer_part) plain
@@ -84,7 +84,7 @@ pub step-marker : (c : Context) (fields : Fields) (opens : Bool) → c.section �
     → option_map (same_bytes opening_word) (marker_shape fields) ≡ Some opens → next_context c (data_line fields) ≡ after_marker c opens
 step-marker c fields opens h marked k =
     ap (under c fields) h
-    ∙ (λ i. record c { seen = append-nil c.seen i; wanted = None; objective_name = same-option c.objective_name i; in_integer_part = part i; last_column = last i })
+    ∙ (λ i. record c { sections_seen = append-nil c.sections_seen i; word_due = None; objname = same-option c.objname i; in_integer_part = part i; last_column = last i })
   where
     of : (o : Option (List ℕ)) → option_map (same_bytes opening_word) o ≡ Some opens → option_map_or (same_bytes opening_word) o c.in_integer_part ≡ opens
     of None e = cc
@@ -105,19 +105,19 @@ set-of fields set values k = of (vector_shape fields) k
     of (Some line) e = ap (option_map (λ (p : List ℕ × List (List ℕ × Number)). p.0)) e
 
 pub step-right_side : (c : Context) (fields : Fields) (set : List ℕ) (values : List (List ℕ × Number)) → c.section ≡ Some Rhs
-    → option_map named_values (vector_shape fields) ≡ Some (set, values) → next_context c (data_line fields) ≡ after_right_side c set
+    → option_map named_values (vector_shape fields) ≡ Some (set, values) → next_context c (data_line fields) ≡ after_rhs c set
 step-right_side c fields set values h k =
-    ap (under c fields) h ∙ (λ i. record c { seen = append-nil c.seen i; wanted = None; objective_name = same-option c.objective_name i; rhs_set = option_or c.rhs_set (set-of fields set values k i) })
+    ap (under c fields) h ∙ (λ i. record c { sections_seen = append-nil c.sections_seen i; word_due = None; objname = same-option c.objname i; rhs_set = option_or c.rhs_set (set-of fields set values k i) })
 
 pub step-range : (c : Context) (fields : Fields) (set : List ℕ) (values : List (List ℕ × Number)) → c.section ≡ Some Ranges
     → option_map named_values (vector_shape fields) ≡ Some (set, values) → next_context c (data_line fields) ≡ after_range c set
 step-range c fields set values h k =
-    ap (under c fields) h ∙ (λ i. record c { seen = append-nil c.seen i; wanted = None; objective_name = same-option c.objective_name i; ranges_set = option_or c.ranges_set (set-of fields set values k i) })
+    ap (under c fields) h ∙ (λ i. record c { sections_seen = append-nil c.sections_seen i; word_due = None; objname = same-option c.objname i; ranges_set = option_or c.ranges_set (set-of fields set values k i) })
 
 pub step-bound : (c : Context) (letters : List ℕ) (more : Fields) (type : BoundType) (line : BoundLine) → c.section ≡ Some Bounds → bound_type letters ≡ Some type
     → bound_shape type more ≡ Some line → next_context c (data_line (letters ∷ more)) ≡ after_bound c line.set
 step-bound c letters more type line h t k =
-    ap (under c (letters ∷ more)) h ∙ (λ i. record c { seen = append-nil c.seen i; wanted = None; objective_name = same-option c.objective_name i; bounds_set = option_or c.bounds_set (set i) })
+    ap (under c (letters ∷ more)) h ∙ (λ i. record c { sections_seen = append-nil c.sections_seen i; word_due = None; objname = same-option c.objname i; bounds_set = option_or c.bounds_set (set i) })
   where
     set : bound_set (letters ∷ more) ≡ Some line.set
     set =

@@ -5,33 +5,33 @@ use Rattle.std.specs.List.{list_all, flat_map}
 use Rattle.std.specs.Option.{option_map, option_map_or}
 use Rattle.mpslp_decimal.specs.Decimal.{Number}
 use Rattle.mpslp_builder.specs.Declaration.{Declarations, Draft, declare_range, rhs_declared}
-use Rattle.mpslp_core.specs.Lists.{those_of}
+use Rattle.mpslp_model_core.specs.Lists.{those_of}
 use Rattle.mpslp_types.specs.FaultOrder.{least_kind}
 use Rattle.mpslp_types.specs.declared.faults.FaultKind.{FaultKind}
 use Rattle.mpslp_types.specs.declared.faults.FaultKind.TheVariants as kinds
 use Rattle.mpslp_mps.specs.Line.{Fields, data_line}
 use Rattle.mpslp_mps.specs.DataLine.{Pair, ValuesLine}
 use Rattle.mpslp_mps.specs.Context.{Context}
-use Rattle.mpslp_mps.specs.LineMeaning.{declared_of, right_sides_declared, ranges_declared, data_declared}
-use Rattle.mpslp_reading.specs.Field.{value_of, number_tests}
+use Rattle.mpslp_mps.specs.LineDeclarations.{declared_if_some, rhs_line_declared, ranges_declared, data_declared}
+use Rattle.mpslp_lines.specs.Field.{value_of, number_tests}
 use Rattle.mpslp_mps.specs.BoundLine.{BoundLine, bound_type, bound_shape}
-use Rattle.mpslp_reading.specs.Tests.{Tests, judged_by, first_held}
+use Rattle.mpslp_lines.specs.FaultTests.{FaultTests, judged_by, first_held}
 use Rattle.mpslp_mps.specs.FieldFault.{set_tests}
 use Rattle.mpslp_mps.specs.DataFault.{vector_tests, bound_tests, typed_bound_tests, bound_line_tests, data_tests}
 use Rattle.mpslp_mps.specs.LineAnswer.{item_fault}
 use Rattle.mpslp_mps.specs.LineValues.{row_value, named_values}
-use Rattle.mpslp_reading.specs.Declaring.{declaring_faults, declared_fault}
-use Rattle.mpslp_mps.specs.VectorDeclared.{right_sides_of, ranges_of}
+use Rattle.mpslp_lines.specs.Declaring.{declaring_faults, declared_fault}
+use Rattle.mpslp_mps.specs.VectorDeclared.{rhs_values_declared, ranges_of}
 use Rattle.mpslp_mps.specs.declared.bound_types.BoundType.{BoundType}
 use Rattle.mpslp_mps.specs.declared.sections.Section.{Section}
-use Rattle.mpslp_reading.proofs.LeastLemmas.{is_from}
-use Rattle.mpslp_reading.proofs.ClashLemmas.{has_kind_clash}
-use Rattle.mpslp_reading.proofs.FirstFaultLemmas.{form-first, is_behind_clash, clash-first, declared-first}
-use Rattle.mpslp_reading.proofs.HeldLemmas.{held-among}
+use Rattle.mpslp_lines.proofs.LeastLemmas.{is_from}
+use Rattle.mpslp_lines.proofs.ClashLemmas.{has_kind_clash}
+use Rattle.mpslp_lines.proofs.FirstFaultLemmas.{form-first, is_behind_clash, clash-first, declared-first}
+use Rattle.mpslp_lines.proofs.HeldLemmas.{held-among}
 use Rattle.mpslp_mps.proofs.RisingTests.{data-rising}
 
 -- all kinds of the tests come before those of what is declared
-abbrev pub are_early : Tests → Type 0
+abbrev pub are_early : FaultTests → Type 0
 are_early tests = list_all (λ test. is_from test.1 kinds.UnknownRow) tests ≡ true
 
 abbrev pub data_fault : Context → Draft → Fields → Option FaultKind
@@ -74,23 +74,23 @@ pub vector-early : (first : Option (List ℕ)) (o : Option ValuesLine) → are_e
 vector-early first None = refl
 vector-early first (Some line) = refl
 
-sides-pairs : (earlier : Draft) (pairs : List Pair) → flat_map (λ (pair : Pair). rhs_declared earlier pair.row (value_of pair.literal)) pairs ≡ right_sides_of earlier (map row_value pairs)
+sides-pairs : (earlier : Draft) (pairs : List Pair) → flat_map (λ (pair : Pair). rhs_declared earlier pair.row (value_of pair.literal)) pairs ≡ rhs_values_declared earlier (map row_value pairs)
 sides-pairs earlier [] = refl
 sides-pairs earlier (pair ∷ pairs) = ap (λ (more : Declarations). rhs_declared earlier pair.row (value_of pair.literal) ++ more) (sides-pairs earlier pairs)
 
 pub rhs_values-are : (earlier : Draft) (o : Option ValuesLine) (set : List ℕ) (values : List (List ℕ × Number)) → option_map named_values o ≡ Some (set, values)
-    → declared_of (right_sides_declared earlier) o ≡ right_sides_of earlier values
+    → declared_if_some (rhs_line_declared earlier) o ≡ rhs_values_declared earlier values
 rhs_values-are earlier None set values h = cc
 rhs_values-are earlier (Some line) set values h =
     let same = ap (λ (o : Option (List ℕ × List (List ℕ × Number))). option_map_or (λ found. found.1) o []) h in
-    sides-pairs earlier line.pairs ∙ ap (right_sides_of earlier) same
+    sides-pairs earlier line.pairs ∙ ap (rhs_values_declared earlier) same
 
 ranges-pairs : (pairs : List Pair) → map (λ (pair : Pair). declare_range pair.row (value_of pair.literal)) pairs ≡ ranges_of (map row_value pairs)
 ranges-pairs [] = refl
 ranges-pairs (pair ∷ pairs) = ap (λ (more : Declarations). declare_range pair.row (value_of pair.literal) ∷ more) (ranges-pairs pairs)
 
 pub ranges-are : (o : Option ValuesLine) (set : List ℕ) (values : List (List ℕ × Number)) → option_map named_values o ≡ Some (set, values)
-    → declared_of ranges_declared o ≡ ranges_of values
+    → declared_if_some ranges_declared o ≡ ranges_of values
 ranges-are None set values h = cc
 ranges-are (Some line) set values h =
     let same = ap (λ (o : Option (List ℕ × List (List ℕ × Number))). option_map_or (λ found. found.1) o []) h in

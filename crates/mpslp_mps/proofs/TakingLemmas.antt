@@ -2,23 +2,23 @@
 use Rattle.std.proofs.Common.{◌≡◌, sym, ap, ◌∙◌, Bool, true, false}
 use Rattle.std.specs.Prelude.{Some, None, Ok}
 use Rattle.std.specs.List.{list_all}
-use Rattle.mpslp_builder.specs.Declaration.{Declarations, Draft, adding_all}
+use Rattle.mpslp_builder.specs.Declaration.{Declarations, Draft, with_declarations}
 use Rattle.mpslp_types.specs.declared.faults.FaultKind.{FaultKind}
 use Rattle.mpslp_types.specs.declared.faults.FaultKind.TheVariants as kinds
 use Rattle.mpslp_mps.specs.Line.{Fields, data_line}
 use Rattle.mpslp_mps.specs.Context.{Context}
 use Rattle.mpslp_mps.specs.NextContext.{next_context}
-use Rattle.mpslp_reading.specs.Tests.{first_held}
+use Rattle.mpslp_lines.specs.FaultTests.{first_held}
 use Rattle.mpslp_mps.specs.DataFault.{data_tests}
-use Rattle.mpslp_mps.specs.LineMeaning.{data_declared}
-use Rattle.mpslp_reading.specs.Declaring.{declared_fault}
-use Rattle.mpslp_reading.specs.LineAnswer.{IsErrorOf}
-use Rattle.mpslp_mps.specs.LineAnswer.{ReadsItem}
-use Rattle.mpslp_reading.specs.declared.errors.LineError.{LineError}
-use Rattle.mpslp_reading.specs.declared.errors.LineError.TheVariants.{Fault, OutOfMemory}
+use Rattle.mpslp_mps.specs.LineDeclarations.{data_declared}
+use Rattle.mpslp_lines.specs.Declaring.{declared_fault}
+use Rattle.mpslp_lines.specs.LineAnswer.{IsErrorOf}
+use Rattle.mpslp_mps.specs.LineAnswer.{ReadsContent}
+use Rattle.mpslp_lines.specs.declared.errors.LineError.{LineError}
+use Rattle.mpslp_lines.specs.declared.errors.LineError.TheVariants.{Fault, OutOfMemory}
 use Rattle.mpslp_mps.specs.declared.sections.Section.{Section}
-use Rattle.mpslp_reading.proofs.LeastLemmas.{is_from}
-use Rattle.mpslp_reading.proofs.ClashLemmas.{has_kind_clash}
+use Rattle.mpslp_lines.proofs.LeastLemmas.{is_from}
+use Rattle.mpslp_lines.proofs.ClashLemmas.{has_kind_clash}
 use Rattle.mpslp_mps.proofs.TakenLemmas.{data_fault, data_fault-form, data_fault-declared, declared-is}
 
 -- a kind before all of what is declared
@@ -35,10 +35,10 @@ data-judged context earlier fields section OutOfMemory here early apart held = t
 -- a data line that is taken
 pub data-taken : (context : Context) (earlier : Draft) (fields : Fields) (section : Section) (ds : Declarations) (next : Context) (later : Draft)
     → context.section ≡ Some section → first_held (data_tests context earlier fields (Some section)) ≡ None → data_declared context earlier fields (Some section) ≡ ds
-    → declared_fault earlier ds ≡ None → next ≡ next_context context (data_line fields) → later ≡ adding_all earlier ds
-    → ReadsItem context earlier (data_line fields) (Ok tt) next later
+    → declared_fault earlier ds ≡ None → next ≡ next_context context (data_line fields) → later ≡ with_declarations earlier ds
+    → ReadsContent context earlier (data_line fields) (Ok tt) next later
 data-taken context earlier fields section ds next later here held is fault_is step draft = (
   data_fault-declared context earlier fields (Some section) ds here held is ∙ fault_is,
   step,
-  draft ∙ ap (adding_all earlier) (sym (declared-is context earlier fields (Some section) ds here is)),
+  draft ∙ ap (with_declarations earlier) (sym (declared-is context earlier fields (Some section) ds here is)),
 )

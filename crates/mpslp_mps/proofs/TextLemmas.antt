@@ -10,8 +10,8 @@ use Rattle.mpslp_types.specs.declared.faults.FaultKind.TheVariants.{MissingEnd}
 use Rattle.mpslp_mps.specs.Context.{context_of}
 use Rattle.mpslp_mps.specs.MpsText.{has_end, declarations_of}
 use Rattle.mpslp_mps.specs.FirstFault.{whole_mps_fault, first_mps_fault}
-use Rattle.mpslp_mps.specs.Reading.{fault_from, draft_from}
-use Rattle.mpslp_mps.specs.ReadingAnswer.{lines_to_end}
+use Rattle.mpslp_mps.specs.LineByLine.{fault_from, draft_from}
+use Rattle.mpslp_mps.specs.ReadAnswer.{lines_to_end}
 use Rattle.mpslp_mps.proofs.ReadingLemmas.{first_fault-is, draft-is}
 
 -- the fault of the first line that has one

@@ -3,15 +3,15 @@ use Rattle.std.proofs.Common.{◌≡◌, refl, sym, ap, subst, List, [], ◌∷�
 use Rattle.std.specs.Prelude.{not, ◌&&◌}
 use Rattle.std.specs.List.{list_all}
 use Rattle.mpslp_types.proofs.BoolLemmas.{both_so}
-use Rattle.mpslp_builder.specs.Declaration.{Draft, empty_draft, adding_all}
-use Rattle.mpslp_core.specs.Lists.{is_nonempty}
-use Rattle.mpslp_mps.specs.Line.{Item, skipped, header, data_line, item_of}
+use Rattle.mpslp_builder.specs.Declaration.{Draft, empty_draft, with_declarations}
+use Rattle.mpslp_model_core.specs.Lists.{is_nonempty}
+use Rattle.mpslp_mps.specs.Line.{LineContent, skipped, header, data_line, content_of}
 use Rattle.mpslp_mps.specs.Context.{context_of}
-use Rattle.mpslp_mps.specs.LineMeaning.{declared}
-use Rattle.mpslp_mps.specs.MpsText.{is_mps_text, read_lines, has_end, has_good_form, placed_lines}
+use Rattle.mpslp_mps.specs.LineDeclarations.{line_declares}
+use Rattle.mpslp_mps.specs.MpsText.{is_mps_text, read_lines, has_end, is_well_formed, lines_in_context}
 use Rattle.mpslp_mps.specs.TextInWords.{is_text_in_words}
 use Rattle.mpslp_mps.proofs.OrderLemmas.{IsGood}
-use Rattle.mpslp_mps.proofs.PlacedLemmas.{form_faults, have_good_form, lines-good}
+use Rattle.mpslp_mps.proofs.ContextLineLemmas.{form_faults, are_well_formed, lines-good}
 use Rattle.mpslp_mps.specs.Laws.{TextIsInWords}
 use Rattle.mpslp_mps.proofs.WordsOfText.{AreInWords, none-yet, one-more, text-in_words}
 use Rattle.mpslp_mps.proofs.ColumnsOfWords.{HaveLines, lines-push}
@@ -25,7 +25,7 @@ both true b h = (refl, h)
 both false b h = absurd cc
 
 -- what the lines before tell of the next one
-pub record Known (before : List Item) (earlier : Draft) : Type 0 where
+pub record Known (before : List LineContent) (earlier : Draft) : Type 0 where
   pub words : AreInWords before earlier
   pub lines : HaveLines before earlier
   pub declares : IsDeclared before earlier
@@ -34,7 +34,7 @@ pub record Known (before : List Item) (earlier : Draft) : Type 0 where
 pub none-known : Known [] empty_draft
 none-known = record { words = none-yet; lines = λ name h. cc; declares = λ told name row. cc; there = λ h. cc }
 
-pub known-kept : (before : List Item) (earlier : Draft) (item : Item) → IsGood before earlier item → Known before earlier → Known (before ++ item ∷ []) (adding_all earlier (declared (context_of before) earlier item))
+pub known-kept : (before : List LineContent) (earlier : Draft) (item : LineContent) → IsGood before earlier item → Known before earlier → Known (before ++ item ∷ []) (with_declarations earlier (line_declares (context_of before) earlier item))
 known-kept before earlier item good known = record {
   words = one-more before earlier item good known.words;
   lines = lines-push before earlier item known.lines;
@@ -42,24 +42,24 @@ known-kept before earlier item good known = record {
   there = wanted_there-kept before item known.there;
 }
 
-all-good : (items before : List Item) (earlier : Draft) → Known before earlier → AreGoodLines (before ++ items) → AreGoodHeaders (before ++ items) → have_good_form before earlier items ≡ true
+all-good : (items before : List LineContent) (earlier : Draft) → Known before earlier → AreGoodLines (before ++ items) → AreGoodHeaders (before ++ items) → are_well_formed before earlier items ≡ true
 all-good [] before earlier known lines headers = refl
 all-good (item ∷ items) before earlier known lines headers =
-    let next = adding_all earlier (declared (context_of before) earlier item) in
+    let next = with_declarations earlier (line_declares (context_of before) earlier item) in
     let good = here item lines headers in
-    both_so (not (is_nonempty (form_faults (context_of before) earlier item))) (have_good_form (before ++ item ∷ []) next items)
+    both_so (not (is_nonempty (form_faults (context_of before) earlier item))) (are_well_formed (before ++ item ∷ []) next items)
     (ap (λ faults. not (is_nonempty faults)) good)
     (all-good items (before ++ item ∷ []) next (known-kept before earlier item good known)
     (subst AreGoodLines (sym (append_assoc before (item ∷ []) items)) lines) (subst AreGoodHeaders (sym (append_assoc before (item ∷ []) items)) headers))
   where
-    here : (x : Item) → AreGoodLines (before ++ x ∷ items) → AreGoodHeaders (before ++ x ∷ items) → IsGood before earlier x
+    here : (x : LineContent) → AreGoodLines (before ++ x ∷ items) → AreGoodHeaders (before ++ x ∷ items) → IsGood before earlier x
     here skipped l h = refl
     here (header keyword more) l h = keyword-good before earlier keyword more items known.words.sense known.words.name known.there known.declares h
     here (data_line fields) l h = data-good before earlier fields items known.words.sense known.words.name known.lines l
 
 text-of_words : (bytes : List ℕ) → is_text_in_words bytes ≡ true → is_mps_text bytes ≡ true
 text-of_words bytes h =
-    let items = map item_of (read_lines bytes) in
+    let items = map content_of (read_lines bytes) in
     let (ended, rest) = both _ _ h in
     let (legal, together) = both _ _ rest in
     let (heads, more) = both _ _ together in
@@ -79,7 +79,7 @@ text-of_words bytes h =
     let (whole, sets) = both _ _ more7 in
     let (side_set, s1) = both _ _ sets in
     let (range_set, bound_sets) = both _ _ s1 in
-    both_so (has_end bytes) (list_all has_good_form (placed_lines bytes)) ended
+    both_so (has_end bytes) (list_all is_well_formed (lines_in_context bytes)) ended
     (lines-good [] empty_draft (read_lines bytes) legal
     (all-good items [] empty_draft
     none-known

@@ -8,21 +8,21 @@ use Rattle.std.proofs.lemmas.List.{append-nil, map-append}
 use Rattle.std.proofs.lemmas.List.Folds.{list_any-append}
 use Rattle.mpslp_types.specs.Name.{same_bytes}
 use Rattle.mpslp_types.proofs.BoolLemmas.{both_so, or_left, not_so, so_not}
-use Rattle.mpslp_builder.specs.Declaration.{Declaration, declare_sense, declare_objective, declare_constant, declare_row, declare_rhs, declare_range, declare_column, declare_coefficient, declare_lower, declare_upper, declare_marked, declare_integer, declare_binary, declare_semi, Declarations, Draft, adding, adding_all, has_column}
-use Rattle.mpslp_core.specs.Lists.{is_nonempty, when}
+use Rattle.mpslp_builder.specs.Declaration.{Declaration, declare_sense, declare_objective, declare_constant, declare_row, declare_rhs, declare_range, declare_column, declare_coefficient, declare_lower, declare_upper, declare_marked, declare_integer, declare_binary, declare_semi, Declarations, Draft, with_declaration, with_declarations, has_column}
+use Rattle.mpslp_model_core.specs.Lists.{is_nonempty, when}
 use Rattle.mpslp_builder.proofs.LaterDrafts.{more_entries, itself_named}
 use Rattle.mpslp_builder.proofs.SlotLemmas.{same_name, has-put}
-use Rattle.mpslp_mps.specs.Line.{Fields, Item, skipped, header, data_line}
+use Rattle.mpslp_mps.specs.Line.{Fields, LineContent, skipped, header, data_line}
 use Rattle.mpslp_mps.specs.Section.{is_section}
 use Rattle.mpslp_mps.specs.DataLine.{ValuesLine, is_marker_line, column_shape}
 use Rattle.mpslp_mps.specs.Context.{Context, context_of, current_section, fields_under, data_lines, line_column, last_column}
-use Rattle.mpslp_mps.specs.LineMeaning.{declared_of, coefficient_declared, column_declared, columns_line_declared, data_declared, declared}
+use Rattle.mpslp_mps.specs.LineDeclarations.{declared_if_some, coefficient_declared, column_declared, columns_line_declared, data_declared, line_declares}
 use Rattle.mpslp_mps.specs.DataFault.{is_split}
-use Rattle.mpslp_mps.specs.TextInWords.{same_column, behind, stand_together}
+use Rattle.mpslp_mps.specs.TextInWords.{same_column, entries_after, stand_together}
 use Rattle.mpslp_mps.specs.declared.sections.Section.TheVariants.{Columns}
 use Rattle.mpslp_mps.proofs.OrderLemmas.{IsGood}
 use Rattle.mpslp_mps.proofs.SectionLemmas.{data_lines-push}
-use Rattle.mpslp_mps.proofs.WordsOfFields.{section-is, column-goes_on}
+use Rattle.mpslp_mps.proofs.WordsOfFields.{section-is, column-continues_column}
 use Rattle.mpslp_mps.proofs.WordsOfSections.{section-kept}
 
 -- the column of a line, if it has one
@@ -48,7 +48,7 @@ abbrev pub last_of : Column → List Column → Column
 last_of last [] = last
 last_of last (column ∷ columns) = last_of column columns
 
-behind-more : (c x : Column) (columns : List Column) → list_any (same_column c) (behind c (columns ++ x ∷ [])) ≡ (list_any (same_column c) (behind c columns) || (is_nonempty (behind c columns) && same_column c x))
+behind-more : (c x : Column) (columns : List Column) → list_any (same_column c) (entries_after c (columns ++ x ∷ [])) ≡ (list_any (same_column c) (entries_after c columns) || (is_nonempty (entries_after c columns) && same_column c x))
 behind-more c x [] = by (same_column c x) refl
   where
     by : (b : Bool) → same_column c x ≡ b → list_any (same_column c) (cond b [] (x ∷ [])) ≡ false
@@ -56,9 +56,9 @@ behind-more c x [] = by (same_column c x) refl
     by false e = ap (λ (a : Bool). a || false) e
 behind-more c x (next ∷ columns) = by (same_column c next) (behind-more c x columns)
   where
-    by : (b : Bool) → list_any (same_column c) (behind c (columns ++ x ∷ [])) ≡ (list_any (same_column c) (behind c columns) || (is_nonempty (behind c columns) && same_column c x))
-        → list_any (same_column c) (cond b (behind c (columns ++ x ∷ [])) (next ∷ (columns ++ x ∷ [])))
-        ≡ (list_any (same_column c) (cond b (behind c columns) (next ∷ columns)) || (is_nonempty (cond b (behind c columns) (next ∷ columns)) && same_column c x))
+    by : (b : Bool) → list_any (same_column c) (entries_after c (columns ++ x ∷ [])) ≡ (list_any (same_column c) (entries_after c columns) || (is_nonempty (entries_after c columns) && same_column c x))
+        → list_any (same_column c) (cond b (entries_after c (columns ++ x ∷ [])) (next ∷ (columns ++ x ∷ [])))
+        ≡ (list_any (same_column c) (cond b (entries_after c columns) (next ∷ columns)) || (is_nonempty (cond b (entries_after c columns) (next ∷ columns)) && same_column c x))
     by true h = h
     by false h = list_any-append (same_column c) (next ∷ columns) (x ∷ []) ∙ ap (λ (b : Bool). list_any (same_column c) (next ∷ columns) || b) (ends (same_column c x))
       where
@@ -75,12 +75,12 @@ none-last c d (next ∷ columns) h k = none-last c next columns (more (same_colu
     more false e = e
 
 -- where none of a column stands behind its first lines, and the last line is its, all lines are
-nothing-behind : (c d : Column) (columns : List Column) → list_any (same_column c) (behind c columns) ≡ false → same_column c (last_of d columns) ≡ true → is_nonempty (behind c columns) ≡ false
+nothing-behind : (c d : Column) (columns : List Column) → list_any (same_column c) (entries_after c columns) ≡ false → same_column c (last_of d columns) ≡ true → is_nonempty (entries_after c columns) ≡ false
 nothing-behind c d [] h k = refl
 nothing-behind c d (next ∷ columns) h k = by (λ e. nothing-behind c next columns e k) (same_column c next) h
   where
-    by : (list_any (same_column c) (behind c columns) ≡ false → is_nonempty (behind c columns) ≡ false)
-        → (b : Bool) → list_any (same_column c) (cond b (behind c columns) (next ∷ columns)) ≡ false → is_nonempty (cond b (behind c columns) (next ∷ columns)) ≡ false
+    by : (list_any (same_column c) (entries_after c columns) ≡ false → is_nonempty (entries_after c columns) ≡ false)
+        → (b : Bool) → list_any (same_column c) (cond b (entries_after c columns) (next ∷ columns)) ≡ false → is_nonempty (cond b (entries_after c columns) (next ∷ columns)) ≡ false
     by rest true e = rest e
     by rest false e = sym (none-last c next columns e k)
 
@@ -96,13 +96,13 @@ fewer false b n h = h
 pub together-more : (x : Column) (columns : List Column) → stand_together columns ≡ true → comes_again x columns ≡ false → stand_together (columns ++ x ∷ []) ≡ true
 together-more x [] h k = refl
 together-more x (c ∷ columns) h k =
-    both_so (not (list_any (same_column c) (behind c (columns ++ x ∷ [])))) (stand_together (columns ++ x ∷ []))
-    (so_not (list_any (same_column c) (behind c (columns ++ x ∷ [])))
-    (behind-more c x columns ∙ ap (λ (b : Bool). b || (is_nonempty (behind c columns) && same_column c x)) none ∙ last (same_column c x) refl))
-    (together-more x columns (second_so (not (list_any (same_column c) (behind c columns))) (stand_together columns) h) (later columns k))
+    both_so (not (list_any (same_column c) (entries_after c (columns ++ x ∷ [])))) (stand_together (columns ++ x ∷ []))
+    (so_not (list_any (same_column c) (entries_after c (columns ++ x ∷ [])))
+    (behind-more c x columns ∙ ap (λ (b : Bool). b || (is_nonempty (entries_after c columns) && same_column c x)) none ∙ last (same_column c x) refl))
+    (together-more x columns (second_so (not (list_any (same_column c) (entries_after c columns))) (stand_together columns) h) (later columns k))
   where
-    none : list_any (same_column c) (behind c columns) ≡ false
-    none = not_so (list_any (same_column c) (behind c columns)) (first_so (not (list_any (same_column c) (behind c columns))) (stand_together columns) h)
+    none : list_any (same_column c) (entries_after c columns) ≡ false
+    none = not_so (list_any (same_column c) (entries_after c columns)) (first_so (not (list_any (same_column c) (entries_after c columns))) (stand_together columns) h)
 
     later : (cs : List Column) → comes_again x (c ∷ cs) ≡ false → comes_again x cs ≡ false
     later [] e = refl
@@ -113,15 +113,15 @@ together-more x (c ∷ columns) h k =
     so true b false e f = sym f
     so false b n e f = cc
 
-    nothing : same_column c x ≡ true → is_nonempty (behind c columns) ≡ false
+    nothing : same_column c x ≡ true → is_nonempty (entries_after c columns) ≡ false
     nothing e =
         let back = turned c x e in
         let end = so (same_column x c) (list_any (same_column x) columns) (same_column x (last_of c columns)) back k in
         nothing-behind c c columns none (ap (λ (z : Column). same_column z (last_of c columns)) (one_column c x e) ∙ end)
 
-    last : (b : Bool) → same_column c x ≡ b → (is_nonempty (behind c columns) && b) ≡ false
+    last : (b : Bool) → same_column c x ≡ b → (is_nonempty (entries_after c columns) && b) ≡ false
     last true e = ap (λ (a : Bool). a && true) (nothing e)
-    last false e = nowhere (is_nonempty (behind c columns))
+    last false e = nowhere (is_nonempty (entries_after c columns))
       where
         nowhere : (a : Bool) → (a && false) ≡ false
         nowhere true = refl
@@ -129,7 +129,7 @@ together-more x (c ∷ columns) h k =
 
 -- ---- the columns that a draft has
 
-stays-there : (all : Draft) (d : Declaration) (name : List ℕ) → has_column all name ≡ true → has_column (adding all d) name ≡ true
+stays-there : (all : Draft) (d : Declaration) (name : List ℕ) → has_column all name ≡ true → has_column (with_declaration all d) name ≡ true
 stays-there all (declare_objective n) name h = h
 stays-there all (declare_sense s) name h = h
 stays-there all (declare_constant v) name h = h
@@ -145,53 +145,53 @@ stays-there all (declare_integer c) name h = h
 stays-there all (declare_binary c) name h = h
 stays-there all (declare_semi c) name h = h
 
-pub column-after : (ds : Declarations) (all : Draft) (name : List ℕ) → has_column all name ≡ true → has_column (adding_all all ds) name ≡ true
+pub column-after : (ds : Declarations) (all : Draft) (name : List ℕ) → has_column all name ≡ true → has_column (with_declarations all ds) name ≡ true
 column-after [] all name h = h
-column-after (d ∷ ds) all name h = column-after ds (adding all d) name (stays-there all d name h)
+column-after (d ∷ ds) all name h = column-after ds (with_declaration all d) name (stays-there all d name h)
 
 -- the columns of these lines
-abbrev pub columns_of : List Item → List Column
+abbrev pub columns_of : List LineContent → List Column
 columns_of before = map line_column (data_lines Columns before)
 
 -- each of them is there
-abbrev pub AreThere : List Item → Draft → Type 0
+abbrev pub AreThere : List LineContent → Draft → Type 0
 AreThere before earlier = (name : List ℕ) → list_any (same_column (Some name)) (columns_of before) ≡ true → has_column earlier name ≡ true
 
-declares-itself : (context : Context) (earlier : Draft) (fields : Fields) (name : List ℕ) → line_column fields ≡ Some name → has_column (adding_all earlier (columns_line_declared context fields)) name ≡ true
+declares-itself : (context : Context) (earlier : Draft) (fields : Fields) (name : List ℕ) → line_column fields ≡ Some name → has_column (with_declarations earlier (columns_line_declared context fields)) name ≡ true
 declares-itself context earlier fields name h = by (is_marker_line fields) h
   where
-    of : (o : Option ValuesLine) → option_map (λ (line : ValuesLine). line.name) o ≡ Some name → has_column (adding_all earlier (declared_of (column_declared context) o)) name ≡ true
+    of : (o : Option ValuesLine) → option_map (λ (line : ValuesLine). line.name) o ≡ Some name → has_column (with_declarations earlier (declared_if_some (column_declared context) o)) name ≡ true
     of None e = cc
     of (Some line) e =
         let same : line.name ≡ name = cc in
-        column-after (when context.in_integer_part (declare_marked line.name) ++ flat_map (coefficient_declared line.name) line.pairs) (adding earlier (declare_column line.name)) name
+        column-after (when context.in_integer_part (declare_marked line.name) ++ flat_map (coefficient_declared line.name) line.pairs) (with_declaration earlier (declare_column line.name)) name
         (has-put name line.name tt earlier.columns ∙ or_left (same_bytes name line.name) (has_column earlier name) (ap (same_bytes name) same ∙ itself_named name))
 
     by : (b : Bool) → cond b None (option_map (λ (line : ValuesLine). line.name) (column_shape fields)) ≡ Some name
-        → has_column (adding_all earlier (cond b [] (declared_of (column_declared context) (column_shape fields)))) name ≡ true
+        → has_column (with_declarations earlier (cond b [] (declared_if_some (column_declared context) (column_shape fields)))) name ≡ true
     by true e = cc
     by false e = of (column_shape fields) e
 
-pub there-push : (before : List Item) (earlier : Draft) (item : Item) → AreThere before earlier → AreThere (before ++ item ∷ []) (adding_all earlier (declared (context_of before) earlier item))
+pub there-push : (before : List LineContent) (earlier : Draft) (item : LineContent) → AreThere before earlier → AreThere (before ++ item ∷ []) (with_declarations earlier (line_declares (context_of before) earlier item))
 there-push before earlier item there name h = by item (sym (ap (λ (lines : List Fields). list_any (same_column (Some name)) (map line_column lines)) (data_lines-push Columns before item)) ∙ h)
   where
     lines : List Fields
     lines = data_lines Columns before
 
-    kept : (x : Item) → list_any (same_column (Some name)) (map line_column (lines ++ [])) ≡ true → has_column (adding_all earlier (declared (context_of before) earlier x)) name ≡ true
+    kept : (x : LineContent) → list_any (same_column (Some name)) (map line_column (lines ++ [])) ≡ true → has_column (with_declarations earlier (line_declares (context_of before) earlier x)) name ≡ true
     kept x e =
-        column-after (declared (context_of before) earlier x) earlier name
+        column-after (line_declares (context_of before) earlier x) earlier name
         (there name (sym (ap (λ (all : List Fields). list_any (same_column (Some name)) (map line_column all)) (append-nil lines)) ∙ e))
 
     new : (fields : Fields) → current_section before ≡ Some Columns → list_any (same_column (Some name)) (map line_column (lines ++ fields ∷ [])) ≡ true
-        → has_column (adding_all earlier (declared (context_of before) earlier (data_line fields))) name ≡ true
+        → has_column (with_declarations earlier (line_declares (context_of before) earlier (data_line fields))) name ≡ true
     new fields e k =
         let parted = sym (ap (list_any (same_column (Some name))) (map-append line_column lines (fields ∷ [])) ∙ list_any-append (same_column (Some name)) (map line_column lines) (line_column fields ∷ [])) ∙ k in
-        subst (λ o. has_column (adding_all earlier (data_declared (context_of before) earlier fields o)) name ≡ true) (sym e)
+        subst (λ o. has_column (with_declarations earlier (data_declared (context_of before) earlier fields o)) name ≡ true) (sym e)
         (of (list_any (same_column (Some name)) (map line_column lines)) refl parted)
       where
         of : (b : Bool) → list_any (same_column (Some name)) (map line_column lines) ≡ b → (b || (same_column (Some name) (line_column fields) || false)) ≡ true
-            → has_column (adding_all earlier (columns_line_declared (context_of before) fields)) name ≡ true
+            → has_column (with_declarations earlier (columns_line_declared (context_of before) fields)) name ≡ true
         of true f g = column-after (columns_line_declared (context_of before) fields) earlier name (there name f)
         of false f g = declares-itself (context_of before) earlier fields name (sym (one_column (Some name) (line_column fields) (first (same_column (Some name) (line_column fields)) g)))
           where
@@ -200,12 +200,12 @@ there-push before earlier item there name h = by item (sym (ap (λ (lines : List
             first false e = e
 
     under : (fields : Fields) (b : Bool) → is_section Columns (current_section before) ≡ b → list_any (same_column (Some name)) (map line_column (lines ++ cond b (fields ∷ []) [])) ≡ true
-        → has_column (adding_all earlier (declared (context_of before) earlier (data_line fields))) name ≡ true
+        → has_column (with_declarations earlier (line_declares (context_of before) earlier (data_line fields))) name ≡ true
     under fields true e k = new fields (section-is Columns (current_section before) e) k
     under fields false e k = kept (data_line fields) k
 
-    by : (x : Item) → list_any (same_column (Some name)) (map line_column (lines ++ fields_under Columns (current_section before) x)) ≡ true
-        → has_column (adding_all earlier (declared (context_of before) earlier x)) name ≡ true
+    by : (x : LineContent) → list_any (same_column (Some name)) (map line_column (lines ++ fields_under Columns (current_section before) x)) ≡ true
+        → has_column (with_declarations earlier (line_declares (context_of before) earlier x)) name ≡ true
     by skipped k = kept skipped k
     by (header keyword more) k = kept (header keyword more) k
     by (data_line fields) k = under fields (is_section Columns (current_section before)) refl k
@@ -216,12 +216,12 @@ pub last-line : (lines : List Fields) (o : Option Fields) → option_map_or line
 last-line [] o = refl
 last-line (fields ∷ lines) o = last-line lines (Some fields)
 
-pub columns-kept : (before : List Item) (earlier : Draft) (item : Item) → IsGood before earlier item → AreThere before earlier → stand_together (columns_of before) ≡ true
+pub columns-kept : (before : List LineContent) (earlier : Draft) (item : LineContent) → IsGood before earlier item → AreThere before earlier → stand_together (columns_of before) ≡ true
     → stand_together (columns_of (before ++ item ∷ [])) ≡ true
 columns-kept before earlier item good there h =
     section-kept Columns (λ lines. stand_together (map line_column lines)) before earlier item
     (λ fields g. ap stand_together (map-append line_column (data_lines Columns before) (fields ∷ []))
-    ∙ together-more (line_column fields) (columns_of before) h (by (line_column fields) (λ name e. column-goes_on (context_of before) earlier fields g name e)))
+    ∙ together-more (line_column fields) (columns_of before) h (by (line_column fields) (λ name e. column-continues_column (context_of before) earlier fields g name e)))
     good h
   where
     last : last_column before ≡ last_of None (columns_of before)

@@ -13,19 +13,19 @@ use Rattle.mpslp_types.proofs.BoolLemmas.{both_so, nor}
 use Rattle.mpslp_types.specs.declared.faults.FaultKind.{FaultKind}
 use Rattle.mpslp_types.specs.declared.faults.FaultKind.TheVariants as kinds
 use Rattle.mpslp_builder.specs.Declaration.{Draft}
-use Rattle.mpslp_core.specs.Lists.{those_of}
+use Rattle.mpslp_model_core.specs.Lists.{those_of}
 use Rattle.mpslp_builder.proofs.LaterDrafts.{objective_is}
-use Rattle.mpslp_reading.specs.Tests.{Tests, judged_by}
-use Rattle.mpslp_reading.specs.Field.{name_tests, number_fault, is_kind, has_number_fault, number_tests}
-use Rattle.mpslp_reading.proofs.FieldLemmas.{name-legal}
-use Rattle.mpslp_reading.proofs.HeldLemmas.{first_test, later_tests}
+use Rattle.mpslp_lines.specs.FaultTests.{FaultTests, judged_by}
+use Rattle.mpslp_lines.specs.Field.{name_tests, number_fault, is_kind, has_number_fault, number_tests}
+use Rattle.mpslp_lines.proofs.FieldLemmas.{name-legal}
+use Rattle.mpslp_lines.proofs.HeldLemmas.{first_test, later_tests}
 use Rattle.mpslp_mps.specs.Line.{Fields}
 use Rattle.mpslp_mps.specs.Section.{keyword_of, section_named, is_section}
 use Rattle.mpslp_mps.specs.DataLine.{Pair, RowLine, ValuesLine, row_shape, row_type, column_shape, is_marker_line, marker_shape, opening_word, closing_word, vector_shape}
 use Rattle.mpslp_mps.specs.BoundLine.{BoundLine, bound_type, bound_shape}
 use Rattle.mpslp_mps.specs.Context.{Context, marker_word, line_column, vector_set, bound_set}
 use Rattle.mpslp_mps.specs.FieldFault.{literals_of, set_tests}
-use Rattle.mpslp_mps.specs.DataFault.{row_tests, is_sos_marker, marker_word_tests, marker_tests, is_split, column_tests, columns_line_tests, vector_tests, bound_tests, typed_bound_tests, bound_line_tests}
+use Rattle.mpslp_mps.specs.DataFault.{row_line_tests, is_sos_marker, marker_word_tests, marker_tests, is_split, column_tests, columns_line_tests, vector_tests, bound_tests, typed_bound_tests, bound_line_tests}
 use Rattle.mpslp_mps.specs.TextInWords.{is_number, have_numbers, is_row_line, is_columns_line, is_vector_line, is_bound_line}
 use Rattle.mpslp_mps.specs.declared.sections.Section.{Section}
 use Rattle.mpslp_mps.specs.declared.sections.Section.TheVariants.{Name, ObjSense, ObjName, Rows, Columns, Rhs, Ranges, Bounds, EndData}
@@ -88,15 +88,15 @@ pairs-fine : (pairs : List Pair) → list_all is_number (literals_of pairs) ≡ 
 pairs-fine [] = refl
 pairs-fine (pair ∷ pairs) = ap (λ (b : Bool). is_number pair.literal && b) (pairs-fine pairs)
 
-behind-numbers : (literals : List (List ℕ)) (more : Tests) → those_of (number_tests literals ++ more) ≡ [] → NoFault literals × (those_of more ≡ [])
+behind-numbers : (literals : List (List ℕ)) (more : FaultTests) → those_of (number_tests literals ++ more) ≡ [] → NoFault literals × (those_of more ≡ [])
 behind-numbers literals more h =
     let a = has_number_fault literals kinds.BadNumber in
     let b = has_number_fault literals kinds.LongNumber in
     let c = has_number_fault literals kinds.TooManyDigits in
     let d = has_number_fault literals kinds.ExponentRange in
-    let fourth : Tests = (d, kinds.ExponentRange) ∷ more in
-    let third : Tests = (c, kinds.TooManyDigits) ∷ fourth in
-    let second : Tests = (b, kinds.LongNumber) ∷ third in
+    let fourth : FaultTests = (d, kinds.ExponentRange) ∷ more in
+    let third : FaultTests = (c, kinds.TooManyDigits) ∷ fourth in
+    let second : FaultTests = (b, kinds.LongNumber) ∷ third in
     let k = later_tests a kinds.BadNumber second h in
     let l = later_tests b kinds.LongNumber third k in
     let m = later_tests c kinds.TooManyDigits fourth l in (
@@ -104,11 +104,11 @@ behind-numbers literals more h =
       later_tests d kinds.ExponentRange more m,
     )
 
-behind-names : (name : List ℕ) (more : Tests) → those_of (name_tests name ++ more) ≡ [] → those_of more ≡ []
+behind-names : (name : List ℕ) (more : FaultTests) → those_of (name_tests name ++ more) ≡ [] → those_of more ≡ []
 behind-names name more h =
     let c = same_bytes name marker in
     let b = not (list_all is_visible name) in
-    let last : Tests = (c, kinds.NameMarker) ∷ more in
+    let last : FaultTests = (c, kinds.NameMarker) ∷ more in
     later_tests c kinds.NameMarker more (later_tests b kinds.NameByte last (later_tests (not (has_name_length name)) kinds.NameLength ((b, kinds.NameByte) ∷ last) h))
 
 fine : (b : Bool) → not b ≡ false → b ≡ true
@@ -121,17 +121,17 @@ something : {X : Type 0} (o : Option X) → is_none o ≡ false → is_some o �
 something None k = sym k
 something (Some x) k = refl
 
-pub row-fields : (fields : Fields) → those_of (judged_by row_tests (row_shape fields)) ≡ [] → is_row_line fields ≡ true
+pub row-fields : (fields : Fields) → those_of (judged_by row_line_tests (row_shape fields)) ≡ [] → is_row_line fields ≡ true
 row-fields fields h = by (row_shape fields) h
   where
-    by : (o : Option RowLine) → those_of (judged_by row_tests o) ≡ [] → option_map_or (λ (line : RowLine). is_some (row_type line.letter) && is_mps_name line.name) o false ≡ true
+    by : (o : Option RowLine) → those_of (judged_by row_line_tests o) ≡ [] → option_map_or (λ (line : RowLine). is_some (row_type line.letter) && is_mps_name line.name) o false ≡ true
     by None k = cc
     by (Some line) k =
         both_so (is_some (row_type line.letter)) (is_mps_name line.name)
         (something (row_type line.letter) (first_test (is_none (row_type line.letter)) kinds.BadType (name_tests line.name) k))
         (name-legal line.name [] (later_tests (is_none (row_type line.letter)) kinds.BadType (name_tests line.name) k))
 
-pub numbers-of : (pairs : List Pair) (more : Tests) → those_of (number_tests (literals_of pairs) ++ more) ≡ [] → have_numbers pairs ≡ true
+pub numbers-of : (pairs : List Pair) (more : FaultTests) → those_of (number_tests (literals_of pairs) ++ more) ≡ [] → have_numbers pairs ≡ true
 numbers-of pairs more h = sym (pairs-fine pairs) ∙ numbers-fine (literals_of pairs) (behind-numbers (literals_of pairs) more h).0
 
 -- the tests of a column's line behind its name and its numbers
@@ -139,7 +139,7 @@ column-parts : (context : Context) (earlier : Draft) (line : ValuesLine) → tho
     → (is_mps_name line.name ≡ true) × (have_numbers line.pairs ≡ true) × (is_split context earlier line.name ≡ false)
 column-parts context earlier line h =
     let split = is_split context earlier line.name in
-    let last : Tests = (split, kinds.ColumnSplit) ∷ [] in
+    let last : FaultTests = (split, kinds.ColumnSplit) ∷ [] in
     let numbers = number_tests (literals_of line.pairs) ++ last in
     let rest = behind-names line.name numbers h in
     (name-legal line.name numbers h, numbers-of line.pairs last rest, first_test split kinds.ColumnSplit [] (behind-numbers (literals_of line.pairs) last rest).1)
@@ -171,8 +171,8 @@ marker-fits context earlier fields h word = by (is_marker_line fields) h
     fits None k e = cc
     fits (Some other) k e =
         let same : other ≡ word = some-word other word e in
-        let wanted = cond context.in_integer_part closing_word opening_word in
-        ap (λ (w : List ℕ). same_bytes w wanted) (sym same) ∙ fine (same_bytes other wanted) (first_test (not (same_bytes other wanted)) kinds.BadMarker [] k)
+        let word_due = cond context.in_integer_part closing_word opening_word in
+        ap (λ (w : List ℕ). same_bytes w word_due) (sym same) ∙ fine (same_bytes other word_due) (first_test (not (same_bytes other word_due)) kinds.BadMarker [] k)
 
     by : (b : Bool) → those_of (cond b (marker_tests context fields) (judged_by (column_tests context earlier) (column_shape fields))) ≡ []
         → cond b (marker_shape fields) None ≡ Some word → same_bytes word (cond context.in_integer_part closing_word opening_word) ≡ true
@@ -180,9 +180,9 @@ marker-fits context earlier fields h word = by (is_marker_line fields) h
     by false k e = cc
 
 -- a column goes on where it stood last, or begins
-pub column-goes_on : (context : Context) (earlier : Draft) (fields : Fields) → those_of (columns_line_tests context earlier fields) ≡ [] → (name : List ℕ) → line_column fields ≡ Some name
+pub column-continues_column : (context : Context) (earlier : Draft) (fields : Fields) → those_of (columns_line_tests context earlier fields) ≡ [] → (name : List ℕ) → line_column fields ≡ Some name
     → is_split context earlier name ≡ false
-column-goes_on context earlier fields h name = by (is_marker_line fields) h
+column-continues_column context earlier fields h name = by (is_marker_line fields) h
   where
     of : (o : Option ValuesLine) → those_of (judged_by (column_tests context earlier) o) ≡ [] → option_map (λ (line : ValuesLine). line.name) o ≡ Some name → is_split context earlier name ≡ false
     of None k e = cc
@@ -220,7 +220,7 @@ bound-parts : (context : Context) (line : BoundLine) → those_of (bound_tests c
     → (option_map_or is_number line.literal true ≡ true) × (is_other_set context.bounds_set line.set ≡ false)
 bound-parts context line h = by line.literal h
   where
-    sets : Tests
+    sets : FaultTests
     sets = set_tests context.bounds_set line.set
 
     one : (literal : List ℕ) → have_numbers (record { row = []; literal = literal } ∷ []) ≡ true → is_number literal ≡ true

@@ -10,14 +10,14 @@ use Rattle.mpslp_types.specs.Name.{same_bytes}
 use Rattle.mpslp_types.specs.declared.kinds.RowType.{RowType}
 use Rattle.mpslp_types.specs.declared.kinds.RowType.TheVariants.{Free, AtMost, AtLeast, Equal}
 use Rattle.mpslp_types.proofs.BoolLemmas.{both_so, or_left, or_right, nor, not_so}
-use Rattle.mpslp_builder.specs.Declaration.{by_type, Declaration, declare_sense, declare_objective, declare_constant, declare_row, declare_rhs, declare_range, declare_column, declare_coefficient, declare_lower, declare_upper, declare_marked, declare_integer, declare_binary, declare_semi, Declarations, Draft, adding, adding_all}
+use Rattle.mpslp_builder.specs.Declaration.{by_type, Declaration, declare_sense, declare_objective, declare_constant, declare_row, declare_rhs, declare_range, declare_column, declare_coefficient, declare_lower, declare_upper, declare_marked, declare_integer, declare_binary, declare_semi, Declarations, Draft, with_declaration, with_declarations}
 use Rattle.mpslp_builder.specs.Consistency.{declares_objective}
-use Rattle.mpslp_core.specs.Lists.{those_of, head_of, when}
-use Rattle.mpslp_mps.specs.Line.{Fields, Item, skipped, header, data_line}
-use Rattle.mpslp_mps.specs.Section.{has, section_named, section_begun, begins, is_section}
+use Rattle.mpslp_model_core.specs.Lists.{those_of, head_of, when}
+use Rattle.mpslp_mps.specs.Line.{Fields, LineContent, skipped, header, data_line}
+use Rattle.mpslp_mps.specs.Section.{has, section_named, section_of_header, begins, is_section}
 use Rattle.mpslp_mps.specs.DataLine.{RowLine, ValuesLine, word_shape, row_shape, row_type, is_marker_line, column_shape}
-use Rattle.mpslp_mps.specs.Context.{Context, context_of, sections_begun, has_section, current_section, fields_under, said_after, data_lines, is_read, takes_word, word_wanted, wanting, wanted, objname_word, objective_name}
-use Rattle.mpslp_mps.specs.LineMeaning.{declared_of, is_new_objective, row_of_type, row_declared, coefficient_declared, column_declared, columns_line_declared, data_declared, header_declared, declared}
+use Rattle.mpslp_mps.specs.Context.{Context, context_of, seen_sections, has_section, current_section, fields_under, said_after, data_lines, is_read, takes_word, section_of_word_due, word_due_after, word_due, objname_word, objname}
+use Rattle.mpslp_mps.specs.LineDeclarations.{declared_if_some, is_new_objective, row_of_type, row_declared, coefficient_declared, column_declared, columns_line_declared, data_declared, header_declared, line_declares}
 use Rattle.mpslp_mps.specs.HeaderFault.{lacks_objective, header_tests}
 use Rattle.mpslp_mps.specs.DataFault.{data_tests}
 use Rattle.mpslp_mps.specs.TextInWords.{word_fields, words_in, has_word_at_most, is_free, is_free_row_named, has_free_row, has_named_objective}
@@ -25,7 +25,7 @@ use Rattle.mpslp_mps.specs.declared.sections.Section.{Section}
 use Rattle.mpslp_mps.specs.declared.sections.Section.TheVariants.{Name, ObjSense, ObjName, Rows, Columns, Rhs, Ranges, Bounds, EndData}
 use Rattle.mpslp_mps.proofs.OrderLemmas.{IsGood, never, header-begins, header-complete, each-declared, each-flat, sense-passes, sides-passes, ranges-passes, bounds-passes, Passes}
 use Rattle.mpslp_mps.proofs.SectionLemmas.{has_section-push, data_lines-push}
-use Rattle.mpslp_mps.proofs.ContextLemmas.{wanted-push, objective_name-push}
+use Rattle.mpslp_mps.proofs.ContextLemmas.{word_due-push, objname-push}
 use Rattle.mpslp_mps.proofs.WordsOfFields.{section-is}
 use Rattle.mpslp_mps.proofs.WordsOfHeaders.{AreOrdered, rows-there}
 use Rattle.mpslp_mps.proofs.WordsOfOneWord.{name-word}
@@ -35,7 +35,7 @@ use Rattle.mpslp_mps.proofs.WordsOfOneWord.{name-word}
 abbrev pub are_unnamed : Declarations → Bool
 are_unnamed ds = list_all (λ d. not (declares_objective d)) ds
 
-objective-same : (all : Draft) (d : Declaration) → not (declares_objective d) ≡ true → (adding all d).objective ≡ all.objective
+objective-same : (all : Draft) (d : Declaration) → not (declares_objective d) ≡ true → (with_declaration all d).objective ≡ all.objective
 objective-same all (declare_sense s) h = refl
 objective-same all (declare_objective n) h = cc
 objective-same all (declare_constant v) h = refl
@@ -51,10 +51,10 @@ objective-same all (declare_integer c) h = refl
 objective-same all (declare_binary c) h = refl
 objective-same all (declare_semi c) h = refl
 
-pub objective-kept : (ds : Declarations) (all : Draft) → are_unnamed ds ≡ true → (adding_all all ds).objective ≡ all.objective
+pub objective-kept : (ds : Declarations) (all : Draft) → are_unnamed ds ≡ true → (with_declarations all ds).objective ≡ all.objective
 objective-kept [] all h = refl
 objective-kept (d ∷ ds) all h =
-    objective-kept ds (adding all d) (second_so (not (declares_objective d)) (are_unnamed ds) h) ∙ objective-same all d (first_so (not (declares_objective d)) (are_unnamed ds) h)
+    objective-kept ds (with_declaration all d) (second_so (not (declares_objective d)) (are_unnamed ds) h) ∙ objective-same all d (first_so (not (declares_objective d)) (are_unnamed ds) h)
 
 unnamed-sides : Passes (λ d. not (declares_objective d))
 unnamed-sides = record { lower = λ _ _. refl; upper = λ _ _. refl; integer = λ _. refl; semi = λ _. refl }
@@ -69,7 +69,7 @@ columns-line-unnamed context fields = by (is_marker_line fields)
         marked true = each-flat (λ d. not (declares_objective d)) (coefficient_declared line.name) line.pairs (λ pair. refl)
         marked false = each-flat (λ d. not (declares_objective d)) (coefficient_declared line.name) line.pairs (λ pair. refl)
 
-    by : (b : Bool) → are_unnamed (cond b [] (declared_of (column_declared context) (column_shape fields))) ≡ true
+    by : (b : Bool) → are_unnamed (cond b [] (declared_if_some (column_declared context) (column_shape fields))) ≡ true
     by true = refl
     by false = each-declared (λ d. not (declares_objective d)) (column_declared context) (column_shape fields) of
 
@@ -100,43 +100,43 @@ header-unnamed context earlier more (Some EndData) h = refl
 -- ---- OBJNAME has its word before ROWS begins
 
 -- while a word is wanted, ROWS has not begun
-abbrev pub IsWantedEarly : List Item → Type 0
-IsWantedEarly before = is_some (wanted before) ≡ true → has_section before Rows ≡ false
+abbrev pub IsWantedEarly : List LineContent → Type 0
+IsWantedEarly before = is_some (word_due before) ≡ true → has_section before Rows ≡ false
 
-pub none-wanted : (section : Section) (more : Fields) → takes_word section ≡ false → is_some (word_wanted section more) ≡ true → ⊥
-none-wanted section [] h k = by (takes_word section) h k
+pub none-word_due : (section : Section) (more : Fields) → takes_word section ≡ false → is_some (section_of_word_due section more) ≡ true → ⊥
+none-word_due section [] h k = by (takes_word section) h k
   where
     by : (b : Bool) → b ≡ false → is_some (cond b (Some section) None) ≡ true → ⊥
     by true e f = cc
     by false e f = cc
-none-wanted section (word ∷ more) h k = cc
+none-word_due section (word ∷ more) h k = cc
 
-pub wanted_early-kept : (before : List Item) (earlier : Draft) (item : Item) → IsGood before earlier item → IsWantedEarly before → IsWantedEarly (before ++ item ∷ [])
-wanted_early-kept before earlier item good early awaited = has_section-push Rows before item ∙ by item good (sym (ap (λ (o : Option Section). is_some o) (wanted-push before item)) ∙ awaited)
+pub wanted_early-kept : (before : List LineContent) (earlier : Draft) (item : LineContent) → IsGood before earlier item → IsWantedEarly before → IsWantedEarly (before ++ item ∷ [])
+wanted_early-kept before earlier item good early awaited = has_section-push Rows before item ∙ by item good (sym (ap (λ (o : Option Section). is_some o) (word_due-push before item)) ∙ awaited)
   where
-    not_begun : (keyword : List ℕ) (more : Fields) (s : Section) → those_of (header_tests (context_of before) earlier keyword more (Some s)) ≡ [] → is_some (word_wanted s more) ≡ true
+    not_begun : (keyword : List ℕ) (more : Fields) (s : Section) → those_of (header_tests (context_of before) earlier keyword more (Some s)) ≡ [] → is_some (section_of_word_due s more) ≡ true
         → (has_section before Rows || is_section Rows (Some s)) ≡ false
-    not_begun keyword more Name g k = absurd (none-wanted Name more refl k)
+    not_begun keyword more Name g k = absurd (none-word_due Name more refl k)
     not_begun keyword more ObjSense g k = ap (λ (b : Bool). b || false) (not_so (has_section before Rows) (header-begins (context_of before) earlier keyword more ObjSense g))
     not_begun keyword more ObjName g k = ap (λ (b : Bool). b || false) (not_so (has_section before Rows) (header-begins (context_of before) earlier keyword more ObjName g))
-    not_begun keyword more Rows g k = absurd (none-wanted Rows more refl k)
-    not_begun keyword more Columns g k = absurd (none-wanted Columns more refl k)
-    not_begun keyword more Rhs g k = absurd (none-wanted Rhs more refl k)
-    not_begun keyword more Ranges g k = absurd (none-wanted Ranges more refl k)
-    not_begun keyword more Bounds g k = absurd (none-wanted Bounds more refl k)
-    not_begun keyword more EndData g k = absurd (none-wanted EndData more refl k)
+    not_begun keyword more Rows g k = absurd (none-word_due Rows more refl k)
+    not_begun keyword more Columns g k = absurd (none-word_due Columns more refl k)
+    not_begun keyword more Rhs g k = absurd (none-word_due Rhs more refl k)
+    not_begun keyword more Ranges g k = absurd (none-word_due Ranges more refl k)
+    not_begun keyword more Bounds g k = absurd (none-word_due Bounds more refl k)
+    not_begun keyword more EndData g k = absurd (none-word_due EndData more refl k)
 
     of : (keyword : List ℕ) (more : Fields) (o : Option Section) → those_of (header_tests (context_of before) earlier keyword more o) ≡ []
-        → is_some (option_map_or (λ (s : Section). word_wanted s more) o None) ≡ true → (has_section before Rows || is_section Rows o) ≡ false
+        → is_some (option_map_or (λ (s : Section). section_of_word_due s more) o None) ≡ true → (has_section before Rows || is_section Rows o) ≡ false
     of keyword more None g k = cc
     of keyword more (Some s) g k = not_begun keyword more s g k
 
-    by : (x : Item) → IsGood before earlier x → is_some (cond (is_read x) (wanting x) (wanted before)) ≡ true → (has_section before Rows || begins Rows x) ≡ false
+    by : (x : LineContent) → IsGood before earlier x → is_some (cond (is_read x) (word_due_after x) (word_due before)) ≡ true → (has_section before Rows || begins Rows x) ≡ false
     by skipped g k = ap (λ (b : Bool). b || false) (early k)
     by (header keyword more) g k = of keyword more (section_named keyword) g k
     by (data_line fields) g k = cc
 
-no-later-name : (before : List Item) (earlier : Draft) (item : Item) → IsGood before earlier item → IsWantedEarly before → has_section before Rows ≡ true → objname_word (current_section before) item ≡ None
+no-later-name : (before : List LineContent) (earlier : Draft) (item : LineContent) → IsGood before earlier item → IsWantedEarly before → has_section before Rows ≡ true → objname_word (current_section before) item ≡ None
 no-later-name before earlier item good early begun = by item good
   where
     of : (keyword : List ℕ) (more : Fields) (o : Option Section) → those_of (header_tests (context_of before) earlier keyword more o) ≡ [] → cond (is_section ObjName o) (word_shape more) None ≡ None
@@ -157,54 +157,54 @@ no-later-name before earlier item good early begun = by item good
         absurd (never (has_section before Rows) begun (early line.0))
     under fields g false e = refl
 
-    by : (x : Item) → IsGood before earlier x → objname_word (current_section before) x ≡ None
+    by : (x : LineContent) → IsGood before earlier x → objname_word (current_section before) x ≡ None
     by skipped g = refl
     by (header keyword more) g = of keyword more (section_named keyword) g
     by (data_line fields) g = under fields g (is_section ObjName (current_section before)) refl
 
 -- ---- the name that is told is that of an N row
 
-abbrev pub has_named_row : List Item → Bool
-has_named_row before = option_map_or (has_free_row before) (objective_name before) true
+abbrev pub has_named_row : List LineContent → Bool
+has_named_row before = option_map_or (has_free_row before) (objname before) true
 
-free_row-kept : (before : List Item) (item : Item) (name : List ℕ) → has_free_row before name ≡ true → has_free_row (before ++ item ∷ []) name ≡ true
+free_row-kept : (before : List LineContent) (item : LineContent) (name : List ℕ) → has_free_row before name ≡ true → has_free_row (before ++ item ∷ []) name ≡ true
 free_row-kept before item name h =
     ap (list_any (is_free_row_named name)) (data_lines-push Rows before item)
     ∙ list_any-append (is_free_row_named name) (data_lines Rows before) (fields_under Rows (current_section before) item)
     ∙ or_left (has_free_row before name) (list_any (is_free_row_named name) (fields_under Rows (current_section before) item)) h
 
-pub same-name : (before : List Item) (earlier : Draft) (item : Item) → IsGood before earlier item → IsWantedEarly before → has_section before Rows ≡ true → objective_name (before ++ item ∷ []) ≡ objective_name before
+pub same-name : (before : List LineContent) (earlier : Draft) (item : LineContent) → IsGood before earlier item → IsWantedEarly before → has_section before Rows ≡ true → objname (before ++ item ∷ []) ≡ objname before
 same-name before earlier item good early begun =
-    objective_name-push before item ∙ ap (option_or (objective_name before)) (no-later-name before earlier item good early begun) ∙ by (objective_name before)
+    objname-push before item ∙ ap (option_or (objname before)) (no-later-name before earlier item good early begun) ∙ by (objname before)
   where
     by : (o : Option (List ℕ)) → option_or o None ≡ o
     by None = refl
     by (Some name) = refl
 
-row-kept : (before : List Item) (earlier : Draft) (item : Item) → IsGood before earlier item → IsWantedEarly before → has_section before Rows ≡ true → has_named_row before ≡ true → has_named_row (before ++ item ∷ []) ≡ true
+row-kept : (before : List LineContent) (earlier : Draft) (item : LineContent) → IsGood before earlier item → IsWantedEarly before → has_section before Rows ≡ true → has_named_row before ≡ true → has_named_row (before ++ item ∷ []) ≡ true
 row-kept before earlier item good early begun h =
-    ap (λ (o : Option (List ℕ)). option_map_or (has_free_row (before ++ item ∷ [])) o true) (same-name before earlier item good early begun) ∙ by (objective_name before) h
+    ap (λ (o : Option (List ℕ)). option_map_or (has_free_row (before ++ item ∷ [])) o true) (same-name before earlier item good early begun) ∙ by (objname before) h
   where
     by : (o : Option (List ℕ)) → option_map_or (has_free_row before) o true ≡ true → option_map_or (has_free_row (before ++ item ∷ [])) o true ≡ true
     by None k = refl
     by (Some name) k = free_row-kept before item name k
 
 -- no objective before ROWS; one that is there has the name that was told; and COLUMNS begins with such a row
-pub record IsNamedSo (before : List Item) (earlier : Draft) : Type 0 where
+pub record IsNamedSo (before : List LineContent) (earlier : Draft) : Type 0 where
   pub none : has_section before Rows ≡ false → is_some earlier.objective ≡ false
   pub named : is_some earlier.objective ≡ true → has_named_row before ≡ true
   pub complete : has_section before Columns ≡ true → has_named_row before ≡ true
 
-pub section-begun : (section : Section) (seen : List Section) → is_section section (last_or None seen) ≡ true → has seen section ≡ true
+pub section-begun : (section : Section) (sections_seen : List Section) → is_section section (last_or None sections_seen) ≡ true → has sections_seen section ≡ true
 section-begun section [] h = cc
-section-begun section (x ∷ seen) h = by x seen h
+section-begun section (x ∷ sections_seen) h = by x sections_seen h
   where
     by : (y : Section) (ys : List Section) → is_section section (last_or (Some y) ys) ≡ true → (is_section section (Some y) || has ys section) ≡ true
     by y [] k = or_left (is_section section (Some y)) false k
     by y (z ∷ ys) k = or_right (is_section section (Some y)) (has (z ∷ ys) section) (by z ys k)
 
-pub named-kept : (before : List Item) (earlier : Draft) (item : Item) → IsGood before earlier item → AreOrdered (sections_begun before) → IsWantedEarly before → IsNamedSo before earlier
-    → IsNamedSo (before ++ item ∷ []) (adding_all earlier (declared (context_of before) earlier item))
+pub named-kept : (before : List LineContent) (earlier : Draft) (item : LineContent) → IsGood before earlier item → AreOrdered (seen_sections before) → IsWantedEarly before → IsNamedSo before earlier
+    → IsNamedSo (before ++ item ∷ []) (with_declarations earlier (line_declares (context_of before) earlier item))
 named-kept before earlier item good ordered early n = record {
   none = λ h.
       let parts = nor (has_section before Rows) (begins Rows item) (sym (has_section-push Rows before item) ∙ h) in
@@ -213,20 +213,20 @@ named-kept before earlier item good ordered early n = record {
   complete = λ h. whole (has_section before Columns) refl (sym (has_section-push Columns before item) ∙ h);
 }
   where
-    next : Item → Draft
-    next x = adding_all earlier (declared (context_of before) earlier x)
+    next : LineContent → Draft
+    next x = with_declarations earlier (line_declares (context_of before) earlier x)
 
-    unnamed : (x : Item) → are_unnamed (declared (context_of before) earlier x) ≡ true → is_some (next x).objective ≡ is_some earlier.objective
-    unnamed x h = ap (λ (o : Option (List ℕ)). is_some o) (objective-kept (declared (context_of before) earlier x) earlier h)
+    unnamed : (x : LineContent) → are_unnamed (line_declares (context_of before) earlier x) ≡ true → is_some (next x).objective ≡ is_some earlier.objective
+    unnamed x h = ap (λ (o : Option (List ℕ)). is_some o) (objective-kept (line_declares (context_of before) earlier x) earlier h)
 
     rows_begun : is_section Rows (current_section before) ≡ true → has_section before Rows ≡ true
-    rows_begun h = section-begun Rows (sections_begun before) h
+    rows_begun h = section-begun Rows (seen_sections before) h
 
     columns_after_rows : (keyword : List ℕ) (more : Fields) → IsGood before earlier (header keyword more) → is_section Columns (section_named keyword) ≡ true → has_section before Rows ≡ true
     columns_after_rows keyword more g e =
         header-begins (context_of before) earlier keyword more Columns (subst (λ o. those_of (header_tests (context_of before) earlier keyword more o) ≡ []) (section-is Columns (section_named keyword) e) g)
 
-    none_yet : (x : Item) → IsGood before earlier x → has_section before Rows ≡ false → is_some (next x).objective ≡ false
+    none_yet : (x : LineContent) → IsGood before earlier x → has_section before Rows ≡ false → is_some (next x).objective ≡ false
     none_yet skipped g h = n.none h
     none_yet (header keyword more) g h = by (is_section Columns (section_named keyword)) refl
       where
@@ -247,16 +247,16 @@ named-kept before earlier item good ordered early n = record {
         by true e = e
         by false e = absurd (never (is_some earlier.objective) h (n.none e))
 
-    kept : (x : Item) → IsGood before earlier x → is_some earlier.objective ≡ true → has_named_row (before ++ x ∷ []) ≡ true
+    kept : (x : LineContent) → IsGood before earlier x → is_some earlier.objective ≡ true → has_named_row (before ++ x ∷ []) ≡ true
     kept x g h = row-kept before earlier x g early (begun h) (n.named h)
 
     -- the row is a new objective
     new_row : (fields : Fields) → IsGood before earlier (data_line fields) → is_section Rows (current_section before) ≡ true
         → (name : List ℕ) → ((told : List ℕ) → same_bytes name told ≡ true → is_free_row_named told fields ≡ true)
-        → option_map_or (same_bytes name) (objective_name before) true ≡ true → has_named_row (before ++ data_line fields ∷ []) ≡ true
+        → option_map_or (same_bytes name) (objname before) true ≡ true → has_named_row (before ++ data_line fields ∷ []) ≡ true
     new_row fields g here name is_it h =
         ap (λ (o : Option (List ℕ)). option_map_or (has_free_row (before ++ data_line fields ∷ [])) o true) (same-name before earlier (data_line fields) g early (rows_begun here))
-        ∙ by (objective_name before) h
+        ∙ by (objname before) h
       where
         by : (o : Option (List ℕ)) → option_map_or (same_bytes name) o true ≡ true → option_map_or (has_free_row (before ++ data_line fields ∷ [])) o true ≡ true
         by None k = refl
@@ -268,23 +268,23 @@ named-kept before earlier item good ordered early n = record {
     at_columns : (keyword : List ℕ) (more : Fields) → IsGood before earlier (header keyword more) → is_section Columns (section_named keyword) ≡ true → has_named_row (before ++ header keyword more ∷ []) ≡ true
     at_columns keyword more g e =
         row-kept before earlier (header keyword more) g early (columns_after_rows keyword more g e)
-        (by (objective_name before) refl (is_some earlier.objective) refl (header-complete (context_of before) earlier keyword more (subst (λ o. those_of (header_tests (context_of before) earlier keyword more o) ≡ []) (section-is Columns (section_named keyword) e) g)))
+        (by (objname before) refl (is_some earlier.objective) refl (header-complete (context_of before) earlier keyword more (subst (λ o. those_of (header_tests (context_of before) earlier keyword more o) ≡ []) (section-is Columns (section_named keyword) e) g)))
       where
         some : (o : Option (List ℕ)) → is_some o ≡ false → is_none o ≡ true
         some None k = refl
         some (Some name) k = cc
 
-        by : (o : Option (List ℕ)) → objective_name before ≡ o → (b : Bool) → is_some earlier.objective ≡ b → lacks_objective (context_of before) earlier ≡ false → has_named_row before ≡ true
+        by : (o : Option (List ℕ)) → objname before ≡ o → (b : Bool) → is_some earlier.objective ≡ b → lacks_objective (context_of before) earlier ≡ false → has_named_row before ≡ true
         by None f b k l = ap (λ (p : Option (List ℕ)). option_map_or (has_free_row before) p true) f
         by (Some name) f true k l = n.named k
         by (Some name) f false k l =
-            let lacks : lacks_objective (context_of before) earlier ≡ true = both_so (is_none earlier.objective) (is_some (objective_name before)) (some earlier.objective k) (ap (λ (p : Option (List ℕ)). is_some p) f) in
+            let lacks : lacks_objective (context_of before) earlier ≡ true = both_so (is_none earlier.objective) (is_some (objname before)) (some earlier.objective k) (ap (λ (p : Option (List ℕ)). is_some p) f) in
             absurd (never (lacks_objective (context_of before) earlier) lacks l)
 
     in_rows : (fields : Fields) → IsGood before earlier (data_line fields) → is_section Rows (current_section before) ≡ true → is_some (next (data_line fields)).objective ≡ true
         → has_named_row (before ++ data_line fields ∷ []) ≡ true
     in_rows fields g here h =
-        of (row_shape fields) refl (subst (λ o. is_some (adding_all earlier (data_declared (context_of before) earlier fields o)).objective ≡ true) (section-is Rows (current_section before) here) h)
+        of (row_shape fields) refl (subst (λ o. is_some (with_declarations earlier (data_declared (context_of before) earlier fields o)).objective ≡ true) (section-is Rows (current_section before) here) h)
       where
         free_so : (line : RowLine) → row_shape fields ≡ Some line → row_type line.letter ≡ Some Free → (told : List ℕ) → same_bytes line.name told ≡ true → is_free_row_named told fields ≡ true
         free_so line r t told k =
@@ -292,24 +292,24 @@ named-kept before earlier item good ordered early n = record {
             ∙ both_so (is_free (row_type line.letter)) (same_bytes line.name told) (ap is_free t) k
 
         free : (line : RowLine) → row_shape fields ≡ Some line → row_type line.letter ≡ Some Free → (b : Bool) → is_new_objective (context_of before) earlier line.name ≡ b
-            → is_some (adding_all earlier (cond b (declare_objective line.name ∷ []) (declare_row line.name (by_type Free) ∷ []))).objective ≡ true → has_named_row (before ++ data_line fields ∷ []) ≡ true
+            → is_some (with_declarations earlier (cond b (declare_objective line.name ∷ []) (declare_row line.name (by_type Free) ∷ []))).objective ≡ true → has_named_row (before ++ data_line fields ∷ []) ≡ true
         free line r t true e k =
-            new_row fields g here line.name (free_so line r t) (second_so (is_none earlier.objective) (option_map_or (same_bytes line.name) (objective_name before) true) e)
+            new_row fields g here line.name (free_so line r t) (second_so (is_none earlier.objective) (option_map_or (same_bytes line.name) (objname before) true) e)
         free line r t false e k = kept (data_line fields) g k
 
         typed : (line : RowLine) → row_shape fields ≡ Some line → (o : Option RowType) → row_type line.letter ≡ o
-            → is_some (adding_all earlier (declared_of (row_of_type (context_of before) earlier line.name) o)).objective ≡ true → has_named_row (before ++ data_line fields ∷ []) ≡ true
+            → is_some (with_declarations earlier (declared_if_some (row_of_type (context_of before) earlier line.name) o)).objective ≡ true → has_named_row (before ++ data_line fields ∷ []) ≡ true
         typed line r None t k = kept (data_line fields) g k
         typed line r (Some Free) t k = free line r t (is_new_objective (context_of before) earlier line.name) refl k
         typed line r (Some AtMost) t k = kept (data_line fields) g k
         typed line r (Some AtLeast) t k = kept (data_line fields) g k
         typed line r (Some Equal) t k = kept (data_line fields) g k
 
-        of : (o : Option RowLine) → row_shape fields ≡ o → is_some (adding_all earlier (declared_of (row_declared (context_of before) earlier) o)).objective ≡ true → has_named_row (before ++ data_line fields ∷ []) ≡ true
+        of : (o : Option RowLine) → row_shape fields ≡ o → is_some (with_declarations earlier (declared_if_some (row_declared (context_of before) earlier) o)).objective ≡ true → has_named_row (before ++ data_line fields ∷ []) ≡ true
         of None r k = kept (data_line fields) g k
         of (Some line) r k = typed line r (row_type line.letter) refl k
 
-    later : (x : Item) → IsGood before earlier x → is_some (next x).objective ≡ true → has_named_row (before ++ x ∷ []) ≡ true
+    later : (x : LineContent) → IsGood before earlier x → is_some (next x).objective ≡ true → has_named_row (before ++ x ∷ []) ≡ true
     later skipped g h = kept skipped g h
     later (header keyword more) g h = by (is_section Columns (section_named keyword)) refl
       where
@@ -322,31 +322,31 @@ named-kept before earlier item good ordered early n = record {
         by true e = in_rows fields g e h
         by false e = kept (data_line fields) g (sym (unnamed (data_line fields) (data-unnamed (context_of before) earlier fields (current_section before) e)) ∙ h)
 
-    begins_columns : (x : Item) → IsGood before earlier x → begins Columns x ≡ true → has_named_row (before ++ x ∷ []) ≡ true
+    begins_columns : (x : LineContent) → IsGood before earlier x → begins Columns x ≡ true → has_named_row (before ++ x ∷ []) ≡ true
     begins_columns skipped g e = cc
     begins_columns (header keyword more) g e = at_columns keyword more g e
     begins_columns (data_line fields) g e = cc
 
     whole : (b : Bool) → has_section before Columns ≡ b → (b || begins Columns item) ≡ true → has_named_row (before ++ item ∷ []) ≡ true
-    whole true e k = row-kept before earlier item good early (rows-there (sections_begun before) ordered e) (n.complete e)
+    whole true e k = row-kept before earlier item good early (rows-there (seen_sections before) ordered e) (n.complete e)
     whole false e k = begins_columns item good k
 
 -- ---- the name, in the words of the section
 
-pub told-words : (current : Option Section) (items : List Item)
-    → filter_map word_shape (said_after (word_fields ObjName) current items) ≡ said_after (λ (c : Option Section) (item : Item). cons_option (objname_word c item) []) current items
+pub told-words : (current : Option Section) (items : List LineContent)
+    → filter_map word_shape (said_after (word_fields ObjName) current items) ≡ said_after (λ (c : Option Section) (item : LineContent). cons_option (objname_word c item) []) current items
 told-words current [] = refl
 told-words current (item ∷ items) =
-    let next = option_or (section_begun item) current in
+    let next = option_or (section_of_header item) current in
     filter_map-append word_shape (word_fields ObjName current item) (said_after (word_fields ObjName) next items)
     ∙ ap (λ (more : List (List ℕ)). filter_map word_shape (word_fields ObjName current item) ++ more) (told-words next items)
-    ∙ ap (λ (here : List (List ℕ)). here ++ said_after (λ (c : Option Section) (x : Item). cons_option (objname_word c x) []) next items) (by item)
+    ∙ ap (λ (here : List (List ℕ)). here ++ said_after (λ (c : Option Section) (x : LineContent). cons_option (objname_word c x) []) next items) (by item)
   where
     when_so : (fields : Fields) (b : Bool) → filter_map word_shape (when b fields) ≡ cons_option (cond b (word_shape fields) None) []
     when_so fields true = refl
     when_so fields false = refl
 
-    by : (x : Item) → filter_map word_shape (word_fields ObjName current x) ≡ cons_option (objname_word current x) []
+    by : (x : LineContent) → filter_map word_shape (word_fields ObjName current x) ≡ cons_option (objname_word current x) []
     by skipped = refl
     by (header keyword more) = when_so more (is_section ObjName (section_named keyword))
     by (data_line fields) = when_so fields (is_section ObjName current)
@@ -370,7 +370,7 @@ words-named test ([] ∷ (word ∷ other ∷ rest) ∷ more) h = cc
 words-named test ((word ∷ []) ∷ next ∷ more) h = cc
 words-named test ((word ∷ other ∷ rest) ∷ more) h = cc
 
-pub named-in_words : (items : List Item) → has_word_at_most (λ _. true) (words_in ObjName items) ≡ true → has_named_objective items ≡ has_named_row items
+pub named-in_words : (items : List LineContent) → has_word_at_most (λ _. true) (words_in ObjName items) ≡ true → has_named_objective items ≡ has_named_row items
 named-in_words items h =
     words-named (has_free_row items) (words_in ObjName items) h
     ∙ ap (λ (names : List (List ℕ)). option_map_or (has_free_row items) (head_of names) true) (told-words None items)

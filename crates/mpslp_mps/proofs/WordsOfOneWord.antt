@@ -6,13 +6,13 @@ use Rattle.std.proofs.lemmas.List.{append-nil}
 use Rattle.mpslp_types.specs.declared.faults.FaultKind.TheVariants as kinds
 use Rattle.mpslp_types.proofs.BoolLemmas.{nor, or_right}
 use Rattle.mpslp_builder.specs.Declaration.{Draft}
-use Rattle.mpslp_core.specs.Lists.{those_of, is_nonempty, when}
-use Rattle.mpslp_reading.specs.Tests.{judged_by}
-use Rattle.mpslp_reading.proofs.HeldLemmas.{first_test, later_tests}
-use Rattle.mpslp_mps.specs.Line.{Fields, Item, skipped, header, data_line}
-use Rattle.mpslp_mps.specs.Section.{has, section_named, section_begun, begins, is_section}
+use Rattle.mpslp_model_core.specs.Lists.{those_of, is_nonempty, when}
+use Rattle.mpslp_lines.specs.FaultTests.{judged_by}
+use Rattle.mpslp_lines.proofs.HeldLemmas.{first_test, later_tests}
+use Rattle.mpslp_mps.specs.Line.{Fields, LineContent, skipped, header, data_line}
+use Rattle.mpslp_mps.specs.Section.{has, section_named, section_of_header, begins, is_section}
 use Rattle.mpslp_mps.specs.DataLine.{sense_of, word_shape}
-use Rattle.mpslp_mps.specs.Context.{Context, context_of, sections_begun, has_section, current_section, is_read, takes_word, word_wanted, wanting, wanted}
+use Rattle.mpslp_mps.specs.Context.{Context, context_of, seen_sections, has_section, current_section, is_read, takes_word, section_of_word_due, word_due_after, word_due}
 use Rattle.mpslp_mps.specs.HeaderFault.{word_tests, may_begin, may_follow, section_tests, header_tests}
 use Rattle.mpslp_mps.specs.DataFault.{data_tests}
 use Rattle.mpslp_mps.specs.TextInWords.{word_fields, words_in, is_one_word, has_word_at_most, is_sense}
@@ -20,7 +20,7 @@ use Rattle.mpslp_mps.specs.declared.sections.Section.{Section}
 use Rattle.mpslp_mps.specs.declared.sections.Section.TheVariants.{ObjSense, ObjName}
 use Rattle.mpslp_mps.proofs.OrderLemmas.{IsGood, never, header-ordered, header-fresh}
 use Rattle.mpslp_mps.proofs.SectionLemmas.{has_section-push, current_section-push, said_after-push}
-use Rattle.mpslp_mps.proofs.ContextLemmas.{wanted-push}
+use Rattle.mpslp_mps.proofs.ContextLemmas.{word_due-push}
 use Rattle.mpslp_mps.proofs.WordsOfFields.{section-is}
 use Rattle.mpslp_mps.proofs.WordsOfHeaders.{header-follows}
 
@@ -39,16 +39,16 @@ is_single test _ = false
 pub record IsOfOneWord (section : Section) (test : List ℕ → Bool) : Type 0 where
   pub takes : takes_word section ≡ true
   pub on_header : (context : Context) (earlier : Draft) (keyword : List ℕ) (more : Fields) → those_of (header_tests context earlier keyword more (Some section)) ≡ [] → fits_word test more ≡ true
-  pub on_line : (context : Context) (earlier : Draft) (fields : Fields) → those_of (data_tests context earlier fields (Some section)) ≡ [] → (is_some context.wanted ≡ true) × (is_single test fields ≡ true)
+  pub on_line : (context : Context) (earlier : Draft) (fields : Fields) → those_of (data_tests context earlier fields (Some section)) ≡ [] → (is_some context.word_due ≡ true) × (is_single test fields ≡ true)
   pub itself : is_section section (Some section) ≡ true
 
 something : {X : Type 0} (o : Option X) → is_none o ≡ false → is_some o ≡ true
 something None k = sym k
 something (Some x) k = refl
 
-wanted-there : (b : Bool) → not b ≡ false → b ≡ true
-wanted-there true e = refl
-wanted-there false e = sym e
+word_due-there : (b : Bool) → not b ≡ false → b ≡ true
+word_due-there true e = refl
+word_due-there false e = sym e
 
 pub sense-word : IsOfOneWord ObjSense is_sense
 sense-word = record {
@@ -63,10 +63,10 @@ sense-word = record {
     on_header context earlier (word ∷ []) (f, g) = something (sense_of word) (first_test (is_none (sense_of word)) kinds.BadType [] g)
     on_header context earlier (word ∷ other ∷ more) (f, g) = cc
 
-    on_line : (context : Context) (earlier : Draft) (fields : Fields) → those_of (data_tests context earlier fields (Some ObjSense)) ≡ [] → (is_some context.wanted ≡ true) × (is_single is_sense fields ≡ true)
+    on_line : (context : Context) (earlier : Draft) (fields : Fields) → those_of (data_tests context earlier fields (Some ObjSense)) ≡ [] → (is_some context.word_due ≡ true) × (is_single is_sense fields ≡ true)
     on_line context earlier fields h = (
-      wanted-there (is_some context.wanted) (first_test (not (is_some context.wanted)) kinds.SectionOrder (judged_by word_tests (word_shape fields)) h),
-      of fields (later_tests (not (is_some context.wanted)) kinds.SectionOrder (judged_by word_tests (word_shape fields)) h),
+      word_due-there (is_some context.word_due) (first_test (not (is_some context.word_due)) kinds.SectionOrder (judged_by word_tests (word_shape fields)) h),
+      of fields (later_tests (not (is_some context.word_due)) kinds.SectionOrder (judged_by word_tests (word_shape fields)) h),
     )
       where
         of : (fs : Fields) → those_of (judged_by word_tests (word_shape fs)) ≡ [] → is_single is_sense fs ≡ true
@@ -87,10 +87,10 @@ name-word = record {
     on_header (word ∷ []) h = refl
     on_header (word ∷ other ∷ more) h = cc
 
-    on_line : (context : Context) (earlier : Draft) (fields : Fields) → those_of (data_tests context earlier fields (Some ObjName)) ≡ [] → (is_some context.wanted ≡ true) × (is_single (λ _. true) fields ≡ true)
+    on_line : (context : Context) (earlier : Draft) (fields : Fields) → those_of (data_tests context earlier fields (Some ObjName)) ≡ [] → (is_some context.word_due ≡ true) × (is_single (λ _. true) fields ≡ true)
     on_line context earlier fields h = (
-      wanted-there (is_some context.wanted) (first_test (not (is_some context.wanted)) kinds.SectionOrder (judged_by (λ _. []) (word_shape fields)) h),
-      of fields (later_tests (not (is_some context.wanted)) kinds.SectionOrder (judged_by (λ _. []) (word_shape fields)) h),
+      word_due-there (is_some context.word_due) (first_test (not (is_some context.word_due)) kinds.SectionOrder (judged_by (λ _. []) (word_shape fields)) h),
+      of fields (later_tests (not (is_some context.word_due)) kinds.SectionOrder (judged_by (λ _. []) (word_shape fields)) h),
     )
       where
         of : (fs : Fields) → those_of (judged_by (λ _. []) (word_shape fs)) ≡ [] → is_single (λ _. true) fs ≡ true
@@ -115,8 +115,8 @@ IsAt section test with_word words begun current awaited = (is_one_word test word
 abbrev pub IsSome : Section → (List ℕ → Bool) → List Fields → Bool → Option Section → Option Section → Type 0
 IsSome section test words begun current awaited = (stage : Stage) × IsAt section test stage words begun current awaited
 
-abbrev pub IsUnderway : Section → (List ℕ → Bool) → List Item → Type 0
-IsUnderway section test before = IsSome section test (words_in section before) (has_section before section) (current_section before) (wanted before)
+abbrev pub IsUnderway : Section → (List ℕ → Bool) → List LineContent → Type 0
+IsUnderway section test before = IsSome section test (words_in section before) (has_section before section) (current_section before) (word_due before)
 
 -- the parts in place of equal ones
 carried : (section : Section) (test : List ℕ → Bool) (words words2 : List Fields) (begun begun2 : Bool) (current current2 awaited wanted2 : Option Section)
@@ -144,7 +144,7 @@ passed section test words begun current awaited next later (with_word, (a, b, c)
 -- the header of the section
 begun-now : (section : Section) (test : List ℕ → Bool) → IsOfOneWord section test → (words : List Fields) (begun : Bool) (current awaited : Option Section) (more : Fields)
     → IsSome section test words begun current awaited → begun ≡ false → fits_word test more ≡ true
-    → IsSome section test (words ++ more ∷ []) (begun || true) (Some section) (word_wanted section more)
+    → IsSome section test (words ++ more ∷ []) (begun || true) (Some section) (section_of_word_due section more)
 begun-now section test one words begun current awaited more (without_word, (a, b, c, d)) over fits = absurd (never begun b over)
 begun-now section test one words begun current awaited more (with_word, (a, b, c)) over fits = absurd (never begun b over)
 begun-now section test one words begun current awaited more (missing, (a, b, c)) over fits = by more fits
@@ -152,7 +152,7 @@ begun-now section test one words begun current awaited more (missing, (a, b, c))
     all : (fields : Fields) → words ++ fields ∷ [] ≡ fields ∷ []
     all fields = ap (λ (w : List Fields). w ++ fields ∷ []) a
 
-    by : (fields : Fields) → fits_word test fields ≡ true → IsSome section test (words ++ fields ∷ []) (begun || true) (Some section) (word_wanted section fields)
+    by : (fields : Fields) → fits_word test fields ≡ true → IsSome section test (words ++ fields ∷ []) (begun || true) (Some section) (section_of_word_due section fields)
     by [] f = (without_word, (all [], or_right begun true refl, one.itself, ap (λ (b : Bool). is_some (cond b (Some section) None)) one.takes))
     by (word ∷ []) f = (with_word, (ap (is_one_word test) (all (word ∷ [])) ∙ f, or_right begun true refl, λ _. refl))
     by (word ∷ other ∷ rest) f = cc
@@ -177,12 +177,12 @@ elsewhere section test words begun current awaited (missing, (a, b, c)) out = (m
 elsewhere section test words begun current awaited (without_word, (a, b, c, d)) out = absurd (never (is_section section current) c out)
 elsewhere section test words begun current awaited (with_word, (a, b, c)) out = (with_word, (ap (is_one_word test) (append-nil words) ∙ a, ap (λ (x : Bool). x || false) b, λ _. refl))
 
-pub word-kept : (section : Section) (test : List ℕ → Bool) → IsOfOneWord section test → (before : List Item) (earlier : Draft) (item : Item) → IsGood before earlier item
+pub word-kept : (section : Section) (test : List ℕ → Bool) → IsOfOneWord section test → (before : List LineContent) (earlier : Draft) (item : LineContent) → IsGood before earlier item
     → IsUnderway section test before → IsUnderway section test (before ++ item ∷ [])
 word-kept section test one before earlier item good h =
     carried section test (words ++ word_fields section current item) (words_in section (before ++ item ∷ [])) (begun || begins section item) (has_section (before ++ item ∷ []) section)
-    (option_or (section_begun item) current) (current_section (before ++ item ∷ [])) (cond (is_read item) (wanting item) (wanted before)) (wanted (before ++ item ∷ []))
-    (said_after-push (word_fields section) None before item) (has_section-push section before item) (current_section-push before item) (wanted-push before item) (by item good)
+    (option_or (section_of_header item) current) (current_section (before ++ item ∷ [])) (cond (is_read item) (word_due_after item) (word_due before)) (word_due (before ++ item ∷ []))
+    (said_after-push (word_fields section) None before item) (has_section-push section before item) (current_section-push before item) (word_due-push before item) (by item good)
   where
     words : List Fields
     words = words_in section before
@@ -195,35 +195,35 @@ word-kept section test one before earlier item good h =
 
     -- a header of this section, or of another
     of_header : (keyword : List ℕ) (more : Fields) (s : Option Section) → those_of (header_tests (context_of before) earlier keyword more s) ≡ [] → (b : Bool) → is_section section s ≡ b
-        → IsSome section test (words ++ when b more) (begun || b) (option_or s current) (option_map_or (λ (t : Section). word_wanted t more) s None)
+        → IsSome section test (words ++ when b more) (begun || b) (option_or s current) (option_map_or (λ (t : Section). section_of_word_due t more) s None)
     of_header keyword more None g b e = cc
     of_header keyword more (Some t) g true e =
         let g2 = subst (λ o. those_of (header_tests (context_of before) earlier keyword more o) ≡ []) (section-is section (Some t) e) g in
-        subst (λ o. IsSome section test (words ++ more ∷ []) (begun || true) (option_or o current) (option_map_or (λ (u : Section). word_wanted u more) o None)) (sym (section-is section (Some t) e))
-        (begun-now section test one words begun current (wanted before) more h (header-fresh (context_of before) earlier keyword more section g2) (one.on_header (context_of before) earlier keyword more g2))
+        subst (λ o. IsSome section test (words ++ more ∷ []) (begun || true) (option_or o current) (option_map_or (λ (u : Section). section_of_word_due u more) o None)) (sym (section-is section (Some t) e))
+        (begun-now section test one words begun current (word_due before) more h (header-fresh (context_of before) earlier keyword more section g2) (one.on_header (context_of before) earlier keyword more g2))
     of_header keyword more (Some t) g false e =
-        passed section test words begun current (wanted before) (Some t) (word_wanted t more) h
-        (nor (is_some (wanted before)) (not (has (sections_begun before) t || may_begin (context_of before) t)) (header-ordered (context_of before) earlier keyword more t g)).0 e
+        passed section test words begun current (word_due before) (Some t) (section_of_word_due t more) h
+        (nor (is_some (word_due before)) (not (has (seen_sections before) t || may_begin (context_of before) t)) (header-ordered (context_of before) earlier keyword more t g)).0 e
 
     of_data : (fields : Fields) → those_of (data_tests (context_of before) earlier fields current) ≡ [] → (b : Bool) → is_section section current ≡ b
         → IsSome section test (words ++ when b fields) (begun || false) current None
     of_data fields g true e =
         let line = one.on_line (context_of before) earlier fields (subst (λ o. those_of (data_tests (context_of before) earlier fields o) ≡ []) (section-is section current e) g) in
-        word-now section test words begun current (wanted before) fields h e line.0 line.1
-    of_data fields g false e = elsewhere section test words begun current (wanted before) h e
+        word-now section test words begun current (word_due before) fields h e line.0 line.1
+    of_data fields g false e = elsewhere section test words begun current (word_due before) h e
 
-    by : (x : Item) → IsGood before earlier x
-        → IsSome section test (words ++ word_fields section current x) (begun || begins section x) (option_or (section_begun x) current) (cond (is_read x) (wanting x) (wanted before))
+    by : (x : LineContent) → IsGood before earlier x
+        → IsSome section test (words ++ word_fields section current x) (begun || begins section x) (option_or (section_of_header x) current) (cond (is_read x) (word_due_after x) (word_due before))
     by skipped g =
-        subst (λ w. IsSome section test w (begun || false) current (wanted before)) (sym (append-nil words))
-        (subst (λ b. IsSome section test words b current (wanted before)) (sym (or_false begun)) h)
+        subst (λ w. IsSome section test w (begun || false) current (word_due before)) (sym (append-nil words))
+        (subst (λ b. IsSome section test words b current (word_due before)) (sym (or_false begun)) h)
     by (header keyword more) g = of_header keyword more (section_named keyword) g (is_section section (section_named keyword)) refl
     by (data_line fields) g = of_data fields g (is_section section current) refl
 
 -- ---- at the end
 
 -- where the section does not go on, it is missing or has its word
-pub word-at_end : (section : Section) (test : List ℕ → Bool) (before : List Item) → IsUnderway section test before → is_section section (current_section before) ≡ false
+pub word-at_end : (section : Section) (test : List ℕ → Bool) (before : List LineContent) → IsUnderway section test before → is_section section (current_section before) ≡ false
     → has_word_at_most test (words_in section before) ≡ true
 word-at_end section test before (missing, (a, b, c)) out = ap (has_word_at_most test) a
 word-at_end section test before (without_word, (a, b, c, d)) out = absurd (never (is_section section (current_section before)) c out)

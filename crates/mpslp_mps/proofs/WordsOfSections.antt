@@ -10,9 +10,9 @@ use Rattle.std.proofs.lemmas.List.Elements.{filter_map-append}
 use Rattle.mpslp_types.specs.Name.{same_bytes}
 use Rattle.mpslp_types.proofs.BoolLemmas.{both_so}
 use Rattle.mpslp_builder.specs.Declaration.{Draft}
-use Rattle.mpslp_core.specs.Lists.{those_of, head_of}
+use Rattle.mpslp_model_core.specs.Lists.{those_of, head_of}
 use Rattle.mpslp_builder.proofs.SlotLemmas.{same_name}
-use Rattle.mpslp_mps.specs.Line.{Fields, Item, skipped, header, data_line}
+use Rattle.mpslp_mps.specs.Line.{Fields, LineContent, skipped, header, data_line}
 use Rattle.mpslp_mps.specs.Section.{is_section}
 use Rattle.mpslp_mps.specs.DataLine.{opening_word, closing_word}
 use Rattle.mpslp_mps.specs.Context.{context_of, current_section, fields_under, data_lines, marker_word}
@@ -24,11 +24,11 @@ use Rattle.mpslp_mps.proofs.SectionLemmas.{data_lines-push}
 use Rattle.mpslp_mps.proofs.WordsOfFields.{section-is, is_other_set}
 
 -- the fields have a good form under the section, after these lines
-abbrev pub IsGoodUnder : Section → List Item → Draft → Fields → Type 0
+abbrev pub IsGoodUnder : Section → List LineContent → Draft → Fields → Type 0
 IsGoodUnder section before earlier fields = those_of (data_tests (context_of before) earlier fields (Some section)) ≡ []
 
 -- a test of the data lines of a section holds after one line more, where a data line of a good form keeps it
-pub section-kept : (section : Section) (test : List Fields → Bool) (before : List Item) (earlier : Draft) (item : Item)
+pub section-kept : (section : Section) (test : List Fields → Bool) (before : List LineContent) (earlier : Draft) (item : LineContent)
     → ((fields : Fields) → IsGoodUnder section before earlier fields → test (data_lines section before ++ fields ∷ []) ≡ true)
     → IsGood before earlier item → test (data_lines section before) ≡ true → test (data_lines section (before ++ item ∷ [])) ≡ true
 section-kept section test before earlier item keeps good h = ap test (data_lines-push section before item) ∙ by item good
@@ -43,13 +43,13 @@ section-kept section test before earlier item keeps good h = ap test (data_lines
     under fields true e g = keeps fields (subst (λ o. those_of (data_tests (context_of before) earlier fields o) ≡ []) (section-is section (current_section before) e) g)
     under fields false e g = same
 
-    by : (x : Item) → IsGood before earlier x → test (lines ++ fields_under section (current_section before) x) ≡ true
+    by : (x : LineContent) → IsGood before earlier x → test (lines ++ fields_under section (current_section before) x) ≡ true
     by skipped g = same
     by (header keyword more) g = same
     by (data_line fields) g = under fields (is_section section (current_section before)) refl g
 
 -- each line passes a test
-pub fields-kept : (section : Section) (test : Fields → Bool) (before : List Item) (earlier : Draft) (item : Item)
+pub fields-kept : (section : Section) (test : Fields → Bool) (before : List LineContent) (earlier : Draft) (item : LineContent)
     → ((fields : Fields) → IsGoodUnder section before earlier fields → test fields ≡ true)
     → IsGood before earlier item → list_all test (data_lines section before) ≡ true → list_all test (data_lines section (before ++ item ∷ [])) ≡ true
 fields-kept section test before earlier item fits good h =
@@ -69,7 +69,7 @@ set-more (first ∷ sets) set h k =
     so true e = refl
     so false e = sym e
 
-pub set-kept : (section : Section) (set_of : Fields → Option (List ℕ)) (before : List Item) (earlier : Draft) (item : Item)
+pub set-kept : (section : Section) (set_of : Fields → Option (List ℕ)) (before : List LineContent) (earlier : Draft) (item : LineContent)
     → ((fields : Fields) → IsGoodUnder section before earlier fields → (set : List ℕ) → set_of fields ≡ Some set → is_other_set (head_of (filter_map set_of (data_lines section before))) set ≡ false)
     → IsGood before earlier item → is_one_set (filter_map set_of (data_lines section before)) ≡ true → is_one_set (filter_map set_of (data_lines section (before ++ item ∷ []))) ≡ true
 set-kept section set_of before earlier item fits good h =
@@ -108,7 +108,7 @@ alternate-more (first ∷ words) last word false e h k =
     both_so (same_bytes first opening_word) (alternate closing_word opening_word (words ++ word ∷ [])) here
     (alternate-more words (Some first) word true (opens-next false first here) (second_so (same_bytes first opening_word) (alternate closing_word opening_word words) h) k)
 
-pub markers-kept : (section : Section) (before : List Item) (earlier : Draft) (item : Item)
+pub markers-kept : (section : Section) (before : List LineContent) (earlier : Draft) (item : LineContent)
     → ((fields : Fields) → IsGoodUnder section before earlier fields → (word : List ℕ) → marker_word fields ≡ Some word
     → same_bytes word (cond (opens (last_or None (filter_map marker_word (data_lines section before)))) closing_word opening_word) ≡ true)
     → IsGood before earlier item → alternate opening_word closing_word (filter_map marker_word (data_lines section before)) ≡ true

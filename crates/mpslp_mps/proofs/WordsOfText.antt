@@ -7,24 +7,24 @@ use Rattle.std.specs.Cmp.{first_so, second_so}
 use Rattle.std.specs.Str.Lines.{lines}
 use Rattle.mpslp_types.specs.declared.faults.FaultKind.TheVariants.{LineTooLong, BadByte}
 use Rattle.mpslp_types.proofs.BoolLemmas.{both_so}
-use Rattle.mpslp_builder.specs.Declaration.{Draft, empty_draft, adding_all}
-use Rattle.mpslp_core.specs.Lists.{is_nonempty, those_of}
-use Rattle.mpslp_reading.specs.LegalLine.{has_legal_length, is_legal_byte}
-use Rattle.mpslp_reading.specs.Tests.{Tests}
-use Rattle.mpslp_reading.proofs.HeldLemmas.{first_test, later_tests}
+use Rattle.mpslp_builder.specs.Declaration.{Draft, empty_draft, with_declarations}
+use Rattle.mpslp_model_core.specs.Lists.{is_nonempty, those_of}
+use Rattle.mpslp_lines.specs.LegalLine.{has_legal_length, is_legal_byte}
+use Rattle.mpslp_lines.specs.FaultTests.{FaultTests}
+use Rattle.mpslp_lines.proofs.HeldLemmas.{first_test, later_tests}
 use Rattle.std.proofs.lemmas.List.{append-nil}
-use Rattle.mpslp_mps.specs.Line.{Fields, Item, item_of, outside_comment, is_legal_line}
-use Rattle.mpslp_mps.specs.Section.{section_begun, is_section}
+use Rattle.mpslp_mps.specs.Line.{Fields, LineContent, content_of, outside_comment, is_legal_line}
+use Rattle.mpslp_mps.specs.Section.{section_of_header, is_section}
 use Rattle.mpslp_mps.specs.DataLine.{opening_word, closing_word}
-use Rattle.mpslp_mps.specs.Context.{context_of, sections_begun, section_after, current_section, has_section, data_lines, marker_word, vector_set, bound_set}
-use Rattle.mpslp_mps.specs.LineMeaning.{declared}
+use Rattle.mpslp_mps.specs.Context.{context_of, seen_sections, section_after, current_section, has_section, data_lines, marker_word, vector_set, bound_set}
+use Rattle.mpslp_mps.specs.LineDeclarations.{line_declares}
 use Rattle.mpslp_mps.specs.LineFault.{item_tests, line_tests}
-use Rattle.mpslp_mps.specs.MpsText.{is_end, read_lines, has_end, has_good_form, placed_after, placed_lines, is_mps_text}
+use Rattle.mpslp_mps.specs.MpsText.{is_end, read_lines, has_end, is_well_formed, lines_in_context_after, lines_in_context, is_mps_text}
 use Rattle.mpslp_mps.specs.TextInWords.{are_good_sections, is_good_header, has_good_headers, in_order, stray_lines, is_sense, words_in, has_word_at_most, has_good_words, has_named_objective, is_row_line, is_columns_line, is_vector_line, is_bound_line, have_good_fields, alternate, has_good_markers, stand_together, has_whole_columns, is_one_set, has_single_sets, are_good_together, is_text_in_words}
 use Rattle.mpslp_mps.specs.declared.sections.Section.{Section}
 use Rattle.mpslp_mps.specs.declared.sections.Section.TheVariants.{ObjSense, ObjName, Rows, Columns, Rhs, Ranges, Bounds, EndData}
 use Rattle.mpslp_mps.proofs.OrderLemmas.{IsGood}
-use Rattle.mpslp_mps.proofs.PlacedLemmas.{have_good_form, no_faults, items-good}
+use Rattle.mpslp_mps.proofs.ContextLineLemmas.{are_well_formed, no_faults, items-good}
 use Rattle.mpslp_mps.proofs.KnownLemmas.{good-first, good-rest}
 use Rattle.mpslp_mps.proofs.EndLemmas.{up_to_end, up_to_end-last, up_to_end-more}
 use Rattle.mpslp_mps.proofs.WordsOfFields.{section-is, row-fields, columns-fields, marker-fits, vector-fields, vector-set, bound-fields, bound-set}
@@ -37,9 +37,9 @@ use Rattle.mpslp_mps.proofs.WordsOfObjName.{IsWantedEarly, wanted_early-kept, Is
 -- ---- what lines of a good form are together
 
 -- so far: a section of one word may still want it
-pub record AreInWords (before : List Item) (earlier : Draft) : Type 0 where
+pub record AreInWords (before : List LineContent) (earlier : Draft) : Type 0 where
   pub headers : list_all is_good_header before ≡ true
-  pub ordered : AreOrdered (sections_begun before)
+  pub ordered : AreOrdered (seen_sections before)
   pub strays : stray_lines before ≡ []
   pub sense : IsUnderway ObjSense is_sense before
   pub name : IsUnderway ObjName (λ _. true) before
@@ -79,7 +79,7 @@ none-yet = record {
   bound_sets = refl;
 }
 
-pub one-more : (before : List Item) (earlier : Draft) (item : Item) → IsGood before earlier item → AreInWords before earlier → AreInWords (before ++ item ∷ []) (adding_all earlier (declared (context_of before) earlier item))
+pub one-more : (before : List LineContent) (earlier : Draft) (item : LineContent) → IsGood before earlier item → AreInWords before earlier → AreInWords (before ++ item ∷ []) (with_declarations earlier (line_declares (context_of before) earlier item))
 one-more before earlier item good h = record {
   headers = headers-kept before earlier item good h.headers;
   ordered = ordered-kept before earlier item good h.ordered;
@@ -101,17 +101,17 @@ one-more before earlier item good h = record {
   bound_sets = set-kept Bounds bound_set before earlier item (λ fields g set e. bound-set (context_of before) fields g set e) good h.bound_sets;
 }
 
-more-lines : (items before : List Item) (earlier : Draft) → have_good_form before earlier items ≡ true → AreInWords before earlier → (all : Draft) × AreInWords (before ++ items) all
-more-lines [] before earlier good h = (earlier, subst (λ (xs : List Item). AreInWords xs earlier) (sym (append-nil before)) h)
+more-lines : (items before : List LineContent) (earlier : Draft) → are_well_formed before earlier items ≡ true → AreInWords before earlier → (all : Draft) × AreInWords (before ++ items) all
+more-lines [] before earlier good h = (earlier, subst (λ (xs : List LineContent). AreInWords xs earlier) (sym (append-nil before)) h)
 more-lines (item ∷ items) before earlier good h =
-    let next = adding_all earlier (declared (context_of before) earlier item) in
+    let next = with_declarations earlier (line_declares (context_of before) earlier item) in
     let more = more-lines items (before ++ item ∷ []) next (good-rest before earlier item items good) (one-more before earlier item (good-first before earlier item items good) h) in
-    (more.0, subst (λ (xs : List Item). AreInWords xs more.0) (append_assoc before (item ∷ []) items) more.1)
+    (more.0, subst (λ (xs : List LineContent). AreInWords xs more.0) (append_assoc before (item ∷ []) items) more.1)
 
 -- ---- at the end
 
 -- lines up to that of ENDATA end in its section
-ends-last : (ls : List (List ℕ)) (current : Option Section) → list_any is_end ls ≡ true → is_section EndData (section_after current (map item_of (up_to_end ls))) ≡ true
+ends-last : (ls : List (List ℕ)) (current : Option Section) → list_any is_end ls ≡ true → is_section EndData (section_after current (map content_of (up_to_end ls))) ≡ true
 ends-last [] current h = cc
 ends-last (line ∷ ls) current h = by (λ c k. ends-last ls c k) (is_end line) refl h
   where
@@ -119,28 +119,28 @@ ends-last (line ∷ ls) current h = by (λ c k. ends-last ls c k) (is_end line) 
     last None e = cc
     last (Some s) e = e
 
-    passed : (o : Option Section) (items : List Item) → section_after (option_or o current) items ≡ last_or current (cons_option o (sections_begun items))
+    passed : (o : Option Section) (items : List LineContent) → section_after (option_or o current) items ≡ last_or current (cons_option o (seen_sections items))
     passed None items = refl
     passed (Some s) items = refl
 
-    by : ((c : Option Section) → list_any is_end ls ≡ true → is_section EndData (section_after c (map item_of (up_to_end ls))) ≡ true)
-        → (b : Bool) → is_end line ≡ b → (b || list_any is_end ls) ≡ true → is_section EndData (section_after current (map item_of (up_to_end (line ∷ ls)))) ≡ true
-    by rest true e k = ap (λ (xs : List (List ℕ)). is_section EndData (section_after current (map item_of xs))) (up_to_end-last line ls e) ∙ last (section_begun (item_of line)) e
+    by : ((c : Option Section) → list_any is_end ls ≡ true → is_section EndData (section_after c (map content_of (up_to_end ls))) ≡ true)
+        → (b : Bool) → is_end line ≡ b → (b || list_any is_end ls) ≡ true → is_section EndData (section_after current (map content_of (up_to_end (line ∷ ls)))) ≡ true
+    by rest true e k = ap (λ (xs : List (List ℕ)). is_section EndData (section_after current (map content_of xs))) (up_to_end-last line ls e) ∙ last (section_of_header (content_of line)) e
     by rest false e k =
-        ap (λ (xs : List (List ℕ)). is_section EndData (section_after current (map item_of xs))) (up_to_end-more line ls e)
-        ∙ ap (is_section EndData) (sym (passed (section_begun (item_of line)) (map item_of (up_to_end ls))))
-        ∙ rest (option_or (section_begun (item_of line)) current) k
+        ap (λ (xs : List (List ℕ)). is_section EndData (section_after current (map content_of xs))) (up_to_end-more line ls e)
+        ∙ ap (is_section EndData) (sym (passed (section_of_header (content_of line)) (map content_of (up_to_end ls))))
+        ∙ rest (option_or (section_of_header (content_of line)) current) k
 
-legal-lines : (ls : List (List ℕ)) (before : List Item) (earlier : Draft) → list_all has_good_form (placed_after before earlier ls) ≡ true → list_all is_legal_line ls ≡ true
+legal-lines : (ls : List (List ℕ)) (before : List LineContent) (earlier : Draft) → list_all is_well_formed (lines_in_context_after before earlier ls) ≡ true → list_all is_legal_line ls ≡ true
 legal-lines [] before earlier h = refl
 legal-lines (line ∷ ls) before earlier h =
-    let item = item_of line in
-    let next = adding_all earlier (declared (context_of before) earlier item) in
+    let item = content_of line in
+    let next = with_declarations earlier (line_declares (context_of before) earlier item) in
     let forms = those_of (line_tests (context_of before) earlier line) in
-    let more = list_all has_good_form (placed_after (before ++ item ∷ []) next ls) in
+    let more = list_all is_well_formed (lines_in_context_after (before ++ item ∷ []) next ls) in
     let tests = item_tests (context_of before) earlier item in
     let bytes = not (list_all is_legal_byte (outside_comment line)) in
-    let rest : Tests = (bytes, BadByte) ∷ tests in
+    let rest : FaultTests = (bytes, BadByte) ∷ tests in
     let none = no_faults forms (first_so (not (is_nonempty forms)) more h) in
     both_so (is_legal_line line) (list_all is_legal_line ls)
     (both_so (has_legal_length line) (list_all is_legal_byte (outside_comment line))
@@ -153,7 +153,7 @@ legal-lines (line ∷ ls) before earlier h =
     fine false e = sym e
 
 -- items that stand at ENDATA
-together-at_end : (items : List Item) (all : Draft) → AreInWords items all → is_section EndData (current_section items) ≡ true → are_good_together items ≡ true
+together-at_end : (items : List LineContent) (all : Draft) → AreInWords items all → is_section EndData (current_section items) ≡ true → are_good_together items ≡ true
 together-at_end items all h ends =
     both_so (has_good_headers items) _ headers
     (both_so (not (is_nonempty (stray_lines items))) _ (ap (λ (xs : List Fields). not (is_nonempty xs)) h.strays)
@@ -167,7 +167,7 @@ together-at_end items all h ends =
     at_end = section-is EndData (current_section items) ends
 
     columns : has_section items Columns ≡ true
-    columns = columns-there (sections_begun items) h.ordered (section-begun EndData (sections_begun items) ends)
+    columns = columns-there (seen_sections items) h.ordered (section-begun EndData (seen_sections items) ends)
 
     senses : has_word_at_most is_sense (words_in ObjSense items) ≡ true
     senses = word-at_end ObjSense is_sense items h.sense (ap (is_section ObjSense) at_end)
@@ -178,8 +178,8 @@ together-at_end items all h ends =
     headers : has_good_headers items ≡ true
     headers =
         both_so (list_all is_good_header items) _ h.headers
-        (both_so (are_good_sections (sections_begun items)) _ (both_so (in_order (sections_begun items)) _ h.ordered.order h.ordered.distinct)
-        (both_so (has_section items Rows) (has_section items Columns) (rows-there (sections_begun items) h.ordered columns) columns))
+        (both_so (are_good_sections (seen_sections items)) _ (both_so (in_order (seen_sections items)) _ h.ordered.order h.ordered.distinct)
+        (both_so (has_section items Rows) (has_section items Columns) (rows-there (seen_sections items) h.ordered columns) columns))
 
     fields : have_good_fields items ≡ true
     fields =
@@ -195,9 +195,9 @@ together-at_end items all h ends =
 
 pub text-in_words : (bytes : List ℕ) → is_mps_text bytes ≡ true → is_text_in_words bytes ≡ true
 text-in_words bytes text =
-    let ended = first_so (has_end bytes) (list_all has_good_form (placed_lines bytes)) text in
-    let good = second_so (has_end bytes) (list_all has_good_form (placed_lines bytes)) text in
-    let items = map item_of (read_lines bytes) in
+    let ended = first_so (has_end bytes) (list_all is_well_formed (lines_in_context bytes)) text in
+    let good = second_so (has_end bytes) (list_all is_well_formed (lines_in_context bytes)) text in
+    let items = map content_of (read_lines bytes) in
     let all = more-lines items [] empty_draft (items-good [] empty_draft (read_lines bytes) good) none-yet in
     both_so (has_end bytes) (list_all is_legal_line (read_lines bytes) && are_good_together items) ended
     (both_so (list_all is_legal_line (read_lines bytes)) (are_good_together items) (legal-lines (read_lines bytes) [] empty_draft good)

@@ -296,14 +296,14 @@ objective_tail =
     codes "ROWS" ∷ codes " N  C" ∷ codes " L  R" ∷ codes " N  S" ∷ codes "COLUMNS" ∷ codes "    X  C  1  R  1"
     ∷ codes "    X  S  2" ∷ codes "ENDATA" ∷ []
 
-abbrev pub named_objective : List ℕ
-named_objective = text (codes "NAME" ∷ codes "OBJNAME" ∷ codes "    S" ∷ objective_tail)
+abbrev pub header_objname : List ℕ
+header_objname = text (codes "NAME" ∷ codes "OBJNAME" ∷ codes "    S" ∷ objective_tail)
 
-pub named_objective_passes : Passes named_objective
+pub named_objective_passes : Passes header_objname
 unfolding trailing_zeros
 named_objective_passes = record { is_text = refl; objective = refl; legal = refl; unrefused = refl; no_fault = refl }
 
-pub named_objective_is : (draft_in named_objective).objective ≡ Some (codes "S")
+pub named_objective_is : (draft_in header_objname).objective ≡ Some (codes "S")
 named_objective_is = refl
 
 abbrev pub named_on_header : List ℕ

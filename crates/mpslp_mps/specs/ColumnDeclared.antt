@@ -1,8 +1,8 @@
 -- What a line of COLUMNS declares of its column, and of each of its rows and values.
 use Rattle.std.specs.Prelude.{ℕ, Bool, false, ◌||◌, List, [], ◌∷◌}
 use Rattle.mpslp_decimal.specs.Decimal.{Number}
-use Rattle.mpslp_builder.specs.Declaration.{declare_column, declare_marked, declare_coefficient, Declarations, Draft, adding_all, has_entry}
-use Rattle.mpslp_core.specs.Lists.{when}
+use Rattle.mpslp_builder.specs.Declaration.{declare_column, declare_marked, declare_coefficient, Declarations, Draft, with_declarations, has_coefficient}
+use Rattle.mpslp_model_core.specs.Lists.{when}
 
 abbrev pub front_declared : Bool → List ℕ → Declarations
 front_declared marked column = declare_column column ∷ when marked (declare_marked column)
@@ -11,7 +11,7 @@ abbrev pub value_declared : List ℕ → List ℕ × Number → Declarations
 value_declared column pair = declare_coefficient (record { row = pair.0; column = column }) pair.1 ∷ []
 
 -- one of the coefficients is declared already, before the line or by the value before it
-abbrev pub has_double : Draft → List ℕ → List (List ℕ × Number) → Bool
-has_double earlier column [] = false
-has_double earlier column (value ∷ values) =
-    has_entry earlier (record { row = value.0; column = column }) || has_double (adding_all earlier (value_declared column value)) column values
+abbrev pub has_duplicate : Draft → List ℕ → List (List ℕ × Number) → Bool
+has_duplicate earlier column [] = false
+has_duplicate earlier column (value ∷ values) =
+    has_coefficient earlier (record { row = value.0; column = column }) || has_duplicate (with_declarations earlier (value_declared column value)) column values

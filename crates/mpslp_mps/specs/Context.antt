@@ -3,9 +3,9 @@ use Rattle.std.specs.Prelude.{ℕ, Bool, true, false, List, [], ◌∷◌, ◌++
 use Rattle.std.specs.List.{last_or, cons_option}
 use Rattle.std.specs.Option.{option_map, option_map_or, option_or}
 use Rattle.mpslp_types.specs.Name.{same_bytes}
-use Rattle.mpslp_core.specs.Lists.{head_of, when}
-use Rattle.mpslp_mps.specs.Line.{Fields, Item, skipped, header, data_line}
-use Rattle.mpslp_mps.specs.Section.{has, section_named, section_begun, is_section}
+use Rattle.mpslp_model_core.specs.Lists.{head_of, when}
+use Rattle.mpslp_mps.specs.Line.{Fields, LineContent, skipped, header, data_line}
+use Rattle.mpslp_mps.specs.Section.{has, section_named, section_of_header, is_section}
 use Rattle.mpslp_mps.specs.DataLine.{word_shape, column_shape, is_marker_line, marker_shape, opening_word, vector_shape}
 use Rattle.mpslp_mps.specs.BoundLine.{bound_type, bound_shape}
 use Rattle.mpslp_mps.specs.declared.sections.Section.{Section}
@@ -14,41 +14,41 @@ use Rattle.mpslp_mps.specs.declared.sections.Section.TheVariants.{ObjSense, ObjN
 -- ---- sections
 
 -- the sections that have begun, in their order
-abbrev pub sections_begun : List Item → List Section
-sections_begun before = filter_map section_begun before
+abbrev pub seen_sections : List LineContent → List Section
+seen_sections before = filter_map section_of_header before
 
-abbrev pub has_section : List Item → Section → Bool
-has_section before section = has (sections_begun before) section
+abbrev pub has_section : List LineContent → Section → Bool
+has_section before section = has (seen_sections before) section
 
 -- the section after some lines that stand in `current`: that of the last header
-abbrev pub section_after : Option Section → List Item → Option Section
-section_after current items = last_or current (sections_begun items)
+abbrev pub section_after : Option Section → List LineContent → Option Section
+section_after current items = last_or current (seen_sections items)
 
 -- the section that a line after these stands in
-abbrev pub current_section : List Item → Option Section
+abbrev pub current_section : List LineContent → Option Section
 current_section before = section_after None before
 
 -- ---- the data lines of a section
 
 -- the fields of a data line that stands in the section
-abbrev pub fields_under : Section → Option Section → Item → List Fields
+abbrev pub fields_under : Section → Option Section → LineContent → List Fields
 fields_under section current (data_line fields) = when (is_section section current) fields
 fields_under section current _ = []
 
 -- what lines say where they stand, of those that stand in `current` up to the next header
-abbrev pub said_after : {X : Type 0} → (Option Section → Item → List X) → Option Section → List Item → List X
+abbrev pub said_after : {X : Type 0} → (Option Section → LineContent → List X) → Option Section → List LineContent → List X
 said_after says current [] = []
-said_after says current (item ∷ items) = says current item ++ said_after says (option_or (section_begun item) current) items
+said_after says current (item ∷ items) = says current item ++ said_after says (option_or (section_of_header item) current) items
 
-abbrev pub data_lines_after : Section → Option Section → List Item → List Fields
+abbrev pub data_lines_after : Section → Option Section → List LineContent → List Fields
 data_lines_after section current items = said_after (fields_under section) current items
 
-abbrev pub data_lines : Section → List Item → List Fields
+abbrev pub data_lines : Section → List LineContent → List Fields
 data_lines section before = data_lines_after section None before
 
 -- ---- what the lines of a section say of a later one
 
-abbrev pub is_read : Item → Bool
+abbrev pub is_read : LineContent → Bool
 is_read skipped = false
 is_read _ = true
 
@@ -59,27 +59,27 @@ takes_word ObjName = true
 takes_word _ = false
 
 -- the section whose word is still to come after its header
-abbrev pub word_wanted : Section → Fields → Option Section
-word_wanted section [] = if takes_word section then Some section else None
-word_wanted section more = None
+abbrev pub section_of_word_due : Section → Fields → Option Section
+section_of_word_due section [] = if takes_word section then Some section else None
+section_of_word_due section more = None
 
-abbrev pub wanting : Item → Option Section
-wanting (header keyword more) = option_map_or (λ section. word_wanted section more) (section_named keyword) None
-wanting _ = None
+abbrev pub word_due_after : LineContent → Option Section
+word_due_after (header keyword more) = option_map_or (λ section. section_of_word_due section more) (section_named keyword) None
+word_due_after _ = None
 
 -- the section whose word is to come: its header without one is the last line, but for skipped lines
-abbrev pub wanted : List Item → Option Section
-wanted before = option_map_or wanting (last_or None (filter is_read before)) None
+abbrev pub word_due : List LineContent → Option Section
+word_due before = option_map_or word_due_after (last_or None (filter is_read before)) None
 
 -- the word of OBJNAME that a line has, where lines before it stand in `current`
-abbrev pub objname_word : Option Section → Item → Option (List ℕ)
+abbrev pub objname_word : Option Section → LineContent → Option (List ℕ)
 objname_word current (header keyword more) = if is_section ObjName (section_named keyword) then word_shape more else None
 objname_word current (data_line fields) = if is_section ObjName current then word_shape fields else None
 objname_word current skipped = None
 
 -- the name of the objective, where OBJNAME tells it
-abbrev pub objective_name : List Item → Option (List ℕ)
-objective_name before = head_of (said_after (λ current item. cons_option (objname_word current item) []) None before)
+abbrev pub objname : List LineContent → Option (List ℕ)
+objname before = head_of (said_after (λ current item. cons_option (objname_word current item) []) None before)
 
 -- the word of a line of COLUMNS, if it is a marker line; its column, if it is none
 abbrev pub marker_word : Fields → Option (List ℕ)
@@ -89,11 +89,11 @@ abbrev pub line_column : Fields → Option (List ℕ)
 line_column fields = if is_marker_line fields then None else option_map (λ line. line.name) (column_shape fields)
 
 -- the nearest marker line before opens the integer part
-abbrev pub in_integer_part : List Item → Bool
+abbrev pub in_integer_part : List LineContent → Bool
 in_integer_part before = option_map_or (same_bytes opening_word) (last_or None (filter_map marker_word (data_lines Columns before))) false
 
 -- the column of the last line of COLUMNS, which a marker line has not
-abbrev pub last_column : List Item → Option (List ℕ)
+abbrev pub last_column : List LineContent → Option (List ℕ)
 last_column before = option_map_or line_column (last_or None (data_lines Columns before)) None
 
 -- the set name of a line
@@ -112,21 +112,21 @@ first_set set_of lines = head_of (filter_map set_of lines)
 
 pub record Context : Type 0 where
   pub section : Option Section
-  pub seen : List Section
-  pub wanted : Option Section
-  pub objective_name : Option (List ℕ)
+  pub sections_seen : List Section
+  pub word_due : Option Section
+  pub objname : Option (List ℕ)
   pub in_integer_part : Bool
   pub last_column : Option (List ℕ)
   pub rhs_set : Option (List ℕ)
   pub ranges_set : Option (List ℕ)
   pub bounds_set : Option (List ℕ)
 
-abbrev pub context_of : List Item → Context
+abbrev pub context_of : List LineContent → Context
 context_of before = record {
   section = current_section before;
-  seen = sections_begun before;
-  wanted = wanted before;
-  objective_name = objective_name before;
+  sections_seen = seen_sections before;
+  word_due = word_due before;
+  objname = objname before;
   in_integer_part = in_integer_part before;
   last_column = last_column before;
   rhs_set = first_set vector_set (data_lines Rhs before);

@@ -9,40 +9,40 @@ use Rattle.mpslp_mps.specs.declared.sections.Section.{Section}
 use Rattle.mpslp_mps.specs.declared.sections.Section.TheVariants.{ObjName}
 
 -- the name of the objective that follows the keyword OBJNAME
-abbrev pub named_objective : Section → Fields → Option (List ℕ)
-named_objective section more = if is_section ObjName (Some section) then word_shape more else None
+abbrev pub header_objname : Section → Fields → Option (List ℕ)
+header_objname section more = if is_section ObjName (Some section) then word_shape more else None
 
 -- a name of the objective is told; the first one counts
-abbrev pub with_objective_name : Context → List ℕ → Context
-with_objective_name c name = record c { objective_name = option_or c.objective_name (Some name) }
+abbrev pub with_objname : Context → List ℕ → Context
+with_objname c name = record c { objname = option_or c.objname (Some name) }
 
 -- after the header of a section, whose word may be to come, or name the objective
 abbrev pub after_header : Context → Section → Option Section → Option (List ℕ) → Context
-after_header c section wanted objective =
-    record c { section = Some section; seen = c.seen ++ section ∷ []; wanted = wanted; objective_name = option_or c.objective_name objective }
+after_header c section word_due objective =
+    record c { section = Some section; sections_seen = c.sections_seen ++ section ∷ []; word_due = word_due; objname = option_or c.objname objective }
 
 -- after the word of OBJNAME on a line of its own
-abbrev pub after_objective_name : Context → List ℕ → Context
-after_objective_name c name = with_objective_name (record c { wanted = None }) name
+abbrev pub after_objname : Context → List ℕ → Context
+after_objname c name = with_objname (record c { word_due = None }) name
 
 -- after a data line that later lines ask nothing of
 abbrev pub after_data : Context → Context
-after_data c = record c { wanted = None }
+after_data c = record c { word_due = None }
 
 -- after a marker line
 abbrev pub after_marker : Context → Bool → Context
-after_marker c opens = record c { wanted = None; in_integer_part = opens; last_column = None }
+after_marker c opens = record c { word_due = None; in_integer_part = opens; last_column = None }
 
 -- after a line of a column
 abbrev pub after_column : Context → List ℕ → Context
-after_column c column = record c { wanted = None; last_column = Some column }
+after_column c column = record c { word_due = None; last_column = Some column }
 
 -- after a line of RHS, RANGES and BOUNDS, of which the first one tells the set
-abbrev pub after_right_side : Context → List ℕ → Context
-after_right_side c set = record c { wanted = None; rhs_set = option_or c.rhs_set (Some set) }
+abbrev pub after_rhs : Context → List ℕ → Context
+after_rhs c set = record c { word_due = None; rhs_set = option_or c.rhs_set (Some set) }
 
 abbrev pub after_range : Context → List ℕ → Context
-after_range c set = record c { wanted = None; ranges_set = option_or c.ranges_set (Some set) }
+after_range c set = record c { word_due = None; ranges_set = option_or c.ranges_set (Some set) }
 
 abbrev pub after_bound : Context → List ℕ → Context
-after_bound c set = record c { wanted = None; bounds_set = option_or c.bounds_set (Some set) }
+after_bound c set = record c { word_due = None; bounds_set = option_or c.bounds_set (Some set) }

@@ -8,61 +8,61 @@ use Rattle.mpslp_mps.specs.Line.{Fields}
 use Rattle.mpslp_mps.specs.DataLine.{RowLine, ValuesLine, word_shape, row_shape, row_type, column_shape, is_marker_line, third_field, marker_shape, opening_word, closing_word, vector_shape}
 use Rattle.mpslp_mps.specs.BoundLine.{BoundLine, bound_type, bound_shape}
 use Rattle.mpslp_mps.specs.Context.{Context}
-use Rattle.mpslp_reading.specs.Tests.{Tests, judged_by}
-use Rattle.mpslp_reading.specs.Field.{name_tests, number_tests}
+use Rattle.mpslp_lines.specs.FaultTests.{FaultTests, judged_by}
+use Rattle.mpslp_lines.specs.Field.{name_tests, number_tests}
 use Rattle.mpslp_mps.specs.FieldFault.{literals_of, set_tests}
 use Rattle.mpslp_mps.specs.HeaderFault.{word_tests}
 use Rattle.mpslp_mps.specs.declared.sections.Section.{Section}
 use Rattle.mpslp_mps.specs.declared.sections.Section.TheVariants.{ObjSense, ObjName, Rows, Columns, Rhs, Ranges, Bounds}
 use Rattle.mpslp_mps.specs.declared.bound_types.BoundType.{BoundType}
 
-abbrev pub row_tests : RowLine → Tests
-row_tests line = (is_none (row_type line.letter), kinds.BadType) ∷ name_tests line.name
+abbrev pub row_line_tests : RowLine → FaultTests
+row_line_tests line = (is_none (row_type line.letter), kinds.BadType) ∷ name_tests line.name
 
 -- a special ordered set, also where the line has a wrong number of fields
 abbrev pub is_sos_marker : Fields → Bool
 is_sos_marker fields = option_map_or (is_one_of (codes "'SOSORG'" ∷ codes "'SOSEND'" ∷ [])) (third_field fields) false
 
 -- a marker line closes the integer part where it is open, and opens it elsewhere
-abbrev pub marker_word_tests : Context → List ℕ → Tests
+abbrev pub marker_word_tests : Context → List ℕ → FaultTests
 marker_word_tests context word = (not (same_bytes word (if context.in_integer_part then closing_word else opening_word)), kinds.BadMarker) ∷ []
 
-abbrev pub marker_tests : Context → Fields → Tests
+abbrev pub marker_tests : Context → Fields → FaultTests
 marker_tests context fields = (is_sos_marker fields, kinds.Sos) ∷ judged_by (marker_word_tests context) (marker_shape fields)
 
 -- the column had lines before, and the last line is none of its: the lines of a column stand together
 abbrev pub is_split : Context → Draft → List ℕ → Bool
 is_split context earlier column = has_column earlier column && not (option_map_or (same_bytes column) context.last_column false)
 
-abbrev pub column_tests : Context → Draft → ValuesLine → Tests
+abbrev pub column_tests : Context → Draft → ValuesLine → FaultTests
 column_tests context earlier line =
     name_tests line.name ++ (number_tests (literals_of line.pairs) ++ (is_split context earlier line.name, kinds.ColumnSplit) ∷ [])
 
-abbrev pub columns_line_tests : Context → Draft → Fields → Tests
+abbrev pub columns_line_tests : Context → Draft → Fields → FaultTests
 columns_line_tests context earlier fields =
     if is_marker_line fields then marker_tests context fields else judged_by (column_tests context earlier) (column_shape fields)
 
-abbrev pub vector_tests : Option (List ℕ) → ValuesLine → Tests
+abbrev pub vector_tests : Option (List ℕ) → ValuesLine → FaultTests
 vector_tests first line = number_tests (literals_of line.pairs) ++ set_tests first line.name
 
-abbrev pub bound_tests : Context → BoundLine → Tests
+abbrev pub bound_tests : Context → BoundLine → FaultTests
 bound_tests context line = option_map_or (λ literal. number_tests (literal ∷ [])) line.literal [] ++ set_tests context.bounds_set line.set
 
 -- a type that is not known says nothing of the number of fields
-abbrev pub typed_bound_tests : Context → Fields → Option BoundType → Tests
+abbrev pub typed_bound_tests : Context → Fields → Option BoundType → FaultTests
 typed_bound_tests context more None = (true, kinds.BadType) ∷ []
 typed_bound_tests context more (Some type) = judged_by (bound_tests context) (bound_shape type more)
 
-abbrev pub bound_line_tests : Context → Fields → Tests
+abbrev pub bound_line_tests : Context → Fields → FaultTests
 bound_line_tests context [] = []
 bound_line_tests context (letters ∷ more) = typed_bound_tests context more (bound_type letters)
 
 -- a data line under NAME, before any header, or under an OBJSENSE or OBJNAME that has its word. The word of OBJNAME is not
 -- judged
-abbrev pub data_tests : Context → Draft → Fields → Option Section → Tests
-data_tests context earlier fields (Some ObjSense) = (not (is_some context.wanted), kinds.SectionOrder) ∷ judged_by word_tests (word_shape fields)
-data_tests context earlier fields (Some ObjName) = (not (is_some context.wanted), kinds.SectionOrder) ∷ judged_by (λ _. []) (word_shape fields)
-data_tests context earlier fields (Some Rows) = judged_by row_tests (row_shape fields)
+abbrev pub data_tests : Context → Draft → Fields → Option Section → FaultTests
+data_tests context earlier fields (Some ObjSense) = (not (is_some context.word_due), kinds.SectionOrder) ∷ judged_by word_tests (word_shape fields)
+data_tests context earlier fields (Some ObjName) = (not (is_some context.word_due), kinds.SectionOrder) ∷ judged_by (λ _. []) (word_shape fields)
+data_tests context earlier fields (Some Rows) = judged_by row_line_tests (row_shape fields)
 data_tests context earlier fields (Some Columns) = columns_line_tests context earlier fields
 data_tests context earlier fields (Some Rhs) = judged_by (vector_tests context.rhs_set) (vector_shape fields)
 data_tests context earlier fields (Some Ranges) = judged_by (vector_tests context.ranges_set) (vector_shape fields)

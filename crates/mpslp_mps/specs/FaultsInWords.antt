@@ -5,28 +5,28 @@ use Rattle.std.specs.Option.{option_map, option_map_or}
 use Rattle.mpslp_types.specs.Name.{same_bytes}
 use Rattle.mpslp_types.specs.declared.faults.Fault.{Fault}
 use Rattle.mpslp_types.specs.declared.faults.FaultKind.{FaultKind}
-use Rattle.mpslp_core.specs.Lists.{is_nonempty}
-use Rattle.mpslp_mps.specs.Line.{Fields, Item, skipped, header, data_line, item_of}
+use Rattle.mpslp_model_core.specs.Lists.{is_nonempty}
+use Rattle.mpslp_mps.specs.Line.{Fields, LineContent, skipped, header, data_line, content_of}
 use Rattle.mpslp_mps.specs.Section.{section_named, is_section}
 use Rattle.mpslp_mps.specs.DataLine.{Pair, ValuesLine, row_shape, row_type, column_shape, is_marker_line, opening_word, closing_word, vector_shape}
 use Rattle.mpslp_mps.specs.BoundLine.{bound_type, bound_shape}
-use Rattle.mpslp_mps.specs.Context.{current_section, has_section, sections_begun, data_lines, takes_word, marker_word, line_column, vector_set, bound_set}
+use Rattle.mpslp_mps.specs.Context.{current_section, has_section, seen_sections, data_lines, takes_word, marker_word, line_column, vector_set, bound_set}
 use Rattle.mpslp_mps.specs.MpsText.{read_lines}
 use Rattle.mpslp_mps.specs.FirstFault.{IsFirstMpsFault}
-use Rattle.mpslp_mps.specs.TextInWords.{place, takes_data, words_in, has_named_objective, alternate, same_column, stand_together, is_free}
+use Rattle.mpslp_mps.specs.TextInWords.{section_rank, takes_data, words_in, has_named_objective, alternate, same_column, stand_together, is_free}
 use Rattle.mpslp_mps.specs.declared.sections.Section.{Section}
 use Rattle.mpslp_mps.specs.declared.sections.Section.TheVariants.{Rows, Columns, Rhs, Ranges, Bounds, EndData, ObjName}
 
 -- ---- SectionRepeated: a header whose section has a header before it
 
-abbrev pub repeats_section : List Item → Item → Bool
+abbrev pub repeats_section : List LineContent → LineContent → Bool
 repeats_section before (header keyword more) = option_map_or (has_section before) (section_named keyword) false
 repeats_section before _ = false
 
 -- ---- SectionOrder: a header or a data line where it may not stand
 
 -- a section that has to stand before this one is missing
-abbrev pub comes_early : List Item → Section → Bool
+abbrev pub comes_early : List LineContent → Section → Bool
 comes_early before Columns = not (has_section before Rows)
 comes_early before Rhs = not (has_section before Columns)
 comes_early before Ranges = not (has_section before Columns)
@@ -35,35 +35,35 @@ comes_early before EndData = not (has_section before Columns)
 comes_early before _ = false
 
 -- a section that has to stand behind this one has begun
-abbrev pub comes_late : List Item → Section → Bool
-comes_late before section = list_any (λ other. nat_lt (place section) (place other)) (sections_begun before)
+abbrev pub comes_late : List LineContent → Section → Bool
+comes_late before section = list_any (λ other. nat_lt (section_rank section) (section_rank other)) (seen_sections before)
 
 -- OBJSENSE or OBJNAME has its word, on its header or on a line of its own
-abbrev pub has_its_word : List Item → Section → Bool
+abbrev pub has_its_word : List LineContent → Section → Bool
 has_its_word before section = is_nonempty (flat_map (λ fields. fields) (words_in section before))
 
 -- the last header is that of OBJSENSE or OBJNAME, and the word has not come
-abbrev pub is_without_word : List Item → Section → Bool
+abbrev pub is_without_word : List LineContent → Section → Bool
 is_without_word before section = takes_word section && not (has_its_word before section)
 
 -- under NAME, or under OBJSENSE or OBJNAME that has its word, no data line may stand
-abbrev pub is_closed : List Item → Section → Bool
+abbrev pub is_closed : List LineContent → Section → Bool
 is_closed before section = not (takes_data section) || (takes_word section && has_its_word before section)
 
 -- a data line before the first header may not stand either
-abbrev pub is_out_of_place : List Item → Item → Bool
-is_out_of_place before (header keyword more) =
+abbrev pub stands_out_of_order : List LineContent → LineContent → Bool
+stands_out_of_order before (header keyword more) =
     option_map_or (is_without_word before) (current_section before) false
     || option_map_or (λ section. not (has_section before section) && (comes_early before section || comes_late before section)) (section_named keyword) false
-is_out_of_place before (data_line fields) = option_map_or (is_closed before) (current_section before) true
-is_out_of_place before skipped = false
+stands_out_of_order before (data_line fields) = option_map_or (is_closed before) (current_section before) true
+stands_out_of_order before skipped = false
 
 -- ---- BadMarker: a marker line with which those of COLUMNS do not open and close in turn
 
-abbrev pub breaks_turn : List Item → Fields → Bool
+abbrev pub breaks_turn : List LineContent → Fields → Bool
 breaks_turn before fields = option_map_or (λ word. not (alternate opening_word closing_word (filter_map marker_word (data_lines Columns before) ++ word ∷ []))) (marker_word fields) false
 
-abbrev pub is_wrong_marker : List Item → Item → Bool
+abbrev pub is_wrong_marker : List LineContent → LineContent → Bool
 is_wrong_marker before (data_line fields) = is_section Columns (current_section before) && breaks_turn before fields
 is_wrong_marker before _ = false
 
@@ -75,19 +75,19 @@ differs_from sets set = list_any (λ other. not (same_bytes other set)) sets
 abbrev pub has_other_set : (Fields → Option (List ℕ)) → List Fields → Fields → Bool
 has_other_set set_of lines fields = option_map_or (differs_from (filter_map set_of lines)) (set_of fields) false
 
-abbrev pub has_second_set : List Item → Fields → Option Section → Bool
+abbrev pub has_second_set : List LineContent → Fields → Option Section → Bool
 has_second_set before fields (Some Rhs) = has_other_set vector_set (data_lines Rhs before) fields
 has_second_set before fields (Some Ranges) = has_other_set vector_set (data_lines Ranges before) fields
 has_second_set before fields (Some Bounds) = has_other_set bound_set (data_lines Bounds before) fields
 has_second_set before fields _ = false
 
-abbrev pub is_of_second_set : List Item → Item → Bool
+abbrev pub is_of_second_set : List LineContent → LineContent → Bool
 is_of_second_set before (data_line fields) = has_second_set before fields (current_section before)
 is_of_second_set before _ = false
 
 -- ---- ColumnSplit: a line of COLUMNS with which the lines of a column do not stand together
 
-abbrev pub splits_column : List Item → Item → Bool
+abbrev pub splits_column : List LineContent → LineContent → Bool
 splits_column before (data_line fields) = is_section Columns (current_section before) && not (stand_together (map line_column (data_lines Columns before) ++ line_column fields ∷ []))
 splits_column before _ = false
 
@@ -99,22 +99,22 @@ row_name fields = option_map (λ line. line.name) (row_shape fields)
 abbrev pub is_named : List ℕ → List (List ℕ) → Bool
 is_named name names = list_any (same_bytes name) names
 
-abbrev pub names_row : List Item → List ℕ → Bool
+abbrev pub names_row : List LineContent → List ℕ → Bool
 names_row before name = is_named name (filter_map row_name (data_lines Rows before))
 
 abbrev pub is_free_row_line : Fields → Bool
 is_free_row_line fields = option_map_or (λ line. is_free (row_type line.letter)) (row_shape fields) false
 
-abbrev pub has_default_objective : List Item → Bool
+abbrev pub has_default_objective : List LineContent → Bool
 has_default_objective before = not (list_any is_free_row_line (data_lines Rows before)) && not (has_its_word before ObjName)
 
-abbrev pub is_row : List Item → List ℕ → Bool
+abbrev pub is_row : List LineContent → List ℕ → Bool
 is_row before name = names_row before name || (has_default_objective before && same_bytes name (codes "obj"))
 
 -- ---- DuplicateRow: a line of ROWS whose name a line of ROWS before it has
 
 -- or the header of COLUMNS, where the objective is `obj`, and a line of ROWS has this name
-abbrev pub repeats_row : List Item → Item → Bool
+abbrev pub repeats_row : List LineContent → LineContent → Bool
 repeats_row before (header keyword more) = is_section Columns (section_named keyword) && (has_default_objective before && names_row before (codes "obj"))
 repeats_row before (data_line fields) = is_section Rows (current_section before) && option_map_or (names_row before) (row_name fields) false
 repeats_row before skipped = false
@@ -132,7 +132,7 @@ pairs_in (Some Ranges) fields = option_map_or (λ line. line.pairs) (vector_shap
 pairs_in _ fields = []
 
 -- or the header of COLUMNS, where the word of OBJNAME is the name of no row of type N
-abbrev pub names_unknown_row : List Item → Item → Bool
+abbrev pub names_unknown_row : List LineContent → LineContent → Bool
 names_unknown_row before (header keyword more) = is_section Columns (section_named keyword) && not (has_named_objective before)
 names_unknown_row before (data_line fields) = list_any (λ pair. not (is_row before pair.row)) (pairs_in (current_section before) fields)
 names_unknown_row before skipped = false
@@ -143,10 +143,10 @@ abbrev pub bound_column : Fields → Option (List ℕ)
 bound_column [] = None
 bound_column (letters ∷ more) = option_map_or (λ type. option_map (λ line. line.column) (bound_shape type more)) (bound_type letters) None
 
-abbrev pub names_column : List Item → List ℕ → Bool
+abbrev pub names_column : List LineContent → List ℕ → Bool
 names_column before name = list_any (same_column (Some name)) (map line_column (data_lines Columns before))
 
-abbrev pub names_unknown_column : List Item → Item → Bool
+abbrev pub names_unknown_column : List LineContent → LineContent → Bool
 names_unknown_column before (data_line fields) = is_section Bounds (current_section before) && option_map_or (λ name. not (names_column before name)) (bound_column fields) false
 names_unknown_column before _ = false
 
@@ -160,24 +160,24 @@ has_row_twice (pair ∷ more) = list_any (λ other. same_bytes other.row pair.ro
 abbrev pub has_entry_of : (column row : List ℕ) → Fields → Bool
 has_entry_of column row fields = option_map_or (λ line. same_bytes column line.name && list_any (λ pair. same_bytes row pair.row) line.pairs) (column_line fields) false
 
-abbrev pub repeats_entry_of : List Item → ValuesLine → Bool
+abbrev pub repeats_entry_of : List LineContent → ValuesLine → Bool
 repeats_entry_of before line = has_row_twice line.pairs || list_any (λ pair. list_any (has_entry_of line.name pair.row) (data_lines Columns before)) line.pairs
 
-abbrev pub repeats_entry : List Item → Item → Bool
+abbrev pub repeats_entry : List LineContent → LineContent → Bool
 repeats_entry before (data_line fields) = is_section Columns (current_section before) && option_map_or (repeats_entry_of before) (column_line fields) false
 repeats_entry before _ = false
 
 -- ---- the laws
 
 -- The fault stands on a line of the text that is such a line beside those before it.
-pub record StandsOn (is_such : List Item → Item → Bool) (bytes : List ℕ) (fault : Fault) : Type 0 where
+pub record StandsOn (is_such : List LineContent → LineContent → Bool) (bytes : List ℕ) (fault : Fault) : Type 0 where
   pub before : List (List ℕ)
   pub line : List ℕ
   pub later : List (List ℕ)
   pub text : read_lines bytes ≡ before ++ line ∷ later
   pub number : fault.line ≡ min (length before + 1) (2 ^ 64 - 1)
-  pub such : is_such (map item_of before) (item_of line) ≡ true
+  pub such : is_such (map content_of before) (content_of line) ≡ true
 
 -- A first fault of this kind stands on such a line.
-abbrev pub IsInWords : FaultKind → (List Item → Item → Bool) → Type 0
+abbrev pub IsInWords : FaultKind → (List LineContent → LineContent → Bool) → Type 0
 IsInWords kind is_such = (bytes : List ℕ) (fault : Fault) → IsFirstMpsFault bytes fault → fault.kind ≡ kind → StandsOn is_such bytes fault

@@ -4,14 +4,14 @@ use Rattle.std.specs.List.{list_any}
 use Rattle.mpslp_builder.specs.Declaration.{Draft, empty_draft}
 use Rattle.mpslp_types.specs.declared.faults.Fault.{Fault}
 use Rattle.mpslp_model.specs.CompleteLines.{complete_lines}
-use Rattle.mpslp_reading.specs.Pieces.{IsFed}
-use Rattle.mpslp_reading.specs.declared.piece_reader.PieceReader.{PieceReader}
+use Rattle.mpslp_lines.specs.Pieces.{IsFed}
+use Rattle.mpslp_lines.specs.declared.piece_reader.PieceReader.{PieceReader}
 use Rattle.mpslp_mps.specs.Section.{is_section}
 use Rattle.mpslp_mps.specs.Context.{Context, context_of}
-use Rattle.mpslp_mps.specs.MpsText.{is_end, placed_after}
+use Rattle.mpslp_mps.specs.MpsText.{is_end, lines_in_context_after}
 use Rattle.mpslp_mps.specs.FirstFault.{first_line_fault}
-use Rattle.mpslp_mps.specs.Reading.{draft_from, context_from}
-use Rattle.mpslp_mps.specs.ReadingAnswer.{lines_to_end}
+use Rattle.mpslp_mps.specs.LineByLine.{draft_from, context_from}
+use Rattle.mpslp_mps.specs.ReadAnswer.{lines_to_end}
 use Rattle.mpslp_mps.specs.declared.line_reader.LineReader.{LineReader}
 use Rattle.mpslp_mps.specs.declared.sections.Section.TheVariants.{EndData}
 
@@ -19,7 +19,7 @@ use Rattle.mpslp_mps.specs.declared.sections.Section.TheVariants.{EndData}
 
 -- the fault of the first of these lines, up to that of ENDATA, that has one
 abbrev pub lines_fault : List (List ℕ) → Option Fault
-lines_fault text = first_line_fault 1 (placed_after [] empty_draft (lines_to_end text))
+lines_fault text = first_line_fault 1 (lines_in_context_after [] empty_draft (lines_to_end text))
 
 -- This is the fault of the first of these lines that has one.
 abbrev pub IsFaultOfLines : List (List ℕ) → Fault → Type 0

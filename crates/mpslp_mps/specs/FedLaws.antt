@@ -5,18 +5,18 @@ use Rattle.std.specs.List.{position_or_len, list_any}
 use Rattle.std.proofs.lemmas.List.Folds.{list_any-append}
 use Rattle.std.specs.Option.{option_or, option_map}
 use Rattle.std.specs.Str.Lines.{lines}
-use Rattle.mpslp_builder.specs.Declaration.{Draft, empty_draft, adding_all}
+use Rattle.mpslp_builder.specs.Declaration.{Draft, empty_draft, with_declarations}
 use Rattle.mpslp_types.specs.declared.faults.Fault.{Fault}
-use Rattle.mpslp_model.specs.CompleteLines.{complete_lines, unfinished}
+use Rattle.mpslp_model.specs.CompleteLines.{complete_lines, open_tail}
 use Rattle.mpslp_model.proofs.CompleteLineLemmas.{lines-more}
-use Rattle.mpslp_reading.specs.declared.piece_reader.PieceReader.{PieceReader}
-use Rattle.mpslp_reading.specs.LineAnswer.{fault_on_line}
-use Rattle.mpslp_mps.specs.Line.{Item, item_of}
+use Rattle.mpslp_lines.specs.declared.piece_reader.PieceReader.{PieceReader}
+use Rattle.mpslp_lines.specs.LineAnswer.{fault_on_line}
+use Rattle.mpslp_mps.specs.Line.{LineContent, content_of}
 use Rattle.mpslp_mps.specs.Context.{context_of}
-use Rattle.mpslp_mps.specs.MpsText.{Placed, is_end, placed_after, declared_at}
+use Rattle.mpslp_mps.specs.MpsText.{LineInContext, is_end, lines_in_context_after, declared_at}
 use Rattle.mpslp_mps.specs.FirstFault.{line_fault, first_line_fault, whole_mps_fault, IsFirstMpsFault}
-use Rattle.mpslp_mps.specs.Reading.{draft_from, context_from}
-use Rattle.mpslp_mps.specs.ReadingAnswer.{lines_to_end}
+use Rattle.mpslp_mps.specs.LineByLine.{draft_from, context_from}
+use Rattle.mpslp_mps.specs.ReadAnswer.{lines_to_end}
 use Rattle.mpslp_mps.specs.Fed.{lines_fault, IsFaultOfLines, IsFaultOfComplete, HasRead, is_ended, IsFedAll}
 use Rattle.mpslp_mps.specs.declared.line_reader.LineReader.{LineReader}
 
@@ -39,9 +39,9 @@ stays-behind : (own : Option Fault) (rest later : Option Fault) (fault : Fault) 
 stays-behind None rest later fault on h = on h
 stays-behind (Some found) rest later fault on h = h
 
-first_fault-stays : (text more : List (List ℕ)) (n : ℕ) (before : List Item) (earlier : Draft) (fault : Fault)
-    → first_line_fault n (placed_after before earlier (lines_to_end text)) ≡ Some fault
-    → first_line_fault n (placed_after before earlier (lines_to_end (text ++ more))) ≡ Some fault
+first_fault-stays : (text more : List (List ℕ)) (n : ℕ) (before : List LineContent) (earlier : Draft) (fault : Fault)
+    → first_line_fault n (lines_in_context_after before earlier (lines_to_end text)) ≡ Some fault
+    → first_line_fault n (lines_in_context_after before earlier (lines_to_end (text ++ more))) ≡ Some fault
 first_fault-stays [] more n before earlier fault h = cc
 first_fault-stays (line ∷ text) more n before earlier fault h =
     elim (is_end line) as (λ b. is_end line ≡ b → found (line ∷ (text ++ more)) ≡ Some fault) [
@@ -49,26 +49,26 @@ first_fault-stays (line ∷ text) more n before earlier fault h =
       | false ↦ λ e.
           ap of (to_end-more line (text ++ more) e)
           ∙ stays-behind own (of_more (lines_to_end text)) (of_more (lines_to_end (text ++ more))) fault
-          (first_fault-stays text more (n + 1) (before ++ item_of line ∷ []) next fault) (sym (ap of (to_end-more line text e)) ∙ h)
+          (first_fault-stays text more (n + 1) (before ++ content_of line ∷ []) next fault) (sym (ap of (to_end-more line text e)) ∙ h)
     ] refl
   where
-    here : Placed
+    here : LineInContext
     here = record { context = context_of before; earlier = earlier; line = line }
 
     next : Draft
-    next = adding_all earlier (declared_at here)
+    next = with_declarations earlier (declared_at here)
 
     own : Option Fault
     own = option_map (fault_on_line n) (line_fault here)
 
     of : List (List ℕ) → Option Fault
-    of read = first_line_fault n (placed_after before earlier read)
+    of read = first_line_fault n (lines_in_context_after before earlier read)
 
     found : List (List ℕ) → Option Fault
     found read = of (lines_to_end read)
 
     of_more : List (List ℕ) → Option Fault
-    of_more read = first_line_fault (n + 1) (placed_after (before ++ item_of line ∷ []) next read)
+    of_more read = first_line_fault (n + 1) (lines_in_context_after (before ++ content_of line ∷ []) next read)
 
 -- The first fault of some lines is that of more lines.
 pub lines_fault-stays : (text more : List (List ℕ)) (fault : Fault) → lines_fault text ≡ Some fault → lines_fault (text ++ more) ≡ Some fault
@@ -82,7 +82,7 @@ lines_fault-is_first bytes fault h = ap (λ (o : Option Fault). option_or o (who
 pub complete-is_first : (bytes more : List ℕ) (fault : Fault) → IsFaultOfComplete bytes fault → IsFirstMpsFault (bytes ++ more) fault
 complete-is_first bytes more fault h =
     ap (λ (o : Option Fault). option_or o (whole_mps_fault (bytes ++ more)))
-    (ap lines_fault (lines-more bytes more) ∙ lines_fault-stays (complete_lines bytes) (lines (unfinished bytes ++ more)) fault h)
+    (ap lines_fault (lines-more bytes more) ∙ lines_fault-stays (complete_lines bytes) (lines (open_tail bytes ++ more)) fault h)
 
 -- ---- lines behind that of ENDATA
 
@@ -101,7 +101,7 @@ read-behind_end reader text more led at_end =
     let same = ended-more text more ended in
     let any : list_any is_end (text ++ more) ≡ true = list_any-append is_end text more ∙ ap (λ (b : Bool). b || list_any is_end more) ended in
     record {
-      clean = ap (λ (read : List (List ℕ)). first_line_fault 1 (placed_after [] empty_draft read)) same ∙ led.clean;
+      clean = ap (λ (read : List (List ℕ)). first_line_fault 1 (lines_in_context_after [] empty_draft read)) same ∙ led.clean;
       context_is = led.context_is ∙ ap (context_from (context_of [])) (sym same);
       draft = led.draft ∙ ap (draft_from (context_of []) empty_draft) (sym same);
       ended = at_end ∙ sym any;

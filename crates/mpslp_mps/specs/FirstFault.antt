@@ -6,16 +6,16 @@ use Rattle.mpslp_builder.specs.Meaning.{whole_fault, file_fault}
 use Rattle.mpslp_types.specs.declared.faults.Fault.{Fault}
 use Rattle.mpslp_types.specs.declared.faults.FaultKind.{FaultKind}
 use Rattle.mpslp_types.specs.declared.faults.FaultKind.TheVariants.{MissingEnd}
-use Rattle.mpslp_reading.specs.Declaring.{first_fault}
-use Rattle.mpslp_reading.specs.LineAnswer.{fault_on_line}
-use Rattle.mpslp_mps.specs.MpsText.{Placed, has_end, tests_at, declared_at, placed_lines, declarations_of}
+use Rattle.mpslp_lines.specs.Declaring.{first_fault}
+use Rattle.mpslp_lines.specs.LineAnswer.{fault_on_line}
+use Rattle.mpslp_mps.specs.MpsText.{LineInContext, has_end, tests_at, declared_at, lines_in_context, declarations_of}
 
 -- the kind of a line's fault, if it has one: the least
-abbrev pub line_fault : Placed → Option FaultKind
+abbrev pub line_fault : LineInContext → Option FaultKind
 line_fault placed = first_fault (tests_at placed) placed.earlier (declared_at placed)
 
 -- the fault of the first line that has one, where the first of these lines is line n
-abbrev pub first_line_fault : ℕ → List Placed → Option Fault
+abbrev pub first_line_fault : ℕ → List LineInContext → Option Fault
 first_line_fault n [] = None
 first_line_fault n (placed ∷ more) = option_or (option_map (fault_on_line n) (line_fault placed)) (first_line_fault (n + 1) more)
 
@@ -24,7 +24,7 @@ abbrev pub whole_mps_fault : List ℕ → Option Fault
 whole_mps_fault bytes = if has_end bytes then file_fault (draft_of (declarations_of bytes)) else Some (whole_fault MissingEnd None)
 
 abbrev pub first_mps_fault : List ℕ → Option Fault
-first_mps_fault bytes = option_or (first_line_fault 1 (placed_lines bytes)) (whole_mps_fault bytes)
+first_mps_fault bytes = option_or (first_line_fault 1 (lines_in_context bytes)) (whole_mps_fault bytes)
 
 -- The fault is the first one of the bytes.
 abbrev pub IsFirstMpsFault : List ℕ → Fault → Type 0

@@ -2,14 +2,14 @@
 use Rattle.std.specs.Prelude.{ℕ, Bool, true, ◌||◌, ◌&&◌, not, List, [], ◌∷◌, Option, Some, None, is_some, is_none, if◌then◌else◌, codes}
 use Rattle.mpslp_types.specs.Name.{is_one_of}
 use Rattle.mpslp_builder.specs.Declaration.{Draft}
-use Rattle.mpslp_core.specs.Lists.{is_nonempty}
+use Rattle.mpslp_model_core.specs.Lists.{is_nonempty}
 use Rattle.mpslp_types.specs.declared.faults.FaultKind.{FaultKind}
 use Rattle.mpslp_types.specs.declared.faults.FaultKind.TheVariants as kinds
 use Rattle.mpslp_mps.specs.Line.{Fields}
 use Rattle.mpslp_mps.specs.Section.{has}
 use Rattle.mpslp_mps.specs.DataLine.{sense_of}
 use Rattle.mpslp_mps.specs.Context.{Context}
-use Rattle.mpslp_reading.specs.Tests.{Tests}
+use Rattle.mpslp_lines.specs.FaultTests.{FaultTests}
 use Rattle.mpslp_mps.specs.declared.sections.Section.{Section}
 use Rattle.mpslp_mps.specs.declared.sections.Section.TheVariants.{Name, ObjSense, ObjName, Rows, Columns}
 
@@ -23,15 +23,15 @@ unknown_section keyword =
 -- whether a section that has not begun may begin here
 abbrev pub may_begin : Context → Section → Bool
 may_begin context Name = is_none context.section
-may_begin context ObjSense = not (has context.seen Rows)
-may_begin context ObjName = not (has context.seen Rows)
+may_begin context ObjSense = not (has context.sections_seen Rows)
+may_begin context ObjName = not (has context.sections_seen Rows)
 may_begin context Rows = true
-may_begin context Columns = has context.seen Rows
-may_begin context _ = has context.seen Columns
+may_begin context Columns = has context.sections_seen Rows
+may_begin context _ = has context.sections_seen Columns
 
 -- a header while a word is wanted, and a section out of order
 abbrev pub is_out_of_order : Context → Section → Bool
-is_out_of_order context section = is_some context.wanted || not (has context.seen section || may_begin context section)
+is_out_of_order context section = is_some context.word_due || not (has context.sections_seen section || may_begin context section)
 
 -- what may follow the keyword: anything after NAME, one word after OBJSENSE and OBJNAME
 abbrev pub may_follow : Section → Fields → Bool
@@ -42,23 +42,23 @@ may_follow ObjName [] = true
 may_follow ObjName (word ∷ []) = true
 may_follow _ more = not (is_nonempty more)
 
-abbrev pub word_tests : List ℕ → Tests
+abbrev pub word_tests : List ℕ → FaultTests
 word_tests word = (is_none (sense_of word), kinds.BadType) ∷ []
 
 -- OBJNAME tells the name of the objective, and no row of type N before has it
 abbrev pub lacks_objective : Context → Draft → Bool
-lacks_objective context earlier = is_none earlier.objective && is_some context.objective_name
+lacks_objective context earlier = is_none earlier.objective && is_some context.objname
 
 -- the word of OBJSENSE, and the objective that OBJNAME names, which ROWS has to have
-abbrev pub section_tests : Context → Draft → Section → Fields → Tests
+abbrev pub section_tests : Context → Draft → Section → Fields → FaultTests
 section_tests context earlier ObjSense (word ∷ _) = word_tests word
 section_tests context earlier Columns more = (lacks_objective context earlier, kinds.UnknownRow) ∷ []
 section_tests context earlier _ more = []
 
-abbrev pub header_tests : Context → Draft → List ℕ → Fields → Option Section → Tests
+abbrev pub header_tests : Context → Draft → List ℕ → Fields → Option Section → FaultTests
 header_tests context earlier keyword more None = (true, unknown_section keyword) ∷ []
 header_tests context earlier keyword more (Some section) =
     (is_out_of_order context section, kinds.SectionOrder)
-    ∷ (has context.seen section, kinds.SectionRepeated)
+    ∷ (has context.sections_seen section, kinds.SectionRepeated)
     ∷ (not (may_follow section more), kinds.FieldCount)
     ∷ section_tests context earlier section more

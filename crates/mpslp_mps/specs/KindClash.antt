@@ -6,7 +6,7 @@ use Rattle.mpslp_mps.specs.Line.{Fields}
 use Rattle.mpslp_mps.specs.DataLine.{column_shape}
 use Rattle.mpslp_mps.specs.BoundLine.{bound_type, bound_shape}
 use Rattle.mpslp_mps.specs.Context.{Context}
-use Rattle.mpslp_mps.specs.LineMeaning.{is_integer_type, is_semi_type}
+use Rattle.mpslp_mps.specs.LineDeclarations.{is_integer_type, is_semi_type}
 use Rattle.mpslp_mps.specs.declared.bound_types.BoundType.{BoundType}
 
 -- a line of a column that is semi-continuous, in an integer part

@@ -1,6 +1,6 @@
 -- Laws of MPS text.
 use Rattle.std.specs.Prelude.{◌≡◌, ℕ, List}
-use Rattle.mpslp_core.specs.Model.{LinearModel}
+use Rattle.mpslp_model_core.specs.Model.{LinearModel}
 use Rattle.mpslp_types.specs.declared.faults.Fault.{Fault}
 use Rattle.mpslp_mps.specs.MpsText.{is_mps_text, DeclaresMps}
 use Rattle.mpslp_mps.specs.TextInWords.{is_text_in_words}

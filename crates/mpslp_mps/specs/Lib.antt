@@ -5,7 +5,7 @@ pub mod BoundLine
 pub mod Context
 pub mod NextContext
 pub mod ContextStep
-pub mod LineMeaning
+pub mod LineDeclarations
 pub mod FieldFault
 pub mod LineValues
 pub mod HeaderFault
@@ -14,13 +14,13 @@ pub mod LineFault
 pub mod MpsText
 pub mod TextInWords
 pub mod FirstFault
-pub mod Reading
+pub mod LineByLine
 pub mod FaultsInWords
 pub mod Laws
 pub mod LineAnswer
 pub mod VectorDeclared
 pub mod ColumnDeclared
 pub mod KindClash
-pub mod ReadingAnswer
+pub mod ReadAnswer
 pub mod Fed
 pub mod FedLaws

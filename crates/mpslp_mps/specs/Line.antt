@@ -1,7 +1,7 @@
 -- Lines of MPS text, and their fields.
 use Rattle.std.specs.Prelude.{ℕ, Bool, false, ◌&&◌, ◌||◌, ◌==◌, nat_lt, List, [], ◌∷◌, filter, length, if◌then◌else◌}
 use Rattle.std.specs.List.{list_all, slice_split}
-use Rattle.mpslp_reading.specs.LegalLine.{has_legal_length, is_legal_byte}
+use Rattle.mpslp_lines.specs.LegalLine.{has_legal_length, is_legal_byte}
 
 -- the fields of a line, in order
 abbrev pub Fields : Type 0
@@ -41,14 +41,14 @@ is_legal_line line = has_legal_length line && list_all is_legal_byte (outside_co
 -- ---- what is read of a line
 
 -- a header is its keyword and what follows
-pub data Item : Type 0 where
-  skipped : Item
-  header : List ℕ → Fields → Item
-  data_line : Fields → Item
+pub data LineContent : Type 0 where
+  skipped : LineContent
+  header : List ℕ → Fields → LineContent
+  data_line : Fields → LineContent
 
-abbrev pub header_of : Fields → Item
+abbrev pub header_of : Fields → LineContent
 header_of [] = skipped
 header_of (keyword ∷ more) = header keyword more
 
-abbrev pub item_of : List ℕ → Item
-item_of line = if is_skipped line then skipped else (if is_data line then data_line (fields line) else header_of (fields line))
+abbrev pub content_of : List ℕ → LineContent
+content_of line = if is_skipped line then skipped else (if is_data line then data_line (fields line) else header_of (fields line))

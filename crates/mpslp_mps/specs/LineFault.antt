@@ -1,20 +1,20 @@
 -- The faults of the form of a line of MPS text, after the lines before it, as tests in the order of their kinds.
 use Rattle.std.specs.Prelude.{ℕ, List, [], ◌++◌}
 use Rattle.mpslp_builder.specs.Declaration.{Draft}
-use Rattle.mpslp_reading.specs.Tests.{Tests}
-use Rattle.mpslp_reading.specs.LegalLine.{legal_tests}
-use Rattle.mpslp_mps.specs.Line.{Item, skipped, header, data_line, outside_comment, item_of}
+use Rattle.mpslp_lines.specs.FaultTests.{FaultTests}
+use Rattle.mpslp_lines.specs.LegalLine.{legal_tests}
+use Rattle.mpslp_mps.specs.Line.{LineContent, skipped, header, data_line, outside_comment, content_of}
 use Rattle.mpslp_mps.specs.Section.{section_named}
 use Rattle.mpslp_mps.specs.Context.{Context}
 use Rattle.mpslp_mps.specs.HeaderFault.{header_tests}
 use Rattle.mpslp_mps.specs.DataFault.{data_tests}
 
 -- of what is read of a line
-abbrev pub item_tests : Context → Draft → Item → Tests
+abbrev pub item_tests : Context → Draft → LineContent → FaultTests
 item_tests context earlier skipped = []
 item_tests context earlier (header keyword more) = header_tests context earlier keyword more (section_named keyword)
 item_tests context earlier (data_line fields) = data_tests context earlier fields context.section
 
 -- of a line: those of its bytes come first
-abbrev pub line_tests : Context → Draft → List ℕ → Tests
-line_tests context earlier line = legal_tests line (outside_comment line) ++ item_tests context earlier (item_of line)
+abbrev pub line_tests : Context → Draft → List ℕ → FaultTests
+line_tests context earlier line = legal_tests line (outside_comment line) ++ item_tests context earlier (content_of line)

@@ -3,15 +3,15 @@ use Rattle.std.specs.Prelude.{ℕ, Bool, List, [], ◌++◌, Option, if◌then�
 use Rattle.std.specs.List.{cons_option}
 use Rattle.std.specs.Option.{option_map_or, option_or}
 use Rattle.mpslp_types.specs.Name.{same_bytes}
-use Rattle.mpslp_mps.specs.Line.{Fields, Item, data_line}
-use Rattle.mpslp_mps.specs.Section.{section_begun, is_section}
+use Rattle.mpslp_mps.specs.Line.{Fields, LineContent, data_line}
+use Rattle.mpslp_mps.specs.Section.{section_of_header, is_section}
 use Rattle.mpslp_mps.specs.DataLine.{opening_word}
-use Rattle.mpslp_mps.specs.Context.{is_read, wanting, objname_word, marker_word, line_column, vector_set, bound_set, Context}
+use Rattle.mpslp_mps.specs.Context.{is_read, word_due_after, objname_word, marker_word, line_column, vector_set, bound_set, Context}
 use Rattle.mpslp_mps.specs.declared.sections.Section.{Section}
 use Rattle.mpslp_mps.specs.declared.sections.Section.TheVariants.{Columns, Rhs, Ranges, Bounds}
 
 -- what a data line of the section changes a reading to
-abbrev pub changed_under : {X : Type 0} → Section → Option Section → (Fields → X → X) → Item → X → X
+abbrev pub changed_under : {X : Type 0} → Section → Option Section → (Fields → X → X) → LineContent → X → X
 changed_under section current change (data_line fields) old = if is_section section current then change fields old else old
 changed_under section current change _ old = old
 
@@ -23,12 +23,12 @@ next_part fields old = option_map_or (same_bytes opening_word) (marker_word fiel
 abbrev pub next_set : (Fields → Option (List ℕ)) → Fields → Option (List ℕ) → Option (List ℕ)
 next_set set_of fields old = option_or old (set_of fields)
 
-abbrev pub next_context : Context → Item → Context
+abbrev pub next_context : Context → LineContent → Context
 next_context c item = record {
-  section = option_or (section_begun item) c.section;
-  seen = c.seen ++ cons_option (section_begun item) [];
-  wanted = if is_read item then wanting item else c.wanted;
-  objective_name = option_or c.objective_name (objname_word c.section item);
+  section = option_or (section_of_header item) c.section;
+  sections_seen = c.sections_seen ++ cons_option (section_of_header item) [];
+  word_due = if is_read item then word_due_after item else c.word_due;
+  objname = option_or c.objname (objname_word c.section item);
   in_integer_part = changed_under Columns c.section next_part item c.in_integer_part;
   last_column = changed_under Columns c.section (λ fields _. line_column fields) item c.last_column;
   rhs_set = changed_under Rhs c.section (next_set vector_set) item c.rhs_set;

@@ -2,7 +2,7 @@
 use Rattle.std.specs.Prelude.{ℕ, Bool, false, List, [], ◌∷◌, Option, Some, None, codes}
 use Rattle.std.specs.List.{find, list_any}
 use Rattle.mpslp_types.specs.Name.{same_bytes}
-use Rattle.mpslp_mps.specs.Line.{Item, header}
+use Rattle.mpslp_mps.specs.Line.{LineContent, header}
 use Rattle.mpslp_mps.specs.declared.sections.Section.{Section}
 use Rattle.mpslp_mps.specs.declared.sections.Section.TheVariants.{Name, ObjSense, ObjName, Rows, Columns, Rhs, Ranges, Bounds, EndData}
 
@@ -26,17 +26,17 @@ abbrev pub section_named : List ℕ → Option Section
 section_named keyword = find (λ section. same_bytes keyword (keyword_of section)) sections
 
 -- the section that a line begins
-abbrev pub section_begun : Item → Option Section
-section_begun (header keyword _) = section_named keyword
-section_begun _ = None
+abbrev pub section_of_header : LineContent → Option Section
+section_of_header (header keyword _) = section_named keyword
+section_of_header _ = None
 
 abbrev pub is_section : Section → Option Section → Bool
 is_section section None = false
 is_section section (Some current) = same_bytes (keyword_of section) (keyword_of current)
 
 -- whether a line is the header of the section
-abbrev pub begins : Section → Item → Bool
-begins section item = is_section section (section_begun item)
+abbrev pub begins : Section → LineContent → Bool
+begins section item = is_section section (section_of_header item)
 
 -- whether a section is one of these
 abbrev pub has : List Section → Section → Bool

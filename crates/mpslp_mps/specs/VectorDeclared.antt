@@ -5,8 +5,8 @@ use Rattle.mpslp_decimal.specs.Decimal.{Number}
 use Rattle.mpslp_builder.specs.Declaration.{declare_range, Declarations, Draft, has_name, has_row, is_free_row, rhs_declared}
 
 -- the right sides of rows with values, and their ranges
-abbrev pub right_sides_of : Draft → List (List ℕ × Number) → Declarations
-right_sides_of earlier values = flat_map (λ value. rhs_declared earlier value.0 value.1) values
+abbrev pub rhs_values_declared : Draft → List (List ℕ × Number) → Declarations
+rhs_values_declared earlier values = flat_map (λ value. rhs_declared earlier value.0 value.1) values
 
 abbrev pub ranges_of : List (List ℕ × Number) → Declarations
 ranges_of values = map (λ value. declare_range value.0 value.1) values

@@ -2,15 +2,15 @@
 
 ghost use Rattle.std.specs.Prelude.{◌≡◌, [], ◌∷◌, ◌||◌, true, false, map, IsTrue, Some, None, is_some, MatchResult};
 ghost use Rattle.std.specs.Option.{ForSome, option_map_or};
-ghost use Rattle.mpslp_types.specs.Sides.{limit_of, is_given};
+ghost use Rattle.mpslp_types.specs.Limit.{limit_of, is_given};
 ghost use Rattle.mpslp_builder.specs.Bounds.{zero_limit, one_limit};
 ghost use Rattle.mpslp_builder.specs.Declaration.{declare_integer, declare_semi, is_integer, is_semi, bounds_declared};
 ghost use Rattle.mpslp_mps.specs.Line.{data_line};
-ghost use Rattle.mpslp_mps.specs.LineMeaning.{lower_given, upper_given, is_integer_type, is_semi_type, kind_declared, bound_declared};
+ghost use Rattle.mpslp_mps.specs.LineDeclarations.{lower_given, upper_given, is_integer_type, is_semi_type, kind_declared, bound_declared};
 ghost use Rattle.mpslp_mps.specs.KindClash.{type_clash};
-ghost use Rattle.mpslp_mps.specs.LineAnswer.{ReadsItem};
-ghost use Rattle.mpslp_reading.specs.LineAnswer.{AreDeclared, IfFault, IsErrorOf};
-ghost use Rattle.mpslp_reading.specs.Declaring.{declared_fault};
+ghost use Rattle.mpslp_mps.specs.LineAnswer.{ReadsContent};
+ghost use Rattle.mpslp_lines.specs.LineAnswer.{AreDeclared, IfFault, IsErrorOf};
+ghost use Rattle.mpslp_lines.specs.Declaring.{declared_fault};
 ghost use Rattle.mpslp_mps.specs.declared.sections.Section.{Section};
 
 use crate::bound_types::BoundType;
@@ -18,8 +18,8 @@ use crate::clashes::has_bound_clash;
 use crate::context::LineContext;
 use crate::data_lines::check_bound;
 use mpslp_decimal::Decimal;
+use mpslp_lines::LineError;
 use mpslp_model::{Builder, FaultKind, Limit};
-use mpslp_reading::LineError;
 
 /// The side of 0.
 fn zero_limit() -> Limit
@@ -39,7 +39,7 @@ fn one_limit() -> Limit
 }
 
 /// The side that a bound's value stands for; 0 where the bound has no value.
-fn side_of(value: Option<Decimal>) -> Limit
+fn bound_value_or_zero(value: Option<Decimal>) -> Limit
     ensures value { result ≡ option_map_or limit_of value zero_limit }
     ensures given { IsTrue (is_given result) }
 {
@@ -50,7 +50,7 @@ fn side_of(value: Option<Decimal>) -> Limit
 }
 
 /// The lower and the upper side that a bound of this type declares.
-fn sides_of(bound_type: BoundType, value: &Limit) -> (Option<Limit>, Option<Limit>)
+fn bounds_of_type(bound_type: BoundType, value: &Limit) -> (Option<Limit>, Option<Limit>)
     requires { IsTrue (is_given value.now) }
     ensures lower { result.0 ≡ lower_given bound_type value.now }
     ensures upper { result.1 ≡ upper_given bound_type value.now }
@@ -69,7 +69,7 @@ fn sides_of(bound_type: BoundType, value: &Limit) -> (Option<Limit>, Option<Limi
 }
 
 /// The fault that the sides of a column that are given, of which there is one at least, would have now, if they have one.
-fn check_sides(
+fn check_bounds_given(
     builder: &Builder,
     column: &[u8],
     lower: &Option<Limit>,
@@ -84,7 +84,7 @@ fn check_sides(
 }
 
 /// Declares the sides of a column that are given, of which there is one at least.
-fn declare_sides(
+fn declare_bounds_given(
     builder: &mut Builder,
     column: &[u8],
     lower: Option<Limit>,
@@ -167,10 +167,10 @@ fn declare_bound(
     ensures answers { AreDeclared builder.old (bound_declared bound_type column.now value) result builder.new }
     ensures unchanged { IfFault result (builder.new ≡ builder.old) }
 {
-    let (lower, upper) = sides_of(bound_type, &value);
-    check_sides(builder, column, &lower, &upper)?;
+    let (lower, upper) = bounds_of_type(bound_type, &value);
+    check_bounds_given(builder, column, &lower, &upper)?;
     declare_kind(builder, bound_type, column)?;
-    declare_sides(builder, column, lower, upper)
+    declare_bounds_given(builder, column, lower, upper)
 }
 
 /// Reads a line of BOUNDS that has these fields after its type.
@@ -181,14 +181,14 @@ fn read_typed_bound(
     more: &[&[u8]],
 ) -> Result<(), LineError>
     requires { context.old.section ≡ Some Section.Bounds }
-    ensures answers { ReadsItem context.old builder.old (data_line (letters.now ∷ map (λ field. field.now) more.now)) result context.new builder.new }
+    ensures answers { ReadsContent context.old builder.old (data_line (letters.now ∷ map (λ field. field.now) more.now)) result context.new builder.new }
     ensures unchanged { IfFault result ((context.new ≡ context.old) × (builder.new ≡ builder.old)) }
 {
     if has_bound_clash(builder, letters, more) {
         return Err(LineError::Fault(FaultKind::SemiContinuous));
     }
     let (bound_type, line, value) = check_bound(context, letters, more)?;
-    declare_bound(builder, bound_type, line.column, side_of(value))?;
+    declare_bound(builder, bound_type, line.column, bound_value_or_zero(value))?;
     context.pass_bound(line.set)?;
     Ok(())
 }
@@ -200,7 +200,7 @@ pub(crate) fn read_bound(
     fields: &[&[u8]],
 ) -> Result<(), LineError>
     requires { context.old.section ≡ Some Section.Bounds }
-    ensures answers { ReadsItem context.old builder.old (data_line (map (λ field. field.now) fields.now)) result context.new builder.new }
+    ensures answers { ReadsContent context.old builder.old (data_line (map (λ field. field.now) fields.now)) result context.new builder.new }
     ensures unchanged { IfFault result ((context.new ≡ context.old) × (builder.new ≡ builder.old)) }
 {
     let [letters, more @ ..] = fields else {

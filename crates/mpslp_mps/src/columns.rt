@@ -3,35 +3,35 @@
 ghost use Rattle.std.specs.Prelude.{◌≡◌, ◌&&◌, [], ◌∷◌, map, not, true, false, Some, None, MatchResult};
 ghost use Rattle.std.specs.List.{list_all, flat_map};
 ghost use Rattle.mpslp_types.specs.Name.{IsMpsName};
-ghost use Rattle.mpslp_builder.specs.Declaration.{Draft, adding, adding_all, declare_column, declare_marked, has_row, has_column, is_semi};
-ghost use Rattle.mpslp_core.specs.Lists.{when};
+ghost use Rattle.mpslp_builder.specs.Declaration.{Draft, with_declaration, with_declarations, declare_column, declare_marked, has_row, has_column, is_semi};
+ghost use Rattle.mpslp_model_core.specs.Lists.{when};
 ghost use Rattle.mpslp_types.specs.declared.faults.FaultKind.{FaultKind};
-ghost use Rattle.mpslp_reading.specs.declared.errors.LineError.{LineError};
+ghost use Rattle.mpslp_lines.specs.declared.errors.LineError.{LineError};
 ghost use Rattle.mpslp_mps.specs.declared.sections.Section.{Section};
 ghost use Rattle.mpslp_mps.specs.Line.{data_line};
 ghost use Rattle.mpslp_mps.specs.DataLine.{is_marker_line};
 ghost use Rattle.mpslp_mps.specs.DataFault.{is_split};
-ghost use Rattle.mpslp_reading.specs.Tests.{first_held};
-ghost use Rattle.mpslp_reading.specs.Declaring.{declared_fault};
-ghost use Rattle.mpslp_reading.specs.LineAnswer.{AreDeclared, IfFault, IsErrorOf};
-ghost use Rattle.mpslp_mps.specs.ColumnDeclared.{front_declared, value_declared, has_double};
-ghost use Rattle.mpslp_mps.specs.LineAnswer.{ReadsItem};
+ghost use Rattle.mpslp_lines.specs.FaultTests.{first_held};
+ghost use Rattle.mpslp_lines.specs.Declaring.{declared_fault};
+ghost use Rattle.mpslp_lines.specs.LineAnswer.{AreDeclared, IfFault, IsErrorOf};
+ghost use Rattle.mpslp_mps.specs.ColumnDeclared.{front_declared, value_declared, has_duplicate};
+ghost use Rattle.mpslp_mps.specs.LineAnswer.{ReadsContent};
 
 use crate::clashes::has_column_clash;
 use crate::context::LineContext;
 use crate::data_lines::{check_column, check_marker};
 use crate::shapes::is_marker_line;
 use crate::values::{RowValue, RowValues, is_same_row};
+use mpslp_lines::LineError;
 use mpslp_model::laws::each_builder_is_made;
 use mpslp_model::{Builder, FaultKind, Name};
-use mpslp_reading::LineError;
 use std::alloc::Global;
 
 /// Reads a marker line.
 fn read_marker(context: &mut LineContext, fields: &[&[u8]]) -> Result<(), LineError>
     requires section { context.old.section ≡ Some Section.Columns }
     requires marker { is_marker_line (map (λ field. field.now) fields.now) ≡ true }
-    ensures answers { (earlier : Draft) → ReadsItem context.old earlier (data_line (map (λ field. field.now) fields.now)) result context.new earlier }
+    ensures answers { (earlier : Draft) → ReadsContent context.old earlier (data_line (map (λ field. field.now) fields.now)) result context.new earlier }
     ensures unchanged { IfFault result (context.new ≡ context.old) }
 {
     let opens = check_marker(context, fields)?;
@@ -58,7 +58,7 @@ fn is_split(context: &LineContext, builder: &Builder, column: &[u8]) -> bool
 }
 
 /// Whether the rows are declared, and the column's lines stand together.
-fn check_place(
+fn check_rows_and_column(
     context: &LineContext,
     builder: &Builder,
     column: &[u8],
@@ -77,8 +77,8 @@ fn check_place(
 }
 
 /// Whether a coefficient of the column is declared already, or both values are of one row.
-fn has_double(builder: &Builder, column: &[u8], values: &RowValues<'_>) -> bool
-    ensures { result ≡ has_double builder.now column.now values.now }
+fn has_duplicate(builder: &Builder, column: &[u8], values: &RowValues<'_>) -> bool
+    ensures { result ≡ has_duplicate builder.now column.now values.now }
 {
     let first = builder.has_coefficient(values.first.row, column);
     match &values.second {
@@ -93,7 +93,7 @@ fn has_double(builder: &Builder, column: &[u8], values: &RowValues<'_>) -> bool
 /// Declares the column, if it is not declared yet.
 fn declare_name(builder: &mut Builder, alloc: Global, column: &[u8]) -> Result<(), LineError>
     requires name { IsMpsName column.now }
-    ensures { MatchResult result (λ _. builder.new ≡ adding builder.old (declare_column column.now)) (λ error. error ≡ LineError.OutOfMemory) }
+    ensures { MatchResult result (λ _. builder.new ≡ with_declaration builder.old (declare_column column.now)) (λ error. error ≡ LineError.OutOfMemory) }
 {
     if builder.has_column(column) {
         each_builder_is_made(builder);
@@ -108,7 +108,7 @@ fn declare_name(builder: &mut Builder, alloc: Global, column: &[u8]) -> Result<(
 fn declare_mark(builder: &mut Builder, column: &[u8], is_marked: bool) -> Result<(), LineError>
     requires column { has_column builder.old column.now ≡ true }
     requires apart { (is_marked && is_semi builder.old column.now) ≡ false }
-    ensures { MatchResult result (λ _. builder.new ≡ adding_all builder.old (when is_marked (declare_marked column.now))) (λ error. error ≡ LineError.OutOfMemory) }
+    ensures { MatchResult result (λ _. builder.new ≡ with_declarations builder.old (when is_marked (declare_marked column.now))) (λ error. error ≡ LineError.OutOfMemory) }
 {
     if is_marked {
         builder.marked(column)?;
@@ -125,7 +125,7 @@ fn declare_column(
 ) -> Result<(), LineError>
     requires name { IsMpsName column.now }
     requires apart { (is_marked && is_semi builder.old column.now) ≡ false }
-    ensures { MatchResult result (λ _. builder.new ≡ adding_all builder.old (front_declared is_marked column.now)) (λ error. error ≡ LineError.OutOfMemory) }
+    ensures { MatchResult result (λ _. builder.new ≡ with_declarations builder.old (front_declared is_marked column.now)) (λ error. error ≡ LineError.OutOfMemory) }
 {
     declare_name(builder, alloc, column)?;
     declare_mark(builder, column, is_marked)?;
@@ -161,7 +161,7 @@ fn declare_values(
 }
 
 /// Whether the line before was of the column, which is declared.
-fn goes_on(context: &LineContext, builder: &Builder, column: &[u8]) -> bool
+fn continues_column(context: &LineContext, builder: &Builder, column: &[u8]) -> bool
     ensures { result ≡ true → (is_split context.now builder.now column.now ≡ false) × (has_column builder.now column.now ≡ true) }
 {
     context.is_last_column(column) && builder.has_column(column)
@@ -169,7 +169,7 @@ fn goes_on(context: &LineContext, builder: &Builder, column: &[u8]) -> bool
 
 /// Declares a coefficient of a column that goes on, and that the column is marked where it is. The coefficient may be
 /// refused, so it comes first; its row is looked up this once.
-fn declare_next(
+fn declare_in_last_column(
     builder: &mut Builder,
     column: &[u8],
     value: &RowValue<'_>,
@@ -178,7 +178,7 @@ fn declare_next(
     requires column { has_column builder.old column.now ≡ true }
     requires apart { (is_marked && is_semi builder.old column.now) ≡ false }
     ensures answers { let first_fault = declared_fault builder.old (value_declared column.now value.now) in
-        MatchResult result (λ _. (first_fault ≡ None) × (builder.new ≡ adding_all (adding_all builder.old (front_declared is_marked column.now)) (value_declared column.now value.now))) (IsErrorOf first_fault) }
+        MatchResult result (λ _. (first_fault ≡ None) × (builder.new ≡ with_declarations (with_declarations builder.old (front_declared is_marked column.now)) (value_declared column.now value.now))) (IsErrorOf first_fault) }
     ensures unchanged { IfFault result (builder.new ≡ builder.old) }
 {
     each_builder_is_made(builder);
@@ -196,7 +196,7 @@ fn read_values(
 ) -> Result<(), LineError>
     requires section { context.old.section ≡ Some Section.Columns }
     requires plain { is_marker_line (map (λ field. field.now) fields.now) ≡ false }
-    ensures answers { ReadsItem context.old builder.old (data_line (map (λ field. field.now) fields.now)) result context.new builder.new }
+    ensures answers { ReadsContent context.old builder.old (data_line (map (λ field. field.now) fields.now)) result context.new builder.new }
     ensures unchanged { IfFault result ((context.new ≡ context.old) × (builder.new ≡ builder.old)) }
 {
     if has_column_clash(context, builder, fields) {
@@ -204,14 +204,14 @@ fn read_values(
     }
     let (column, values) = check_column(context, builder, fields)?;
     if values.second.is_none() {
-        if goes_on(context, builder, column) {
-            declare_next(builder, column, &values.first, context.in_integer_part())?;
+        if continues_column(context, builder, column) {
+            declare_in_last_column(builder, column, &values.first, context.in_integer_part())?;
             context.pass_column(column)?;
             return Ok(());
         }
     }
-    check_place(context, builder, column, &values)?;
-    if has_double(builder, column, &values) {
+    check_rows_and_column(context, builder, column, &values)?;
+    if has_duplicate(builder, column, &values) {
         return Err(LineError::Fault(FaultKind::DuplicateEntry));
     }
     declare_column(builder, alloc, column, context.in_integer_part())?;
@@ -228,7 +228,7 @@ pub(crate) fn read_column(
     fields: &[&[u8]],
 ) -> Result<(), LineError>
     requires section { context.old.section ≡ Some Section.Columns }
-    ensures answers { ReadsItem context.old builder.old (data_line (map (λ field. field.now) fields.now)) result context.new builder.new }
+    ensures answers { ReadsContent context.old builder.old (data_line (map (λ field. field.now) fields.now)) result context.new builder.new }
     ensures unchanged { IfFault result ((context.new ≡ context.old) × (builder.new ≡ builder.old)) }
 {
     if is_marker_line(fields) {

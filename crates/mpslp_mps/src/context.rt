@@ -6,7 +6,7 @@ ghost use Rattle.mpslp_types.specs.Name.{same_bytes};
 ghost use Rattle.mpslp_mps.specs.Section.{has, is_section};
 ghost use Rattle.mpslp_mps.specs.declared.sections.Section.{Section};
 ghost use Rattle.mpslp_mps.specs.Context.{context_of};
-ghost use Rattle.mpslp_mps.specs.ContextStep.{with_objective_name, after_header, after_objective_name, after_data, after_marker, after_column, after_right_side, after_range, after_bound};
+ghost use Rattle.mpslp_mps.specs.ContextStep.{with_objname, after_header, after_objname, after_data, after_marker, after_column, after_rhs, after_range, after_bound};
 ghost use Rattle.mpslp_mps.specs.HeaderFault.{may_begin, is_out_of_order};
 
 use crate::sections::Section;
@@ -20,9 +20,9 @@ use std::marker::Model;
 pub(crate) struct LineContext {
     alloc: Global,
     section: Option<Section>,
-    seen: Vec<Section>,
-    wanted: Option<Section>,
-    objective_name: Option<Vec<u8>>,
+    sections_seen: Vec<Section>,
+    word_due: Option<Section>,
+    objname: Option<Vec<u8>>,
     in_integer_part: bool,
     last_column: Option<Vec<u8>>,
     rhs_set: Option<Vec<u8>>,
@@ -38,9 +38,9 @@ impl Model for LineContext {
 
     ghost view = { λ c. record {
       section = c.section;
-      seen = c.seen.items;
-      wanted = c.wanted;
-      objective_name = option_map (λ name. name.items) c.objective_name;
+      sections_seen = c.sections_seen.items;
+      word_due = c.word_due;
+      objname = option_map (λ name. name.items) c.objname;
       in_integer_part = c.in_integer_part;
       last_column = option_map (λ name. name.items) c.last_column;
       rhs_set = option_map (λ name. name.items) c.rhs_set;
@@ -77,9 +77,9 @@ impl LineContext {
         LineContext {
             alloc,
             section: None,
-            seen: Vec::new(alloc),
-            wanted: None,
-            objective_name: None,
+            sections_seen: Vec::new(alloc),
+            word_due: None,
+            objname: None,
             in_integer_part: false,
             last_column: None,
             rhs_set: None,
@@ -106,25 +106,25 @@ impl LineContext {
     }
 
     /// Whether the word of a header is to come.
-    pub(crate) fn wants_word(&self) -> bool
-        ensures { result ≡ is_some self.now.wanted }
+    pub(crate) fn is_word_due(&self) -> bool
+        ensures { result ≡ is_some self.now.word_due }
     {
-        self.wanted.is_some()
+        self.word_due.is_some()
     }
 
     /// Whether OBJNAME has named the objective.
-    pub(crate) fn names_objective(&self) -> bool
-        ensures { result ≡ is_some self.now.objective_name }
+    pub(crate) fn has_objname(&self) -> bool
+        ensures { result ≡ is_some self.now.objname }
     {
-        self.objective_name.is_some()
+        self.objname.is_some()
     }
 
     /// Whether a row of type N of this name may be the objective: it has the name of OBJNAME, or none was told.
     pub(crate) fn may_name_objective(&self, name: &[u8]) -> bool
-        ensures { result ≡ option_map_or (same_bytes name.now) self.now.objective_name true }
+        ensures { result ≡ option_map_or (same_bytes name.now) self.now.objname true }
     {
-        match &self.objective_name {
-            Some(wanted) => name == wanted.as_slice(),
+        match &self.objname {
+            Some(word_due) => name == word_due.as_slice(),
             None => true,
         }
     }
@@ -145,9 +145,9 @@ impl LineContext {
 
     /// Whether the section has begun.
     pub(crate) fn has_seen(&self, section: Section) -> bool
-        ensures { result ≡ has self.now.seen section }
+        ensures { result ≡ has self.now.sections_seen section }
     {
-        self.seen.contains(&section)
+        self.sections_seen.contains(&section)
     }
 
     /// Whether the section, if it has not begun, may begin here.
@@ -169,7 +169,7 @@ impl LineContext {
     pub(crate) fn is_out_of_order(&self, section: Section) -> bool
         ensures { result ≡ is_out_of_order self.now section }
     {
-        self.wants_word() || !(self.has_seen(section) || self.may_begin(section))
+        self.is_word_due() || !(self.has_seen(section) || self.may_begin(section))
     }
 
     /// The set name of the first line of RHS.
@@ -193,55 +193,55 @@ impl LineContext {
         bytes_of(&self.bounds_set)
     }
 
-    /// Goes past the header of a section; `wanted` is the section whose word is to come then, and `objective` the name
+    /// Goes past the header of a section; `word_due` is the section whose word is to come then, and `objective` the name
     /// that the header tells.
     pub(crate) fn pass_header(
         &mut self,
         section: Section,
-        wanted: Option<Section>,
+        word_due: Option<Section>,
         objective: Option<&[u8]>,
     ) -> Result<(), AllocError>
-        ensures { OnOk result (self.new ≡ after_header self.old section wanted (option_map (λ name. name.now) objective.entry)) }
+        ensures { OnOk result (self.new ≡ after_header self.old section word_due (option_map (λ name. name.now) objective.entry)) }
     {
-        self.seen.push(section)?;
+        self.sections_seen.push(section)?;
         self.section = Some(section);
-        self.wanted = wanted;
+        self.word_due = word_due;
         if let Some(name) = objective {
-            self.keep_objective_name(name)?;
+            self.keep_objname(name)?;
         }
         Ok(())
     }
 
     /// Keeps the name of the objective, unless one was told before.
-    fn keep_objective_name(&mut self, name: &[u8]) -> Result<(), AllocError>
-        ensures { OnOk result (self.new ≡ with_objective_name self.old name.now) }
+    fn keep_objname(&mut self, name: &[u8]) -> Result<(), AllocError>
+        ensures { OnOk result (self.new ≡ with_objname self.old name.now) }
     {
-        if self.objective_name.is_none() {
-            self.objective_name = Some(name.to_vec(self.alloc)?);
+        if self.objname.is_none() {
+            self.objname = Some(name.to_vec(self.alloc)?);
         }
         Ok(())
     }
 
     /// Goes past a data line of OBJNAME, which has this word.
-    pub(crate) fn pass_objective_name(&mut self, name: &[u8]) -> Result<(), AllocError>
-        ensures { OnOk result (self.new ≡ after_objective_name self.old name.now) }
+    pub(crate) fn pass_objname(&mut self, name: &[u8]) -> Result<(), AllocError>
+        ensures { OnOk result (self.new ≡ after_objname self.old name.now) }
     {
-        self.wanted = None;
-        self.keep_objective_name(name)
+        self.word_due = None;
+        self.keep_objname(name)
     }
 
     /// Goes past a data line of OBJSENSE or ROWS.
     pub(crate) fn pass_data(&mut self)
         ensures { self.new ≡ after_data self.old }
     {
-        self.wanted = None;
+        self.word_due = None;
     }
 
     /// Goes past a marker line that opens or closes the integer part.
     pub(crate) fn pass_marker(&mut self, opens: bool)
         ensures { self.new ≡ after_marker self.old opens }
     {
-        self.wanted = None;
+        self.word_due = None;
         self.in_integer_part = opens;
         self.last_column = None;
     }
@@ -250,7 +250,7 @@ impl LineContext {
     pub(crate) fn pass_column(&mut self, column: &[u8]) -> Result<(), AllocError>
         ensures { OnOk result (self.new ≡ after_column self.old column.now) }
     {
-        self.wanted = None;
+        self.word_due = None;
         if !is_name(&self.last_column, column) {
             self.last_column = Some(column.to_vec(self.alloc)?);
         }
@@ -258,10 +258,10 @@ impl LineContext {
     }
 
     /// Goes past a line of RHS with this set name.
-    pub(crate) fn pass_right_side(&mut self, set: &[u8]) -> Result<(), AllocError>
-        ensures { OnOk result (self.new ≡ after_right_side self.old set.now) }
+    pub(crate) fn pass_rhs(&mut self, set: &[u8]) -> Result<(), AllocError>
+        ensures { OnOk result (self.new ≡ after_rhs self.old set.now) }
     {
-        self.wanted = None;
+        self.word_due = None;
         if self.rhs_set.is_none() {
             self.rhs_set = Some(set.to_vec(self.alloc)?);
         }
@@ -272,7 +272,7 @@ impl LineContext {
     pub(crate) fn pass_range(&mut self, set: &[u8]) -> Result<(), AllocError>
         ensures { OnOk result (self.new ≡ after_range self.old set.now) }
     {
-        self.wanted = None;
+        self.word_due = None;
         if self.ranges_set.is_none() {
             self.ranges_set = Some(set.to_vec(self.alloc)?);
         }
@@ -283,7 +283,7 @@ impl LineContext {
     pub(crate) fn pass_bound(&mut self, set: &[u8]) -> Result<(), AllocError>
         ensures { OnOk result (self.new ≡ after_bound self.old set.now) }
     {
-        self.wanted = None;
+        self.word_due = None;
         if self.bounds_set.is_none() {
             self.bounds_set = Some(set.to_vec(self.alloc)?);
         }

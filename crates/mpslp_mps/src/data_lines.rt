@@ -8,15 +8,15 @@ ghost use Rattle.mpslp_builder.specs.Declaration.{Draft, declare_sense};
 ghost use Rattle.mpslp_mps.specs.DataLine.{word_shape, row_shape, column_shape, marker_shape, opening_word, vector_shape};
 ghost use Rattle.mpslp_mps.specs.BoundLine.{bound_type, bound_shape};
 ghost use Rattle.mpslp_mps.specs.Context.{Context};
-ghost use Rattle.mpslp_mps.specs.LineMeaning.{declared_of, sense_declared, row_declared, row_of_type};
-ghost use Rattle.mpslp_reading.specs.Field.{value_of, name_tests, number_tests};
-ghost use Rattle.mpslp_reading.specs.Tests.{judged_by, first_held};
+ghost use Rattle.mpslp_mps.specs.LineDeclarations.{declared_if_some, sense_declared, row_declared, row_of_type};
+ghost use Rattle.mpslp_lines.specs.Field.{value_of, name_tests, number_tests};
+ghost use Rattle.mpslp_lines.specs.FaultTests.{judged_by, first_held};
 ghost use Rattle.mpslp_mps.specs.FieldFault.{literals_of, set_tests};
 ghost use Rattle.mpslp_mps.specs.HeaderFault.{word_tests};
-ghost use Rattle.mpslp_mps.specs.DataFault.{row_tests, marker_tests, vector_tests, bound_tests, bound_line_tests};
+ghost use Rattle.mpslp_mps.specs.DataFault.{row_line_tests, marker_tests, vector_tests, bound_tests, bound_line_tests};
 ghost use Rattle.mpslp_types.specs.declared.faults.FaultKind.{FaultKind};
 ghost use Rattle.mpslp_mps.specs.LineValues.{named_values};
-ghost use Rattle.mpslp_reading.specs.LineAnswer.{IsErrorOf};
+ghost use Rattle.mpslp_lines.specs.LineAnswer.{IsErrorOf};
 
 use crate::bound_types::BoundType;
 use crate::context::LineContext;
@@ -27,18 +27,18 @@ use crate::shapes::{
 use crate::values::{RowValues, is_second_set, values_of};
 use crate::words::{bound_type, is_due_word, is_opening_word, is_sos_word, row_type, sense_of};
 use mpslp_decimal::Decimal;
+use mpslp_lines::{LineError, value_of};
 use mpslp_model::laws::each_builder_is_made;
 use mpslp_model::{Builder, FaultKind, Name, NameFault, RowType, Sense};
-use mpslp_reading::{LineError, value_of};
 use std::alloc::Global;
 
 /// The sense of a data line under OBJSENSE.
 pub(crate) fn check_sense(context: &LineContext, fields: &[&[u8]]) -> Result<Sense, FaultKind>
     ensures { let parts = word_shape (map (λ field. field.now) fields.now) in
-        let first_fault = first_held ((not (is_some context.now.wanted), FaultKind.SectionOrder) ∷ judged_by word_tests parts) in
-        MatchResult result (λ sense. (first_fault ≡ None) × (declared_of sense_declared parts ≡ declare_sense sense ∷ [])) (λ kind. first_fault ≡ Some kind) }
+        let first_fault = first_held ((not (is_some context.now.word_due), FaultKind.SectionOrder) ∷ judged_by word_tests parts) in
+        MatchResult result (λ sense. (first_fault ≡ None) × (declared_if_some sense_declared parts ≡ declare_sense sense ∷ [])) (λ kind. first_fault ≡ Some kind) }
 {
-    if !context.wants_word() {
+    if !context.is_word_due() {
         return Err(FaultKind::SectionOrder);
     }
     let Some(word) = word_shape(fields) else {
@@ -51,15 +51,15 @@ pub(crate) fn check_sense(context: &LineContext, fields: &[&[u8]]) -> Result<Sen
 }
 
 /// The word of a data line under OBJNAME.
-pub(crate) fn check_objective_name<'a>(
+pub(crate) fn check_objname<'a>(
     context: &LineContext,
     fields: &[&'a [u8]],
 ) -> Result<&'a [u8], FaultKind>
     ensures { let parts = word_shape (map (λ field. field.now) fields.now) in
-        let first_fault = first_held ((not (is_some context.now.wanted), FaultKind.SectionOrder) ∷ judged_by (λ _. []) parts) in
+        let first_fault = first_held ((not (is_some context.now.word_due), FaultKind.SectionOrder) ∷ judged_by (λ _. []) parts) in
         MatchResult result (λ word. (first_fault ≡ None) × (parts ≡ Some word.now)) (λ kind. first_fault ≡ Some kind) }
 {
-    if !context.wants_word() {
+    if !context.is_word_due() {
         return Err(FaultKind::SectionOrder);
     }
     match word_shape(fields) {
@@ -71,8 +71,8 @@ pub(crate) fn check_objective_name<'a>(
 /// The type and name of a line of ROWS.
 pub(crate) fn check_row(alloc: Global, fields: &[&[u8]]) -> Result<(RowType, Name), LineError>
     ensures { let parts = row_shape (map (λ field. field.now) fields.now) in
-        let first_fault = first_held (judged_by row_tests parts) in
-        MatchResult result (λ row. (first_fault ≡ None) × ((context : Context) (earlier : Draft) → declared_of (row_declared context earlier) parts ≡ row_of_type context earlier row.1 row.0)) (IsErrorOf first_fault) }
+        let first_fault = first_held (judged_by row_line_tests parts) in
+        MatchResult result (λ row. (first_fault ≡ None) × ((context : Context) (earlier : Draft) → declared_if_some (row_declared context earlier) parts ≡ row_of_type context earlier row.1 row.0)) (IsErrorOf first_fault) }
 {
     let Some(line) = row_shape(fields) else {
         return Err(LineError::Fault(FaultKind::FieldCount));

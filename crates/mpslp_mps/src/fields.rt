@@ -4,7 +4,7 @@ ghost use Rattle.std.specs.Prelude.{◌≡◌, ◌≤◌, [], ◌∷◌, map, ta
 ghost use Rattle.std.specs.List.{position, position_or_len};
 ghost use Rattle.mpslp_mps.specs.Line.{is_blank, fields};
 
-use crate::lines::is_blank;
+use crate::line::is_blank;
 use arrayvec::ArrayVec;
 
 /// One field more than a data line of any shape has.

@@ -5,22 +5,22 @@ ghost use Rattle.std.specs.Option.{option_map_or};
 ghost use Rattle.mpslp_builder.specs.Declaration.{declare_sense};
 ghost use Rattle.mpslp_mps.specs.Line.{header};
 ghost use Rattle.mpslp_mps.specs.DataLine.{word_shape};
-ghost use Rattle.mpslp_mps.specs.LineMeaning.{declared_of, sense_declared, default_objective, header_declared};
-ghost use Rattle.mpslp_reading.specs.LineAnswer.{AreDeclared, IfFault};
-ghost use Rattle.mpslp_mps.specs.LineAnswer.{ReadsItem};
+ghost use Rattle.mpslp_mps.specs.LineDeclarations.{declared_if_some, sense_declared, default_objective, header_declared};
+ghost use Rattle.mpslp_lines.specs.LineAnswer.{AreDeclared, IfFault};
+ghost use Rattle.mpslp_mps.specs.LineAnswer.{ReadsContent};
 
 use crate::context::LineContext;
-use crate::headers::{check_header, named_objective, word_wanted};
+use crate::headers::{check_header, header_objname, section_of_word_due};
 use crate::sections::Section;
 use crate::shapes::word_shape;
 use crate::words::sense_of;
+use mpslp_lines::LineError;
 use mpslp_model::{Builder, Name, Sense};
-use mpslp_reading::LineError;
 use std::alloc::Global;
 
 /// The sense that follows the keyword OBJSENSE.
 fn header_sense(more: &[&[u8]]) -> Option<Sense>
-    ensures { option_map_or (λ sense. declare_sense sense ∷ []) result [] ≡ declared_of sense_declared (word_shape (map (λ field. field.now) more.now)) }
+    ensures { option_map_or (λ sense. declare_sense sense ∷ []) result [] ≡ declared_if_some sense_declared (word_shape (map (λ field. field.now) more.now)) }
 {
     match word_shape(more) {
         Some(word) => sense_of(word),
@@ -30,7 +30,7 @@ fn header_sense(more: &[&[u8]]) -> Option<Sense>
 
 /// Declares the sense that follows the keyword OBJSENSE, if one does.
 fn declare_sense(builder: &mut Builder, more: &[&[u8]]) -> Result<(), LineError>
-    ensures answers { AreDeclared builder.old (declared_of sense_declared (word_shape (map (λ field. field.now) more.now))) result builder.new }
+    ensures answers { AreDeclared builder.old (declared_if_some sense_declared (word_shape (map (λ field. field.now) more.now))) result builder.new }
     ensures unchanged { IfFault result (builder.new ≡ builder.old) }
 {
     if let Some(sense) = header_sense(more) {
@@ -48,7 +48,7 @@ fn declare_objective(
     ensures answers { AreDeclared builder.old (default_objective context.now builder.old) result builder.new }
     ensures unchanged { IfFault result (builder.new ≡ builder.old) }
 {
-    if !builder.has_objective() && !context.names_objective() {
+    if !builder.has_objective() && !context.has_objname() {
         let name = Name::new(alloc, b"obj".as_slice())?;
         builder.objective(name)?;
     }
@@ -81,15 +81,15 @@ pub(crate) fn read_header(
     keyword: &[u8],
     more: &[&[u8]],
 ) -> Result<(), LineError>
-    ensures answers { ReadsItem context.old builder.old (header keyword.now (map (λ field. field.now) more.now)) result context.new builder.new }
+    ensures answers { ReadsContent context.old builder.old (header keyword.now (map (λ field. field.now) more.now)) result context.new builder.new }
     ensures unchanged { IfFault result ((context.new ≡ context.old) × (builder.new ≡ builder.old)) }
 {
     let section = check_header(context, builder, keyword, more)?;
     declare_header(context, builder, alloc, section, more)?;
     context.pass_header(
         section,
-        word_wanted(section, more),
-        named_objective(section, more),
+        section_of_word_due(section, more),
+        header_objname(section, more),
     )?;
     Ok(())
 }

@@ -3,9 +3,9 @@
 ghost use Rattle.std.specs.Prelude.{◌≡◌, Some, None, map, MatchResult};
 ghost use Rattle.mpslp_mps.specs.Section.{section_named};
 ghost use Rattle.std.specs.Option.{option_map};
-ghost use Rattle.mpslp_mps.specs.Context.{word_wanted};
-ghost use Rattle.mpslp_mps.specs.ContextStep.{named_objective};
-ghost use Rattle.mpslp_reading.specs.Tests.{first_held};
+ghost use Rattle.mpslp_mps.specs.Context.{section_of_word_due};
+ghost use Rattle.mpslp_mps.specs.ContextStep.{header_objname};
+ghost use Rattle.mpslp_lines.specs.FaultTests.{first_held};
 ghost use Rattle.mpslp_mps.specs.HeaderFault.{may_follow, lacks_objective, section_tests, header_tests};
 
 use crate::context::LineContext;
@@ -29,7 +29,7 @@ fn may_follow(section: Section, more: &[&[u8]]) -> bool
 fn lacks_objective(context: &LineContext, builder: &Builder) -> bool
     ensures { result ≡ lacks_objective context.now builder.now }
 {
-    !builder.has_objective() && context.names_objective()
+    !builder.has_objective() && context.has_objname()
 }
 
 /// The fault of a header by its section: a word of OBJSENSE that is not known, or an objective that ROWS has not.
@@ -76,8 +76,8 @@ pub(crate) fn check_header(
 }
 
 /// The section of a header whose word is to come on a line of its own: an OBJSENSE or OBJNAME without one.
-pub(crate) fn word_wanted(section: Section, more: &[&[u8]]) -> Option<Section>
-    ensures { result ≡ word_wanted section (map (λ field. field.now) more.now) }
+pub(crate) fn section_of_word_due(section: Section, more: &[&[u8]]) -> Option<Section>
+    ensures { result ≡ section_of_word_due section (map (λ field. field.now) more.now) }
 {
     match (section, more) {
         (Section::ObjSense | Section::ObjName, []) => Some(section),
@@ -86,8 +86,8 @@ pub(crate) fn word_wanted(section: Section, more: &[&[u8]]) -> Option<Section>
 }
 
 /// The name of the objective that follows the keyword OBJNAME.
-pub(crate) fn named_objective<'a>(section: Section, more: &[&'a [u8]]) -> Option<&'a [u8]>
-    ensures { option_map (λ name. name.now) result ≡ named_objective section (map (λ field. field.now) more.now) }
+pub(crate) fn header_objname<'a>(section: Section, more: &[&'a [u8]]) -> Option<&'a [u8]>
+    ensures { option_map (λ name. name.now) result ≡ header_objname section (map (λ field. field.now) more.now) }
 {
     if section == Section::ObjName {
         word_shape(more)

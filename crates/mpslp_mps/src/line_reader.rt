@@ -3,9 +3,9 @@
 ghost use Rattle.std.specs.Prelude.{◌≡◌};
 
 use crate::context::LineContext;
-use crate::items::read_line;
+use crate::read_line::read_line;
+use mpslp_lines::{LineError, ReadLines, read_fault};
 use mpslp_model::{Builder, Fault, FaultKind, Model, ReadFault};
-use mpslp_reading::{LineError, ReadLines, read_fault};
 use std::alloc::Global;
 
 /// Reads the lines of MPS text one after another.

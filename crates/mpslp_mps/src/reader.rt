@@ -1,8 +1,8 @@
 //! A reader of MPS text that comes in pieces.
 
 use crate::line_reader::LineReader;
+use mpslp_lines::PieceReader;
 use mpslp_model::{ModelReader, ReadFault};
-use mpslp_reading::PieceReader;
 use std::alloc::Global;
 use std::marker::Model;
 
@@ -21,8 +21,8 @@ pub struct MpsReader {
 
 impl Model for MpsReader {
     ghost use Rattle.std.specs.Prelude.{Option, IfSome};
-    ghost use Rattle.mpslp_reading.specs.declared.piece_reader.PieceReader.{PieceReader};
-    ghost use Rattle.mpslp_reading.specs.Pieces.{WasFed, KeepsNoneBehindEnd};
+    ghost use Rattle.mpslp_lines.specs.declared.piece_reader.PieceReader.{PieceReader};
+    ghost use Rattle.mpslp_lines.specs.Pieces.{WasFed, KeepsNoneBehindEnd};
     ghost use Rattle.mpslp_mps.specs.declared.line_reader.LineReader.{LineReader};
     ghost use Rattle.mpslp_mps.specs.Fed.{HasRead, is_ended};
 

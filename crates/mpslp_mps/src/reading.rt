@@ -1,6 +1,6 @@
 //! Reading MPS text as a whole.
 
-ghost use Rattle.mpslp_mps.specs.ReadingAnswer.{ReadsMps};
+ghost use Rattle.mpslp_mps.specs.ReadAnswer.{ReadsMps};
 
 use crate::reader::MpsReader;
 use mpslp_model::{Model, ReadFault, read_whole};

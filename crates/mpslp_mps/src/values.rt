@@ -3,15 +3,15 @@
 ghost use Rattle.std.specs.Prelude.{◌≡◌, [], ◌∷◌, map, not, false, Some, None, MatchResult};
 ghost use Rattle.std.specs.Option.{option_map, option_map_or};
 ghost use Rattle.mpslp_types.specs.Name.{same_bytes};
-ghost use Rattle.mpslp_reading.specs.Field.{kind_of_number, number_tests, value_of};
+ghost use Rattle.mpslp_lines.specs.Field.{kind_of_number_fault, number_tests, value_of};
 ghost use Rattle.mpslp_mps.specs.FieldFault.{literals_of};
-ghost use Rattle.mpslp_reading.specs.Tests.{first_held};
+ghost use Rattle.mpslp_lines.specs.FaultTests.{first_held};
 ghost use Rattle.mpslp_mps.specs.LineValues.{row_value};
 
 use crate::shapes::{Pair, Pairs};
 use mpslp_decimal::Decimal;
+use mpslp_lines::{kind_of_number_fault, lesser_fault, value_of};
 use mpslp_model::FaultKind;
-use mpslp_reading::{kind_of_number, lesser_fault, value_of};
 use std::marker::Model;
 
 /// A row and a value.
@@ -78,9 +78,9 @@ fn values_of_both<'a>(pair: Pair<'a>, other: Pair<'a>) -> Result<RowValues<'a>, 
                 value: second,
             }),
         }),
-        (Err(fault), Ok(_)) => Err(kind_of_number(fault)),
-        (Ok(_), Err(fault)) => Err(kind_of_number(fault)),
-        (Err(fault), Err(second)) => Err(kind_of_number(lesser_fault(fault, second))),
+        (Err(fault), Ok(_)) => Err(kind_of_number_fault(fault)),
+        (Ok(_), Err(fault)) => Err(kind_of_number_fault(fault)),
+        (Err(fault), Err(second)) => Err(kind_of_number_fault(lesser_fault(fault, second))),
     }
 }
 

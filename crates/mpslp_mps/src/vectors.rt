@@ -4,18 +4,18 @@ ghost use Rattle.std.specs.Prelude.{◌≡◌, [], ◌∷◌, ◌++◌, ◌+◌,
 ghost use Rattle.mpslp_builder.specs.Declaration.{has_row, is_free_row, rhs_declared, declare_range};
 ghost use Rattle.mpslp_types.specs.Name.{same_bytes};
 ghost use Rattle.mpslp_types.specs.FaultOrder.{least_kind};
-ghost use Rattle.mpslp_reading.specs.Declaring.{declaring_faults, declared_fault};
+ghost use Rattle.mpslp_lines.specs.Declaring.{declaring_faults, declared_fault};
 ghost use Rattle.mpslp_mps.specs.Line.{data_line};
-ghost use Rattle.mpslp_reading.specs.LineAnswer.{IsErrorOf, AreDeclared, IfFault};
-ghost use Rattle.mpslp_mps.specs.LineAnswer.{ReadsItem};
-ghost use Rattle.mpslp_mps.specs.VectorDeclared.{HasMpsSides, right_sides_of, ranges_of};
+ghost use Rattle.mpslp_lines.specs.LineAnswer.{IsErrorOf, AreDeclared, IfFault};
+ghost use Rattle.mpslp_mps.specs.LineAnswer.{ReadsContent};
+ghost use Rattle.mpslp_mps.specs.VectorDeclared.{HasMpsSides, rhs_values_declared, ranges_of};
 ghost use Rattle.mpslp_mps.specs.declared.sections.Section.{Section};
 
 use crate::context::LineContext;
 use crate::data_lines::check_vector;
 use crate::values::{RowValue, RowValues, is_same_row};
+use mpslp_lines::{LineError, lesser_kind};
 use mpslp_model::{Builder, FaultKind};
-use mpslp_reading::{LineError, lesser_kind};
 
 /// Whether both rows are declared; the objective counts.
 fn are_rows(builder: &Builder, first: &RowValue, second: &RowValue) -> bool
@@ -35,7 +35,7 @@ fn declare_rhs<'a>(builder: &mut Builder, side: RowValue<'a>) -> Result<(), Line
 }
 
 /// The fault that a right side would have now, if it has one.
-fn check_right_side(builder: &Builder, side: &RowValue) -> Result<(), LineError>
+fn check_rhs_value(builder: &Builder, side: &RowValue) -> Result<(), LineError>
     requires { HasMpsSides builder.now }
     ensures { MatchResult result (λ _. declared_fault builder.now (rhs_declared builder.now side.now.0 side.now.1) ≡ None) (IsErrorOf (declared_fault builder.now (rhs_declared builder.now side.now.0 side.now.1))) }
 {
@@ -44,33 +44,29 @@ fn check_right_side(builder: &Builder, side: &RowValue) -> Result<(), LineError>
 }
 
 /// Whether the second right side is one more of the first one's row, which takes one alone: it is not of type N.
-fn is_given_again(builder: &Builder, first: &RowValue, second: &RowValue) -> bool
+fn is_second_rhs(builder: &Builder, first: &RowValue, second: &RowValue) -> bool
     ensures { result ≡ (same_bytes second.now.0 first.now.0 && not (is_free_row builder.now first.now.0)) }
 {
     is_same_row(first, second) && !builder.is_free_row(first.row)
 }
 
 /// The fault that the right sides of two rows that are declared would have now, if they have one.
-fn check_both_right_sides(
-    builder: &Builder,
-    first: &RowValue,
-    second: &RowValue,
-) -> Result<(), LineError>
+fn check_rhs_pair(builder: &Builder, first: &RowValue, second: &RowValue) -> Result<(), LineError>
     requires sides { HasMpsSides builder.now }
     requires rows { (has_row builder.now first.now.0 && has_row builder.now second.now.0) ≡ true }
     ensures { let first_fault = declared_fault builder.now (rhs_declared builder.now first.now.0 first.now.1 ++ rhs_declared builder.now second.now.0 second.now.1) in
         MatchResult result (λ _. first_fault ≡ None) (IsErrorOf first_fault) }
 {
-    check_right_side(builder, first)?;
-    if is_given_again(builder, first, second) {
+    check_rhs_value(builder, first)?;
+    if is_second_rhs(builder, first, second) {
         return Err(LineError::Fault(FaultKind::DuplicateRhs));
     }
-    check_right_side(builder, second)
+    check_rhs_value(builder, second)
 }
 
 /// Declares the right sides of two rows. A row that is not declared comes before a right side that is declared already.
 /// Both are asked for before the first is declared.
-fn declare_both_right_sides<'a>(
+fn declare_rhs_pair<'a>(
     builder: &mut Builder,
     first: RowValue<'a>,
     second: RowValue<'a>,
@@ -82,38 +78,38 @@ fn declare_both_right_sides<'a>(
     if !are_rows(builder, &first, &second) {
         return Err(LineError::Fault(FaultKind::UnknownRow));
     }
-    check_both_right_sides(builder, &first, &second)?;
+    check_rhs_pair(builder, &first, &second)?;
     declare_rhs(builder, first)?;
     declare_rhs(builder, second)
 }
 
 /// Declares the right sides of the rows of a line.
-fn declare_right_sides<'a>(builder: &mut Builder, sides: RowValues<'a>) -> Result<(), LineError>
+fn declare_rhs_values<'a>(builder: &mut Builder, sides: RowValues<'a>) -> Result<(), LineError>
     requires { HasMpsSides builder.old }
-    ensures answers { AreDeclared builder.old (right_sides_of builder.old sides.entry) result builder.new }
+    ensures answers { AreDeclared builder.old (rhs_values_declared builder.old sides.entry) result builder.new }
     ensures unchanged { IfFault result (builder.new ≡ builder.old) }
 {
     let RowValues { first, second } = sides;
     match second {
-        Some(second) => declare_both_right_sides(builder, first, second),
+        Some(second) => declare_rhs_pair(builder, first, second),
         None => declare_rhs(builder, first),
     }
 }
 
 /// Reads a line of RHS.
-pub(crate) fn read_right_sides(
+pub(crate) fn read_rhs(
     context: &mut LineContext,
     builder: &mut Builder,
     fields: &[&[u8]],
 ) -> Result<(), LineError>
     requires section { context.old.section ≡ Some Section.Rhs }
     requires sides { HasMpsSides builder.old }
-    ensures answers { ReadsItem context.old builder.old (data_line (map (λ field. field.now) fields.now)) result context.new builder.new }
+    ensures answers { ReadsContent context.old builder.old (data_line (map (λ field. field.now) fields.now)) result context.new builder.new }
     ensures unchanged { IfFault result ((context.new ≡ context.old) × (builder.new ≡ builder.old)) }
 {
     let (set, sides) = check_vector(context.rhs_set(), fields)?;
-    declare_right_sides(builder, sides)?;
-    context.pass_right_side(set)?;
+    declare_rhs_values(builder, sides)?;
+    context.pass_rhs(set)?;
     Ok(())
 }
 
@@ -208,13 +204,13 @@ fn declare_ranges<'a>(builder: &mut Builder, ranges: RowValues<'a>) -> Result<()
 }
 
 /// Reads a line of RANGES.
-pub(crate) fn read_ranges(
+pub(crate) fn read_range(
     context: &mut LineContext,
     builder: &mut Builder,
     fields: &[&[u8]],
 ) -> Result<(), LineError>
     requires { context.old.section ≡ Some Section.Ranges }
-    ensures answers { ReadsItem context.old builder.old (data_line (map (λ field. field.now) fields.now)) result context.new builder.new }
+    ensures answers { ReadsContent context.old builder.old (data_line (map (λ field. field.now) fields.now)) result context.new builder.new }
     ensures unchanged { IfFault result ((context.new ≡ context.old) × (builder.new ≡ builder.old)) }
 {
     let (set, ranges) = check_vector(context.ranges_set(), fields)?;

@@ -1,5 +1,5 @@
 pub mod Name
-pub mod Sides
+pub mod Limit
 pub mod FaultName
 pub mod FaultOrder
 pub mod Laws

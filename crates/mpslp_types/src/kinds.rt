@@ -3,7 +3,7 @@
 ghost use Rattle.std.specs.Prelude.{◌≡◌, IsTrue, not};
 ghost use Rattle.std.specs.Ordering.{is_lt};
 ghost use Rattle.mpslp_decimal.specs.Decimal.{decimal_cmp};
-ghost use Rattle.mpslp_types.specs.Sides.{is_at_most, is_given, limit_of};
+ghost use Rattle.mpslp_types.specs.Limit.{is_at_most, is_given, limit_of};
 
 use mpslp_decimal::Decimal;
 use mpslp_decimal::laws::each_value_is_a_decimal;

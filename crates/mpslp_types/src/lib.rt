@@ -5,7 +5,6 @@
 mod faults;
 mod kinds;
 pub mod laws;
-mod lp_names;
 mod names;
 
 pub use faults::{BuildFault, Fault, FaultKind, NameAt, ReadFault, WriteFault};

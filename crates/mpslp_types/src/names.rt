@@ -1,5 +1,7 @@
 //! Names of rows, columns and the objective.
 
+mod lp;
+
 ghost use Rattle.std.specs.Prelude.{◌≡◌, Some, IfSome, IfNone, IfOk, MatchResult, refl};
 ghost use Rattle.std.proofs.Common.{rules};
 ghost use Rattle.std.specs.List.{list_all};

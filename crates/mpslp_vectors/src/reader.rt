@@ -2,7 +2,7 @@
 
 ghost use Rattle.std.specs.Prelude.{◌≡◌, ◌==◌, ◌||◌, ◌≤◌, ◌↔◌, List, true, false, length, min, max, Some, IfOk, OnErr, IsErr};
 ghost use Rattle.std.specs.Io.KnownBytes.{ReadConsumes};
-ghost use Rattle.mpslp_io.specs.Devices.{raised};
+ghost use Rattle.mpslp_io.specs.Devices.{one_call_more};
 
 use mpslp_io::{IoFailed, Source};
 use std::marker::Model;
@@ -60,8 +60,8 @@ impl Source for FailingReader<'_> {
         ensures bytes { ReadConsumes (Some self.old.left) (Some self.new.left) result buffer.new }
         ensures fails { IsErr result ↔ (self.new.has_failed ≡ true) }
         ensures stays { self.old.has_failed ≡ true → self.new.has_failed ≡ true }
-        ensures counted { self.new.calls ≡ raised self.old.calls }
-        ensures fails_at { self.new.has_failed ≡ (self.old.has_failed || raised self.old.calls == self.old.fail_at) }
+        ensures counted { self.new.calls ≡ one_call_more self.old.calls }
+        ensures fails_at { self.new.has_failed ≡ (self.old.has_failed || one_call_more self.old.calls == self.old.fail_at) }
         ensures given { IfOk result (λ n. n ≡ min (length self.old.left) (min (length buffer.old) self.old.piece)) }
         ensures untouched { OnErr result (buffer.new ≡ buffer.old) }
         ensures kept { (self.new.piece ≡ self.old.piece) × (self.new.fail_at ≡ self.old.fail_at) }

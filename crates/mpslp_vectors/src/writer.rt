@@ -1,7 +1,7 @@
 //! A sink that takes so many bytes, and then fails.
 
 ghost use Rattle.std.specs.Prelude.{◌≡◌, ◌==◌, ◌-◌, ◌++◌, ◌↔◌, [], true, false, length, min, take, IfOk, IsErr};
-ghost use Rattle.mpslp_io.specs.Devices.{raised, Takes, KeepsHeld};
+ghost use Rattle.mpslp_io.specs.Devices.{one_call_more, Takes, KeepsHeld};
 
 use mpslp_io::{IoFailed, Sink};
 use std::alloc::{AllocError, Global};
@@ -67,7 +67,7 @@ impl Sink for FailingWriter {
         ensures bytes { Takes (λ w bytes. w.taken ≡ bytes) self.old self.new piece.now result }
         ensures fails { IsErr result ↔ (self.new.has_failed ≡ true) }
         ensures stays { self.old.has_failed ≡ true → self.new.has_failed ≡ true }
-        ensures counted { self.new.calls ≡ raised self.old.calls }
+        ensures counted { self.new.calls ≡ one_call_more self.old.calls }
         ensures fails_without_room { self.new.has_failed ≡ (self.old.room == 0) }
         ensures taken { IfOk result (λ n. n ≡ min (length piece.now) self.old.room) }
         ensures grown { self.new.taken ≡ self.old.taken ++ take self.old.room piece.now }
@@ -89,7 +89,7 @@ impl Sink for FailingWriter {
         ensures bytes { KeepsHeld (λ w bytes. w.taken ≡ bytes) self.old self.new }
         ensures fails { IsErr result ↔ (self.new.has_failed ≡ true) }
         ensures stays { self.old.has_failed ≡ true → self.new.has_failed ≡ true }
-        ensures counted { self.new.calls ≡ raised self.old.calls }
+        ensures counted { self.new.calls ≡ one_call_more self.old.calls }
         ensures fails_without_room { self.new.has_failed ≡ (self.old.room == 0) }
         ensures kept { (self.new.taken ≡ self.old.taken) × (self.new.room ≡ self.old.room) }
     {

@@ -6,14 +6,14 @@ use Rattle.mpslp_types.specs.declared.kinds.Kind.{Kind}
 use Rattle.mpslp_types.specs.declared.kinds.Limit.{Limit}
 use Rattle.mpslp_types.specs.declared.kinds.Limit.TheVariants.{MinusInf, Finite, PlusInf}
 use Rattle.mpslp_mps.specs.declared.bound_types.BoundType.TheVariants as bounds
-use Rattle.mpslp_canonical.specs.PrintedValues.{bare, valued, is_fixed, printed_lower, printed_upper, printed_bounds}
+use Rattle.mpslp_canonical_mps.specs.PrintedValues.{bound_without_value, bound_with_value, is_fixed, printed_lower, printed_upper, printed_bounds}
 use Rattle.mpslp_write.specs.LinesAt.{fixed_value, are_free}
 
 pub map-append : {X Y : Type 0} (f : X → Y) (xs ys : List X) → map f (xs ++ ys) ≡ map f xs ++ map f ys
 map-append f [] ys = refl
 map-append {X} {Y} f (x ∷ xs) ys = ap (λ (l : List Y). f x ∷ l) (map-append f xs ys)
 
-pub free-bounds : (kind : Kind) (lower upper : Limit) → are_free lower upper ≡ true → bare bounds.Free ∷ [] ≡ printed_bounds kind lower upper
+pub free-bounds : (kind : Kind) (lower upper : Limit) → are_free lower upper ≡ true → bound_without_value bounds.Free ∷ [] ≡ printed_bounds kind lower upper
 free-bounds kind MinusInf MinusInf h = cc
 free-bounds kind MinusInf (Finite b) h = cc
 free-bounds kind MinusInf PlusInf h = refl
@@ -27,15 +27,15 @@ free-bounds kind PlusInf PlusInf h = cc
 none_fixed : (v : Number) → ◌≡◌ {A = Option Number} None (Some v) → ⊥
 none_fixed v e = cc
 
-pub fixed-bounds : (kind : Kind) (lower upper : Limit) (value : Number) → fixed_value kind lower upper ≡ Some value → valued bounds.Fixed value ∷ [] ≡ printed_bounds kind lower upper
+pub fixed-bounds : (kind : Kind) (lower upper : Limit) (value : Number) → fixed_value kind lower upper ≡ Some value → bound_with_value bounds.Fixed value ∷ [] ≡ printed_bounds kind lower upper
 fixed-bounds kind MinusInf MinusInf value h = absurd (none_fixed value h)
 fixed-bounds kind MinusInf (Finite b) value h = absurd (none_fixed value h)
 fixed-bounds kind MinusInf PlusInf value h = absurd (none_fixed value h)
 fixed-bounds kind (Finite a) MinusInf value h = absurd (none_fixed value h)
 fixed-bounds kind (Finite a) (Finite b) value h =
     elim (is_fixed kind a b) as (λ same. cond same (Some b) None ≡ Some value
-    → valued bounds.Fixed value ∷ [] ≡ cond same (valued bounds.Fixed b ∷ []) (printed_lower (Finite a) ++ printed_upper kind (Finite b))) [
-      | true ↦ λ told. let same : value ≡ b = cc in ap (λ (v : Number). valued bounds.Fixed v ∷ []) same
+    → bound_with_value bounds.Fixed value ∷ [] ≡ cond same (bound_with_value bounds.Fixed b ∷ []) (printed_lower (Finite a) ++ printed_upper kind (Finite b))) [
+      | true ↦ λ told. let same : value ≡ b = cc in ap (λ (v : Number). bound_with_value bounds.Fixed v ∷ []) same
       | false ↦ λ told. absurd (none_fixed value told)
     ] h
 fixed-bounds kind (Finite a) PlusInf value h = absurd (none_fixed value h)
@@ -54,7 +54,7 @@ other-bounds kind MinusInf PlusInf h k = cc
 other-bounds kind (Finite a) MinusInf h k = refl
 other-bounds kind (Finite a) (Finite b) h k =
     elim (is_fixed kind a b) as (λ same. cond same (Some b) None ≡ None
-    → printed_lower (Finite a) ++ printed_upper kind (Finite b) ≡ cond same (valued bounds.Fixed b ∷ []) (printed_lower (Finite a) ++ printed_upper kind (Finite b))) [
+    → printed_lower (Finite a) ++ printed_upper kind (Finite b) ≡ cond same (bound_with_value bounds.Fixed b ∷ []) (printed_lower (Finite a) ++ printed_upper kind (Finite b))) [
       | true ↦ λ told. absurd (some_fixed b told)
       | false ↦ λ told. refl
     ] k

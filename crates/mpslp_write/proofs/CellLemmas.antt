@@ -12,20 +12,20 @@ use Rattle.std.specs.FinMap.{find, is_sorted}
 use Rattle.std.specs.FinMap.Entries.{below_all, is_sorted-where_key, find-where_key, same_entries}
 use Rattle.mpslp_decimal.specs.Decimal.{Number, is_decimal, is_zero}
 use Rattle.mpslp_types.specs.Name.{same_bytes, is_one_of, bytes_cmp}
-use Rattle.mpslp_core.specs.Model.{LinearModel, CoefficientKey, key_cmp, IsSound}
+use Rattle.mpslp_model_core.specs.Model.{LinearModel, CoefficientKey, key_cmp, IsSound}
 use Rattle.mpslp_builder.specs.Declaration.{names_in}
-use Rattle.mpslp_core.specs.Views.{column_elements}
+use Rattle.mpslp_model_core.specs.Views.{column_elements}
 use Rattle.mpslp_types.proofs.BoolLemmas.{both_so, T_from, true_from}
 use Rattle.mpslp_types.proofs.EachLemmas.{Each, Each-filter, Each-all}
 use Rattle.mpslp_builder.proofs.DraftEntries.{same_key}
 use Rattle.mpslp_builder.proofs.SlotLemmas.{same_name}
 use Rattle.mpslp_builder.proofs.SortedDrafts.{bytes_total, key_total, tied_names}
-use Rattle.mpslp_canonical.specs.Listing.{Listing, listing_of}
-use Rattle.mpslp_canonical.specs.CanonicalMps.{cell_at, column_cells}
+use Rattle.mpslp_canonical_mps.specs.Listing.{Listing, listing_of}
+use Rattle.mpslp_canonical_mps.specs.CanonicalMps.{cell_at, column_coefficients}
 use Rattle.mpslp_builder.proofs.EntryLemmas.{found-each}
-use Rattle.mpslp_canonical.proofs.CoefficientMap.{place_at}
-use Rattle.mpslp_canonical.proofs.DraftMaps.{is_sound_entry, IsSoundListing}
-use Rattle.mpslp_canonical.proofs.ListingFacts.{sound-listing}
+use Rattle.mpslp_canonical_mps.proofs.CoefficientMap.{place_at}
+use Rattle.mpslp_canonical_mps.proofs.DraftMaps.{is_sound_entry, IsSoundListing}
+use Rattle.mpslp_canonical_mps.proofs.ListingFacts.{sound-listing}
 
 -- ---- two places of one column compare as their rows do, whichever of both comes first in the order of places
 
@@ -179,7 +179,7 @@ module _ (m : Listing) (h : IsSoundListing m) (column : List ℕ) where
 
 -- the coefficient of the objective in a column, and those of rows
 pub column-cells : (m : LinearModel) → IsSound m → (column : List ℕ)
-    → column_cells (listing_of m) column
+    → column_coefficients (listing_of m) column
     ≡ cons_option (cell_at (listing_of m).coefficients column m.objective) (map by_row (column_elements m column))
 column-cells m sound column =
     ap (cons_option (cell_at (listing_of m).coefficients column m.objective)) (row-cells (listing_of m) (sound-listing m sound) column)

@@ -9,25 +9,25 @@ use Rattle.std.proofs.lemmas.List.Quantifiers.{position-Some}
 use Rattle.std.proofs.lemmas.Option.{slice_get-map, slice_get-get_or, get_or_from_slice_get}
 use Rattle.mpslp_decimal.specs.Decimal.{Number, is_decimal, is_zero, zero_number}
 use Rattle.mpslp_types.specs.Name.{same_bytes}
-use Rattle.mpslp_core.specs.Model.{LinearModel, CoefficientKey, Column, key_cmp, IsSound}
-use Rattle.mpslp_core.specs.Views.{coefficient_at, column_elements}
-use Rattle.mpslp_core.specs.Views as views
+use Rattle.mpslp_model_core.specs.Model.{LinearModel, CoefficientKey, Column, key_cmp, IsSound}
+use Rattle.mpslp_model_core.specs.Views.{coefficient_at, column_elements}
+use Rattle.mpslp_model_core.specs.Views as views
 use Rattle.mpslp_types.specs.declared.kinds.Kind.{Kind}
 use Rattle.mpslp_types.specs.declared.kinds.Limit.{Limit}
 use Rattle.mpslp_types.proofs.BoolLemmas.{not_so}
 use Rattle.mpslp_builder.proofs.DraftEntries.{same_key}
 use Rattle.mpslp_builder.proofs.SlotLemmas.{same_name}
 use Rattle.mpslp_builder.proofs.SortedDrafts.{key_total}
-use Rattle.mpslp_canonical.specs.Listing.{listing_of}
-use Rattle.mpslp_canonical.specs.CanonicalMps.{Lines, bound_line, column_bound_lines, cell_line, column_cells, printed_cells, is_integer_column}
+use Rattle.mpslp_canonical_mps.specs.Listing.{listing_of}
+use Rattle.mpslp_canonical_mps.specs.CanonicalMps.{Lines, bound_line, column_bound_lines, coefficient_line, column_coefficients, printed_coefficients, is_integer_column}
 use Rattle.mpslp_write.specs.LinesAt.{lines_at, is_wanted, of_part, element_lines, objective_line_at, objective_lines}
-use Rattle.mpslp_write.specs.declared.columns.Part.{Part}
-use Rattle.mpslp_canonical.specs.PrintedValues.{PrintedBound, printed_bounds}
+use Rattle.mpslp_write.specs.declared.mps.columns.Part.{Part}
+use Rattle.mpslp_canonical_mps.specs.PrintedValues.{PrintedBound, printed_bounds}
 use Rattle.mpslp_write.proofs.LinesAtLemmas.{both_seen, lines_seen}
 use Rattle.mpslp_builder.proofs.EntryLemmas.{found-each}
-use Rattle.mpslp_canonical.proofs.CoefficientMap.{place_at}
-use Rattle.mpslp_canonical.proofs.DraftMaps.{is_sound_entry}
-use Rattle.mpslp_canonical.proofs.ListingFacts.{sound-listing}
+use Rattle.mpslp_canonical_mps.proofs.CoefficientMap.{place_at}
+use Rattle.mpslp_canonical_mps.proofs.DraftMaps.{is_sound_entry}
+use Rattle.mpslp_canonical_mps.proofs.ListingFacts.{sound-listing}
 use Rattle.mpslp_write.proofs.CellLemmas.{by_row, column-cells}
 
 -- ---- the column of a number
@@ -69,9 +69,9 @@ named-lines {X} g es j h = by (slice_get es j) (sym (slice_get-map (λ (e : List
         no_name name e = cc
     by (Some e) is = let same : slice_index_or (map (λ (e : List ℕ × X). e.0) es) j [] ≡ e.0 = cc in ap g same
 
-elements-lines : (column : List ℕ) (es : List (CoefficientKey × Number)) → flat_map (element_lines column) es ≡ map (cell_line column) (map by_row es)
+elements-lines : (column : List ℕ) (es : List (CoefficientKey × Number)) → flat_map (element_lines column) es ≡ map (coefficient_line column) (map by_row es)
 elements-lines column [] = refl
-elements-lines column (e ∷ es) = ap (λ (l : Lines). cell_line column (e.0.row, e.1) ∷ l) (elements-lines column es)
+elements-lines column (e ∷ es) = ap (λ (l : Lines). coefficient_line column (e.0.row, e.1) ∷ l) (elements-lines column es)
 
 pub coefficient-not_zero : (m : LinearModel) → IsSound m → (row column : List ℕ) (v : Number)
     → find key_cmp (place_at row column) (entries m.coefficients) ≡ Some v → is_zero v ≡ false
@@ -88,28 +88,28 @@ module _ (m : LinearModel) (sound : IsSound m) (column : List ℕ) where
   row_lines = flat_map (element_lines column) (column_elements m column)
 
   joined : (o : Option Number) (es : List (CoefficientKey × Number)) → ((v : Number) → o ≡ Some v → is_zero v ≡ false)
-      → objective_line_at m.objective column (unwrap_or o zero_number) es ++ map (cell_line column) (map by_row es)
-      ≡ map (cell_line column) (printed_cells m.objective (cons_option (option_map (λ (value : Number). (m.objective, value)) o) (map by_row es)))
+      → objective_line_at m.objective column (unwrap_or o zero_number) es ++ map (coefficient_line column) (map by_row es)
+      ≡ map (coefficient_line column) (printed_coefficients m.objective (cons_option (option_map (λ (value : Number). (m.objective, value)) o) (map by_row es)))
   joined None [] kept = refl
   joined None (e ∷ es) kept = refl
   joined (Some v) [] kept = refl
   joined (Some v) (e ∷ es) kept =
-      ap (λ (b : Bool). cond b [] (cell_line column (m.objective, v) ∷ []) ++ map (cell_line column) (map by_row (e ∷ es))) (kept v refl)
+      ap (λ (b : Bool). cond b [] (coefficient_line column (m.objective, v) ∷ []) ++ map (coefficient_line column) (map by_row (e ∷ es))) (kept v refl)
 
-  pub column-joined : objective_lines m column ++ row_lines ≡ map (cell_line column) (printed_cells m.objective (column_cells (listing_of m) column))
+  pub column-joined : objective_lines m column ++ row_lines ≡ map (coefficient_line column) (printed_coefficients m.objective (column_coefficients (listing_of m) column))
   column-joined =
       ap (λ (l : Lines). objective_lines m column ++ l) (elements-lines column (column_elements m column))
       ∙ joined here (column_elements m column) (coefficient-not_zero m sound m.objective column)
-      ∙ ap (λ (cells : List (List ℕ × Number)). map (cell_line column) (printed_cells m.objective cells)) (sym (column-cells m sound column))
+      ∙ ap (λ (cells : List (List ℕ × Number)). map (coefficient_line column) (printed_coefficients m.objective cells)) (sym (column-cells m sound column))
 
 -- ---- the objective's line, and that of an element
 
 pub cell-needed : (objective column : List ℕ) (value : Number) (es : List (CoefficientKey × Number)) → is_zero value ≡ false
-    → cell_line column (objective, value) ∷ [] ≡ objective_line_at objective column value es
+    → coefficient_line column (objective, value) ∷ [] ≡ objective_line_at objective column value es
 cell-needed objective column value [] h = refl
-cell-needed objective column value (e ∷ es) h = sym (ap (λ (b : Bool). cond b [] (cell_line column (objective, value) ∷ [])) h)
+cell-needed objective column value (e ∷ es) h = sym (ap (λ (b : Bool). cond b [] (coefficient_line column (objective, value) ∷ [])) h)
 
-pub cell-alone : (objective column : List ℕ) (value : Number) (es : List (CoefficientKey × Number)) → length es ≤ 0 → cell_line column (objective, value) ∷ [] ≡ objective_line_at objective column value es
+pub cell-alone : (objective column : List ℕ) (value : Number) (es : List (CoefficientKey × Number)) → length es ≤ 0 → coefficient_line column (objective, value) ∷ [] ≡ objective_line_at objective column value es
 cell-alone objective column value [] h = refl
 cell-alone objective column value (e ∷ es) h = absurd (omega arith)
 

@@ -1,9 +1,9 @@
 -- The pieces of a line, one after another, are its text; and a text has bytes.
 use Rattle.std.proofs.Common.{◌≡◌, ◌<◌, sym, ap, ◌∙◌, ℕ, List, [], ◌∷◌, ◌++◌, length, append_assoc, append-nil, arith}
 use Rattle.std.specs.Prelude.{codes}
-use Rattle.mpslp_core.specs.Model.{LinearModel}
-use Rattle.mpslp_canonical.specs.CanonicalMps.{canonical_mps}
-use Rattle.mpslp_canonical.specs.Printed.{short_line, long_line, text_of}
+use Rattle.mpslp_model_core.specs.Model.{LinearModel}
+use Rattle.mpslp_canonical_mps.specs.CanonicalMps.{canonical_mps}
+use Rattle.mpslp_canonical_mps.specs.Printed.{short_line, long_line, text_of}
 
 -- what stands before a field
 abbrev gap : List ℕ

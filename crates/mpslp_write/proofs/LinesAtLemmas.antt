@@ -6,7 +6,7 @@ use Rattle.std.specs.Option.{option_map, option_map_or}
 use Rattle.std.proofs.lemmas.Grind.{flat_map-append}
 use Rattle.std.proofs.lemmas.List.{length-map}
 use Rattle.std.proofs.lemmas.Option.{slice_get-map}
-use Rattle.mpslp_core.proofs.ByRowLemmas.{range_more}
+use Rattle.mpslp_model_core.proofs.ByRowLemmas.{range_more}
 use Rattle.mpslp_write.specs.LinesAt.{lines_at}
 
 -- ---- one entry more

@@ -5,38 +5,38 @@ use Rattle.std.specs.List.{flat_map}
 use Rattle.std.specs.Fmt.{digits}
 use Rattle.mpslp_decimal.specs.Decimal.{Number, is_negative, size_of, trailing_zeros}
 use Rattle.mpslp_decimal.specs.NumberText.{number_text}
-use Rattle.mpslp_core.specs.Model.{LinearModel}
+use Rattle.mpslp_model_core.specs.Model.{LinearModel}
 use Rattle.mpslp_types.specs.declared.kinds.Sense.{Sense}
 use Rattle.mpslp_types.specs.declared.kinds.Sense.TheVariants.{Minimize, Maximize}
 use Rattle.mpslp_lp.specs.declared.relations.Relation.TheVariants.{AtLeast}
-use Rattle.mpslp_canonical_lp.specs.Printed.{Piece, word, label, number, sign, piece_text, sign_bytes, printed}
-use Rattle.mpslp_canonical_lp.specs.CanonicalLp.{Lines, heading, under_heading, semi_heading, under_semi_heading, label_line, long_line, term_line, signed_pieces, right_line, minus_large, canonical_lp}
-use Rattle.mpslp_write.specs.Output.{text_by, text_under}
+use Rattle.mpslp_canonical_lp.specs.Printed.{Lexeme, word, label, number, sign, lexeme_text, sign_bytes, line_text}
+use Rattle.mpslp_canonical_lp.specs.CanonicalLp.{Lines, heading, under_heading, semi_heading, under_semi_heading, label_line, long_line, term_line, signed_lexemes, right_line, minus_large, canonical_lp}
+use Rattle.mpslp_write.specs.TextBuffer.{text_by, text_under}
 
 -- ---- one line
 
 -- pieces behind another one, and the end of the line
-abbrev behind : List Piece → List ℕ
+abbrev behind : List Lexeme → List ℕ
 behind [] = 10 ∷ []
-behind (piece ∷ pieces) = codes " " ++ (piece_text piece ++ behind pieces)
+behind (piece ∷ lexemes) = codes " " ++ (lexeme_text piece ++ behind lexemes)
 
-abbrev spaced : List Piece → List ℕ
-spaced pieces = flat_map (λ piece. codes " " ++ piece_text piece) pieces
+abbrev spaced : List Lexeme → List ℕ
+spaced lexemes = flat_map (λ piece. codes " " ++ lexeme_text piece) lexemes
 
-behind-spaced : (pieces : List Piece) → spaced pieces ++ 10 ∷ [] ≡ behind pieces
+behind-spaced : (lexemes : List Lexeme) → spaced lexemes ++ 10 ∷ [] ≡ behind lexemes
 behind-spaced [] = refl
-behind-spaced (piece ∷ pieces) =
-    append_assoc (codes " " ++ piece_text piece) (spaced pieces) (10 ∷ []) ∙ ap (λ (l : List ℕ). codes " " ++ (piece_text piece ++ l)) (behind-spaced pieces)
+behind-spaced (piece ∷ lexemes) =
+    append_assoc (codes " " ++ lexeme_text piece) (spaced lexemes) (10 ∷ []) ∙ ap (λ (l : List ℕ). codes " " ++ (lexeme_text piece ++ l)) (behind-spaced lexemes)
 
-pub line-text : (indent : ℕ) (piece : Piece) (pieces : List Piece)
-    → replicate indent 32 ++ (piece_text piece ++ behind pieces) ≡ text_by printed (record { indent = indent; pieces = piece ∷ pieces } ∷ [])
-line-text indent piece pieces =
+pub line-text : (indent : ℕ) (piece : Lexeme) (lexemes : List Lexeme)
+    → replicate indent 32 ++ (lexeme_text piece ++ behind lexemes) ≡ text_by line_text (record { indent = indent; lexemes = piece ∷ lexemes } ∷ [])
+line-text indent piece lexemes =
     let blanks = replicate indent 32 in
-    sym (append-nil ((blanks ++ (piece_text piece ++ spaced pieces)) ++ 10 ∷ [])
-    ∙ append_assoc blanks (piece_text piece ++ spaced pieces) (10 ∷ [])
-    ∙ ap (λ (l : List ℕ). blanks ++ l) (append_assoc (piece_text piece) (spaced pieces) (10 ∷ []) ∙ ap (λ (l : List ℕ). piece_text piece ++ l) (behind-spaced pieces)))
+    sym (append-nil ((blanks ++ (lexeme_text piece ++ spaced lexemes)) ++ 10 ∷ [])
+    ∙ append_assoc blanks (lexeme_text piece ++ spaced lexemes) (10 ∷ [])
+    ∙ ap (λ (l : List ℕ). blanks ++ l) (append_assoc (lexeme_text piece) (spaced lexemes) (10 ∷ []) ∙ ap (λ (l : List ℕ). lexeme_text piece ++ l) (behind-spaced lexemes)))
 
-pub label-text : (name : List ℕ) → codes " " ++ (name ++ codes ":\n") ≡ text_by printed (label_line name ∷ [])
+pub label-text : (name : List ℕ) → codes " " ++ (name ++ codes ":\n") ≡ text_by line_text (label_line name ∷ [])
 label-text name = ap (λ (l : List ℕ). codes " " ++ l) (sym (append_assoc name (codes ":") (10 ∷ []))) ∙ line-text 1 (label name) []
 
 -- a sign behind two blanks and before one, and what follows
@@ -48,30 +48,30 @@ signed false size rest = refl
 abbrev pub signed_text : Number → List ℕ
 signed_text value = (codes "  " ++ (sign_bytes (is_negative value) ++ codes " ")) ++ number_text (size_of value)
 
-pub term-text : (column : List ℕ) (value : Number) → signed_text value ++ (codes " " ++ (column ++ codes "\n")) ≡ text_by printed (term_line (column, value) ∷ [])
+pub term-text : (column : List ℕ) (value : Number) → signed_text value ++ (codes " " ++ (column ++ codes "\n")) ≡ text_by line_text (term_line (column, value) ∷ [])
 term-text column value =
     signed (is_negative value) (number_text (size_of value)) (codes " " ++ (column ++ codes "\n"))
     ∙ line-text 2 (sign (is_negative value)) (number (size_of value) ∷ word column ∷ [])
 
-pub constant-text : (value : Number) → signed_text value ++ codes "\n" ≡ text_by printed (long_line (signed_pieces value) ∷ [])
+pub constant-text : (value : Number) → signed_text value ++ codes "\n" ≡ text_by line_text (long_line (signed_lexemes value) ∷ [])
 constant-text value =
     signed (is_negative value) (number_text (size_of value)) (codes "\n") ∙ line-text 2 (sign (is_negative value)) (number (size_of value) ∷ [])
 
-pub unlimited-text : codes "  >= -1e20\n" ≡ text_by printed (right_line AtLeast minus_large ∷ [])
+pub unlimited-text : codes "  >= -1e20\n" ≡ text_by line_text (right_line AtLeast minus_large ∷ [])
 unfolding digits trailing_zeros
 unlimited-text = refl
 
 -- ---- lines under a heading
 
-pub under-heading : (section header : List ℕ) (lines : Lines) → header ≡ printed (heading (section ∷ [])) ++ 10 ∷ []
-    → text_under printed header lines ≡ text_by printed (under_heading section lines)
+pub under-heading : (section header : List ℕ) (lines : Lines) → header ≡ line_text (heading (section ∷ [])) ++ 10 ∷ []
+    → text_under line_text header lines ≡ text_by line_text (under_heading section lines)
 under-heading section header [] is = refl
-under-heading section header (line ∷ lines) is = ap (λ (l : List ℕ). l ++ text_by printed (line ∷ lines)) is
+under-heading section header (line ∷ lines) is = ap (λ (l : List ℕ). l ++ text_by line_text (line ∷ lines)) is
 
-pub under-semi-heading : (header : List ℕ) (lines : Lines) → header ≡ printed semi_heading ++ 10 ∷ []
-    → text_under printed header lines ≡ text_by printed (under_semi_heading lines)
+pub under-semi-heading : (header : List ℕ) (lines : Lines) → header ≡ line_text semi_heading ++ 10 ∷ []
+    → text_under line_text header lines ≡ text_by line_text (under_semi_heading lines)
 under-semi-heading header [] is = refl
-under-semi-heading header (line ∷ lines) is = ap (λ (l : List ℕ). l ++ text_by printed (line ∷ lines)) is
+under-semi-heading header (line ∷ lines) is = ap (λ (l : List ℕ). l ++ text_by line_text (line ∷ lines)) is
 
 -- ---- the whole
 

@@ -1,7 +1,7 @@
 -- How what was put grows piece by piece, and by what is handed to the sink.
 use Rattle.std.proofs.Common.{◌≡◌, refl, sym, ap, subst, ◌∙◌, ℕ, ◌+◌, ◌-◌, ◌^◌, ◌<◌, ◌≤◌, min, Bool, true, false, inl, inr, List, [], ◌∷◌, ◌++◌, length, take, append_assoc, append-nil, arith}
 use Rattle.std.specs.Prelude.{Option, Some, None, Result, Ok, Err, IsOk}
-use Rattle.mpslp_core.specs.Model.{LinearModel}
+use Rattle.mpslp_model_core.specs.Model.{LinearModel}
 use Rattle.mpslp_types.specs.declared.faults.NameAt.{NameAt}
 use Rattle.mpslp_types.specs.declared.faults.WriteFault.{WriteFault}
 use Rattle.mpslp_types.specs.declared.faults.WriteFault.TheVariants.{Write, NotLp}
@@ -14,34 +14,34 @@ use Rattle.mpslp_io.proofs.GrowsLemmas.{Grows-nil, Grows-append}
 use Rattle.std.specs.List.{flat_map}
 use Rattle.mpslp_mps.specs.Section.{keyword_of}
 use Rattle.mpslp_mps.specs.declared.sections.Section.{Section}
-use Rattle.mpslp_canonical.specs.CanonicalMps.{Lines, under_header}
+use Rattle.mpslp_canonical_mps.specs.CanonicalMps.{Lines, under_header}
 use Rattle.mpslp_write.proofs.LinesAtLemmas.{flat_map-rest}
-use Rattle.mpslp_write.specs.Output.{Gathered, gathered, nothing_gathered, with_header, HasPut, Emits, PutsHeader, text_by, text_under, header_behind, Prints, PrintsSection}
-use Rattle.mpslp_canonical.specs.Printed.{printed, text_of}
+use Rattle.mpslp_write.specs.TextBuffer.{BufferState, buffer_state, empty_buffer, with_header, HasPut, Emits, PutsHeader, text_by, text_under, header_behind, Prints, PrintsSection}
+use Rattle.mpslp_canonical_mps.specs.Printed.{line_text, text_of}
 
-pub text_by-append : {L : Type 0} (printed : L → List ℕ) (front back : List L) → text_by printed (front ++ back) ≡ text_by printed front ++ text_by printed back
-text_by-append printed [] back = refl
-text_by-append printed (line ∷ front) back =
-    let one = printed line ++ 10 ∷ [] in
-    ap (λ (l : List ℕ). one ++ l) (text_by-append printed front back) ∙ sym (append_assoc one (text_by printed front) (text_by printed back))
+pub text_by-append : {L : Type 0} (line_text : L → List ℕ) (front back : List L) → text_by line_text (front ++ back) ≡ text_by line_text front ++ text_by line_text back
+text_by-append line_text [] back = refl
+text_by-append line_text (line ∷ front) back =
+    let one = line_text line ++ 10 ∷ [] in
+    ap (λ (l : List ℕ). one ++ l) (text_by-append line_text front back) ∙ sym (append_assoc one (text_by line_text front) (text_by line_text back))
 
 not_both : {b : Bool} → b ≡ true → b ≡ false → ⊥
 not_both p q = absurd cc
 
 -- ---- lines below a header
 
-module _ {L : Type 0} (printed : L → List ℕ) where
-  no-header : (lines : List L) → text_under printed [] lines ≡ text_by printed lines
+module _ {L : Type 0} (line_text : L → List ℕ) where
+  no-header : (lines : List L) → text_under line_text [] lines ≡ text_by line_text lines
   no-header [] = refl
   no-header (line ∷ lines) = refl
 
   -- part by part
   text_under-append : (header : List ℕ) (front back : List L)
-      → text_under printed header front ++ text_under printed (header_behind header front) back ≡ text_under printed header (front ++ back)
+      → text_under line_text header front ++ text_under line_text (header_behind header front) back ≡ text_under line_text header (front ++ back)
   text_under-append header [] back = refl
   text_under-append header (line ∷ front) back =
-      ap (λ (l : List ℕ). (header ++ text_by printed (line ∷ front)) ++ l) (no-header back) ∙ append_assoc header (text_by printed (line ∷ front)) (text_by printed back)
-      ∙ ap (λ (l : List ℕ). header ++ l) (sym (text_by-append printed (line ∷ front) back))
+      ap (λ (l : List ℕ). (header ++ text_by line_text (line ∷ front)) ++ l) (no-header back) ∙ append_assoc header (text_by line_text (line ∷ front)) (text_by line_text back)
+      ∙ ap (λ (l : List ℕ). header ++ l) (sym (text_by-append line_text (line ∷ front) back))
 
 none-behind : {L : Type 0} (lines : List L) → header_behind [] lines ≡ []
 none-behind [] = refl
@@ -53,7 +53,7 @@ header_behind-append header (line ∷ front) back = none-behind back
 
 -- of a section of MPS
 pub under-text : (section : Section) (header : List ℕ) (lines : Lines) → header ≡ keyword_of section ++ 10 ∷ []
-    → text_under printed header lines ≡ text_of (under_header section lines)
+    → text_under line_text header lines ≡ text_of (under_header section lines)
 under-text section header [] is = refl
 under-text section header (line ∷ lines) is = ap (λ (l : List ℕ). l ++ text_of (line ∷ lines)) is
 
@@ -70,7 +70,7 @@ module _ {S : Type 0} (holds : S → List ℕ → Type 0) (failed : S → Bool) 
       }
 
   -- nothing was put yet
-  pub HasPut-nothing : (s : S) → HasPut holds failed count s s nothing_gathered [] []
+  pub HasPut-nothing : (s : S) → HasPut holds failed count s s empty_buffer [] []
   HasPut-nothing s = record {
     under_way = λ _. record {
       header_is = refl;
@@ -86,7 +86,7 @@ module _ {S : Type 0} (holds : S → List ℕ → Type 0) (failed : S → Bool) 
   }
 
   -- another header waits
-  HasPut-header : (first now : S) (buffer : Gathered) (text before header : List ℕ) → HasPut holds failed count first now buffer text before
+  HasPut-header : (first now : S) (buffer : BufferState) (text before header : List ℕ) → HasPut holds failed count first now buffer text before
       → HasPut holds failed count first now (with_header header buffer) text header
   HasPut-header first now buffer text before header h = record {
     under_way = λ works.
@@ -97,10 +97,10 @@ module _ {S : Type 0} (holds : S → List ℕ → Type 0) (failed : S → Bool) 
 
   -- the sink took all that waited
   pub HasPut-sent : (first old new : S) (text header piece : List ℕ) (taken later : ℕ)
-      → (waits : List ℕ) → HasPut holds failed count first old (gathered waits piece taken false) text header → Grows holds old new piece
+      → (waits : List ℕ) → HasPut holds failed count first old (buffer_state waits piece taken false) text header → Grows holds old new piece
       → later ≡ min (taken + length piece) (2 ^ 64 - 1) → count new ≤ count old + length piece → (failed old ≡ true → failed new ≡ true)
       → (0 < length piece → failed new ≡ false) → (length piece ≡ 0 → new ≡ old)
-      → HasPut holds failed count first new (gathered waits [] later false) text header
+      → HasPut holds failed count first new (buffer_state waits [] later false) text header
   HasPut-sent first old new text header piece taken later waits h grows is calls stays works same = record {
     under_way = λ _.
         let was = h.under_way refl in
@@ -127,9 +127,9 @@ module _ {S : Type 0} (holds : S → List ℕ → Type 0) (failed : S → Bool) 
 
   -- the sink failed over what waited
   pub HasPut-failed : (first old new : S) (text header piece : List ℕ) (taken later : ℕ)
-      → (waits : List ℕ) → HasPut holds failed count first old (gathered waits piece taken false) text header → TookMore holds old new piece taken later
+      → (waits : List ℕ) → HasPut holds failed count first old (buffer_state waits piece taken false) text header → TookMore holds old new piece taken later
       → count new ≤ count old + length piece → failed new ≡ true
-      → HasPut holds failed count first new (gathered waits [] later true) text header
+      → HasPut holds failed count first new (buffer_state waits [] later true) text header
   HasPut-failed first old new text header piece taken later waits h took calls fails = record {
     under_way = λ works. absurd (not_both refl works);
     cut_off = λ _.
@@ -154,7 +154,7 @@ module _ {S : Type 0} (holds : S → List ℕ → Type 0) (failed : S → Bool) 
   }
 
   -- a sink that has failed is handed nothing more, whatever is put and whatever header waits
-  pub HasPut-cut : (first now : S) (buffer : Gathered) (text more before header : List ℕ) → buffer.has_failed ≡ true → HasPut holds failed count first now buffer text before
+  pub HasPut-cut : (first now : S) (buffer : BufferState) (text more before header : List ℕ) → buffer.has_failed ≡ true → HasPut holds failed count first now buffer text before
       → HasPut holds failed count first now buffer (text ++ more) header
   HasPut-cut first now buffer text more before header fails h = record {
     under_way = λ works. absurd (not_both fails works);
@@ -168,100 +168,100 @@ module _ {S : Type 0} (holds : S → List ℕ → Type 0) (failed : S → Bool) 
 
 module _ {S : Type 0} {holds : S → List ℕ → Type 0} {failed : S → Bool} {count : S → ℕ} where
   -- what was put, and the header that waits, by other words
-  pub put_same : {first now : S} {buffer : Gathered} {text other header more : List ℕ} → text ≡ other → header ≡ more → HasPut holds failed count first now buffer text header
+  pub put_same : {first now : S} {buffer : BufferState} {text other header more : List ℕ} → text ≡ other → header ≡ more → HasPut holds failed count first now buffer text header
       → HasPut holds failed count first now buffer other more
   put_same {first} {now} {buffer} {text} {other} {header} {more} same waits h =
       subst (λ t. HasPut holds failed count first now buffer t more) same (subst (HasPut holds failed count first now buffer text) waits h)
 
-  pub emits_then : {a b c : S} {x y z : Gathered} {front back : List ℕ} → Emits holds failed count a b x y front → Emits holds failed count b c y z back
+  pub emits_then : {a b c : S} {x y z : BufferState} {front back : List ℕ} → Emits holds failed count a b x y front → Emits holds failed count b c y z back
       → Emits holds failed count a c x z (front ++ back)
   emits_then {front = front} {back = back} one two = record {
     puts = λ first text header h. put_same (append_assoc text front back) refl (two.puts first (text ++ front) header (one.puts first text header h));
   }
 
-  pub emits_same : {a b : S} {x y : Gathered} {piece other : List ℕ} → piece ≡ other → Emits holds failed count a b x y piece → Emits holds failed count a b x y other
+  pub emits_same : {a b : S} {x y : BufferState} {piece other : List ℕ} → piece ≡ other → Emits holds failed count a b x y piece → Emits holds failed count a b x y other
   emits_same {a} {b} {x} {y} same h = subst (Emits holds failed count a b x y) same h
 
-  pub emits_nothing : (s : S) (buffer : Gathered) → Emits holds failed count s s buffer buffer []
+  pub emits_nothing : (s : S) (buffer : BufferState) → Emits holds failed count s s buffer buffer []
   emits_nothing s buffer = record { puts = λ first text header h. put_same (sym (append-nil text)) refl h }
 
   -- what is put of a sink that has failed need not be looked at
-  pub emits_cut : {a b : S} {x y : Gathered} {front : List ℕ} (back : List ℕ) → y.has_failed ≡ true → Emits holds failed count a b x y front
+  pub emits_cut : {a b : S} {x y : BufferState} {front : List ℕ} (back : List ℕ) → y.has_failed ≡ true → Emits holds failed count a b x y front
       → Emits holds failed count a b x y (front ++ back)
   emits_cut {b = b} {y = y} back fails h =
       emits_then h (record { puts = λ first text header g. HasPut-cut holds failed count first b y text back header header fails g })
 
   -- no header waits any more
-  pub closed_put : {first b : S} {y closed : Gathered} {text other header : List ℕ} → closed ≡ with_header [] y → text ≡ other
+  pub closed_put : {first b : S} {y closed : BufferState} {text other header : List ℕ} → closed ≡ with_header [] y → text ≡ other
       → HasPut holds failed count first b y text header → HasPut holds failed count first b closed other []
   closed_put {first} {b} {y} {text = text} {other} {header} closes same h =
       subst (λ buffer. HasPut holds failed count first b buffer other []) (sym closes) (put_same same refl (HasPut-header holds failed count first b y text header [] h))
 
 -- ---- lines one after another
 
-module _ {S L : Type 0} {printed : L → List ℕ} {holds : S → List ℕ → Type 0} {failed : S → Bool} {count : S → ℕ} where
-  pub prints_nothing : (s : S) (buffer : Gathered) → Prints printed holds failed count s s buffer buffer []
+module _ {S L : Type 0} {line_text : L → List ℕ} {holds : S → List ℕ → Type 0} {failed : S → Bool} {count : S → ℕ} where
+  pub prints_nothing : (s : S) (buffer : BufferState) → Prints line_text holds failed count s s buffer buffer []
   prints_nothing s buffer = record { puts = λ first text header h. put_same (sym (append-nil text)) refl h }
 
-  pub prints_then : {a b c : S} {x y z : Gathered} {front back : List L} → Prints printed holds failed count a b x y front → Prints printed holds failed count b c y z back
-      → Prints printed holds failed count a c x z (front ++ back)
+  pub prints_then : {a b c : S} {x y z : BufferState} {front back : List L} → Prints line_text holds failed count a b x y front → Prints line_text holds failed count b c y z back
+      → Prints line_text holds failed count a c x z (front ++ back)
   prints_then {front = front} {back = back} one two = record {
     puts = λ first text header h.
-        put_same (append_assoc text (text_under printed header front) (text_under printed (header_behind header front) back) ∙ ap (λ (l : List ℕ). text ++ l) (text_under-append printed header front back))
+        put_same (append_assoc text (text_under line_text header front) (text_under line_text (header_behind header front) back) ∙ ap (λ (l : List ℕ). text ++ l) (text_under-append line_text header front back))
         (header_behind-append header front back) (two.puts first _ _ (one.puts first text header h));
   }
 
-  pub prints_same : {a b : S} {x y : Gathered} {lines other : List L} → lines ≡ other → Prints printed holds failed count a b x y lines → Prints printed holds failed count a b x y other
-  prints_same {a} {b} {x} {y} same h = subst (Prints printed holds failed count a b x y) same h
+  pub prints_same : {a b : S} {x y : BufferState} {lines other : List L} → lines ≡ other → Prints line_text holds failed count a b x y lines → Prints line_text holds failed count a b x y other
+  prints_same {a} {b} {x} {y} same h = subst (Prints line_text holds failed count a b x y) same h
 
   -- pieces that are the text of a line, below the header
-  pub prints_line : {a b c : S} {x y z : Gathered} {piece : List ℕ} {line : L} → piece ≡ text_by printed (line ∷ []) → PutsHeader holds failed count a b x y
-      → Emits holds failed count b c y z piece → Prints printed holds failed count a c x z (line ∷ [])
+  pub prints_line : {a b c : S} {x y z : BufferState} {piece : List ℕ} {line : L} → piece ≡ text_by line_text (line ∷ []) → PutsHeader holds failed count a b x y
+      → Emits holds failed count b c y z piece → Prints line_text holds failed count a c x z (line ∷ [])
   prints_line {line = line} same opens emits = record {
     puts = λ first text header h.
-        put_same (append_assoc text header (text_by printed (line ∷ []))) refl ((emits_same same emits).puts first (text ++ header) [] (opens.puts first text header h));
+        put_same (append_assoc text header (text_by line_text (line ∷ []))) refl ((emits_same same emits).puts first (text ++ header) [] (opens.puts first text header h));
   }
 
   -- so the entries after it need not be looked at
-  pub prints_cut : {X : Type 0} {a b : S} {x y : Gathered} (f : X → List L) (xs : List X) (i : ℕ) → y.has_failed ≡ true
-      → Prints printed holds failed count a b x y (flat_map f (take i xs)) → Prints printed holds failed count a b x y (flat_map f xs)
+  pub prints_cut : {X : Type 0} {a b : S} {x y : BufferState} (f : X → List L) (xs : List X) (i : ℕ) → y.has_failed ≡ true
+      → Prints line_text holds failed count a b x y (flat_map f (take i xs)) → Prints line_text holds failed count a b x y (flat_map f xs)
   prints_cut {b = b} {y = y} f xs i fails h =
       prints_same (flat_map-rest f xs i) (prints_then h (record { puts = λ first text header g. HasPut-cut holds failed count first b y text _ header _ fails g }))
 
   -- ---- sections one after another
 
   -- lines before which no header waits
-  pub section_of : {a b : S} {x y : Gathered} {lines : List L} → Prints printed holds failed count a b x y lines → PrintsSection printed holds failed count a b x y lines
-  section_of {lines = lines} h = record { puts = λ first text g. put_same (ap (λ (l : List ℕ). text ++ l) (no-header printed lines)) (none-behind lines) (h.puts first text [] g) }
+  pub section_of : {a b : S} {x y : BufferState} {lines : List L} → Prints line_text holds failed count a b x y lines → PrintsSection line_text holds failed count a b x y lines
+  section_of {lines = lines} h = record { puts = λ first text g. put_same (ap (λ (l : List ℕ). text ++ l) (no-header line_text lines)) (none-behind lines) (h.puts first text [] g) }
 
-  pub section_then : {a b c : S} {x y z : Gathered} {front back : List L} → PrintsSection printed holds failed count a b x y front
-      → PrintsSection printed holds failed count b c y z back → PrintsSection printed holds failed count a c x z (front ++ back)
+  pub section_then : {a b c : S} {x y z : BufferState} {front back : List L} → PrintsSection line_text holds failed count a b x y front
+      → PrintsSection line_text holds failed count b c y z back → PrintsSection line_text holds failed count a c x z (front ++ back)
   section_then {front = front} {back = back} one two = record {
     puts = λ first text h.
-        put_same (append_assoc text (text_by printed front) (text_by printed back) ∙ ap (λ (l : List ℕ). text ++ l) (sym (text_by-append printed front back))) refl
+        put_same (append_assoc text (text_by line_text front) (text_by line_text back) ∙ ap (λ (l : List ℕ). text ++ l) (sym (text_by-append line_text front back))) refl
         (two.puts first _ (one.puts first text h));
   }
 
-  pub section_same : {a b : S} {x y : Gathered} {lines other : List L} → lines ≡ other → PrintsSection printed holds failed count a b x y lines
-      → PrintsSection printed holds failed count a b x y other
-  section_same {a} {b} {x} {y} same h = subst (PrintsSection printed holds failed count a b x y) same h
+  pub section_same : {a b : S} {x y : BufferState} {lines other : List L} → lines ≡ other → PrintsSection line_text holds failed count a b x y lines
+      → PrintsSection line_text holds failed count a b x y other
+  section_same {a} {b} {x} {y} same h = subst (PrintsSection line_text holds failed count a b x y) same h
 
   -- pieces that are the text of lines
-  pub section_text : {a b : S} {x y : Gathered} {piece : List ℕ} {lines : List L} → piece ≡ text_by printed lines → Emits holds failed count a b x y piece
-      → PrintsSection printed holds failed count a b x y lines
+  pub section_text : {a b : S} {x y : BufferState} {piece : List ℕ} {lines : List L} → piece ≡ text_by line_text lines → Emits holds failed count a b x y piece
+      → PrintsSection line_text holds failed count a b x y lines
   section_text same h = record { puts = λ first text g. (emits_same same h).puts first text [] g }
 
   -- a header waits from now on, and lines are put below it
-  pub opened_put : {first a b : S} {x opened y : Gathered} {text header : List ℕ} {lines : List L} → opened ≡ with_header header x
-      → Prints printed holds failed count a b opened y lines → HasPut holds failed count first a x text []
-      → HasPut holds failed count first b y (text ++ text_under printed header lines) (header_behind header lines)
+  pub opened_put : {first a b : S} {x opened y : BufferState} {text header : List ℕ} {lines : List L} → opened ≡ with_header header x
+      → Prints line_text holds failed count a b opened y lines → HasPut holds failed count first a x text []
+      → HasPut holds failed count first b y (text ++ text_under line_text header lines) (header_behind header lines)
   opened_put {first} {a} {x = x} {text = text} {header} opens h g =
       h.puts first text header (subst (λ buffer. HasPut holds failed count first a buffer text header) (sym opens) (HasPut-header holds failed count first a x text [] header g))
 
   -- lines below a header that waits from now on, until none waits
-  pub section_under : {a b : S} {x opened y closed : Gathered} {lines other : List L} (header : List ℕ) → text_under printed header lines ≡ text_by printed other
-      → opened ≡ with_header header x → Prints printed holds failed count a b opened y lines → closed ≡ with_header [] y
-      → PrintsSection printed holds failed count a b x closed other
+  pub section_under : {a b : S} {x opened y closed : BufferState} {lines other : List L} (header : List ℕ) → text_under line_text header lines ≡ text_by line_text other
+      → opened ≡ with_header header x → Prints line_text holds failed count a b opened y lines → closed ≡ with_header [] y
+      → PrintsSection line_text holds failed count a b x closed other
   section_under header same opens h closes = record {
     puts = λ first text g. closed_put closes (ap (λ (l : List ℕ). text ++ l) same) (opened_put opens h g);
   }

@@ -8,16 +8,16 @@ use Rattle.mpslp_write.proofs.DifferenceLemmas.{difference-zero}
 use Rattle.std.specs.Cmp.{first_so, second_so}
 use Rattle.std.specs.FinMap.{entries}
 use Rattle.mpslp_types.specs.Name.{is_mps_name}
-use Rattle.mpslp_core.specs.Model.{LinearModel, Row, IsSound, is_sound_row}
-use Rattle.mpslp_types.specs.Sides.{are_sides, is_bounded_decimal, has_bounded_distance}
-use Rattle.mpslp_core.specs.Views.{row_sense, row_range, right_hand_side}
+use Rattle.mpslp_model_core.specs.Model.{LinearModel, Row, IsSound, is_sound_row}
+use Rattle.mpslp_types.specs.Limit.{are_sides, is_bounded_decimal, has_bounded_distance}
+use Rattle.mpslp_model_core.specs.Views.{row_sense, row_range, right_hand_side}
 use Rattle.mpslp_types.specs.declared.kinds.Limit.{Limit}
 use Rattle.mpslp_types.specs.declared.kinds.Limit.TheVariants.{MinusInf, Finite, PlusInf}
 use Rattle.mpslp_types.specs.declared.kinds.RowType.TheVariants.{AtLeast, Equal}
 use Rattle.mpslp_mps.specs.DataLine.{letter_of}
-use Rattle.mpslp_canonical.specs.Printed.{short_line}
-use Rattle.mpslp_canonical.specs.PrintedValues.{have_same_value, printed_type, printed_side}
-use Rattle.mpslp_canonical.specs.CanonicalMps.{Lines, row_line, vector_line, range_lines}
+use Rattle.mpslp_canonical_mps.specs.Printed.{short_line}
+use Rattle.mpslp_canonical_mps.specs.PrintedValues.{have_same_value, printed_type, printed_rhs}
+use Rattle.mpslp_canonical_mps.specs.CanonicalMps.{Lines, row_line, vector_line, range_lines}
 use Rattle.mpslp_write.specs.LinesAt.{lines_at, printed_letter}
 use Rattle.mpslp_write.proofs.LinesAtLemmas.{both_seen, lines_seen, nothing_seen}
 
@@ -68,10 +68,10 @@ abbrev side_by : Limit → Number → Number
 side_by (Finite lower) side = lower
 side_by _ side = side
 
-side-told : (row : Row) → side_by row.lower (right_hand_side row) ≡ printed_side row.lower row.upper
+side-told : (row : Row) → side_by row.lower (right_hand_side row) ≡ printed_rhs row.lower row.upper
 side-told row = by row.lower row.upper
   where
-    by : (lower upper : Limit) → side_by lower (right_hand_side (record { lower = lower; upper = upper })) ≡ printed_side lower upper
+    by : (lower upper : Limit) → side_by lower (right_hand_side (record { lower = lower; upper = upper })) ≡ printed_rhs lower upper
     by MinusInf MinusInf = refl
     by MinusInf (Finite b) = refl
     by MinusInf PlusInf = refl
@@ -81,7 +81,7 @@ side-told row = by row.lower row.upper
     by PlusInf PlusInf = refl
 
 side-put : (rows : List Row) (i : ℕ) (lower : Limit) (side : Number) → option_map (λ row. row.lower) (slice_get rows i) ≡ Some lower
-    → option_map right_hand_side (slice_get rows i) ≡ Some side → option_map (λ row. printed_side row.lower row.upper) (slice_get rows i) ≡ Some (side_by lower side)
+    → option_map right_hand_side (slice_get rows i) ≡ Some side → option_map (λ row. printed_rhs row.lower row.upper) (slice_get rows i) ≡ Some (side_by lower side)
 side-put rows i lower side p q =
     sym (λ j. option_map (λ row. side-told row j) (slice_get rows i)) ∙ both_seen (λ (row : Row). row.lower) right_hand_side side_by (slice_get rows i) lower side p q
 
@@ -92,20 +92,20 @@ side-else PlusInf side never = refl
 
 pub side-left : (rows : List Row) (i : ℕ) (lower : Limit) (side : Number) → ((value : Number) → lower ≡ Finite value → ⊥)
     → option_map (λ row. row.lower) (slice_get rows i) ≡ Some lower → option_map right_hand_side (slice_get rows i) ≡ Some side
-    → option_map (λ row. printed_side row.lower row.upper) (slice_get rows i) ≡ Some side
+    → option_map (λ row. printed_rhs row.lower row.upper) (slice_get rows i) ≡ Some side
 side-left rows i lower side never p q = side-put rows i lower side p q ∙ ap Some (side-else lower side never)
 
 -- where the lower limit is finite, the view need not be asked
 pub side-finite : (rows : List Row) (i : ℕ) (lower : Number) → option_map (λ row. row.lower) (slice_get rows i) ≡ Some (Finite lower)
-    → option_map (λ row. printed_side row.lower row.upper) (slice_get rows i) ≡ Some lower
+    → option_map (λ row. printed_rhs row.lower row.upper) (slice_get rows i) ≡ Some lower
 side-finite rows i lower p = by (slice_get rows i) p
   where
-    by : (o : Option Row) → option_map (λ row. row.lower) o ≡ Some (Finite lower) → option_map (λ row. printed_side row.lower row.upper) o ≡ Some lower
+    by : (o : Option Row) → option_map (λ row. row.lower) o ≡ Some (Finite lower) → option_map (λ row. printed_rhs row.lower row.upper) o ≡ Some lower
     by None h = absurd (none_seen (Finite lower) h)
       where
         none_seen : (y : Limit) → ◌≡◌ {A = Option Limit} None (Some y) → ⊥
         none_seen y e = cc
-    by (Some row) h = let same : row.lower ≡ Finite lower = cc in ap (λ (l : Limit). Some (printed_side l row.upper)) same
+    by (Some row) h = let same : row.lower ≡ Finite lower = cc in ap (λ (l : Limit). Some (printed_rhs l row.upper)) same
 
 -- ---- the range
 

@@ -1,3 +1,3 @@
-pub mod Output
+pub mod TextBuffer
 pub mod LinesAt
 pub mod LpLinesAt

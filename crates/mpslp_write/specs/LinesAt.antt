@@ -2,15 +2,15 @@
 use Rattle.std.specs.Prelude.{ℕ, Bool, true, false, not, List, [], ◌∷◌, slice_get, Option, Some, None, ◌==◌, if◌then◌else◌}
 use Rattle.std.specs.Option.{option_map_or}
 use Rattle.mpslp_decimal.specs.Decimal.{Number, is_zero}
-use Rattle.mpslp_core.specs.Model.{LinearModel, CoefficientKey, Column}
-use Rattle.mpslp_core.specs.Views.{coefficient_at, column_elements}
+use Rattle.mpslp_model_core.specs.Model.{LinearModel, CoefficientKey, Column}
+use Rattle.mpslp_model_core.specs.Views.{coefficient_at, column_elements}
 use Rattle.mpslp_types.specs.declared.kinds.Kind.{Kind}
 use Rattle.mpslp_types.specs.declared.kinds.Limit.{Limit}
 use Rattle.mpslp_types.specs.declared.kinds.Limit.TheVariants.{MinusInf, Finite, PlusInf}
-use Rattle.mpslp_canonical.specs.PrintedValues.{is_fixed}
-use Rattle.mpslp_canonical.specs.CanonicalMps.{Lines, is_integer_column, cell_line}
-use Rattle.mpslp_write.specs.declared.columns.Part.{Part}
-use Rattle.mpslp_write.specs.declared.columns.Part.TheVariants.{Plain, Integers}
+use Rattle.mpslp_canonical_mps.specs.PrintedValues.{is_fixed}
+use Rattle.mpslp_canonical_mps.specs.CanonicalMps.{Lines, is_integer_column, coefficient_line}
+use Rattle.mpslp_write.specs.declared.mps.columns.Part.{Part}
+use Rattle.mpslp_write.specs.declared.mps.columns.Part.TheVariants.{Plain, Integers}
 
 -- the lines of the entry of this number, if there is one
 abbrev pub lines_at : {X L : Type 0} → (X → List L) → List X → ℕ → List L
@@ -31,12 +31,12 @@ of_part part lines_of column = if is_wanted part (is_integer_column column) then
 
 -- the line of a coefficient of a row
 abbrev pub element_lines : List ℕ → CoefficientKey × Number → Lines
-element_lines column element = cell_line column (element.0.row, element.1) ∷ []
+element_lines column element = coefficient_line column (element.0.row, element.1) ∷ []
 
 -- The line of the objective, with its value there: a column has it where that is not 0, or where it has no other coefficients.
 abbrev pub objective_line_at : List ℕ → List ℕ → Number → List (CoefficientKey × Number) → Lines
-objective_line_at objective column value [] = cell_line column (objective, value) ∷ []
-objective_line_at objective column value (element ∷ elements) = if is_zero value then [] else cell_line column (objective, value) ∷ []
+objective_line_at objective column value [] = coefficient_line column (objective, value) ∷ []
+objective_line_at objective column value (element ∷ elements) = if is_zero value then [] else coefficient_line column (objective, value) ∷ []
 
 abbrev pub objective_lines : LinearModel → List ℕ → Lines
 objective_lines m column = objective_line_at m.objective column (coefficient_at m m.objective column) (column_elements m column)

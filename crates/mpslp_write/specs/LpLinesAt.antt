@@ -1,7 +1,7 @@
 -- Lines of canonical LP that are printed of one entry after another.
 use Rattle.std.specs.Prelude.{ℕ, Bool, true, false, List, [], ◌∷◌, Option, Some, None, if◌then◌else◌}
 use Rattle.std.specs.FinMap.{entries}
-use Rattle.mpslp_core.specs.Model.{LinearModel, Column}
+use Rattle.mpslp_model_core.specs.Model.{LinearModel, Column}
 use Rattle.mpslp_types.specs.declared.kinds.Kind.{Kind}
 use Rattle.mpslp_decimal.specs.Decimal.{Number}
 use Rattle.mpslp_types.specs.declared.kinds.Sense.{Sense}
@@ -9,10 +9,10 @@ use Rattle.mpslp_types.specs.declared.kinds.Limit.TheVariants.{Finite, PlusInf}
 use Rattle.mpslp_lp.specs.declared.relations.Relation.TheVariants.{AtMost, EqualTo}
 use Rattle.mpslp_canonical_lp.specs.Printed.{number, sense}
 use Rattle.mpslp_canonical_lp.specs.Listing.{Listing, listing_of}
-use Rattle.mpslp_canonical_lp.specs.CanonicalLp.{Lines, heading, long_line, sense_word, Term, term_line, term_in, objective_term, have_same_value, right_line, bound_pieces, line_of_some, is_integer_kind, is_semi_kind, name_line}
+use Rattle.mpslp_canonical_lp.specs.CanonicalLp.{Lines, heading, long_line, sense_word, Term, term_line, term_in, objective_term, have_same_value, right_line, bound_lexemes, line_of_some, is_integer_kind, is_semi_kind, name_line}
 use Rattle.mpslp_write.specs.LinesAt.{lines_at}
-use Rattle.mpslp_write.specs.declared.lp_kinds.KindSection.{KindSection}
-use Rattle.mpslp_write.specs.declared.lp_kinds.KindSection.TheVariants.{Generals, SemiContinuous}
+use Rattle.mpslp_write.specs.declared.lp.kinds.KindSection.{KindSection}
+use Rattle.mpslp_write.specs.declared.lp.kinds.KindSection.TheVariants.{Generals, SemiContinuous}
 
 -- ---- terms
 
@@ -53,11 +53,11 @@ abbrev pub last_between : Number → Number → Lines
 last_between lower upper = (if have_same_value lower upper then right_line EqualTo upper else right_line AtMost upper) ∷ []
 
 abbrev pub lines_between : List ℕ → Number → Number → Lines
-lines_between column lower upper = line_of_some (bound_pieces column (Finite lower) (Finite upper))
+lines_between column lower upper = line_of_some (bound_lexemes column (Finite lower) (Finite upper))
 
 -- a lower bound alone
 abbrev pub lines_from : List ℕ → Number → Lines
-lines_from column lower = line_of_some (bound_pieces column (Finite lower) PlusInf)
+lines_from column lower = line_of_some (bound_lexemes column (Finite lower) PlusInf)
 
 -- ---- sections that name the columns of a kind
 

@@ -5,14 +5,13 @@ ghost use Rattle.mpslp_mps.specs.MpsText.{DeclaresMps};
 ghost use Rattle.mpslp_mps.specs.FirstFault.{IsFirstMpsFault};
 ghost use Rattle.mpslp_lp.specs.LpText.{DeclaresLp};
 ghost use Rattle.mpslp_lp.specs.FirstFault.{IsFirstLpFault};
-ghost use Rattle.mpslp_canonical.specs.CanonicalMps.{canonical_mps};
-ghost use Rattle.mpslp_canonical.proofs.MpsFormat as mps_laws;
+ghost use Rattle.mpslp_canonical_mps.specs.CanonicalMps.{canonical_mps};
+ghost use Rattle.mpslp_canonical_mps.proofs.MpsFormat as mps_laws;
 ghost use Rattle.mpslp_canonical_lp.specs.CanonicalLp.{canonical_lp};
 ghost use Rattle.mpslp_canonical_lp.specs.Unfit.{unfit};
 ghost use Rattle.mpslp_canonical_lp.proofs.LpFormat as lp_laws;
 
-use crate::lp::write_lp;
-use crate::lp_fit::first_unfit_name;
+use crate::lp::{first_unfit_name, write_lp};
 use crate::mps::write_mps;
 use mpslp_lp::{LpReader, read_lp};
 use mpslp_model::{Format, Model, ReadFault, Sink, WriteFault};

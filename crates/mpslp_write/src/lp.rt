@@ -1,25 +1,32 @@
 //! The canonical LP text of a model, written to a sink.
 
+mod bounds;
+mod fit;
+mod kinds;
+mod lines;
+mod objective;
+mod rows;
+
 ghost use Rattle.std.specs.Prelude.{◌≡◌, ◌+◌, ◌≤◌, true, false, None, Some, Err, length, IsOk};
 ghost use Rattle.mpslp_model.specs.Formats.{IsWritten};
 ghost use Rattle.mpslp_types.specs.declared.faults.NameAt.{NameAt};
 ghost use Rattle.mpslp_types.specs.declared.faults.WriteFault.TheVariants.{NotLp};
-ghost use Rattle.mpslp_canonical_lp.specs.Printed.{printed};
+ghost use Rattle.mpslp_canonical_lp.specs.Printed.{line_text};
 ghost use Rattle.mpslp_canonical_lp.specs.CanonicalLp.{canonical_lp, canonical_lines};
 ghost use Rattle.mpslp_canonical_lp.specs.Unfit.{unfit};
-ghost use Rattle.mpslp_write.specs.Output.{PrintsSection};
+ghost use Rattle.mpslp_write.specs.TextBuffer.{PrintsSection};
 
-use crate::lp_bounds::put_bounds_section;
-use crate::lp_fit::first_unfit_name;
-use crate::lp_kinds::{put_generals_section, put_semis_section};
-use crate::lp_objective::put_objective_section;
-use crate::lp_rows::put_rows_section;
-use crate::output::Buffer;
+use crate::lp::bounds::put_bounds_section;
+pub use crate::lp::fit::first_unfit_name;
+use crate::lp::kinds::{put_generals_section, put_semis_section};
+use crate::lp::objective::put_objective_section;
+use crate::lp::rows::put_rows_section;
+use crate::text_buffer::Buffer;
 use mpslp_model::{Model, Sink, WriteFault};
 
 /// Puts the canonical lines of a model.
 fn put_lines<W: Sink>(model: &Model, sink: &mut W, buffer: &mut Buffer)
-    ensures { PrintsSection printed W.holds W.failed W.count sink.old sink.new buffer.old buffer.new (canonical_lines model.now) }
+    ensures { PrintsSection line_text W.holds W.failed W.count sink.old sink.new buffer.old buffer.new (canonical_lines model.now) }
 {
     put_objective_section(model, sink, buffer);
     put_rows_section(model, sink, buffer);

@@ -1,20 +1,25 @@
 //! The canonical MPS text of a model, written to a sink.
 
+pub(crate) mod bounds;
+mod columns;
+mod lines;
+mod rows;
+
 ghost use Rattle.std.specs.Prelude.{◌≡◌, ◌+◌, ◌≤◌, true, false, None, length, IsOk};
 ghost use Rattle.mpslp_model.specs.Formats.{IsWritten};
-ghost use Rattle.mpslp_canonical.specs.Printed.{printed};
-ghost use Rattle.mpslp_canonical.specs.CanonicalMps.{canonical_mps, canonical_lines, sense_lines};
-ghost use Rattle.mpslp_write.specs.Output.{PrintsSection};
+ghost use Rattle.mpslp_canonical_mps.specs.Printed.{line_text};
+ghost use Rattle.mpslp_canonical_mps.specs.CanonicalMps.{canonical_mps, canonical_lines, sense_lines};
+ghost use Rattle.mpslp_write.specs.TextBuffer.{PrintsSection};
 
-use crate::bounds::put_bounds_section;
-use crate::columns::put_columns_section;
-use crate::output::Buffer;
-use crate::rows::{put_ranges_section, put_right_sides_section, put_rows_section};
+use crate::mps::bounds::put_bounds_section;
+use crate::mps::columns::put_columns_section;
+use crate::mps::rows::{put_ranges_section, put_rhs_section, put_rows_section};
+use crate::text_buffer::Buffer;
 use mpslp_model::{Model, Sense, Sink, WriteFault};
 
 /// Puts the section OBJSENSE, where the objective is maximized.
 fn put_sense<W: Sink>(sense: Sense, sink: &mut W, buffer: &mut Buffer)
-    ensures { PrintsSection printed W.holds W.failed W.count sink.old sink.new buffer.old buffer.new (sense_lines sense) }
+    ensures { PrintsSection line_text W.holds W.failed W.count sink.old sink.new buffer.old buffer.new (sense_lines sense) }
 {
     match sense {
         Sense::Minimize => {}
@@ -24,13 +29,13 @@ fn put_sense<W: Sink>(sense: Sense, sink: &mut W, buffer: &mut Buffer)
 
 /// Puts the canonical lines of a model.
 fn put_lines<W: Sink>(model: &Model, sink: &mut W, buffer: &mut Buffer)
-    ensures { PrintsSection printed W.holds W.failed W.count sink.old sink.new buffer.old buffer.new (canonical_lines model.now) }
+    ensures { PrintsSection line_text W.holds W.failed W.count sink.old sink.new buffer.old buffer.new (canonical_lines model.now) }
 {
     buffer.put(sink, b"NAME\n");
     put_sense(model.objective_sense(), sink, buffer);
     put_rows_section(model, sink, buffer);
     put_columns_section(model, sink, buffer);
-    put_right_sides_section(model, sink, buffer);
+    put_rhs_section(model, sink, buffer);
     put_ranges_section(model, sink, buffer);
     put_bounds_section(model, sink, buffer);
     buffer.put(sink, b"ENDATA\n");

@@ -10,10 +10,10 @@ returns-clause-answer g c =
     conversion_of source.declares source.first_fault target.unfit target.text c.args.bytes.now c.in_ok-model.model _ c.in_ok-model.ensures c.text_of.ensures
 
 pub returns-clause-cannot_tell : goal.returns-clause-cannot_tell
-returns-clause-cannot_tell g c = λ m place declared unfit.
+returns-clause-cannot_tell g c = λ m name_at declared unfit.
     let target = g.B.Format in
     let same : c.in_ok-model.model ≡ m = g.met.A.Format.one_model c.args.bytes.now c.in_ok-model.model m c.in_ok-model.ensures declared in
-    place_is_told target.unfit target.text c.in_ok-model.model place _ (ap target.unfit same ∙ unfit) c.text_of.ensures
+    place_is_told target.unfit target.text c.in_ok-model.model name_at _ (ap target.unfit same ∙ unfit) c.text_of.ensures
 
 pub returns-clause-keeps : goal.returns-clause-keeps
 returns-clause-keeps g c = λ m declared.

@@ -9,8 +9,8 @@ use Rattle.mpslp_lp.proofs.items.take_objective_term.Goals as goal
 
 pub returns : goal.returns
 returns c =
-    let before = c.args.before.now in
+    let context = c.args.context.now in
     let later = c.declare_term-answer.new.self in
     let made = term_declared c.args.objective (c.args.column.now, c.args.value) in
-    completes before later (Terminal.Name c.args.column.now) (refusals_in_turn before.earlier made) (InObjective c.args.objective) made c.declare_term-answer.result c.at_place.result refl c.at_place.ensures
-    (subst (λ (row : List ℕ). Declares before.earlier (term_declared row (c.args.column.now, c.args.value)) c.declare_term-answer.result later) c.as_bytes.ensures c.declare_term-answer.ensures)
+    completes context later (Terminal.Name c.args.column.now) (refusals_in_turn context.earlier made) (InObjective c.args.objective) made c.declare_term-answer.result c.at_place.result refl c.at_place.ensures
+    (subst (λ (row : List ℕ). Declares context.earlier (term_declared row (c.args.column.now, c.args.value)) c.declare_term-answer.result later) c.as_bytes.ensures c.declare_term-answer.ensures)

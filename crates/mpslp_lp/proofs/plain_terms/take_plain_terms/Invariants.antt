@@ -1,5 +1,5 @@
 use Rattle.std.proofs.Common.{◌≡◌, ◌≤◌, length}
-use Rattle.mpslp_lp.specs.ReadingLines.{take_tokens}
+use Rattle.mpslp_lp.specs.LineByLine.{take_tokens}
 use Rattle.mpslp_lp.specs.declared.states.Place.TheVariants.{InRow}
 use Rattle.mpslp_lp.specs.declared.states.State.TheVariants.{Between}
 use Rattle.mpslp_lp.proofs.plain_terms.take_plain_terms.Given as goal
@@ -7,7 +7,7 @@ use Rattle.mpslp_lp.proofs.plain_terms.take_plain_terms.Given as goal
 -- what is left to be taken decides
 abbrev pub invariant-terms : goal.invariant-terms
 invariant-terms l = record {
-  left : take_tokens l.before (Between (InRow l.row)) l.tokens ≡ take_tokens l.before (Between (InRow l.fn.row)) l.fn.tokens;
+  left : take_tokens l.context (Between (InRow l.row)) l.tokens ≡ take_tokens l.context (Between (InRow l.fn.row)) l.fn.tokens;
   fewer : length l.tokens ≤ length l.fn.tokens;
 }
 

@@ -1,22 +1,22 @@
 use Rattle.std.proofs.Common.{subst, ◌∙◌, sym}
 use Rattle.std.specs.Prelude.{Option}
 use Rattle.mpslp_types.specs.declared.faults.FaultKind.{FaultKind}
-use Rattle.mpslp_reading.specs.Declaring.{declared_fault}
-use Rattle.mpslp_reading.specs.LineAnswer.{IsErrorOf}
-use Rattle.mpslp_mps.specs.LineMeaning.{bound_declared}
-use Rattle.mpslp_reading.proofs.AnswerLemmas.{ends-by}
-use Rattle.mpslp_reading.proofs.UnchangedLemmas.{if_fault-none, if_fault-ends, if_fault-declared}
+use Rattle.mpslp_lines.specs.Declaring.{declared_fault}
+use Rattle.mpslp_lines.specs.LineAnswer.{IsErrorOf}
+use Rattle.mpslp_mps.specs.LineDeclarations.{bound_declared}
+use Rattle.mpslp_lines.proofs.AnswerLemmas.{ends-by}
+use Rattle.mpslp_lines.proofs.UnchangedLemmas.{if_fault-none, if_fault-ends, if_fault-declared}
 use Rattle.mpslp_mps.proofs.BoundSideLemmas.{kind-refused, bound-asked, bound-declares}
 use Rattle.mpslp_mps.proofs.bounds.declare_bound.Goals as goal
 
-pub returns-in_err-check_sides-clause-answers : goal.returns-in_err-check_sides-clause-answers
-returns-in_err-check_sides-clause-answers c =
-    let error = c.in_err-check_sides.field-0.0 in
+pub returns-in_err-check_bounds_given-clause-answers : goal.returns-in_err-check_bounds_given-clause-answers
+returns-in_err-check_bounds_given-clause-answers c =
+    let error = c.in_err-check_bounds_given.field-0.0 in
     ends-by c.from_residual.result error _ _ c.from_residual.ensures.1
     (subst (λ (o : Option FaultKind). IsErrorOf o error)
-    (bound-asked c.args.builder.now c.args.bound_type c.args.column.now c.args.value c.sides_of-lower.result.0 c.sides_of-lower.result.1 c.requires.apart c.sides_of-lower.ensures.lower
-    c.sides_of-lower.ensures.upper)
-    c.in_err-check_sides.ensures)
+    (bound-asked c.args.builder.now c.args.bound_type c.args.column.now c.args.value c.bounds_of_type-lower.result.0 c.bounds_of_type-lower.result.1 c.requires.apart c.bounds_of_type-lower.ensures.lower
+    c.bounds_of_type-lower.ensures.upper)
+    c.in_err-check_bounds_given.ensures)
 
 pub returns-in_err-declare_kind-clause-answers : goal.returns-in_err-declare_kind-clause-answers
 returns-in_err-declare_kind-clause-answers c =
@@ -28,20 +28,20 @@ pub returns-in_err-declare_kind-clause-unchanged : goal.returns-in_err-declare_k
 returns-in_err-declare_kind-clause-unchanged c =
     let all = c.args.builder.now in
     let error = c.in_err-declare_kind.field-0.0 in
-    let asked = bound-asked all c.args.bound_type c.args.column.now c.args.value c.sides_of-lower.result.0 c.sides_of-lower.result.1 c.requires.apart c.sides_of-lower.ensures.lower c.sides_of-lower.ensures.upper in
+    let asked = bound-asked all c.args.bound_type c.args.column.now c.args.value c.bounds_of_type-lower.result.0 c.bounds_of_type-lower.result.1 c.requires.apart c.bounds_of_type-lower.ensures.lower c.bounds_of_type-lower.ensures.upper in
     if_fault-ends c.from_residual-in_err-declare_kind.result error _ c.from_residual-in_err-declare_kind.ensures.1
-    (if_fault-none (declared_fault all (bound_declared c.args.bound_type c.args.column.now c.args.value)) error _ (sym asked ∙ c.in_ok-check_sides.ensures)
+    (if_fault-none (declared_fault all (bound_declared c.args.bound_type c.args.column.now c.args.value)) error _ (sym asked ∙ c.in_ok-check_bounds_given.ensures)
     (kind-refused all c.args.bound_type c.args.column.now c.args.value error c.requires.apart c.in_err-declare_kind.ensures))
 
 pub returns-clause-answers : goal.returns-clause-answers
 returns-clause-answers c =
-    bound-declares c.args.builder.now c.declare_kind.new.builder c.declare_sides.new.builder c.args.bound_type c.args.column.now c.args.value c.sides_of-lower.result.0 c.sides_of-lower.result.1
-    c.declare_sides.result c.requires.apart c.in_ok-declare_kind.ensures.1 c.sides_of-lower.ensures.lower c.sides_of-lower.ensures.upper c.declare_sides.ensures
+    bound-declares c.args.builder.now c.declare_kind.new.builder c.declare_bounds_given.new.builder c.args.bound_type c.args.column.now c.args.value c.bounds_of_type-lower.result.0 c.bounds_of_type-lower.result.1
+    c.declare_bounds_given.result c.requires.apart c.in_ok-declare_kind.ensures.1 c.bounds_of_type-lower.ensures.lower c.bounds_of_type-lower.ensures.upper c.declare_bounds_given.ensures
 
 pub returns-clause-unchanged : goal.returns-clause-unchanged
 returns-clause-unchanged c =
     let all = c.args.builder.now in
-    let asked = bound-asked all c.args.bound_type c.args.column.now c.args.value c.sides_of-lower.result.0 c.sides_of-lower.result.1 c.requires.apart c.sides_of-lower.ensures.lower c.sides_of-lower.ensures.upper in
-    if_fault-declared all c.declare_sides.new.builder (bound_declared c.args.bound_type c.args.column.now c.args.value) c.declare_sides.result _ (sym asked ∙ c.in_ok-check_sides.ensures)
-    (bound-declares all c.declare_kind.new.builder c.declare_sides.new.builder c.args.bound_type c.args.column.now c.args.value c.sides_of-lower.result.0 c.sides_of-lower.result.1
-    c.declare_sides.result c.requires.apart c.in_ok-declare_kind.ensures.1 c.sides_of-lower.ensures.lower c.sides_of-lower.ensures.upper c.declare_sides.ensures)
+    let asked = bound-asked all c.args.bound_type c.args.column.now c.args.value c.bounds_of_type-lower.result.0 c.bounds_of_type-lower.result.1 c.requires.apart c.bounds_of_type-lower.ensures.lower c.bounds_of_type-lower.ensures.upper in
+    if_fault-declared all c.declare_bounds_given.new.builder (bound_declared c.args.bound_type c.args.column.now c.args.value) c.declare_bounds_given.result _ (sym asked ∙ c.in_ok-check_bounds_given.ensures)
+    (bound-declares all c.declare_kind.new.builder c.declare_bounds_given.new.builder c.args.bound_type c.args.column.now c.args.value c.bounds_of_type-lower.result.0 c.bounds_of_type-lower.result.1
+    c.declare_bounds_given.result c.requires.apart c.in_ok-declare_kind.ensures.1 c.bounds_of_type-lower.ensures.lower c.bounds_of_type-lower.ensures.upper c.declare_bounds_given.ensures)

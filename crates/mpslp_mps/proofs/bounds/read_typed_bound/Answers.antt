@@ -1,11 +1,11 @@
 use Rattle.std.proofs.Common.{sym, ap, subst, ◌∙◌, rules, map, Bor, ℕ, List, ◌∷◌}
 use Rattle.std.specs.Prelude.{Option, Some}
-use Rattle.mpslp_builder.specs.Declaration.{adding_all}
+use Rattle.mpslp_builder.specs.Declaration.{with_declarations}
 use Rattle.mpslp_mps.specs.BoundLine.{BoundLine}
 use Rattle.mpslp_mps.specs.ContextStep.{after_bound}
-use Rattle.mpslp_mps.specs.LineMeaning.{bound_declared}
+use Rattle.mpslp_mps.specs.LineDeclarations.{bound_declared}
 use Rattle.mpslp_types.specs.declared.faults.FaultKind.{FaultKind}
-use Rattle.mpslp_reading.specs.LineAnswer.{IsErrorOf}
+use Rattle.mpslp_lines.specs.LineAnswer.{IsErrorOf}
 use Rattle.mpslp_mps.specs.declared.sections.Section.TheVariants.{Bounds}
 use Rattle.mpslp_mps.proofs.StepLemmas.{step-bound}
 use Rattle.mpslp_mps.proofs.TakenLemmas.{data_fault-form, clash-told, data_fault-declared, declared-is, bounds-early, bounds-behind}
@@ -41,8 +41,8 @@ returns-in_err-declare_bound-clause-answers c =
     let line = c.in_ok-bound_type.line in
     let type = c.in_ok-bound_type.bound_type in
     let said = c.in_ok-bound_type.ensures in
-    let declarations = bound_declared type c.line.inside.column.now c.side_of.result in
-    let is = bound-is c.args.letters.now more type line c.in_ok-bound_type.value said.1 said.2 said.3 ∙ (λ i. bound_declared type (sym c.line.view_is i).column (sym c.side_of.ensures.value i)) in
+    let declarations = bound_declared type c.line.inside.column.now c.bound_value_or_zero.result in
+    let is = bound-is c.args.letters.now more type line c.in_ok-bound_type.value said.1 said.2 said.3 ∙ (λ i. bound_declared type (sym c.line.view_is i).column (sym c.bound_value_or_zero.ensures.value i)) in
     let fault_is = data_fault-declared c.args.context.now c.args.builder.now (c.args.letters.now ∷ more) (Some Bounds) declarations c.requires said.0 is in
     let answer = subst (λ (o : Option FaultKind). IsErrorOf o c.in_err-declare_bound.field-0.0) (sym fault_is) c.in_err-declare_bound.ensures.answers in
     search rules
@@ -53,12 +53,12 @@ returns-clause-answers c =
     let line = c.in_ok-bound_type.line in
     let type = c.in_ok-bound_type.bound_type in
     let said = c.in_ok-bound_type.ensures in
-    let declarations = bound_declared type c.line.inside.column.now c.side_of.result in
-    let is = bound-is c.args.letters.now more type line c.in_ok-bound_type.value said.1 said.2 said.3 ∙ (λ i. bound_declared type (sym c.line.view_is i).column (sym c.side_of.ensures.value i)) in
+    let declarations = bound_declared type c.line.inside.column.now c.bound_value_or_zero.result in
+    let is = bound-is c.args.letters.now more type line c.in_ok-bound_type.value said.1 said.2 said.3 ∙ (λ i. bound_declared type (sym c.line.view_is i).column (sym c.bound_value_or_zero.ensures.value i)) in
     let fault_is = data_fault-declared c.args.context.now c.args.builder.now (c.args.letters.now ∷ more) (Some Bounds) declarations c.requires said.0 is in
     let same = declared-is c.args.context.now c.args.builder.now (c.args.letters.now ∷ more) (Some Bounds) declarations c.requires is in
     let step = step-bound c.args.context.now c.args.letters.now more type line c.requires said.1 said.2 in (
       fault_is ∙ c.in_ok-declare_bound.ensures.answers.0,
       c.in_ok-pass_bound.ensures ∙ ap (λ (parts : BoundLine). after_bound c.args.context.now parts.set) c.line.view_is ∙ sym step,
-      c.in_ok-declare_bound.ensures.answers.1 ∙ ap (adding_all c.args.builder.now) (sym same),
+      c.in_ok-declare_bound.ensures.answers.1 ∙ ap (with_declarations c.args.builder.now) (sym same),
     )

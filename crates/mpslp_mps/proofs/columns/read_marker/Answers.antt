@@ -1,12 +1,12 @@
 use Rattle.std.proofs.Common.{◌∙◌, ap, sym, map, refl, []}
 use Rattle.std.specs.List.{list_all}
-use Rattle.mpslp_reading.specs.Tests.{Tests, first_held}
-use Rattle.mpslp_reading.specs.declared.errors.LineError.TheVariants.{Fault}
+use Rattle.mpslp_lines.specs.FaultTests.{FaultTests, first_held}
+use Rattle.mpslp_lines.specs.declared.errors.LineError.TheVariants.{Fault}
 use Rattle.mpslp_mps.specs.declared.sections.Section.TheVariants.{Columns}
 use Rattle.mpslp_mps.proofs.StepLemmas.{step-marker}
 use Rattle.mpslp_mps.proofs.TakingLemmas.{is_early, data-judged, data-taken}
-use Rattle.mpslp_reading.proofs.AnswerLemmas.{ends-by}
-use Rattle.mpslp_reading.proofs.ClashLemmas.{has_kind_clash}
+use Rattle.mpslp_lines.proofs.AnswerLemmas.{ends-by}
+use Rattle.mpslp_lines.proofs.ClashLemmas.{has_kind_clash}
 use Rattle.mpslp_mps.proofs.ColumnTaking.{marker-tests, marker-early, marker-declares}
 use Rattle.mpslp_mps.proofs.columns.read_marker.Goals as goal
 
@@ -17,7 +17,7 @@ returns-in_err-opens-clause-answers c earlier =
     let tests = marker-tests context earlier fields c.requires.marker in
     ends-by c.from_residual.result (Fault c.in_err-opens.field-0.0) _ _ c.from_residual.ensures.1
     (data-judged context earlier fields Columns (Fault c.in_err-opens.field-0.0) c.requires.section
-    (ap (λ (t : Tests). list_all is_early t) tests ∙ marker-early context fields)
+    (ap (λ (t : FaultTests). list_all is_early t) tests ∙ marker-early context fields)
     (ap (has_kind_clash earlier) (marker-declares context earlier fields c.requires.marker)) (ap first_held tests ∙ c.in_err-opens.ensures))
 
 pub returns-clause-answers : goal.returns-clause-answers

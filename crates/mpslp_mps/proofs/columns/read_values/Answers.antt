@@ -2,19 +2,19 @@ use Rattle.std.proofs.Common.{◌≡◌, sym, ap, subst, ◌∙◌, ℕ, List, �
 use Rattle.mpslp_decimal.specs.Decimal.{Number}
 use Rattle.std.specs.Prelude.{◌&&◌, not, Option, Some, None}
 use Rattle.std.specs.List.{flat_map}
-use Rattle.mpslp_builder.specs.Declaration.{Draft, adding_all, has_column, is_semi}
+use Rattle.mpslp_builder.specs.Declaration.{Draft, with_declarations, has_column, is_semi}
 use Rattle.mpslp_types.specs.declared.faults.FaultKind.{FaultKind}
 use Rattle.mpslp_types.specs.declared.faults.FaultKind.TheVariants.{DuplicateEntry}
-use Rattle.mpslp_builder.proofs.MadeDrafts.{adding_all-append}
-use Rattle.mpslp_mps.specs.LineMeaning.{data_declared}
-use Rattle.mpslp_reading.specs.Declaring.{declared_fault}
+use Rattle.mpslp_builder.proofs.MadeDrafts.{with_declarations-append}
+use Rattle.mpslp_mps.specs.LineDeclarations.{data_declared}
+use Rattle.mpslp_lines.specs.Declaring.{declared_fault}
 use Rattle.mpslp_mps.specs.ColumnDeclared.{front_declared, value_declared}
-use Rattle.mpslp_reading.specs.LineAnswer.{IsErrorOf}
-use Rattle.mpslp_reading.specs.declared.errors.LineError.TheVariants.{Fault}
+use Rattle.mpslp_lines.specs.LineAnswer.{IsErrorOf}
+use Rattle.mpslp_lines.specs.declared.errors.LineError.TheVariants.{Fault}
 use Rattle.mpslp_mps.specs.declared.sections.Section.{Section}
 use Rattle.mpslp_mps.proofs.StepLemmas.{step-column}
-use Rattle.mpslp_reading.proofs.AnswerLemmas.{ends-by}
-use Rattle.mpslp_reading.proofs.UnchangedLemmas.{if_fault-ends, if_fault-none}
+use Rattle.mpslp_lines.proofs.AnswerLemmas.{ends-by}
+use Rattle.mpslp_lines.proofs.UnchangedLemmas.{if_fault-ends, if_fault-none}
 use Rattle.mpslp_mps.specs.DataLine.{column_shape}
 use Rattle.mpslp_mps.proofs.ColumnTaking.{front-there}
 use Rattle.mpslp_mps.proofs.ClashLemmas.{column-apart}
@@ -40,13 +40,13 @@ returns-in_err-column-clause-answers c =
     (column-judged c.args.context.now c.args.builder.now fields c.in_err-column.field-0.0 c.requires.section c.requires.plain
     (sym c.has_column_clash.ensures ∙ c.if-has_column_clash.false) c.in_err-column.ensures)
 
-pub returns-in_err-check_place-clause-answers : goal.returns-in_err-check_place-clause-answers
-returns-in_err-check_place-clause-answers c =
+pub returns-in_err-check_rows_and_column-clause-answers : goal.returns-in_err-check_rows_and_column-clause-answers
+returns-in_err-check_rows_and_column-clause-answers c =
     let fields = map (λ field. field.now) c.args.fields.now in
     let line = c.in_ok-column.ensures in
-    ends-by c.from_residual-in_err-check_place.result (Fault c.in_err-check_place.field-0.0) _ _ c.from_residual-in_err-check_place.ensures.1
-    (place-fault c.args.context.now c.args.builder.now fields c.in_ok-column.column.now c.in_ok-column.values c.in_err-check_place.field-0.0 c.requires.section
-    c.requires.plain (sym c.has_column_clash.ensures ∙ c.if-has_column_clash.false) line.0 line.1 c.in_err-check_place.ensures)
+    ends-by c.from_residual-in_err-check_rows_and_column.result (Fault c.in_err-check_rows_and_column.field-0.0) _ _ c.from_residual-in_err-check_rows_and_column.ensures.1
+    (place-fault c.args.context.now c.args.builder.now fields c.in_ok-column.column.now c.in_ok-column.values c.in_err-check_rows_and_column.field-0.0 c.requires.section
+    c.requires.plain (sym c.has_column_clash.ensures ∙ c.if-has_column_clash.false) line.0 line.1 c.in_err-check_rows_and_column.ensures)
 
 pub declare_values-requires-clause-column : goal.declare_values-requires-clause-column
 declare_values-requires-clause-column c =
@@ -63,9 +63,9 @@ returns-in_err-declare_values-clause-answers c =
     let line = c.in_ok-column.ensures in
     let error = c.in_err-declare_values.field-0.0 in
     let draft : c.declare_column.new.builder ≡ with_column context earlier column =
-    c.in_ok-declare_column.ensures ∙ ap (λ (marked : Bool). adding_all earlier (front_declared marked column)) c.in_integer_part-2.ensures in
+    c.in_ok-declare_column.ensures ∙ ap (λ (marked : Bool). with_declarations earlier (front_declared marked column)) c.in_integer_part-2.ensures in
     let fault_is = ap (λ (d : Draft). declared_fault d (flat_map (value_declared column) values)) draft
-    ∙ sym (placed-fault context earlier fields column values c.requires.section c.requires.plain (sym c.has_column_clash.ensures ∙ c.if-has_column_clash.false) line.0 line.1 c.in_ok-check_place.ensures) in
+    ∙ sym (placed-fault context earlier fields column values c.requires.section c.requires.plain (sym c.has_column_clash.ensures ∙ c.if-has_column_clash.false) line.0 line.1 c.in_ok-check_rows_and_column.ensures) in
     ends-by c.from_residual-in_err-declare_values.result error _ _ c.from_residual-in_err-declare_values.ensures.1
     (subst (λ (o : Option FaultKind). IsErrorOf o error) fault_is c.in_err-declare_values.ensures)
 
@@ -80,29 +80,29 @@ returns-clause-answers c =
     let front = front_declared context.in_integer_part column in
     let coefficients = flat_map (value_declared column) values in
     let draft : c.declare_column.new.builder ≡ with_column context earlier column =
-    c.in_ok-declare_column.ensures ∙ ap (λ (marked : Bool). adding_all earlier (front_declared marked column)) c.in_integer_part-2.ensures in
+    c.in_ok-declare_column.ensures ∙ ap (λ (marked : Bool). with_declarations earlier (front_declared marked column)) c.in_integer_part-2.ensures in
     let declares = column-declares context earlier fields column values c.requires.plain line.1 in (
-      placed-fault context earlier fields column values c.requires.section c.requires.plain (sym c.has_column_clash.ensures ∙ c.if-has_column_clash.false) line.0 line.1 c.in_ok-check_place.ensures
+      placed-fault context earlier fields column values c.requires.section c.requires.plain (sym c.has_column_clash.ensures ∙ c.if-has_column_clash.false) line.0 line.1 c.in_ok-check_rows_and_column.ensures
           ∙ ap (λ (d : Draft). declared_fault d coefficients) (sym draft) ∙ c.in_ok-declare_values.ensures.0,
       c.in_ok-pass_column-2.ensures ∙ sym (step-column context fields column values c.requires.section c.requires.plain line.1),
-      c.in_ok-declare_values.ensures.1 ∙ ap (λ (d : Draft). adding_all d coefficients) draft ∙ sym (adding_all-append front coefficients earlier)
-          ∙ ap (adding_all earlier) (sym (ap (λ (section : Option Section). data_declared context earlier fields section) c.requires.section ∙ declares)),
+      c.in_ok-declare_values.ensures.1 ∙ ap (λ (d : Draft). with_declarations d coefficients) draft ∙ sym (with_declarations-append front coefficients earlier)
+          ∙ ap (with_declarations earlier) (sym (ap (λ (section : Option Section). data_declared context earlier fields section) c.requires.section ∙ declares)),
     )
 
-pub returns-in_err-declare_next-clause-answers : goal.returns-in_err-declare_next-clause-answers
-returns-in_err-declare_next-clause-answers c =
+pub returns-in_err-declare_in_last_column-clause-answers : goal.returns-in_err-declare_in_last_column-clause-answers
+returns-in_err-declare_in_last_column-clause-answers c =
     let fields = map (λ field. field.now) c.args.fields.now in
     let line = c.in_ok-column.ensures in
-    let goes_on = c.goes_on.ensures c.if-goes_on.true in
-    let error = c.in_err-declare_next.field-0.0 in
+    let continues_column = c.continues_column.ensures c.if-continues_column.true in
+    let error = c.in_err-declare_in_last_column.field-0.0 in
     let one = only-first c.values.inside.first c.values.inside.second c.in_ok-column.values c.values.view_is (c.is_none.ensures ∙ ap not c.if-is_none.true) in
-    ends-by c.from_residual-in_err-declare_next.result error _ _ c.from_residual-in_err-declare_next.ensures.1
+    ends-by c.from_residual-in_err-declare_in_last_column.result error _ _ c.from_residual-in_err-declare_in_last_column.ensures.1
     (subst (λ (o : Option FaultKind). IsErrorOf o error)
     (sym (next-line-fault c.args.context.now c.args.builder.now fields c.in_ok-column.column.now c.in_ok-column.values c.values.inside.first c.requires.section c.requires.plain
-    (sym c.has_column_clash.ensures ∙ c.if-has_column_clash.false) line.0 line.1 one goes_on.0 goes_on.1)) c.in_err-declare_next.ensures.answers)
+    (sym c.has_column_clash.ensures ∙ c.if-has_column_clash.false) line.0 line.1 one continues_column.0 continues_column.1)) c.in_err-declare_in_last_column.ensures.answers)
 
-pub returns-then-goes_on-clause-answers : goal.returns-then-goes_on-clause-answers
-returns-then-goes_on-clause-answers c =
+pub returns-then-continues_column-clause-answers : goal.returns-then-continues_column-clause-answers
+returns-then-continues_column-clause-answers c =
     let fields = map (λ field. field.now) c.args.fields.now in
     let context = c.args.context.now in
     let earlier = c.args.builder.now in
@@ -110,27 +110,27 @@ returns-then-goes_on-clause-answers c =
     let values = c.in_ok-column.values in
     let first = c.values.inside.first in
     let line = c.in_ok-column.ensures in
-    let goes_on = c.goes_on.ensures c.if-goes_on.true in
+    let continues_column = c.continues_column.ensures c.if-continues_column.true in
     let apart = sym c.has_column_clash.ensures ∙ c.if-has_column_clash.false in
     let one = only-first first c.values.inside.second values c.values.view_is (c.is_none.ensures ∙ ap not c.if-is_none.true) in
     let declares = column-declares context earlier fields column values c.requires.plain line.1 in
     let all : data_declared context earlier fields context.section ≡ front_declared context.in_integer_part column ++ value_declared column first =
     ap (λ (section : Option Section). data_declared context earlier fields section) c.requires.section ∙ declares
     ∙ ap (λ (vs : List (List ℕ × Number)). front_declared context.in_integer_part column ++ flat_map (value_declared column) vs) one in (
-      next-line-fault context earlier fields column values first c.requires.section c.requires.plain apart line.0 line.1 one goes_on.0 goes_on.1 ∙ c.in_ok-declare_next.ensures.answers.0,
+      next-line-fault context earlier fields column values first c.requires.section c.requires.plain apart line.0 line.1 one continues_column.0 continues_column.1 ∙ c.in_ok-declare_in_last_column.ensures.answers.0,
       c.in_ok-pass_column.ensures ∙ sym (step-column context fields column values c.requires.section c.requires.plain line.1),
-      c.in_ok-declare_next.ensures.answers.1
-          ∙ ap (λ (marked : Bool). adding_all (adding_all earlier (front_declared marked column)) (value_declared column first)) c.in_integer_part.ensures
-          ∙ sym (adding_all-append (front_declared context.in_integer_part column) (value_declared column first) earlier) ∙ ap (adding_all earlier) (sym all),
+      c.in_ok-declare_in_last_column.ensures.answers.1
+          ∙ ap (λ (marked : Bool). with_declarations (with_declarations earlier (front_declared marked column)) (value_declared column first)) c.in_integer_part.ensures
+          ∙ sym (with_declarations-append (front_declared context.in_integer_part column) (value_declared column first) earlier) ∙ ap (with_declarations earlier) (sym all),
     )
 
-pub returns-then-has_double-clause-answers : goal.returns-then-has_double-clause-answers
-returns-then-has_double-clause-answers c =
+pub returns-then-has_duplicate-clause-answers : goal.returns-then-has_duplicate-clause-answers
+returns-then-has_duplicate-clause-answers c =
     let fields = map (λ field. field.now) c.args.fields.now in
     let line = c.in_ok-column.ensures in
     double-fault c.args.context.now c.args.builder.now fields c.in_ok-column.column.now c.in_ok-column.values c.requires.section c.requires.plain
-    (sym c.has_column_clash.ensures ∙ c.if-has_column_clash.false) line.0 line.1 c.in_ok-check_place.ensures
-    ∙ ap (λ (b : Bool). cond b (Some DuplicateEntry) None) (sym c.has_double.ensures ∙ c.if-has_double.true)
+    (sym c.has_column_clash.ensures ∙ c.if-has_column_clash.false) line.0 line.1 c.in_ok-check_rows_and_column.ensures
+    ∙ ap (λ (b : Bool). cond b (Some DuplicateEntry) None) (sym c.has_duplicate.ensures ∙ c.if-has_duplicate.true)
 
 pub declare_column-requires-clause-name : goal.declare_column-requires-clause-name
 declare_column-requires-clause-name c =
@@ -148,10 +148,10 @@ returns-in_err-declare_values-clause-unchanged c =
     let apart = sym c.has_column_clash.ensures ∙ c.if-has_column_clash.false in
     let error = c.in_err-declare_values.field-0.0 in
     let draft : c.declare_column.new.builder ≡ with_column context earlier column =
-    c.in_ok-declare_column.ensures ∙ ap (λ (marked : Bool). adding_all earlier (front_declared marked column)) c.in_integer_part-2.ensures in
+    c.in_ok-declare_column.ensures ∙ ap (λ (marked : Bool). with_declarations earlier (front_declared marked column)) c.in_integer_part-2.ensures in
     let none = ap (λ (d : Draft). declared_fault d (flat_map (value_declared column) values)) draft
-    ∙ sym (placed-fault context earlier fields column values c.requires.section c.requires.plain apart line.0 line.1 c.in_ok-check_place.ensures)
-    ∙ double-fault context earlier fields column values c.requires.section c.requires.plain apart line.0 line.1 c.in_ok-check_place.ensures
-    ∙ ap (λ (b : Bool). cond b (Some DuplicateEntry) None) (sym c.has_double.ensures ∙ c.if-has_double.false) in
+    ∙ sym (placed-fault context earlier fields column values c.requires.section c.requires.plain apart line.0 line.1 c.in_ok-check_rows_and_column.ensures)
+    ∙ double-fault context earlier fields column values c.requires.section c.requires.plain apart line.0 line.1 c.in_ok-check_rows_and_column.ensures
+    ∙ ap (λ (b : Bool). cond b (Some DuplicateEntry) None) (sym c.has_duplicate.ensures ∙ c.if-has_duplicate.false) in
     if_fault-ends c.from_residual-in_err-declare_values.result error _ c.from_residual-in_err-declare_values.ensures.1
     (if_fault-none (declared_fault c.declare_column.new.builder (flat_map (value_declared column) values)) error _ none c.in_err-declare_values.ensures)

@@ -1,14 +1,14 @@
 use Rattle.std.proofs.Common.{sym, ap, subst, ◌∙◌, map}
 use Rattle.std.specs.Prelude.{Option}
-use Rattle.mpslp_builder.specs.Declaration.{adding_all}
+use Rattle.mpslp_builder.specs.Declaration.{with_declarations}
 use Rattle.mpslp_types.specs.declared.faults.FaultKind.{FaultKind}
 use Rattle.mpslp_mps.specs.ContextStep.{after_header}
-use Rattle.mpslp_mps.specs.LineMeaning.{header_declared}
-use Rattle.mpslp_reading.specs.LineAnswer.{IsErrorOf}
-use Rattle.mpslp_reading.specs.declared.errors.LineError.TheVariants.{Fault}
+use Rattle.mpslp_mps.specs.LineDeclarations.{header_declared}
+use Rattle.mpslp_lines.specs.LineAnswer.{IsErrorOf}
+use Rattle.mpslp_lines.specs.declared.errors.LineError.TheVariants.{Fault}
 use Rattle.mpslp_mps.specs.declared.sections.Section.{Section}
 use Rattle.mpslp_mps.proofs.StepLemmas.{step-header}
-use Rattle.mpslp_reading.proofs.AnswerLemmas.{ends-by}
+use Rattle.mpslp_lines.proofs.AnswerLemmas.{ends-by}
 use Rattle.mpslp_mps.proofs.HeaderTaking.{header-form, header-declares}
 use Rattle.mpslp_mps.proofs.header_lines.read_header.Goals as goal
 
@@ -36,7 +36,7 @@ returns-clause-answers c =
     let section = c.in_ok-section.section in
     let named = c.in_ok-section.ensures.0 in (
       header-declares context earlier keyword more section named c.in_ok-section.ensures.1 ∙ c.in_ok-declare_header.ensures.answers.0,
-      c.in_ok-pass_header.ensures ∙ (λ i. after_header context section (c.word_wanted.ensures i) (c.named_objective.ensures i))
+      c.in_ok-pass_header.ensures ∙ (λ i. after_header context section (c.section_of_word_due.ensures i) (c.header_objname.ensures i))
           ∙ sym (step-header context keyword more section named),
-      c.in_ok-declare_header.ensures.answers.1 ∙ ap (λ (o : Option Section). adding_all earlier (header_declared context earlier more o)) (sym named),
+      c.in_ok-declare_header.ensures.answers.1 ∙ ap (λ (o : Option Section). with_declarations earlier (header_declared context earlier more o)) (sym named),
     )

@@ -2,10 +2,10 @@ use Rattle.std.proofs.Common.{◌≡◌, sym, subst, ◌∙◌, refl, rules, ℕ
 use Rattle.std.specs.Prelude.{None}
 use Rattle.mpslp_decimal.specs.Decimal.{Number}
 use Rattle.mpslp_builder.specs.Declaration.{declare_range}
-use Rattle.mpslp_reading.specs.ErrorOf.{error_of_build}
-use Rattle.mpslp_reading.specs.LineAnswer.{IsErrorOf}
-use Rattle.mpslp_reading.specs.Declaring.{declared_fault}
-use Rattle.mpslp_reading.proofs.RefusedLemmas.{check-none, check-error}
+use Rattle.mpslp_lines.specs.ErrorOf.{error_of_build}
+use Rattle.mpslp_lines.specs.LineAnswer.{IsErrorOf}
+use Rattle.mpslp_lines.specs.Declaring.{declared_fault}
+use Rattle.mpslp_lines.proofs.RefusedLemmas.{check-none, check-error}
 use Rattle.mpslp_mps.proofs.vectors.check_range.Goals as goal
 
 pub returns-in_err-check_range : goal.returns-in_err-check_range
@@ -14,7 +14,7 @@ returns-in_err-check_range c =
     let d = declare_range c.row.inside.row.now c.row.inside.value in
     let fault = c.in_err-check_range.field-0.0 in
     let refused = check-error all d fault refl (sym c.in_err-check_range.was ∙ c.check_range.ensures) in
-    let seen = subst (λ (row : List ℕ × Number). IsErrorOf (declared_fault all (declare_range row.0 row.1 ∷ [])) (error_of_build fault)) c.row.view_is refused in
+    let sections_seen = subst (λ (row : List ℕ × Number). IsErrorOf (declared_fault all (declare_range row.0 row.1 ∷ [])) (error_of_build fault)) c.row.view_is refused in
     search rules
 
 pub returns : goal.returns

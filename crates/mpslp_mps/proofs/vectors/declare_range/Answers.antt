@@ -1,11 +1,11 @@
 use Rattle.std.proofs.Common.{◌≡◌, refl, subst, rules, ℕ, List, [], ◌∷◌}
 use Rattle.mpslp_decimal.specs.Decimal.{Number}
-use Rattle.mpslp_builder.specs.Declaration.{declare_range, Draft, adding}
+use Rattle.mpslp_builder.specs.Declaration.{declare_range, Draft, with_declaration}
 use Rattle.mpslp_builder.specs.Refusal.{refusals}
-use Rattle.mpslp_reading.specs.ErrorOf.{error_of_build}
-use Rattle.mpslp_reading.specs.LineAnswer.{IsErrorOf}
-use Rattle.mpslp_reading.specs.Declaring.{declared_fault}
-use Rattle.mpslp_reading.proofs.RefusedLemmas.{call-error, call-unchanged}
+use Rattle.mpslp_lines.specs.ErrorOf.{error_of_build}
+use Rattle.mpslp_lines.specs.LineAnswer.{IsErrorOf}
+use Rattle.mpslp_lines.specs.Declaring.{declared_fault}
+use Rattle.mpslp_lines.proofs.RefusedLemmas.{call-error, call-unchanged}
 use Rattle.mpslp_mps.proofs.vectors.declare_range.Goals as goal
 
 pub returns-in_err-range-clause-answers : goal.returns-in_err-range-clause-answers
@@ -13,13 +13,13 @@ returns-in_err-range-clause-answers c =
     let all = c.args.builder.now in
     let d = declare_range c.row.inside.row.now c.row.inside.value in
     let fault = c.in_err-range.field-0.0 in
-    let fault_is = call-error all d fault (◌≡◌ {A = Draft} c.range.new.self (adding all d)) (◌≡◌ {A = Draft} c.range.new.self all) refl c.in_err-range.ensures in
-    let seen = subst (λ (row : List ℕ × Number). IsErrorOf (declared_fault all (declare_range row.0 row.1 ∷ [])) (error_of_build fault)) c.row.view_is fault_is in
+    let fault_is = call-error all d fault (◌≡◌ {A = Draft} c.range.new.self (with_declaration all d)) (◌≡◌ {A = Draft} c.range.new.self all) refl c.in_err-range.ensures in
+    let sections_seen = subst (λ (row : List ℕ × Number). IsErrorOf (declared_fault all (declare_range row.0 row.1 ∷ [])) (error_of_build fault)) c.row.view_is fault_is in
     search rules
 
 pub returns-in_err-range-clause-unchanged : goal.returns-in_err-range-clause-unchanged
 returns-in_err-range-clause-unchanged c =
     let all = c.args.builder.now in
     let d = declare_range c.row.inside.row.now c.row.inside.value in
-    let same = call-unchanged (refusals all d) c.in_err-range.field-0.0 (◌≡◌ {A = Draft} c.range.new.self (adding all d)) (◌≡◌ {A = Draft} c.range.new.self all) c.in_err-range.ensures in
+    let same = call-unchanged (refusals all d) c.in_err-range.field-0.0 (◌≡◌ {A = Draft} c.range.new.self (with_declaration all d)) (◌≡◌ {A = Draft} c.range.new.self all) c.in_err-range.ensures in
     search rules

@@ -1,7 +1,7 @@
 use Rattle.std.proofs.Common.{◌≡◌, sym, subst, ◌∙◌, []}
 use Rattle.std.specs.Prelude.{Option, Some, None}
 use Rattle.mpslp_types.specs.declared.faults.NameAt.{NameAt}
-use Rattle.mpslp_write.specs.Output.{Gathered, HasPut}
+use Rattle.mpslp_write.specs.TextBuffer.{BufferState, HasPut}
 use Rattle.mpslp_canonical_lp.specs.CanonicalLp.{canonical_lp}
 use Rattle.mpslp_canonical_lp.specs.Unfit.{unfit}
 use Rattle.mpslp_write.proofs.OutputLemmas.{HasPut-nothing, taken-written, taken-succeeds, none-left}
@@ -18,7 +18,7 @@ returns g c =
     let m = c.args.model.now in
     let text = canonical_lp m in
     let fits = sym c.first_unfit_name.ensures ∙ none-left c.first_unfit_name.result c.in_default.not-Some in
-    let nothing = subst (λ (b : Gathered). HasPut sink.holds sink.failed sink.count first first b [] []) (sym c.new-buffer.ensures) (HasPut-nothing sink.holds sink.failed sink.count first) in
+    let nothing = subst (λ (b : BufferState). HasPut sink.holds sink.failed sink.count first first b [] []) (sym c.new-buffer.ensures) (HasPut-nothing sink.holds sink.failed sink.count first) in
     let put = c.put_lines.ensures.puts first [] nothing in
     record {
       answer = taken-written sink.holds sink.failed unfit canonical_lp m first c.finish.new.sink c.finish.result fits (c.finish.ensures.answer first text [] put);

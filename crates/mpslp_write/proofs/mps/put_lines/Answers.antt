@@ -1,6 +1,6 @@
 use Rattle.std.proofs.Common.{refl, ap, [], ◌∷◌}
 use Rattle.mpslp_mps.specs.declared.sections.Section.TheVariants.{Name, EndData}
-use Rattle.mpslp_canonical.specs.CanonicalMps.{header_line, sense_lines}
+use Rattle.mpslp_canonical_mps.specs.CanonicalMps.{header_line, sense_lines}
 use Rattle.mpslp_write.proofs.OutputLemmas.{section_then, section_same, section_text}
 use Rattle.mpslp_write.proofs.mps.put_lines.Goals as goal
 
@@ -10,6 +10,6 @@ returns g c =
     (section_then (section_same (ap sense_lines c.objective_sense.ensures) c.put_sense.ensures)
     (section_then c.put_rows_section.ensures
     (section_then c.put_columns_section.ensures
-    (section_then c.put_right_sides_section.ensures
+    (section_then c.put_rhs_section.ensures
     (section_then c.put_ranges_section.ensures
     (section_then c.put_bounds_section.ensures (section_text {lines = header_line EndData ∷ []} refl c.put-2.ensures)))))))

@@ -1,8 +1,8 @@
 use Rattle.std.proofs.Common.{◌≡◌, refl, ap, ◌∙◌, false}
 use Rattle.std.specs.Prelude.{is_some}
-use Rattle.mpslp_core.proofs.CellLemmas.{at}
+use Rattle.mpslp_model_core.proofs.CellLemmas.{at}
 use Rattle.mpslp_builder.specs.Answer.{first_refusal}
-use Rattle.mpslp_builder.specs.Declaration.{Draft, declare_coefficient, has_entry}
+use Rattle.mpslp_builder.specs.Declaration.{Draft, declare_coefficient, has_coefficient}
 use Rattle.mpslp_builder.specs.Refusal.{refusals}
 use Rattle.mpslp_builder.specs.Tables.{draft}
 use Rattle.mpslp_builder.proofs.AnswerLemmas.{none_refused, made_after, answered, handed_on, want_of_memory}
@@ -33,7 +33,7 @@ invariant_of-self-2 c =
     let d = declare_coefficient (at c.args.row.now c.args.column.now) c.args.value in
     let none = none_refused (refusals (draft b.sense b.constant b.tables) d) place.answer in
     let s = stands b.tables.columns.entries at_column c.args.column.now place.column in
-    let absent : has_entry (draft b.sense b.constant b.tables) (at c.args.row.now c.args.column.now) ≡ false =
+    let absent : has_coefficient (draft b.sense b.constant b.tables) (at c.args.row.now c.args.column.now) ≡ false =
     cell_at b.sense b.constant b.tables place.once at_column c.args.column.now s at_row c.args.row.now c.self.invariant.1 place.row ∙ ap is_some place.absent in
     let after = cell_added b.sense b.constant b.tables c.put_cell.new.self place.once at_column c.args.column.now place.column c.self.invariant.1 at_row c.args.row.now place.row c.args.value c.in_ok-put_cell.ensures.ok absent in (
       made_after d after c.self.invariant.0 c.each_value_is_a_decimal.ensures none,
@@ -49,7 +49,7 @@ returns c =
     let d = declare_coefficient (at c.args.row.now c.args.column.now) c.args.value in
     let none = none_refused (refusals (draft b.sense b.constant b.tables) d) place.answer in
     let s = stands b.tables.columns.entries at_column c.args.column.now place.column in
-    let absent : has_entry (draft b.sense b.constant b.tables) (at c.args.row.now c.args.column.now) ≡ false =
+    let absent : has_coefficient (draft b.sense b.constant b.tables) (at c.args.row.now c.args.column.now) ≡ false =
     cell_at b.sense b.constant b.tables place.once at_column c.args.column.now s at_row c.args.row.now c.self.invariant.1 place.row ∙ ap is_some place.absent in
     let after = cell_added b.sense b.constant b.tables c.put_cell.new.self place.once at_column c.args.column.now place.column c.self.invariant.1 at_row c.args.row.now place.row c.args.value c.in_ok-put_cell.ensures.ok absent in
     answered d c.self.view_is after none

@@ -1,6 +1,6 @@
 use Rattle.std.proofs.Common.{◌≡◌, refl, sym, ap, ◌∙◌, ℕ, List, false}
 use Rattle.mpslp_types.specs.Name.{is_mps_name}
-use Rattle.mpslp_builder.specs.Declaration.{Draft, adding, declare_column, has_column}
+use Rattle.mpslp_builder.specs.Declaration.{Draft, with_declaration, declare_column, has_column}
 use Rattle.mpslp_builder.specs.Tables.{bytes, draft}
 use Rattle.mpslp_builder.proofs.AnswerLemmas.{made_after, made_now, put_again}
 use Rattle.mpslp_builder.proofs.SortedDrafts.{sorted-from_made}
@@ -21,7 +21,7 @@ invariant_of-self-2 c =
     let name : bytes c.into_bytes.result ≡ c.args.name = c.into_bytes.ensures in
     let absent : has_column inner (bytes c.into_bytes.result) ≡ false =
     ap (has_column inner) name ∙ ap (λ (all : Draft). has_column all c.args.name) c.self.view_is ∙ sym (c.if-has_column.ensures ∙ ap (has_column c.args.self.now) c.as_bytes.ensures) in
-    let after = column_added b.sense b.constant b.tables c.add_column.new.self c.into_bytes.result c.in_ok-add_column.ensures.ok absent ∙ ap (λ (n : List ℕ). adding inner (declare_column n)) name in (
+    let after = column_added b.sense b.constant b.tables c.add_column.new.self c.into_bytes.result c.in_ok-add_column.ensures.ok absent ∙ ap (λ (n : List ℕ). with_declaration inner (declare_column n)) name in (
       made_after d after c.self.invariant.0 (ap is_mps_name (sym c.name.view_is) ∙ c.name.invariant) refl,
       column_added_numbered b.sense b.constant b.tables c.add_column.new.self c.into_bytes.result c.in_ok-add_column.ensures.ok c.self.invariant.1,
     )
@@ -34,5 +34,5 @@ returns c =
     let name : bytes c.into_bytes.result ≡ c.args.name = c.into_bytes.ensures in
     let absent : has_column inner (bytes c.into_bytes.result) ≡ false =
     ap (has_column inner) name ∙ ap (λ (all : Draft). has_column all c.args.name) c.self.view_is ∙ sym (c.if-has_column.ensures ∙ ap (has_column c.args.self.now) c.as_bytes.ensures) in
-    let after = column_added b.sense b.constant b.tables c.add_column.new.self c.into_bytes.result c.in_ok-add_column.ensures.ok absent ∙ ap (λ (n : List ℕ). adding inner (declare_column n)) name in
-    after ∙ ap (λ (all : Draft). adding all d) c.self.view_is
+    let after = column_added b.sense b.constant b.tables c.add_column.new.self c.into_bytes.result c.in_ok-add_column.ensures.ok absent ∙ ap (λ (n : List ℕ). with_declaration inner (declare_column n)) name in
+    after ∙ ap (λ (all : Draft). with_declaration all d) c.self.view_is

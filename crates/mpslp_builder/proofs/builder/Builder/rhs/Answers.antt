@@ -1,7 +1,7 @@
 use Rattle.std.proofs.Common.{◌≡◌, refl, sym, ap, ◌∙◌, true, false, Bool, [], ◌∷◌}
 use Rattle.std.specs.Prelude.{is_some, if◌then◌else◌}
 use Rattle.mpslp_builder.specs.Answer.{first_refusal}
-use Rattle.mpslp_builder.specs.Declaration.{Draft, declare_rhs, adding_all, is_free_row}
+use Rattle.mpslp_builder.specs.Declaration.{Draft, declare_rhs, with_declarations, is_free_row}
 use Rattle.mpslp_builder.specs.Refusal.{refusals}
 use Rattle.mpslp_builder.specs.Tables.{draft}
 use Rattle.mpslp_builder.proofs.AnswerLemmas.{none_refused, made_after, declared, handed_on}
@@ -24,7 +24,7 @@ returns-then-is_free c =
     let none = none_refused (refusals all d) (place.answer ∙ ap (λ (all : Draft). first_refusal (refusals all d)) c.self.view_is) in
     let free : is_free_row all c.args.row.now ≡ true =
     ap (λ (all : Draft). is_free_row all c.args.row.now) (sym c.self.view_is) ∙ free_at b.sense b.constant b.tables place.once c.self.invariant.1 c.in_ok-place.place c.args.row.now place.place ∙ sym c.if-is_free.ensures in
-    declared (refusals all d) _ _ none (sym (ap (λ (free : Bool). adding_all all (if free then [] else d ∷ [])) free))
+    declared (refusals all d) _ _ none (sym (ap (λ (free : Bool). with_declarations all (if free then [] else d ∷ [])) free))
 
 pub invariant_of-self : goal.invariant_of-self
 invariant_of-self c =
@@ -48,4 +48,4 @@ returns c =
     ap (λ (all : Draft). is_free_row all c.args.row.now) (sym c.self.view_is) ∙ free_at b.sense b.constant b.tables place.once c.self.invariant.1 c.in_ok-place.place c.args.row.now place.place ∙ sym c.if-is_free.ensures in
     let after = rhs_added b.sense b.constant b.tables c.put_rhs.new.self c.self.invariant.1 place.once c.in_ok-place.place c.args.row.now c.args.value (is_some b.constant) place.place place.absent c.put_rhs.ensures in
     declared (refusals all d) _ _ none
-    (after ∙ ap (λ (before : Draft). adding_all before (d ∷ [])) c.self.view_is ∙ sym (ap (λ (free : Bool). adding_all all (if free then [] else d ∷ [])) free))
+    (after ∙ ap (λ (before : Draft). with_declarations before (d ∷ [])) c.self.view_is ∙ sym (ap (λ (free : Bool). with_declarations all (if free then [] else d ∷ [])) free))

@@ -3,7 +3,7 @@ use Rattle.mpslp_types.specs.Name.{is_mps_name}
 use Rattle.mpslp_types.proofs.BoolLemmas.{both_so}
 use Rattle.mpslp_types.specs.declared.faults.BuildFault.TheVariants.{DuplicateRow}
 use Rattle.mpslp_builder.specs.Answer.{first_refusal}
-use Rattle.mpslp_builder.specs.Declaration.{Draft, adding, by_type, declare_row, has_row}
+use Rattle.mpslp_builder.specs.Declaration.{Draft, with_declaration, by_type, declare_row, has_row}
 use Rattle.mpslp_builder.specs.Refusal.{refusals}
 use Rattle.mpslp_builder.specs.Tables.{bytes, draft}
 use Rattle.mpslp_builder.proofs.AnswerLemmas.{none_refused, made_after, answered}
@@ -23,7 +23,7 @@ invariant_of-self-2 c =
     let absent : has_row inner (bytes c.into_bytes.result) ≡ false = ap (has_row inner) name ∙ first_none (has_row inner c.args.name) DuplicateRow [] none in
     let added = c.in_ok-add_row.ensures.ok in
     let after = row_added b.sense b.constant b.tables c.add_row.new.self c.into_bytes.result c.of_type.result c.self.invariant.1 added absent
-    ∙ (λ i. adding inner (declare_row (name i) (c.of_type.ensures i))) in
+    ∙ (λ i. with_declaration inner (declare_row (name i) (c.of_type.ensures i))) in
     let legal = both_so (is_mps_name c.args.name) true (ap is_mps_name (sym c.name.view_is) ∙ c.name.invariant) refl in (
       made_after d after c.self.invariant.0 legal none,
       row_added_numbered b.sense b.constant b.tables c.add_row.new.self c.into_bytes.result c.of_type.result c.self.invariant.1 added (c.has_room.ensures c.if-not-has_room.false) absent,
@@ -41,5 +41,5 @@ returns c =
     let absent : has_row inner (bytes c.into_bytes.result) ≡ false = ap (has_row inner) name ∙ first_none (has_row inner c.args.name) DuplicateRow [] none in
     let added = c.in_ok-add_row.ensures.ok in
     let after = row_added b.sense b.constant b.tables c.add_row.new.self c.into_bytes.result c.of_type.result c.self.invariant.1 added absent
-    ∙ (λ i. adding inner (declare_row (name i) (c.of_type.ensures i))) in
+    ∙ (λ i. with_declaration inner (declare_row (name i) (c.of_type.ensures i))) in
     answered d c.self.view_is after none

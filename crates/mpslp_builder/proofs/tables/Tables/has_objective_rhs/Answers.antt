@@ -1,7 +1,7 @@
 use Rattle.std.proofs.Common.{sym, ap, ◌∙◌, false}
 use Rattle.std.specs.Prelude.{Option, is_some, None}
 use Rattle.std.specs.Option.{option_map_or}
-use Rattle.mpslp_numbered.specs.declared.parts.ObjectiveParts.{ObjectiveParts}
+use Rattle.mpslp_builder_parts.specs.declared.parts.ObjectiveParts.{ObjectiveParts}
 use Rattle.mpslp_builder.proofs.ReadingLemmas.{has_objective_rhs_at}
 use Rattle.mpslp_builder.proofs.tables.Tables.has_objective_rhs.Goals as goal
 

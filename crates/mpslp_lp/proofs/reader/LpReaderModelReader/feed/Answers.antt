@@ -1,6 +1,6 @@
 use Rattle.std.proofs.Common.{◌≡◌, rules, not, subst}
 use Rattle.std.specs.Prelude.{Some, is_some}
-use Rattle.mpslp_reading.proofs.PieceLemmas.{feed-refused}
+use Rattle.mpslp_lines.proofs.PieceLemmas.{feed-refused}
 use Rattle.mpslp_lp.specs.Fed.{HasRead, is_ended, IsFaultOfLines, IsFedAll}
 use Rattle.mpslp_lp.proofs.reader.LpReaderModelReader.feed.Goals as goal
 

@@ -19,8 +19,8 @@ returns-in-Ok-None c =
     let parts = c.deref_mut.result.now in
     let none = sym c.in-Ok-None.ensures.old ∙ c.in-Ok-None.field-0-is in
     let row_is : told parts ≡ c.args.self = ap told c.deref_mut.ensures.value ∙ c.row.view_is in
-    let seen : c.args.self.terms ≡ parts.terms.entries = ap (λ (row : PartialRow). row.terms) (sym row_is) in (
-      looked-up column c.args.self.terms ∙ ap (λ (all : List (List ℕ × Number)). is_some (lookup (same_bytes column) all)) seen ∙ ap is_some none,
+    let token : c.args.self.terms ≡ parts.terms.entries = ap (λ (row : PartialRow). row.terms) (sym row_is) in (
+      looked-up column c.args.self.terms ∙ ap (λ (all : List (List ℕ × Number)). is_some (lookup (same_bytes column) all)) token ∙ ap is_some none,
       ap (λ (all : List (List ℕ × Number)). record { name = parts.name; left = parts.left; terms = all })
           (c.in-Ok-None.ensures.entries ∙ insert_entry-new same_bytes parts.terms column c.args.value none)
           ∙ ap (λ (row : PartialRow). record row { terms = row.terms ++ (column, c.args.value) ∷ [] }) row_is,
@@ -31,8 +31,8 @@ returns-in-Ok-Some c =
     let column = c.args.column in
     let parts = c.deref_mut.result.now in
     let row_is : told parts ≡ c.args.self = ap told c.deref_mut.ensures.value ∙ c.row.view_is in
-    let seen : c.args.self.terms ≡ parts.terms.entries = ap (λ (row : PartialRow). row.terms) (sym row_is) in (
-      looked-up column c.args.self.terms ∙ ap (λ (all : List (List ℕ × Number)). is_some (lookup (same_bytes column) all)) seen
+    let token : c.args.self.terms ≡ parts.terms.entries = ap (λ (row : PartialRow). row.terms) (sym row_is) in (
+      looked-up column c.args.self.terms ∙ ap (λ (all : List (List ℕ × Number)). is_some (lookup (same_bytes column) all)) token
           ∙ ap is_some (sym c.in-Ok-Some.ensures.old ∙ c.in-Ok-Some.field-0-is),
       refl,
     )

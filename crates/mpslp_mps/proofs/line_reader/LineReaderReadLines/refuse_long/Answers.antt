@@ -1,5 +1,5 @@
 use Rattle.mpslp_types.specs.declared.faults.FaultKind.TheVariants.{LineTooLong}
-use Rattle.mpslp_reading.specs.declared.errors.LineError.TheVariants.{Fault}
+use Rattle.mpslp_lines.specs.declared.errors.LineError.TheVariants.{Fault}
 use Rattle.mpslp_mps.proofs.LoopLemmas.{line-too_long}
 use Rattle.mpslp_mps.proofs.LineReaderLemmas.{refuses-line}
 use Rattle.mpslp_mps.proofs.line_reader.LineReaderReadLines.refuse_long.Goals as goal

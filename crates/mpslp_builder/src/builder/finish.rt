@@ -1,0 +1,189 @@
+//! The end of a builder: its model.
+
+ghost use Rattle.std.specs.Prelude.{◌≡◌, ℕ, IsTrue, IfOk, List, None, Some, is_some, length, unwrap_or};
+ghost use Rattle.std.specs.List.{range_with_len};
+ghost use Rattle.std.specs.List.Sorted.{IsPermutation, IsSortedByKey};
+ghost use Rattle.mpslp_decimal.specs.Decimal.{negated, zero_number};
+ghost use Rattle.mpslp_types.specs.Name.{IsMpsName, bytes_cmp};
+ghost use Rattle.mpslp_builder.specs.Made.{IsMade};
+ghost use Rattle.mpslp_builder.specs.Meaning.{file_fault, DraftMeans};
+ghost use Rattle.mpslp_builder.specs.FaultFound.{HaveLegalNames, entry_name, fault_found};
+ghost use Rattle.mpslp_builder.specs.Finish.{Finishes};
+ghost use Rattle.mpslp_builder_parts.specs.Ordered.{name_at, entries_at};
+ghost use Rattle.mpslp_builder_parts.specs.Parts.{rhs_in};
+ghost use Rattle.mpslp_types.specs.declared.kinds.Sense.TheVariants.{Minimize};
+ghost use Rattle.mpslp_builder.specs.Tables.{bytes, name_of_objective, draft, IsNumbered};
+
+use crate::builder::Builder;
+use crate::tables::Tables;
+use crate::tables::file_faults::FoundFault;
+use indexmap::IndexMap;
+use mpslp_builder_parts::{ObjectiveParts, in_order, order_of, ordered_columns, ranks_of, rows_of};
+use mpslp_decimal::{Decimal, PackedDecimal};
+use mpslp_model_core::{
+    Model, ModelColumn, ModelParts, PackedRow, kind_of_column_fault, kind_of_row_fault,
+};
+use mpslp_types::{Fault, FaultKind, Name, ReadFault, Sense};
+use std::alloc::{AllocError, Global};
+
+/// The entries of a map, in the order in which they were put there.
+fn entries_of<V: Drop>(
+    alloc: Global,
+    map: IndexMap<Vec<u8>, V>,
+) -> Result<Vec<(Vec<u8>, V)>, AllocError>
+    ensures { IfOk result (λ entries. entries.items ≡ map.entries) }
+{
+    map.into_iter().collect(alloc)
+}
+
+/// The entries in the byte order of their names, behind their indices in that order.
+fn ordered<V: Drop>(
+    alloc: Global,
+    entries: Vec<(Vec<u8>, V)>,
+) -> Result<(Vec<usize>, Vec<(Vec<u8>, V)>), AllocError>
+    ensures permutation { IfOk result (λ r. IsPermutation (range_with_len 0 (length entries.items)) r.0.items) }
+    ensures sorted { IfOk result (λ r. IsSortedByKey (name_at entries.items) bytes_cmp r.0.items) }
+    ensures entries_at { IfOk result (λ r. r.1.items ≡ entries_at entries.items r.0.items) }
+{
+    let order = order_of(alloc, &entries)?;
+    let ordered = in_order(alloc, entries, &order)?;
+    Ok((order, ordered))
+}
+
+/// The constant of the objective, or else the negative of its right side.
+fn constant_of(constant: Option<Decimal>, rhs: &Option<PackedDecimal>) -> Decimal
+    ensures { result ≡ unwrap_or constant (negated (unwrap_or rhs.now zero_number)) }
+{
+    match (constant, rhs) {
+        (Some(constant), _) => constant,
+        (None, Some(value)) => value.value().negate(),
+        (None, None) => Decimal::zero().negate(),
+    }
+}
+
+/// The parts of a model. The objective is named.
+fn parts_of(
+    sense: Option<Sense>,
+    constant: Option<Decimal>,
+    objective: Option<ObjectiveParts>,
+    rows: Vec<(Name, PackedRow)>,
+    columns: Vec<(Name, ModelColumn)>,
+) -> ModelParts
+    requires { IsTrue (is_some objective) }
+    ensures sense { result.sense ≡ unwrap_or sense Minimize }
+    ensures objective { name_of_objective objective ≡ Some result.objective }
+    ensures constant { result.constant ≡ unwrap_or constant (negated (unwrap_or (rhs_in objective) zero_number)) }
+    ensures rows { result.rows.items ≡ rows.items }
+    ensures columns { result.columns.items ≡ columns.items }
+{
+    let ObjectiveParts { name, rhs } = objective.unwrap();
+    ModelParts {
+        sense: sense.unwrap_or(Sense::Minimize),
+        objective: name,
+        constant: constant_of(constant, &rhs),
+        rows,
+        columns,
+    }
+}
+
+/// The model that is meant by tables with which nothing is wrong.
+pub(crate) fn into_model(
+    alloc: Global,
+    sense: Option<Sense>,
+    constant: Option<Decimal>,
+    tables: Tables,
+) -> Result<Model, AllocError>
+    requires made { IsMade (draft sense constant tables) }
+    requires numbered { IsNumbered tables }
+    requires objective { IsTrue (is_some tables.objective) }
+    requires fault { file_fault (draft sense constant tables) ≡ None }
+    ensures { IfOk result (DraftMeans (draft sense constant tables)) }
+{
+    tables.each_name_stands_once();
+    let Tables {
+        objective,
+        rows,
+        columns,
+        recent: _,
+    } = tables;
+    let (row_order, rows) = ordered(alloc, entries_of(alloc, rows)?)?;
+    let ranks = ranks_of(alloc, &row_order)?;
+    let rows = rows_of(alloc, rows)?;
+    let (_column_order, columns) = ordered_columns(alloc, entries_of(alloc, columns)?, &ranks)?;
+    Model::of_parts(alloc, parts_of(sense, constant, objective, rows, columns))
+}
+
+/// The name at an index, taken out and not copied.
+fn name_out_of<V: Drop>(mut entries: IndexMap<Vec<u8>, V>, index: usize) -> Option<Name>
+    requires { (name : List ℕ) → entry_name entries.entries index ≡ Some name → IsMpsName name }
+    ensures { result ≡ entry_name entries.entries index }
+{
+    match entries.swap_remove_index(index) {
+        Some((name, _parts)) => Some(Name::from_legal(name)),
+        None => None,
+    }
+}
+
+/// The fault that was found.
+fn into_fault(tables: Tables, found: FoundFault) -> Fault
+    requires { HaveLegalNames tables }
+    ensures { result ≡ fault_found tables found }
+{
+    let (kind, name) = match found {
+        FoundFault::NoColumns => (FaultKind::NoColumns, None),
+        FoundFault::Row(fault, index) => {
+            (kind_of_row_fault(fault), name_out_of(tables.rows, index))
+        }
+        FoundFault::Column(fault, index) => {
+            (
+                kind_of_column_fault(fault),
+                name_out_of(tables.columns, index),
+            )
+        }
+    };
+    Fault {
+        kind,
+        line: 0,
+        name,
+    }
+}
+
+impl Builder {
+    /// The model that was declared, in whatever order; or the first fault of the declarations as a whole. The objective
+    /// is named.
+    ///
+    /// # Errors
+    ///
+    /// `File` of a fault of line 0. The kinds are looked for in this order, each over all rows or columns, and the name told
+    /// is the least in byte order that has it:
+    ///
+    /// - `NoColumns`: there is no column;
+    /// - `InfiniteLimit`: a row's right side is infinite on the far side of its type, of an equation or beside a range;
+    /// - `RangeInexact`: a computed limit of a row, or the distance of both, is no decimal;
+    /// - `LimitTooLarge`: a computed limit, or the distance, has size 10^20 or more;
+    /// - `LimitsCrossed`: the lower limit is above the upper one;
+    /// - `NegativeUpper`: an upper bound of a column is below 0 and no lower one is declared;
+    /// - `BoundsCrossed`: the lower bound is above the upper one;
+    /// - `BinaryBounds`: a binary column's bounds do not lie within 0 and 1;
+    /// - `SemiBounds`: a semi-continuous column's lower bound is below 0, or its upper one infinite or not above 0.
+    ///
+    /// Only where there is none of these, `OutOfMemory`, also for more than 4,294,967,296 columns.
+    pub fn finish(self) -> Result<Model, ReadFault>
+        requires { IsTrue (is_some self.objective) }
+        ensures { Finishes self result }
+    {
+        let Builder {
+            alloc,
+            sense,
+            constant,
+            tables,
+        } = self;
+        match tables.first_fault() {
+            Some(found) => Err(ReadFault::File(into_fault(tables, found))),
+            None => match into_model(alloc, sense, constant, tables) {
+                Ok(model) => Ok(model),
+                Err(_) => Err(ReadFault::OutOfMemory),
+            },
+        }
+    }
+}

@@ -1,0 +1,190 @@
+//! What is wrong with a builder's declarations as a whole.
+//!
+//! Rows and columns stand in the order in which they were declared, and a fault is told of the least name that has it. So
+//! the least name so far is kept, which takes no memory.
+
+ghost use Rattle.std.specs.Prelude.{◌≡◌, ◌<◌, Bool, length, filter_map};
+ghost use Rattle.std.specs.List.{list_any};
+ghost use Rattle.std.specs.Option.{option_and_then, option_map, ForSome};
+ghost use Rattle.mpslp_model_core.specs.Lists.{head_of};
+ghost use Rattle.mpslp_builder.specs.Meaning.{file_fault};
+ghost use Rattle.mpslp_builder.specs.Tables.{draft, IsNumbered};
+ghost use Rattle.mpslp_builder.specs.FaultFound.{row_fails, column_fails, is_wrong_row, is_wrong_column, is_below, least_name, entry_name, kind_of_row_fault, kind_of_column_fault, named_fault, fault_found, IsThere};
+
+use crate::tables::Tables;
+use indexmap::IndexMap;
+use mpslp_builder_parts::{ColumnParts, RowParts};
+use mpslp_model_core::{ColumnFault, RowFault, is_faulty_row, row_has};
+
+/// What may have a fault.
+pub(crate) trait Faulty<F> {
+    ghost fails: { F → Self → Bool };
+
+    ghost is_wrong: { Self → Bool };
+
+    /// Whether it has this fault.
+    fn has_fault(&self, fault: F) -> bool
+        ensures { result ≡ fails fault self.now };
+
+    /// Whether it has any.
+    fn is_faulty(&self) -> bool
+        ensures { result ≡ is_wrong self.now };
+}
+
+impl Faulty<RowFault> for RowParts {
+    ghost fails = { row_fails };
+
+    ghost is_wrong = { is_wrong_row };
+
+    fn has_fault(&self, fault: RowFault) -> bool {
+        row_has(
+            fault,
+            &self.definition.kind(),
+            self.rhs_or_zero(),
+            &self.range_value(),
+        )
+    }
+
+    fn is_faulty(&self) -> bool {
+        is_faulty_row(
+            &self.definition.kind(),
+            self.rhs_or_zero(),
+            &self.range_value(),
+        )
+    }
+}
+
+impl Faulty<ColumnFault> for ColumnParts {
+    ghost fails = { column_fails };
+
+    ghost is_wrong = { is_wrong_column };
+
+    fn has_fault(&self, fault: ColumnFault) -> bool {
+        self.declared().has_fault(fault)
+    }
+
+    fn is_faulty(&self) -> bool {
+        self.declared().is_faulty()
+    }
+}
+
+/// Whether any entry has a fault. Of most files none has, and then no kind of fault is looked for apart.
+fn has_faulty<F, V: Faulty<F>>(entries: &IndexMap<Vec<u8>, V>) -> bool
+    ensures { result ≡ list_any (λ e. V.is_wrong e.1) entries.now.entries }
+{
+    let mut index = entries.len();
+    while index > 0 {
+        index -= 1;
+        if let Some((_name, parts)) = entries.get_index(index) {
+            if parts.is_faulty() {
+                return true;
+            }
+        }
+    }
+    false
+}
+
+/// Whether the name is below that of the entry at an index, where there is one.
+fn is_below<V>(entries: &IndexMap<Vec<u8>, V>, name: &[u8], least: Option<usize>) -> bool
+    ensures { result ≡ is_below name.now (option_and_then (entry_name entries.now.entries) least) }
+{
+    match least {
+        Some(index) => match entries.get_index(index) {
+            Some((other, _parts)) => name.cmp(other.as_slice()).is_lt(),
+            None => true,
+        },
+        None => true,
+    }
+}
+
+/// The index of the entry of the least name that has this fault.
+fn least_faulty<F: Copy, V: Faulty<F>>(entries: &IndexMap<Vec<u8>, V>, fault: F) -> Option<usize>
+    ensures name { option_and_then (entry_name entries.now.entries) result ≡ least_name (V.fails fault) entries.now.entries }
+    ensures there { ForSome result (λ i. i < length entries.now.entries) }
+{
+    let mut least = None;
+    let mut index = entries.len();
+    while index > 0 {
+        index -= 1;
+        if let Some((name, parts)) = entries.get_index(index) {
+            if parts.has_fault(fault) && is_below(entries, name, least) {
+                least = Some(index);
+            }
+        }
+    }
+    least
+}
+
+/// What is found wrong, and where.
+#[derive(Clone, Copy)]
+pub(crate) enum FoundFault {
+    /// There is no column.
+    NoColumns,
+    /// The row at this index has this fault, and none of a lesser name.
+    Row(RowFault, usize),
+    /// The column at this index has this fault, and none of a lesser name.
+    Column(ColumnFault, usize),
+}
+
+impl Tables {
+    /// The first of these faults that a row has, with the row of the least name that has it.
+    fn first_fault_of_rows(&self, faults: &[RowFault]) -> Option<FoundFault>
+        requires { IsNumbered self.now }
+        ensures fault { option_map (fault_found self.now) result ≡ head_of (filter_map (λ fault. named_fault (draft None None self.now) (kind_of_row_fault fault)) faults.now) }
+        ensures there { ForSome result (IsThere self.now) }
+    {
+        self.each_name_stands_once();
+        if !has_faulty(&self.rows) {
+            return None;
+        }
+        for fault in faults {
+            if let Some(at) = least_faulty(&self.rows, *fault) {
+                return Some(FoundFault::Row(*fault, at));
+            }
+        }
+        None
+    }
+
+    /// The first of these faults that a column has, with the column of the least name that has it.
+    fn first_fault_of_columns(&self, faults: &[ColumnFault]) -> Option<FoundFault>
+        ensures fault { option_map (fault_found self.now) result ≡ head_of (filter_map (λ fault. named_fault (draft None None self.now) (kind_of_column_fault fault)) faults.now) }
+        ensures there { ForSome result (IsThere self.now) }
+    {
+        self.each_name_stands_once();
+        if !has_faulty(&self.columns) {
+            return None;
+        }
+        for fault in faults {
+            if let Some(at) = least_faulty(&self.columns, *fault) {
+                return Some(FoundFault::Column(*fault, at));
+            }
+        }
+        None
+    }
+
+    /// The first fault of the whole.
+    pub(crate) fn first_fault(&self) -> Option<FoundFault>
+        requires { IsNumbered self.now }
+        ensures fault { option_map (fault_found self.now) result ≡ file_fault (draft None None self.now) }
+        ensures there { ForSome result (IsThere self.now) }
+    {
+        if self.columns.is_empty() {
+            return Some(FoundFault::NoColumns);
+        }
+        let of_rows = self.first_fault_of_rows(&[
+            RowFault::InfiniteLimit,
+            RowFault::RangeInexact,
+            RowFault::LimitTooLarge,
+            RowFault::LimitsCrossed,
+        ]);
+        if of_rows.is_some() {
+            return of_rows;
+        }
+        self.first_fault_of_columns(&[
+            ColumnFault::NegativeUpper,
+            ColumnFault::BoundsCrossed,
+            ColumnFault::BinaryBounds,
+            ColumnFault::SemiBounds,
+        ])
+    }
+}

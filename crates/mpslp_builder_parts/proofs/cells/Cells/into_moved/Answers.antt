@@ -1,0 +1,31 @@
+use Rattle.std.proofs.Common.{◌≡◌, sym, ap, subst, ◌∙◌, ℕ, ◌<◌, List, ◌++◌, length, slice_index, IsPermutation}
+use Rattle.std.specs.Prelude.{filter}
+use Rattle.std.specs.List.{All}
+use Rattle.std.specs.Cmp.{nat_cmp_total}
+use Rattle.mpslp_decimal.specs.Decimal.{Number}
+use Rattle.mpslp_model_core.specs.Numbered.{moved_cells, is_kept}
+use Rattle.mpslp_model_core.proofs.OnceLemmas.{never_falls-from_sort}
+use Rattle.mpslp_model_core.proofs.MovingLemmas.{renamed, all-from_each, each-of_map, each-kept, moved-from_any_order}
+use Rattle.mpslp_builder_parts.proofs.cells.Cells.into_moved.Goals as goal
+
+pub renumbered-requires : goal.renumbered-requires
+renumbered-requires c =
+    let stored = c.self.inside.near ++ c.self.inside.far.entries in
+    let holds : ℕ × Number → Type 0 = λ e. e.0 < length c.args.ranks.now in
+    let joined : c.in_ok-joined.field-0.items ≡ stored = c.in_ok-joined.ensures ∙ ap (λ (near : List (ℕ × Number)). near ++ c.self.inside.far.entries) c.into_entries.ensures in
+    let within = each-of_map holds stored c.self.invariant (subst (All holds) (sym c.self.view_is) c.requires.within) in
+    subst (All holds) (sym (c.without_zeros-cells.ensures ∙ ap (filter is_kept) joined)) (all-from_each holds (filter is_kept stored) (each-kept holds stored within))
+
+pub returns : goal.returns
+returns c =
+    let stored = c.self.inside.near ++ c.self.inside.far.entries in
+    let cells = c.in_order_of_numbers.result.items in
+    let holds : ℕ × Number → Type 0 = λ e. e.0 < length c.args.ranks.now in
+    let rank : ℕ → ℕ = λ n. slice_index c.args.ranks.now n in
+    let joined : c.in_ok-joined.field-0.items ≡ stored = c.in_ok-joined.ensures ∙ ap (λ (near : List (ℕ × Number)). near ++ c.self.inside.far.entries) c.into_entries.ensures in
+    let within = each-of_map holds stored c.self.invariant (subst (All holds) (sym c.self.view_is) c.requires.within) in
+    let kept : c.renumbered.result.items ≡ renamed rank (filter is_kept stored) = c.renumbered.ensures ∙ ap (renamed rank) (c.without_zeros-cells.ensures ∙ ap (filter is_kept) joined) in
+    moved-from_any_order (length c.args.ranks.now) rank c.requires.apart stored cells c.self.invariant within
+    (subst (λ (es : List (ℕ × Number)). IsPermutation es cells) kept c.in_order_of_numbers.ensures.permutation)
+    (never_falls-from_sort nat_cmp_total (λ (e : ℕ × Number). e.0) cells c.in_order_of_numbers.ensures.sorted)
+    ∙ ap (λ (cells : List (ℕ × Number)). moved_cells c.args.ranks.now cells) c.self.view_is

@@ -1,0 +1,11 @@
+use Rattle.std.proofs.Common.{◌≡◌, ◌<◌, ℕ, map}
+use Rattle.std.specs.Prelude.{slice_index}
+use Rattle.std.specs.List.{range_with_len}
+use Rattle.mpslp_builder_parts.specs.Ordered.{name_at, front_at}
+use Rattle.mpslp_builder_parts.proofs.order.fronts_of.Given as goal
+
+abbrev pub invariant-loop-number : goal.invariant-loop-number
+invariant-loop-number g l = record {
+  fronts : l.fronts.items ≡ map (front_at l.entries) (range_with_len 0 l.number);
+  bytes : (n i : ℕ) → n < l.number → slice_index (name_at l.entries n) i < 256;
+}

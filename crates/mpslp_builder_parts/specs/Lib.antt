@@ -1,0 +1,4 @@
+pub mod Ordered
+pub mod Parts
+pub mod DeclaredBounds
+pub mod StoredBounds

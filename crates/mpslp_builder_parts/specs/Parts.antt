@@ -1,0 +1,94 @@
+-- What is declared of the objective, of a row and of a column, and what that is in a model.
+use Rattle.std.specs.Prelude.{ℕ, Bool, false, List, [], Option, Some, None, unwrap_or, if◌then◌else◌}
+use Rattle.std.specs.Global.{Vec}
+use Rattle.mpslp_decimal.specs.Decimal.{Number, zero_number}
+use Rattle.mpslp_types.specs.declared.kinds.Limit.{Limit}
+use Rattle.mpslp_types.specs.declared.kinds.RowType.TheVariants.{Free}
+use Rattle.mpslp_model_core.specs.Model.{Row, Column}
+use Rattle.mpslp_model_core.specs.Limits.{RowDefinition, limits_of, plain_limits}
+use Rattle.mpslp_model_core.specs.Columns.{declared_column}
+use Rattle.mpslp_model_core.specs.Numbered.{moved_cells}
+use Rattle.mpslp_model_core.specs.declared.bounds.DeclaredColumn.{DeclaredColumn}
+use Rattle.mpslp_builder_parts.specs.DeclaredBounds.{no_sides, sides_put}
+use Rattle.mpslp_builder_parts.specs.declared.parts.ObjectiveParts.{ObjectiveParts}
+use Rattle.mpslp_builder_parts.specs.declared.parts.RowParts.{RowParts}
+use Rattle.mpslp_builder_parts.specs.declared.parts.ColumnParts.{ColumnParts}
+
+-- a name's bytes
+abbrev pub bytes : Vec ℕ → List ℕ
+bytes v = v.items
+
+-- ---- what is declared of a row or of a column
+
+abbrev pub definition_of : RowParts → RowDefinition
+definition_of row = row.definition
+
+abbrev pub rhs_of : RowParts → Option Number
+rhs_of row = row.rhs
+
+abbrev pub range_of : RowParts → Option Number
+range_of row = row.range
+
+abbrev pub no_part : ColumnParts → Unit {0}
+no_part column = tt
+
+abbrev pub cells_of : ColumnParts → List (ℕ × Number)
+cells_of column = column.cells
+
+abbrev pub lower_of : ColumnParts → Option Limit
+lower_of column = column.sides.lower
+
+abbrev pub upper_of : ColumnParts → Option Limit
+upper_of column = column.sides.upper
+
+-- whether it is so, as a part that is there or not
+abbrev pub as_part : Bool → Option (Unit {0})
+as_part b = if b then Some tt else None
+
+abbrev pub mark_of : ColumnParts → Option (Unit {0})
+mark_of column = as_part column.marked
+
+abbrev pub integer_of : ColumnParts → Option (Unit {0})
+integer_of column = as_part column.integer
+
+abbrev pub binary_of : ColumnParts → Option (Unit {0})
+binary_of column = as_part column.binary
+
+abbrev pub semi_of : ColumnParts → Option (Unit {0})
+semi_of column = as_part column.semi
+
+abbrev pub new_column : ColumnParts
+new_column = record { cells = []; sides = no_sides; marked = false; integer = false; binary = false; semi = false }
+
+-- with the sides that are given
+abbrev pub with_bounds : Option Limit → Option Limit → ColumnParts → ColumnParts
+with_bounds lower upper column = record column { sides = sides_put lower upper column.sides }
+
+-- what is declared beside the coefficients
+abbrev pub declared_in : ColumnParts → DeclaredColumn
+declared_in column = record {
+  lower = lower_of column;
+  upper = upper_of column;
+  marked = column.marked;
+  integer = column.integer;
+  binary = column.binary;
+  semi = column.semi;
+}
+
+-- ---- in a model
+
+-- the limits of a row; where they are no decimals, those of a row without limits
+abbrev pub limits_in : RowParts → Row
+limits_in row = unwrap_or (limits_of row.definition (unwrap_or row.rhs zero_number) row.range) (plain_limits Free zero_number)
+
+abbrev pub bounds_of : ColumnParts → Column
+bounds_of column = declared_column (declared_in column)
+
+-- its coefficients under the later numbers of their rows
+abbrev pub moved_in : List ℕ → ColumnParts → List (ℕ × Number)
+moved_in ranks column = moved_cells ranks column.cells
+
+-- the right side of the objective
+abbrev pub rhs_in : Option ObjectiveParts → Option Number
+rhs_in None = None
+rhs_in (Some objective) = objective.rhs

@@ -1,0 +1,20 @@
+//! What a builder keeps by numbers: what is declared of each row and column, the coefficients of a column by the numbers
+//! of rows, and the byte order of names, which gives rows their later numbers.
+//!
+//! Entries are put into the order of their names by small keys, and then moved, so that no name is copied.
+#![tactic(auto)]
+
+mod cells;
+mod declared_bounds;
+mod model_rows_and_columns;
+mod moving;
+mod order;
+mod parts;
+mod ranks;
+
+pub use cells::Cells;
+pub use declared_bounds::DeclaredBounds;
+pub use model_rows_and_columns::{ordered_columns, rows_of};
+pub use order::{in_order, order_of};
+pub use parts::{ColumnParts, ObjectiveParts, RowParts};
+pub use ranks::ranks_of;

@@ -1,0 +1,199 @@
+//! Entries in the byte order of their names.
+
+ghost use Rattle.std.specs.Prelude.{◌≡◌, ◌≢◌, ◌<◌, ◌+◌, ◌*◌, ◌^◌, ◌++◌, ℕ, Some, IfOk, OnOk, length, map, slice_index};
+ghost use Rattle.std.specs.List.{range_with_len};
+ghost use Rattle.std.specs.List.Sorted.{IsPermutation, IsSortedBy, IsSortedByKey};
+ghost use Rattle.std.specs.Option.{option_to_list};
+ghost use Rattle.std.specs.Ordering.{is_lt};
+ghost use Rattle.mpslp_types.specs.Name.{bytes_cmp};
+ghost use Rattle.mpslp_builder_parts.specs.Ordered.{name_at, front_value, front_at, front_cmp, entries_at};
+
+use std::alloc::{AllocError, Global};
+use std::cmp::Ordering;
+
+/// How many bytes of a name are compared at once.
+const FRONT: usize = 8;
+
+/// The number of an entry, with the first bytes of its name as one number. Names are compared only where these tie.
+#[derive(Clone, Copy, Drop)]
+struct Front {
+    bytes: u64,
+    number: usize,
+}
+
+/// The number, with one more byte behind it.
+fn with_byte(bytes: u64, byte: u8) -> u64
+    requires { bytes < 2 ^ 56 }
+    ensures { result ≡ bytes * 256 + byte }
+{
+    bytes * 256 + byte as u64
+}
+
+/// The byte at this place, and 0 behind the end.
+fn byte_at(name: &[u8], at: usize) -> u8
+    ensures { result ≡ slice_index name.now at }
+{
+    match name.get(at) {
+        Some(byte) => *byte,
+        None => 0,
+    }
+}
+
+/// The first bytes of a name as one number.
+fn front_value(name: &[u8]) -> u64
+    ensures value { result ≡ front_value 8 name.now }
+    ensures bytes { (i : ℕ) → slice_index name.now i < 256 }
+{
+    let mut bytes = 0;
+    for at in 0..FRONT {
+        bytes = with_byte(bytes, byte_at(name, at));
+    }
+    bytes
+}
+
+/// The name of the entry of this number.
+fn name_at<V>(entries: &[(Vec<u8>, V)], number: usize) -> &[u8]
+    ensures { result.now ≡ name_at entries.now number }
+{
+    match entries.get(number) {
+        Some(entry) => entry.0.as_slice(),
+        None => &[],
+    }
+}
+
+/// How the names of two entries stand to each other.
+fn compare<V>(entries: &[(Vec<u8>, V)], a: &Front, b: &Front) -> Ordering
+    ensures { result ≡ front_cmp entries.now a.now b.now }
+{
+    match a.bytes.cmp(&b.bytes) {
+        Ordering::Equal => name_at(entries, a.number).cmp(name_at(entries, b.number)),
+        decided => decided,
+    }
+}
+
+/// The numbers of all entries with the fronts of their names, in the order of the entries.
+fn fronts_of<V>(alloc: Global, entries: &[(Vec<u8>, V)]) -> Result<Vec<Front>, AllocError>
+    ensures fronts { IfOk result (λ fronts. fronts.items ≡ map (front_at entries.now) (range_with_len 0 (length entries.now))) }
+    ensures bytes { IfOk result (λ _. (n i : ℕ) → n < length entries.now → slice_index (name_at entries.now n) i < 256) }
+{
+    let mut fronts = Vec::with_capacity(alloc, entries.len())?;
+    for number in 0..entries.len() {
+        let bytes = front_value(entries[number].0.as_slice());
+        fronts.push(Front { bytes, number })?;
+    }
+    Ok(fronts)
+}
+
+/// Puts the entries into the byte order of their names.
+fn sort_fronts<V>(fronts: Vec<Front>, entries: &[(Vec<u8>, V)]) -> Vec<Front>
+    ensures permutation { IsPermutation fronts.items result.items }
+    ensures sorted { IsSortedBy (λ a b. is_lt (front_cmp entries.now a b)) result.items }
+{
+    let mut fronts = fronts;
+    fronts.sort_unstable_by(|a, b| compare(entries, a, b));
+    fronts
+}
+
+/// The numbers beside the fronts.
+fn numbers_of(alloc: Global, fronts: &[Front]) -> Result<Vec<usize>, AllocError>
+    ensures { IfOk result (λ numbers. numbers.items ≡ map (λ front. front.number) fronts.now) }
+{
+    fronts.iter().map(|front| front.number).collect(alloc)
+}
+
+/// The numbers of the entries in the byte order of their names.
+///
+/// Each name is turned into a small key, its first eight bytes as one number; names are compared only where these tie.
+/// Entries of one name come in any order.
+///
+/// # Errors
+///
+/// [`AllocError`] where there is no memory for the keys or the numbers.
+pub fn order_of<V>(alloc: Global, entries: &[(Vec<u8>, V)]) -> Result<Vec<usize>, AllocError>
+    ensures permutation { IfOk result (λ order. IsPermutation (range_with_len 0 (length entries.now)) order.items) }
+    ensures sorted { IfOk result (λ order. IsSortedByKey (name_at entries.now) bytes_cmp order.items) }
+{
+    let fronts = sort_fronts(fronts_of(alloc, entries)?, entries);
+    numbers_of(alloc, &fronts)
+}
+
+/// Each item, as one that can be taken out.
+fn given<T: Drop>(alloc: Global, items: Vec<T>) -> Result<Vec<Option<T>>, AllocError>
+    ensures { IfOk result (λ given. given.items ≡ map Some items.items) }
+{
+    items.into_iter().map(|item| Some(item)).collect(alloc)
+}
+
+/// Puts the item behind the others, if there is one.
+fn push_given<T: Drop>(items: &mut Vec<T>, item: Option<T>) -> Result<(), AllocError>
+    ensures { OnOk result (items.new.items ≡ items.old.items ++ option_to_list item) }
+{
+    if let Some(item) = item {
+        items.push(item)?;
+    }
+    Ok(())
+}
+
+/// The items of these numbers, in this order; the others are dropped. No item is copied, and none is named twice.
+///
+/// # Errors
+///
+/// [`AllocError`] where there is no memory for as many items. They are dropped then.
+pub fn in_order<T: Drop>(
+    alloc: Global,
+    items: Vec<T>,
+    order: &[usize],
+) -> Result<Vec<T>, AllocError>
+    requires within { (p : ℕ) → p < length order.now → slice_index order.now p < length items.items }
+    requires apart { (p q : ℕ) → p < q → q < length order.now → slice_index order.now p ≢ slice_index order.now q }
+    ensures { IfOk result (λ ordered. ordered.items ≡ entries_at items.items order.now) }
+{
+    let mut left = given(alloc, items)?;
+    let mut ordered = Vec::with_capacity(alloc, order.len())?;
+    for number in order {
+        let item = left[*number].take();
+        push_given(&mut ordered, item)?;
+    }
+    Ok(ordered)
+}
+
+#[cfg(test)]
+mod tests {
+    use super::*;
+    use crate::ranks_of;
+    use std::test::Fail;
+
+    fn named(alloc: Global, names: &[&[u8]]) -> Result<Vec<(Vec<u8>, u8)>, Fail> {
+        let mut entries = Vec::new(alloc);
+        for name in names {
+            entries.push((name.to_vec(alloc)?, 0))?;
+        }
+        Ok(entries)
+    }
+
+    #[test]
+    fn names_come_in_byte_order(rt: HostRuntime) -> Result<(), Fail> {
+        let alloc = rt.alloc();
+        let names = [
+            b"same_front_2".as_slice(),
+            b"same_fron",
+            b"b",
+            b"same_front_1",
+            b"B",
+            b"same_front",
+            b"~",
+            b"",
+        ];
+        let entries = named(alloc, &names)?;
+        let order = order_of(alloc, &entries)?;
+        assert_eq!(rt; order.as_slice(), [7usize, 4, 2, 1, 5, 3, 0, 6].as_slice());
+        Ok(())
+    }
+
+    #[test]
+    fn numbers_follow_the_order(rt: HostRuntime) -> Result<(), Fail> {
+        let ranks = ranks_of(rt.alloc(), &[2, 0, 1])?;
+        assert_eq!(rt; ranks.as_slice(), [0u32, 2, 3, 1].as_slice());
+        Ok(())
+    }
+}

@@ -1,0 +1,90 @@
+//! What is declared of the objective, of a row and of a column.
+
+ghost use Rattle.std.specs.Prelude.{◌≡◌, unwrap_or};
+ghost use Rattle.mpslp_decimal.specs.Decimal.{zero_number};
+ghost use Rattle.mpslp_builder_parts.specs.Parts.{rhs_of, range_of, new_column, declared_in};
+
+use crate::cells::Cells;
+use crate::declared_bounds::DeclaredBounds;
+use mpslp_decimal::{Decimal, PackedDecimal};
+use mpslp_model_core::{DeclaredColumn, PackedRowDefinition};
+use mpslp_types::Name;
+use std::alloc::Global;
+
+/// The objective, and its right side if one is declared.
+#[derive(Debug, Drop)]
+pub struct ObjectiveParts {
+    pub name: Name,
+    pub rhs: Option<PackedDecimal>,
+}
+
+/// What is declared of a row.
+#[derive(Debug, Drop)]
+pub struct RowParts {
+    pub definition: PackedRowDefinition,
+    pub rhs: Option<PackedDecimal>,
+    pub range: Option<PackedDecimal>,
+}
+
+/// What is declared of a column.
+#[derive(Debug, Drop)]
+pub struct ColumnParts {
+    pub cells: Cells,
+    pub sides: DeclaredBounds,
+    pub marked: bool,
+    pub integer: bool,
+    pub binary: bool,
+    pub semi: bool,
+}
+
+impl RowParts {
+    /// The right side, and 0 where none is declared.
+    pub fn rhs_or_zero(&self) -> Decimal
+        ensures { result ≡ unwrap_or (rhs_of self.now) zero_number }
+    {
+        match &self.rhs {
+            Some(value) => value.value(),
+            None => Decimal::zero(),
+        }
+    }
+
+    /// The range, if one is declared.
+    pub fn range_value(&self) -> Option<Decimal>
+        ensures { result ≡ range_of self.now }
+    {
+        match &self.range {
+            Some(value) => Some(value.value()),
+            None => None,
+        }
+    }
+}
+
+impl ColumnParts {
+    /// A column of which nothing is declared but its name. It takes no memory.
+    pub fn new(alloc: Global) -> ColumnParts
+        ensures { result ≡ new_column }
+    {
+        ColumnParts {
+            cells: Cells::new(alloc),
+            sides: DeclaredBounds::none(),
+            marked: false,
+            integer: false,
+            binary: false,
+            semi: false,
+        }
+    }
+
+    /// What is declared of the column beside its coefficients.
+    pub fn declared(&self) -> DeclaredColumn
+        ensures { result ≡ declared_in self.now }
+    {
+        DeclaredColumn {
+            lower: self.sides.lower(),
+            upper: self.sides.upper(),
+            marked: self.marked,
+            integer: self.integer,
+            binary: self.binary,
+            semi: self.semi,
+        }
+    }
+}

@@ -1,5 +1,0 @@
-use Rattle.mpslp_canonical.proofs.CanonicalDeclares.{canonical-declares}
-use Rattle.mpslp_canonical.proofs.laws.canonical_text_declares_its_model.Goals as goal
-
-pub returns : goal.returns
-returns c = canonical-declares

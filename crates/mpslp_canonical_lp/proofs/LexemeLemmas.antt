@@ -1,0 +1,168 @@
+-- The tokens of a printed line are those of its pieces.
+use Rattle.std.proofs.Common.{◌≡◌, refl, sym, ap, subst, ◌∙◌, ℕ, zero, suc, ◌≤◌, List, [], ◌∷◌, ◌++◌, Bool, true, false, length, replicate, arith, append_assoc}
+use Rattle.std.specs.Prelude.{None, ◌||◌, ◌==◌, ℤ, pos, negsuc, unsigned_abs, int_le, codes, if◌then◌else◌}
+use Rattle.std.specs.List.{flat_map, join_by, list_all}
+use Rattle.std.specs.Cmp.{first_so}
+use Rattle.std.proofs.lemmas.Bool.Decides.{nat_tests}
+use Rattle.mpslp_decimal.specs.Decimal.{Number, IsDecimal, is_zero, is_negative, size_of}
+use Rattle.mpslp_decimal.specs.Literal.{is_digit}
+use Rattle.mpslp_decimal.specs.NumberText.{scaled_text, number_text}
+use Rattle.std.specs.Fmt.{decimal}
+use Rattle.mpslp_types.specs.Name.{begins_a_number}
+use Rattle.mpslp_decimal.proofs.CutLemmas.{Each}
+use Rattle.mpslp_lp.specs.Line.{begins_word, continues_word}
+use Rattle.mpslp_lp.specs.Token.{is_word, tokens}
+use Rattle.mpslp_lp.specs.Words.{class_of}
+use Rattle.mpslp_lp.specs.LexicalFault.{token_fault}
+use Rattle.mpslp_lp.specs.declared.relations.Relation.{Relation}
+use Rattle.mpslp_lp.specs.declared.relations.Relation.TheVariants.{AtMost, AtLeast, EqualTo}
+use Rattle.mpslp_lp.specs.declared.tokens.TokenKind.TheVariants as kinds
+use Rattle.mpslp_lp.specs.declared.words.WordClass.TheVariants as meanings
+use Rattle.mpslp_canonical_lp.specs.Printed.{Lexeme, PrintedLine, word, label, number, sign, sense, minus_infinity, sign_bytes, sense_bytes, lexeme_text, line_text, sign_kind, sense_kind, SeenToken, tokens_in, line_tokens, semi_continuous}
+use Rattle.mpslp_canonical_lp.proofs.TokenLemmas.{seen, Reads, Stops, StopsAt, IsToken, reads-nil, reads-blank, reads-token}
+use Rattle.mpslp_canonical_lp.proofs.StopLemmas.{stops-blank, stops-colon, stops-minus}
+use Rattle.mpslp_canonical_lp.proofs.TokenTexts.{word-token, unsigned-begins, unsigned-token}
+
+-- ---- pieces that can be printed
+
+-- a word of 1 to 255 bytes, which is no fault by itself
+pub record IsGoodWord (text : List ℕ) : Type 0 where
+  pub is : is_word text ≡ true
+  pub short : length text ≤ 255
+  pub faultless : token_fault kinds.Word text ≡ None
+
+-- such a word that is a name
+pub record IsGoodName (name : List ℕ) : Type 0 where
+  pub word_is : IsGoodWord name
+  pub word_class : class_of name ≡ meanings.Name
+
+abbrev pub IsPrintable : Lexeme → Type 0
+IsPrintable (word text) = IsGoodWord text
+IsPrintable (label name) = IsGoodName name
+IsPrintable (number value) = IsDecimal value
+IsPrintable _ = Unit {0}
+
+-- ---- what follows a piece: a blank, or nothing
+
+abbrev Apart : List ℕ → Type 0
+Apart [] = Unit {0}
+Apart (byte ∷ _) = byte ≡ 32
+
+stops-apart : (text rest : List ℕ) → Apart rest → Stops text rest
+stops-apart text [] h = tt
+stops-apart text (byte ∷ rest) h = subst (StopsAt text) (sym h) (stops-blank text)
+
+-- ---- a piece
+
+stops-at_colon : (name : List ℕ) → is_word name ≡ true → StopsAt name 58
+stops-at_colon [] h = cc
+stops-at_colon (byte ∷ bytes) h = stops-colon byte bytes (first_so (begins_word byte) (list_all continues_word bytes) h)
+
+colon-token : IsToken kinds.Colon (codes ":")
+colon-token = record { is = refl; begins = (refl, refl) }
+
+label-read : (name rest : List ℕ) (expected : List SeenToken) → is_word name ≡ true → Apart rest → Reads rest expected
+    → Reads ((name ++ codes ":") ++ rest) ((kinds.Word, name) ∷ (kinds.Colon, codes ":") ∷ expected)
+label-read name rest expected h apart more =
+    subst (λ (bytes : List ℕ). Reads bytes ((kinds.Word, name) ∷ (kinds.Colon, codes ":") ∷ expected)) (sym (append_assoc name (codes ":") rest))
+    (reads-token kinds.Word name (58 ∷ rest) ((kinds.Colon, codes ":") ∷ expected) (word-token name h) (stops-at_colon name h)
+    (reads-token kinds.Colon (codes ":") rest expected colon-token (stops-apart (codes ":") rest apart) more))
+
+minus-token : IsToken kinds.Minus (codes "-")
+minus-token = record { is = refl; begins = (refl, refl) }
+
+number-no_greater : (b : ℕ) → (is_digit b || b == 46) ≡ true → (62 == b) ≡ false
+number-no_greater b h = grind (arith, nat_tests)
+
+-- a minus before a number
+minus-read : (text rest : List ℕ) (expected : List SeenToken) → begins_a_number text ≡ true → Reads (text ++ rest) expected → Reads (45 ∷ (text ++ rest)) ((kinds.Minus, codes "-") ∷ expected)
+minus-read [] rest expected h more = cc
+minus-read (b ∷ bytes) rest expected h more =
+    reads-token kinds.Minus (codes "-") ((b ∷ bytes) ++ rest) expected minus-token (stops-minus b (number-no_greater b h)) more
+
+size-positive : (z : ℤ) → int_le (pos (unsigned_abs z)) (negsuc 0) ≡ false
+size-positive z = refl
+
+negative-nonzero : (z : ℤ) → int_le z (negsuc 0) ≡ true → (unsigned_abs z == 0) ≡ false
+negative-nonzero (pos n) h = cc
+negative-nonzero (negsuc n) h = nonzero n
+  where
+    nonzero : (k : ℕ) → (suc k == 0) ≡ false
+    nonzero k = grind (arith, nat_tests)
+
+-- a negative number is a minus and its size
+pub negative-text : (value : Number) → is_negative value ≡ true → number_text value ≡ 45 ∷ number_text (size_of value)
+negative-text value h =
+    let nonzero : is_zero value ≡ false = negative-nonzero value.mantissa h in
+    (λ i. if nonzero i then codes "0" else (if h i then codes "-" else []) ++ scaled_text (decimal (unsigned_abs value.mantissa)) value.exponent)
+    ∙ ap (λ (text : List ℕ). 45 ∷ text) (sym (ap (λ (b : Bool). if b then codes "0" else scaled_text (decimal (unsigned_abs value.mantissa)) value.exponent) nonzero))
+
+number-read : (value : Number) (rest : List ℕ) (expected : List SeenToken) → IsDecimal value → Apart rest → Reads rest expected → Reads (number_text value ++ rest) (tokens_in (number value) ++ expected)
+number-read value rest expected h apart more = by (is_negative value) refl
+  where
+    size-read : Reads (number_text (size_of value) ++ rest) ((kinds.Number, number_text (size_of value)) ∷ expected)
+    size-read =
+        reads-token kinds.Number (number_text (size_of value)) rest expected (unsigned-token (size_of value) h (size-positive value.mantissa))
+        (stops-apart (number_text (size_of value)) rest apart) more
+
+    by : (b : Bool) → is_negative value ≡ b
+        → Reads (number_text value ++ rest) ((if b then (kinds.Minus, codes "-") ∷ (kinds.Number, number_text (size_of value)) ∷ [] else (kinds.Number, number_text value) ∷ []) ++ expected)
+    by true e =
+        subst (λ (text : List ℕ). Reads (text ++ rest) ((kinds.Minus, codes "-") ∷ (kinds.Number, number_text (size_of value)) ∷ expected)) (sym (negative-text value e))
+        (minus-read (number_text (size_of value)) rest ((kinds.Number, number_text (size_of value)) ∷ expected) (unsigned-begins (size_of value) h (size-positive value.mantissa)) size-read)
+    by false e = reads-token kinds.Number (number_text value) rest expected (unsigned-token value h e) (stops-apart (number_text value) rest apart) more
+
+sign-token : (minus : Bool) → IsToken (sign_kind minus) (sign_bytes minus)
+sign-token true = record { is = refl; begins = (refl, refl) }
+sign-token false = record { is = refl; begins = (refl, refl) }
+
+sense-token : (relation : Relation) → IsToken (sense_kind relation) (sense_bytes relation)
+sense-token AtMost = record { is = refl; begins = (refl, refl) }
+sense-token AtLeast = record { is = refl; begins = (refl, refl) }
+sense-token EqualTo = record { is = refl; begins = (refl, refl) }
+
+-- a minus ends the word before it
+stops-semi : StopsAt (codes "Semi") 45
+stops-semi more = refl
+
+pub piece-read : (piece : Lexeme) (rest : List ℕ) (expected : List SeenToken) → IsPrintable piece → Apart rest → Reads rest expected → Reads (lexeme_text piece ++ rest) (tokens_in piece ++ expected)
+piece-read (word text) rest expected h apart more = reads-token kinds.Word text rest expected (word-token text h.is) (stops-apart text rest apart) more
+piece-read (label name) rest expected h apart more = label-read name rest expected h.word_is.is apart more
+piece-read (number value) rest expected h apart more = number-read value rest expected h apart more
+piece-read (sign minus) rest expected h apart more = reads-token (sign_kind minus) (sign_bytes minus) rest expected (sign-token minus) (stops-apart (sign_bytes minus) rest apart) more
+piece-read (sense relation) rest expected h apart more = reads-token (sense_kind relation) (sense_bytes relation) rest expected (sense-token relation) (stops-apart (sense_bytes relation) rest apart) more
+piece-read minus_infinity rest expected h apart more =
+    reads-token kinds.Minus (codes "-") (codes "infinity" ++ rest) ((kinds.Word, codes "infinity") ∷ expected) minus-token (stops-minus 105 refl)
+    (reads-token kinds.Word (codes "infinity") rest expected (word-token (codes "infinity") refl) (stops-apart (codes "infinity") rest apart) more)
+piece-read semi_continuous rest expected h apart more =
+    reads-token kinds.Word (codes "Semi") (codes "-Continuous" ++ rest) ((kinds.Minus, codes "-") ∷ (kinds.Word, codes "Continuous") ∷ expected) (word-token (codes "Semi") refl) stops-semi
+    (reads-token kinds.Minus (codes "-") (codes "Continuous" ++ rest) ((kinds.Word, codes "Continuous") ∷ expected) minus-token (stops-minus 67 refl)
+    (reads-token kinds.Word (codes "Continuous") rest expected (word-token (codes "Continuous") refl) (stops-apart (codes "Continuous") rest apart) more))
+
+-- ---- a line
+
+-- what is printed after the first piece
+abbrev pub after_first_piece : List Lexeme → List ℕ
+after_first_piece lexemes = flat_map (λ piece. codes " " ++ lexeme_text piece) lexemes
+
+after-apart : (lexemes : List Lexeme) → Apart (after_first_piece lexemes)
+after-apart [] = tt
+after-apart (piece ∷ lexemes) = refl
+
+from-read : (piece : Lexeme) (lexemes : List Lexeme) → IsPrintable piece → Each IsPrintable lexemes → Reads (lexeme_text piece ++ after_first_piece lexemes) (tokens_in piece ++ flat_map tokens_in lexemes)
+from-read piece [] h k = piece-read piece [] [] h tt reads-nil
+from-read piece (next ∷ lexemes) h k =
+    piece-read piece (after_first_piece (next ∷ lexemes)) (flat_map tokens_in (next ∷ lexemes)) h (after-apart (next ∷ lexemes))
+    (reads-blank (lexeme_text next ++ after_first_piece lexemes) (flat_map tokens_in (next ∷ lexemes)) (from-read next lexemes k.0 k.1))
+
+lexemes-read : (lexemes : List Lexeme) → Each IsPrintable lexemes → Reads (join_by lexeme_text (codes " ") lexemes) (flat_map tokens_in lexemes)
+lexemes-read [] h = reads-nil
+lexemes-read (piece ∷ lexemes) h = from-read piece lexemes h.0 h.1
+
+blanks-read : (n : ℕ) (rest : List ℕ) (expected : List SeenToken) → Reads rest expected → Reads (replicate n 32 ++ rest) expected
+blanks-read zero rest expected h = h
+blanks-read (suc n) rest expected h = reads-blank (replicate n 32 ++ rest) expected (blanks-read n rest expected h)
+
+-- the tokens of a printed line are those that its pieces are printed from
+pub line-read : (line : PrintedLine) → Each IsPrintable line.lexemes → seen (tokens (line_text line)) ≡ line_tokens line
+line-read line h = blanks-read line.indent (join_by lexeme_text (codes " ") line.lexemes) (line_tokens line) (lexemes-read line.lexemes h) 0

@@ -1,0 +1,117 @@
+-- The bounds that are declared of different columns fill different slots.
+use Rattle.std.proofs.Common.{◌≡◌, refl, List, [], ◌∷◌, ◌++◌, ℕ, true, false, cond, map}
+use Rattle.std.specs.List.{flat_map}
+use Rattle.mpslp_decimal.specs.Decimal.{Number, is_zero}
+use Rattle.mpslp_types.specs.Name.{same_bytes}
+use Rattle.mpslp_model_core.specs.Model.{Column}
+use Rattle.mpslp_model_core.specs.Lists.{are_distinct}
+use Rattle.mpslp_builder.specs.Consistency.{Slot, lower_slot, upper_slot, same_slot, slots_of}
+use Rattle.mpslp_types.specs.declared.kinds.Kind.{Kind}
+use Rattle.mpslp_types.specs.declared.kinds.Kind.TheVariants.{Continuous, Integer, Semi}
+use Rattle.mpslp_types.specs.declared.kinds.Limit.{Limit}
+use Rattle.mpslp_types.specs.declared.kinds.Limit.TheVariants.{MinusInf, Finite, PlusInf}
+use Rattle.mpslp_types.proofs.BoolLemmas.{both_false}
+use Rattle.mpslp_types.proofs.EachLemmas.{Each, Each-weaker, Each-append, Each-all}
+use Rattle.mpslp_builder.proofs.DistinctLemmas.{IsNew, Apart, distinct-flat_map}
+use Rattle.mpslp_mps.specs.declared.bound_types.BoundType.TheVariants as bounds
+use Rattle.mpslp_canonical_mps.proofs.BoundsWalk.{BoundForm, fixed, lower, upper, free, no_lower, no_upper, semi_upper, bound_decl, decl_at}
+use Rattle.mpslp_canonical_mps.specs.PrintedValues.{is_fixed, bound_with_value, PrintedBound, printed_lower, printed_upper, printed_bounds}
+use Rattle.mpslp_canonical_mps.proofs.CanonicalContents.{to_bound, bounds_in}
+use Rattle.mpslp_canonical_mps.proofs.WholeParts.{made_of}
+use Rattle.mpslp_canonical_mps.proofs.ListedOnce.{AreOther}
+
+-- the slots that the bounds of a column fill
+abbrev slots_at : List ℕ → List PrintedBound → List Slot
+slots_at name line_text = flat_map (made_of slots_of bound_decl) (map (to_bound name) line_text)
+
+abbrev pub bound_slots : List ℕ × Column → List Slot
+bound_slots column = flat_map (made_of slots_of bound_decl) (bounds_in column)
+
+-- ---- these are the column's two sides
+
+each-form : (P : Slot → Type 0) (name : List ℕ) → P (lower_slot name) → P (upper_slot name) → (form : BoundForm) (value : Number) → Each P (flat_map slots_of (decl_at form name value))
+each-form P name l u fixed value = (l, (u, tt))
+each-form P name l u lower value = (l, tt)
+each-form P name l u upper value = (u, tt)
+each-form P name l u free value = (l, (u, tt))
+each-form P name l u no_lower value = (l, tt)
+each-form P name l u no_upper value = (u, tt)
+each-form P name l u semi_upper value = (u, tt)
+
+each-slot : (P : Slot → Type 0) (name : List ℕ) → P (lower_slot name) → P (upper_slot name) → (line_text : List PrintedBound) → Each P (slots_at name line_text)
+each-slot P name l u [] = tt
+each-slot P name l u (bound ∷ line_text) =
+    Each-append P (made_of slots_of bound_decl (to_bound name bound)) (slots_at name line_text)
+    (each-form P name l u (to_bound name bound).form (to_bound name bound).value) (each-slot P name l u line_text)
+
+pub each-bound_slot : (P : Slot → Type 0) (column : List ℕ × Column) → P (lower_slot column.0) → P (upper_slot column.0) → Each P (bound_slots column)
+each-bound_slot P column l u = each-slot P column.0 l u (printed_bounds column.1.kind column.1.lower column.1.upper)
+
+-- ---- each side is declared once
+
+lower-once : (name : List ℕ) (a : Number) (rest : List PrintedBound) → are_distinct same_slot (slots_at name rest) ≡ true
+    → are_distinct same_slot (slots_at name (bound_with_value bounds.Lower a ∷ rest)) ≡ true
+    → are_distinct same_slot (slots_at name (printed_lower (Finite a) ++ rest)) ≡ true
+lower-once name a rest h k = elim (is_zero a) as (λ b. are_distinct same_slot (slots_at name (cond b [] (bound_with_value bounds.Lower a ∷ []) ++ rest)) ≡ true) [ true ↦ h | false ↦ k ]
+
+upper-once : (name : List ℕ) (kind : Kind) (b : Number) → are_distinct same_slot (slots_at name (printed_upper kind (Finite b))) ≡ true
+upper-once name Continuous b = refl
+upper-once name Integer b = refl
+upper-once name Semi b = refl
+
+no-lower-once : (name : List ℕ) (kind : Kind) (b : Number) → are_distinct same_slot (slots_at name (printed_lower MinusInf ++ printed_upper kind (Finite b))) ≡ true
+no-lower-once name Continuous b = refl
+no-lower-once name Integer b = refl
+no-lower-once name Semi b = refl
+
+both-once : (name : List ℕ) (kind : Kind) (a b : Number) → are_distinct same_slot (slots_at name (printed_lower (Finite a) ++ printed_upper kind (Finite b))) ≡ true
+both-once name Continuous a b = lower-once name a (printed_upper Continuous (Finite b)) refl refl
+both-once name Integer a b = lower-once name a (printed_upper Integer (Finite b)) refl refl
+both-once name Semi a b = lower-once name a (printed_upper Semi (Finite b)) refl refl
+
+sides-once : (name : List ℕ) (kind : Kind) (l u : Limit) → are_distinct same_slot (slots_at name (printed_bounds kind l u)) ≡ true
+sides-once name kind MinusInf PlusInf = refl
+sides-once name kind MinusInf MinusInf = refl
+sides-once name kind MinusInf (Finite b) = no-lower-once name kind b
+sides-once name kind (Finite a) (Finite b) =
+    elim (is_fixed kind a b) as (λ t. are_distinct same_slot (slots_at name (cond t (bound_with_value bounds.Fixed b ∷ []) (printed_lower (Finite a) ++ printed_upper kind (Finite b)))) ≡ true) [
+      | true ↦ refl
+      | false ↦ both-once name kind a b
+    ]
+sides-once name kind (Finite a) MinusInf = lower-once name a (printed_upper kind MinusInf) refl refl
+sides-once name Integer (Finite a) PlusInf = lower-once name a (printed_upper Integer PlusInf) refl refl
+sides-once name Continuous (Finite a) PlusInf = lower-once name a (printed_upper Continuous PlusInf) refl refl
+sides-once name Semi (Finite a) PlusInf = lower-once name a (printed_upper Semi PlusInf) refl refl
+sides-once name kind PlusInf MinusInf = refl
+sides-once name kind PlusInf (Finite b) = upper-once name kind b
+sides-once name Integer PlusInf PlusInf = refl
+sides-once name Continuous PlusInf PlusInf = refl
+sides-once name Semi PlusInf PlusInf = refl
+
+-- ---- and no side is another column's
+
+new-of_each : (slot : Slot) (slots : List Slot) → Each (λ later. same_slot later slot ≡ false) slots → IsNew same_slot slot slots
+new-of_each slot [] h = refl
+new-of_each slot (later ∷ slots) h = both_false (same_slot later slot) _ h.0 (new-of_each slot slots h.1)
+
+lower-new : (name : List ℕ) (other : List ℕ × Column) → same_bytes other.0 name ≡ false → IsNew same_slot (lower_slot name) (bound_slots other)
+lower-new name other h = new-of_each (lower_slot name) (bound_slots other) (each-bound_slot (λ later. same_slot later (lower_slot name) ≡ false) other h refl)
+
+upper-new : (name : List ℕ) (other : List ℕ × Column) → same_bytes other.0 name ≡ false → IsNew same_slot (upper_slot name) (bound_slots other)
+upper-new name other h = new-of_each (upper_slot name) (bound_slots other) (each-bound_slot (λ later. same_slot later (upper_slot name) ≡ false) other refl h)
+
+bounds-apart : (columns : List (List ℕ × Column)) → AreOther columns → Apart same_slot bound_slots columns
+bounds-apart [] h = tt
+bounds-apart (column ∷ columns) h = (
+  each-bound_slot (λ slot. Each (λ other. IsNew same_slot slot (bound_slots other)) columns) column
+      (Each-weaker (λ other. same_bytes other.0 column.0 ≡ false) (λ other. IsNew same_slot (lower_slot column.0) (bound_slots other)) (lower-new column.0) columns h.0)
+      (Each-weaker (λ other. same_bytes other.0 column.0 ≡ false) (λ other. IsNew same_slot (upper_slot column.0) (bound_slots other)) (upper-new column.0) columns h.0),
+  bounds-apart columns h.1,
+)
+
+-- The bounds that are declared of different columns fill different slots.
+pub bounds-distinct : (columns : List (List ℕ × Column)) → AreOther columns → are_distinct same_slot (flat_map bound_slots columns) ≡ true
+bounds-distinct columns other =
+    distinct-flat_map same_slot bound_slots columns
+    (Each-all (λ column. are_distinct same_slot (bound_slots column) ≡ true) (λ column. sides-once column.0 column.1.kind column.1.lower column.1.upper) columns)
+    (bounds-apart columns other)

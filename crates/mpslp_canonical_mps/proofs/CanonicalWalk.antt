@@ -1,0 +1,104 @@
+-- What the sections of canonical text declare, each after the lines before it.
+use Rattle.std.proofs.Common.{◌≡◌, refl, sym, ap, ◌∙◌, List, [], ◌∷◌, ◌++◌, ℕ, Bool, true, false, map, append_assoc}
+use Rattle.std.specs.Prelude.{is_none, ◌||◌}
+use Rattle.std.specs.List.{flat_map}
+use Rattle.std.proofs.lemmas.List.{append-nil}
+use Rattle.mpslp_builder.specs.Declaration.{Declarations, Draft, is_free_row}
+use Rattle.mpslp_types.proofs.EachLemmas.{Each}
+use Rattle.mpslp_mps.specs.Line.{LineContent}
+use Rattle.mpslp_mps.specs.Section.{begins}
+use Rattle.mpslp_mps.specs.Context.{has_section, is_read, data_lines}
+use Rattle.mpslp_canonical_mps.proofs.HeaderWalk.{is_bare, wants_word, header_item, MayStand, header-good, header-says, current-header, no-lines, settled-after}
+use Rattle.mpslp_mps.specs.declared.sections.Section.{Section}
+use Rattle.mpslp_mps.specs.declared.sections.Section.TheVariants.{Columns, Rhs, Ranges, Bounds, EndData}
+use Rattle.mpslp_mps.proofs.SectionLemmas.{has_section-push, data_lines-push}
+use Rattle.mpslp_canonical_mps.proofs.ContentsWalk.{Walk, walk-nil, walk-cons, section-walk}
+use Rattle.mpslp_canonical_mps.proofs.RowsWalk.{Side, side_item, side_decl, range_decl, ReadsAs, InSides, side_step, InRanges, range_step}
+use Rattle.mpslp_canonical_mps.proofs.BoundsWalk.{Bound, bound_item, bound_decl, GoodBound, InBounds, bound_step}
+use Rattle.mpslp_canonical_mps.proofs.CanonicalContents.{under}
+
+-- ---- after COLUMNS: the sections that stand only where they have lines
+
+-- nothing is wanted, and COLUMNS has begun
+pub record IsLate (before : List LineContent) (earlier : Draft) : Type 0 where
+  pub settled : wants_word before ≡ false
+  pub columns : has_section before Columns ≡ true
+  pub objective : is_none earlier.objective ≡ false
+
+or_false : (b : Bool) → (b || false) ≡ b
+or_false true = refl
+or_false false = refl
+
+or_true : (b : Bool) → (true || b) ≡ true
+or_true b = refl
+
+-- a header of another section changes nothing of a section
+other-header : (section other : Section) (before : List LineContent) → begins section (header_item other) ≡ false → has_section (before ++ header_item other ∷ []) section ≡ has_section before section
+other-header section other before h = has_section-push section before (header_item other) ∙ ap (λ (b : Bool). has_section before section || b) h ∙ or_false (has_section before section)
+
+still-begun : (section other : Section) (before : List LineContent) → has_section before section ≡ true → has_section (before ++ header_item other ∷ []) section ≡ true
+still-begun section other before h = has_section-push section before (header_item other) ∙ ap (λ (b : Bool). b || begins section (header_item other)) h
+
+-- data lines want nothing
+pub data-settled : {X : Type 0} (item : X → LineContent) → ((x : X) → is_read (item x) ≡ true) → ((x : X) → is_bare (item x) ≡ false) → (xs : List X) (before : List LineContent)
+    → wants_word before ≡ false → wants_word (before ++ map item xs) ≡ false
+data-settled item reads bare [] before h = ap wants_word (append-nil before) ∙ h
+data-settled item reads bare (x ∷ xs) before h =
+    ap wants_word (sym (append_assoc before (item x ∷ []) (map item xs))) ∙ data-settled item reads bare xs (before ++ item x ∷ []) (settled-after before (item x) (reads x) (bare x))
+
+-- RHS, RANGES or BOUNDS
+pub record IsLateSection (section : Section) : Type 0 where
+  pub stands : (before : List LineContent) (earlier : Draft) → IsLate before earlier → has_section before section ≡ false → MayStand section before
+  pub bare : is_bare (header_item section) ≡ false
+
+late-rhs : IsLateSection Rhs
+late-rhs = record { stands = λ before earlier h f. record { settled = h.settled; fresh = f; begins = h.columns }; bare = refl }
+
+late-ranges : IsLateSection Ranges
+late-ranges = record { stands = λ before earlier h f. record { settled = h.settled; fresh = f; begins = h.columns }; bare = refl }
+
+late-bounds : IsLateSection Bounds
+late-bounds = record { stands = λ before earlier h f. record { settled = h.settled; fresh = f; begins = h.columns }; bare = refl }
+
+late-header : (section : Section) → IsLateSection section → (before : List LineContent) (earlier : Draft) → IsLate before earlier → IsLate (before ++ header_item section ∷ []) earlier
+late-header section s before earlier h =
+    record { settled = settled-after before (header_item section) refl s.bare; columns = still-begun Columns section before h.columns; objective = h.objective }
+
+-- A section that stands only where there are lines: its lines are walked over after its header.
+under-walk : {X : Type 0} (section : Section) → IsLateSection section → (item : X → LineContent) (decl : X → Declarations) (xs : List X) (before : List LineContent) (earlier : Draft) → IsLate before earlier
+    → has_section before section ≡ false → Walk (before ++ header_item section ∷ []) earlier (map item xs) (flat_map decl xs) → Walk before earlier (under section (map item xs)) (flat_map decl xs)
+under-walk section s item decl [] before earlier h f w = walk-nil before earlier
+under-walk section s item decl (x ∷ xs) before earlier h f w =
+    walk-cons before earlier (header_item section) (map item (x ∷ xs)) [] (flat_map decl (x ∷ xs)) (header-says section before earlier h.objective)
+    (header-good section before earlier (s.stands before earlier h f) (λ _. h.objective)) w
+
+-- the lines of a section that has not begun
+pub none-yet : (section : Section) (before : List LineContent) → begins section (header_item section) ≡ true → has_section before section ≡ false → data_lines section (before ++ header_item section ∷ []) ≡ []
+none-yet section before b f = data_lines-push section before (header_item section) ∙ append-nil (data_lines section before) ∙ no-lines section before f
+
+pub sides-walk : (set : List ℕ) (sides : List Side) (before : List LineContent) (earlier : Draft) → IsLate before earlier → has_section before Rhs ≡ false → Each ReadsAs sides
+    → Each (λ (side : Side). is_free_row earlier side.row ≡ false) sides → Walk before earlier (under Rhs (map (side_item set) sides)) (flat_map side_decl sides)
+sides-walk set sides before earlier h f texts bound =
+    let there = before ++ header_item Rhs ∷ [] in
+    let inside : InSides set sides there earlier = record { section = current-header Rhs before; one_set = rw (none-yet Rhs before refl f) tt; texts = texts; bound = bound } in
+    under-walk Rhs late-rhs (side_item set) side_decl sides before earlier h f (section-walk (side_item set) side_decl (InSides set) (side_step set) sides there earlier inside).0
+
+pub ranges-walk : (set : List ℕ) (sides : List Side) (before : List LineContent) (earlier : Draft) → IsLate before earlier → has_section before Ranges ≡ false → Each ReadsAs sides
+    → Walk before earlier (under Ranges (map (side_item set) sides)) (flat_map range_decl sides)
+ranges-walk set sides before earlier h f texts =
+    let there = before ++ header_item Ranges ∷ [] in
+    let inside : InRanges set sides there earlier = record { section = current-header Ranges before; one_set = rw (none-yet Ranges before refl f) tt; texts = texts } in
+    under-walk Ranges late-ranges (side_item set) range_decl sides before earlier h f (section-walk (side_item set) range_decl (InRanges set) (range_step set) sides there earlier inside).0
+
+pub bounds-walk : (set : List ℕ) (bounds : List Bound) (before : List LineContent) (earlier : Draft) → IsLate before earlier → has_section before Bounds ≡ false → Each GoodBound bounds
+    → Walk before earlier (under Bounds (map (bound_item set) bounds)) (flat_map bound_decl bounds)
+bounds-walk set bounds before earlier h f good =
+    let there = before ++ header_item Bounds ∷ [] in
+    let inside : InBounds set bounds there earlier = record { section = current-header Bounds before; one_set = rw (none-yet Bounds before refl f) tt; good = good } in
+    under-walk Bounds late-bounds (bound_item set) bound_decl bounds before earlier h f (section-walk (bound_item set) bound_decl (InBounds set) (bound_step set) bounds there earlier inside).0
+
+-- the end
+pub end-walk : (before : List LineContent) (earlier : Draft) → IsLate before earlier → has_section before EndData ≡ false → Walk before earlier (header_item EndData ∷ []) []
+end-walk before earlier h f =
+    walk-cons before earlier (header_item EndData) [] [] [] (header-says EndData before earlier h.objective)
+    (header-good EndData before earlier (record { settled = h.settled; fresh = f; begins = h.columns }) (λ _. h.objective)) (walk-nil (before ++ header_item EndData ∷ []) earlier)

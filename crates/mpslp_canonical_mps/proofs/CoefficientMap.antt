@@ -1,0 +1,157 @@
+-- The coefficients of a sound listing's canonical declarations: with the zeros left out they are the listing's.
+use Rattle.std.proofs.Common.{◌≡◌, refl, sym, ap, ◌∙◌, List, [], ◌∷◌, ◌++◌, ℕ, Bool, true, false, not, cond, map}
+use Rattle.std.specs.Prelude.{Option, Some, None, is_some, filter, filter_map, ◌&&◌, ◌||◌}
+use Rattle.std.specs.List.{flat_map, cons_option}
+use Rattle.std.specs.Option.{option_map}
+use Rattle.std.specs.Cmp.{first_so, second_so}
+use Rattle.std.specs.FinMap.{find}
+use Rattle.mpslp_decimal.specs.Decimal.{Number, is_decimal, is_zero}
+use Rattle.mpslp_types.specs.Name.{same_bytes, is_one_of}
+use Rattle.mpslp_model_core.specs.Model.{Column, CoefficientKey, key_cmp}
+use Rattle.mpslp_builder.specs.Declaration.{empty_draft, names_in}
+use Rattle.mpslp_types.proofs.EachLemmas.{Each, Each-append, Each-flat_map, Each-all}
+use Rattle.mpslp_model_core.proofs.PutsLemmas.{puts, find-front, some_cons, some_append_left, some_append_right}
+use Rattle.mpslp_builder.proofs.DraftLemmas.{coefficients-all}
+use Rattle.mpslp_builder.proofs.DraftEntries.{same_key}
+use Rattle.mpslp_builder.proofs.LaterDrafts.{value_in}
+use Rattle.mpslp_builder.proofs.SlotLemmas.{same_name}
+use Rattle.mpslp_builder.proofs.SortedDrafts.{key_total}
+use Rattle.mpslp_builder.proofs.NamedEntries.{any-name}
+use Rattle.mpslp_canonical_mps.specs.Listing.{Listing}
+use Rattle.mpslp_canonical_mps.specs.CanonicalMps.{cell_at, column_coefficients, printed_coefficients, is_integer_column, is_plain_column}
+use Rattle.mpslp_canonical_mps.proofs.CanonicalContents.{to_cell, cells_in}
+use Rattle.mpslp_builder.proofs.EntryLemmas.{puts-kept, found-each, filter-not_not, found-either}
+use Rattle.mpslp_canonical_mps.proofs.ListedParts.{own_coefficient, listed_decl, from_cells, coefficients-part}
+use Rattle.mpslp_canonical_mps.proofs.DraftMaps.{is_sound_entry, IsSoundListing, drafted}
+
+abbrev pub is_kept : Number → Bool
+is_kept value = not (is_zero value)
+
+abbrev pub place_at : List ℕ → List ℕ → CoefficientKey
+place_at row column = record { row = row; column = column }
+
+-- what is printed at a key is what is there; 0 is printed where nothing is
+abbrev pub IsTrueCell : List (CoefficientKey × Number) → List ℕ → List ℕ × Number → Type 0
+IsTrueCell coefficients column cell = find key_cmp (place_at cell.0 column) coefficients ≡ cond (is_kept cell.1) (Some cell.1) None
+
+abbrev AllKept : List (CoefficientKey × Number) → Type 0
+AllKept coefficients = (key : CoefficientKey) (value : Number) → find key_cmp key coefficients ≡ Some value → is_kept value ≡ true
+
+cells-true : (coefficients : List (CoefficientKey × Number)) (column : List ℕ) → AllKept coefficients → (rows : List (List ℕ)) → Each (IsTrueCell coefficients column) (filter_map (cell_at coefficients column) rows)
+cells-true coefficients column kept [] = tt
+cells-true coefficients column kept (row ∷ rows) = by (find key_cmp (place_at row column) coefficients) refl (cells-true coefficients column kept rows)
+  where
+    by : (o : Option Number) → find key_cmp (place_at row column) coefficients ≡ o → Each (IsTrueCell coefficients column) (filter_map (cell_at coefficients column) rows)
+        → Each (IsTrueCell coefficients column) (cons_option (option_map (λ (value : Number). (row, value)) o) (filter_map (cell_at coefficients column) rows))
+    by None is more = more
+    by (Some d) is more = (is ∙ sym (ap (λ (b : Bool). cond b (Some d) None) (kept (place_at row column) d is)), more)
+
+none-first : (row : List ℕ) (o : Option Number) (cells : List (List ℕ × Number)) → cons_option (option_map (λ (value : Number). (row, value)) o) cells ≡ [] → o ≡ None
+none-first row None cells h = refl
+none-first row (Some d) cells h = cc
+
+line_text-true : (m : Listing) (column : List ℕ) → AllKept m.coefficients → Each (IsTrueCell m.coefficients column) (printed_coefficients m.objective (column_coefficients m column))
+line_text-true m column kept = by (column_coefficients m column) refl (cells-true m.coefficients column kept (m.objective ∷ map (λ row. row.0) m.rows))
+  where
+    by : (cells : List (List ℕ × Number)) → column_coefficients m column ≡ cells → Each (IsTrueCell m.coefficients column) cells → Each (IsTrueCell m.coefficients column) (printed_coefficients m.objective cells)
+    by [] is h = (none-first m.objective (find key_cmp (place_at m.objective column) m.coefficients) (filter_map (cell_at m.coefficients column) (map (λ row. row.0) m.rows)) is, tt)
+    by (cell ∷ cells) is h = h
+
+-- as entries
+abbrev IsTrueEntry : List (CoefficientKey × Number) → CoefficientKey × Number → Type 0
+IsTrueEntry coefficients entry = find key_cmp entry.0 coefficients ≡ cond (is_kept entry.1) (Some entry.1) None
+
+entries-true : (coefficients : List (CoefficientKey × Number)) (column : List ℕ) (cells : List (List ℕ × Number)) → Each (IsTrueCell coefficients column) cells
+    → Each (IsTrueEntry coefficients) (flat_map own_coefficient (map (to_cell column) cells))
+entries-true coefficients column [] h = tt
+entries-true coefficients column (cell ∷ cells) h = (h.0, entries-true coefficients column cells h.1)
+
+columns-true : (m : Listing) → AllKept m.coefficients → (columns : List (List ℕ × Column)) → Each (IsTrueEntry m.coefficients) (from_cells own_coefficient m columns)
+columns-true m kept columns =
+    Each-flat_map (IsTrueEntry m.coefficients) (λ column. flat_map own_coefficient (cells_in m column)) columns
+    (Each-all _ (λ column. entries-true m.coefficients column.0 (printed_coefficients m.objective (column_coefficients m column.0)) (line_text-true m column.0 kept)) columns)
+
+-- ---- each coefficient is printed
+
+abbrev SomeAt : CoefficientKey → List (CoefficientKey × Number) → Type 0
+SomeAt key es = is_some (find key_cmp key es) ≡ true
+
+row-hit : (coefficients : List (CoefficientKey × Number)) (row column : List ℕ) (value : Number) → find key_cmp (place_at row column) coefficients ≡ Some value → (rows : List (List ℕ)) → is_one_of rows row ≡ true
+    → SomeAt (place_at row column) (flat_map own_coefficient (map (to_cell column) (filter_map (cell_at coefficients column) rows)))
+row-hit coefficients row column value is [] h = cc
+row-hit coefficients row column value is (x ∷ rows) h =
+    by (same_bytes row x) refl h (find key_cmp (place_at x column) coefficients) refl (λ later. row-hit coefficients row column value is rows later)
+  where
+    nothing : ◌≡◌ {A = Option Number} None (Some value) → ⊥
+    nothing e = cc
+
+    by : (b : Bool) → same_bytes row x ≡ b → (b || is_one_of rows row) ≡ true → (o : Option Number) → find key_cmp (place_at x column) coefficients ≡ o
+        → (is_one_of rows row ≡ true → SomeAt (place_at row column) (flat_map own_coefficient (map (to_cell column) (filter_map (cell_at coefficients column) rows))))
+        → SomeAt (place_at row column) (flat_map own_coefficient (map (to_cell column) (cons_option (option_map (λ (d : Number). (x, d)) o) (filter_map (cell_at coefficients column) rows))))
+    by true e k None at more = absurd (nothing (sym at ∙ ap (λ (n : List ℕ). find key_cmp (place_at n column) coefficients) (sym (same_name row x e)) ∙ is))
+    by true e k (Some d) at more =
+        let rest = flat_map own_coefficient (map (to_cell column) (filter_map (cell_at coefficients column) rows)) in
+        ap (λ (n : List ℕ). is_some (find key_cmp (place_at n column) ((place_at x column, d) ∷ rest))) (same_name row x e) ∙ find-front key_cmp key_total same_key (place_at x column) d rest
+    by false e k None at more = more k
+    by false e k (Some d) at more =
+        some_cons key_cmp key_total same_key (place_at row column) (place_at x column) d (flat_map own_coefficient (map (to_cell column) (filter_map (cell_at coefficients column) rows))) (more k)
+
+line_text-hit : (key : CoefficientKey) (column objective : List ℕ) (cells : List (List ℕ × Number)) → SomeAt key (flat_map own_coefficient (map (to_cell column) cells))
+    → SomeAt key (flat_map own_coefficient (map (to_cell column) (printed_coefficients objective cells)))
+line_text-hit key column objective [] h = cc
+line_text-hit key column objective (cell ∷ cells) h = h
+
+join-some : (key : CoefficientKey) (left right : List (CoefficientKey × Number)) → (is_some (find key_cmp key left) || is_some (find key_cmp key right)) ≡ true → SomeAt key (left ++ right)
+join-some key left right h = by (is_some (find key_cmp key left)) refl h
+  where
+    by : (b : Bool) → is_some (find key_cmp key left) ≡ b → (b || is_some (find key_cmp key right)) ≡ true → SomeAt key (left ++ right)
+    by true e k = some_append_left key_cmp key_total same_key key left right e
+    by false e k = some_append_right key_cmp key_total same_key key left right k
+
+module _ (m : Listing) (h : IsSoundListing m) where
+  abbrev IsSoundAt : CoefficientKey → Number → Type 0
+  IsSoundAt key value = is_sound_entry m (key, value) ≡ true
+
+  sound-at : (key : CoefficientKey) (value : Number) → find key_cmp key m.coefficients ≡ Some value → IsSoundAt key value
+  sound-at key value is = found-each key_cmp key_total same_key IsSoundAt m.coefficients h.coefficients key value is
+
+  all-kept : AllKept m.coefficients
+  all-kept key value is =
+      first_so (is_kept value) _ (second_so (is_decimal value) _ (sound-at key value is))
+
+  hit : (key : CoefficientKey) (value : Number) → find key_cmp key m.coefficients ≡ Some value → (column : List ℕ × Column) → same_bytes key.column column.0 ≡ true
+      → SomeAt key (flat_map own_coefficient (cells_in m column))
+  hit key value is column e =
+      let named : key.column ≡ column.0 = same_name key.column column.0 e in
+      let here : find key_cmp (place_at key.row column.0) m.coefficients ≡ Some value = ap (λ (n : List ℕ). find key_cmp (place_at key.row n) m.coefficients) (sym named) ∙ is in
+      let names = is_one_of (names_in m.columns) key.column in
+      let rows = is_one_of (m.objective ∷ names_in m.rows) key.row in
+      let there : rows ≡ true = second_so names rows (second_so (is_kept value) (names && rows) (second_so (is_decimal value) (is_kept value && (names && rows)) (sound-at key value is))) in
+      ap (λ (n : List ℕ). is_some (find key_cmp (place_at key.row n) (flat_map own_coefficient (cells_in m column)))) named
+      ∙ line_text-hit (place_at key.row column.0) column.0 m.objective (column_coefficients m column.0)
+      (row-hit m.coefficients key.row column.0 value here (m.objective ∷ map (λ row. row.0) m.rows) there)
+
+  each-line_text : (key : CoefficientKey) → SomeAt key m.coefficients
+      → SomeAt key (from_cells own_coefficient m (filter is_plain_column m.columns) ++ from_cells own_coefficient m (filter (λ column. not (is_plain_column column)) m.columns))
+  each-line_text key some =
+      let found = value_in (find key_cmp key m.coefficients) some in
+      let names = is_one_of (names_in m.columns) key.column in
+      let rows = is_one_of (m.objective ∷ names_in m.rows) key.row in
+      let sound = sound-at key found.0 found.1 in
+      let there : names ≡ true = first_so names rows (second_so (is_kept found.0) (names && rows) (second_so (is_decimal found.0) (is_kept found.0 && (names && rows)) sound)) in
+      join-some key (from_cells own_coefficient m (filter is_plain_column m.columns)) (from_cells own_coefficient m (filter (λ column. not (is_plain_column column)) m.columns))
+      (found-either key_cmp key_total same_key (λ column. flat_map own_coefficient (cells_in m column)) is_plain_column (λ column. same_bytes key.column column.0) key m.columns
+      (sym (any-name key.column m.columns) ∙ there) (hit key found.0 found.1))
+
+  -- The coefficients that are declared, but for the zeros, are the listing's.
+  pub coefficients-kept : filter (λ entry. not (is_zero entry.1)) (drafted m).coefficients ≡ m.coefficients
+  coefficients-kept =
+      let plain = from_cells own_coefficient m (filter is_plain_column m.columns) in
+      let others = from_cells own_coefficient m (filter (λ column. not (is_plain_column column)) m.columns) in
+      ap (filter (λ entry. not (is_zero entry.1)))
+      (coefficients-all (listed_decl m) empty_draft
+      ∙ ap (λ (es : List (CoefficientKey × Number)). puts key_cmp es [])
+      (coefficients-part m ∙ ap (λ (cs : List (List ℕ × Column)). plain ++ from_cells own_coefficient m cs) (sym (filter-not_not is_integer_column m.columns))))
+      ∙ puts-kept key_cmp key_total same_key is_kept m.coefficients (plain ++ others) h.coefficients_sorted
+      (Each-append (IsTrueEntry m.coefficients) plain others (columns-true m all-kept (filter is_plain_column m.columns)) (columns-true m all-kept (filter (λ column. not (is_plain_column column)) m.columns)))
+      each-line_text

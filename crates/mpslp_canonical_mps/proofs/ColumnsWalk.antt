@@ -1,0 +1,252 @@
+-- Lines of COLUMNS as they are printed: those of columns, and marker lines.
+use Rattle.std.proofs.Common.{◌≡◌, refl, sym, ap, subst, ◌∙◌, List, [], ◌∷◌, ◌++◌, ℕ, Bool, true, false, cond}
+use Rattle.std.specs.Prelude.{Option, Some, None, ◌&&◌, not, codes, Ok, filter_map}
+use Rattle.std.specs.List.{last_or, flat_map}
+use Rattle.std.specs.Option.{option_map_or}
+use Rattle.std.proofs.lemmas.List.{append-nil}
+use Rattle.std.proofs.lemmas.List.Elements.{filter_map-append}
+use Rattle.mpslp_decimal.specs.Decimal.{Number}
+use Rattle.mpslp_decimal.specs.Literal.{number_of}
+use Rattle.mpslp_types.specs.Name.{is_mps_name, same_bytes, marker}
+use Rattle.mpslp_builder.specs.Declaration.{declare_column, declare_marked, declare_coefficient, Declarations, Draft, with_declarations, has_column}
+use Rattle.mpslp_model_core.specs.Lists.{those_of, when, is_nonempty}
+use Rattle.mpslp_types.specs.declared.faults.FaultKind.TheVariants as kinds
+use Rattle.mpslp_types.proofs.BoolLemmas.{both_false}
+use Rattle.mpslp_builder.proofs.LaterDrafts.{itself_named}
+use Rattle.mpslp_builder.proofs.SlotLemmas.{has-put}
+use Rattle.mpslp_builder.proofs.MadeDrafts.{with_declarations-append}
+use Rattle.mpslp_types.proofs.EachLemmas.{Each}
+use Rattle.mpslp_mps.specs.Line.{Fields, LineContent, data_line}
+use Rattle.mpslp_mps.specs.DataLine.{opening_word, closing_word}
+use Rattle.mpslp_mps.specs.Context.{context_of, current_section, data_lines, marker_word, in_integer_part, line_column, last_column}
+use Rattle.mpslp_mps.specs.LineDeclarations.{line_declares}
+use Rattle.mpslp_lines.specs.FaultTests.{FaultTests}
+use Rattle.mpslp_lines.specs.Field.{name_tests, number_tests}
+use Rattle.mpslp_mps.proofs.ContextLineLemmas.{form_faults}
+use Rattle.mpslp_mps.specs.declared.sections.Section.TheVariants.{Columns}
+use Rattle.mpslp_mps.proofs.SectionLemmas.{last_or-append}
+use Rattle.mpslp_canonical_mps.proofs.ContentsWalk.{Step}
+use Rattle.mpslp_canonical_mps.proofs.RowsWalk.{name-good, number-good, stays, lines-push}
+
+-- a column, a row, a number's text and the number
+pub record Cell : Type 0 where
+  pub column : List ℕ
+  pub row : List ℕ
+  pub text : List ℕ
+  pub value : Number
+
+abbrev pub cell_fields : Cell → Fields
+cell_fields cell = cell.column ∷ cell.row ∷ cell.text ∷ []
+
+abbrev pub cell_item : Cell → LineContent
+cell_item cell = data_line (cell_fields cell)
+
+-- in an integer part or outside
+abbrev pub cell_decl : Bool → Cell → Declarations
+cell_decl marked cell =
+    declare_column cell.column
+    ∷ (when marked (declare_marked cell.column) ++ declare_coefficient (record { row = cell.row; column = cell.column }) cell.value ∷ [])
+
+-- a line of a column that is declared already, after a line that is none of its
+abbrev pub is_split_in : Option (List ℕ) → Draft → List ℕ → Bool
+is_split_in last earlier column = has_column earlier column && not (option_map_or (same_bytes column) last false)
+
+-- the lines of each column stand together, after a last line of this column
+abbrev pub Unsplit : Bool → Option (List ℕ) → Draft → List Cell → Type 0
+Unsplit marked last earlier [] = Unit {0}
+Unsplit marked last earlier (cell ∷ rest) =
+    (is_split_in last earlier cell.column ≡ false) × Unsplit marked (Some cell.column) (with_declarations earlier (cell_decl marked cell)) rest
+
+pub record GoodCell (cell : Cell) : Type 0 where
+  pub name : is_mps_name cell.column ≡ true
+  pub row : same_bytes cell.row marker ≡ false
+  pub text : number_of cell.text ≡ Ok cell.value
+
+pub record InCells (marked : Bool) (rest : List Cell) (before : List LineContent) (earlier : Draft) : Type 0 where
+  pub section : current_section before ≡ Some Columns
+  pub part : in_integer_part before ≡ marked
+  pub good : Each GoodCell rest
+  pub unsplit : Unsplit marked (last_column before) earlier rest
+
+cell_says : (marked : Bool) (cell : Cell) (before : List LineContent) (earlier : Draft) → current_section before ≡ Some Columns → in_integer_part before ≡ marked → GoodCell cell
+    → line_declares (context_of before) earlier (cell_item cell) ≡ cell_decl marked cell
+cell_says marked cell before earlier s p g = rw (s, g.row, p, g.text) refl
+
+-- tests of which none holds, before others
+pub none-first : (xs ys : FaultTests) → those_of xs ≡ [] → those_of (xs ++ ys) ≡ those_of ys
+none-first [] ys h = refl
+none-first (x ∷ xs) ys h =
+    elim x.0 as (λ b. cond b (x.1 ∷ those_of xs) (those_of xs) ≡ [] → cond b (x.1 ∷ those_of (xs ++ ys)) (those_of (xs ++ ys)) ≡ those_of ys) [
+      | true ↦ λ k. cc
+      | false ↦ λ k. none-first xs ys k
+    ] h
+
+cell_tests_good : (cell : Cell) (split : Bool) → GoodCell cell → split ≡ false
+    → those_of (name_tests cell.column ++ (number_tests (cell.text ∷ []) ++ (split, kinds.ColumnSplit) ∷ [])) ≡ []
+cell_tests_good cell split g e =
+    none-first (name_tests cell.column) (number_tests (cell.text ∷ []) ++ (split, kinds.ColumnSplit) ∷ []) (name-good cell.column g.name)
+    ∙ none-first (number_tests (cell.text ∷ [])) ((split, kinds.ColumnSplit) ∷ []) (number-good cell.text cell.value g.text)
+    ∙ ap (λ (b : Bool). those_of ((b, kinds.ColumnSplit) ∷ [])) e
+
+cell_good : (cell : Cell) (before : List LineContent) (earlier : Draft) → current_section before ≡ Some Columns → GoodCell cell → is_split_in (last_column before) earlier cell.column ≡ false
+    → form_faults (context_of before) earlier (cell_item cell) ≡ []
+cell_good cell before earlier s g u = rw (s, g.row) (cell_tests_good cell (is_split_in (last_column before) earlier cell.column) g u)
+
+cell_lines : (cell : Cell) (before : List LineContent) → current_section before ≡ Some Columns → data_lines Columns (before ++ cell_item cell ∷ []) ≡ data_lines Columns before ++ cell_fields cell ∷ []
+cell_lines cell before s = lines-push Columns (cell_fields cell) before (Some Columns) s
+
+last_push : {X : Type 0} (xs : List X) (x : X) → last_or None (xs ++ x ∷ []) ≡ Some x
+last_push xs x = last_or-append None xs (x ∷ [])
+
+-- a line of a column opens and closes nothing, and it is the last line of its column
+words_kept : (cell : Cell) (lines : List Fields) → same_bytes cell.row marker ≡ false → filter_map marker_word (lines ++ cell_fields cell ∷ []) ≡ filter_map marker_word lines
+words_kept cell lines h = filter_map-append marker_word lines (cell_fields cell ∷ []) ∙ rw h (append-nil (filter_map marker_word lines))
+
+abbrev opens_last : List (List ℕ) → Bool
+opens_last words = option_map_or (same_bytes opening_word) (last_or None words) false
+
+part_kept : (cell : Cell) (before : List LineContent) → current_section before ≡ Some Columns → same_bytes cell.row marker ≡ false → in_integer_part (before ++ cell_item cell ∷ []) ≡ in_integer_part before
+part_kept cell before s h = ap opens_last (ap (filter_map marker_word) (cell_lines cell before s) ∙ words_kept cell (data_lines Columns before) h)
+
+cell_column : (cell : Cell) → same_bytes cell.row marker ≡ false → line_column (cell_fields cell) ≡ Some cell.column
+cell_column cell h = rw h refl
+
+column_last : (cell : Cell) (before : List LineContent) → current_section before ≡ Some Columns → same_bytes cell.row marker ≡ false → last_column (before ++ cell_item cell ∷ []) ≡ Some cell.column
+column_last cell before s h =
+    ap (λ (lines : List Fields). option_map_or line_column (last_or None lines) None) (cell_lines cell before s)
+    ∙ ap (λ (o : Option Fields). option_map_or line_column o None) (last_push (data_lines Columns before) (cell_fields cell)) ∙ cell_column cell h
+
+pub cell_step : (marked : Bool) (cell : Cell) (rest : List Cell) (before : List LineContent) (earlier : Draft) → InCells marked (cell ∷ rest) before earlier
+    → Step cell_item (cell_decl marked) (InCells marked) cell rest before earlier
+cell_step marked cell rest before earlier h =
+    record {
+      says = cell_says marked cell before earlier h.section h.part h.good.0;
+      good = cell_good cell before earlier h.section h.good.0 h.unsplit.0;
+      next = record {
+        section = stays Columns (cell_fields cell) before h.section;
+        part = part_kept cell before h.section h.good.0.row ∙ h.part;
+        good = h.good.1;
+        unsplit = rw (column_last cell before h.section h.good.0.row) h.unsplit.1;
+      };
+    }
+
+-- ---- marker lines
+
+abbrev pub marker_fields : Bool → Fields
+marker_fields opens = codes "MARKER" ∷ codes "'MARKER'" ∷ if_word opens ∷ []
+  where
+    if_word : Bool → List ℕ
+    if_word true = opening_word
+    if_word false = closing_word
+
+marker_lines : (opens : Bool) (before : List LineContent) → current_section before ≡ Some Columns
+    → data_lines Columns (before ++ data_line (marker_fields opens) ∷ []) ≡ data_lines Columns before ++ marker_fields opens ∷ []
+marker_lines opens before s = lines-push Columns (marker_fields opens) before (Some Columns) s
+
+last_word : (opens : Bool) (lines : List Fields) → opens_last (filter_map marker_word (lines ++ marker_fields opens ∷ [])) ≡ opens
+last_word true lines = ap opens_last (filter_map-append marker_word lines (marker_fields true ∷ [])) ∙ ap (λ (o : Option (List ℕ)). option_map_or (same_bytes opening_word) o false) (last_push (filter_map marker_word lines) opening_word)
+last_word false lines = ap opens_last (filter_map-append marker_word lines (marker_fields false ∷ [])) ∙ ap (λ (o : Option (List ℕ)). option_map_or (same_bytes opening_word) o false) (last_push (filter_map marker_word lines) closing_word)
+
+pub marker_part : (opens : Bool) (before : List LineContent) → current_section before ≡ Some Columns → in_integer_part (before ++ data_line (marker_fields opens) ∷ []) ≡ opens
+marker_part opens before s = ap (λ (lines : List Fields). opens_last (filter_map marker_word lines)) (marker_lines opens before s) ∙ last_word opens (data_lines Columns before)
+
+-- after a marker line no column goes on
+pub marker_last : (opens : Bool) (before : List LineContent) → current_section before ≡ Some Columns → last_column (before ++ data_line (marker_fields opens) ∷ []) ≡ None
+marker_last opens before s =
+    ap (λ (lines : List Fields). option_map_or line_column (last_or None lines) None) (marker_lines opens before s)
+    ∙ ap (λ (o : Option Fields). option_map_or line_column o None) (last_push (data_lines Columns before) (marker_fields opens))
+
+pub marker_says : (opens : Bool) (before : List LineContent) (earlier : Draft) → current_section before ≡ Some Columns → line_declares (context_of before) earlier (data_line (marker_fields opens)) ≡ []
+marker_says true before earlier s = rw s refl
+marker_says false before earlier s = rw s refl
+
+pub marker_good : (opens : Bool) (before : List LineContent) (earlier : Draft) → current_section before ≡ Some Columns → in_integer_part before ≡ not opens
+    → form_faults (context_of before) earlier (data_line (marker_fields opens)) ≡ []
+marker_good true before earlier s p = rw (s, p) refl
+marker_good false before earlier s p = rw (s, p) refl
+
+-- ---- columns one after another
+
+-- cells of one column
+abbrev pub AreOf : List ℕ → List Cell → Type 0
+AreOf column cells = Each (λ (cell : Cell). cell.column ≡ column) cells
+
+goes_on : (earlier : Draft) (column : List ℕ) → is_split_in (Some column) earlier column ≡ false
+goes_on earlier column = ap (λ (b : Bool). has_column earlier column && not b) (itself_named column) ∙ none (has_column earlier column)
+  where
+    none : (b : Bool) → (b && false) ≡ false
+    none true = refl
+    none false = refl
+
+-- after a line of a column more lines of it, and then what is unsplit after them
+pub unsplit_more : (marked : Bool) (column : List ℕ) (cells rest : List Cell) (earlier : Draft) → AreOf column cells
+    → Unsplit marked (Some column) (with_declarations earlier (flat_map (cell_decl marked) cells)) rest → Unsplit marked (Some column) earlier (cells ++ rest)
+unsplit_more marked column [] rest earlier h more = more
+unsplit_more marked column (cell ∷ cells) rest earlier h more = (
+  ap (is_split_in (Some column) earlier) h.0 ∙ goes_on earlier column,
+  subst (λ (c : List ℕ). Unsplit marked (Some c) (with_declarations earlier (cell_decl marked cell)) (cells ++ rest)) (sym h.0)
+      (unsplit_more marked column cells rest (with_declarations earlier (cell_decl marked cell)) h.1
+      (subst (λ (all : Draft). Unsplit marked (Some column) all rest) (with_declarations-append (cell_decl marked cell) (flat_map (cell_decl marked) cells) earlier) more)),
+)
+
+-- the first line of a column that is not declared
+pub absent_unsplit : (last : Option (List ℕ)) (earlier : Draft) (column : List ℕ) → has_column earlier column ≡ false → is_split_in last earlier column ≡ false
+absent_unsplit last earlier column h = ap (λ (b : Bool). b && not (option_map_or (same_bytes column) last false)) h
+
+-- a column and its cells
+abbrev pub Group : Type 0
+Group = List ℕ × List Cell
+
+abbrev pub cells_of : List Group → List Cell
+cells_of groups = flat_map (λ group. group.1) groups
+
+-- one cell at least, each of the column
+pub record IsGroup (group : Group) : Type 0 where
+  pub some : is_nonempty group.1 ≡ true
+  pub own : AreOf group.0 group.1
+
+-- no two of one name
+abbrev pub AreApart : List Group → Type 0
+AreApart [] = Unit {0}
+AreApart (group ∷ groups) = Each (λ (later : Group). same_bytes later.0 group.0 ≡ false) groups × AreApart groups
+
+abbrev pub AreAbsent : Draft → List Group → Type 0
+AreAbsent earlier groups = Each (λ (group : Group). has_column earlier group.0 ≡ false) groups
+
+-- one cell declares its own column alone
+cell-column : (marked : Bool) (cell : Cell) (earlier : Draft) (n : List ℕ) → same_bytes n cell.column ≡ false → has_column earlier n ≡ false
+    → has_column (with_declarations earlier (cell_decl marked cell)) n ≡ false
+cell-column true cell earlier n apart absent = has-put n cell.column tt earlier.columns ∙ both_false (same_bytes n cell.column) (has_column earlier n) apart absent
+cell-column false cell earlier n apart absent = has-put n cell.column tt earlier.columns ∙ both_false (same_bytes n cell.column) (has_column earlier n) apart absent
+
+cells-column : (marked : Bool) (column : List ℕ) (cells : List Cell) (earlier : Draft) (n : List ℕ) → AreOf column cells → same_bytes n column ≡ false → has_column earlier n ≡ false
+    → has_column (with_declarations earlier (flat_map (cell_decl marked) cells)) n ≡ false
+cells-column marked column [] earlier n own apart absent = absent
+cells-column marked column (cell ∷ cells) earlier n own apart absent =
+    ap (λ (all : Draft). has_column all n) (with_declarations-append (cell_decl marked cell) (flat_map (cell_decl marked) cells) earlier)
+    ∙ cells-column marked column cells (with_declarations earlier (cell_decl marked cell)) n own.1 apart
+    (cell-column marked cell earlier n (ap (same_bytes n) own.0 ∙ apart) absent)
+
+still-absent : (marked : Bool) (column : List ℕ) (cells : List Cell) (earlier : Draft) (groups : List Group) → AreOf column cells → Each (λ (later : Group). same_bytes later.0 column ≡ false) groups
+    → AreAbsent earlier groups → AreAbsent (with_declarations earlier (flat_map (cell_decl marked) cells)) groups
+still-absent marked column cells earlier [] own apart absent = tt
+still-absent marked column cells earlier (group ∷ groups) own apart absent =
+    (cells-column marked column cells earlier group.0 own apart.0 absent.0, still-absent marked column cells earlier groups own apart.1 absent.1)
+
+-- Columns that are printed one after another, none of which is declared before, are not split.
+pub groups_unsplit : (marked : Bool) (groups : List Group) (last : Option (List ℕ)) (earlier : Draft) → Each IsGroup groups → AreApart groups → AreAbsent earlier groups
+    → Unsplit marked last earlier (cells_of groups)
+groups_unsplit marked [] last earlier h apart absent = tt
+groups_unsplit marked (group ∷ groups) last earlier h apart absent =
+    by group.1 h.0.some h.0.own
+    (groups_unsplit marked groups (Some group.0) (with_declarations earlier (flat_map (cell_decl marked) group.1)) h.1 apart.1 (still-absent marked group.0 group.1 earlier groups h.0.own apart.0 absent.1))
+  where
+    by : (cells : List Cell) → is_nonempty cells ≡ true → AreOf group.0 cells → Unsplit marked (Some group.0) (with_declarations earlier (flat_map (cell_decl marked) cells)) (cells_of groups)
+        → Unsplit marked last earlier (cells ++ cells_of groups)
+    by [] some own more = cc
+    by (cell ∷ cells) some own more = (
+      ap (is_split_in last earlier) own.0 ∙ absent_unsplit last earlier group.0 absent.0,
+      subst (λ (c : List ℕ). Unsplit marked (Some c) (with_declarations earlier (cell_decl marked cell)) (cells ++ cells_of groups)) (sym own.0)
+          (unsplit_more marked group.0 cells (cells_of groups) (with_declarations earlier (cell_decl marked cell)) own.1
+          (subst (λ (all : Draft). Unsplit marked (Some group.0) all (cells_of groups)) (with_declarations-append (cell_decl marked cell) (flat_map (cell_decl marked) cells) earlier) more)),
+    )

@@ -1,0 +1,199 @@
+-- The draft of a sound listing's canonical declarations, map by map.
+use Rattle.std.proofs.Common.{◌≡◌, refl, sym, ap, ◌∙◌, List, [], ◌∷◌, ◌++◌, ℕ, Bool, true, false, not, cond, map, append_assoc}
+use Rattle.std.specs.Prelude.{Option, Some, None, is_some, filter, ◌&&◌}
+use Rattle.std.specs.List.{flat_map}
+use Rattle.std.specs.Cmp.{second_so}
+use Rattle.std.specs.FinMap.{is_sorted}
+use Rattle.std.proofs.lemmas.List.{append-nil}
+use Rattle.mpslp_decimal.specs.Decimal.{Number, IsDecimal, is_decimal, is_zero, negated}
+use Rattle.mpslp_types.specs.Name.{is_mps_name, is_one_of, bytes_cmp}
+use Rattle.mpslp_model_core.specs.Model.{Column, CoefficientKey, key_cmp, suits, is_sound_row, is_sound_column}
+use Rattle.mpslp_model_core.specs.Views as views
+use Rattle.mpslp_types.specs.Limit.{zero_limit, is_at_most}
+use Rattle.mpslp_types.specs.declared.kinds.Kind.{Kind}
+use Rattle.mpslp_types.specs.declared.kinds.Kind.TheVariants.{Continuous, Integer, Semi}
+use Rattle.mpslp_types.specs.declared.kinds.Limit.{Limit}
+use Rattle.mpslp_types.specs.declared.kinds.Limit.TheVariants.{MinusInf, Finite, PlusInf}
+use Rattle.mpslp_builder.specs.Declaration.{RowDefinition, Draft, draft_of, empty_draft, at_name, has_name, names_in}
+use Rattle.mpslp_types.proofs.EachLemmas.{Each, Each-all}
+use Rattle.mpslp_types.proofs.BoolLemmas.{T_from}
+use Rattle.mpslp_model_core.proofs.PutsLemmas.{puts, puts-append, find-front}
+use Rattle.mpslp_builder.proofs.BoundsLemmas.{is_semi_kind}
+use Rattle.mpslp_builder.proofs.PartedLemmas.{parted-give}
+use Rattle.mpslp_builder.proofs.DraftLemmas.{rows-all, rhs_values-all, ranges-all, columns-all, lowers-all, uppers-all, marked-all, integers-all, binaries-all, semis-all}
+use Rattle.mpslp_builder.proofs.SortedDrafts.{bytes_total, tied_names}
+use Rattle.mpslp_builder.proofs.NamedEntries.{names_sorted, at-mapped, named}
+use Rattle.mpslp_canonical_mps.specs.Listing.{Listing}
+use Rattle.mpslp_canonical_mps.specs.CanonicalMps.{column_coefficients, printed_coefficients, is_integer_column, is_plain_column}
+use Rattle.mpslp_canonical_mps.proofs.CanonicalContents.{to_cell, cells_in}
+use Rattle.mpslp_builder.proofs.EntryLemmas.{first_there, then_told, told, all_told, sorted-kept, find-puts, puts-own, find-kept, sorted-told, find-told, filter-not_not}
+use Rattle.mpslp_canonical_mps.proofs.ListedParts.{form_told, value_told, side_told, range_told, column_lower, column_upper, semi_told, column_semi, row_forms, own_column, listed_decl, from_cells, rows-part, rhs_values-part, ranges-part, columns-part, marked-part, integers-part, binaries-part, lowers-part, uppers-part, semis-part}
+
+-- ---- a sound listing
+
+-- a decimal that is not 0, of a row or the objective and of a column that are there
+abbrev pub is_sound_entry : Listing → CoefficientKey × Number → Bool
+is_sound_entry m entry =
+    is_decimal entry.1 && (not (is_zero entry.1) && (is_one_of (names_in m.columns) entry.0.column && is_one_of (m.objective ∷ names_in m.rows) entry.0.row))
+
+pub record IsSoundListing (m : Listing) : Type 0 where
+  pub objective : is_mps_name m.objective ≡ true
+  pub no_row : is_one_of (names_in m.rows) m.objective ≡ false
+  pub constant : IsDecimal m.constant
+  pub rows : Each (λ row. is_sound_row row ≡ true) m.rows
+  pub columns : Each (λ column. is_sound_column column ≡ true) m.columns
+  pub coefficients : Each (λ entry. is_sound_entry m entry ≡ true) m.coefficients
+  pub rows_sorted : is_sorted bytes_cmp m.rows ≡ true
+  pub columns_sorted : is_sorted bytes_cmp m.columns ≡ true
+  pub coefficients_sorted : is_sorted key_cmp m.coefficients ≡ true
+
+abbrev pub drafted : Listing → Draft
+drafted m = draft_of (listed_decl m)
+
+-- ---- small facts on entries
+
+pub none_is : {X : Type 0} (o : Option X) → is_some o ≡ false → o ≡ None
+none_is None h = refl
+none_is (Some x) h = cc
+
+-- ---- rows
+
+pub rows-drafted : (m : Listing) → IsSoundListing m → (drafted m).rows ≡ row_forms m.rows
+rows-drafted m h =
+    rows-all (listed_decl m) empty_draft ∙ ap (λ (es : List (List ℕ × RowDefinition)). puts bytes_cmp es []) (rows-part m)
+    ∙ puts-own bytes_cmp bytes_total tied_names (row_forms m.rows) (names_sorted form_told m.rows h.rows_sorted)
+
+pub row-at : (m : Listing) → IsSoundListing m → (q : List ℕ) → at_name (drafted m).rows q ≡ then_told (λ row. Some (form_told row)) (at_name m.rows q)
+row-at m h q = ap (λ (es : List (List ℕ × RowDefinition)). at_name es q) (rows-drafted m h) ∙ at-mapped form_told q m.rows
+
+puts-told : (q : List ℕ) (o : Option Number) → puts bytes_cmp (told q o) [] ≡ told q o
+puts-told q None = refl
+puts-told q (Some d) = refl
+
+pub right_side-at : (m : Listing) → IsSoundListing m → (q : List ℕ)
+    → at_name (drafted m).rhs_values q ≡ first_there (then_told side_told (at_name m.rows q)) (at_name (told m.objective (value_told (negated m.constant))) q)
+right_side-at m h q =
+    let mine = told m.objective (value_told (negated m.constant)) in
+    let rows = all_told side_told m.rows in
+    ap (λ (es : List (List ℕ × Number)). at_name es q)
+    (rhs_values-all (listed_decl m) empty_draft ∙ ap (λ (es : List (List ℕ × Number)). puts bytes_cmp es []) (rhs_values-part m) ∙ puts-append bytes_cmp mine rows []
+    ∙ ap (puts bytes_cmp rows) (puts-told m.objective (value_told (negated m.constant))))
+    ∙ find-puts bytes_cmp bytes_total tied_names q rows mine (sorted-told bytes_cmp side_told m.rows h.rows_sorted)
+    ∙ ap (λ (o : Option Number). first_there o (at_name mine q)) (find-told bytes_cmp side_told bytes_total tied_names q m.rows h.rows_sorted)
+
+pub range-at : (m : Listing) → IsSoundListing m → (q : List ℕ) → at_name (drafted m).ranges q ≡ then_told range_told (at_name m.rows q)
+range-at m h q =
+    ap (λ (es : List (List ℕ × Number)). at_name es q)
+    (ranges-all (listed_decl m) empty_draft ∙ ap (λ (es : List (List ℕ × Number)). puts bytes_cmp es []) (ranges-part m)
+    ∙ puts-own bytes_cmp bytes_total tied_names (all_told range_told m.rows) (sorted-told bytes_cmp range_told m.rows h.rows_sorted))
+    ∙ find-told bytes_cmp range_told bytes_total tied_names q m.rows h.rows_sorted
+
+-- ---- columns
+
+pub lower-at : (m : Listing) → IsSoundListing m → (q : List ℕ) → at_name (drafted m).lowers q ≡ then_told column_lower (at_name m.columns q)
+lower-at m h q =
+    ap (λ (es : List _). at_name es q)
+    (lowers-all (listed_decl m) empty_draft ∙ ap (λ (es : List _). puts bytes_cmp es []) (lowers-part m)
+    ∙ puts-own bytes_cmp bytes_total tied_names (all_told column_lower m.columns) (sorted-told bytes_cmp column_lower m.columns h.columns_sorted))
+    ∙ find-told bytes_cmp column_lower bytes_total tied_names q m.columns h.columns_sorted
+
+pub upper-at : (m : Listing) → IsSoundListing m → (q : List ℕ) → at_name (drafted m).uppers q ≡ then_told column_upper (at_name m.columns q)
+upper-at m h q =
+    ap (λ (es : List _). at_name es q)
+    (uppers-all (listed_decl m) empty_draft ∙ ap (λ (es : List _). puts bytes_cmp es []) (uppers-part m)
+    ∙ puts-own bytes_cmp bytes_total tied_names (all_told column_upper m.columns) (sorted-told bytes_cmp column_upper m.columns h.columns_sorted))
+    ∙ find-told bytes_cmp column_upper bytes_total tied_names q m.columns h.columns_sorted
+
+semi-at : (m : Listing) → IsSoundListing m → (q : List ℕ) → at_name (drafted m).semis q ≡ then_told column_semi (at_name m.columns q)
+semi-at m h q =
+    ap (λ (es : List _). at_name es q)
+    (semis-all (listed_decl m) empty_draft ∙ ap (λ (es : List _). puts bytes_cmp es []) (semis-part m)
+    ∙ puts-own bytes_cmp bytes_total tied_names (all_told column_semi m.columns) (sorted-told bytes_cmp column_semi m.columns h.columns_sorted))
+    ∙ find-told bytes_cmp column_semi bytes_total tied_names q m.columns h.columns_sorted
+
+-- a semi-continuous column of a sound listing has a finite upper bound, which tells its kind
+semi-suited : (kind : Kind) (l u : Limit) → suits kind l u ≡ true → is_some (semi_told kind u) ≡ is_semi_kind kind
+semi-suited Continuous l MinusInf h = refl
+semi-suited Continuous l (Finite b) h = refl
+semi-suited Continuous l PlusInf h = refl
+semi-suited Integer l MinusInf h = refl
+semi-suited Integer l (Finite b) h = refl
+semi-suited Integer l PlusInf h = refl
+semi-suited Semi l MinusInf h = second_so (is_at_most zero_limit l) false h
+semi-suited Semi l (Finite b) h = refl
+semi-suited Semi l PlusInf h = second_so (is_at_most zero_limit l) false h
+
+pub semis-at : (m : Listing) → IsSoundListing m → (q : List ℕ) (column : Column) → suits column.kind column.lower column.upper ≡ true → at_name m.columns q ≡ Some column
+    → has_name (drafted m).semis q ≡ is_semi_kind column.kind
+semis-at m h q column suited is =
+    ap is_some (semi-at m h q ∙ ap (then_told column_semi) is) ∙ semi-suited column.kind column.lower column.upper suited
+
+-- each cell of a column names it, and there is one
+own-all : (name : List ℕ) (cells : List (List ℕ × Number)) → Each (λ e. e ≡ (name, tt)) (flat_map own_column (map (to_cell name) cells))
+own-all name [] = tt
+own-all name (cell ∷ cells) = (refl, own-all name cells)
+
+own-some : (name objective : List ℕ) (cells : List (List ℕ × Number)) → is_some (at_name (flat_map own_column (map (to_cell name) (printed_coefficients objective cells))) name) ≡ true
+own-some name objective [] = find-front bytes_cmp bytes_total tied_names name tt []
+own-some name objective (cell ∷ cells) = find-front bytes_cmp bytes_total tied_names name tt (flat_map own_column (map (to_cell name) cells))
+
+abbrev names_of_cells : Listing → List ℕ × Column → List (List ℕ × Unit {0})
+names_of_cells m column = flat_map own_column (cells_in m column)
+
+pub columns-parted : (m : Listing) (p : List ℕ × Column → Bool) (columns : List (List ℕ × Column)) → is_sorted bytes_cmp columns ≡ true
+    → puts bytes_cmp (from_cells own_column m (filter p columns) ++ from_cells own_column m (filter (λ column. not (p column)) columns)) [] ≡ map named columns
+columns-parted m p columns h =
+    parted-give bytes_cmp bytes_total tied_names named (names_of_cells m) p columns (T_from (is_sorted bytes_cmp (map named columns)) (names_sorted (λ _. tt) columns h))
+    (Each-all _ (λ column. own-some column.0 m.objective (column_coefficients m column.0)) columns)
+    (Each-all _ (λ column. own-all column.0 (printed_coefficients m.objective (column_coefficients m column.0))) columns)
+
+pub columns-drafted : (m : Listing) → IsSoundListing m → (drafted m).columns ≡ map named m.columns
+columns-drafted m h =
+    columns-all (listed_decl m) empty_draft
+    ∙ ap (λ (es : List (List ℕ × Unit {0})). puts bytes_cmp es [])
+    (columns-part m
+    ∙ ap (λ (cs : List (List ℕ × Column)). from_cells own_column m (filter is_plain_column m.columns) ++ from_cells own_column m cs) (sym (filter-not_not is_integer_column m.columns)))
+    ∙ columns-parted m is_plain_column m.columns h.columns_sorted
+
+filter-all : {X : Type 0} (xs : List X) → filter (λ _. true) xs ≡ xs
+filter-all [] = refl
+filter-all (x ∷ xs) = ap (λ (ys : List _). x ∷ ys) (filter-all xs)
+
+filter-no : {X : Type 0} (xs : List X) → filter (λ _. not true) xs ≡ []
+filter-no [] = refl
+filter-no (x ∷ xs) = filter-no xs
+
+pub marked-drafted : (m : Listing) → IsSoundListing m → (drafted m).marked ≡ map named (filter is_integer_column m.columns)
+marked-drafted m h =
+    let integers = filter is_integer_column m.columns in
+    marked-all (listed_decl m) empty_draft
+    ∙ ap (λ (es : List (List ℕ × Unit {0})). puts bytes_cmp es [])
+    (marked-part m ∙ sym (append-nil (from_cells own_column m integers)) ∙ sym (λ i. from_cells own_column m (filter-all integers i) ++ from_cells own_column m (filter-no integers i)))
+    ∙ columns-parted m (λ _. true) integers (sorted-kept bytes_cmp is_integer_column m.columns h.columns_sorted)
+
+one-part : {X Y : Type 0} (f : X → List Y) (xs : List X) → flat_map f xs ≡ flat_map f (filter (λ _. true) xs) ++ flat_map f (filter (λ _. not true) xs)
+one-part f [] = refl
+one-part f (x ∷ xs) = ap (λ (ys : List _). f x ++ ys) (one-part f xs) ∙ sym (append_assoc (f x) (flat_map f (filter (λ _. true) xs)) (flat_map f (filter (λ _. not true) xs)))
+
+-- columns of one part alone
+pub plain-alone : (m : Listing) (columns : List (List ℕ × Column)) → is_sorted bytes_cmp columns ≡ true → puts bytes_cmp (from_cells own_column m columns) [] ≡ map named columns
+plain-alone m columns h =
+    ap (λ (es : List (List ℕ × Unit {0})). puts bytes_cmp es []) (one-part (λ column. flat_map own_column (cells_in m column)) columns)
+    ∙ columns-parted m (λ _. true) columns h
+
+pub marked-at : (m : Listing) → IsSoundListing m → (q : List ℕ) (column : Column) → at_name m.columns q ≡ Some column → has_name (drafted m).marked q ≡ views.is_integer_column column
+marked-at m h q column is =
+    ap (λ (es : List (List ℕ × Unit {0})). has_name es q) (marked-drafted m h)
+    ∙ ap is_some (at-mapped (λ _. tt) q (filter is_integer_column m.columns))
+    ∙ ap (λ (o : Option Column). is_some (then_told (λ _. Some tt) o)) (find-kept bytes_cmp bytes_total tied_names (λ c. views.is_integer_column c) q m.columns h.columns_sorted ∙ ap (then_told (λ c. cond (views.is_integer_column c) (Some c) None)) is)
+    ∙ by (views.is_integer_column column)
+  where
+    by : (b : Bool) → is_some (then_told {V = Unit {0}} (λ _. Some tt) (cond b (Some column) None)) ≡ b
+    by true = refl
+    by false = refl
+
+pub integers-drafted : (m : Listing) → (drafted m).integers ≡ []
+integers-drafted m = integers-all (listed_decl m) empty_draft ∙ ap (λ (es : List (List ℕ × Unit {0})). puts bytes_cmp es []) (integers-part m)
+
+pub binaries-drafted : (m : Listing) → (drafted m).binaries ≡ []
+binaries-drafted m = binaries-all (listed_decl m) empty_draft ∙ ap (λ (es : List (List ℕ × Unit {0})). puts bytes_cmp es []) (binaries-part m)

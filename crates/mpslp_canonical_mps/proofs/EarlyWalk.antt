@@ -1,0 +1,139 @@
+-- What NAME, OBJSENSE, ROWS and COLUMNS of canonical text declare.
+use Rattle.std.proofs.Common.{◌≡◌, refl, ap, subst, ◌∙◌, List, [], ◌∷◌, ◌++◌, ℕ, Bool, true, false, map}
+use Rattle.std.specs.Prelude.{Option, Some, None, is_none, codes, filter_map}
+use Rattle.std.specs.List.{flat_map, last_or}
+use Rattle.std.specs.Option.{option_map_or, option_or}
+use Rattle.std.proofs.lemmas.List.{append-nil}
+use Rattle.mpslp_types.specs.Name.{is_mps_name, same_bytes}
+use Rattle.mpslp_builder.specs.Declaration.{declare_sense, declare_objective, Declarations, Draft, empty_draft, with_declaration, with_declarations}
+use Rattle.mpslp_types.specs.declared.kinds.Sense.{Sense}
+use Rattle.mpslp_types.specs.declared.kinds.Sense.TheVariants.{Minimize, Maximize}
+use Rattle.mpslp_types.specs.declared.kinds.RowType.TheVariants.{Free}
+use Rattle.mpslp_types.proofs.EachLemmas.{Each}
+use Rattle.mpslp_mps.specs.Line.{Fields, LineContent, data_line}
+use Rattle.mpslp_mps.specs.DataLine.{letter_of, opening_word}
+use Rattle.mpslp_mps.specs.Context.{context_of, current_section, objname, data_lines, marker_word, line_column, in_integer_part, last_column}
+use Rattle.mpslp_mps.specs.LineDeclarations.{line_declares}
+use Rattle.mpslp_mps.proofs.ContextLineLemmas.{form_faults}
+use Rattle.mpslp_mps.proofs.ContextLemmas.{objname-push}
+use Rattle.mpslp_mps.specs.declared.sections.Section.TheVariants.{Name, ObjSense, Rows, Columns}
+use Rattle.mpslp_canonical_mps.proofs.ContentsWalk.{Walk, walk-nil, walk-cons, walk-append, section-walk}
+use Rattle.mpslp_canonical_mps.proofs.RowsWalk.{RowItem, row_item, row_decl, InRows, row_step, name-good, stays}
+use Rattle.mpslp_canonical_mps.proofs.ColumnsWalk.{Cell, cell_item, cell_decl, GoodCell, InCells, cell_step, Unsplit, marker_fields, marker_part, marker_last, marker_says, marker_good, Group, cells_of, IsGroup, AreApart, AreAbsent, groups_unsplit}
+use Rattle.mpslp_canonical_mps.proofs.HeaderWalk.{header_item, MayStand, header-good, header-says, early-header-says, current-header}
+use Rattle.mpslp_canonical_mps.proofs.CanonicalWalk.{none-yet}
+
+-- ---- NAME and OBJSENSE
+
+abbrev pub sense_items : Sense → List LineContent
+sense_items Minimize = []
+sense_items Maximize = header_item ObjSense ∷ data_line (codes "MAX" ∷ []) ∷ []
+
+abbrev pub sense_decl : Sense → Declarations
+sense_decl Minimize = []
+sense_decl Maximize = declare_sense Maximize ∷ []
+
+pub start-walk : (sense : Sense) → Walk [] empty_draft (header_item Name ∷ sense_items sense) (sense_decl sense)
+start-walk Minimize = record { declares = refl; good = refl }
+start-walk Maximize = record { declares = refl; good = refl }
+
+-- ROWS may follow
+pub rows-may : (sense : Sense) → MayStand Rows (header_item Name ∷ sense_items sense)
+rows-may Minimize = record { settled = refl; fresh = refl; begins = refl }
+rows-may Maximize = record { settled = refl; fresh = refl; begins = refl }
+
+-- and there is no OBJNAME
+pub start-unnamed : (sense : Sense) → objname (header_item Name ∷ sense_items sense) ≡ None
+start-unnamed Minimize = refl
+start-unnamed Maximize = refl
+
+-- ---- ROWS
+
+abbrev pub objective_item : List ℕ → LineContent
+objective_item name = data_line (letter_of Free ∷ name ∷ [])
+
+objective-says : (name : List ℕ) (before : List LineContent) (earlier : Draft) → current_section before ≡ Some Rows → is_none earlier.objective ≡ true → objname before ≡ None
+    → line_declares (context_of before) earlier (objective_item name) ≡ declare_objective name ∷ []
+objective-says name before earlier s o unnamed = rw (s, o, unnamed) refl
+
+objective-good : (name : List ℕ) (before : List LineContent) (earlier : Draft) → current_section before ≡ Some Rows → is_mps_name name ≡ true → form_faults (context_of before) earlier (objective_item name) ≡ []
+objective-good name before earlier s h = rw s (name-good name h)
+
+pub rows-walk : (name : List ℕ) (rows : List RowItem) (before : List LineContent) (earlier : Draft) → MayStand Rows before → objname before ≡ None → is_none earlier.objective ≡ true → is_mps_name name ≡ true
+    → Each (λ (row : RowItem). is_mps_name row.0 ≡ true) rows → Walk before earlier (header_item Rows ∷ objective_item name ∷ map row_item rows) (declare_objective name ∷ flat_map row_decl rows)
+rows-walk name rows before earlier may unnamed none legal names =
+    let headed = before ++ header_item Rows ∷ [] in
+    let section = current-header Rows before in
+    let there = headed ++ objective_item name ∷ [] in
+    let named = with_declaration earlier (declare_objective name) in
+    let inside : InRows rows there named = record { section = stays Rows (letter_of Free ∷ name ∷ []) headed section; objective = refl; names = names } in
+    walk-cons before earlier (header_item Rows) (objective_item name ∷ map row_item rows) [] (declare_objective name ∷ flat_map row_decl rows) (early-header-says Rows before earlier refl) (header-good Rows before earlier may (λ e. cc))
+    (walk-cons headed earlier (objective_item name) (map row_item rows) (declare_objective name ∷ []) (flat_map row_decl rows) (objective-says name headed earlier section none (objname-push before (header_item Rows) ∙ ap (λ (o : Option (List ℕ)). option_or o None) unnamed)) (objective-good name headed earlier section legal)
+    (section-walk row_item row_decl InRows row_step rows there named inside).0)
+
+-- ---- COLUMNS
+
+abbrev pub marker_item : Bool → LineContent
+marker_item opens = data_line (marker_fields opens)
+
+-- integer columns between their markers
+abbrev pub part_items : List Cell → List LineContent
+part_items [] = []
+part_items (cell ∷ cells) = marker_item true ∷ (map cell_item (cell ∷ cells) ++ marker_item false ∷ [])
+
+no-part : (before : List LineContent) → data_lines Columns before ≡ [] → in_integer_part before ≡ false
+no-part before h = ap (λ (lines : List Fields). option_map_or (same_bytes opening_word) (last_or None (filter_map marker_word lines)) false) h
+
+no-column : (before : List LineContent) → data_lines Columns before ≡ [] → last_column before ≡ None
+no-column before h = ap (λ (lines : List Fields). option_map_or line_column (last_or None lines) None) h
+
+part-walk : (cells : List Cell) (before : List LineContent) (earlier : Draft) → current_section before ≡ Some Columns → in_integer_part before ≡ false → Each GoodCell cells
+    → Unsplit true None earlier cells → Walk before earlier (part_items cells) (flat_map (cell_decl true) cells)
+part-walk [] before earlier s p good unsplit = walk-nil before earlier
+part-walk (cell ∷ cells) before earlier s p good unsplit =
+    let opened = before ++ marker_item true ∷ [] in
+    let inside : InCells true (cell ∷ cells) opened earlier = record {
+      section = stays Columns (marker_fields true) before s;
+      part = marker_part true before s;
+      good = good;
+      unsplit = rw (marker_last true before s) unsplit;
+    } in
+    let walked = section-walk cell_item (cell_decl true) (InCells true) (cell_step true) (cell ∷ cells) opened earlier inside in
+    let ds = flat_map (cell_decl true) (cell ∷ cells) in
+    let after = opened ++ map cell_item (cell ∷ cells) in
+    let closing = walk-cons after (with_declarations earlier ds) (marker_item false) [] [] [] (marker_says false after (with_declarations earlier ds) walked.1.section)
+    (marker_good false after (with_declarations earlier ds) walked.1.section walked.1.part) (walk-nil (after ++ marker_item false ∷ []) (with_declarations earlier ds)) in
+    walk-cons before earlier (marker_item true) (map cell_item (cell ∷ cells) ++ marker_item false ∷ []) [] ds (marker_says true before earlier s) (marker_good true before earlier s p)
+    (subst (λ (x : Declarations). Walk opened earlier (map cell_item (cell ∷ cells) ++ marker_item false ∷ []) x) (append-nil ds)
+    (walk-append opened earlier (map cell_item (cell ∷ cells)) (marker_item false ∷ []) ds [] walked.0 closing))
+
+-- the columns that are not integer, and the integer ones
+pub record AreColumns (plain integers : List Group) (earlier : Draft) : Type 0 where
+  pub plain_groups : Each IsGroup plain
+  pub integer_groups : Each IsGroup integers
+  pub plain_apart : AreApart plain
+  pub integers_apart : AreApart integers
+  pub plain_absent : AreAbsent earlier plain
+  pub integers_absent : AreAbsent (with_declarations earlier (flat_map (cell_decl false) (cells_of plain))) integers
+  pub plain_cells : Each GoodCell (cells_of plain)
+  pub integer_cells : Each GoodCell (cells_of integers)
+
+pub columns-walk : (plain integers : List Group) (before : List LineContent) (earlier : Draft) → MayStand Columns before → is_none earlier.objective ≡ false → AreColumns plain integers earlier
+    → Walk before earlier (header_item Columns ∷ (map cell_item (cells_of plain) ++ part_items (cells_of integers)))
+    (flat_map (cell_decl false) (cells_of plain) ++ flat_map (cell_decl true) (cells_of integers))
+columns-walk plain integers before earlier may named h =
+    let headed = before ++ header_item Columns ∷ [] in
+    let lines = none-yet Columns before refl may.fresh in
+    let inside : InCells false (cells_of plain) headed earlier = record {
+      section = current-header Columns before;
+      part = no-part headed lines;
+      good = h.plain_cells;
+      unsplit = rw (no-column headed lines) (groups_unsplit false plain None earlier h.plain_groups h.plain_apart h.plain_absent);
+    } in
+    let walked = section-walk cell_item (cell_decl false) (InCells false) (cell_step false) (cells_of plain) headed earlier inside in
+    let after = headed ++ map cell_item (cells_of plain) in
+    let next = with_declarations earlier (flat_map (cell_decl false) (cells_of plain)) in
+    walk-cons before earlier (header_item Columns) (map cell_item (cells_of plain) ++ part_items (cells_of integers)) []
+    (flat_map (cell_decl false) (cells_of plain) ++ flat_map (cell_decl true) (cells_of integers)) (header-says Columns before earlier named) (header-good Columns before earlier may (λ _. named))
+    (walk-append headed earlier (map cell_item (cells_of plain)) (part_items (cells_of integers)) (flat_map (cell_decl false) (cells_of plain)) (flat_map (cell_decl true) (cells_of integers)) walked.0
+    (part-walk (cells_of integers) after next walked.1.section walked.1.part h.integer_cells (groups_unsplit true integers None next h.integer_groups h.integers_apart h.integers_absent)))

@@ -1,0 +1,201 @@
+-- The sections of a sound listing's canonical text are good ones to walk over.
+use Rattle.std.proofs.Common.{◌≡◌, refl, sym, ap, ◌∙◌, List, [], ◌∷◌, ◌++◌, ℕ, Bool, true, false, cond, map}
+use Rattle.std.specs.Prelude.{Option, Some, None}
+use Rattle.std.specs.List.{flat_map}
+use Rattle.std.specs.Option.{option_map_or}
+use Rattle.mpslp_decimal.specs.Decimal.{Number, IsDecimal, is_zero, zero_number, negated}
+use Rattle.mpslp_decimal.proofs.NumberTextLemmas.{number-text}
+use Rattle.mpslp_types.specs.Name.{is_mps_name, bytes_cmp}
+use Rattle.mpslp_model_core.specs.Model.{Row, Column, is_sound_row, is_sound_column}
+use Rattle.mpslp_types.specs.Limit.{is_bounded_decimal, is_lower_side, is_upper_side}
+use Rattle.mpslp_builder.specs.Declaration.{RowDefinition, by_type, Declaration, declare_objective, Draft, empty_draft, with_declaration, with_declarations, at_name, is_free_definition, is_free_row}
+use Rattle.mpslp_types.specs.declared.kinds.Sense.{Sense}
+use Rattle.mpslp_types.specs.declared.kinds.Sense.TheVariants.{Minimize, Maximize}
+use Rattle.mpslp_types.specs.declared.kinds.Kind.{Kind}
+use Rattle.mpslp_types.specs.declared.kinds.Kind.TheVariants.{Continuous, Integer, Semi}
+use Rattle.mpslp_types.specs.declared.kinds.Limit.{Limit}
+use Rattle.mpslp_types.specs.declared.kinds.Limit.TheVariants.{MinusInf, Finite, PlusInf}
+use Rattle.mpslp_types.proofs.BoolLemmas.{back}
+use Rattle.mpslp_types.proofs.EachLemmas.{Each, Each-weaker, Each-append, Each-map, Each-flat_map, Each-all}
+use Rattle.mpslp_model_core.proofs.PutsLemmas.{puts}
+use Rattle.mpslp_builder.proofs.CoefficientLemmas.{flat_map-flat_map}
+use Rattle.mpslp_builder.proofs.DraftLemmas.{row_part, rows-all}
+use Rattle.mpslp_builder.proofs.SortedDrafts.{bytes_total, tied_names}
+use Rattle.mpslp_canonical_mps.proofs.RowsWalk.{RowItem, row_decl, Side, ReadsAs}
+use Rattle.mpslp_canonical_mps.proofs.ColumnsWalk.{Cell, cell_decl, cells_of}
+use Rattle.mpslp_canonical_mps.proofs.BoundsWalk.{GoodBound}
+use Rattle.mpslp_canonical_mps.specs.Listing.{Listing}
+use Rattle.mpslp_canonical_mps.specs.PrintedValues.{have_same_value, is_fixed, bound_with_value, printed_type, printed_rhs, printed_range, PrintedBound, printed_lower, printed_upper, printed_bounds}
+use Rattle.mpslp_mps.specs.declared.bound_types.BoundType.TheVariants as bounds
+use Rattle.mpslp_canonical_mps.proofs.CanonicalContents.{to_row, to_side, side_unless_zero, row_side, sides_in, row_range, to_bound, bounds_in}
+use Rattle.mpslp_canonical_mps.proofs.EarlyWalk.{sense_decl}
+use Rattle.mpslp_canonical_mps.proofs.WholeWalk.{IsGoodWhole, draft_at_columns, draft_at_sides}
+use Rattle.mpslp_canonical_mps.proofs.ListedContents.{whole_of}
+use Rattle.mpslp_builder.proofs.EntryLemmas.{then_told, puts-own}
+use Rattle.mpslp_builder.proofs.KeptParts.{kept-all}
+use Rattle.mpslp_canonical_mps.proofs.ListedParts.{form_told, row_forms, rows-made}
+use Rattle.mpslp_builder.proofs.NamedEntries.{one_of-names, own-found, names_sorted, at-mapped}
+use Rattle.mpslp_canonical_mps.proofs.DraftMaps.{IsSoundListing, none_is}
+use Rattle.mpslp_builder.proofs.SoundParts.{row_named, row_sides, row_distance, column_sides, bounded_so, bounded_finite, lower_of, upper_of}
+use Rattle.mpslp_types.specs.declared.kinds.RowType.TheVariants.{AtLeast, Equal}
+use Rattle.mpslp_canonical_mps.proofs.PrintableLemmas.{Holds, side-decimal, range-decimal, negated-decimal}
+use Rattle.mpslp_canonical_mps.proofs.GoodColumns.{are-columns}
+
+-- ---- right sides and ranges are read as the numbers that they were printed from
+
+reads-side : (row : List ℕ) (value : Number) → IsDecimal value → Each ReadsAs (side_unless_zero row value)
+reads-side row value d = elim (is_zero value) as (λ b. Each ReadsAs (cond b [] (to_side row value ∷ []))) [ true ↦ tt | false ↦ (number-text value d, tt) ]
+
+reads-sides : (m : Listing) → IsSoundListing m → Each ReadsAs (sides_in m)
+reads-sides m h =
+    Each-append ReadsAs (side_unless_zero m.objective (negated m.constant)) (flat_map row_side m.rows) (reads-side m.objective (negated m.constant) (negated-decimal m.constant h.constant))
+    (Each-flat_map ReadsAs row_side m.rows (Each-weaker (λ row. is_sound_row row ≡ true) (λ row. Each ReadsAs (row_side row))
+    (λ row k. reads-side row.0 (printed_rhs row.1.lower row.1.upper) (side-decimal row.1.lower row.1.upper (row_sides row k))) m.rows h.rows))
+
+reads-ranges : (m : Listing) → IsSoundListing m → Each ReadsAs (flat_map row_range m.rows)
+reads-ranges m h =
+    Each-flat_map ReadsAs row_range m.rows (Each-weaker (λ row. is_sound_row row ≡ true) (λ row. Each ReadsAs (row_range row)) one m.rows h.rows)
+  where
+    one : (row : List ℕ × Row) → is_sound_row row ≡ true → Each ReadsAs (row_range row)
+    one row k = by (printed_range row.1.lower row.1.upper) (range-decimal row.1.lower row.1.upper (row_distance row k))
+      where
+        by : (o : Option Number) → Holds IsDecimal o → Each ReadsAs (option_map_or (λ value. to_side row.0 value ∷ []) o [])
+        by None d = tt
+        by (Some value) d = (number-text value d, tt)
+
+-- ---- no right side is of a row of type N
+
+abbrev KeepsRows : Declaration → Type 0
+KeepsRows d = (all : Draft) → (with_declaration all d).rows ≡ all.rows
+
+rows-made-of : (m : Listing) → (draft_at_columns (whole_of m)).rows ≡ puts bytes_cmp (row_forms m.rows) []
+rows-made-of m =
+    let start = with_declarations empty_draft (sense_decl m.sense) in
+    let ds = flat_map row_decl (map to_row m.rows) in
+    rows-all ds (with_declaration start (declare_objective m.objective))
+    ∙ ap (λ (es : List (List ℕ × RowDefinition)). puts bytes_cmp es start.rows) (flat_map-flat_map row_part row_decl (map to_row m.rows) ∙ rows-made m.rows)
+    ∙ ap (λ (base : List (List ℕ × RowDefinition)). puts bytes_cmp (row_forms m.rows) base) (at_start m.sense)
+  where
+    at_start : (sense : Sense) → (with_declarations empty_draft (sense_decl sense)).rows ≡ []
+    at_start Minimize = refl
+    at_start Maximize = refl
+
+columns-keep : (plain integers : List Cell) (all : Draft) → (with_declarations all (flat_map (cell_decl false) plain ++ flat_map (cell_decl true) integers)).rows ≡ all.rows
+columns-keep plain integers all =
+    kept-all (λ d. d.rows) (flat_map (cell_decl false) plain ++ flat_map (cell_decl true) integers)
+    (Each-append KeepsRows (flat_map (cell_decl false) plain) (flat_map (cell_decl true) integers)
+    (Each-flat_map KeepsRows (cell_decl false) plain (Each-all (λ cell. Each KeepsRows (cell_decl false cell)) (λ cell. (λ _. refl, (λ _. refl, tt))) plain))
+    (Each-flat_map KeepsRows (cell_decl true) integers (Each-all (λ cell. Each KeepsRows (cell_decl true cell)) (λ cell. (λ _. refl, (λ _. refl, (λ _. refl, tt)))) integers)))
+    all
+
+rows-at-sides : (m : Listing) → IsSoundListing m → (draft_at_sides (whole_of m)).rows ≡ row_forms m.rows
+rows-at-sides m h =
+    columns-keep (cells_of (whole_of m).plain) (cells_of (whole_of m).integers) (draft_at_columns (whole_of m))
+    ∙ rows-made-of m ∙ puts-own bytes_cmp bytes_total tied_names (row_forms m.rows) (names_sorted form_told m.rows h.rows_sorted)
+
+abbrev is_free_in : Option Row → Bool
+is_free_in o = option_map_or is_free_definition (then_told (λ row. Some (form_told row)) o) false
+
+free-at : (m : Listing) → IsSoundListing m → (q : List ℕ) → is_free_row (draft_at_sides (whole_of m)) q ≡ is_free_in (at_name m.rows q)
+free-at m h q =
+    ap (λ (es : List (List ℕ × RowDefinition)). option_map_or is_free_definition (at_name es q) false) (rows-at-sides m h)
+    ∙ ap (λ (o : Option RowDefinition). option_map_or is_free_definition o false) (at-mapped form_told q m.rows)
+
+-- a row of type N has no right side
+free-side : (l u : Limit) → is_free_definition (by_type (printed_type l u)) ≡ true → is_zero (printed_rhs l u) ≡ true
+free-side MinusInf MinusInf h = refl
+free-side MinusInf (Finite b) h = cc
+free-side MinusInf PlusInf h = refl
+free-side (Finite a) MinusInf h = cc
+free-side (Finite a) (Finite b) h =
+    elim (have_same_value a b) as (λ t. is_free_definition (by_type (cond t Equal AtLeast)) ≡ true → is_zero a ≡ true) [ true ↦ λ e. cc | false ↦ λ e. cc ] h
+free-side (Finite a) PlusInf h = cc
+free-side PlusInf MinusInf h = refl
+free-side PlusInf (Finite b) h = cc
+free-side PlusInf PlusInf h = refl
+
+pub objective-no-row : (m : Listing) → IsSoundListing m → at_name m.rows m.objective ≡ None
+objective-no-row m h = none_is (at_name m.rows m.objective) (sym (one_of-names m.objective m.rows) ∙ h.no_row)
+
+abbrev IsBoundIn : Listing → Side → Type 0
+IsBoundIn m side = is_free_row (draft_at_sides (whole_of m)) side.row ≡ false
+
+sides-bound : (m : Listing) → IsSoundListing m → Each (λ (side : Side). is_free_row (draft_at_sides (whole_of m)) side.row ≡ false) (sides_in m)
+sides-bound m h =
+    Each-append (IsBoundIn m) (side_unless_zero m.objective (negated m.constant)) (flat_map row_side m.rows) mine
+    (Each-flat_map (IsBoundIn m) row_side m.rows (Each-weaker (λ row. at_name m.rows row.0 ≡ Some row.1) (λ row. Each (IsBoundIn m) (row_side row)) one m.rows (own-found m.rows h.rows_sorted)))
+  where
+    mine : Each (IsBoundIn m) (side_unless_zero m.objective (negated m.constant))
+    mine = elim (is_zero (negated m.constant)) as (λ b. Each (IsBoundIn m) (cond b [] (to_side m.objective (negated m.constant) ∷ []))) [
+      | true ↦ tt
+      | false ↦ (free-at m h m.objective ∙ ap is_free_in (objective-no-row m h), tt)
+    ]
+
+    one : (row : List ℕ × Row) → at_name m.rows row.0 ≡ Some row.1 → Each (IsBoundIn m) (row_side row)
+    one row is = by (is_zero (printed_rhs row.1.lower row.1.upper)) refl
+      where
+        by : (b : Bool) → is_zero (printed_rhs row.1.lower row.1.upper) ≡ b → Each (IsBoundIn m) (cond b [] (to_side row.0 (printed_rhs row.1.lower row.1.upper) ∷ []))
+        by true e = tt
+        by false e = (
+          free-at m h row.0 ∙ ap is_free_in is ∙ back (is_free_definition (form_told row.1)) (is_zero (printed_rhs row.1.lower row.1.upper)) (free-side row.1.lower row.1.upper) e,
+          tt,
+        )
+
+-- ---- bounds
+
+abbrev IsBounded : PrintedBound → Type 0
+IsBounded bound = Holds (λ d. is_bounded_decimal d ≡ true) bound.value
+
+lower-bounded : (l : Limit) → is_lower_side l ≡ true → Each IsBounded (printed_lower l)
+lower-bounded MinusInf h = (tt, tt)
+lower-bounded (Finite a) h = elim (is_zero a) as (λ b. Each IsBounded (cond b [] (bound_with_value bounds.Lower a ∷ []))) [ true ↦ tt | false ↦ (h, tt) ]
+lower-bounded PlusInf h = tt
+
+upper-bounded : (kind : Kind) (u : Limit) → is_upper_side u ≡ true → Each IsBounded (printed_upper kind u)
+upper-bounded kind MinusInf h = tt
+upper-bounded kind (Finite b) h = (h, tt)
+upper-bounded Continuous PlusInf h = tt
+upper-bounded Integer PlusInf h = (tt, tt)
+upper-bounded Semi PlusInf h = tt
+
+all-bounded : (kind : Kind) (l u : Limit) → is_lower_side l ≡ true → is_upper_side u ≡ true → Each IsBounded (printed_bounds kind l u)
+all-bounded kind MinusInf PlusInf h k = (tt, tt)
+all-bounded kind MinusInf MinusInf h k = cc
+all-bounded kind MinusInf (Finite b) h k = (tt, (k, tt))
+all-bounded kind (Finite a) (Finite b) h k =
+    elim (is_fixed kind a b) as (λ t. Each IsBounded (cond t (bound_with_value bounds.Fixed b ∷ []) (printed_lower (Finite a) ++ printed_upper kind (Finite b)))) [
+      | true ↦ (k, tt)
+      | false ↦ Each-append IsBounded (printed_lower (Finite a)) (printed_upper kind (Finite b)) (lower-bounded (Finite a) h) (upper-bounded kind (Finite b) k)
+    ]
+all-bounded kind (Finite a) MinusInf h k = cc
+all-bounded kind (Finite a) PlusInf h k = Each-append IsBounded (printed_lower (Finite a)) (printed_upper kind PlusInf) (lower-bounded (Finite a) h) (upper-bounded kind PlusInf k)
+all-bounded kind PlusInf u h k = cc
+
+good-bound : (name : List ℕ) (bound : PrintedBound) → IsBounded bound → GoodBound (to_bound name bound)
+good-bound name bound h = by bound.value h
+  where
+    by : (o : Option Number) → Holds (λ d. is_bounded_decimal d ≡ true) o → GoodBound (to_bound name (record { type = bound.type; value = o }))
+    by None k = record { text = number-text zero_number refl; finite = refl }
+    by (Some d) k = record { text = number-text d (bounded_so d k); finite = bounded_finite d k }
+
+bounds-good : (m : Listing) → IsSoundListing m → Each GoodBound (flat_map bounds_in m.columns)
+bounds-good m h =
+    Each-flat_map GoodBound bounds_in m.columns (Each-weaker (λ column. is_sound_column column ≡ true) (λ column. Each GoodBound (bounds_in column)) one m.columns h.columns)
+  where
+    one : (column : List ℕ × Column) → is_sound_column column ≡ true → Each GoodBound (bounds_in column)
+    one column k =
+        let sides = column_sides column k in
+        let line_text = printed_bounds column.1.kind column.1.lower column.1.upper in
+        Each-map GoodBound (to_bound column.0) line_text
+        (Each-weaker IsBounded (λ bound. GoodBound (to_bound column.0 bound)) (good-bound column.0) line_text
+        (all-bounded column.1.kind column.1.lower column.1.upper (lower_of column.1.lower column.1.upper sides) (upper_of column.1.lower column.1.upper sides)))
+
+-- ---- all sections
+
+pub good-whole : (m : Listing) → IsSoundListing m → IsGoodWhole (whole_of m)
+good-whole m h = record {
+  objective = h.objective;
+  rows = Each-map (λ (row : RowItem). is_mps_name row.0 ≡ true) to_row m.rows (Each-weaker (λ row. is_sound_row row ≡ true) (λ row. is_mps_name row.0 ≡ true) row_named m.rows h.rows);
+  columns = are-columns m h;
+  late = record { sides = reads-sides m h; bound = sides-bound m h; ranges = reads-ranges m h; bounds = bounds-good m h };
+}

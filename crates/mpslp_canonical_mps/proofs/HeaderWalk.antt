@@ -1,0 +1,149 @@
+-- Headers: what each declares, that it has a good form, and what the lines before say once it stands.
+use Rattle.std.proofs.Common.{◌≡◌, refl, sym, ap, ◌∙◌, List, [], ◌∷◌, ◌++◌, Bool, true, false, map, append_assoc}
+use Rattle.std.specs.Prelude.{Option, Some, None, is_some, is_none, ◌||◌, codes}
+use Rattle.std.specs.Option.{option_or}
+use Rattle.std.proofs.lemmas.List.{append-nil}
+use Rattle.mpslp_builder.specs.Declaration.{declare_sense, Draft}
+use Rattle.mpslp_types.specs.declared.kinds.Sense.TheVariants.{Maximize}
+use Rattle.mpslp_types.proofs.BoolLemmas.{nor}
+use Rattle.mpslp_mps.specs.Line.{Fields, LineContent, skipped, header, data_line}
+use Rattle.mpslp_mps.specs.Section.{keyword_of, section_of_header, section_named, begins, is_section}
+use Rattle.mpslp_mps.specs.Context.{context_of, current_section, has_section, fields_under, data_lines_after, data_lines, is_read, word_due_after, word_due}
+use Rattle.mpslp_mps.specs.LineDeclarations.{line_declares}
+use Rattle.mpslp_mps.specs.HeaderFault.{may_begin, is_out_of_order}
+use Rattle.mpslp_mps.proofs.ContextLineLemmas.{form_faults}
+use Rattle.mpslp_mps.specs.declared.sections.Section.{Section}
+use Rattle.mpslp_mps.specs.declared.sections.Section.TheVariants.{Name, ObjSense, ObjName, Rows, Columns, Rhs, Ranges, Bounds, EndData}
+use Rattle.mpslp_mps.proofs.SectionLemmas.{current_section-push, has_section-append, has_section-cons}
+use Rattle.mpslp_mps.proofs.ContextLemmas.{word_due-push}
+
+-- a header that wants a word on a line of its own, and whether a word is to come
+abbrev pub is_bare : LineContent → Bool
+is_bare item = is_some (word_due_after item)
+
+abbrev pub wants_word : List LineContent → Bool
+wants_word before = is_some (word_due before)
+
+abbrev pub header_item : Section → LineContent
+header_item section = header (keyword_of section) []
+
+section_named-keyword : (section : Section) → section_named (keyword_of section) ≡ Some section
+section_named-keyword Name = refl
+section_named-keyword ObjSense = refl
+section_named-keyword ObjName = refl
+section_named-keyword Rows = refl
+section_named-keyword Columns = refl
+section_named-keyword Rhs = refl
+section_named-keyword Ranges = refl
+section_named-keyword Bounds = refl
+section_named-keyword EndData = refl
+
+-- ---- a header where it may stand
+
+-- OBJSENSE has its word or has not begun; the section has not begun, and may begin
+pub record MayStand (section : Section) (before : List LineContent) : Type 0 where
+  pub settled : wants_word before ≡ false
+  pub fresh : has_section before section ≡ false
+  pub begins : may_begin (context_of before) section ≡ true
+
+in_order : (section : Section) (before : List LineContent) → MayStand section before → is_out_of_order (context_of before) section ≡ false
+in_order section before h = rw (h.settled, h.fresh, h.begins) refl
+
+-- the objective is there where COLUMNS begins
+pub header-good : (section : Section) (before : List LineContent) (earlier : Draft) → MayStand section before → (is_section Columns (Some section) ≡ true → is_none earlier.objective ≡ false)
+    → form_faults (context_of before) earlier (header_item section) ≡ []
+header-good section before earlier h named = by section (in_order section before h) h.fresh named
+  where
+    by : (s : Section) → is_out_of_order (context_of before) s ≡ false → has_section before s ≡ false → (is_section Columns (Some s) ≡ true → is_none earlier.objective ≡ false)
+        → form_faults (context_of before) earlier (header_item s) ≡ []
+    by Name o f n = rw (o, f) refl
+    by ObjSense o f n = rw (o, f) refl
+    by ObjName o f n = rw (o, f) refl
+    by Rows o f n = rw (o, f) refl
+    by Columns o f n = rw (o, f, n refl) refl
+    by Rhs o f n = rw (o, f) refl
+    by Ranges o f n = rw (o, f) refl
+    by Bounds o f n = rw (o, f) refl
+    by EndData o f n = rw (o, f) refl
+
+-- a header declares nothing, but for the objective at COLUMNS where there was none
+pub header-says : (section : Section) (before : List LineContent) (earlier : Draft) → is_none earlier.objective ≡ false → line_declares (context_of before) earlier (header_item section) ≡ []
+header-says Name before earlier o = refl
+header-says ObjSense before earlier o = refl
+header-says ObjName before earlier o = refl
+header-says Rows before earlier o = refl
+header-says Columns before earlier o = rw o refl
+header-says Rhs before earlier o = refl
+header-says Ranges before earlier o = refl
+header-says Bounds before earlier o = refl
+header-says EndData before earlier o = refl
+
+-- before ROWS there need be no objective
+pub early-header-says : (section : Section) (before : List LineContent) (earlier : Draft) → is_section Columns (Some section) ≡ false → line_declares (context_of before) earlier (header_item section) ≡ []
+early-header-says Name before earlier o = refl
+early-header-says ObjSense before earlier o = refl
+early-header-says ObjName before earlier o = refl
+early-header-says Rows before earlier o = refl
+early-header-says Columns before earlier o = cc
+early-header-says Rhs before earlier o = refl
+early-header-says Ranges before earlier o = refl
+early-header-says Bounds before earlier o = refl
+early-header-says EndData before earlier o = refl
+
+pub current-header : (section : Section) (before : List LineContent) → current_section (before ++ header_item section ∷ []) ≡ Some section
+current-header section before = current_section-push before (header_item section) ∙ ap (λ (o : Option Section). option_or o (current_section before)) (section_named-keyword section)
+
+-- ---- the word of OBJSENSE, on a line of its own
+
+pub word-says : (before : List LineContent) (earlier : Draft) → current_section before ≡ Some ObjSense → line_declares (context_of before) earlier (data_line (codes "MAX" ∷ [])) ≡ declare_sense Maximize ∷ []
+word-says before earlier s = rw s refl
+
+pub word-good : (before : List LineContent) (earlier : Draft) → current_section before ≡ Some ObjSense → wants_word before ≡ true → form_faults (context_of before) earlier (data_line (codes "MAX" ∷ [])) ≡ []
+word-good before earlier s w = rw (s, w) refl
+
+-- ---- what has not begun
+
+or_false : (b : Bool) → (b || false) ≡ b
+or_false true = refl
+or_false false = refl
+
+-- lines that are no headers begin nothing
+pub has_section-data : {X : Type 0} (section : Section) (item : X → LineContent) → ((x : X) → section_of_header (item x) ≡ None) → (xs : List X) (before : List LineContent)
+    → has_section (before ++ map item xs) section ≡ has_section before section
+has_section-data section item none xs before =
+    has_section-append section before (map item xs) ∙ ap (λ (b : Bool). has_section before section || b) (all xs) ∙ or_false (has_section before section)
+  where
+    all : (ys : List _) → has_section (map item ys) section ≡ false
+    all [] = refl
+    all (y ∷ ys) = rw (none y) (all ys)
+
+pub current-data : {X : Type 0} (item : X → LineContent) → ((x : X) → section_of_header (item x) ≡ None) → (xs : List X) (before : List LineContent)
+    → current_section (before ++ map item xs) ≡ current_section before
+current-data item none [] before = ap current_section (append-nil before)
+current-data item none (x ∷ xs) before =
+    ap current_section (sym (append_assoc before (item x ∷ []) (map item xs))) ∙ current-data item none xs (before ++ item x ∷ [])
+    ∙ current_section-push before (item x) ∙ ap (λ (o : Option Section). option_or o (current_section before)) (none x)
+
+other_section : (section : Section) (o current : Option Section) → is_section section current ≡ false → is_section section o ≡ false → is_section section (option_or o current) ≡ false
+other_section section None current h k = h
+other_section section (Some s) current h k = k
+
+under_other : (section : Section) (current : Option Section) (item : LineContent) → is_section section current ≡ false → fields_under section current item ≡ []
+under_other section current skipped h = refl
+under_other section current (header keyword more) h = refl
+under_other section current (data_line fields) h = rw h refl
+
+lines_of_other : (section : Section) (before : List LineContent) (current : Option Section) → is_section section current ≡ false → has_section before section ≡ false → data_lines_after section current before ≡ []
+lines_of_other section [] current h k = refl
+lines_of_other section (item ∷ before) current h k =
+    let parts = nor (begins section item) (has_section before section) (sym (has_section-cons section item before) ∙ k) in
+    ap (λ (lines : List Fields). lines ++ data_lines_after section (option_or (section_of_header item) current) before) (under_other section current item h)
+    ∙ lines_of_other section before (option_or (section_of_header item) current) (other_section section (section_of_header item) current h parts.0) parts.1
+
+-- a section that has not begun has no lines
+pub no-lines : (section : Section) (before : List LineContent) → has_section before section ≡ false → data_lines section before ≡ []
+no-lines section before h = lines_of_other section before None refl h
+
+-- after a data line, and after a header that is no bare OBJSENSE
+pub settled-after : (before : List LineContent) (item : LineContent) → is_read item ≡ true → is_bare item ≡ false → wants_word (before ++ item ∷ []) ≡ false
+settled-after before item r b = ap is_some (word_due-push before item ∙ rw r refl) ∙ b

@@ -1,0 +1,343 @@
+-- The draft of a sound model's canonical declarations means the model.
+use Rattle.std.proofs.Common.{◌≡◌, refl, sym, ap, ◌∙◌, List, [], ◌∷◌, ◌++◌, ℕ, zero, suc, Bool, true, false, not, cond, map}
+use Rattle.std.specs.Prelude.{ℤ, pos, negsuc, neg_ℤ, Option, Some, None, is_some, unwrap_or, ◌&&◌}
+use Rattle.std.specs.List.{list_all}
+use Rattle.std.specs.Ordering.{eq_by_cmp, is_eq}
+use Rattle.std.specs.declared.cmp.Ordering.{Ordering}
+use Rattle.std.specs.Cmp.{first_so, second_so, tied_itself}
+use Rattle.mpslp_decimal.specs.Decimal.{Number, IsDecimal, is_decimal, is_infinite_size, zero_number, negated, difference_of}
+use Rattle.mpslp_decimal.proofs.NumberTextLemmas.{zero-is}
+use Rattle.mpslp_decimal.proofs.OrderLemmas.{same_decimal}
+use Rattle.mpslp_model_core.specs.Model.{LinearModel, Row, Column, is_sound_row, is_sound_column, IsSound}
+use Rattle.mpslp_types.specs.Name.{bytes_cmp}
+use Rattle.mpslp_types.specs.Limit.{is_bounded_decimal, is_lower_side, is_upper_side, are_sides}
+use Rattle.mpslp_builder.specs.Declaration.{RowDefinition, by_type, Declaration, declare_sense, declare_objective, declare_row, declare_rhs, declare_range, declare_column, declare_coefficient, declare_lower, declare_upper, declare_marked, declare_semi, Declarations, Draft, empty_draft, with_declaration, with_declarations, at_name, has_name}
+use Rattle.mpslp_model_core.specs.Limits.{limits_of, plain_limits, has_infinite_rhs}
+use Rattle.mpslp_builder.specs.Bounds.{column_of}
+use Rattle.mpslp_builder.specs.Meaning.{objective_name, constant_of, rhs_or_zero, row_limits, row_entry, row_passes, DraftMeans}
+use Rattle.mpslp_types.specs.declared.kinds.Sense.{Sense}
+use Rattle.mpslp_types.specs.declared.kinds.Sense.TheVariants.{Minimize, Maximize}
+use Rattle.mpslp_types.specs.declared.kinds.Limit.{Limit}
+use Rattle.mpslp_types.specs.declared.kinds.Limit.TheVariants.{MinusInf, Finite, PlusInf}
+use Rattle.mpslp_types.specs.declared.kinds.RowType.TheVariants.{Free, AtLeast, Equal}
+use Rattle.mpslp_types.proofs.BoolLemmas.{so_not}
+use Rattle.mpslp_types.proofs.EachLemmas.{Each, Each-weaker, Each-both, Each-map, Each-all, list_all-from_Each}
+use Rattle.mpslp_model_core.proofs.PutsLemmas.{equal_from}
+use Rattle.mpslp_builder.proofs.RowLemmas.{row_back, side-told}
+use Rattle.mpslp_builder.proofs.BoundsLemmas.{column_back}
+use Rattle.mpslp_builder.proofs.SortedDrafts.{bytes_total, tied_names}
+use Rattle.mpslp_builder.proofs.GivenBack.{model-back, columns-back, no-negative_upper, binary-within}
+use Rattle.mpslp_builder.proofs.KeptParts.{Stays, stays-all}
+use Rattle.mpslp_canonical_mps.proofs.RowsWalk.{RowItem, row_decl, Side, side_decl, range_decl}
+use Rattle.mpslp_canonical_mps.proofs.ColumnsWalk.{Cell, cell_decl, cells_of}
+use Rattle.mpslp_canonical_mps.proofs.BoundsWalk.{BoundForm, fixed, free, no_lower, no_upper, semi_upper, Bound, bound_decl, decl_at}
+use Rattle.mpslp_canonical_mps.proofs.BoundsWalk as forms
+use Rattle.mpslp_canonical_mps.specs.Listing.{Listing, listing_of}
+use Rattle.mpslp_canonical_mps.specs.PrintedValues.{have_same_value, printed_type, printed_rhs, printed_range}
+use Rattle.mpslp_canonical_mps.proofs.PrintableLemmas.{side-decimal, negated-decimal}
+use Rattle.mpslp_canonical_mps.proofs.EarlyWalk.{sense_decl}
+use Rattle.mpslp_canonical_mps.proofs.WholeWalk.{Whole, whole_decl}
+use Rattle.mpslp_canonical_mps.proofs.ListedContents.{whole_of}
+use Rattle.mpslp_builder.proofs.EntryLemmas.{first_there, then_told, told}
+use Rattle.mpslp_canonical_mps.proofs.WholeParts.{each-whole}
+use Rattle.mpslp_canonical_mps.proofs.ListedParts.{form_told, value_told, side_told, range_told, column_lower, column_upper, row_forms, listed_decl}
+use Rattle.mpslp_builder.proofs.NamedEntries.{own-found}
+use Rattle.mpslp_canonical_mps.proofs.DraftMaps.{IsSoundListing, drafted, rows-drafted, right_side-at, range-at, lower-at, upper-at, columns-drafted, marked-at, integers-drafted, binaries-drafted, semis-at}
+use Rattle.mpslp_canonical_mps.proofs.CoefficientMap.{coefficients-kept}
+use Rattle.mpslp_builder.proofs.SoundParts.{row_sides, row_distance, column_sides, column_suited, bounded_so, lower_of, upper_of}
+use Rattle.mpslp_canonical_mps.proofs.ListingFacts.{sound-listing}
+use Rattle.mpslp_canonical_mps.proofs.GoodWhole.{objective-no-row}
+
+-- ---- what is declared once, or not at all
+
+-- what each kind of declaration after the sense does
+pub record EachKind (P : Declaration → Type 0) (objective : List ℕ) : Type 0 where
+  pub of_objective : P (declare_objective objective)
+  pub of_row : (x : List ℕ) (form : RowDefinition) → P (declare_row x form)
+  pub of_right_side : (x : List ℕ) (v : Number) → P (declare_rhs x v)
+  pub of_range : (x : List ℕ) (v : Number) → P (declare_range x v)
+  pub of_column : (x : List ℕ) → P (declare_column x)
+  pub of_marked : (x : List ℕ) → P (declare_marked x)
+  pub of_coefficient : (cell : Cell) → P (declare_coefficient (record { row = cell.row; column = cell.column }) cell.value)
+  pub of_lower : (x : List ℕ) (l : Limit) → P (declare_lower x l)
+  pub of_upper : (x : List ℕ) (l : Limit) → P (declare_upper x l)
+  pub of_semi : (x : List ℕ) → P (declare_semi x)
+
+pub each-kind : (P : Declaration → Type 0) (w : Whole) → Each P (sense_decl w.sense) → EachKind P w.objective → Each P (whole_decl w)
+each-kind P w sense h = each-whole P w (record {
+  sense = sense;
+  objective = h.of_objective;
+  rows = Each-all (λ (row : RowItem). Each P (row_decl row)) (λ row. (h.of_row row.0 (by_type row.1), tt)) w.rows;
+  plain = Each-all (λ (cell : Cell). Each P (cell_decl false cell)) (λ cell. (h.of_column cell.column, (h.of_coefficient cell, tt))) (cells_of w.plain);
+  integers = Each-all (λ (cell : Cell). Each P (cell_decl true cell)) (λ cell. (h.of_column cell.column, (h.of_marked cell.column, (h.of_coefficient cell, tt)))) (cells_of w.integers);
+  sides = Each-all (λ (side : Side). Each P (side_decl side)) (λ side. (h.of_right_side side.row side.value, tt)) w.late.sides;
+  ranges = Each-all (λ (side : Side). Each P (range_decl side)) (λ side. (h.of_range side.row side.value, tt)) w.late.ranges;
+  bounds = Each-all (λ (b : Bound). Each P (bound_decl b)) (λ b. of_form b.form b.column b.value) w.late.bounds;
+})
+  where
+    of_form : (form : BoundForm) (x : List ℕ) (v : Number) → Each P (decl_at form x v)
+    of_form fixed x v = (h.of_lower x (Finite v), (h.of_upper x (Finite v), tt))
+    of_form forms.lower x v = (h.of_lower x (Finite v), tt)
+    of_form forms.upper x v = (h.of_upper x (Finite v), tt)
+    of_form free x v = (h.of_lower x MinusInf, (h.of_upper x PlusInf, tt))
+    of_form no_lower x v = (h.of_lower x MinusInf, tt)
+    of_form no_upper x v = (h.of_upper x PlusInf, tt)
+    of_form semi_upper x v = (h.of_semi x, (h.of_upper x (Finite v), tt))
+
+sense-keeps : {X : Type 0} (part : Draft → X) (value : X) (s : Sense) → ((t : Sense) → Stays part value (declare_sense t)) → Each (Stays part value) (sense_decl s)
+sense-keeps part value Minimize h = tt
+sense-keeps part value Maximize h = (h Maximize, tt)
+
+pub constant-drafted : (m : Listing) → (drafted m).constant ≡ None
+constant-drafted m =
+    stays-all (λ d. d.constant) None (listed_decl m)
+    (each-kind (Stays (λ d. d.constant) None) (whole_of m) (sense-keeps (λ d. d.constant) None m.sense (λ _ all is. is)) (record {
+      of_objective = λ all is. is;
+      of_row = λ _ _ all is. is;
+      of_right_side = λ _ _ all is. is;
+      of_range = λ _ _ all is. is;
+      of_column = λ _ all is. is;
+      of_marked = λ _ all is. is;
+      of_coefficient = λ _ all is. is;
+      of_lower = λ _ _ all is. is;
+      of_upper = λ _ _ all is. is;
+      of_semi = λ _ all is. is;
+    })) empty_draft refl
+
+-- from the objective on
+first-named : (name : List ℕ) (s : Sense) (more : Declarations) → Each (Stays (λ d. d.objective) (Some name)) (sense_decl s ++ (declare_objective name ∷ more))
+    → (with_declarations empty_draft (sense_decl s ++ (declare_objective name ∷ more))).objective ≡ Some name
+first-named name Minimize more h = stays-all (λ d. d.objective) (Some name) more h.1 (with_declaration empty_draft (declare_objective name)) refl
+first-named name Maximize more h = stays-all (λ d. d.objective) (Some name) more h.1.1 (with_declaration (with_declaration empty_draft (declare_sense Maximize)) (declare_objective name)) refl
+
+pub objective-drafted : (m : Listing) → (drafted m).objective ≡ Some m.objective
+objective-drafted m =
+    first-named m.objective m.sense _
+    (each-kind (Stays (λ d. d.objective) (Some m.objective)) (whole_of m) (sense-keeps (λ d. d.objective) (Some m.objective) m.sense (λ _ all is. is)) (record {
+      of_objective = λ all is. refl;
+      of_row = λ _ _ all is. is;
+      of_right_side = λ _ _ all is. is;
+      of_range = λ _ _ all is. is;
+      of_column = λ _ all is. is;
+      of_marked = λ _ all is. is;
+      of_coefficient = λ _ all is. is;
+      of_lower = λ _ _ all is. is;
+      of_upper = λ _ _ all is. is;
+      of_semi = λ _ all is. is;
+    }))
+
+abbrev told_sense : Sense → Option Sense
+told_sense Minimize = None
+told_sense Maximize = Some Maximize
+
+first-sense : (s : Sense) (more : Declarations) → Each (Stays (λ d. d.sense) (told_sense s)) (sense_decl s ++ more) → (with_declarations empty_draft (sense_decl s ++ more)).sense ≡ told_sense s
+first-sense Minimize more h = stays-all (λ d. d.sense) None more h empty_draft refl
+first-sense Maximize more h = stays-all (λ d. d.sense) (Some Maximize) more h.1 (with_declaration empty_draft (declare_sense Maximize)) refl
+
+own_sense : (s : Sense) → Each (Stays (λ d. d.sense) (told_sense s)) (sense_decl s)
+own_sense Minimize = tt
+own_sense Maximize = (λ all is. refl, tt)
+
+sense-back : (s : Sense) → unwrap_or (told_sense s) Minimize ≡ s
+sense-back Minimize = refl
+sense-back Maximize = refl
+
+pub sense-drafted : (m : Listing) → unwrap_or (drafted m).sense Minimize ≡ m.sense
+sense-drafted m =
+    ap (λ (o : Option Sense). unwrap_or o Minimize)
+    (first-sense m.sense _
+    (each-kind (Stays (λ d. d.sense) (told_sense m.sense)) (whole_of m) (own_sense m.sense) (record {
+      of_objective = λ all is. is;
+      of_row = λ _ _ all is. is;
+      of_right_side = λ _ _ all is. is;
+      of_range = λ _ _ all is. is;
+      of_column = λ _ all is. is;
+      of_marked = λ _ all is. is;
+      of_coefficient = λ _ all is. is;
+      of_lower = λ _ _ all is. is;
+      of_upper = λ _ _ all is. is;
+      of_semi = λ _ all is. is;
+    }))) ∙ sense-back m.sense
+
+-- ---- the constant
+
+negated-twice : (d : Number) → negated (negated d) ≡ d
+negated-twice d = by d.mantissa
+  where
+    by : (z : ℤ) → ◌≡◌ {A = Number} (record d { mantissa = neg_ℤ (neg_ℤ z) }) (record d { mantissa = z })
+    by (pos zero) = refl
+    by (pos (suc n)) = refl
+    by (negsuc n) = refl
+
+told-own : (q : List ℕ) (o : Option Number) → at_name (told q o) q ≡ o
+told-own q None = refl
+told-own q (Some d) = ap (λ (r : Ordering). cond (is_eq r) (Some d) None) (tied_itself bytes_total q)
+
+value-back : (d : Number) → IsDecimal d → unwrap_or (value_told d) zero_number ≡ d
+value-back d h = side-told d (zero-is d h)
+
+pub constant-back : (m : Listing) → IsSoundListing m → constant_of (drafted m) ≡ m.constant
+constant-back m h =
+    let all = drafted m in
+    let named_so : objective_name all ≡ m.objective = ap (λ (o : Option (List ℕ)). unwrap_or o []) (objective-drafted m) in
+    let side : at_name all.rhs_values m.objective ≡ value_told (negated m.constant) =
+    right_side-at m h m.objective ∙ ap (λ (o : Option Row). first_there (then_told side_told o) (at_name (told m.objective (value_told (negated m.constant))) m.objective)) (objective-no-row m h)
+    ∙ told-own m.objective (value_told (negated m.constant)) in
+    ap (λ (o : Option Number). unwrap_or o (negated (unwrap_or (at_name all.rhs_values (objective_name all)) zero_number))) (constant-drafted m)
+    ∙ ap (λ (n : List ℕ). negated (unwrap_or (at_name all.rhs_values n) zero_number)) named_so
+    ∙ ap (λ (o : Option Number). negated (unwrap_or o zero_number)) side
+    ∙ ap negated (value-back (negated m.constant) (negated-decimal m.constant h.constant))
+    ∙ negated-twice m.constant
+
+-- ---- rows
+
+told-other : (q name : List ℕ) (o : Option Number) → eq_by_cmp bytes_cmp q name ≡ false → at_name (told name o) q ≡ None
+told-other q name None h = refl
+told-other q name (Some d) h = ap (λ (b : Bool). cond b (Some d) None) h
+
+first_none : {X : Type 0} (o : Option X) → first_there o None ≡ o
+first_none None = refl
+first_none (Some x) = refl
+
+no_some : {X : Type 0} (x : X) → ◌≡◌ {A = Option X} None (Some x) → ⊥
+no_some x e = cc
+
+pub other-name : (m : Listing) → IsSoundListing m → (row : List ℕ × Row) → at_name m.rows row.0 ≡ Some row.1 → eq_by_cmp bytes_cmp row.0 m.objective ≡ false
+other-name m h row is = by (eq_by_cmp bytes_cmp row.0 m.objective) refl
+  where
+    by : (b : Bool) → eq_by_cmp bytes_cmp row.0 m.objective ≡ b → b ≡ false
+    by true e = absurd (no_some row.1 (sym (objective-no-row m h) ∙ ap (at_name m.rows) (sym (tied_names row.0 m.objective (equal_from (bytes_cmp row.0 m.objective) e))) ∙ is))
+    by false e = refl
+
+pub side-back : (m : Listing) → IsSoundListing m → (row : List ℕ × Row) → is_sound_row row ≡ true → at_name m.rows row.0 ≡ Some row.1
+    → rhs_or_zero (drafted m) row.0 ≡ printed_rhs row.1.lower row.1.upper
+side-back m h row sound is =
+    let mine = told m.objective (value_told (negated m.constant)) in
+    let value = printed_rhs row.1.lower row.1.upper in
+    let found : at_name (drafted m).rhs_values row.0 ≡ value_told value =
+    right_side-at m h row.0 ∙ ap (λ (o : Option Row). first_there (then_told side_told o) (at_name mine row.0)) is
+    ∙ ap (first_there (value_told value)) (told-other row.0 m.objective (value_told (negated m.constant)) (other-name m h row is))
+    ∙ first_none (value_told value) in
+    ap (λ (o : Option Number). unwrap_or o zero_number) found ∙ value-back value (side-decimal row.1.lower row.1.upper (row_sides row sound))
+
+pub range-back : (m : Listing) → IsSoundListing m → (row : List ℕ × Row) → at_name m.rows row.0 ≡ Some row.1 → at_name (drafted m).ranges row.0 ≡ printed_range row.1.lower row.1.upper
+range-back m h row is = range-at m h row.0 ∙ ap (then_told range_told) is
+
+abbrev pub told_row : List ℕ × Row → List ℕ × RowDefinition
+told_row row = (row.0, form_told row.1)
+
+pub limits-back : (m : Listing) → IsSoundListing m → (row : List ℕ × Row) → is_sound_row row ≡ true → at_name m.rows row.0 ≡ Some row.1 → row_limits (drafted m) (told_row row) ≡ Some row.1
+limits-back m h row sound is =
+    (λ i. limits_of (form_told row.1) (side-back m h row sound is i) (range-back m h row is i))
+    ∙ row_back row.1.lower row.1.upper (row_sides row sound) (row_distance row sound)
+
+entry-back : (m : Listing) → IsSoundListing m → (row : List ℕ × Row) → is_sound_row row ≡ true → at_name m.rows row.0 ≡ Some row.1 → row_entry (drafted m) (told_row row) ≡ row
+entry-back m h row sound is = ap (λ (o : Option Row). (row.0, unwrap_or o (plain_limits Free zero_number))) (limits-back m h row sound is)
+
+each-back : {X Y : Type 0} (f : X → Y) (g : Y → X) (xs : List X) → Each (λ x. g (f x) ≡ x) xs → map g (map f xs) ≡ xs
+each-back f g [] h = refl
+each-back f g (x ∷ xs) h = λ i. h.0 i ∷ each-back f g xs h.1 i
+
+abbrev pub IsOwnRow : Listing → List ℕ × Row → Type 0
+IsOwnRow m row = (is_sound_row row ≡ true) × (at_name m.rows row.0 ≡ Some row.1)
+
+pub own-rows : (m : Listing) → IsSoundListing m → Each (IsOwnRow m) m.rows
+own-rows m h = Each-both (λ row. is_sound_row row ≡ true) (λ row. at_name m.rows row.0 ≡ Some row.1) (IsOwnRow m) (λ row k is. (k, is)) m.rows h.rows (own-found m.rows h.rows_sorted)
+
+pub rows-back : (m : Listing) → IsSoundListing m → map (row_entry (drafted m)) (drafted m).rows ≡ m.rows
+rows-back m h =
+    ap (map (row_entry (drafted m))) (rows-drafted m h)
+    ∙ each-back told_row (row_entry (drafted m)) m.rows (Each-weaker (IsOwnRow m) (λ row. row_entry (drafted m) (told_row row) ≡ row) (λ row k. entry-back m h row k.0 k.1) m.rows (own-rows m h))
+
+-- ---- columns
+
+abbrev pub IsOwnColumn : Listing → List ℕ × Column → Type 0
+IsOwnColumn m column = (is_sound_column column ≡ true) × (at_name m.columns column.0 ≡ Some column.1)
+
+pub own-columns : (m : Listing) → IsSoundListing m → Each (IsOwnColumn m) m.columns
+own-columns m h = Each-both (λ column. is_sound_column column ≡ true) (λ column. at_name m.columns column.0 ≡ Some column.1) (IsOwnColumn m) (λ column k is. (k, is)) m.columns h.columns (own-found m.columns h.columns_sorted)
+
+finite-lower : (l : Limit) (a : Number) → is_lower_side l ≡ true → l ≡ Finite a → IsDecimal a
+finite-lower l a h e = bounded_so a (sym (ap is_lower_side e) ∙ h)
+
+finite-upper : (u : Limit) (b : Number) → is_upper_side u ≡ true → u ≡ Finite b → IsDecimal b
+finite-upper u b h e = bounded_so b (sym (ap is_upper_side e) ∙ h)
+
+pub bounds-back : (m : Listing) → IsSoundListing m → (column : List ℕ × Column) → IsOwnColumn m column → column_of (drafted m) column.0 ≡ column.1
+bounds-back m h column k =
+    let l = column.1.lower in
+    let u = column.1.upper in
+    let sides = column_sides column k.0 in
+    let lower_side = lower_of l u sides in
+    let upper_side = upper_of l u sides in
+    column_back have_same_value (drafted m) column.0 column.1 (lower-at m h column.0 ∙ ap (then_told column_lower) k.1) (upper-at m h column.0 ∙ ap (then_told column_upper) k.1)
+    (marked-at m h column.0 column.1 k.1) (ap (λ (es : List (List ℕ × Unit {0})). has_name es column.0) (integers-drafted m)) (ap (λ (es : List (List ℕ × Unit {0})). has_name es column.0) (binaries-drafted m))
+    (semis-at m h column.0 column.1 (column_suited column k.0) k.1)
+    lower_side upper_side
+    (λ a b p q e. same_decimal a b (finite-lower l a lower_side p) (finite-upper u b upper_side q) e)
+    (λ a p z. zero-is a (finite-lower l a lower_side p) z)
+
+each-column_back : (m : Listing) → IsSoundListing m → Each (λ column. column_of (drafted m) column.0 ≡ column.1) m.columns
+each-column_back m h = Each-weaker (IsOwnColumn m) (λ column. column_of (drafted m) column.0 ≡ column.1) (bounds-back m h) m.columns (own-columns m h)
+
+-- ---- right sides
+
+and_false : (a b : Bool) → a ≡ false → (a && b) ≡ false
+and_false true b h = cc
+and_false false b h = refl
+
+finite_size : (a : Number) → is_bounded_decimal a ≡ true → is_infinite_size a ≡ false
+finite_size a h = by (is_infinite_size a) refl (second_so (is_decimal a) (not (is_infinite_size a)) h)
+  where
+    by : (b : Bool) → is_infinite_size a ≡ b → not b ≡ true → b ≡ false
+    by true e k = cc
+    by false e k = refl
+
+finite-side : (l u : Limit) → are_sides l u ≡ true → has_infinite_rhs (by_type (printed_type l u)) (printed_rhs l u) (printed_range l u) ≡ false
+finite-side MinusInf MinusInf h = cc
+finite-side MinusInf (Finite b) h = and_false (is_infinite_size b) _ (finite_size b (first_so (is_bounded_decimal b) _ h))
+finite-side MinusInf PlusInf h = refl
+finite-side (Finite a) MinusInf h = and_false (is_infinite_size a) _ (finite_size a (first_so (is_bounded_decimal a) _ h))
+finite-side (Finite a) (Finite b) h =
+    let finite = finite_size a (first_so (is_bounded_decimal a) _ h) in
+    elim (have_same_value a b) as (λ t. has_infinite_rhs (by_type (cond t Equal AtLeast)) a (cond t None (difference_of b a)) ≡ false) [
+      | true ↦ finite
+      | false ↦ and_false (is_infinite_size a) _ finite
+    ]
+finite-side (Finite a) PlusInf h = and_false (is_infinite_size a) _ (finite_size a (first_so (is_bounded_decimal a) _ h))
+finite-side PlusInf u h = cc
+
+finite-row : (m : Listing) → IsSoundListing m → (row : List ℕ × Row) → IsOwnRow m row → not (row_passes (drafted m) has_infinite_rhs (told_row row)) ≡ true
+finite-row m h row k =
+    so_not (row_passes (drafted m) has_infinite_rhs (told_row row))
+    ((λ i. has_infinite_rhs (form_told row.1) (side-back m h row k.0 k.1 i) (range-back m h row k.1 i)) ∙ finite-side row.1.lower row.1.upper (row_sides row k.0))
+
+-- The draft of the canonical declarations of a sound model means it.
+pub draft-means : (m : LinearModel) → IsSound m → DraftMeans (drafted (listing_of m)) m
+draft-means m sound =
+    let listing = listing_of m in
+    let h = sound-listing m sound in
+    let all = drafted listing in
+    let declared = columns-drafted listing h in
+    let back = each-column_back listing h in
+    record {
+      finite_rhs_values = ap (list_all (λ row. not (row_passes all has_infinite_rhs row))) (rows-drafted listing h)
+          ∙ list_all-from_Each (λ row. not (row_passes all has_infinite_rhs row)) (row_forms listing.rows)
+          (Each-map (λ row. not (row_passes all has_infinite_rhs row) ≡ true) told_row listing.rows
+          (Each-weaker (IsOwnRow listing) (λ row. not (row_passes all has_infinite_rhs (told_row row)) ≡ true) (finite-row listing h) listing.rows (own-rows listing h)));
+      exact_limits = ap (list_all (λ row. is_some (row_limits all row))) (rows-drafted listing h)
+          ∙ list_all-from_Each (λ row. is_some (row_limits all row)) (row_forms listing.rows)
+          (Each-map (λ row. is_some (row_limits all row) ≡ true) told_row listing.rows
+          (Each-weaker (IsOwnRow listing) (λ row. is_some (row_limits all (told_row row)) ≡ true) (λ row k. ap is_some (limits-back listing h row k.0 k.1)) listing.rows (own-rows listing h)));
+      model = model-back all m (record {
+        sense = sense-drafted listing;
+        objective = ap (λ (o : Option (List ℕ)). unwrap_or o []) (objective-drafted listing);
+        constant = constant-back listing h;
+        rows = rows-back listing h;
+        columns = columns-back all listing.columns declared back;
+        coefficients = coefficients-kept listing h;
+      });
+      sound = sound;
+      no_negative_upper = no-negative_upper all listing.columns declared back h.columns;
+      binary_within = binary-within all listing.columns declared back (binaries-drafted listing);
+    }

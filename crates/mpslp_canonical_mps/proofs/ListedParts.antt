@@ -1,0 +1,357 @@
+-- What the declarations of a listing's canonical text put into each map.
+use Rattle.std.proofs.Common.{◌≡◌, refl, ap, ◌∙◌, List, [], ◌∷◌, ◌++◌, ℕ, Bool, true, false, cond, map}
+use Rattle.std.specs.Prelude.{Option, Some, None, filter}
+use Rattle.std.specs.List.{flat_map}
+use Rattle.std.specs.Option.{option_map_or}
+use Rattle.std.proofs.lemmas.List.{append-nil}
+use Rattle.std.proofs.lemmas.List.Concat.{flat_map-append}
+use Rattle.mpslp_decimal.specs.Decimal.{Number, is_zero, negated}
+use Rattle.mpslp_model_core.specs.Model.{Row, Column, CoefficientKey}
+use Rattle.mpslp_builder.specs.Declaration.{RowDefinition, by_type, Declaration, declare_sense, declare_objective, declare_row, declare_rhs, declare_range, declare_lower, declare_upper, declare_semi, Declarations}
+use Rattle.mpslp_types.specs.declared.kinds.Sense.{Sense}
+use Rattle.mpslp_types.specs.declared.kinds.Kind.{Kind}
+use Rattle.mpslp_types.specs.declared.kinds.Kind.TheVariants.{Continuous, Integer, Semi}
+use Rattle.mpslp_types.specs.declared.kinds.Limit.{Limit}
+use Rattle.mpslp_types.specs.declared.kinds.Limit.TheVariants.{MinusInf, Finite, PlusInf}
+use Rattle.mpslp_builder.proofs.BoundsLemmas.{unless_zero, fixed, lower_told, upper_told}
+use Rattle.mpslp_builder.proofs.CoefficientLemmas.{flat_map-flat_map}
+use Rattle.mpslp_builder.proofs.DraftLemmas.{row_part, rhs_part, range_part, column_part, coefficient_part, lower_part, upper_part, marked_part, integer_part, binary_part, semi_part}
+use Rattle.mpslp_mps.specs.declared.bound_types.BoundType.TheVariants as bounds
+use Rattle.mpslp_canonical_mps.proofs.RowsWalk.{row_decl, Side, side_decl, range_decl}
+use Rattle.mpslp_canonical_mps.proofs.ColumnsWalk.{Cell, cell_decl, cells_of}
+use Rattle.mpslp_canonical_mps.proofs.BoundsWalk.{bound_decl}
+use Rattle.mpslp_canonical_mps.specs.Listing.{Listing}
+use Rattle.mpslp_canonical_mps.specs.PrintedValues.{have_same_value, is_fixed, bound_with_value, printed_type, printed_rhs, printed_range, PrintedBound, printed_lower, printed_upper, printed_bounds}
+use Rattle.mpslp_canonical_mps.specs.CanonicalMps.{is_integer_column, is_plain_column}
+use Rattle.mpslp_canonical_mps.proofs.CanonicalContents.{to_row, cells_in, group_in, to_side, side_unless_zero, row_side, sides_in, row_range, to_bound, bounds_in}
+use Rattle.mpslp_canonical_mps.proofs.WholeWalk.{whole_decl}
+use Rattle.mpslp_canonical_mps.proofs.ListedContents.{whole_of}
+use Rattle.mpslp_builder.proofs.EntryLemmas.{told, all_told}
+use Rattle.mpslp_builder.proofs.FlatLemmas.{flat-none, flat-same}
+use Rattle.mpslp_canonical_mps.proofs.WholeParts.{made_of, sense-none, bound-none, joined-parts}
+
+-- ---- what is told of a row and of a column
+
+abbrev pub form_told : Row → RowDefinition
+form_told row = by_type (printed_type row.lower row.upper)
+
+-- a value that is told unless it is 0
+abbrev pub value_told : Number → Option Number
+value_told value = cond (is_zero value) None (Some value)
+
+abbrev pub side_told : Row → Option Number
+side_told row = value_told (printed_rhs row.lower row.upper)
+
+abbrev pub range_told : Row → Option Number
+range_told row = printed_range row.lower row.upper
+
+abbrev pub column_lower : Column → Option Limit
+column_lower column = lower_told column.kind column.lower column.upper have_same_value
+
+abbrev pub column_upper : Column → Option Limit
+column_upper column = upper_told column.kind column.lower column.upper
+
+-- a finite upper bound of a semi-continuous column tells its kind
+abbrev pub semi_told : Kind → Limit → Option (Unit {0})
+semi_told kind MinusInf = None
+semi_told kind PlusInf = None
+semi_told Continuous (Finite upper) = None
+semi_told Integer (Finite upper) = None
+semi_told Semi (Finite upper) = Some tt
+
+abbrev pub column_semi : Column → Option (Unit {0})
+column_semi column = semi_told column.kind column.upper
+
+abbrev pub row_forms : List (List ℕ × Row) → List (List ℕ × RowDefinition)
+row_forms rows = map (λ row. (row.0, form_told row.1)) rows
+
+-- ---- what each line makes
+
+abbrev pub own_column : Cell → List (List ℕ × Unit {0})
+own_column cell = (cell.column, tt) ∷ []
+
+abbrev pub own_coefficient : Cell → List (CoefficientKey × Number)
+own_coefficient cell = (record { row = cell.row; column = cell.column }, cell.value) ∷ []
+
+abbrev pub own_side : Side → List (List ℕ × Number)
+own_side side = (side.row, side.value) ∷ []
+
+-- ---- sections
+
+pub rows-made : (rows : List (List ℕ × Row)) → flat_map (made_of row_part row_decl) (map to_row rows) ≡ row_forms rows
+rows-made [] = refl
+rows-made (row ∷ rows) = ap (λ (more : List (List ℕ × RowDefinition)). (row.0, form_told row.1) ∷ more) (rows-made rows)
+
+pub cells-made : {Y : Type 0} (f : Cell → List Y) (m : Listing) (columns : List (List ℕ × Column)) → flat_map f (cells_of (map (group_in m) columns)) ≡ flat_map (λ column. flat_map f (cells_in m column)) columns
+cells-made f m [] = refl
+cells-made f m (column ∷ columns) = flat_map-append f (cells_in m column) (cells_of (map (group_in m) columns)) ∙ ap (λ (more : List _). flat_map f (cells_in m column) ++ more) (cells-made f m columns)
+
+side-made : (row : List ℕ) (value : Number) → flat_map own_side (side_unless_zero row value) ≡ told row (value_told value)
+side-made row value = by (is_zero value)
+  where
+    by : (b : Bool) → flat_map own_side (cond b [] (to_side row value ∷ [])) ≡ told row (cond b None (Some value))
+    by true = refl
+    by false = refl
+
+pub sides-made : (m : Listing) → flat_map own_side (sides_in m) ≡ told m.objective (value_told (negated m.constant)) ++ all_told side_told m.rows
+sides-made m =
+    flat_map-append own_side (side_unless_zero m.objective (negated m.constant)) (flat_map row_side m.rows)
+    ∙ (λ i. side-made m.objective (negated m.constant) i
+    ++ (flat_map-flat_map own_side row_side m.rows ∙ flat-same (λ row. flat_map own_side (row_side row)) (λ row. told row.0 (side_told row.1)) (λ row. side-made row.0 (printed_rhs row.1.lower row.1.upper)) m.rows) i)
+
+pub ranges-made : (rows : List (List ℕ × Row)) → flat_map own_side (flat_map row_range rows) ≡ all_told range_told rows
+ranges-made rows = flat_map-flat_map own_side row_range rows ∙ flat-same (λ row. flat_map own_side (row_range row)) (λ row. told row.0 (range_told row.1)) one rows
+  where
+    one : (row : List ℕ × Row) → flat_map own_side (row_range row) ≡ told row.0 (range_told row.1)
+    one row = by (printed_range row.1.lower row.1.upper)
+      where
+        by : (o : Option Number) → flat_map own_side (option_map_or (λ value. to_side row.0 value ∷ []) o []) ≡ told row.0 o
+        by None = refl
+        by (Some d) = refl
+
+-- ---- bounds
+
+abbrev lowers_made : List ℕ → List PrintedBound → List (List ℕ × Limit)
+lowers_made name bounds = flat_map (made_of lower_part bound_decl) (map (to_bound name) bounds)
+
+abbrev uppers_made : List ℕ → List PrintedBound → List (List ℕ × Limit)
+uppers_made name bounds = flat_map (made_of upper_part bound_decl) (map (to_bound name) bounds)
+
+lower-front : (name : List ℕ) (a : Number) (rest : List PrintedBound) → lowers_made name rest ≡ [] → lowers_made name (printed_lower (Finite a) ++ rest) ≡ told name (unless_zero a)
+lower-front name a rest h =
+    elim (is_zero a) as (λ b. lowers_made name (cond b [] (bound_with_value bounds.Lower a ∷ []) ++ rest) ≡ told name (cond b None (Some (Finite a)))) [
+      | true ↦ h
+      | false ↦ ap (λ (more : List (List ℕ × Limit)). (name, Finite a) ∷ more) h
+    ]
+
+-- no upper bound makes a lower one
+no-lower : (name : List ℕ) (kind : Kind) (b : Number) → lowers_made name (printed_upper kind (Finite b)) ≡ []
+no-lower name Continuous b = refl
+no-lower name Integer b = refl
+no-lower name Semi b = refl
+
+as-fixed : (kind : Kind) (a b : Number) → is_fixed kind a b ≡ fixed kind have_same_value a b
+as-fixed Continuous a b = refl
+as-fixed Integer a b = refl
+as-fixed Semi a b = refl
+
+pub lower-made : (name : List ℕ) (kind : Kind) (l u : Limit) → lowers_made name (printed_bounds kind l u) ≡ told name (lower_told kind l u have_same_value)
+lower-made name kind MinusInf PlusInf = refl
+lower-made name kind MinusInf MinusInf = refl
+lower-made name kind MinusInf (Finite b) = ap (λ (more : List (List ℕ × Limit)). (name, MinusInf) ∷ more) (no-lower name kind b)
+lower-made name kind (Finite a) (Finite b) =
+    elim (is_fixed kind a b) as (λ t. lowers_made name (cond t (bound_with_value bounds.Fixed b ∷ []) (printed_lower (Finite a) ++ printed_upper kind (Finite b))) ≡ told name (cond t (Some (Finite b)) (unless_zero a))) [
+      | true ↦ refl
+      | false ↦ lower-front name a (printed_upper kind (Finite b)) (no-lower name kind b)
+    ] ∙ ap (λ (t : Bool). told name (cond t (Some (Finite b)) (unless_zero a))) (as-fixed kind a b)
+lower-made name kind (Finite a) MinusInf = lower-front name a (printed_upper kind MinusInf) refl
+lower-made name Integer (Finite a) PlusInf = lower-front name a (printed_upper Integer PlusInf) refl
+lower-made name Continuous (Finite a) PlusInf = lower-front name a (printed_upper Continuous PlusInf) refl
+lower-made name Semi (Finite a) PlusInf = lower-front name a (printed_upper Semi PlusInf) refl
+lower-made name kind PlusInf MinusInf = refl
+lower-made name kind PlusInf (Finite b) = no-lower name kind b
+lower-made name Integer PlusInf PlusInf = refl
+lower-made name Continuous PlusInf PlusInf = refl
+lower-made name Semi PlusInf PlusInf = refl
+
+lower-silent : (name : List ℕ) (a : Number) (rest : List PrintedBound) → uppers_made name (printed_lower (Finite a) ++ rest) ≡ uppers_made name rest
+lower-silent name a rest = elim (is_zero a) as (λ b. uppers_made name (cond b [] (bound_with_value bounds.Lower a ∷ []) ++ rest) ≡ uppers_made name rest) [ true ↦ refl | false ↦ refl ]
+
+one-upper : (name : List ℕ) (kind : Kind) (b : Number) → uppers_made name (printed_upper kind (Finite b)) ≡ told name (Some (Finite b))
+one-upper name Continuous b = refl
+one-upper name Integer b = refl
+one-upper name Semi b = refl
+
+pub upper-made : (name : List ℕ) (kind : Kind) (l u : Limit) → uppers_made name (printed_bounds kind l u) ≡ told name (upper_told kind l u)
+upper-made name kind MinusInf PlusInf = refl
+upper-made name kind MinusInf MinusInf = refl
+upper-made name kind MinusInf (Finite b) = one-upper name kind b
+upper-made name kind (Finite a) (Finite b) =
+    elim (is_fixed kind a b) as (λ t. uppers_made name (cond t (bound_with_value bounds.Fixed b ∷ []) (printed_lower (Finite a) ++ printed_upper kind (Finite b))) ≡ told name (Some (Finite b))) [
+      | true ↦ refl
+      | false ↦ lower-silent name a (printed_upper kind (Finite b)) ∙ one-upper name kind b
+    ]
+upper-made name kind (Finite a) MinusInf = lower-silent name a (printed_upper kind MinusInf)
+upper-made name Integer (Finite a) PlusInf = lower-silent name a (printed_upper Integer PlusInf)
+upper-made name Continuous (Finite a) PlusInf = lower-silent name a (printed_upper Continuous PlusInf)
+upper-made name Semi (Finite a) PlusInf = lower-silent name a (printed_upper Semi PlusInf)
+upper-made name kind PlusInf MinusInf = refl
+upper-made name kind PlusInf (Finite b) = one-upper name kind b
+upper-made name Integer PlusInf PlusInf = refl
+upper-made name Continuous PlusInf PlusInf = refl
+upper-made name Semi PlusInf PlusInf = refl
+
+-- ---- semi-continuous columns, by the type of their upper bounds
+
+abbrev semis_made : List ℕ → List PrintedBound → List (List ℕ × Unit {0})
+semis_made name bounds = flat_map (made_of semi_part bound_decl) (map (to_bound name) bounds)
+
+no-semi : (name : List ℕ) (a : Number) (rest : List PrintedBound) → semis_made name (printed_lower (Finite a) ++ rest) ≡ semis_made name rest
+no-semi name a rest = elim (is_zero a) as (λ b. semis_made name (cond b [] (bound_with_value bounds.Lower a ∷ []) ++ rest) ≡ semis_made name rest) [ true ↦ refl | false ↦ refl ]
+
+one-semi : (name : List ℕ) (kind : Kind) (b : Number) → semis_made name (printed_upper kind (Finite b)) ≡ told name (semi_told kind (Finite b))
+one-semi name Continuous b = refl
+one-semi name Integer b = refl
+one-semi name Semi b = refl
+
+pub semi-made : (name : List ℕ) (kind : Kind) (l u : Limit) → semis_made name (printed_bounds kind l u) ≡ told name (semi_told kind u)
+semi-made name kind MinusInf PlusInf = refl
+semi-made name kind MinusInf MinusInf = refl
+semi-made name kind MinusInf (Finite b) = one-semi name kind b
+semi-made name Continuous (Finite a) (Finite b) =
+    elim (have_same_value a b) as (λ t. semis_made name (cond t (bound_with_value bounds.Fixed b ∷ []) (printed_lower (Finite a) ++ printed_upper Continuous (Finite b))) ≡ []) [
+      | true ↦ refl
+      | false ↦ no-semi name a (printed_upper Continuous (Finite b))
+    ]
+semi-made name Integer (Finite a) (Finite b) =
+    elim (have_same_value a b) as (λ t. semis_made name (cond t (bound_with_value bounds.Fixed b ∷ []) (printed_lower (Finite a) ++ printed_upper Integer (Finite b))) ≡ []) [
+      | true ↦ refl
+      | false ↦ no-semi name a (printed_upper Integer (Finite b))
+    ]
+semi-made name Semi (Finite a) (Finite b) = no-semi name a (printed_upper Semi (Finite b))
+semi-made name kind (Finite a) MinusInf = no-semi name a (printed_upper kind MinusInf)
+semi-made name Integer (Finite a) PlusInf = no-semi name a (printed_upper Integer PlusInf)
+semi-made name Continuous (Finite a) PlusInf = no-semi name a (printed_upper Continuous PlusInf)
+semi-made name Semi (Finite a) PlusInf = no-semi name a (printed_upper Semi PlusInf)
+semi-made name kind PlusInf MinusInf = refl
+semi-made name kind PlusInf (Finite b) = one-semi name kind b
+semi-made name Integer PlusInf PlusInf = refl
+semi-made name Continuous PlusInf PlusInf = refl
+semi-made name Semi PlusInf PlusInf = refl
+
+all-lowers : (columns : List (List ℕ × Column)) → flat_map (made_of lower_part bound_decl) (flat_map bounds_in columns) ≡ all_told column_lower columns
+all-lowers columns =
+    flat_map-flat_map (made_of lower_part bound_decl) bounds_in columns
+    ∙ flat-same (λ column. flat_map (made_of lower_part bound_decl) (bounds_in column)) (λ column. told column.0 (column_lower column.1)) (λ column. lower-made column.0 column.1.kind column.1.lower column.1.upper) columns
+
+all-uppers : (columns : List (List ℕ × Column)) → flat_map (made_of upper_part bound_decl) (flat_map bounds_in columns) ≡ all_told column_upper columns
+all-uppers columns =
+    flat_map-flat_map (made_of upper_part bound_decl) bounds_in columns
+    ∙ flat-same (λ column. flat_map (made_of upper_part bound_decl) (bounds_in column)) (λ column. told column.0 (column_upper column.1)) (λ column. upper-made column.0 column.1.kind column.1.lower column.1.upper) columns
+
+all-semis : (columns : List (List ℕ × Column)) → flat_map (made_of semi_part bound_decl) (flat_map bounds_in columns) ≡ all_told column_semi columns
+all-semis columns =
+    flat_map-flat_map (made_of semi_part bound_decl) bounds_in columns
+    ∙ flat-same (λ column. flat_map (made_of semi_part bound_decl) (bounds_in column)) (λ column. told column.0 (column_semi column.1)) (λ column. semi-made column.0 column.1.kind column.1.lower column.1.upper) columns
+
+-- ---- each map
+
+abbrev pub listed_decl : Listing → Declarations
+listed_decl m = whole_decl (whole_of m)
+
+-- what the cells of some columns make
+abbrev pub from_cells : {Y : Type 0} → (Cell → List Y) → Listing → List (List ℕ × Column) → List Y
+from_cells f m columns = flat_map (λ column. flat_map f (cells_in m column)) columns
+
+pub rows-part : (m : Listing) → flat_map row_part (listed_decl m) ≡ row_forms m.rows
+rows-part m =
+    joined-parts row_part (whole_of m) (row_forms m.rows) [] [] [] [] [] (record {
+      of_sense = sense-none row_part (λ _. refl) m.sense;
+      of_objective = refl;
+      of_rows = rows-made m.rows;
+      of_plain = flat-none (made_of row_part (cell_decl false)) (λ _. refl) (cells_of (whole_of m).plain);
+      of_integers = flat-none (made_of row_part (cell_decl true)) (λ _. refl) (cells_of (whole_of m).integers);
+      of_sides = flat-none (made_of row_part side_decl) (λ _. refl) (sides_in m);
+      of_ranges = flat-none (made_of row_part range_decl) (λ _. refl) (whole_of m).late.ranges;
+      of_bounds = flat-none (made_of row_part bound_decl) (bound-none row_part (λ _ _. refl) (λ _ _. refl) (λ _. refl)) (whole_of m).late.bounds;
+    }) ∙ append-nil (row_forms m.rows)
+
+rows-silent : {Y : Type 0} (part : Declaration → List Y) → ((x : List ℕ) (form : RowDefinition) → part (declare_row x form) ≡ []) → (m : Listing) → flat_map (made_of part row_decl) (whole_of m).rows ≡ []
+rows-silent part h m = flat-none (made_of part row_decl) (λ row. ap (λ (ys : List _). ys ++ []) (h row.0 (by_type row.1))) (whole_of m).rows
+
+pub rhs_values-part : (m : Listing) → flat_map rhs_part (listed_decl m) ≡ told m.objective (value_told (negated m.constant)) ++ all_told side_told m.rows
+rhs_values-part m =
+    let sides = told m.objective (value_told (negated m.constant)) ++ all_told side_told m.rows in
+    joined-parts rhs_part (whole_of m) [] [] [] sides [] [] (record {
+      of_sense = sense-none rhs_part (λ _. refl) m.sense;
+      of_objective = refl;
+      of_rows = rows-silent rhs_part (λ _ _. refl) m;
+      of_plain = flat-none (made_of rhs_part (cell_decl false)) (λ _. refl) (cells_of (whole_of m).plain);
+      of_integers = flat-none (made_of rhs_part (cell_decl true)) (λ _. refl) (cells_of (whole_of m).integers);
+      of_sides = sides-made m;
+      of_ranges = flat-none (made_of rhs_part range_decl) (λ _. refl) (whole_of m).late.ranges;
+      of_bounds = flat-none (made_of rhs_part bound_decl) (bound-none rhs_part (λ _ _. refl) (λ _ _. refl) (λ _. refl)) (whole_of m).late.bounds;
+    }) ∙ append-nil sides
+
+pub ranges-part : (m : Listing) → flat_map range_part (listed_decl m) ≡ all_told range_told m.rows
+ranges-part m =
+    let ranges = all_told range_told m.rows in
+    joined-parts range_part (whole_of m) [] [] [] [] ranges [] (record {
+      of_sense = sense-none range_part (λ _. refl) m.sense;
+      of_objective = refl;
+      of_rows = rows-silent range_part (λ _ _. refl) m;
+      of_plain = flat-none (made_of range_part (cell_decl false)) (λ _. refl) (cells_of (whole_of m).plain);
+      of_integers = flat-none (made_of range_part (cell_decl true)) (λ _. refl) (cells_of (whole_of m).integers);
+      of_sides = flat-none (made_of range_part side_decl) (λ _. refl) (sides_in m);
+      of_ranges = ranges-made m.rows;
+      of_bounds = flat-none (made_of range_part bound_decl) (bound-none range_part (λ _ _. refl) (λ _ _. refl) (λ _. refl)) (whole_of m).late.bounds;
+    }) ∙ append-nil ranges
+
+-- a map into which the lines of columns alone put something
+cells-part : {Y : Type 0} (part : Declaration → List Y) (plain integers : Cell → List Y) → ((s : Sense) → part (declare_sense s) ≡ []) → ((x : List ℕ) → part (declare_objective x) ≡ [])
+    → ((x : List ℕ) (form : RowDefinition) → part (declare_row x form) ≡ []) → ((cell : Cell) → made_of part (cell_decl false) cell ≡ plain cell) → ((cell : Cell) → made_of part (cell_decl true) cell ≡ integers cell)
+    → ((x : List ℕ) (v : Number) → part (declare_rhs x v) ≡ []) → ((x : List ℕ) (v : Number) → part (declare_range x v) ≡ []) → ((x : List ℕ) (l : Limit) → part (declare_lower x l) ≡ [])
+    → ((x : List ℕ) (l : Limit) → part (declare_upper x l) ≡ []) → ((x : List ℕ) → part (declare_semi x) ≡ []) → (m : Listing)
+    → flat_map part (listed_decl m) ≡ from_cells plain m (filter is_plain_column m.columns) ++ from_cells integers m (filter is_integer_column m.columns)
+cells-part part plain integers sense objective rows p q sides ranges lowers uppers semis m =
+    let cells = from_cells plain m (filter is_plain_column m.columns) ++ from_cells integers m (filter is_integer_column m.columns) in
+    joined-parts part (whole_of m) [] (from_cells plain m (filter is_plain_column m.columns)) (from_cells integers m (filter is_integer_column m.columns)) [] [] [] (record {
+      of_sense = sense-none part sense m.sense;
+      of_objective = objective m.objective;
+      of_rows = rows-silent part rows m;
+      of_plain = flat-same (made_of part (cell_decl false)) plain p (cells_of (whole_of m).plain) ∙ cells-made plain m (filter is_plain_column m.columns);
+      of_integers = flat-same (made_of part (cell_decl true)) integers q (cells_of (whole_of m).integers) ∙ cells-made integers m (filter is_integer_column m.columns);
+      of_sides = flat-none (made_of part side_decl) (λ side. ap (λ (ys : List _). ys ++ []) (sides side.row side.value)) (sides_in m);
+      of_ranges = flat-none (made_of part range_decl) (λ side. ap (λ (ys : List _). ys ++ []) (ranges side.row side.value)) (whole_of m).late.ranges;
+      of_bounds = flat-none (made_of part bound_decl) (bound-none part lowers uppers semis) (whole_of m).late.bounds;
+    }) ∙ append-nil cells
+
+pub columns-part : (m : Listing) → flat_map column_part (listed_decl m) ≡ from_cells own_column m (filter is_plain_column m.columns) ++ from_cells own_column m (filter is_integer_column m.columns)
+columns-part m = cells-part column_part own_column own_column (λ _. refl) (λ _. refl) (λ _ _. refl) (λ _. refl) (λ _. refl) (λ _ _. refl) (λ _ _. refl) (λ _ _. refl) (λ _ _. refl) (λ _. refl) m
+
+pub coefficients-part : (m : Listing) → flat_map coefficient_part (listed_decl m) ≡ from_cells own_coefficient m (filter is_plain_column m.columns) ++ from_cells own_coefficient m (filter is_integer_column m.columns)
+coefficients-part m = cells-part coefficient_part own_coefficient own_coefficient (λ _. refl) (λ _. refl) (λ _ _. refl) (λ _. refl) (λ _. refl) (λ _ _. refl) (λ _ _. refl) (λ _ _. refl) (λ _ _. refl) (λ _. refl) m
+
+from-none : {Y : Type 0} (m : Listing) (columns : List (List ℕ × Column)) → from_cells {Y = Y} (λ _. []) m columns ≡ []
+from-none m columns = flat-none (λ column. flat_map (λ _. []) (cells_in m column)) (λ column. flat-none (λ _. []) (λ _. refl) (cells_in m column)) columns
+
+pub marked-part : (m : Listing) → flat_map marked_part (listed_decl m) ≡ from_cells own_column m (filter is_integer_column m.columns)
+marked-part m =
+    cells-part marked_part (λ _. []) own_column (λ _. refl) (λ _. refl) (λ _ _. refl) (λ _. refl) (λ _. refl) (λ _ _. refl) (λ _ _. refl) (λ _ _. refl) (λ _ _. refl) (λ _. refl) m
+    ∙ ap (λ (ys : List (List ℕ × Unit {0})). ys ++ from_cells own_column m (filter is_integer_column m.columns)) (from-none m (filter is_plain_column m.columns))
+
+pub integers-part : (m : Listing) → flat_map integer_part (listed_decl m) ≡ []
+integers-part m =
+    cells-part integer_part (λ _. []) (λ _. []) (λ _. refl) (λ _. refl) (λ _ _. refl) (λ _. refl) (λ _. refl) (λ _ _. refl) (λ _ _. refl) (λ _ _. refl) (λ _ _. refl) (λ _. refl) m
+    ∙ (λ i. from-none {Y = List ℕ × Unit {0}} m (filter is_plain_column m.columns) i ++ from-none {Y = List ℕ × Unit {0}} m (filter is_integer_column m.columns) i)
+
+pub binaries-part : (m : Listing) → flat_map binary_part (listed_decl m) ≡ []
+binaries-part m =
+    cells-part binary_part (λ _. []) (λ _. []) (λ _. refl) (λ _. refl) (λ _ _. refl) (λ _. refl) (λ _. refl) (λ _ _. refl) (λ _ _. refl) (λ _ _. refl) (λ _ _. refl) (λ _. refl) m
+    ∙ (λ i. from-none {Y = List ℕ × Unit {0}} m (filter is_plain_column m.columns) i ++ from-none {Y = List ℕ × Unit {0}} m (filter is_integer_column m.columns) i)
+
+-- a map into which the lines of bounds alone put something
+bounds-part : {V : Type 0} (part : Declaration → List (List ℕ × V)) (told_of : Column → Option V) → ((s : Sense) → part (declare_sense s) ≡ []) → ((x : List ℕ) → part (declare_objective x) ≡ [])
+    → ((x : List ℕ) (form : RowDefinition) → part (declare_row x form) ≡ []) → ((cell : Cell) → made_of part (cell_decl false) cell ≡ []) → ((cell : Cell) → made_of part (cell_decl true) cell ≡ [])
+    → ((side : Side) → made_of part side_decl side ≡ []) → ((side : Side) → made_of part range_decl side ≡ [])
+    → (m : Listing) → flat_map (made_of part bound_decl) (flat_map bounds_in m.columns) ≡ all_told told_of m.columns → flat_map part (listed_decl m) ≡ all_told told_of m.columns
+bounds-part part told_of sense objective rows p q sides ranges m h =
+    joined-parts part (whole_of m) [] [] [] [] [] (all_told told_of m.columns) (record {
+      of_sense = sense-none part sense m.sense;
+      of_objective = objective m.objective;
+      of_rows = rows-silent part rows m;
+      of_plain = flat-none (made_of part (cell_decl false)) p (cells_of (whole_of m).plain);
+      of_integers = flat-none (made_of part (cell_decl true)) q (cells_of (whole_of m).integers);
+      of_sides = flat-none (made_of part side_decl) sides (sides_in m);
+      of_ranges = flat-none (made_of part range_decl) ranges (whole_of m).late.ranges;
+      of_bounds = h;
+    })
+
+pub lowers-part : (m : Listing) → flat_map lower_part (listed_decl m) ≡ all_told column_lower m.columns
+lowers-part m = bounds-part lower_part column_lower (λ _. refl) (λ _. refl) (λ _ _. refl) (λ _. refl) (λ _. refl) (λ _. refl) (λ _. refl) m (all-lowers m.columns)
+
+pub uppers-part : (m : Listing) → flat_map upper_part (listed_decl m) ≡ all_told column_upper m.columns
+uppers-part m = bounds-part upper_part column_upper (λ _. refl) (λ _. refl) (λ _ _. refl) (λ _. refl) (λ _. refl) (λ _. refl) (λ _. refl) m (all-uppers m.columns)
+
+pub semis-part : (m : Listing) → flat_map semi_part (listed_decl m) ≡ all_told column_semi m.columns
+semis-part m = bounds-part semi_part column_semi (λ _. refl) (λ _. refl) (λ _ _. refl) (λ _. refl) (λ _. refl) (λ _. refl) (λ _. refl) m (all-semis m.columns)

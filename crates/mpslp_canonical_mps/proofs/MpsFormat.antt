@@ -1,0 +1,36 @@
+-- The laws of MPS as a format of model files, in the words of the trait of formats.
+use Rattle.std.proofs.Common.{◌≡◌, refl, List, ℕ}
+use Rattle.std.specs.Prelude.{Option, None}
+use Rattle.mpslp_model_core.specs.Model.{LinearModel, IsSound}
+use Rattle.mpslp_types.specs.declared.faults.Fault.{Fault}
+use Rattle.mpslp_types.specs.declared.faults.NameAt.{NameAt}
+use Rattle.mpslp_mps.specs.MpsText.{DeclaresMps}
+use Rattle.mpslp_mps.specs.FirstFault.{IsFirstMpsFault}
+use Rattle.mpslp_mps.proofs.ModelOrFault.{model-or_fault}
+use Rattle.mpslp_canonical_mps.specs.CanonicalMps.{canonical_mps}
+use Rattle.mpslp_canonical_mps.proofs.CanonicalDeclares.{canonical-declares}
+use Rattle.mpslp_canonical_mps.proofs.OneAnswer.{one-model, one-fault}
+
+-- No model has what MPS cannot tell.
+abbrev pub mps_unfit : LinearModel → Option NameAt
+mps_unfit m = None
+
+-- The text of a sound model declares this model.
+pub text_declares : (m : LinearModel) → IsSound m → mps_unfit m ≡ None → DeclaresMps (canonical_mps m) m
+text_declares m sound fits = canonical-declares m sound
+
+-- No bytes declare two models.
+pub one_model : (bytes : List ℕ) (m n : LinearModel) → DeclaresMps bytes m → DeclaresMps bytes n → m ≡ n
+one_model = one-model
+
+-- What bytes declare is sound, and MPS can tell it.
+pub declared_sound : (bytes : List ℕ) (m : LinearModel) → DeclaresMps bytes m → IsSound m × (mps_unfit m ≡ None)
+declared_sound bytes m declares = (declares.means.meant.sound, refl)
+
+-- Bytes that declare a model have no fault.
+pub no_fault : (bytes : List ℕ) (m : LinearModel) (fault : Fault) → DeclaresMps bytes m → IsFirstMpsFault bytes fault → ⊥
+no_fault = model-or_fault
+
+-- No bytes have two first faults.
+pub one_fault : (bytes : List ℕ) (fault other : Fault) → IsFirstMpsFault bytes fault → IsFirstMpsFault bytes other → fault ≡ other
+one_fault = one-fault

@@ -1,0 +1,102 @@
+-- The text of a decimal is a field that can be printed: 1 to 255 visible bytes.
+use Rattle.std.proofs.Common.{◌≡◌, refl, sym, subst, List, [], ◌∷◌, ◌++◌, length, ℕ, suc, ◌+◌, ◌<◌, Bool, true, false, cond, arith, take, drop}
+use Rattle.std.specs.Prelude.{◌||◌, not, nat_lt, Result, Ok, Err, if◌then◌else◌}
+use Rattle.std.specs.List.{list_any, list_all, before_first, after_first, position_or_len}
+use Rattle.std.specs.Cmp.{first_so, second_so}
+use Rattle.std.proofs.lemmas.Bool.Decides.{nat_tests}
+use Rattle.mpslp_decimal.specs.Decimal.{Number, IsDecimal, normal, has_few_digits, has_small_exponent}
+use Rattle.mpslp_decimal.specs.Literal.{is_digit, is_sign, is_point, is_exponent_mark, without_sign, are_digits, unsigned_part, mantissa_digits, exponent_part, is_literal, literal_value, number_of}
+use Rattle.mpslp_decimal.specs.NumberText.{number_text}
+use Rattle.mpslp_decimal.specs.declared.literal.NumberFault.{NumberFault}
+use Rattle.mpslp_decimal.specs.declared.literal.NumberFault.TheVariants.{BadNumber, LongNumber, TooManyDigits, ExponentRange}
+use Rattle.mpslp_decimal.proofs.CutLemmas.{after-none}
+use Rattle.mpslp_decimal.proofs.NumberTextLemmas.{number-text, read-short}
+use Rattle.mpslp_types.specs.Name.{is_visible}
+use Rattle.mpslp_types.proofs.BoolLemmas.{nor}
+use Rattle.mpslp_types.proofs.EachLemmas.{Each, Each-weaker, Each-from_list_all}
+use Rattle.mpslp_canonical_mps.proofs.TextLemmas.{Word}
+
+abbrev Visible : List ℕ → Type 0
+Visible bytes = Each (λ b. is_visible b ≡ true) bytes
+
+digit-visible : (b : ℕ) → is_digit b ≡ true → is_visible b ≡ true
+digit-visible b h = grind (arith, nat_tests)
+
+sign-visible : (b : ℕ) → is_sign b ≡ true → is_visible b ≡ true
+sign-visible b h = grind (arith, nat_tests)
+
+point-visible : (b : ℕ) → is_point b ≡ true → is_visible b ≡ true
+point-visible b h = grind (arith, nat_tests)
+
+mark-visible : (b : ℕ) → is_exponent_mark b ≡ true → is_visible b ≡ true
+mark-visible b h = grind (arith, nat_tests)
+
+both-parts : (xs ys : List ℕ) → Visible (xs ++ ys) → Visible xs × Visible ys
+both-parts [] ys h = (tt, h)
+both-parts (x ∷ xs) ys h = let more = both-parts xs ys h.1 in ((h.0, more.0), more.1)
+
+-- what stands before and after the first byte that passes a test, and that byte
+around : (p : ℕ → Bool) → ((b : ℕ) → p b ≡ true → is_visible b ≡ true) → (xs : List ℕ) → Visible (before_first p xs) → Visible (after_first p xs) → Visible xs
+around p sections_seen [] h k = tt
+around p sections_seen (x ∷ xs) h k =
+    elim (p x) as (λ b. p x ≡ b → Visible (take (cond (not b) (1 + position_or_len p xs) 0) (x ∷ xs)) → Visible (drop (cond (not b) (1 + position_or_len p xs) 0 + 1) (x ∷ xs)) → Visible (x ∷ xs)) [
+      | true ↦ λ e _ more. (sections_seen x e, more)
+      | false ↦ λ e front more.
+          let one : 1 + position_or_len p xs ≡ suc (position_or_len p xs) = omega arith in
+          let two : 1 + position_or_len p xs + 1 ≡ suc (position_or_len p xs + 1) = omega arith in
+          let here : Visible (x ∷ take (position_or_len p xs) xs) = subst (λ n. Visible (take n (x ∷ xs))) one front in
+          (here.0, around p sections_seen xs here.1 (subst (λ n. Visible (drop n (x ∷ xs))) two more))
+    ] refl h k
+
+signed-visible : (xs : List ℕ) → Visible (without_sign xs) → Visible xs
+signed-visible [] h = tt
+signed-visible (x ∷ xs) h =
+    elim (is_sign x) as (λ b. is_sign x ≡ b → Visible (cond b xs (x ∷ xs)) → Visible (x ∷ xs)) [
+      | true ↦ λ e more. (sign-visible x e, more)
+      | false ↦ λ _ more. more
+    ] refl h
+
+digits-visible : (xs : List ℕ) → are_digits xs ≡ true → Visible xs
+digits-visible xs h = Each-weaker (λ b. is_digit b ≡ true) (λ b. is_visible b ≡ true) digit-visible xs (Each-from_list_all is_digit xs (second_so (nat_lt 0 (length xs)) (list_all is_digit xs) h))
+
+none-marked : (xs : List ℕ) → list_any is_exponent_mark xs ≡ false → Each (λ b. is_exponent_mark b ≡ false) xs
+none-marked [] h = tt
+none-marked (x ∷ xs) h = let both = nor (is_exponent_mark x) (list_any is_exponent_mark xs) h in (both.0, none-marked xs both.1)
+
+exponent-visible : (text : List ℕ) → (not (list_any is_exponent_mark text) || are_digits (without_sign (exponent_part text))) ≡ true → Visible (exponent_part text)
+exponent-visible text h =
+    elim (list_any is_exponent_mark text) as (λ b. list_any is_exponent_mark text ≡ b → (not b || are_digits (without_sign (exponent_part text))) ≡ true → Visible (exponent_part text)) [
+      | true ↦ λ _ digits. signed-visible (exponent_part text) (digits-visible (without_sign (exponent_part text)) digits)
+      | false ↦ λ none _. subst Visible (sym (after-none is_exponent_mark text (none-marked text none))) tt
+    ] refl h
+
+literal-visible : (text : List ℕ) → is_literal text ≡ true → Visible text
+literal-visible text h =
+    let exponent : Bool = not (list_any is_exponent_mark text) || are_digits (without_sign (exponent_part text)) in
+    let digits = digits-visible (mantissa_digits text) (first_so (are_digits (mantissa_digits text)) exponent h) in
+    let parts = both-parts (before_first is_point (unsigned_part text)) (after_first is_point (unsigned_part text)) digits in
+    let front = signed-visible (before_first is_exponent_mark text) (around is_point point-visible (unsigned_part text) parts.0 parts.1) in
+    around is_exponent_mark mark-visible text front (exponent-visible text (second_so (are_digits (mantissa_digits text)) exponent h))
+
+literal-some : (text : List ℕ) → is_literal text ≡ true → 0 < length text
+literal-some [] h = cc
+literal-some (x ∷ xs) h = omega arith
+
+literal-read : (text : List ℕ) (d : Number) → number_of text ≡ Ok d → is_literal text ≡ true
+literal-read text d e = by (is_literal text) refl e
+  where
+    by : (lit : Bool) → is_literal text ≡ lit
+        → ◌≡◌ {A = Result Number NumberFault} (if not lit then Err BadNumber else (if nat_lt 255 (length text) then Err LongNumber else (if not (has_few_digits (normal (literal_value text))) then Err TooManyDigits else (if not (has_small_exponent (normal (literal_value text))) then Err ExponentRange else Ok (normal (literal_value text)))))) (Ok d)
+        → is_literal text ≡ true
+    by false l e = cc
+    by true l e = l
+
+pub number-word : (d : Number) → IsDecimal d → Word (number_text d)
+number-word d h =
+    let read = number-text d h in
+    let literal = literal-read (number_text d) d read in
+    record {
+      some = literal-some (number_text d) literal;
+      short = read-short (number_text d) d read;
+      visible = literal-visible (number_text d) literal;
+    }

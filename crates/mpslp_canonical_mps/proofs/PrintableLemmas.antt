@@ -1,0 +1,382 @@
+-- The canonical lines of a sound model can be printed: their fields are names, numbers and words of the format.
+use Rattle.std.proofs.Common.{◌≡◌, refl, List, [], ◌∷◌, ◌++◌, length, ℕ, zero, suc, Bool, true, false, cond, map}
+use Rattle.std.specs.Prelude.{Option, Some, None, nat_lt, nat_le, ◌&&◌, not, ℤ, pos, negsuc, neg_ℤ, filter, filter_map, codes}
+use Rattle.std.specs.List.{list_all, flat_map, cons_option}
+use Rattle.std.specs.Option.{option_map, option_map_or}
+use Rattle.std.specs.Cmp.{first_so, second_so}
+use Rattle.std.specs.Ordering.{is_eq}
+use Rattle.std.specs.declared.cmp.Ordering.{Ordering}
+use Rattle.std.specs.FinMap.{entries, find}
+use Rattle.std.proofs.lemmas.Bool.{ltb-true, leb-true}
+use Rattle.mpslp_decimal.specs.Decimal.{Number, IsDecimal, is_decimal, is_zero, is_infinite_size, zero_number, negated, difference_of}
+use Rattle.mpslp_decimal.specs.NumberText.{number_text}
+use Rattle.mpslp_types.specs.Name.{is_mps_name, has_name_length, is_visible, same_bytes, marker}
+use Rattle.mpslp_model_core.specs.Model.{LinearModel, Row, Column, CoefficientKey, key_cmp, is_sound_row, is_sound_column, is_sound_coefficient, suits, IsSound}
+use Rattle.mpslp_types.specs.Limit.{is_bounded_decimal, is_lower_side, is_upper_side, is_at_most, are_sides, has_bounded_distance}
+use Rattle.mpslp_types.specs.declared.kinds.Sense.{Sense}
+use Rattle.mpslp_types.specs.declared.kinds.Sense.TheVariants.{Minimize, Maximize}
+use Rattle.mpslp_types.specs.declared.kinds.Kind.{Kind}
+use Rattle.mpslp_types.specs.declared.kinds.Kind.TheVariants.{Continuous, Integer, Semi}
+use Rattle.mpslp_types.specs.declared.kinds.Limit.{Limit}
+use Rattle.mpslp_types.specs.declared.kinds.Limit.TheVariants.{MinusInf, Finite, PlusInf}
+use Rattle.mpslp_types.specs.declared.kinds.RowType.{RowType}
+use Rattle.mpslp_types.specs.declared.kinds.RowType.TheVariants.{Free, AtMost, AtLeast, Equal}
+use Rattle.mpslp_types.proofs.EachLemmas.{Each, Each-weaker, Each-append, Each-map, Each-flat_map, Each-filter, Each-from_list_all}
+use Rattle.mpslp_mps.specs.Line.{Fields}
+use Rattle.mpslp_mps.specs.DataLine.{letter_of, opening_word, closing_word}
+use Rattle.mpslp_mps.specs.BoundLine.{letters_of}
+use Rattle.mpslp_mps.specs.declared.sections.Section.{Section}
+use Rattle.mpslp_mps.specs.declared.sections.Section.TheVariants.{Name, ObjSense, ObjName, Rows, Columns, Rhs, Ranges, Bounds, EndData}
+use Rattle.mpslp_mps.specs.declared.bound_types.BoundType.{BoundType}
+use Rattle.mpslp_mps.specs.declared.bound_types.BoundType.TheVariants as bounds
+use Rattle.mpslp_canonical_mps.specs.Listing.{Listing, listing_of}
+use Rattle.mpslp_canonical_mps.specs.PrintedValues.{have_same_value, is_fixed, printed_type, printed_rhs, printed_range, PrintedBound, printed_lower, printed_upper, printed_bounds}
+use Rattle.mpslp_canonical_mps.specs.CanonicalMps.{Lines, header_line, under_header, sense_lines, objective_line, row_line, rows_section, coefficient_line, cell_at, column_coefficients, printed_coefficients, column_lines, is_integer_column, is_plain_column, marker_line, integer_part, columns_section, vector_line, rhs_lines, row_rhs_lines, rhs_section, range_lines, ranges_section, bound_line, column_bound_lines, bounds_section, listed_lines, canonical_lines}
+use Rattle.mpslp_canonical_mps.proofs.TextLemmas.{Word, Words, IsPrintable}
+use Rattle.mpslp_canonical_mps.proofs.NumberWords.{number-word}
+
+-- ---- words
+
+-- by computation
+code-word : (w : List ℕ) → nat_lt 0 (length w) ≡ true → nat_le (length w) 255 ≡ true → list_all is_visible w ≡ true → Word w
+code-word w some short visible = record { some = ltb-true 0 (length w) some; short = leb-true (length w) 255 short; visible = Each-from_list_all is_visible w visible }
+
+name-word : (name : List ℕ) → is_mps_name name ≡ true → Word name
+name-word name h =
+    let sized : has_name_length name ≡ true = first_so (has_name_length name) (list_all is_visible name && not (same_bytes name marker)) h in
+    record {
+      some = leb-true 1 (length name) (first_so (nat_le 1 (length name)) (nat_le (length name) 255) sized);
+      short = leb-true (length name) 255 (second_so (nat_le 1 (length name)) (nat_le (length name) 255) sized);
+      visible = Each-from_list_all is_visible name (first_so (list_all is_visible name) (not (same_bytes name marker)) (second_so (has_name_length name) (list_all is_visible name && not (same_bytes name marker)) h));
+    }
+
+words : (ws : Fields) → nat_lt 0 (length ws) ≡ true → nat_le (length ws) 4 ≡ true → Each Word ws → Words ws
+words ws some few each = record { some = ltb-true 0 (length ws) some; few = leb-true (length ws) 4 few; each = each }
+
+letter-word : (type : RowType) → Word (letter_of type)
+letter-word Free = code-word (codes "N") refl refl refl
+letter-word AtMost = code-word (codes "L") refl refl refl
+letter-word AtLeast = code-word (codes "G") refl refl refl
+letter-word Equal = code-word (codes "E") refl refl refl
+
+letters-word : (type : BoundType) → Word (letters_of type)
+letters-word bounds.Lower = code-word (codes "LO") refl refl refl
+letters-word bounds.Upper = code-word (codes "UP") refl refl refl
+letters-word bounds.Fixed = code-word (codes "FX") refl refl refl
+letters-word bounds.Free = code-word (codes "FR") refl refl refl
+letters-word bounds.NoLower = code-word (codes "MI") refl refl refl
+letters-word bounds.NoUpper = code-word (codes "PL") refl refl refl
+letters-word bounds.Binary = code-word (codes "BV") refl refl refl
+letters-word bounds.IntegerLower = code-word (codes "LI") refl refl refl
+letters-word bounds.IntegerUpper = code-word (codes "UI") refl refl refl
+letters-word bounds.SemiUpper = code-word (codes "SC") refl refl refl
+
+header-printable : (section : Section) → IsPrintable (header_line section)
+header-printable Name = (code-word (codes "NAME") refl refl refl, refl)
+header-printable ObjSense = (code-word (codes "OBJSENSE") refl refl refl, refl)
+header-printable ObjName = (code-word (codes "OBJNAME") refl refl refl, refl)
+header-printable Rows = (code-word (codes "ROWS") refl refl refl, refl)
+header-printable Columns = (code-word (codes "COLUMNS") refl refl refl, refl)
+header-printable Rhs = (code-word (codes "RHS") refl refl refl, refl)
+header-printable Ranges = (code-word (codes "RANGES") refl refl refl, refl)
+header-printable Bounds = (code-word (codes "BOUNDS") refl refl refl, refl)
+header-printable EndData = (code-word (codes "ENDATA") refl refl refl, refl)
+
+abbrev pub AllPrintable : Lines → Type 0
+AllPrintable lines = Each IsPrintable lines
+
+under-printable : (section : Section) (lines : Lines) → AllPrintable lines → AllPrintable (under_header section lines)
+under-printable section [] h = tt
+under-printable section (line ∷ lines) h = (header-printable section, h)
+
+-- ---- values that are decimals
+
+abbrev pub Holds : {X : Type 0} → (X → Type 0) → Option X → Type 0
+Holds P None = Unit {0}
+Holds P (Some x) = P x
+
+each-found : {K X : Type 0} (R : K → K → Ordering) (P : X → Type 0) (k : K) (es : List (K × X)) → Each (λ e. P e.1) es → Holds P (find R k es)
+each-found R P k [] h = tt
+each-found {K} {X} R P k (e ∷ es) h =
+    elim (is_eq (R k e.0)) as (λ b. Holds P (cond b (Some e.1) (find R k es))) [
+      | true ↦ h.0
+      | false ↦ each-found R P k es h.1
+    ]
+
+each-filter_map : {X Y : Type 0} (P : Y → Type 0) (f : X → Option Y) (xs : List X) → Each (λ x. Holds P (f x)) xs → Each P (filter_map f xs)
+each-filter_map P f [] h = tt
+each-filter_map {X} {Y} P f (x ∷ xs) h = by (f x) h.0 (each-filter_map P f xs h.1)
+  where
+    by : (o : Option Y) → Holds P o → Each P (filter_map f xs) → Each P (cons_option o (filter_map f xs))
+    by None k more = more
+    by (Some y) k more = (k, more)
+
+zero-decimal : IsDecimal zero_number
+zero-decimal = refl
+
+bounded-decimal : (d : Number) → is_bounded_decimal d ≡ true → IsDecimal d
+bounded-decimal d h = first_so (is_decimal d) (not (is_infinite_size d)) h
+
+-- the sides of a row or column that are finite
+lower-decimal : (a : Number) → is_lower_side (Finite a) ≡ true → IsDecimal a
+lower-decimal a h = bounded-decimal a h
+
+pub side-decimal : (lower upper : Limit) → are_sides lower upper ≡ true → IsDecimal (printed_rhs lower upper)
+side-decimal MinusInf MinusInf h = refl
+side-decimal MinusInf (Finite b) h = bounded-decimal b (first_so (is_bounded_decimal b) _ h)
+side-decimal MinusInf PlusInf h = refl
+side-decimal (Finite a) upper h = bounded-decimal a (first_so (is_bounded_decimal a) (is_upper_side upper && is_at_most (Finite a) upper) h)
+side-decimal PlusInf upper h = cc
+
+pub range-decimal : (lower upper : Limit) → has_bounded_distance lower upper ≡ true → Holds IsDecimal (printed_range lower upper)
+range-decimal MinusInf upper h = tt
+range-decimal (Finite a) MinusInf h = tt
+range-decimal (Finite a) PlusInf h = tt
+range-decimal PlusInf upper h = tt
+range-decimal (Finite a) (Finite b) h =
+    elim (have_same_value a b) as (λ t. Holds IsDecimal (cond t None (difference_of b a))) [
+      | true ↦ tt
+      | false ↦ told (difference_of b a) h
+    ]
+  where
+    told : (o : Option Number) → option_map_or is_bounded_decimal o false ≡ true → Holds IsDecimal o
+    told None k = tt
+    told (Some d) k = bounded-decimal d k
+
+pub negated-decimal : (d : Number) → IsDecimal d → IsDecimal (negated d)
+negated-decimal d h = by d.mantissa h
+  where
+    by : (m : ℤ) → IsDecimal (record d { mantissa = m }) → IsDecimal (record d { mantissa = neg_ℤ m })
+    by (pos zero) k = k
+    by (pos (suc n)) k = k
+    by (negsuc n) k = k
+
+-- ---- the lines of each section
+
+sense-printable : (sense : Sense) → AllPrintable (sense_lines sense)
+sense-printable Minimize = tt
+sense-printable Maximize = (header-printable ObjSense, (words (codes "MAX" ∷ []) refl refl (code-word (codes "MAX") refl refl refl, tt), tt))
+
+row-printable : (row : List ℕ × Row) → is_sound_row row ≡ true → IsPrintable (row_line row)
+row-printable row h =
+    words _ refl refl (letter-word (printed_type row.1.lower row.1.upper), (name-word row.0 (first_so (is_mps_name row.0) (are_sides row.1.lower row.1.upper && has_bounded_distance row.1.lower row.1.upper) h), tt))
+
+objective-printable : (name : List ℕ) → is_mps_name name ≡ true → IsPrintable (objective_line name)
+objective-printable name h = words _ refl refl (code-word (codes "N") refl refl refl, (name-word name h, tt))
+
+value-printable : (set row : List ℕ) (value : Number) → Word set → Word row → IsDecimal value → IsPrintable (vector_line set row value)
+value-printable set row value s r v = words _ refl refl (s, (r, (number-word value v, tt)))
+
+-- a row or the objective, and a value
+abbrev IsCell : List ℕ × Number → Type 0
+IsCell cell = Word cell.0 × IsDecimal cell.1
+
+cells-printable : (column : List ℕ) (cells : List (List ℕ × Number)) → Word column → Each IsCell cells → AllPrintable (map (coefficient_line column) cells)
+cells-printable column [] c h = tt
+cells-printable column (cell ∷ cells) c h = (value-printable column cell.0 cell.1 c h.0.0 h.0.1, cells-printable column cells c h.1)
+
+cell-found : (coefficients : List (CoefficientKey × Number)) (column row : List ℕ) → Each (λ e. IsDecimal e.1) coefficients → Word row → Holds IsCell (cell_at coefficients column row)
+cell-found coefficients column row h w = by (find key_cmp (record { row = row; column = column }) coefficients) (each-found key_cmp IsDecimal (record { row = row; column = column }) coefficients h)
+  where
+    by : (o : Option Number) → Holds IsDecimal o → Holds IsCell (option_map (λ (value : Number). (row, value)) o)
+    by None k = tt
+    by (Some d) k = (w, k)
+
+some-cell : (objective : List ℕ) (cells : List (List ℕ × Number)) → Word objective → Each IsCell cells → Each IsCell (printed_coefficients objective cells)
+some-cell objective [] w h = ((w, zero-decimal), tt)
+some-cell objective (cell ∷ cells) w h = h
+
+-- what is needed of a listing
+pub record IsListed (m : Listing) : Type 0 where
+  pub objective : is_mps_name m.objective ≡ true
+  pub constant : IsDecimal m.constant
+  pub rows : Each (λ row. is_sound_row row ≡ true) m.rows
+  pub columns : Each (λ column. is_sound_column column ≡ true) m.columns
+  pub coefficients : Each (λ entry. IsDecimal entry.1) m.coefficients
+
+row-name : (row : List ℕ × Row) → is_sound_row row ≡ true → Word row.0
+row-name row h = name-word row.0 (first_so (is_mps_name row.0) (are_sides row.1.lower row.1.upper && has_bounded_distance row.1.lower row.1.upper) h)
+
+row-sides : (row : List ℕ × Row) → is_sound_row row ≡ true → are_sides row.1.lower row.1.upper ≡ true
+row-sides row h =
+    first_so (are_sides row.1.lower row.1.upper) (has_bounded_distance row.1.lower row.1.upper)
+    (second_so (is_mps_name row.0) (are_sides row.1.lower row.1.upper && has_bounded_distance row.1.lower row.1.upper) h)
+
+row-distance : (row : List ℕ × Row) → is_sound_row row ≡ true → has_bounded_distance row.1.lower row.1.upper ≡ true
+row-distance row h =
+    second_so (are_sides row.1.lower row.1.upper) (has_bounded_distance row.1.lower row.1.upper)
+    (second_so (is_mps_name row.0) (are_sides row.1.lower row.1.upper && has_bounded_distance row.1.lower row.1.upper) h)
+
+column-name : (column : List ℕ × Column) → is_sound_column column ≡ true → Word column.0
+column-name column h = name-word column.0 (first_so (is_mps_name column.0) (are_sides column.1.lower column.1.upper && suits column.1.kind column.1.lower column.1.upper) h)
+
+column-sides : (column : List ℕ × Column) → is_sound_column column ≡ true → are_sides column.1.lower column.1.upper ≡ true
+column-sides column h =
+    first_so (are_sides column.1.lower column.1.upper) (suits column.1.kind column.1.lower column.1.upper)
+    (second_so (is_mps_name column.0) (are_sides column.1.lower column.1.upper && suits column.1.kind column.1.lower column.1.upper) h)
+
+column-printable : (m : Listing) → IsListed m → (column : List ℕ × Column) → is_sound_column column ≡ true → AllPrintable (column_lines m column)
+column-printable m h column sound =
+    let names : Each Word (m.objective ∷ map (λ row. row.0) m.rows) =
+    (name-word m.objective h.objective, Each-map Word (λ row. row.0) m.rows (Each-weaker (λ row. is_sound_row row ≡ true) (λ row. Word row.0) row-name m.rows h.rows)) in
+    let found = each-filter_map IsCell (cell_at m.coefficients column.0) (m.objective ∷ map (λ row. row.0) m.rows)
+    (Each-weaker Word (λ row. Holds IsCell (cell_at m.coefficients column.0 row)) (λ row w. cell-found m.coefficients column.0 row h.coefficients w) (m.objective ∷ map (λ row. row.0) m.rows) names) in
+    cells-printable column.0 (printed_coefficients m.objective (column_coefficients m column.0)) (column-name column sound) (some-cell m.objective (column_coefficients m column.0) (name-word m.objective h.objective) found)
+
+columns-printable : (m : Listing) → IsListed m → (columns : List (List ℕ × Column)) → Each (λ column. is_sound_column column ≡ true) columns → AllPrintable (flat_map (column_lines m) columns)
+columns-printable m h columns sound =
+    Each-flat_map IsPrintable (column_lines m) columns (Each-weaker (λ column. is_sound_column column ≡ true) (λ column. AllPrintable (column_lines m column)) (column-printable m h) columns sound)
+
+kept : (p : List ℕ × Column → Bool) (columns : List (List ℕ × Column)) → Each (λ column. is_sound_column column ≡ true) columns → Each (λ column. is_sound_column column ≡ true) (filter p columns)
+kept p columns h =
+    Each-filter (λ column. is_sound_column column ≡ true) p columns
+    (Each-weaker (λ column. is_sound_column column ≡ true) (λ column. p column ≡ true → is_sound_column column ≡ true) (λ column k _. k) columns h)
+
+opening-printable : IsPrintable (marker_line opening_word)
+opening-printable = words _ refl refl (code-word (codes "MARKER") refl refl refl, (code-word marker refl refl refl, (code-word opening_word refl refl refl, tt)))
+
+closing-printable : IsPrintable (marker_line closing_word)
+closing-printable = words _ refl refl (code-word (codes "MARKER") refl refl refl, (code-word marker refl refl refl, (code-word closing_word refl refl refl, tt)))
+
+part-printable : (lines : Lines) → AllPrintable lines → AllPrintable (integer_part lines)
+part-printable [] h = tt
+part-printable (line ∷ lines) h = (opening-printable, Each-append IsPrintable (line ∷ lines) (marker_line closing_word ∷ []) h (closing-printable, tt))
+
+side-printable : (row : List ℕ) (value : Number) → Word row → IsDecimal value → AllPrintable (rhs_lines row value)
+side-printable row value w d =
+    elim (is_zero value) as (λ b. AllPrintable (cond b [] (vector_line (codes "RHS") row value ∷ []))) [
+      | true ↦ tt
+      | false ↦ (value-printable (codes "RHS") row value (code-word (codes "RHS") refl refl refl) w d, tt)
+    ]
+
+row-side-printable : (row : List ℕ × Row) → is_sound_row row ≡ true → AllPrintable (row_rhs_lines row)
+row-side-printable row h = side-printable row.0 (printed_rhs row.1.lower row.1.upper) (row-name row h) (side-decimal row.1.lower row.1.upper (row-sides row h))
+
+range-printable : (row : List ℕ × Row) → is_sound_row row ≡ true → AllPrintable (range_lines row)
+range-printable row h = by (printed_range row.1.lower row.1.upper) (range-decimal row.1.lower row.1.upper (row-distance row h))
+  where
+    by : (o : Option Number) → Holds IsDecimal o → AllPrintable (option_map_or (λ value. vector_line (codes "RNG") row.0 value ∷ []) o [])
+    by None k = tt
+    by (Some d) k = (value-printable (codes "RNG") row.0 d (code-word (codes "RNG") refl refl refl) (row-name row h) k, tt)
+
+-- ---- bounds
+
+abbrev IsBound : PrintedBound → Type 0
+IsBound bound = Holds IsDecimal bound.value
+
+lower-bounds : (kind : Kind) (lower : Limit) → is_lower_side lower ≡ true → Each IsBound (printed_lower lower)
+lower-bounds kind MinusInf h = (tt, tt)
+lower-bounds kind (Finite a) h =
+    elim (is_zero a) as (λ b. Each IsBound (cond b [] (record { type = bounds.Lower; value = Some a } ∷ []))) [
+      | true ↦ tt
+      | false ↦ (bounded-decimal a h, tt)
+    ]
+lower-bounds kind PlusInf h = tt
+
+upper-bounds : (kind : Kind) (upper : Limit) → is_upper_side upper ≡ true → Each IsBound (printed_upper kind upper)
+upper-bounds kind MinusInf h = tt
+upper-bounds kind (Finite b) h = (bounded-decimal b h, tt)
+upper-bounds Continuous PlusInf h = tt
+upper-bounds Integer PlusInf h = (tt, tt)
+upper-bounds Semi PlusInf h = tt
+
+all-bounds : (kind : Kind) (lower upper : Limit) → is_lower_side lower ≡ true → is_upper_side upper ≡ true → Each IsBound (printed_bounds kind lower upper)
+all-bounds kind MinusInf PlusInf h k = (tt, tt)
+all-bounds kind MinusInf MinusInf h k = cc
+all-bounds kind MinusInf (Finite b) h k = (tt, (bounded-decimal b k, tt))
+all-bounds kind (Finite a) (Finite b) h k =
+    elim (is_fixed kind a b) as (λ t. Each IsBound (cond t (record { type = bounds.Fixed; value = Some b } ∷ []) (printed_lower (Finite a) ++ printed_upper kind (Finite b)))) [
+      | true ↦ (bounded-decimal b k, tt)
+      | false ↦ Each-append IsBound (printed_lower (Finite a)) (printed_upper kind (Finite b)) (lower-bounds kind (Finite a) h) (upper-bounds kind (Finite b) k)
+    ]
+all-bounds kind (Finite a) MinusInf h k = cc
+all-bounds kind (Finite a) PlusInf h k = Each-append IsBound (printed_lower (Finite a)) (printed_upper kind PlusInf) (lower-bounds kind (Finite a) h) (upper-bounds kind PlusInf k)
+all-bounds kind PlusInf upper h k = cc
+
+bound-printable : (column : List ℕ) (bound : PrintedBound) → Word column → IsBound bound → IsPrintable (bound_line column bound)
+bound-printable column bound w h = by bound.value h
+  where
+    by : (o : Option Number) → Holds IsDecimal o → Words (letters_of bound.type ∷ codes "BND" ∷ column ∷ option_map_or (λ value. number_text value ∷ []) o [])
+    by None k = words _ refl refl (letters-word bound.type, (code-word (codes "BND") refl refl refl, (w, tt)))
+    by (Some d) k = words _ refl refl (letters-word bound.type, (code-word (codes "BND") refl refl refl, (w, (number-word d k, tt))))
+
+bounds-printable : (column : List ℕ × Column) → is_sound_column column ≡ true → AllPrintable (column_bound_lines column)
+bounds-printable column h =
+    let lower = column.1.lower in
+    let upper = column.1.upper in
+    let sides = column-sides column h in
+    let both = all-bounds column.1.kind lower upper (first_so (is_lower_side lower) (is_upper_side upper && is_at_most lower upper) sides)
+    (first_so (is_upper_side upper) (is_at_most lower upper) (second_so (is_lower_side lower) (is_upper_side upper && is_at_most lower upper) sides)) in
+    Each-map IsPrintable (bound_line column.0) (printed_bounds column.1.kind lower upper)
+    (Each-weaker IsBound (λ bound. IsPrintable (bound_line column.0 bound)) (λ bound k. bound-printable column.0 bound (column-name column h) k) (printed_bounds column.1.kind lower upper) both)
+
+-- ---- all lines
+
+abbrev in-turn : (xs ys : Lines) → AllPrintable xs → AllPrintable ys → AllPrintable (xs ++ ys)
+in-turn xs ys h k = Each-append IsPrintable xs ys h k
+
+rows-printable : (m : Listing) → IsListed m → AllPrintable (rows_section m)
+rows-printable m h = (
+  header-printable Rows,
+  (
+    objective-printable m.objective h.objective,
+    Each-map IsPrintable row_line m.rows (Each-weaker (λ row. is_sound_row row ≡ true) (λ row. IsPrintable (row_line row)) row-printable m.rows h.rows),
+  ),
+)
+
+columns_section-printable : (m : Listing) → IsListed m → AllPrintable (columns_section m)
+columns_section-printable m h = (
+  header-printable Columns,
+  in-turn (flat_map (column_lines m) (filter is_plain_column m.columns)) (integer_part (flat_map (column_lines m) (filter is_integer_column m.columns)))
+      (columns-printable m h (filter is_plain_column m.columns) (kept is_plain_column m.columns h.columns))
+      (part-printable (flat_map (column_lines m) (filter is_integer_column m.columns)) (columns-printable m h (filter is_integer_column m.columns) (kept is_integer_column m.columns h.columns))),
+)
+
+rhs_values-printable : (m : Listing) → IsListed m → AllPrintable (rhs_section m)
+rhs_values-printable m h =
+    under-printable Rhs (rhs_lines m.objective (negated m.constant) ++ flat_map row_rhs_lines m.rows)
+    (in-turn (rhs_lines m.objective (negated m.constant)) (flat_map row_rhs_lines m.rows)
+    (side-printable m.objective (negated m.constant) (name-word m.objective h.objective) (negated-decimal m.constant h.constant))
+    (Each-flat_map IsPrintable row_rhs_lines m.rows (Each-weaker (λ row. is_sound_row row ≡ true) (λ row. AllPrintable (row_rhs_lines row)) row-side-printable m.rows h.rows)))
+
+ranges-printable : (m : Listing) → IsListed m → AllPrintable (ranges_section m)
+ranges-printable m h =
+    under-printable Ranges (flat_map range_lines m.rows)
+    (Each-flat_map IsPrintable range_lines m.rows (Each-weaker (λ row. is_sound_row row ≡ true) (λ row. AllPrintable (range_lines row)) range-printable m.rows h.rows))
+
+bounds_section-printable : (m : Listing) → IsListed m → AllPrintable (bounds_section m)
+bounds_section-printable m h =
+    under-printable Bounds (flat_map column_bound_lines m.columns)
+    (Each-flat_map IsPrintable column_bound_lines m.columns (Each-weaker (λ column. is_sound_column column ≡ true) (λ column. AllPrintable (column_bound_lines column)) bounds-printable m.columns h.columns))
+
+listed-printable : (m : Listing) → IsListed m → AllPrintable (listed_lines m)
+listed-printable m h =
+    let ending = header_line EndData ∷ [] in
+    let bounds_on = bounds_section m ++ ending in
+    let ranges_on = ranges_section m ++ bounds_on in
+    let sides_on = rhs_section m ++ ranges_on in
+    let columns_on = columns_section m ++ sides_on in
+    let rows_on = rows_section m ++ columns_on in (
+      header-printable Name,
+      in-turn (sense_lines m.sense) rows_on (sense-printable m.sense)
+          (in-turn (rows_section m) columns_on (rows-printable m h)
+          (in-turn (columns_section m) sides_on (columns_section-printable m h)
+          (in-turn (rhs_section m) ranges_on (rhs_values-printable m h)
+          (in-turn (ranges_section m) bounds_on (ranges-printable m h)
+          (in-turn (bounds_section m) ending (bounds_section-printable m h) (header-printable EndData, tt)))))),
+    )
+
+listed-from_sound : (m : LinearModel) → IsSound m → IsListed (listing_of m)
+listed-from_sound m h =
+    record {
+      objective = h.objective;
+      constant = h.constant;
+      rows = Each-from_list_all is_sound_row (entries m.rows) h.rows;
+      columns = Each-from_list_all is_sound_column (entries m.columns) h.columns;
+      coefficients = Each-weaker (λ entry. is_sound_coefficient m entry ≡ true) (λ entry. IsDecimal entry.1)
+          (λ entry k. first_so (is_decimal entry.1) _ k) (entries m.coefficients) (Each-from_list_all (is_sound_coefficient m) (entries m.coefficients) h.coefficients);
+    }
+
+-- each canonical line of a sound model can be printed
+pub canonical-printable : (m : LinearModel) → IsSound m → AllPrintable (canonical_lines m)
+canonical-printable m h = listed-printable (listing_of m) (listed-from_sound m h)

@@ -1,0 +1,148 @@
+-- The canonical text of a sound model is read line by line as it was printed, up to ENDATA, its last line.
+use Rattle.std.proofs.Common.{◌≡◌, refl, sym, ap, subst, ◌∙◌, List, [], ◌∷◌, ◌++◌, ℕ, suc, ◌+◌, true, false, cond, map, arith, take}
+use Rattle.std.specs.Prelude.{Option, Some, None, filter, codes}
+use Rattle.std.specs.List.{list_any, flat_map, position_or_len}
+use Rattle.std.specs.Option.{option_map_or}
+use Rattle.std.specs.Str.Lines.{lines}
+use Rattle.mpslp_decimal.specs.Decimal.{Number, is_zero, negated}
+use Rattle.mpslp_model_core.specs.Model.{Row, Column}
+use Rattle.mpslp_types.specs.declared.kinds.Sense.{Sense}
+use Rattle.mpslp_types.specs.declared.kinds.Sense.TheVariants.{Minimize, Maximize}
+use Rattle.mpslp_types.proofs.EachLemmas.{Each, Each-append, Each-map, Each-flat_map, Each-all}
+use Rattle.mpslp_mps.specs.Section.{begins}
+use Rattle.mpslp_mps.specs.DataLine.{closing_word}
+use Rattle.mpslp_mps.specs.MpsText.{is_end}
+use Rattle.mpslp_mps.specs.declared.sections.Section.{Section}
+use Rattle.mpslp_mps.specs.declared.sections.Section.TheVariants.{Name, Rhs, Ranges, Bounds, EndData}
+use Rattle.mpslp_canonical_mps.specs.Printed.{PrintedLine, line_text, content_in}
+use Rattle.mpslp_canonical_mps.specs.Listing.{Listing, listing_of}
+use Rattle.mpslp_canonical_mps.specs.PrintedValues.{printed_rhs, printed_range, printed_bounds}
+use Rattle.mpslp_canonical_mps.specs.CanonicalMps.{Lines, header_line, under_header, sense_lines, row_line, rows_section, coefficient_line, column_coefficients, printed_coefficients, column_lines, is_integer_column, is_plain_column, marker_line, integer_part, columns_section, vector_line, rhs_lines, row_rhs_lines, rhs_section, range_lines, ranges_section, bound_line, column_bound_lines, bounds_section, listed_lines, canonical_lines, canonical_mps}
+use Rattle.mpslp_canonical_mps.specs.Laws.{AreReadAsPrinted}
+use Rattle.mpslp_canonical_mps.proofs.TextLemmas.{IsPrintable, item-line_text, items-line_text, legal-lines, lines-text}
+use Rattle.mpslp_canonical_mps.proofs.PrintableLemmas.{canonical-printable}
+
+-- ---- the last line alone is ENDATA
+
+abbrev pub lines_before_end : Listing → Lines
+lines_before_end m =
+    header_line Name ∷ (sense_lines m.sense ++ (rows_section m ++ (columns_section m
+    ++ (rhs_section m ++ (ranges_section m ++ bounds_section m)))))
+
+lines-assoc : (xs ys zs : Lines) → (xs ++ ys) ++ zs ≡ xs ++ (ys ++ zs)
+lines-assoc [] ys zs = refl
+lines-assoc (x ∷ xs) ys zs = ap (λ (more : Lines). x ∷ more) (lines-assoc xs ys zs)
+
+regroup : (a b c d e f g : Lines) → (a ++ (b ++ (c ++ (d ++ (e ++ f))))) ++ g ≡ a ++ (b ++ (c ++ (d ++ (e ++ (f ++ g)))))
+regroup a b c d e f g =
+    lines-assoc a (b ++ (c ++ (d ++ (e ++ f)))) g
+    ∙ ap (λ (x : Lines). a ++ x) (lines-assoc b (c ++ (d ++ (e ++ f))) g
+    ∙ ap (λ (x : Lines). b ++ x) (lines-assoc c (d ++ (e ++ f)) g
+    ∙ ap (λ (x : Lines). c ++ x) (lines-assoc d (e ++ f) g
+    ∙ ap (λ (x : Lines). d ++ x) (lines-assoc e f g))))
+
+pub lines-end : (m : Listing) → listed_lines m ≡ lines_before_end m ++ header_line EndData ∷ []
+lines-end m =
+    ap (λ (more : Lines). header_line Name ∷ more)
+    (sym (regroup (sense_lines m.sense) (rows_section m) (columns_section m) (rhs_section m) (ranges_section m) (bounds_section m) (header_line EndData ∷ [])))
+
+abbrev pub GoesOn : PrintedLine → Type 0
+GoesOn l = begins EndData (content_in l) ≡ false
+
+abbrev AllGoOn : Lines → Type 0
+AllGoOn ls = Each GoesOn ls
+
+under-goes : (section : Section) (ls : Lines) → GoesOn (header_line section) → AllGoOn ls → AllGoOn (under_header section ls)
+under-goes section [] s h = tt
+under-goes section (l ∷ ls) s h = (s, h)
+
+in-turn : (xs ys : Lines) → AllGoOn xs → AllGoOn ys → AllGoOn (xs ++ ys)
+in-turn xs ys h k = Each-append GoesOn xs ys h k
+
+mapped-go : {X : Type 0} (f : X → PrintedLine) → ((x : X) → GoesOn (f x)) → (xs : List X) → AllGoOn (map f xs)
+mapped-go f h xs = Each-map GoesOn f xs (Each-all (λ x. GoesOn (f x)) h xs)
+
+flat-go : {X : Type 0} (f : X → Lines) → ((x : X) → AllGoOn (f x)) → (xs : List X) → AllGoOn (flat_map f xs)
+flat-go f h xs = Each-flat_map GoesOn f xs (Each-all (λ x. AllGoOn (f x)) h xs)
+
+sense-go : (sense : Sense) → AllGoOn (sense_lines sense)
+sense-go Minimize = tt
+sense-go Maximize = (refl, (refl, tt))
+
+part-go : (ls : Lines) → AllGoOn ls → AllGoOn (integer_part ls)
+part-go [] h = tt
+part-go (l ∷ ls) h = (refl, in-turn (l ∷ ls) (marker_line closing_word ∷ []) h (refl, tt))
+
+columns-go : (m : Listing) (columns : List (List ℕ × Column)) → AllGoOn (flat_map (column_lines m) columns)
+columns-go m columns = flat-go (column_lines m) (λ column. mapped-go (coefficient_line column.0) (λ _. refl) (printed_coefficients m.objective (column_coefficients m column.0))) columns
+
+side-go : (row : List ℕ) (value : Number) → AllGoOn (rhs_lines row value)
+side-go row value = elim (is_zero value) as (λ b. AllGoOn (cond b [] (vector_line (codes "RHS") row value ∷ []))) [ true ↦ tt | false ↦ (refl, tt) ]
+
+range-go : (row : List ℕ × Row) → AllGoOn (range_lines row)
+range-go row = by (printed_range row.1.lower row.1.upper)
+  where
+    by : (o : Option Number) → AllGoOn (option_map_or (λ value. vector_line (codes "RNG") row.0 value ∷ []) o [])
+    by None = tt
+    by (Some d) = (refl, tt)
+
+bounds-go : (column : List ℕ × Column) → AllGoOn (column_bound_lines column)
+bounds-go column = mapped-go (bound_line column.0) (λ _. refl) (printed_bounds column.1.kind column.1.lower column.1.upper)
+
+pub before-go : (m : Listing) → AllGoOn (lines_before_end m)
+before-go m =
+    let bounds_on = bounds_section m in
+    let ranges_on = ranges_section m ++ bounds_on in
+    let sides_on = rhs_section m ++ ranges_on in
+    let columns_on = columns_section m ++ sides_on in (
+      refl,
+      in-turn (sense_lines m.sense) (rows_section m ++ columns_on) (sense-go m.sense)
+          (in-turn (rows_section m) columns_on (refl, (refl, mapped-go row_line (λ _. refl) m.rows))
+          (in-turn (columns_section m) sides_on (
+            refl,
+            in-turn (flat_map (column_lines m) (filter is_plain_column m.columns)) (integer_part (flat_map (column_lines m) (filter is_integer_column m.columns)))
+                (columns-go m (filter is_plain_column m.columns)) (part-go (flat_map (column_lines m) (filter is_integer_column m.columns)) (columns-go m (filter is_integer_column m.columns))),
+          )
+          (in-turn (rhs_section m) ranges_on (under-goes Rhs _ refl (in-turn (rhs_lines m.objective (negated m.constant)) (flat_map row_rhs_lines m.rows)
+          (side-go m.objective (negated m.constant)) (flat-go row_rhs_lines (λ row. side-go row.0 (printed_rhs row.1.lower row.1.upper)) m.rows)))
+          (in-turn (ranges_section m) bounds_on (under-goes Ranges _ refl (flat-go range_lines range-go m.rows))
+          (under-goes Bounds _ refl (flat-go column_bound_lines bounds-go m.columns)))))),
+    )
+
+-- ---- so all lines are read
+
+not_end : (l : PrintedLine) → IsPrintable l → GoesOn l → is_end (line_text l) ≡ false
+not_end l p g = ap (begins EndData) (item-line_text l p) ∙ g
+
+all-read : (ls : Lines) (last : PrintedLine) → Each IsPrintable ls → IsPrintable last → AllGoOn ls → begins EndData (content_in last) ≡ true
+    → (take (suc (position_or_len is_end (map line_text (ls ++ last ∷ [])))) (map line_text (ls ++ last ∷ [])) ≡ map line_text (ls ++ last ∷ []))
+    × (list_any is_end (map line_text (ls ++ last ∷ [])) ≡ true)
+all-read [] last h p g e = let here : is_end (line_text last) ≡ true = ap (begins EndData) (item-line_text last p) ∙ e in (rw here refl, rw here refl)
+all-read (l ∷ ls) last h p g e =
+    let more = all-read ls last h.1 p g.1 e in
+    let here : is_end (line_text l) ≡ false = not_end l h.0 g.0 in
+    let next : (n : ℕ) → 1 + n ≡ suc n = λ n. omega arith in
+    (rw (here, next (position_or_len is_end (map line_text (ls ++ last ∷ [])))) (ap (λ (x : List (List ℕ)). line_text l ∷ x) more.0), rw here more.1)
+
+each-parts : (xs ys : Lines) → Each IsPrintable (xs ++ ys) → Each IsPrintable xs × Each IsPrintable ys
+each-parts [] ys h = (tt, h)
+each-parts (x ∷ xs) ys h = let more = each-parts xs ys h.1 in ((h.0, more.0), more.1)
+
+abbrev up_to_end : List (List ℕ) → List (List ℕ)
+up_to_end ls = take (suc (position_or_len is_end ls)) ls
+
+pub read-as-line_text : AreReadAsPrinted
+read-as-line_text m sound =
+    let before = lines_before_end (listing_of m) in
+    let ending : Lines = header_line EndData ∷ [] in
+    let printable = canonical-printable m sound in
+    let whole : canonical_lines m ≡ before ++ ending = lines-end (listing_of m) in
+    let cut : lines (canonical_mps m) ≡ map line_text (canonical_lines m) = lines-text (canonical_lines m) printable in
+    let parts = each-parts before ending (subst (λ (ls : Lines). Each IsPrintable ls) whole printable) in
+    let read = all-read before (header_line EndData) parts.0 parts.1.0 (before-go (listing_of m)) refl in
+    record {
+      lines = ap up_to_end cut ∙ subst (λ (ls : Lines). up_to_end (map line_text ls) ≡ map line_text ls) (sym whole) read.0;
+      legal = legal-lines (canonical_lines m) printable;
+      items = items-line_text (canonical_lines m) printable;
+      end = ap (list_any is_end) cut ∙ subst (λ (ls : Lines). list_any is_end (map line_text ls) ≡ true) (sym whole) read.1;
+    }

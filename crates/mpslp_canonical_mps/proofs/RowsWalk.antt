@@ -1,0 +1,184 @@
+-- Lines of ROWS, RHS and RANGES as they are printed: what each declares, and that it has a good form.
+use Rattle.std.proofs.Common.{◌≡◌, refl, ap, ◌∙◌, List, [], ◌∷◌, ◌++◌, ℕ, Bool, true, false}
+use Rattle.std.specs.Prelude.{Option, Some, is_none, ◌&&◌, not, Ok}
+use Rattle.std.specs.List.{list_all}
+use Rattle.mpslp_decimal.specs.Decimal.{Number}
+use Rattle.mpslp_decimal.specs.Literal.{number_of}
+use Rattle.mpslp_types.specs.Name.{is_mps_name, has_name_length, is_visible, same_bytes, marker}
+use Rattle.mpslp_builder.specs.Declaration.{by_type, declare_row, declare_rhs, declare_range, Declarations, Draft, is_free_row}
+use Rattle.mpslp_model_core.specs.Lists.{those_of}
+use Rattle.mpslp_types.specs.declared.kinds.RowType.{RowType}
+use Rattle.mpslp_types.specs.declared.kinds.RowType.TheVariants.{Free, AtMost, AtLeast, Equal}
+use Rattle.mpslp_types.proofs.EachLemmas.{Each, Each-append}
+use Rattle.mpslp_builder.proofs.LaterDrafts.{itself_named}
+use Rattle.mpslp_mps.specs.Line.{Fields, LineContent, data_line}
+use Rattle.mpslp_mps.specs.DataLine.{letter_of}
+use Rattle.mpslp_mps.specs.Context.{context_of, current_section, data_lines, fields_under, vector_set, first_set}
+use Rattle.mpslp_mps.specs.LineDeclarations.{line_declares}
+use Rattle.mpslp_lines.specs.Field.{name_tests, number_tests}
+use Rattle.mpslp_mps.specs.FieldFault.{set_tests}
+use Rattle.mpslp_mps.proofs.ContextLineLemmas.{form_faults}
+use Rattle.mpslp_mps.specs.declared.sections.Section.{Section}
+use Rattle.mpslp_mps.specs.declared.sections.Section.TheVariants.{Rows, Rhs, Ranges}
+use Rattle.mpslp_mps.proofs.SectionLemmas.{current_section-push, data_lines-push}
+use Rattle.mpslp_canonical_mps.proofs.ContentsWalk.{Step}
+
+-- ---- fields that have no fault
+
+pub name-good : (name : List ℕ) → is_mps_name name ≡ true → those_of (name_tests name) ≡ []
+name-good name h = by (has_name_length name) (list_all is_visible name) (same_bytes name marker) refl refl refl h
+  where
+    by : (a b c : Bool) → has_name_length name ≡ a → list_all is_visible name ≡ b → same_bytes name marker ≡ c → (a && (b && not c)) ≡ true → those_of (name_tests name) ≡ []
+    by true true false p q r e = rw (p, q, r) refl
+    by true true true p q r e = cc
+    by true false c p q r e = cc
+    by false b c p q r e = cc
+
+pub number-good : (text : List ℕ) (value : Number) → number_of text ≡ Ok value → those_of (number_tests (text ∷ [])) ≡ []
+number-good text value e = rw e refl
+
+-- the set name of each line so far
+abbrev pub HaveSet : (Fields → Option (List ℕ)) → List ℕ → List Fields → Type 0
+HaveSet set_of set lines = Each (λ (fields : Fields). set_of fields ≡ Some set) lines
+
+pub set-good : (set_of : Fields → Option (List ℕ)) (set : List ℕ) (lines : List Fields) → HaveSet set_of set lines → those_of (set_tests (first_set set_of lines) set) ≡ []
+set-good set_of set [] h = refl
+set-good set_of set (l ∷ ls) h = rw (h.0, itself_named set) refl
+
+-- a data line stays in its section
+pub stays : (section : Section) (fields : Fields) (before : List LineContent) → current_section before ≡ Some section → current_section (before ++ data_line fields ∷ []) ≡ Some section
+stays section fields before s = current_section-push before (data_line fields) ∙ s
+
+-- ---- rows
+
+abbrev pub RowItem : Type 0
+RowItem = List ℕ × RowType
+
+abbrev pub row_item : RowItem → LineContent
+row_item row = data_line (letter_of row.1 ∷ row.0 ∷ [])
+
+abbrev pub row_decl : RowItem → Declarations
+row_decl row = declare_row row.0 (by_type row.1) ∷ []
+
+-- the objective is named already
+pub record InRows (rest : List RowItem) (before : List LineContent) (earlier : Draft) : Type 0 where
+  pub section : current_section before ≡ Some Rows
+  pub objective : is_none earlier.objective ≡ false
+  pub names : Each (λ (row : RowItem). is_mps_name row.0 ≡ true) rest
+
+row_says : (row : RowItem) (before : List LineContent) (earlier : Draft) → current_section before ≡ Some Rows → is_none earlier.objective ≡ false
+    → line_declares (context_of before) earlier (row_item row) ≡ row_decl row
+row_says row before earlier s o = by row.1
+  where
+    by : (t : RowType) → line_declares (context_of before) earlier (row_item (row.0, t)) ≡ row_decl (row.0, t)
+    by Free = rw (s, o) refl
+    by AtMost = rw s refl
+    by AtLeast = rw s refl
+    by Equal = rw s refl
+
+row_good : (row : RowItem) (before : List LineContent) (earlier : Draft) → current_section before ≡ Some Rows → is_mps_name row.0 ≡ true → form_faults (context_of before) earlier (row_item row) ≡ []
+row_good row before earlier s h = by row.1
+  where
+    by : (t : RowType) → form_faults (context_of before) earlier (row_item (row.0, t)) ≡ []
+    by Free = rw s (name-good row.0 h)
+    by AtMost = rw s (name-good row.0 h)
+    by AtLeast = rw s (name-good row.0 h)
+    by Equal = rw s (name-good row.0 h)
+
+pub row_step : (row : RowItem) (rest : List RowItem) (before : List LineContent) (earlier : Draft) → InRows (row ∷ rest) before earlier → Step row_item row_decl InRows row rest before earlier
+row_step row rest before earlier h =
+    record {
+      says = row_says row before earlier h.section h.objective;
+      good = row_good row before earlier h.section h.names.0;
+      next = record { section = stays Rows (letter_of row.1 ∷ row.0 ∷ []) before h.section; objective = h.objective; names = h.names.1 };
+    }
+
+-- ---- right sides and ranges
+
+-- a row's name, a number's text and the number
+pub record Side : Type 0 where
+  pub row : List ℕ
+  pub text : List ℕ
+  pub value : Number
+
+abbrev pub ReadsAs : Side → Type 0
+ReadsAs side = number_of side.text ≡ Ok side.value
+
+abbrev pub side_item : List ℕ → Side → LineContent
+side_item set side = data_line (set ∷ side.row ∷ side.text ∷ [])
+
+abbrev pub side_decl : Side → Declarations
+side_decl side = declare_rhs side.row side.value ∷ []
+
+abbrev pub range_decl : Side → Declarations
+range_decl side = declare_range side.row side.value ∷ []
+
+-- lines of the section so far have the set name
+abbrev pub OneSet : Section → List ℕ → List LineContent → Type 0
+OneSet section set before = HaveSet vector_set set (data_lines section before)
+
+-- none of the rows to come is of type N
+pub record InSides (set : List ℕ) (rest : List Side) (before : List LineContent) (earlier : Draft) : Type 0 where
+  pub section : current_section before ≡ Some Rhs
+  pub one_set : OneSet Rhs set before
+  pub texts : Each ReadsAs rest
+  pub bound : Each (λ (side : Side). is_free_row earlier side.row ≡ false) rest
+
+side_says : (set : List ℕ) (side : Side) (before : List LineContent) (earlier : Draft) → current_section before ≡ Some Rhs → ReadsAs side → is_free_row earlier side.row ≡ false
+    → line_declares (context_of before) earlier (side_item set side) ≡ side_decl side
+side_says set side before earlier s t f = rw (s, f, t) refl
+
+pub vector_good : (first : Option (List ℕ)) (set text : List ℕ) (value : Number) → number_of text ≡ Ok value → those_of (set_tests first set) ≡ []
+    → those_of (number_tests (text ∷ []) ++ set_tests first set) ≡ []
+vector_good first set text value e h = rw e h
+
+side_good : (set : List ℕ) (side : Side) (before : List LineContent) (earlier : Draft) → current_section before ≡ Some Rhs → ReadsAs side → OneSet Rhs set before
+    → form_faults (context_of before) earlier (side_item set side) ≡ []
+side_good set side before earlier s t h = rw s (vector_good (first_set vector_set (data_lines Rhs before)) set side.text side.value t (set-good vector_set set (data_lines Rhs before) h))
+
+-- one line more of a section
+pub lines-push : (section : Section) (fields : Fields) (before : List LineContent) (o : Option Section) → current_section before ≡ o
+    → data_lines section (before ++ data_line fields ∷ []) ≡ data_lines section before ++ fields_under section o (data_line fields)
+lines-push section fields before o s = data_lines-push section before (data_line fields) ∙ ap (λ (c : Option Section). data_lines section before ++ fields_under section c (data_line fields)) s
+
+pub side_step : (set : List ℕ) (side : Side) (rest : List Side) (before : List LineContent) (earlier : Draft) → InSides set (side ∷ rest) before earlier
+    → Step (side_item set) side_decl (InSides set) side rest before earlier
+side_step set side rest before earlier h =
+    let fields : Fields = set ∷ side.row ∷ side.text ∷ [] in
+    record {
+      says = side_says set side before earlier h.section h.texts.0 h.bound.0;
+      good = side_good set side before earlier h.section h.texts.0 h.one_set;
+      next = record {
+        section = stays Rhs fields before h.section;
+        one_set = rw (lines-push Rhs fields before (Some Rhs) h.section) (Each-append _ (data_lines Rhs before) (fields ∷ []) h.one_set (refl, tt));
+        texts = h.texts.1;
+        bound = h.bound.1;
+      };
+    }
+
+pub record InRanges (set : List ℕ) (rest : List Side) (before : List LineContent) (earlier : Draft) : Type 0 where
+  pub section : current_section before ≡ Some Ranges
+  pub one_set : OneSet Ranges set before
+  pub texts : Each ReadsAs rest
+
+range_says : (set : List ℕ) (side : Side) (before : List LineContent) (earlier : Draft) → current_section before ≡ Some Ranges → ReadsAs side
+    → line_declares (context_of before) earlier (side_item set side) ≡ range_decl side
+range_says set side before earlier s t = rw (s, t) refl
+
+range_good : (set : List ℕ) (side : Side) (before : List LineContent) (earlier : Draft) → current_section before ≡ Some Ranges → ReadsAs side → OneSet Ranges set before
+    → form_faults (context_of before) earlier (side_item set side) ≡ []
+range_good set side before earlier s t h = rw s (vector_good (first_set vector_set (data_lines Ranges before)) set side.text side.value t (set-good vector_set set (data_lines Ranges before) h))
+
+pub range_step : (set : List ℕ) (side : Side) (rest : List Side) (before : List LineContent) (earlier : Draft) → InRanges set (side ∷ rest) before earlier
+    → Step (side_item set) range_decl (InRanges set) side rest before earlier
+range_step set side rest before earlier h =
+    let fields : Fields = set ∷ side.row ∷ side.text ∷ [] in
+    record {
+      says = range_says set side before earlier h.section h.texts.0;
+      good = range_good set side before earlier h.section h.texts.0 h.one_set;
+      next = record {
+        section = stays Ranges fields before h.section;
+        one_set = rw (lines-push Ranges fields before (Some Ranges) h.section) (Each-append _ (data_lines Ranges before) (fields ∷ []) h.one_set (refl, tt));
+        texts = h.texts.1;
+      };
+    }

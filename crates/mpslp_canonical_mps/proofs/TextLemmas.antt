@@ -1,0 +1,218 @@
+-- Printed lines are read back as they were.
+use Rattle.std.proofs.Common.{◌≡◌, refl, ap, ◌∙◌, List, [], ◌∷◌, ◌++◌, length, ℕ, zero, suc, Bool, true, false, cond, map, arith, ◌<◌, ◌≤◌, ◌*◌, length-append}
+use Rattle.std.specs.Prelude.{nat_lt, nat_le, ◌==◌, slice_index, filter, codes}
+use Rattle.std.specs.List.{slice_split, list_all, flat_map}
+use Rattle.std.specs.Str.Lines.{lines, lines_of_parts, strip_carriage_return}
+use Rattle.std.proofs.lemmas.Bool.{lt-ltb}
+use Rattle.std.proofs.lemmas.Bool.Decides.{nat_tests}
+use Rattle.std.proofs.lemmas.List.{append-nil}
+use Rattle.mpslp_types.specs.Name.{is_visible}
+use Rattle.mpslp_types.proofs.BoolLemmas.{both_so}
+use Rattle.mpslp_types.proofs.EachLemmas.{Each, Each-weaker, Each-append, list_all-from_Each}
+use Rattle.mpslp_mps.specs.Line.{Fields, skipped, header, data_line, header_of, content_of, fields, is_blank, is_comment, is_skipped, is_data, outside_comment, is_legal_line}
+use Rattle.mpslp_lines.specs.LegalLine.{is_legal_byte, has_legal_length}
+use Rattle.mpslp_lines.specs.declared.legal_line.TheConstants.{MAX_LINE_LEN}
+use Rattle.mpslp_canonical_mps.specs.Printed.{PrintedLine, heading, short_line, long_line, fields_text, line_text, content_in, with_line_feeds, text_of}
+
+-- ---- lines
+
+abbrev pub is_feed : ℕ → Bool
+is_feed b = b == 10
+
+-- neither a line feed nor a carriage return
+abbrev pub IsPlain : ℕ → Type 0
+IsPlain b = (is_feed b ≡ false) × ((b == 13) ≡ false)
+
+split-feed : (line rest : List ℕ) → Each IsPlain line → slice_split is_feed ((line ++ 10 ∷ []) ++ rest) ≡ line ∷ slice_split is_feed rest
+split-feed [] rest h = refl
+split-feed (b ∷ bs) rest h = rw (h.0.0, split-feed bs rest h.1) refl
+
+split-with_line_feeds : (ls : List (List ℕ)) → Each (Each IsPlain) ls → slice_split is_feed (with_line_feeds ls) ≡ ls ++ [] ∷ []
+split-with_line_feeds [] h = refl
+split-with_line_feeds (l ∷ ls) h = split-feed l (with_line_feeds ls) h.0 ∙ ap (λ (x : List (List ℕ)). l ∷ x) (split-with_line_feeds ls h.1)
+
+no-return : (line : List ℕ) (k : ℕ) → Each IsPlain line → (slice_index line k == 13) ≡ false
+no-return [] k h = refl
+no-return (b ∷ bs) zero h = h.0.1
+no-return (b ∷ bs) (suc k) h = no-return bs k h.1
+
+strip-plain : (line : List ℕ) → Each IsPlain line → strip_carriage_return line ≡ line
+strip-plain line h = rw (no-return line _ h) refl
+
+parts-lines : (ls : List (List ℕ)) → Each (Each IsPlain) ls → lines_of_parts (ls ++ [] ∷ []) ≡ ls
+parts-lines [] h = refl
+parts-lines (l ∷ []) h = ap (λ (x : List ℕ). x ∷ []) (strip-plain l h.0)
+parts-lines (l ∷ k ∷ ls) h = λ i. strip-plain l h.0 i ∷ parts-lines (k ∷ ls) h.1 i
+
+pub lines-with_line_feeds : (ls : List (List ℕ)) → Each (Each IsPlain) ls → lines (with_line_feeds ls) ≡ ls
+lines-with_line_feeds ls h = ap lines_of_parts (split-with_line_feeds ls h) ∙ parts-lines ls h
+
+-- ---- fields
+
+visible-solid : (b : ℕ) → is_visible b ≡ true → is_blank b ≡ false
+visible-solid b h = grind (arith, nat_tests)
+
+abbrev IsSolid : ℕ → Type 0
+IsSolid b = is_blank b ≡ false
+
+-- a field that is printed: 1 to 255 visible bytes
+pub record Word (w : List ℕ) : Type 0 where
+  pub some : 0 < length w
+  pub short : length w ≤ 255
+  pub visible : Each (λ b. is_visible b ≡ true) w
+
+solid : (w : List ℕ) → Word w → Each IsSolid w
+solid w h = Each-weaker (λ b. is_visible b ≡ true) IsSolid visible-solid w h.visible
+
+split-word : (w rest : List ℕ) → Each IsSolid w → slice_split is_blank (w ++ 32 ∷ rest) ≡ w ∷ slice_split is_blank rest
+split-word [] rest h = refl
+split-word (b ∷ bs) rest h = rw (h.0, split-word bs rest h.1) refl
+
+split-last : (w : List ℕ) → Each IsSolid w → slice_split is_blank w ≡ w ∷ []
+split-last [] h = refl
+split-last (b ∷ bs) h = rw (h.0, split-last bs h.1) refl
+
+abbrev has_bytes : List ℕ → Bool
+has_bytes run = nat_lt 0 (length run)
+
+keep-word : (w : List ℕ) (more : Fields) → Word w → filter has_bytes (w ∷ more) ≡ w ∷ filter has_bytes more
+keep-word w more h = let e : nat_lt 0 (length w) ≡ true = lt-ltb 0 (length w) h.some in rw e refl
+
+fields-word : (w rest : List ℕ) → Word w → fields (w ++ 32 ∷ rest) ≡ w ∷ fields rest
+fields-word w rest h = ap (filter has_bytes) (split-word w rest (solid w h)) ∙ keep-word w (slice_split is_blank rest) h
+
+fields-last : (w : List ℕ) → Word w → fields w ≡ w ∷ []
+fields-last w h = ap (filter has_bytes) (split-last w (solid w h)) ∙ keep-word w [] h
+
+-- what is printed after the first field
+abbrev after_first_field : Fields → List ℕ
+after_first_field ws = flat_map (λ w. codes "  " ++ w) ws
+
+fields-from : (w : List ℕ) (ws : Fields) → Word w → Each Word ws → fields (w ++ after_first_field ws) ≡ w ∷ ws
+fields-from w [] h k = ap fields (append-nil w) ∙ fields-last w h
+fields-from w (v ∷ vs) h k = fields-word w (32 ∷ (v ++ after_first_field vs)) h ∙ ap (λ (x : Fields). w ∷ x) (fields-from v vs k.0 k.1)
+
+pub fields-spaced : (ws : Fields) → Each Word ws → fields (fields_text ws) ≡ ws
+fields-spaced [] h = refl
+fields-spaced (w ∷ ws) h = fields-from w ws h.0 h.1
+
+-- ---- items
+
+not_blank : (w rest : List ℕ) → 0 < length w → Each IsSolid w → list_all is_blank (w ++ rest) ≡ false
+not_blank [] rest n h = absurd (omega arith)
+not_blank (b ∷ bs) rest n h = rw h.0 refl
+
+-- the fields of a printed data line
+pub record Words (ws : Fields) : Type 0 where
+  pub some : 0 < length ws
+  pub few : length ws ≤ 4
+  pub each : Each Word ws
+
+not_blank_line : (ws : Fields) → Words ws → list_all is_blank (fields_text ws) ≡ false
+not_blank_line [] h = let some : 0 < length {A = List ℕ} [] = h.some in absurd (omega arith)
+not_blank_line (w ∷ ws) h = not_blank w (after_first_field ws) h.each.0.some (solid w h.each.0)
+
+abbrev begins_with_star : List ℕ → Bool
+begins_with_star [] = false
+begins_with_star (byte ∷ _) = byte == 42
+
+-- a line as it may be printed
+abbrev pub IsPrintable : PrintedLine → Type 0
+IsPrintable (heading keyword) = Word keyword × (begins_with_star keyword ≡ false)
+IsPrintable (short_line ws) = Words ws
+IsPrintable (long_line ws) = Words ws
+
+by_tests : (skip is : Bool) (w : List ℕ) → skip ≡ false → is ≡ false → cond skip skipped (cond is (data_line (fields w)) (header_of (fields w))) ≡ header_of (fields w)
+by_tests skip is w p q = rw (p, q) refl
+
+heading_item : (w : List ℕ) → Word w → begins_with_star w ≡ false → content_of w ≡ header w []
+heading_item [] h s = let some : 0 < length {A = ℕ} [] = h.some in absurd (omega arith)
+heading_item (b ∷ bs) h s =
+    let solid_byte : is_blank b ≡ false = visible-solid b h.visible.0 in
+    let star : (b == 42) ≡ false = s in
+    by_tests (is_skipped (b ∷ bs)) (is_data (b ∷ bs)) (b ∷ bs) (rw (star, solid_byte) refl) solid_byte ∙ ap header_of (fields-last (b ∷ bs) h)
+
+pub item-line_text : (l : PrintedLine) → IsPrintable l → content_of (line_text l) ≡ content_in l
+item-line_text (heading w) h = heading_item w h.0 h.1
+item-line_text (short_line ws) h = rw (not_blank_line ws h) (ap data_line (fields-spaced ws h.each))
+item-line_text (long_line ws) h = rw (not_blank_line ws h) (ap data_line (fields-spaced ws h.each))
+
+-- ---- bytes and length
+
+visible-legal : (b : ℕ) → is_visible b ≡ true → is_legal_byte b ≡ true
+visible-legal b h = grind (arith, nat_tests)
+
+visible-plain : (b : ℕ) → is_visible b ≡ true → IsPlain b
+visible-plain b h = (grind (arith, nat_tests), grind (arith, nat_tests))
+
+-- what is said of visible bytes and of blanks is said of each byte that is printed
+module _ (P : ℕ → Type 0) (visible : (b : ℕ) → is_visible b ≡ true → P b) (blank : P 32) where
+  each-word : (w : List ℕ) → Word w → Each P w
+  each-word w h = Each-weaker (λ b. is_visible b ≡ true) P visible w h.visible
+
+  each-after : (ws : Fields) → Each Word ws → Each P (after_first_field ws)
+  each-after [] h = tt
+  each-after (w ∷ ws) h = (blank, (blank, Each-append P w (after_first_field ws) (each-word w h.0) (each-after ws h.1)))
+
+  each-spaced : (ws : Fields) → Each Word ws → Each P (fields_text ws)
+  each-spaced [] h = tt
+  each-spaced (w ∷ ws) h = Each-append P w (after_first_field ws) (each-word w h.0) (each-after ws h.1)
+
+  each-line_text : (l : PrintedLine) → IsPrintable l → Each P (line_text l)
+  each-line_text (heading w) h = each-word w h.0
+  each-line_text (short_line ws) h = (blank, each-spaced ws h.each)
+  each-line_text (long_line ws) h = (blank, (blank, (blank, (blank, each-spaced ws h.each))))
+
+pub plain-line_text : (l : PrintedLine) → IsPrintable l → Each IsPlain (line_text l)
+plain-line_text l h = each-line_text IsPlain visible-plain (refl, refl) l h
+
+bytes-line_text : (l : PrintedLine) → IsPrintable l → list_all is_legal_byte (outside_comment (line_text l)) ≡ true
+bytes-line_text l h = by (is_comment (line_text l))
+  where
+    by : (comment : Bool) → list_all is_legal_byte (cond comment [] (line_text l)) ≡ true
+    by true = refl
+    by false = list_all-from_Each is_legal_byte (line_text l) (each-line_text (λ b. is_legal_byte b ≡ true) visible-legal refl l h)
+
+length-after : (ws : Fields) → Each Word ws → length (after_first_field ws) ≤ 257 * length ws
+length-after [] h = omega arith
+length-after (w ∷ ws) h =
+    let more : length (after_first_field ws) ≤ 257 * length ws = length-after ws h.1 in
+    omega (arith, h.0.short, length-append w (after_first_field ws))
+
+length-spaced : (ws : Fields) → Each Word ws → length (fields_text ws) ≤ 257 * length ws
+length-spaced [] h = omega arith
+length-spaced (w ∷ ws) h =
+    let more : length (after_first_field ws) ≤ 257 * length ws = length-after ws h.1 in
+    omega (arith, h.0.short, length-append w (after_first_field ws))
+
+at_most : (n : ℕ) → n ≤ 2000 → nat_le n MAX_LINE_LEN ≡ true
+at_most n h = grind (arith, nat_tests)
+
+length-line_text : (l : PrintedLine) → IsPrintable l → has_legal_length (line_text l) ≡ true
+length-line_text (heading w) h = at_most (length w) (omega (arith, h.0.short))
+length-line_text (short_line ws) h = at_most _ (omega (arith, h.few, length-spaced ws h.each))
+length-line_text (long_line ws) h = at_most _ (omega (arith, h.few, length-spaced ws h.each))
+
+pub legal-line_text : (l : PrintedLine) → IsPrintable l → is_legal_line (line_text l) ≡ true
+legal-line_text l h = both_so (has_legal_length (line_text l)) (list_all is_legal_byte (outside_comment (line_text l))) (length-line_text l h) (bytes-line_text l h)
+
+-- ---- the text
+
+all_plain : (ls : List PrintedLine) → Each IsPrintable ls → Each (Each IsPlain) (map line_text ls)
+all_plain [] h = tt
+all_plain (l ∷ ls) h = (plain-line_text l h.0, all_plain ls h.1)
+
+pub items-line_text : (ls : List PrintedLine) → Each IsPrintable ls → map content_of (map line_text ls) ≡ map content_in ls
+items-line_text [] h = refl
+items-line_text (l ∷ ls) h = λ i. item-line_text l h.0 i ∷ items-line_text ls h.1 i
+
+pub legal-lines : (ls : List PrintedLine) → Each IsPrintable ls → list_all is_legal_line (map line_text ls) ≡ true
+legal-lines [] h = refl
+legal-lines (l ∷ ls) h = both_so (is_legal_line (line_text l)) (list_all is_legal_line (map line_text ls)) (legal-line_text l h.0) (legal-lines ls h.1)
+
+-- the lines of a text of printed lines are these, and its items are theirs
+pub lines-text : (ls : List PrintedLine) → Each IsPrintable ls → lines (text_of ls) ≡ map line_text ls
+lines-text ls h = lines-with_line_feeds (map line_text ls) (all_plain ls h)
+
+pub items-text : (ls : List PrintedLine) → Each IsPrintable ls → map content_of (lines (text_of ls)) ≡ map content_in ls
+items-text ls h = ap (map content_of) (lines-text ls h) ∙ items-line_text ls h

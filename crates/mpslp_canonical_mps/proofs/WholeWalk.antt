@@ -1,0 +1,228 @@
+-- What canonical text declares, all sections one after another.
+use Rattle.std.proofs.Common.{◌≡◌, refl, sym, ap, ◌∙◌, List, [], ◌∷◌, ◌++◌, ℕ, Bool, true, false, map, append_assoc}
+use Rattle.std.specs.Prelude.{Option, Some, None, is_some, is_none, ◌||◌, codes}
+use Rattle.std.specs.List.{flat_map}
+use Rattle.std.proofs.lemmas.List.{append-nil}
+use Rattle.mpslp_types.specs.Name.{is_mps_name}
+use Rattle.mpslp_builder.specs.Declaration.{declare_objective, Declarations, Draft, empty_draft, with_declarations, is_free_row}
+use Rattle.mpslp_types.specs.declared.kinds.Sense.{Sense}
+use Rattle.mpslp_types.specs.declared.kinds.Sense.TheVariants.{Minimize, Maximize}
+use Rattle.mpslp_types.proofs.EachLemmas.{Each}
+use Rattle.mpslp_mps.specs.Line.{LineContent}
+use Rattle.mpslp_mps.specs.Section.{begins, section_of_header}
+use Rattle.mpslp_mps.specs.Context.{has_section, is_read}
+use Rattle.mpslp_canonical_mps.proofs.HeaderWalk.{is_bare, wants_word, header_item, MayStand, has_section-data, settled-after}
+use Rattle.mpslp_mps.specs.declared.sections.Section.{Section}
+use Rattle.mpslp_mps.specs.declared.sections.Section.TheVariants.{Name, ObjSense, Rows, Columns, Rhs, Ranges, Bounds, EndData}
+use Rattle.mpslp_mps.proofs.SectionLemmas.{has_section-append, has_section-cons}
+use Rattle.mpslp_canonical_mps.proofs.ContentsWalk.{Walk, walk-append}
+use Rattle.mpslp_lines.proofs.ObjectiveLemmas.{named-after}
+use Rattle.mpslp_canonical_mps.proofs.RowsWalk.{RowItem, row_item, row_decl, Side, side_item, side_decl, range_decl, ReadsAs}
+use Rattle.mpslp_canonical_mps.proofs.ColumnsWalk.{Cell, cell_item, cell_decl, Group, cells_of}
+use Rattle.mpslp_canonical_mps.proofs.BoundsWalk.{Bound, bound_item, bound_decl, GoodBound}
+use Rattle.mpslp_canonical_mps.proofs.CanonicalContents.{under}
+use Rattle.mpslp_canonical_mps.proofs.CanonicalWalk.{IsLate, data-settled, sides-walk, ranges-walk, bounds-walk, end-walk}
+use Rattle.mpslp_canonical_mps.proofs.EarlyWalk.{sense_items, sense_decl, start-walk, rows-may, start-unnamed, objective_item, rows-walk, marker_item, part_items, AreColumns, columns-walk}
+
+-- ---- what has begun, section by section
+
+no-headers : {X : Type 0} (section : Section) (item : X → LineContent) → ((x : X) → section_of_header (item x) ≡ None) → (xs : List X) → has_section (map item xs) section ≡ false
+no-headers section item none xs = has_section-data section item none xs []
+
+or_false : (b : Bool) → (b || false) ≡ b
+or_false true = refl
+or_false false = refl
+
+-- the lines of a section that stands only where there are some begin that section alone
+under-begins : {X : Type 0} (section other : Section) (item : X → LineContent) → ((x : X) → section_of_header (item x) ≡ None) → begins other (header_item section) ≡ false → (xs : List X)
+    → has_section (under section (map item xs)) other ≡ false
+under-begins section other item none b [] = refl
+under-begins section other item none b (x ∷ xs) = has_section-cons other (header_item section) (map item (x ∷ xs)) ∙ rw b (no-headers other item none (x ∷ xs))
+
+under-settled : {X : Type 0} (section : Section) (item : X → LineContent) → is_bare (header_item section) ≡ false → ((x : X) → is_read (item x) ≡ true) → ((x : X) → is_bare (item x) ≡ false)
+    → (xs : List X) (before : List LineContent) → wants_word before ≡ false → wants_word (before ++ under section (map item xs)) ≡ false
+under-settled section item b reads bare [] before h = ap wants_word (append-nil before) ∙ h
+under-settled section item b reads bare (x ∷ xs) before h =
+    ap wants_word (sym (append_assoc before (header_item section ∷ []) (map item (x ∷ xs))))
+    ∙ data-settled item reads bare (x ∷ xs) (before ++ header_item section ∷ []) (settled-after before (header_item section) refl b)
+
+not_none : (o : Option (List ℕ)) → is_some o ≡ true → is_none o ≡ false
+not_none None h = cc
+not_none (Some n) h = refl
+
+is_named : (o : Option (List ℕ)) → is_none o ≡ false → is_some o ≡ true
+is_named None h = cc
+is_named (Some n) h = refl
+
+still-named : (ds : Declarations) (all : Draft) → is_none all.objective ≡ false → is_none (with_declarations all ds).objective ≡ false
+still-named ds all h = not_none (with_declarations all ds).objective (named-after ds all (is_named all.objective h))
+
+-- a late section, and what holds after it
+late-after : {X : Type 0} (section : Section) (item : X → LineContent) (ds : Declarations) → is_bare (header_item section) ≡ false → ((x : X) → is_read (item x) ≡ true) → ((x : X) → is_bare (item x) ≡ false)
+    → (xs : List X) (before : List LineContent) (earlier : Draft) → IsLate before earlier → IsLate (before ++ under section (map item xs)) (with_declarations earlier ds)
+late-after section item ds b reads bare xs before earlier h =
+    record {
+      settled = under-settled section item b reads bare xs before h.settled;
+      columns = has_section-append Columns before (under section (map item xs)) ∙ ap (λ (c : Bool). c || has_section (under section (map item xs)) Columns) h.columns;
+      objective = still-named ds earlier h.objective;
+    }
+
+fresh-after : {X : Type 0} (section other : Section) (item : X → LineContent) → ((x : X) → section_of_header (item x) ≡ None) → begins other (header_item section) ≡ false → (xs : List X) (before : List LineContent)
+    → has_section before other ≡ false → has_section (before ++ under section (map item xs)) other ≡ false
+fresh-after section other item none b xs before h =
+    has_section-append other before (under section (map item xs)) ∙ (λ i. h i || under-begins section other item none b xs i)
+
+-- ---- RHS, RANGES, BOUNDS and ENDATA
+
+pub record Late : Type 0 where
+  pub sides : List Side
+  pub ranges : List Side
+  pub bounds : List Bound
+
+abbrev pub late_items : Late → List LineContent
+late_items l =
+    under Rhs (map (side_item (codes "RHS")) l.sides) ++ (under Ranges (map (side_item (codes "RNG")) l.ranges)
+    ++ (under Bounds (map (bound_item (codes "BND")) l.bounds) ++ header_item EndData ∷ []))
+
+abbrev pub late_decl : Late → Declarations
+late_decl l = flat_map side_decl l.sides ++ (flat_map range_decl l.ranges ++ (flat_map bound_decl l.bounds ++ []))
+
+pub record IsGoodLate (l : Late) (earlier : Draft) : Type 0 where
+  pub sides : Each ReadsAs l.sides
+  pub bound : Each (λ (side : Side). is_free_row earlier side.row ≡ false) l.sides
+  pub ranges : Each ReadsAs l.ranges
+  pub bounds : Each GoodBound l.bounds
+
+pub late-walk : (l : Late) (before : List LineContent) (earlier : Draft) → IsLate before earlier → has_section before Rhs ≡ false → has_section before Ranges ≡ false → has_section before Bounds ≡ false
+    → has_section before EndData ≡ false → IsGoodLate l earlier → Walk before earlier (late_items l) (late_decl l)
+late-walk l before earlier h f g b e good =
+    let sides = under Rhs (map (side_item (codes "RHS")) l.sides) in
+    let ranges = under Ranges (map (side_item (codes "RNG")) l.ranges) in
+    let bounds = under Bounds (map (bound_item (codes "BND")) l.bounds) in
+    let first = before ++ sides in
+    let second = first ++ ranges in
+    let third = second ++ bounds in
+    let d1 = with_declarations earlier (flat_map side_decl l.sides) in
+    let d2 = with_declarations d1 (flat_map range_decl l.ranges) in
+    let d3 = with_declarations d2 (flat_map bound_decl l.bounds) in
+    let h1 = late-after Rhs (side_item (codes "RHS")) (flat_map side_decl l.sides) refl (λ _. refl) (λ _. refl) l.sides before earlier h in
+    let h2 = late-after Ranges (side_item (codes "RNG")) (flat_map range_decl l.ranges) refl (λ _. refl) (λ _. refl) l.ranges first d1 h1 in
+    let h3 = late-after Bounds (bound_item (codes "BND")) (flat_map bound_decl l.bounds) refl (λ _. refl) (λ _. refl) l.bounds second d2 h2 in
+    let g1 = fresh-after Rhs Ranges (side_item (codes "RHS")) (λ _. refl) refl l.sides before g in
+    let b1 = fresh-after Rhs Bounds (side_item (codes "RHS")) (λ _. refl) refl l.sides before b in
+    let b2 = fresh-after Ranges Bounds (side_item (codes "RNG")) (λ _. refl) refl l.ranges first b1 in
+    let e1 = fresh-after Rhs EndData (side_item (codes "RHS")) (λ _. refl) refl l.sides before e in
+    let e2 = fresh-after Ranges EndData (side_item (codes "RNG")) (λ _. refl) refl l.ranges first e1 in
+    let e3 = fresh-after Bounds EndData (bound_item (codes "BND")) (λ _. refl) refl l.bounds second e2 in
+    walk-append before earlier sides (ranges ++ (bounds ++ header_item EndData ∷ [])) (flat_map side_decl l.sides) (flat_map range_decl l.ranges ++ (flat_map bound_decl l.bounds ++ []))
+    (sides-walk (codes "RHS") l.sides before earlier h f good.sides good.bound)
+    (walk-append first d1 ranges (bounds ++ header_item EndData ∷ []) (flat_map range_decl l.ranges) (flat_map bound_decl l.bounds ++ []) (ranges-walk (codes "RNG") l.ranges first d1 h1 g1 good.ranges)
+    (walk-append second d2 bounds (header_item EndData ∷ []) (flat_map bound_decl l.bounds) [] (bounds-walk (codes "BND") l.bounds second d2 h2 b2 good.bounds) (end-walk third d3 h3 e3)))
+
+-- ---- all sections
+
+pub record Whole : Type 0 where
+  pub sense : Sense
+  pub objective : List ℕ
+  pub rows : List RowItem
+  pub plain : List Group
+  pub integers : List Group
+  pub late : Late
+
+abbrev start_items : Sense → List LineContent
+start_items sense = header_item Name ∷ sense_items sense
+
+abbrev rows_items : List ℕ → List RowItem → List LineContent
+rows_items objective rows = header_item Rows ∷ objective_item objective ∷ map row_item rows
+
+abbrev columns_items : List Group → List Group → List LineContent
+columns_items plain integers = header_item Columns ∷ (map cell_item (cells_of plain) ++ part_items (cells_of integers))
+
+abbrev pub whole_items : Whole → List LineContent
+whole_items w = start_items w.sense ++ (rows_items w.objective w.rows ++ (columns_items w.plain w.integers ++ late_items w.late))
+
+abbrev rows_decl : List ℕ → List RowItem → Declarations
+rows_decl objective rows = declare_objective objective ∷ flat_map row_decl rows
+
+abbrev columns_decl : List Group → List Group → Declarations
+columns_decl plain integers = flat_map (cell_decl false) (cells_of plain) ++ flat_map (cell_decl true) (cells_of integers)
+
+abbrev pub whole_decl : Whole → Declarations
+whole_decl w = sense_decl w.sense ++ (rows_decl w.objective w.rows ++ (columns_decl w.plain w.integers ++ late_decl w.late))
+
+abbrev pub draft_at_columns : Whole → Draft
+draft_at_columns w = with_declarations (with_declarations empty_draft (sense_decl w.sense)) (rows_decl w.objective w.rows)
+
+abbrev pub draft_at_sides : Whole → Draft
+draft_at_sides w = with_declarations (draft_at_columns w) (columns_decl w.plain w.integers)
+
+pub record IsGoodWhole (w : Whole) : Type 0 where
+  pub objective : is_mps_name w.objective ≡ true
+  pub rows : Each (λ (row : RowItem). is_mps_name row.0 ≡ true) w.rows
+  pub columns : AreColumns w.plain w.integers (draft_at_columns w)
+  pub late : IsGoodLate w.late (draft_at_sides w)
+
+start-none : (section : Section) (sense : Sense) → begins section (header_item Name) ≡ false → begins section (header_item ObjSense) ≡ false → has_section (start_items sense) section ≡ false
+start-none section Minimize n o = rw n refl
+start-none section Maximize n o = rw (n, o) refl
+
+no-objective : (sense : Sense) → is_none (with_declarations empty_draft (sense_decl sense)).objective ≡ true
+no-objective Minimize = refl
+no-objective Maximize = refl
+
+rows-settled : (objective : List ℕ) (rows : List RowItem) (before : List LineContent) → wants_word (before ++ rows_items objective rows) ≡ false
+rows-settled objective rows before =
+    ap wants_word (sym (append_assoc before (header_item Rows ∷ objective_item objective ∷ []) (map row_item rows)))
+    ∙ data-settled row_item (λ _. refl) (λ _. refl) rows (before ++ header_item Rows ∷ objective_item objective ∷ [])
+    (ap wants_word (sym (append_assoc before (header_item Rows ∷ []) (objective_item objective ∷ []))) ∙ settled-after (before ++ header_item Rows ∷ []) (objective_item objective) refl refl)
+
+part-none : (section : Section) (cells : List Cell) → has_section (part_items cells) section ≡ false
+part-none section [] = refl
+part-none section (cell ∷ cells) = has_section-append section (map cell_item (cell ∷ cells)) (marker_item false ∷ []) ∙ or_false (has_section (map cell_item (cell ∷ cells)) section) ∙ no-headers section cell_item (λ _. refl) (cell ∷ cells)
+
+columns-none : (section : Section) (plain integers : List Group) → begins section (header_item Columns) ≡ false → has_section (columns_items plain integers) section ≡ false
+columns-none section plain integers b =
+    rw b (has_section-append section (map cell_item (cells_of plain)) (part_items (cells_of integers)) ∙ (λ i. no-headers section cell_item (λ _. refl) (cells_of plain) i || part-none section (cells_of integers) i))
+
+part-settled : (cells : List Cell) (before : List LineContent) → wants_word before ≡ false → wants_word (before ++ part_items cells) ≡ false
+part-settled [] before h = ap wants_word (append-nil before) ∙ h
+part-settled (cell ∷ cells) before h =
+    let inner = marker_item true ∷ map cell_item (cell ∷ cells) in
+    ap wants_word (sym (append_assoc before inner (marker_item false ∷ []))) ∙ settled-after (before ++ inner) (marker_item false) refl refl
+
+columns-settled : (plain integers : List Group) (before : List LineContent) → wants_word (before ++ columns_items plain integers) ≡ false
+columns-settled plain integers before =
+    let headed = before ++ header_item Columns ∷ [] in
+    ap wants_word (sym (append_assoc before (header_item Columns ∷ []) (map cell_item (cells_of plain) ++ part_items (cells_of integers))) ∙ sym (append_assoc headed (map cell_item (cells_of plain)) (part_items (cells_of integers))))
+    ∙ part-settled (cells_of integers) (headed ++ map cell_item (cells_of plain)) (data-settled cell_item (λ _. refl) (λ _. refl) (cells_of plain) headed (settled-after before (header_item Columns) refl refl))
+
+-- The items of canonical text declare what its sections declare, and have a good form.
+pub whole-walk : (w : Whole) → IsGoodWhole w → Walk [] empty_draft (whole_items w) (whole_decl w)
+whole-walk w h =
+    let start = start_items w.sense in
+    let rows = rows_items w.objective w.rows in
+    let columns = columns_items w.plain w.integers in
+    let first = start ++ rows in
+    let second = first ++ columns in
+    let d0 = with_declarations empty_draft (sense_decl w.sense) in
+    let d1 = draft_at_columns w in
+    let begun_rows : has_section first Rows ≡ true = has_section-append Rows start rows ∙ ap (λ (b : Bool). b || true) (start-none Rows w.sense refl refl) in
+    let none : (s : Section) → begins s (header_item Name) ≡ false → begins s (header_item ObjSense) ≡ false → begins s (header_item Rows) ≡ false → has_section first s ≡ false =
+    λ s n o r. has_section-append s start rows ∙ (λ i. start-none s w.sense n o i || rows_none s r i) in
+    let may : MayStand Columns first = record { settled = rows-settled w.objective w.rows start; fresh = none Columns refl refl refl; begins = begun_rows } in
+    let named : is_none d1.objective ≡ false = still-named (flat_map row_decl w.rows) _ refl in
+    let late : IsLate second (draft_at_sides w) = record {
+      settled = columns-settled w.plain w.integers first;
+      columns = has_section-append Columns first columns ∙ ap (λ (b : Bool). b || true) (none Columns refl refl refl);
+      objective = still-named (columns_decl w.plain w.integers) d1 named;
+    } in
+    let none_after : (s : Section) → begins s (header_item Name) ≡ false → begins s (header_item ObjSense) ≡ false → begins s (header_item Rows) ≡ false → begins s (header_item Columns) ≡ false → has_section second s ≡ false =
+    λ s n o r c. has_section-append s first columns ∙ (λ i. none s n o r i || columns-none s w.plain w.integers c i) in
+    walk-append [] empty_draft start (rows ++ (columns ++ late_items w.late)) (sense_decl w.sense) (rows_decl w.objective w.rows ++ (columns_decl w.plain w.integers ++ late_decl w.late)) (start-walk w.sense)
+    (walk-append start d0 rows (columns ++ late_items w.late) (rows_decl w.objective w.rows) (columns_decl w.plain w.integers ++ late_decl w.late)
+    (rows-walk w.objective w.rows start d0 (rows-may w.sense) (start-unnamed w.sense) (no-objective w.sense) h.objective h.rows)
+    (walk-append first d1 columns (late_items w.late) (columns_decl w.plain w.integers) (late_decl w.late) (columns-walk w.plain w.integers first d1 may named h.columns)
+    (late-walk w.late second (draft_at_sides w) late (none_after Rhs refl refl refl refl) (none_after Ranges refl refl refl refl) (none_after Bounds refl refl refl refl) (none_after EndData refl refl refl refl) h.late)))
+  where
+    rows_none : (s : Section) → begins s (header_item Rows) ≡ false → has_section (rows_items w.objective w.rows) s ≡ false
+    rows_none s r = rw r (no-headers s row_item (λ _. refl) w.rows)

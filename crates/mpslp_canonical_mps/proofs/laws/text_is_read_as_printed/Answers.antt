@@ -1,0 +1,5 @@
+use Rattle.mpslp_canonical_mps.proofs.ReadLemmas.{read-as-line_text}
+use Rattle.mpslp_canonical_mps.proofs.laws.text_is_read_as_printed.Goals as goal
+
+pub returns : goal.returns
+returns c = read-as-line_text

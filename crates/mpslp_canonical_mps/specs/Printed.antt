@@ -1,0 +1,32 @@
+-- Printed lines: their fields, how they are printed, and what a reader of MPS sees in them.
+use Rattle.std.specs.Prelude.{ℕ, List, [], ◌∷◌, ◌++◌, map, codes}
+use Rattle.std.specs.List.{flat_map, join_by}
+use Rattle.mpslp_mps.specs.Line.{Fields, LineContent, header, data_line}
+
+-- a header; a data line after one blank; a data line after four
+pub data PrintedLine : Type 0 where
+  heading : List ℕ → PrintedLine
+  short_line : Fields → PrintedLine
+  long_line : Fields → PrintedLine
+
+-- two blanks between the fields
+abbrev pub fields_text : Fields → List ℕ
+fields_text fields = join_by (λ field. field) (codes "  ") fields
+
+abbrev pub line_text : PrintedLine → List ℕ
+line_text (heading keyword) = keyword
+line_text (short_line fields) = codes " " ++ fields_text fields
+line_text (long_line fields) = codes "    " ++ fields_text fields
+
+-- each line ended by a line feed
+abbrev pub with_line_feeds : List (List ℕ) → List ℕ
+with_line_feeds lines = flat_map (λ line. line ++ 10 ∷ []) lines
+
+abbrev pub text_of : List PrintedLine → List ℕ
+text_of lines = with_line_feeds (map line_text lines)
+
+-- what is read in a printed line
+abbrev pub content_in : PrintedLine → LineContent
+content_in (heading keyword) = header keyword []
+content_in (short_line fields) = data_line fields
+content_in (long_line fields) = data_line fields

@@ -1,0 +1,12 @@
+use Rattle.std.proofs.Common.{take}
+use Rattle.std.specs.List.{flat_map}
+use Rattle.mpslp_model_core.specs.Views.{column_name, numbered_elements}
+use Rattle.mpslp_write.specs.TextBuffer.{Emits}
+use Rattle.mpslp_convert.specs.ShownText.{entry_text}
+use Rattle.mpslp_convert.proofs.shown_text.put_entries.Given as goal
+
+-- the lines of the coefficients so far were put
+abbrev pub invariant-loop-k : goal.invariant-loop-k
+invariant-loop-k g l =
+    Emits g.W.Sink.holds g.W.Sink.failed g.W.Sink.count l.fn.sink l.sink l.fn.buffer l.buffer
+    (flat_map (entry_text l.j) (take l.k (numbered_elements l.model (column_name l.model l.j))))

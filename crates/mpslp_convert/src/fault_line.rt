@@ -1,0 +1,202 @@
+//! How the fault of a run is told.
+
+ghost use Rattle.std.specs.Prelude.{◌≡◌, ◌+◌, ◌≤◌, ◌++◌, ℕ, List, [], true, false, Option, length, IsOk, decimal};
+ghost use Rattle.mpslp_convert.specs.FaultLine.{line_text, name_text, place_text, file_text, fault_text, fault_line, status_of};
+ghost use Rattle.mpslp_model.specs.Formats.{IsTaken};
+
+use crate::faults::RunFault;
+use arrayvec::ArrayVec;
+use itoa::Buffer;
+use mpslp_model::laws::each_name_is_legal;
+use mpslp_model::{Fault, Name, NameAt, Sink, WriteFault, put_all};
+use std::marker::Model;
+
+/// Room for any line: a place of at most 47 bytes, a kind of at most 16, a name of at most 255, and what
+/// stands between them.
+const CAPACITY: usize = 384;
+
+/// A line that is being put together, in a place that takes no memory.
+#[derive(Drop)]
+pub(crate) struct Line {
+    bytes: ArrayVec<u8, CAPACITY>,
+}
+
+impl Model for Line {
+    ghost Value = { List ℕ };
+
+    ghost view = { λ line. line.bytes.items };
+}
+
+impl Line {
+    fn new() -> Line
+        ensures { result ≡ [] }
+    {
+        Line {
+            bytes: ArrayVec::new(),
+        }
+    }
+
+    pub(crate) fn as_bytes(&self) -> &[u8]
+        ensures { result.now ≡ self.now }
+    {
+        self.bytes.as_slice()
+    }
+
+    fn put(&mut self, piece: &[u8])
+        requires { length self.old + length piece.now ≤ CAPACITY }
+        ensures { self.new ≡ self.old ++ piece.now }
+    {
+        let is_full = self.bytes.try_extend_from_slice(piece).is_err();
+        prove!(!is_full);
+    }
+
+    fn put_number(&mut self, number: u64)
+        requires { length self.old + 40 ≤ CAPACITY }
+        ensures text { self.new ≡ self.old ++ decimal number }
+        ensures bound { length self.new ≤ length self.old + 40 }
+    {
+        self.put(Buffer::new().format(number).as_bytes());
+    }
+
+    fn put_name(&mut self, name: &Option<Name>)
+        requires { length self.old + 256 ≤ CAPACITY }
+        ensures text { self.new ≡ self.old ++ name_text name.now }
+        ensures bound { length self.new ≤ length self.old + 256 }
+    {
+        if let Some(name) = name {
+            each_name_is_legal(name);
+            self.put(b" ");
+            self.put(name.as_bytes());
+        }
+    }
+
+    /// A text, and behind it a number.
+    fn numbered(text: &[u8], number: u64) -> Line
+        requires { length text.now ≤ 7 }
+        ensures text { result ≡ text.now ++ decimal number }
+        ensures bound { length result ≤ 47 }
+    {
+        let mut line = Line::new();
+        line.put(text);
+        line.put_number(number);
+        line
+    }
+
+    /// A text.
+    fn plain(text: &[u8]) -> Line
+        requires { length text.now ≤ CAPACITY }
+        ensures { result ≡ text.now }
+    {
+        let mut line = Line::new();
+        line.put(text);
+        line
+    }
+
+    /// Where a fault of a file stands.
+    fn of_line(line: u64) -> Line
+        ensures text { result ≡ line_text line }
+        ensures bound { length result ≤ 47 }
+    {
+        if line == 0 {
+            Line::plain(b"file")
+        } else {
+            Line::numbered(b"line ", line)
+        }
+    }
+
+    /// A place in a model.
+    fn of_place(name_at: NameAt) -> Line
+        ensures text { result ≡ place_text name_at }
+        ensures bound { length result ≤ 47 }
+    {
+        match name_at {
+            NameAt::Objective => Line::plain(b"objective"),
+            NameAt::Row(i) => Line::numbered(b"row ", i as u64),
+            NameAt::Column(j) => Line::numbered(b"column ", j as u64),
+        }
+    }
+
+    /// What is told of a fault of a file.
+    fn of_file(fault: &Fault) -> Line
+        ensures text { result ≡ file_text fault.now }
+        ensures bound { length result ≤ 321 }
+    {
+        let mut line = Line::of_line(fault.line);
+        line.put(b": ");
+        line.put(fault.kind.text().as_bytes());
+        line.put_name(&fault.name);
+        line
+    }
+
+    /// What is told of a place that a format cannot tell.
+    fn of_not_lp(name_at: NameAt) -> Line
+        ensures text { result ≡ fault_text (RunFault.NotLp name_at) }
+        ensures bound { length result ≤ 321 }
+    {
+        let mut line = Line::of_place(name_at);
+        line.put(b": NotLp");
+        line
+    }
+
+    /// What is told of a fault.
+    fn of_fault(fault: &RunFault) -> Line
+        ensures text { result ≡ fault_text fault.now }
+        ensures bound { length result ≤ 321 }
+    {
+        match fault {
+            RunFault::Read => Line::plain(b"read failed"),
+            RunFault::TooLong => Line::plain(b"file: TooLong"),
+            RunFault::File(fault) => Line::of_file(fault),
+            RunFault::NotLp(name_at) => Line::of_not_lp(*name_at),
+            RunFault::Write { written: _ } => Line::plain(b"write failed"),
+            RunFault::OutOfMemory => Line::plain(b"out of memory"),
+        }
+    }
+}
+
+impl RunFault {
+    /// The exit status of a program that the fault ends: 2 where the file is refused, 4 where a device
+    /// failed, 5 where there was no memory.
+    pub fn status(&self) -> u8
+        ensures { result ≡ status_of self.now }
+    {
+        match self {
+            RunFault::Read => 4,
+            RunFault::TooLong => 2,
+            RunFault::File(_) => 2,
+            RunFault::NotLp(_) => 2,
+            RunFault::Write { written: _ } => 4,
+            RunFault::OutOfMemory => 5,
+        }
+    }
+}
+
+pub(crate) fn line_of(fault: &RunFault) -> Line
+    ensures { result ≡ fault_line fault.now }
+{
+    let mut line = Line::of_fault(fault);
+    line.put(b"\n");
+    line
+}
+
+/// Writes the line of a fault, in as many calls as it has bytes at most, and does not flush. No memory is
+/// taken.
+///
+/// # Errors
+///
+/// [`Write`](WriteFault::Write) exactly where the sink has failed when the call ends: it has taken that
+/// many first bytes of the line, and nothing else. [`NotLp`](WriteFault::NotLp) is never answered.
+pub fn report<W: Sink>(fault: &RunFault, sink: &mut W) -> Result<(), WriteFault>
+    ensures answer { IsTaken W.holds W.failed sink.old sink.new (fault_line fault.now) result }
+    ensures succeeds { W.failed sink.new ≡ false → IsOk result }
+    ensures works { IsOk result → W.failed sink.new ≡ false }
+    ensures calls { W.count sink.new ≤ W.count sink.old + length (fault_line fault.now) }
+    ensures stays { W.failed sink.old ≡ true → W.failed sink.new ≡ true }
+{
+    let line = line_of(fault);
+    let mut tally = 0;
+    match put_all(sink, &mut tally, line.as_bytes()) {
+        Ok(()) => Ok(()),
+        Err(_) => Err(WriteFault::Write { written: tally }),
+    }
+}

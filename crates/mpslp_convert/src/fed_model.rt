@@ -1,0 +1,83 @@
+//! Reading a model from a source that is fed to a reader piece by piece.
+
+ghost use Rattle.std.specs.Prelude.{◌≡◌, ◌+◌, ◌≤◌, ◌++◌, ℕ, List, true, OnOk};
+ghost use Rattle.mpslp_convert.specs.Feeding.{IsFedOn, IsModelOf, IsReading};
+ghost use Rattle.mpslp_convert.specs.Runs.{TakesAtMost};
+
+use crate::faults::RunFault;
+use crate::source_to_sink::PIECE;
+use mpslp_model::{Fault, Format, Model, ModelReader, ReadFault, Source};
+use std::alloc::{AllocError, Global};
+
+/// Feeds a piece to the reader, unless a fault was found before; the first fault is kept.
+fn feed_on<P: ModelReader>(
+    reader: &mut P,
+    fault: &mut Option<Fault>,
+    piece: &[u8],
+) -> Result<(), AllocError>
+    ensures { OnOk result ((bytes : List ℕ) → IsFedOn P.after P.early_fault reader.old fault.old bytes
+        → IsFedOn P.after P.early_fault reader.new fault.new (bytes ++ piece.now)) }
+{
+    if fault.is_some() {
+        return Ok(());
+    }
+    match reader.feed(piece) {
+        Ok(()) => Ok(()),
+        Err(ReadFault::File(found)) => {
+            *fault = Some(found);
+            Ok(())
+        }
+        Err(_) => Err(AllocError),
+    }
+}
+
+/// The model that all bytes together declare, or the fault that was found.
+fn finish_fed<P: ModelReader>(reader: P, fault: Option<Fault>) -> Result<Model, RunFault>
+    ensures { (bytes : List ℕ) → IsFedOn P.after P.early_fault reader fault bytes → IsModelOf P.declares P.first_fault bytes result }
+{
+    if let Some(found) = fault {
+        return Err(RunFault::File(found));
+    }
+    match reader.finish() {
+        Ok(model) => Ok(model),
+        Err(ReadFault::File(found)) => Err(RunFault::File(found)),
+        Err(_) => Err(RunFault::OutOfMemory),
+    }
+}
+
+/// The model that the bytes of a source declare. They are read as by [`load`](crate::load), but not kept. A fault of them is
+/// told only where the source has ended.
+pub(crate) fn read_model<A: Format, R: Source>(
+    alloc: Global,
+    max_bytes: u64,
+    source: &mut R,
+) -> Result<Model, RunFault>
+    ensures answer { IsReading A.declares A.first_fault (R.left source.old) (R.left source.new) (R.failed source.new) max_bytes result }
+    ensures asked { TakesAtMost (max_bytes + 1) (R.left source.old) (R.left source.new) }
+    ensures calls { R.count source.new ≤ R.count source.old + max_bytes + 1 }
+    ensures stays { R.failed source.old ≡ true → R.failed source.new ≡ true }
+{
+    let mut reader = A::Reader::new(alloc);
+    let mut fault = None;
+    let mut room = max_bytes;
+    let mut buffer = [0u8; PIECE];
+    'reads: loop {
+        let ask = if room < PIECE as u64 {
+            room as usize + 1
+        } else {
+            PIECE
+        };
+        let taken = match source.read(&mut buffer[..ask]) {
+            Ok(0) => return finish_fed(reader, fault),
+            Ok(taken) => taken,
+            Err(_) => return Err(RunFault::Read),
+        };
+        if taken as u64 > room {
+            return Err(RunFault::TooLong);
+        }
+        room -= taken as u64;
+        if feed_on(&mut reader, &mut fault, &buffer[..taken]).is_err() {
+            return Err(RunFault::OutOfMemory);
+        }
+    }
+}

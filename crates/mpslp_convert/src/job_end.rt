@@ -1,0 +1,163 @@
+//! How jobs end: what is told, and the exit status.
+
+ghost use Rattle.std.specs.Prelude.{◌≡◌, ◌++◌, [], ℕ, List, true, Result, if◌then◌else◌};
+ghost use Rattle.mpslp_convert.specs.FaultLine.{fault_line};
+ghost use Rattle.mpslp_convert.specs.Performed.{failure_of, input_text, is_of_input, failure_line, comparison_failure, refusal_line, refusal_status, IsTold, IsEnded, IsPrinted, IsRefused, ended_by};
+
+use crate::fault_line::line_of;
+use crate::faults::{ConvertFault, RunFault};
+use mpslp_jobs::JobFault;
+use mpslp_model::{Sink, put_all};
+use mpslp_write::Buffer;
+
+/// The exit status of words that are no job.
+const WRONG_WORDS: u8 = 3;
+
+/// The exit status where there was no memory to take the words.
+const NO_MEMORY: u8 = 5;
+
+/// Which input a fault is told of.
+#[derive(Clone, Copy)]
+pub(crate) enum Input {
+    Only,
+    First,
+    Second,
+}
+
+impl Input {
+    fn text(self) -> &'static [u8]
+        ensures { result.now ≡ input_text self }
+    {
+        match self {
+            Input::Only => b"".as_slice(),
+            Input::First => b"first: ".as_slice(),
+            Input::Second => b"second: ".as_slice(),
+        }
+    }
+}
+
+/// Why a job was not done.
+#[derive(Drop)]
+pub(crate) struct Failure {
+    input: Input,
+    fault: RunFault,
+}
+
+impl Failure {
+    pub(crate) fn new(input: Input, fault: RunFault) -> Failure
+        ensures { result ≡ failure_of input fault }
+    {
+        Failure { input, fault }
+    }
+
+    /// The failure of a comparison.
+    pub(crate) fn of_comparison(fault: ConvertFault) -> Failure
+        ensures { result ≡ comparison_failure fault }
+    {
+        match fault {
+            ConvertFault::First(fault) => Failure::new(Input::First, RunFault::File(fault)),
+            ConvertFault::Second(fault) => Failure::new(Input::Second, RunFault::File(fault)),
+            ConvertFault::NotLp(name_at) => Failure::new(Input::Only, RunFault::NotLp(name_at)),
+            ConvertFault::OutOfMemory => Failure::new(Input::Only, RunFault::OutOfMemory),
+        }
+    }
+}
+
+/// Whether a fault is told of an input, so that it matters which one that is.
+fn is_of_input(fault: &RunFault) -> bool
+    ensures { result ≡ is_of_input fault.now }
+{
+    matches!(
+        fault,
+        RunFault::Read | RunFault::TooLong | RunFault::File(_)
+    )
+}
+
+/// Writes three pieces as one text, as far as the sink takes it, and does not flush.
+fn tell<E: Sink>(err: &mut E, front: &[u8], middle: &[u8], end: &[u8])
+    ensures { IsTold E.holds E.failed err.old err.new (front.now ++ middle.now ++ end.now) }
+{
+    let mut buffer = Buffer::new();
+    buffer.put(err, front);
+    buffer.put(err, middle);
+    buffer.put(err, end);
+    let _ = buffer.finish(err);
+}
+
+/// Tells the line of a failure.
+fn tell_failure<E: Sink>(failure: &Failure, err: &mut E)
+    ensures { IsTold E.holds E.failed err.old err.new (failure_line failure.now) }
+{
+    let line = line_of(&failure.fault);
+    let input = if is_of_input(&failure.fault) {
+        failure.input.text()
+    } else {
+        b"".as_slice()
+    };
+    tell(err, input, line.as_bytes(), b"");
+}
+
+/// The exit status of a job that ended so. A failure is told.
+pub(crate) fn status_of_end<E: Sink>(end: &Result<u8, Failure>, err: &mut E) -> u8
+    ensures { IsEnded E.holds E.failed err.old err.new end.now result }
+{
+    match end {
+        Ok(status) => *status,
+        Err(failure) => {
+            tell_failure(failure, err);
+            failure.fault.status()
+        }
+    }
+}
+
+/// Writes a text to a sink, and flushes it once.
+pub(crate) fn print<W: Sink>(text: &[u8], out: &mut W) -> Result<(), RunFault>
+    ensures { IsPrinted W.holds W.failed W.count out.old out.new text.now result }
+{
+    let mut written = 0;
+    if put_all(out, &mut written, text).is_err() {
+        return Err(RunFault::Write { written });
+    }
+    match out.flush() {
+        Ok(()) => Ok(()),
+        Err(_) => Err(RunFault::Write { written }),
+    }
+}
+
+/// How a job ends whose last step had this answer.
+pub(crate) fn ended_by(status: u8, answer: Result<(), RunFault>) -> Result<u8, Failure>
+    ensures { result ≡ ended_by status answer }
+{
+    match answer {
+        Ok(()) => Ok(status),
+        Err(fault) => Err(Failure::new(Input::Only, fault)),
+    }
+}
+
+/// Tells why there is no job, and answers the exit status.
+pub(crate) fn refuse<W: Sink, E: Sink>(fault: &JobFault, out: &mut W, err: &mut E) -> u8
+    ensures { IsRefused W.holds W.failed W.count E.holds E.failed out.old out.new err.old err.new fault.now result }
+{
+    match fault {
+        JobFault::Help(text) => {
+            let answer = print(text.as_str().as_bytes(), out);
+            status_of_end(&ended_by(0, answer), err)
+        }
+        JobFault::Usage(text) => {
+            tell(err, text.as_str().as_bytes(), b"", b"");
+            WRONG_WORDS
+        }
+        JobFault::UnknownFormat(word) => {
+            tell(err, b"unknown format: ", word.as_str().as_bytes(), b"\n");
+            WRONG_WORDS
+        }
+        JobFault::BothInputs => {
+            tell(err, b"both inputs are -\n", b"", b"");
+            WRONG_WORDS
+        }
+        JobFault::OutOfMemory => {
+            tell(err, b"out of memory\n", b"", b"");
+            NO_MEMORY
+        }
+    }
+}

@@ -1,0 +1,179 @@
+//! The jobs of a program, done between sources and sinks.
+
+ghost use Rattle.std.specs.Prelude.{◌≡◌, ◌+◌, ◌≤◌, None, true};
+ghost use Rattle.mpslp_convert.specs.ShownText.{shown_text};
+ghost use Rattle.mpslp_convert.specs.Performed.{declares_in, first_fault_in, unfit_in, text_in, IsRunDone, IsSaid, IsSecondDone, IsSameDone, IsDone, IsPerformed};
+
+use crate::conversion::same_model;
+use crate::faults::ConvertFault;
+use crate::job_end::{Failure, Input, ended_by, print, refuse, status_of_end};
+use crate::shown_source::show;
+use crate::source_to_sink::{load, run};
+use mpslp_jobs::{Form, Job, JobFault};
+use mpslp_model::{Format, Sink, Source};
+use mpslp_write::{Lp, Mps};
+use std::alloc::Global;
+
+/// Writes the canonical text of what a source gives.
+fn canon<R: Source, W: Sink>(
+    alloc: Global,
+    max_bytes: u64,
+    from: Form,
+    to: Form,
+    source: &mut R,
+    out: &mut W,
+) -> Result<u8, Failure>
+    ensures { IsRunDone (declares_in from) (first_fault_in from) (unfit_in to) (text_in to) W.holds W.failed W.count
+        (R.left source.old) (R.left source.new) (R.failed source.new) max_bytes out.old out.new result }
+{
+    match (from, to) {
+        (Form::Mps, Form::Mps) => ended_by(0, run::<Mps, Mps, R, W>(alloc, max_bytes, source, out)),
+        (Form::Mps, Form::Lp) => ended_by(0, run::<Mps, Lp, R, W>(alloc, max_bytes, source, out)),
+        (Form::Lp, Form::Mps) => ended_by(0, run::<Lp, Mps, R, W>(alloc, max_bytes, source, out)),
+        (Form::Lp, Form::Lp) => ended_by(0, run::<Lp, Lp, R, W>(alloc, max_bytes, source, out)),
+    }
+}
+
+/// Writes what is asked of the model that a source declares.
+fn show_in<R: Source, W: Sink>(
+    alloc: Global,
+    max_bytes: u64,
+    from: Form,
+    source: &mut R,
+    out: &mut W,
+) -> Result<u8, Failure>
+    ensures { IsRunDone (declares_in from) (first_fault_in from) (λ m. None) shown_text W.holds W.failed W.count
+        (R.left source.old) (R.left source.new) (R.failed source.new) max_bytes out.old out.new result }
+{
+    match from {
+        Form::Mps => ended_by(0, show::<Mps, R, W>(alloc, max_bytes, source, out)),
+        Form::Lp => ended_by(0, show::<Lp, R, W>(alloc, max_bytes, source, out)),
+    }
+}
+
+/// Prints what a comparison answered.
+fn say<W: Sink>(same: Result<bool, ConvertFault>, out: &mut W) -> Result<u8, Failure>
+    ensures { IsSaid W.holds W.failed W.count out.old out.new same result }
+{
+    match same {
+        Ok(true) => ended_by(0, print(b"same\n", out)),
+        Ok(false) => ended_by(1, print(b"not the same\n", out)),
+        Err(fault) => Err(Failure::of_comparison(fault)),
+    }
+}
+
+/// Prints whether two sources give texts of the same model.
+fn compare<A: Format, B: Format, R: Source, S: Source, W: Sink>(
+    alloc: Global,
+    max_bytes: u64,
+    first: &mut R,
+    second: &mut S,
+    out: &mut W,
+) -> Result<u8, Failure>
+    ensures { IsSameDone A.declares A.first_fault B.declares B.first_fault W.holds W.failed W.count
+        R.left R.failed S.left S.failed max_bytes first.old first.new second.old second.new out.old out.new result }
+{
+    let one = match load(alloc, max_bytes, first) {
+        Ok(one) => one,
+        Err(fault) => return Err(Failure::new(Input::First, fault)),
+    };
+    let other = match load(alloc, max_bytes, second) {
+        Ok(other) => other,
+        Err(fault) => return Err(Failure::new(Input::Second, fault)),
+    };
+    say(same_model::<A, B>(alloc, &one, &other), out)
+}
+
+/// Prints whether two sources give texts of the same model, each in a format of its own.
+fn same<R: Source, S: Source, W: Sink>(
+    alloc: Global,
+    max_bytes: u64,
+    first_form: Form,
+    second_form: Form,
+    first: &mut R,
+    second: &mut S,
+    out: &mut W,
+) -> Result<u8, Failure>
+    ensures { IsSameDone (declares_in first_form) (first_fault_in first_form) (declares_in second_form) (first_fault_in second_form) W.holds W.failed W.count
+        R.left R.failed S.left S.failed max_bytes first.old first.new second.old second.new out.old out.new result }
+{
+    match (first_form, second_form) {
+        (Form::Mps, Form::Mps) => compare::<Mps, Mps, R, S, W>(
+            alloc, max_bytes, first, second, out,
+        ),
+        (Form::Mps, Form::Lp) => compare::<Mps, Lp, R, S, W>(alloc, max_bytes, first, second, out),
+        (Form::Lp, Form::Mps) => compare::<Lp, Mps, R, S, W>(alloc, max_bytes, first, second, out),
+        (Form::Lp, Form::Lp) => compare::<Lp, Lp, R, S, W>(alloc, max_bytes, first, second, out),
+    }
+}
+
+/// Does a job.
+fn do_job<R: Source, S: Source, W: Sink>(
+    alloc: Global,
+    max_bytes: u64,
+    job: &Job,
+    first: &mut R,
+    second: &mut S,
+    out: &mut W,
+) -> Result<u8, Failure>
+    ensures { IsDone W.holds W.failed W.count R.left R.failed S.left S.failed max_bytes first.old first.new second.old second.new out.old out.new job.now result }
+{
+    match job {
+        Job::Canon { from, to, path: _ } => canon(alloc, max_bytes, *from, *to, first, out),
+        Job::Same {
+            first_form,
+            first: _,
+            second_form,
+            second: _,
+        } => same(
+            alloc,
+            max_bytes,
+            *first_form,
+            *second_form,
+            first,
+            second,
+            out,
+        ),
+        Job::Show { from, path: _ } => show_in(alloc, max_bytes, *from, first, out),
+    }
+}
+
+/// Does a job, or tells why the words ask for none, and answers the exit status of the program.
+///
+/// `canon` is [`run`] and `show` is [`show`], from the first source to `out`. `same` loads the first source and then the
+/// second, compares them by [`same_model`], and writes `same` or `not the same` to `out`. A text that was asked for
+/// (`--help`) goes to `out` as well. `out` is flushed once where all was written. What went wrong is told on `err`, a line each, which is
+/// not flushed; without a fault nothing is. No path is looked at: the caller opens the inputs.
+///
+/// | status | when | told on `err` |
+/// |---|---|---|
+/// | 0 | done; the same model; a text was asked for | |
+/// | 1 | not the same model | |
+/// | 2 | a file was refused | `line 7: DuplicateEntry`, `file: TooLong`, `row 3: NotLp`, .. |
+/// | 3 | the words are no job | clap's text, `unknown format: WORD`, `both inputs are -` |
+/// | 4 | a read, a write or a flush failed | `read failed`, `write failed` |
+/// | 5 | memory was refused | `out of memory` |
+///
+/// Of two inputs `first: ` or `second: ` goes before the line of a fault that is one input's: a refused file, one that is
+/// too long, a read that failed. The second source is read by `same` alone, after the first was read to its end; of words that are no job neither is.
+/// A fault of `err` changes no status.
+pub fn perform<R: Source, S: Source, W: Sink, E: Sink>(
+    alloc: Global,
+    max_bytes: u64,
+    job: &Result<Job, JobFault>,
+    first: &mut R,
+    second: &mut S,
+    out: &mut W,
+    err: &mut E,
+) -> u8
+    ensures { IsPerformed W.holds W.failed W.count E.holds E.failed R.left R.failed S.left S.failed max_bytes
+        first.old first.new second.old second.new out.old out.new err.old err.new job.now result }
+{
+    match job {
+        Ok(job) => {
+            let end = do_job(alloc, max_bytes, job, first, second, out);
+            status_of_end(&end, err)
+        }
+        Err(fault) => refuse(fault, out, err),
+    }
+}

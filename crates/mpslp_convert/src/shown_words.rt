@@ -1,0 +1,66 @@
+//! The words of the lines that show a model, on their way to a sink.
+
+ghost use Rattle.std.specs.Prelude.{◌≡◌, ◌++◌, codes, decimal};
+ghost use Rattle.mpslp_decimal.specs.NumberText.{number_text};
+ghost use Rattle.mpslp_write.specs.TextBuffer.{Emits};
+ghost use Rattle.mpslp_convert.specs.ShownText.{sense_word, kind_word, limit_text};
+
+use mpslp_decimal::{Decimal, DecimalText};
+use mpslp_model::{Kind, Limit, Sense, Sink};
+use mpslp_write::Buffer;
+
+/// Puts a word behind a blank.
+pub(crate) fn put_word<W: Sink>(sink: &mut W, buffer: &mut Buffer, word: &[u8])
+    ensures { Emits W.holds W.failed W.count sink.old sink.new buffer.old buffer.new (codes " " ++ word.now) }
+{
+    buffer.put(sink, b" ");
+    buffer.put(sink, word);
+}
+
+/// Puts how many there are, or the number of one, behind a blank.
+pub(crate) fn put_count<W: Sink>(sink: &mut W, buffer: &mut Buffer, count: u128)
+    ensures { Emits W.holds W.failed W.count sink.old sink.new buffer.old buffer.new (codes " " ++ decimal count) }
+{
+    let mut digits = itoa::Buffer::new();
+    put_word(sink, buffer, digits.format(count).as_bytes());
+}
+
+/// Puts a number behind a blank.
+pub(crate) fn put_number<W: Sink>(sink: &mut W, buffer: &mut Buffer, value: Decimal)
+    ensures { Emits W.holds W.failed W.count sink.old sink.new buffer.old buffer.new (codes " " ++ number_text value) }
+{
+    let mut text = DecimalText::new();
+    put_word(sink, buffer, text.put(value));
+}
+
+/// Puts a limit of a row or a bound of a column behind a blank.
+pub(crate) fn put_limit<W: Sink>(sink: &mut W, buffer: &mut Buffer, limit: &Limit)
+    ensures { Emits W.holds W.failed W.count sink.old sink.new buffer.old buffer.new (codes " " ++ limit_text limit.now) }
+{
+    match limit {
+        Limit::MinusInf => put_word(sink, buffer, b"-inf"),
+        Limit::Finite(value) => put_number(sink, buffer, *value),
+        Limit::PlusInf => put_word(sink, buffer, b"inf"),
+    }
+}
+
+/// The word for a sense.
+pub(crate) fn sense_word(sense: Sense) -> &'static [u8]
+    ensures { result.now ≡ sense_word sense }
+{
+    match sense {
+        Sense::Minimize => b"minimize".as_slice(),
+        Sense::Maximize => b"maximize".as_slice(),
+    }
+}
+
+/// The word for a kind of columns.
+pub(crate) fn kind_word(kind: Kind) -> &'static [u8]
+    ensures { result.now ≡ kind_word kind }
+{
+    match kind {
+        Kind::Continuous => b"continuous".as_slice(),
+        Kind::Integer => b"integer".as_slice(),
+        Kind::Semi => b"semi".as_slice(),
+    }
+}

@@ -1,0 +1,38 @@
+-- The first fault of declarations one after another, and of declarations without one.
+use Rattle.std.proofs.Common.{◌≡◌, refl, ap, ◌∙◌, List, [], ◌∷◌, ◌++◌, Bool, true, false, cond, map}
+use Rattle.std.specs.Prelude.{nat_lt, Option, Some, None}
+use Rattle.std.specs.Option.{option_map_or}
+use Rattle.mpslp_builder.specs.Declaration.{Declarations, Draft, with_declarations}
+use Rattle.mpslp_builder.specs.Refusal.{refusals_in_turn}
+use Rattle.mpslp_types.specs.FaultOrder.{kind_rank}
+use Rattle.mpslp_types.specs.declared.faults.BuildFault.{BuildFault}
+use Rattle.mpslp_types.specs.declared.faults.FaultKind.{FaultKind}
+use Rattle.mpslp_lines.specs.Declaring.{kind_of_build_fault, declaring_faults, declared_fault}
+use Rattle.mpslp_lines.proofs.LeastLemmas.{is_from, earlier_of}
+use Rattle.mpslp_lines.proofs.RefusedLemmas.{declared-append}
+
+-- what comes after declarations that have no fault
+pub declared-after : (earlier : Draft) (xs ys : Declarations) → declared_fault earlier xs ≡ None → declared_fault earlier (xs ++ ys) ≡ declared_fault (with_declarations earlier xs) ys
+declared-after earlier xs ys none = declared-append xs ys earlier ∙ ap (λ (o : Option FaultKind). earlier_of o (declared_fault (with_declarations earlier xs) ys)) none
+
+-- declarations without a fault are not refused
+pub unrefused : (earlier : Draft) (ds : Declarations) → declaring_faults earlier ds ≡ [] → refusals_in_turn earlier ds ≡ []
+unrefused earlier ds h = by (refusals_in_turn earlier ds) h
+  where
+    by : (refusals : List BuildFault) → map kind_of_build_fault refusals ≡ [] → refusals ≡ []
+    by [] e = refl
+    by (refusal ∷ more) e = cc
+
+-- ---- kinds that come not before one
+
+abbrev pub are_from : FaultKind → Option FaultKind → Bool
+are_from kind o = option_map_or (is_from kind) o true
+
+pub from-earlier : (kind : FaultKind) (o p : Option FaultKind) → are_from kind o ≡ true → are_from kind p ≡ true → are_from kind (earlier_of o p) ≡ true
+from-earlier kind None p h k = k
+from-earlier kind (Some a) None h k = h
+from-earlier kind (Some a) (Some b) h k = by (nat_lt (kind_rank b) (kind_rank a))
+  where
+    by : (c : Bool) → is_from kind (cond c b a) ≡ true
+    by true = k
+    by false = h

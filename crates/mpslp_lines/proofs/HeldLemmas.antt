@@ -1,0 +1,47 @@
+-- The first test that holds, where more tests stand behind; and tests of which none holds.
+use Rattle.std.proofs.Common.{◌≡◌, refl, sym, ap, ◌∙◌, [], ◌∷◌, ◌++◌, Bool, true, false, cond, append_assoc}
+use Rattle.std.specs.Prelude.{Option, Some, None}
+use Rattle.std.specs.List.{list_all}
+use Rattle.std.specs.Option.{option_or}
+use Rattle.std.specs.Cmp.{first_so, second_so}
+use Rattle.mpslp_model_core.specs.Lists.{those_of}
+use Rattle.mpslp_types.specs.declared.faults.FaultKind.{FaultKind}
+use Rattle.mpslp_lines.specs.FaultTests.{FaultTests, first_held}
+
+pub held-append : (tests more : FaultTests) → first_held (tests ++ more) ≡ option_or (first_held tests) (first_held more)
+held-append [] more = refl
+held-append (test ∷ tests) more =
+    elim test.0 as (λ b. cond b (Some test.1) (first_held (tests ++ more)) ≡ option_or (cond b (Some test.1) (first_held tests)) (first_held more)) [
+      | true ↦ refl
+      | false ↦ held-append tests more
+    ]
+
+pub held_some : (tests more : FaultTests) (kind : FaultKind) → first_held tests ≡ Some kind → first_held (tests ++ more) ≡ Some kind
+held_some tests more kind h = held-append tests more ∙ ap (λ (o : Option FaultKind). option_or o (first_held more)) h
+
+pub held_none : (tests more : FaultTests) → first_held tests ≡ None → first_held (tests ++ more) ≡ first_held more
+held_none tests more h = held-append tests more ∙ ap (λ (o : Option FaultKind). option_or o (first_held more)) h
+
+-- of tests in three parts, where the first two are judged together
+pub held-third : (tests more last : FaultTests) → first_held (tests ++ (more ++ last)) ≡ option_or (first_held (tests ++ more)) (first_held last)
+held-third tests more last = ap first_held (sym (append_assoc tests more last)) ∙ held-append (tests ++ more) last
+
+-- what holds of the kinds of all tests holds of the first that holds
+pub held-among : (p : FaultKind → Bool) (tests : FaultTests) (kind : FaultKind) → list_all (λ test. p test.1) tests ≡ true → first_held tests ≡ Some kind → p kind ≡ true
+held-among p [] kind h held = cc
+held-among p (test ∷ tests) kind h held =
+    by test.0 (first_so (p test.1) (list_all (λ t. p t.1) tests) h) (held-among p tests kind (second_so (p test.1) (list_all (λ t. p t.1) tests) h)) held
+  where
+    by : (b : Bool) → p test.1 ≡ true → (first_held tests ≡ Some kind → p kind ≡ true) → cond b (Some test.1) (first_held tests) ≡ Some kind → p kind ≡ true
+    by true k more e = let same : kind ≡ test.1 = cc in ap p same ∙ k
+    by false k more e = more e
+
+-- ---- tests of which none holds
+
+pub first_test : (b : Bool) (kind : FaultKind) (more : FaultTests) → those_of ((b, kind) ∷ more) ≡ [] → b ≡ false
+first_test true kind more h = cc
+first_test false kind more h = refl
+
+pub later_tests : (b : Bool) (kind : FaultKind) (more : FaultTests) → those_of ((b, kind) ∷ more) ≡ [] → those_of more ≡ []
+later_tests true kind more h = cc
+later_tests false kind more h = h

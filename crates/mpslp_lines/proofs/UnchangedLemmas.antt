@@ -1,0 +1,28 @@
+-- What stands where a line has a fault.
+use Rattle.std.proofs.Common.{◌≡◌, sym, subst, ◌∙◌}
+use Rattle.std.specs.Prelude.{Option, Some, None, Ok, Err, IsErrAnd}
+use Rattle.mpslp_types.specs.declared.faults.FaultKind.{FaultKind}
+use Rattle.mpslp_builder.specs.Declaration.{Declarations, Draft}
+use Rattle.mpslp_lines.specs.Declaring.{declared_fault}
+use Rattle.mpslp_lines.specs.LineAnswer.{LineResult, IsErrorOf, AreDeclared, IfFault}
+use Rattle.mpslp_lines.specs.declared.errors.LineError.{LineError}
+use Rattle.mpslp_lines.specs.declared.errors.LineError.TheVariants.{Fault, OutOfMemory}
+
+-- of a call that ends by this error
+pub if_fault-ends : (answer : LineResult) (error : LineError) (Stands : Type 0) → IsErrAnd answer (λ e. e ≡ error) → IfFault (Err error) Stands → IfFault answer Stands
+if_fault-ends (Ok x) error Stands h k = absurd h
+if_fault-ends (Err e) error Stands h k = subst (λ (other : LineError). IfFault (Err other) Stands) (sym h) k
+
+-- where there is no fault, there was no memory
+pub if_fault-none : (first_fault : Option FaultKind) (error : LineError) (Stands : Type 0) → first_fault ≡ None → IsErrorOf first_fault error → IfFault (Err error) Stands
+if_fault-none first_fault (Fault kind) Stands none is = absurd (never kind (sym none ∙ is))
+  where
+    never : (k : FaultKind) → None ≡ Some k → ⊥
+    never k e = cc
+if_fault-none first_fault OutOfMemory Stands none is = tt
+
+-- declarations that have no fault are not refused
+pub if_fault-declared : (earlier later : Draft) (ds : Declarations) (answer : LineResult) (Stands : Type 0) → declared_fault earlier ds ≡ None → AreDeclared earlier ds answer later
+    → IfFault answer Stands
+if_fault-declared earlier later ds (Ok x) Stands none h = tt
+if_fault-declared earlier later ds (Err error) Stands none h = if_fault-none (declared_fault earlier ds) error Stands none h

@@ -1,0 +1,48 @@
+-- What the code answers of a line and of its declarations, and how the fault of a line is told.
+use Rattle.std.specs.Prelude.{◌≡◌, ℕ, ◌-◌, ◌^◌, min, Option, Some, None, Result, Err, MatchResult}
+use Rattle.mpslp_builder.specs.Declaration.{Declarations, Draft, with_declarations}
+use Rattle.mpslp_types.specs.declared.faults.Fault.{Fault}
+use Rattle.mpslp_types.specs.declared.faults.FaultKind.{FaultKind}
+use Rattle.mpslp_types.specs.declared.faults.ReadFault.{ReadFault}
+use Rattle.mpslp_types.specs.declared.faults.ReadFault.TheVariants as reads
+use Rattle.mpslp_lines.specs.Declaring.{declared_fault}
+use Rattle.mpslp_lines.specs.declared.errors.LineError.{LineError}
+use Rattle.mpslp_lines.specs.declared.errors.LineError.TheVariants as lines
+
+-- ---- of a line
+
+-- the error is the first fault, unless there was no memory
+abbrev pub IsErrorOf : Option FaultKind → LineError → Type 0
+IsErrorOf first_fault (lines.Fault kind) = first_fault ≡ Some kind
+IsErrorOf first_fault lines.OutOfMemory = Unit {0}
+
+abbrev pub LineResult : Type 0
+LineResult = Result (Unit {0}) LineError
+
+-- what stands where the line has a fault; of want of memory nothing is said
+abbrev pub IfFault : LineResult → Type 0 → Type 0
+IfFault (Err (lines.Fault kind)) Stands = Stands
+IfFault _ Stands = Unit {0}
+
+-- Declarations are made where they have no fault.
+abbrev pub AreDeclared : Draft → Declarations → LineResult → Draft → Type 0
+AreDeclared earlier declarations answer later =
+    let first_fault = declared_fault earlier declarations in
+    MatchResult answer (λ _. (first_fault ≡ None) × (later ≡ with_declarations earlier declarations)) (IsErrorOf first_fault)
+
+-- ---- of a text
+
+-- lines are counted from 1 up to 2^64 - 1; a fault of a line has no name
+abbrev pub fault_on_line : ℕ → FaultKind → Fault
+fault_on_line n kind = record { kind = kind; line = min n (2 ^ 64 - 1); name = None }
+
+-- the error of a line is told as a fault on it
+abbrev pub IsFaultOn : ℕ → LineError → ReadFault → Type 0
+IsFaultOn n (lines.Fault kind) answer = answer ≡ reads.File (record { kind = kind; line = n; name = None })
+IsFaultOn n lines.OutOfMemory answer = answer ≡ reads.OutOfMemory
+
+-- the fault of a text is the first fault, unless there was no memory
+abbrev pub IsFaultOf : Option Fault → ReadFault → Type 0
+IsFaultOf first_fault (reads.File fault) = first_fault ≡ Some fault
+IsFaultOf first_fault reads.Failed = ⊥
+IsFaultOf first_fault reads.OutOfMemory = Unit {0}

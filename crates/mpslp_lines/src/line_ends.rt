@@ -1,0 +1,39 @@
+//! The ends of lines in a piece of a text.
+
+ghost use Rattle.std.specs.Prelude.{◌≡◌, ◌∷◌, ◌++◌, [], MatchOption};
+ghost use Rattle.std.specs.Str.Lines.{strip_carriage_return};
+ghost use Rattle.mpslp_model.specs.CompleteLines.{open_tail, HasNoFeed};
+
+use bstr::ByteSlice;
+
+/// The line without the carriage return at its end, if it has one.
+pub(crate) fn without_return(line: &[u8]) -> &[u8]
+    ensures { result.now ≡ strip_carriage_return line.now }
+{
+    match line {
+        [front @ .., b'\r'] => front,
+        _ => line,
+    }
+}
+
+/// What stands before the first line feed and what follows it, if there is one.
+pub(crate) fn split_at_first_feed(piece: &[u8]) -> Option<(&[u8], &[u8])>
+    ensures { MatchOption result (HasNoFeed piece.now) (λ parts. HasNoFeed parts.0.now × ((parts.0.now ++ 10 ∷ []) ++ parts.1.now ≡ piece.now)) }
+{
+    match piece.find_byte(b'\n') {
+        Some(first) => Some((&piece[..first], &piece[first + 1..])),
+        None => None,
+    }
+}
+
+/// The lines up to the last line feed, with it, and what follows.
+pub(crate) fn split_behind_last_feed(piece: &[u8]) -> (&[u8], &[u8])
+    ensures parts { result.0.now ++ result.1.now ≡ piece.now }
+    ensures lines { open_tail result.0.now ≡ [] }
+    ensures rest { HasNoFeed result.1.now }
+{
+    match piece.rfind_byte(b'\n') {
+        Some(last) => piece.split_at(last + 1),
+        None => piece.split_at(0),
+    }
+}

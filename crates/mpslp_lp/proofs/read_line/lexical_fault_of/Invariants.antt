@@ -1,0 +1,13 @@
+use Rattle.std.proofs.Common.{◌≡◌}
+use Rattle.std.specs.List.{cons_option}
+use Rattle.mpslp_types.specs.FaultOrder.{least_kind}
+use Rattle.mpslp_lp.specs.LineByLine.{token_faults}
+use Rattle.mpslp_lp.proofs.read_line.lexical_fault_of.Given as goal
+
+-- the least so far, and what is left, decide
+abbrev pub invariant-loop-raw_token : goal.invariant-loop-raw_token
+invariant-loop-raw_token l = record {
+  next : (goal.iterator-loop-raw_token).can_next l.raw_token-iterator;
+  finite : (goal.iterator-loop-raw_token).is_finite l.raw_token-iterator;
+  least : least_kind (cons_option l.least (token_faults l.raw_token-iterator)) ≡ least_kind (token_faults l.fn.tokens);
+}

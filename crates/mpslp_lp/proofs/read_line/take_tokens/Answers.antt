@@ -1,0 +1,24 @@
+use Rattle.std.proofs.Common.{sym, ap, subst, ◌∙◌, ◌∷◌}
+use Rattle.std.specs.Prelude.{Err}
+use Rattle.mpslp_lines.specs.declared.errors.LineError.{LineError}
+use Rattle.mpslp_lp.specs.Scan.{token_of}
+use Rattle.mpslp_lp.specs.Terminal.{Terminal}
+use Rattle.mpslp_lp.specs.AfterToken.{AfterToken}
+use Rattle.mpslp_lp.specs.TokenStep.{take}
+use Rattle.mpslp_lp.specs.LineByLine.{take_tokens}
+use Rattle.mpslp_lp.specs.Declares.{TakesToken}
+use Rattle.mpslp_lp.proofs.LineTokens.{tokens-refused}
+use Rattle.mpslp_lp.proofs.read_line.take_tokens.Goals as goal
+
+pub returns-in-Err-take : goal.returns-in-Err-take
+returns-in-Err-take c =
+    let context = c.loop-raw_token.context in
+    let after = c.take.new.context in
+    let state = c.loop-raw_token.state in
+    let raw_token = token_of c.in-Some.raw_token in
+    let more = c.next.new.self in
+    let error = c.in-Err-take.error in
+    subst (λ (taken : AfterToken). TakesToken taken (Err c.error_before.result) after) (ap (take_tokens context state) (sym c.in-Some.ensures.steps) ∙ c.loop-raw_token.invariant.left)
+    (subst (λ (told : LineError). TakesToken (take_tokens context state (raw_token ∷ more)) (Err told) after) (sym c.error_before.ensures)
+    (tokens-refused context after state raw_token more error c.in-Ok.ensures.0
+    (subst (λ (terminal : Terminal). TakesToken (take context state terminal) (Err error) after) c.in-Ok.ensures.1 c.in-Err-take.ensures)))

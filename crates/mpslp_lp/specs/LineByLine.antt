@@ -1,0 +1,59 @@
+-- Lines read one after another, in place of all their tokens.
+use Rattle.std.specs.Prelude.{ℕ, Bool, true, false, List, [], ◌∷◌, map, filter_map, Some, None}
+use Rattle.mpslp_types.specs.FaultOrder.{least_kind}
+use Rattle.mpslp_types.specs.declared.faults.FaultKind.{FaultKind}
+use Rattle.mpslp_lp.specs.Token.{Token}
+use Rattle.mpslp_builder.specs.Declaration.{Draft}
+use Rattle.mpslp_types.specs.declared.faults.Fault.{Fault}
+use Rattle.mpslp_lp.specs.Rules.{Outcome}
+use Rattle.mpslp_lp.specs.Rules.Outcome.{Finished, Refused}
+use Rattle.mpslp_lp.specs.Terminal.{Terminal, as_terminal, terminals}
+use Rattle.mpslp_lp.specs.declared.context.Context.{Context}
+use Rattle.mpslp_lines.specs.LineAnswer.{fault_on_line}
+use Rattle.mpslp_lp.specs.declared.states.State.{State}
+use Rattle.mpslp_lp.specs.declared.states.State.TheVariants.{AfterEnd}
+use Rattle.mpslp_lp.specs.AfterToken.{AfterToken, Goes, Refuses}
+use Rattle.mpslp_lp.specs.TokenStep.{take, at_end}
+use Rattle.mpslp_lp.specs.LexicalFault.{token_fault, lexical_fault}
+
+-- tokens one after another, up to one that makes a fault
+abbrev pub take_all : Context → State → List Terminal → AfterToken
+take_all context state [] = Goes context state
+take_all context state (terminal ∷ terminals) = elim (take context state terminal) [
+  | Goes after next ↦ take_all after next terminals
+  | Refuses kind ↦ Refuses kind
+]
+
+-- the faults that tokens have wherever they stand
+abbrev pub token_faults : List Token → List FaultKind
+token_faults found = filter_map (λ (token : Token). token_fault token.kind token.text) found
+
+-- tokens of which none has such a fault, or the least of these
+abbrev pub take_tokens : Context → State → List Token → AfterToken
+take_tokens context state found = elim (least_kind (token_faults found)) [
+  | Some kind ↦ Refuses kind
+  | None ↦ take_all context state (map as_terminal found)
+]
+
+-- a line: the fault that it has by itself, or what its tokens make
+abbrev pub take_line : Context → State → List ℕ → AfterToken
+take_line context state line = elim (lexical_fault line) [
+  | Some kind ↦ Refuses kind
+  | None ↦ take_all context state (terminals line)
+]
+
+-- `end` was the last token
+abbrev pub is_at_end : State → Bool
+is_at_end AfterEnd = true
+is_at_end _ = false
+
+-- lines up to that of `end`
+abbrev pub read_from : Context → State → List (ℕ × List ℕ) → Outcome Fault Draft
+read_from context state [] = at_end context state
+read_from context state (line ∷ more) = elim (is_at_end state) [
+  | true ↦ Finished context.earlier
+  | false ↦ elim (take_line context state line.1) [
+    | Goes after next ↦ read_from after next more
+    | Refuses kind ↦ Refused (fault_on_line line.0 kind)
+  ]
+]

@@ -1,0 +1,126 @@
+//! Lines, read one by one.
+
+ghost use Rattle.std.specs.Prelude.{◌≡◌, ◌≤◌, ◌∷◌, length, not};
+ghost use Rattle.std.specs.List.{prefix_len};
+ghost use Rattle.mpslp_types.specs.FaultOrder.{least_kind};
+ghost use Rattle.mpslp_lp.specs.Line.{begins_comment, outside_comment};
+ghost use Rattle.mpslp_lp.specs.Token.{tokens};
+ghost use Rattle.mpslp_lp.specs.Declares.{error_before, lesser_of, IsLeastError, TakesToken};
+ghost use Rattle.mpslp_lp.specs.LineByLine.{token_faults, take_tokens, take_line};
+
+use crate::context::Context;
+use crate::plain_terms::take_terms;
+use crate::states::State;
+use crate::terminals::{TerminalToken, classify};
+use crate::token_step::take;
+use crate::tokens::{Tokens, tokens_of};
+use bstr::ByteSlice;
+use mpslp_lines::{LineError, are_legal_bytes, has_legal_length, lesser_kind};
+use mpslp_model::FaultKind;
+
+/// The lesser of the kinds of two faults, of which the first may be missing.
+fn lesser_of(first: Option<FaultKind>, second: FaultKind) -> FaultKind
+    ensures { result ≡ lesser_of first second }
+{
+    match first {
+        Some(first) => lesser_kind(first, second),
+        None => second,
+    }
+}
+
+/// The least of the faults that tokens have wherever they stand.
+fn lexical_fault_of(tokens: Tokens<'_>) -> Option<FaultKind>
+    ensures { result ≡ least_kind (token_faults tokens.entry) }
+{
+    let mut least = None;
+    for raw_token in tokens {
+        if let Err(kind) = classify(raw_token.kind, raw_token.text) {
+            least = Some(lesser_of(least, kind));
+        }
+    }
+    least
+}
+
+/// The error of a line before these tokens: a fault that one of them has wherever it stands is told before it.
+pub(crate) fn error_before(error: LineError, tokens: Tokens<'_>) -> LineError
+    ensures { result ≡ error_before (token_faults tokens.entry) error }
+{
+    match error {
+        LineError::Fault(kind) => match lexical_fault_of(tokens) {
+            Some(own) => LineError::Fault(own),
+            None => LineError::Fault(kind),
+        },
+        LineError::OutOfMemory => LineError::OutOfMemory,
+    }
+}
+
+/// The error of a line whose token has this fault wherever it stands, before these tokens.
+pub(crate) fn least_error(kind: FaultKind, tokens: Tokens<'_>) -> LineError
+    ensures { IsLeastError (kind ∷ token_faults tokens.entry) result }
+{
+    match lexical_fault_of(tokens) {
+        Some(own) => LineError::Fault(lesser_kind(kind, own)),
+        None => LineError::Fault(kind),
+    }
+}
+
+/// Takes the tokens of a line of legal length and bytes. Each is looked at once, but where a plain term could begin and does
+/// not; those behind one that makes a fault are looked at for their own faults alone.
+fn take_tokens(context: &mut Context, state: State, line: &[u8]) -> Result<State, LineError>
+    ensures { TakesToken (take_tokens context.old state (tokens line.now)) result context.new }
+{
+    let (mut state, mut tokens) = take_terms(context, state, tokens_of(line))?;
+    while let Some(raw_token) = tokens.next() {
+        let kind = match classify(raw_token.kind, raw_token.text) {
+            Ok(kind) => kind,
+            Err(kind) => return Err(least_error(kind, tokens)),
+        };
+        let token = TerminalToken {
+            kind,
+            text: raw_token.text,
+        };
+        let next = match take(context, state, &token) {
+            Ok(next) => next,
+            Err(error) => return Err(error_before(error, tokens)),
+        };
+        let (later, left) = take_terms(context, next, tokens)?;
+        state = later;
+        tokens = left;
+    }
+    Ok(state)
+}
+
+/// How many bytes the line has before a comment.
+fn outside_len(line: &[u8]) -> usize
+    ensures count { result ≡ prefix_len (λ byte. not (begins_comment byte)) line.now }
+    ensures within { result ≤ length line.now }
+{
+    match line.find_byte(b'\\') {
+        Some(at) => at,
+        None => line.len(),
+    }
+}
+
+/// What of the line stands before a comment.
+fn outside_comment(line: &[u8]) -> &[u8]
+    ensures { result.now ≡ outside_comment line.now }
+{
+    &line[..outside_len(line)]
+}
+
+/// Reads a line: the state after it, or its fault.
+pub(crate) fn read_line(
+    context: &mut Context,
+    state: State,
+    line: &[u8],
+) -> Result<State, LineError>
+    ensures { TakesToken (take_line context.old state line.now) result context.new }
+{
+    if !has_legal_length(line) {
+        return Err(LineError::Fault(FaultKind::LineTooLong));
+    }
+    if !are_legal_bytes(outside_comment(line)) {
+        return Err(LineError::Fault(FaultKind::BadByte));
+    }
+    take_tokens(context, state, line)
+}

@@ -1,0 +1,22 @@
+use Rattle.std.proofs.Common.{sym, ap, subst, ◌∙◌, ℕ, ◌≤◌, List, get_or, length}
+use Rattle.std.specs.Prelude.{IsTrue, slice_get}
+use Rattle.std.specs.List.{list_all}
+use Rattle.std.specs.Ordering.{nat_cmp}
+use Rattle.std.specs.FinMap.{is_sorted}
+use Rattle.std.proofs.lemmas.Option.{slice_get-get_or}
+use Rattle.mpslp_model_core.specs.declared.model.ModelColumn.{ModelColumn}
+use Rattle.mpslp_model_core.proofs.ViewLemmas.{all_sorted}
+use Rattle.mpslp_model_core.proofs.ByRowLemmas.{numbers_within}
+use Rattle.mpslp_model_core.proofs.model.Model.of_parts.Goals as goal
+
+pub columns_by_row-requires-clause-sorted : goal.columns_by_row-requires-clause-sorted
+columns_by_row-requires-clause-sorted c =
+    subst (λ (columns : List (List ℕ × ModelColumn)). IsTrue (list_all (λ column. is_sorted nat_cmp column.1.cells.items) columns)) (sym c.deref.ensures.value) (all_sorted c.args.parts.columns.items c.requires.cells)
+
+pub columns_by_row-requires-clause-within : goal.columns_by_row-requires-clause-within
+columns_by_row-requires-clause-within c k d below l e under =
+    let columns = c.deref.result.now in
+    let column = get_or columns k d in
+    let cells = column.1.cells.items in
+    subst (λ (n : ℕ). (get_or cells l e).0 ≤ n) (sym (ap length c.as_slice.ensures.value))
+    (numbers_within c.args.parts c.requires k column (ap (λ (cs : List (List ℕ × ModelColumn)). slice_get cs k) (sym c.deref.ensures.value) ∙ slice_get-get_or columns k d below) l (get_or cells l e) (slice_get-get_or cells l e under))

@@ -1,0 +1,15 @@
+pub mod Lists
+pub mod Model
+pub mod Limits
+pub mod Columns
+pub mod WrongParts
+pub mod Views
+pub mod ModelCode
+pub mod Columned
+pub mod ModelParts
+pub mod ByRow
+pub mod Same
+pub mod SameLaws
+pub mod Numbered
+pub mod Packed
+pub mod PackedRowDefinition

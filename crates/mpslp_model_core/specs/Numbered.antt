@@ -1,0 +1,72 @@
+-- Rows and columns by numbers, in whatever order they stand, and the coefficients of each column by the numbers of rows.
+use Rattle.std.specs.Prelude.{◌≡◌, ℕ, zero, suc, Bool, List, [], ◌∷◌, ◌++◌, Option, Some, None, is_some, slice_get, slice_index, map, filter, not}
+use Rattle.std.specs.List.{list_all}
+use Rattle.std.specs.Option.{option_map, option_map_or}
+use Rattle.std.specs.Ordering.{nat_cmp}
+use Rattle.std.specs.FinMap.{find, put}
+use Rattle.std.specs.declared.cmp.Ordering.{Ordering}
+use Rattle.mpslp_decimal.specs.Decimal.{Number, is_zero}
+use Rattle.mpslp_types.specs.Name.{bytes_cmp}
+use Rattle.mpslp_model_core.specs.Model.{CoefficientKey}
+
+-- the entries, each put in its place; of two at one key the earlier one stays
+abbrev pub sorted_of : {K X : Type 0} → (K → K → Ordering) → List (K × X) → List (K × X)
+sorted_of R [] = []
+sorted_of R (e ∷ es) = put R e.0 e.1 (sorted_of R es)
+
+-- ---- what entries of a map say of their names
+
+module _ {K V X : Type 0} (key : K → List ℕ) where
+  -- a part of each
+  abbrev pub each_part : (V → X) → List (K × V) → List (List ℕ × X)
+  each_part f [] = []
+  each_part f (e ∷ es) = (key e.0, f e.1) ∷ each_part f es
+
+  -- the parts that are there
+  abbrev pub given_parts : (V → Option X) → List (K × V) → List (List ℕ × X)
+  given_parts f [] = []
+  given_parts f (e ∷ es) = option_map_or (λ x. (key e.0, x) ∷ given_parts f es) (f e.1) (given_parts f es)
+
+-- ---- rows by numbers
+
+-- the objective has the number 0, and the rows have those from 1 on
+abbrev pub name_of : {K V : Type 0} → (K → List ℕ) → Option (List ℕ) → List (K × V) → ℕ → Option (List ℕ)
+name_of key objective rows zero = objective
+name_of key objective rows (suc i) = option_map (λ e. key e.0) (slice_get rows i)
+
+-- no two numbers are of one row
+abbrev pub TellsApart : (ℕ → Option (List ℕ)) → Type 0
+TellsApart name = (n m : ℕ) (r : List ℕ) → name n ≡ Some r → name m ≡ Some r → n ≡ m
+
+-- no key stands again
+abbrev pub IsOnceBy : {K X : Type 0} → (K → K → Ordering) → List (K × X) → Type 0
+IsOnceBy R [] = Unit {0}
+IsOnceBy R (e ∷ es) = (find R e.0 es ≡ None) × IsOnceBy R es
+
+-- no name stands again
+abbrev pub IsOnce : {X : Type 0} → List (List ℕ × X) → Type 0
+IsOnce es = IsOnceBy bytes_cmp es
+
+-- ---- coefficients by the numbers of rows
+
+-- whether it is no zero
+abbrev pub is_kept : {K : Type 0} → K × Number → Bool
+is_kept e = not (is_zero e.1)
+
+-- The coefficients of a column under the later numbers of their rows, in the order of these; those of value 0 are left out.
+abbrev pub moved_cells : List ℕ → List (ℕ × Number) → List (ℕ × Number)
+moved_cells ranks cells = filter is_kept (sorted_of nat_cmp (map (λ e. (slice_index ranks e.0, e.1)) cells))
+
+-- the coefficients of a column, those whose row has a name
+abbrev pub column_cells : (ℕ → Option (List ℕ)) → List ℕ → List (ℕ × Number) → List (CoefficientKey × Number)
+column_cells name column [] = []
+column_cells name column (e ∷ es) =
+    option_map_or (λ row. (record { row = row; column = column }, e.1) ∷ column_cells name column es) (name e.0) (column_cells name column es)
+
+abbrev pub all_cells : (ℕ → Option (List ℕ)) → List (List ℕ × List (ℕ × Number)) → List (CoefficientKey × Number)
+all_cells name [] = []
+all_cells name (c ∷ cs) = column_cells name c.0 c.1 ++ all_cells name cs
+
+-- each number of a coefficient is a row's
+abbrev pub all_named : (ℕ → Option (List ℕ)) → List (List ℕ × List (ℕ × Number)) → Bool
+all_named name cols = list_all (λ c. list_all (λ e. is_some (name e.0)) c.1) cols

@@ -1,0 +1,110 @@
+-- What is asked of a model. Rows and columns are numbered from 0, in byte order of their names.
+use Rattle.std.specs.Prelude.{ℕ, Bool, true, false, ◌&&◌, not, List, [], length, map, filter, position, Option, is_some, unwrap_or, slice_index_or, if◌then◌else◌}
+use Rattle.std.specs.List.{range_with_len}
+use Rattle.std.specs.Ordering.{is_eq}
+use Rattle.std.specs.FinMap as maps
+use Rattle.mpslp_decimal.specs.Decimal.{Number, zero_number, decimal_cmp, difference_of}
+use Rattle.mpslp_types.specs.Name.{same_bytes}
+use Rattle.mpslp_model_core.specs.Model.{CoefficientKey, key_cmp, Row, Column, LinearModel}
+use Rattle.mpslp_types.specs.declared.kinds.Kind.{Kind}
+use Rattle.mpslp_types.specs.declared.kinds.Kind.TheVariants.{Continuous, Integer, Semi}
+use Rattle.mpslp_types.specs.declared.kinds.Limit.{Limit}
+use Rattle.mpslp_types.specs.declared.kinds.Limit.TheVariants.{MinusInf, Finite, PlusInf}
+
+-- ---- rows and columns by their numbers
+
+abbrev pub row_names : LinearModel → List (List ℕ)
+row_names m = maps.keys m.rows
+
+abbrev pub column_names : LinearModel → List (List ℕ)
+column_names m = maps.keys m.columns
+
+abbrev pub rows_of : LinearModel → List Row
+rows_of m = maps.values m.rows
+
+abbrev pub columns_of : LinearModel → List Column
+columns_of m = maps.values m.columns
+
+abbrev pub num_rows : LinearModel → ℕ
+num_rows m = length (row_names m)
+
+abbrev pub num_columns : LinearModel → ℕ
+num_columns m = length (column_names m)
+
+abbrev pub row_name : LinearModel → ℕ → List ℕ
+row_name m i = slice_index_or (row_names m) i []
+
+abbrev pub column_name : LinearModel → ℕ → List ℕ
+column_name m j = slice_index_or (column_names m) j []
+
+-- the number of the row of this name; the objective is no row
+abbrev pub row_index : LinearModel → List ℕ → Option ℕ
+row_index m name = position (same_bytes name) (row_names m)
+
+abbrev pub column_index : LinearModel → List ℕ → Option ℕ
+column_index m name = position (same_bytes name) (column_names m)
+
+abbrev pub is_integer_column : Column → Bool
+is_integer_column column = is_integer_kind column.kind
+  where
+    is_integer_kind : Kind → Bool
+    is_integer_kind Continuous = false
+    is_integer_kind Integer = true
+    is_integer_kind Semi = false
+
+-- ---- a row by its sense, right side and range
+
+-- the ASCII letter N, L, G, E or R. A side that no value meets is in no model
+abbrev pub row_sense : Row → ℕ
+row_sense row = letter row.lower row.upper
+  where
+    letter : Limit → Limit → ℕ
+    letter MinusInf (Finite b) = 76
+    letter (Finite a) PlusInf = 71
+    letter (Finite a) (Finite b) = if is_eq (decimal_cmp a b) then 69 else 82
+    letter _ _ = 78
+
+-- the upper limit, or else the lower one, or else 0
+abbrev pub right_hand_side : Row → Number
+right_hand_side row = finite row.upper (finite row.lower zero_number)
+  where
+    finite : Limit → Number → Number
+    finite (Finite a) other = a
+    finite _ other = other
+
+-- upper minus lower where both are finite, and else 0
+abbrev pub row_range : Row → Number
+row_range row = distance row.lower row.upper
+  where
+    distance : Limit → Limit → Number
+    distance (Finite a) (Finite b) = unwrap_or (difference_of b a) zero_number
+    distance _ _ = zero_number
+
+-- ---- coefficients
+
+-- the coefficient of this row and column; one that is not there is 0
+abbrev pub coefficient_at : LinearModel → List ℕ → List ℕ → Number
+coefficient_at m row column = unwrap_or (maps.find key_cmp (record { row = row; column = column }) (maps.entries m.coefficients)) zero_number
+
+-- of a row, and not of the objective
+abbrev pub is_element : LinearModel → CoefficientKey × Number → Bool
+is_element m coefficient = not (same_bytes m.objective coefficient.0.row)
+
+abbrev pub num_elements : LinearModel → ℕ
+num_elements m = length (filter (is_element m) (maps.entries m.coefficients))
+
+-- the coefficients of rows in a column, in the order of rows
+abbrev pub column_elements : LinearModel → List ℕ → List (CoefficientKey × Number)
+column_elements m column = filter (λ coefficient. is_element m coefficient && same_bytes column coefficient.0.column) (maps.entries m.coefficients)
+
+-- each of them by the number of its row
+abbrev pub numbered_elements : LinearModel → List ℕ → List (Option ℕ × Number)
+numbered_elements m column = map (λ coefficient. (row_index m coefficient.0.row, coefficient.1)) (column_elements m column)
+
+-- whether this row has a coefficient in this column; none is 0
+abbrev pub has_coefficient : LinearModel → List ℕ → List ℕ → Bool
+has_coefficient m row column = is_some (maps.find key_cmp (record { row = row; column = column }) (maps.entries m.coefficients))
+
+-- the numbers of the columns in which this row has a coefficient, in their order
+abbrev pub row_columns : LinearModel → List ℕ → List ℕ
+row_columns m row = filter (λ j. has_coefficient m row (column_name m j)) (range_with_len 0 (num_columns m))

@@ -1,0 +1,138 @@
+//! Columns with their coefficients by the numbers of rows.
+//!
+//! The objective has the number 0, so its coefficient, where a column has one, is the first. The row of number `i` has
+//! the number `i + 1` here.
+
+ghost use Rattle.std.specs.Prelude.{◌≡◌, ◌<◌, ◌&&◌, ◌+◌, IsTrue, Some, length, suc, unwrap_or, slice_get};
+ghost use Rattle.std.specs.List.{list_all};
+ghost use Rattle.std.specs.Option.{option_copied, option_map};
+ghost use Rattle.std.specs.Ordering.{nat_cmp};
+ghost use Rattle.std.specs.FinMap.{find, is_sorted};
+ghost use Rattle.std.specs.Cmp.Lexicographic.{pointwise};
+ghost use Rattle.mpslp_decimal.specs.Decimal.{zero_number};
+ghost use Rattle.mpslp_model_core.specs.Same.{same_cell, same_named_column};
+ghost use Rattle.mpslp_model_core.specs.Columned.{row_cells, count_row_cells, column_told, columns_told};
+
+use crate::model::ModelColumn;
+use crate::sides::is_same_number;
+use mpslp_decimal::{Decimal, PackedDecimal};
+use mpslp_maps::{Query, entry_at, find_entry};
+use mpslp_types::Name;
+use std::cmp::Ordering;
+
+/// The number of a row in the model, which may be greater than those that coefficients have.
+#[derive(Clone, Copy)]
+struct RowIndex {
+    row: usize,
+}
+
+impl Query<u32> for RowIndex {
+    ghost key = { λ index. suc index.row };
+
+    fn compare(&self, other: &u32) -> Ordering {
+        (self.row as u128 + 1).cmp(&(*other as u128))
+    }
+}
+
+/// The coefficients of the column of number `j`.
+pub(crate) fn cells_at(columns: &[(Name, ModelColumn)], j: usize) -> &[(u32, PackedDecimal)]
+    requires { j < length columns.now }
+    ensures { option_map (λ column. column.1.cells.items) (slice_get columns.now j) ≡ Some result.now }
+{
+    &entry_at(columns, j).1.cells
+}
+
+/// The coefficients of rows, without that of the objective.
+pub(crate) fn row_cells(cells: &[(u32, PackedDecimal)]) -> &[(u32, PackedDecimal)]
+    requires { IsTrue (is_sorted nat_cmp cells.now) }
+    ensures { result.now ≡ row_cells cells.now }
+{
+    match cells {
+        [] => cells,
+        [first, rows @ ..] if first.0 == 0 => rows,
+        [..] => cells,
+    }
+}
+
+/// The coefficient of the objective, and 0 where there is none.
+pub(crate) fn first_value(cells: &[(u32, PackedDecimal)]) -> Decimal
+    requires { IsTrue (is_sorted nat_cmp cells.now) }
+    ensures { result ≡ unwrap_or (find nat_cmp 0 cells.now) zero_number }
+{
+    match cells {
+        [] => Decimal::zero(),
+        [first, ..] if first.0 == 0 => first.1.value(),
+        [..] => Decimal::zero(),
+    }
+}
+
+/// The coefficient of the row of this number in the model, and 0 where there is none.
+pub(crate) fn value_at(cells: &[(u32, PackedDecimal)], row: usize) -> Decimal
+    requires { IsTrue (is_sorted nat_cmp cells.now) }
+    ensures { result ≡ unwrap_or (find nat_cmp (suc row) cells.now) zero_number }
+{
+    match find_entry(cells, &RowIndex { row }) {
+        Some(value) => value.value(),
+        None => Decimal::zero(),
+    }
+}
+
+/// How many coefficients of rows the columns have.
+pub(crate) fn count_elements(columns: &[(Name, ModelColumn)]) -> u128
+    requires { IsTrue (list_all (λ column. is_sorted nat_cmp column.1.cells.items) columns.now) }
+    ensures { result ≡ count_row_cells columns.now }
+{
+    let mut count = 0;
+    for column in columns {
+        count += row_cells(&column.1.cells).len() as u128;
+    }
+    count
+}
+
+/// Whether two coefficients have the same number and the same value.
+fn is_same_cell(own: &(u32, PackedDecimal), other: &(u32, PackedDecimal)) -> bool
+    ensures { result ≡ same_cell own.now other.now }
+{
+    own.0 == other.0 && is_same_number(own.1.value(), other.1.value())
+}
+
+/// Whether the coefficients are the same.
+fn are_same_cells(own: &[(u32, PackedDecimal)], other: &[(u32, PackedDecimal)]) -> bool
+    ensures { result ≡ pointwise same_cell own.now other.now }
+{
+    for (cell, counterpart) in own.iter().zip(other) {
+        if !is_same_cell(cell, counterpart) {
+            return false;
+        }
+    }
+    own.len() == other.len()
+}
+
+/// Whether two columns have the same name, kind, bounds and coefficients.
+fn is_same_column(own: &(Name, ModelColumn), other: &(Name, ModelColumn)) -> bool
+    ensures { result ≡ same_named_column (column_told own.now) (column_told other.now) }
+{
+    own.0 == other.0
+        && (own.1.bounds.bounds() == other.1.bounds.bounds()
+            && are_same_cells(&own.1.cells, &other.1.cells))
+}
+
+/// Whether the columns are the same.
+pub(crate) fn same_columns(own: &[(Name, ModelColumn)], other: &[(Name, ModelColumn)]) -> bool
+    ensures { result ≡ pointwise same_named_column (columns_told own.now) (columns_told other.now) }
+{
+    for (column, counterpart) in own.iter().zip(other) {
+        if !is_same_column(column, counterpart) {
+            return false;
+        }
+    }
+    own.len() == other.len()
+}
+
+/// The number of the row that a coefficient's number stands for.
+pub(crate) fn row_of(number: u32) -> usize
+    requires { 0 < number }
+    ensures { result + 1 ≡ number }
+{
+    number as usize - 1
+}

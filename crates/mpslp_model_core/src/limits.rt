@@ -1,0 +1,254 @@
+//! The limits of a row, from its type, right side and range, and what may be wrong with them.
+
+ghost use Rattle.std.specs.Prelude.{◌≡◌, Some, not, is_none, false};
+ghost use Rattle.std.specs.Ordering.{is_lt};
+ghost use Rattle.std.specs.Option.{option_map_or};
+ghost use Rattle.mpslp_decimal.specs.Decimal.{decimal_cmp, is_infinite_size, size_of, sum_of, difference_of};
+ghost use Rattle.mpslp_types.specs.Limit.{is_at_most};
+ghost use Rattle.mpslp_model_core.specs.Limits.{row_definition, sides, plain_limits, ranged_limits, limits_of, has_infinite_rhs, is_large_limit, distance_passes, is_inexact, is_too_large, is_crossed};
+ghost use Rattle.mpslp_model_core.specs.WrongParts.{is_faulty_row, row_test, kind_of_row_fault};
+
+use crate::sides::RowLimits;
+use mpslp_decimal::Decimal;
+use mpslp_types::{FaultKind, Limit, RowType};
+
+/// What a row is declared by. Contracts see it as a `RowDefinition`.
+#[derive(Clone, Copy, Debug)]
+pub enum UnpackedRowDefinition {
+    /// Its type.
+    ByType(RowType),
+    /// Its lower and its upper limit.
+    ByLimits(Limit, Limit),
+}
+
+/// What may be wrong with the limits of a row, in the order in which it is told.
+#[derive(Clone, Copy)]
+pub enum RowFault {
+    /// The right side is infinite where it may not be.
+    InfiniteLimit,
+    /// A computed limit, or the distance of both, is no decimal.
+    RangeInexact,
+    /// A computed limit, or the distance of both, has size 10^20 or more.
+    LimitTooLarge,
+    /// The lower limit is above the upper one.
+    LimitsCrossed,
+}
+
+/// Finite limits, where both are there.
+fn sides(lower: Option<Decimal>, upper: Option<Decimal>) -> Option<RowLimits>
+    ensures { result ≡ sides lower upper }
+{
+    match (lower, upper) {
+        (Some(lower), Some(upper)) => Some(RowLimits {
+            lower: Limit::Finite(lower),
+            upper: Limit::Finite(upper),
+        }),
+        _ => None,
+    }
+}
+
+/// The limits by type and right side, without a range.
+pub fn plain_limits(row_type: RowType, rhs: Decimal) -> RowLimits
+    ensures { result ≡ plain_limits row_type rhs }
+{
+    let (lower, upper) = match row_type {
+        RowType::Free => (Limit::MinusInf, Limit::PlusInf),
+        RowType::AtMost => (Limit::MinusInf, Limit::of(rhs)),
+        RowType::AtLeast => (Limit::of(rhs), Limit::PlusInf),
+        RowType::Equal => (Limit::of(rhs), Limit::of(rhs)),
+    };
+    RowLimits { lower, upper }
+}
+
+/// The limits so far below and above the right side: the range counts downwards.
+fn below(rhs: Decimal, range: Decimal) -> Option<RowLimits>
+    ensures { result ≡ sides (difference_of rhs (size_of range)) (Some rhs) }
+{
+    sides(rhs.checked_sub(range.abs()), Some(rhs))
+}
+
+/// The limits where the range counts upwards.
+fn above(rhs: Decimal, range: Decimal) -> Option<RowLimits>
+    ensures { result ≡ sides (Some rhs) (sum_of rhs (size_of range)) }
+{
+    sides(Some(rhs), rhs.checked_add(range.abs()))
+}
+
+/// The limits by type, right side and range, where the computed one is a decimal.
+fn ranged_limits(row_type: RowType, rhs: Decimal, range: Decimal) -> Option<RowLimits>
+    ensures { result ≡ ranged_limits row_type rhs range }
+{
+    match row_type {
+        RowType::Free => Some(RowLimits {
+            lower: Limit::MinusInf,
+            upper: Limit::PlusInf,
+        }),
+        RowType::AtMost => below(rhs, range),
+        RowType::AtLeast => above(rhs, range),
+        RowType::Equal if range.is_negative() => below(rhs, range),
+        RowType::Equal => above(rhs, range),
+    }
+}
+
+/// The limits of a row, where they are decimals.
+pub fn limits_of(
+    definition: &UnpackedRowDefinition,
+    rhs: Decimal,
+    range: &Option<Decimal>,
+) -> Option<RowLimits>
+    ensures { result ≡ limits_of (row_definition definition.now) rhs range.now }
+{
+    match (definition, range) {
+        (UnpackedRowDefinition::ByType(row_type), None) => Some(plain_limits(*row_type, rhs)),
+        (UnpackedRowDefinition::ByType(row_type), Some(range)) => ranged_limits(
+            *row_type, rhs, *range,
+        ),
+        (UnpackedRowDefinition::ByLimits(lower, upper), _) => Some(RowLimits {
+            lower: *lower,
+            upper: *upper,
+        }),
+    }
+}
+
+/// Whether the right side is infinite where it may not be: it lies on the far side of its type, or a range or an equation
+/// needs it.
+fn has_infinite_rhs(
+    definition: &UnpackedRowDefinition,
+    rhs: Decimal,
+    range: &Option<Decimal>,
+) -> bool
+    ensures { result ≡ has_infinite_rhs (row_definition definition.now) rhs range.now }
+{
+    match definition {
+        UnpackedRowDefinition::ByType(RowType::AtMost) => {
+            rhs.is_infinite_size() && (range.is_some() || rhs.is_negative())
+        }
+        UnpackedRowDefinition::ByType(RowType::AtLeast) => {
+            rhs.is_infinite_size() && (range.is_some() || !rhs.is_negative())
+        }
+        UnpackedRowDefinition::ByType(RowType::Equal) => rhs.is_infinite_size(),
+        UnpackedRowDefinition::ByType(RowType::Free) | UnpackedRowDefinition::ByLimits(_, _) =>
+            false,
+    }
+}
+
+/// Whether the limit is finite and of size 10^20 or more.
+fn is_large_limit(limit: Limit) -> bool
+    ensures { result ≡ is_large_limit limit }
+{
+    match limit {
+        Limit::Finite(value) => value.is_infinite_size(),
+        _ => false,
+    }
+}
+
+/// Whether the limits are finite and their distance is no decimal.
+fn is_inexact_distance(limits: RowLimits) -> bool
+    ensures { result ≡ distance_passes is_none limits }
+{
+    match &limits.lower {
+        Limit::Finite(lower) => match &limits.upper {
+            Limit::Finite(upper) => upper.checked_sub(*lower).is_none(),
+            _ => false,
+        },
+        _ => false,
+    }
+}
+
+/// Whether there is a number and it has size 10^20 or more.
+fn is_large(value: Option<Decimal>) -> bool
+    ensures { result ≡ option_map_or is_infinite_size value false }
+{
+    match value {
+        Some(value) => value.is_infinite_size(),
+        None => false,
+    }
+}
+
+/// Whether the limits are finite and their distance has size 10^20 or more.
+fn is_large_distance(limits: RowLimits) -> bool
+    ensures { result ≡ distance_passes (λ d. option_map_or is_infinite_size d false) limits }
+{
+    match &limits.lower {
+        Limit::Finite(lower) => match &limits.upper {
+            Limit::Finite(upper) => is_large(upper.checked_sub(*lower)),
+            _ => false,
+        },
+        _ => false,
+    }
+}
+
+/// Whether a computed limit or the distance is no decimal.
+fn is_inexact(limits: &Option<RowLimits>) -> bool
+    ensures { result ≡ is_inexact limits.now }
+{
+    match limits {
+        Some(limits) => is_inexact_distance(*limits),
+        None => true,
+    }
+}
+
+/// Whether a computed limit or the distance has size 10^20 or more.
+fn is_too_large(limits: &Option<RowLimits>) -> bool
+    ensures { result ≡ is_too_large limits.now }
+{
+    match limits {
+        Some(limits) => {
+            is_large_limit(limits.lower)
+                || (is_large_limit(limits.upper) || is_large_distance(*limits))
+        }
+        None => false,
+    }
+}
+
+/// Whether the lower limit is above the upper one.
+fn is_crossed(limits: &Option<RowLimits>) -> bool
+    ensures { result ≡ is_crossed limits.now }
+{
+    match limits {
+        Some(limits) => !limits.lower.is_at_most(limits.upper),
+        None => false,
+    }
+}
+
+/// Whether anything is wrong with a row of this form, right side and range. Its limits are built once.
+pub fn is_faulty_row(
+    definition: &UnpackedRowDefinition,
+    rhs: Decimal,
+    range: &Option<Decimal>,
+) -> bool
+    ensures { result ≡ is_faulty_row (row_definition definition.now) rhs range.now }
+{
+    let limits = limits_of(definition, rhs, range);
+    has_infinite_rhs(definition, rhs, range)
+        || (is_inexact(&limits) || (is_too_large(&limits) || is_crossed(&limits)))
+}
+
+/// Whether this is wrong with a row of this form, right side and range.
+pub fn row_has(
+    fault: RowFault,
+    definition: &UnpackedRowDefinition,
+    rhs: Decimal,
+    range: &Option<Decimal>,
+) -> bool
+    ensures { result ≡ row_test fault (row_definition definition.now) rhs range.now }
+{
+    match fault {
+        RowFault::InfiniteLimit => has_infinite_rhs(definition, rhs, range),
+        RowFault::RangeInexact => is_inexact(&limits_of(definition, rhs, range)),
+        RowFault::LimitTooLarge => is_too_large(&limits_of(definition, rhs, range)),
+        RowFault::LimitsCrossed => is_crossed(&limits_of(definition, rhs, range)),
+    }
+}
+
+/// The kind of a fault of a row.
+pub fn kind_of_row_fault(fault: RowFault) -> FaultKind
+    ensures { result ≡ kind_of_row_fault fault }
+{
+    match fault {
+        RowFault::InfiniteLimit => FaultKind::InfiniteLimit,
+        RowFault::RangeInexact => FaultKind::RangeInexact,
+        RowFault::LimitTooLarge => FaultKind::LimitTooLarge,
+        RowFault::LimitsCrossed => FaultKind::LimitsCrossed,
+    }
+}

@@ -1,0 +1,427 @@
+//! Models, and what is asked of them.
+
+ghost use Rattle.std.specs.Prelude.{◌≡◌, ◌<◌, IfOk, IsTrue, Some, length, position, slice_get, unwrap_or, if◌then◌else◌};
+ghost use Rattle.std.specs.Option.{option_map};
+ghost use Rattle.mpslp_decimal.specs.Decimal.{negated, zero_number, decimal_cmp, difference_of};
+ghost use Rattle.std.specs.Bool.{Decides};
+ghost use Rattle.std.specs.Ordering.{is_eq};
+ghost use Rattle.std.specs.FinMap.{is_sorted};
+ghost use Rattle.mpslp_types.specs.Name.{same_bytes, bytes_cmp};
+ghost use Rattle.mpslp_model_core.specs.Same.{IsSameObjective};
+ghost use Rattle.mpslp_model_core.specs.ModelParts.{linear_model, AreModelParts};
+ghost use Rattle.mpslp_model_core.specs.Views.{row_names, column_names, rows_of, columns_of, num_rows, num_columns, num_elements, row_name, column_name, row_index, column_index, row_sense, right_hand_side, row_range, is_integer_column, coefficient_at, column_elements, numbered_elements, row_columns};
+
+use crate::by_row::{columns_by_row, list_of};
+use crate::columns::{
+    cells_at, count_elements, first_value, row_cells, row_of, same_columns, value_at,
+};
+use crate::packed::{PackedColumn, PackedRow};
+use crate::sides::{ColumnBounds, RowLimits};
+use mpslp_decimal::laws::each_value_is_a_decimal;
+use mpslp_decimal::{Decimal, PackedDecimal};
+use mpslp_maps::{entry_at, index_of_entry};
+use mpslp_types::{Kind, Limit, Name, Sense};
+use std::alloc::{AllocError, Global};
+use std::cmp::Ordering;
+use std::marker;
+
+/// Whether the rows are the same.
+fn same_rows(a: &[(Name, PackedRow)], b: &[(Name, PackedRow)]) -> bool
+    ensures { Decides result (a.now ≡ b.now) }
+{
+    a == b
+}
+
+/// A column of a model: its kind and bounds, and its coefficients by the numbers of rows, in their order. The objective has
+/// the number 0, and the row of number `i` has `i + 1` here.
+#[derive(Debug, Drop)]
+pub struct ModelColumn {
+    /// Its kind and bounds.
+    pub bounds: PackedColumn,
+    /// Its coefficients, none of which is 0.
+    pub cells: Vec<(u32, PackedDecimal)>,
+}
+
+/// What a [`Model`] is made of.
+#[derive(Debug, Drop)]
+pub struct ModelParts {
+    /// Whether the least or the greatest value is wanted.
+    pub sense: Sense,
+    /// The name of the objective.
+    pub objective: Name,
+    /// The constant of the objective.
+    pub constant: Decimal,
+    /// The rows in byte order of their names.
+    pub rows: Vec<(Name, PackedRow)>,
+    /// The columns in byte order of their names.
+    pub columns: Vec<(Name, ModelColumn)>,
+}
+
+/// A linear or mixed-integer model. Contracts see it as the value that it is, and it is always sound: sides that values
+/// meet, bounds that suit a column's kind, a column at least, and each coefficient not 0 and of a row, or the objective, and
+/// a column that are there.
+///
+/// Rows and columns are numbered from 0, in byte order of their names. The objective is no row.
+#[derive(Debug, Drop)]
+pub struct Model {
+    pub(crate) parts: ModelParts,
+    /// The numbers of the columns that have a coefficient in each row, rising.
+    by_row: Vec<Vec<u32>>,
+}
+
+impl marker::Model for Model {
+    ghost use Rattle.mpslp_model_core.specs.Model.{LinearModel};
+    ghost use Rattle.mpslp_model_core.specs.ModelCode.{linear_model_code};
+
+    ghost Value = { LinearModel };
+
+    ghost coded = { linear_model_code };
+
+    ghost use Rattle.mpslp_model_core.specs.ModelParts.{linear_model};
+    ghost use Rattle.mpslp_model_core.specs.ByRow.{AreIndexed};
+
+    ghost view = { λ m. linear_model m.parts };
+
+    ghost invariant = { λ m. AreIndexed m.parts m.by_row.items };
+}
+
+/// The number of the entry of this name. Entries stand in the order of their names.
+fn index_of<X>(entries: &[(Name, X)], name: &[u8]) -> Option<usize>
+    requires { IsTrue (is_sorted bytes_cmp entries.now) }
+    ensures { result ≡ position (λ entry. same_bytes name.now entry.0) entries.now }
+{
+    index_of_entry(entries, &name)
+}
+
+/// The letter of a row whose limits are both finite.
+fn letter_between(lower: &Decimal, upper: &Decimal) -> u8
+    ensures { result ≡ (if is_eq (decimal_cmp lower.now upper.now) then 69 else 82) }
+{
+    each_value_is_a_decimal(*lower);
+    each_value_is_a_decimal(*upper);
+    match lower.cmp(upper) {
+        Ordering::Less => b'R',
+        Ordering::Equal => b'E',
+        Ordering::Greater => b'R',
+    }
+}
+
+/// The letter of a row.
+fn sense_letter(row: RowLimits) -> u8
+    ensures { result ≡ row_sense row }
+{
+    match &row.lower {
+        Limit::MinusInf => match &row.upper {
+            Limit::Finite(_) => b'L',
+            _ => b'N',
+        },
+        Limit::Finite(lower) => match &row.upper {
+            Limit::Finite(upper) => letter_between(lower, upper),
+            Limit::PlusInf => b'G',
+            Limit::MinusInf => b'N',
+        },
+        Limit::PlusInf => b'N',
+    }
+}
+
+/// The upper limit of a row, or else the lower one, or else 0.
+fn rhs_of(row: RowLimits) -> Decimal
+    ensures { result ≡ right_hand_side row }
+{
+    match (row.lower, row.upper) {
+        (_, Limit::Finite(upper)) => upper,
+        (Limit::Finite(lower), _) => lower,
+        _ => Decimal::zero(),
+    }
+}
+
+/// Upper minus lower.
+fn distance(lower: &Decimal, upper: &Decimal) -> Decimal
+    ensures { result ≡ unwrap_or (difference_of upper.now lower.now) zero_number }
+{
+    match upper.checked_sub(*lower) {
+        Some(distance) => distance,
+        None => Decimal::zero(),
+    }
+}
+
+/// Upper minus lower where both are finite, and else 0.
+fn range_between(row: RowLimits) -> Decimal
+    ensures { result ≡ row_range row }
+{
+    match &row.lower {
+        Limit::Finite(lower) => match &row.upper {
+            Limit::Finite(upper) => distance(lower, upper),
+            _ => Decimal::zero(),
+        },
+        _ => Decimal::zero(),
+    }
+}
+
+impl Model {
+    /// The model of these parts, with lists of the columns that have a coefficient in each row.
+    ///
+    /// # Errors
+    ///
+    /// [`AllocError`] where there is no memory for the lists, or there are more than 4,294,967,296 columns.
+    pub fn of_parts(alloc: Global, parts: ModelParts) -> Result<Model, AllocError>
+        requires { AreModelParts parts }
+        ensures { IfOk result (λ model. model ≡ linear_model parts) }
+    {
+        let by_row = columns_by_row(alloc, parts.rows.as_slice().len(), &parts.columns)?;
+        Ok(Model { parts, by_row })
+    }
+
+    /// How many rows there are; the objective is none.
+    pub fn num_rows(&self) -> usize
+        ensures { result ≡ num_rows self.now }
+    {
+        self.parts.rows.as_slice().len()
+    }
+
+    /// How many columns there are.
+    pub fn num_cols(&self) -> usize
+        ensures { result ≡ num_columns self.now }
+    {
+        self.parts.columns.as_slice().len()
+    }
+
+    /// How many coefficients of rows are not 0; the objective's are not counted.
+    pub fn num_elements(&self) -> u128
+        ensures { result ≡ num_elements self.now }
+    {
+        count_elements(&self.parts.columns)
+    }
+
+    /// The name of the objective.
+    pub fn objective_name(&self) -> &Name
+        ensures { result.now ≡ self.now.objective }
+    {
+        &self.parts.objective
+    }
+
+    /// Whether the least or the greatest value is wanted.
+    pub fn objective_sense(&self) -> Sense
+        ensures { result ≡ self.now.sense }
+    {
+        self.parts.sense
+    }
+
+    /// The constant of the objective.
+    pub fn objective_constant(&self) -> Decimal
+        ensures { result ≡ self.now.constant }
+    {
+        self.parts.constant
+    }
+
+    /// The negative of the constant.
+    pub fn objective_offset(&self) -> Decimal
+        ensures { result ≡ negated self.now.constant }
+    {
+        self.parts.constant.negate()
+    }
+
+    /// The name of the row of number `i`.
+    pub fn row_name(&self, i: usize) -> &Name
+        requires { i < num_rows self.now }
+        ensures { slice_get (row_names self.now) i ≡ Some result.now }
+    {
+        &entry_at(&self.parts.rows, i).0
+    }
+
+    /// The name of the column of number `j`.
+    pub fn column_name(&self, j: usize) -> &Name
+        requires { j < num_columns self.now }
+        ensures { slice_get (column_names self.now) j ≡ Some result.now }
+    {
+        &entry_at(&self.parts.columns, j).0
+    }
+
+    /// The number of the row of this name. The objective has none.
+    pub fn row_index(&self, name: &[u8]) -> Option<usize>
+        ensures { result ≡ row_index self.now name.now }
+    {
+        index_of(&self.parts.rows, name)
+    }
+
+    /// The number of the column of this name.
+    pub fn column_index(&self, name: &[u8]) -> Option<usize>
+        ensures { result ≡ column_index self.now name.now }
+    {
+        index_of(&self.parts.columns, name)
+    }
+
+    /// The limits of the row of number `i`.
+    fn row_limits(&self, i: usize) -> RowLimits
+        requires { i < num_rows self.now }
+        ensures { slice_get (rows_of self.now) i ≡ Some result }
+    {
+        entry_at(&self.parts.rows, i).1.limits()
+    }
+
+    /// The kind and bounds of the column of number `j`.
+    fn column_bounds(&self, j: usize) -> ColumnBounds
+        requires { j < num_columns self.now }
+        ensures { slice_get (columns_of self.now) j ≡ Some result }
+    {
+        entry_at(&self.parts.columns, j).1.bounds.bounds()
+    }
+
+    /// The lower limit of the row of number `i`.
+    pub fn row_lower(&self, i: usize) -> Limit
+        requires { i < num_rows self.now }
+        ensures { option_map (λ row. row.lower) (slice_get (rows_of self.now) i) ≡ Some result }
+    {
+        self.row_limits(i).lower
+    }
+
+    /// The upper limit of the row of number `i`.
+    pub fn row_upper(&self, i: usize) -> Limit
+        requires { i < num_rows self.now }
+        ensures { option_map (λ row. row.upper) (slice_get (rows_of self.now) i) ≡ Some result }
+    {
+        self.row_limits(i).upper
+    }
+
+    /// How the row of number `i` is limited, by a letter: `N` not at all, `L` from above, `G` from below, `E` to one value,
+    /// `R` to the values between two.
+    pub fn row_sense(&self, i: usize) -> u8
+        requires { i < num_rows self.now }
+        ensures { option_map row_sense (slice_get (rows_of self.now) i) ≡ Some result }
+    {
+        sense_letter(self.row_limits(i))
+    }
+
+    /// The upper limit of the row of number `i` if it is finite, or else the lower one, or else 0.
+    pub fn right_hand_side(&self, i: usize) -> Decimal
+        requires { i < num_rows self.now }
+        ensures { option_map right_hand_side (slice_get (rows_of self.now) i) ≡ Some result }
+    {
+        rhs_of(self.row_limits(i))
+    }
+
+    /// How far the limits of the row of number `i` lie apart, and 0 where not both are finite.
+    pub fn row_range(&self, i: usize) -> Decimal
+        requires { i < num_rows self.now }
+        ensures { option_map row_range (slice_get (rows_of self.now) i) ≡ Some result }
+    {
+        range_between(self.row_limits(i))
+    }
+
+    /// The lower bound of the column of number `j`.
+    pub fn col_lower(&self, j: usize) -> Limit
+        requires { j < num_columns self.now }
+        ensures { option_map (λ column. column.lower) (slice_get (columns_of self.now) j) ≡ Some result }
+    {
+        self.column_bounds(j).lower
+    }
+
+    /// The upper bound of the column of number `j`.
+    pub fn col_upper(&self, j: usize) -> Limit
+        requires { j < num_columns self.now }
+        ensures { option_map (λ column. column.upper) (slice_get (columns_of self.now) j) ≡ Some result }
+    {
+        self.column_bounds(j).upper
+    }
+
+    /// Which values the column of number `j` may take within its bounds.
+    pub fn column_kind(&self, j: usize) -> Kind
+        requires { j < num_columns self.now }
+        ensures { option_map (λ column. column.kind) (slice_get (columns_of self.now) j) ≡ Some result }
+    {
+        self.column_bounds(j).kind
+    }
+
+    /// Whether the column of number `j` takes whole numbers alone.
+    pub fn is_integer(&self, j: usize) -> bool
+        requires { j < num_columns self.now }
+        ensures { option_map is_integer_column (slice_get (columns_of self.now) j) ≡ Some result }
+    {
+        match self.column_bounds(j).kind {
+            Kind::Integer => true,
+            Kind::Continuous | Kind::Semi => false,
+        }
+    }
+
+    /// The coefficient of the objective in the column of number `j`.
+    pub fn objective_coefficient(&self, j: usize) -> Decimal
+        requires { j < num_columns self.now }
+        ensures { result ≡ coefficient_at self.now self.now.objective (column_name self.now j) }
+    {
+        first_value(cells_at(&self.parts.columns, j))
+    }
+
+    /// The coefficient of the row of number `i` in the column of number `j`.
+    pub fn coefficient(&self, i: usize, j: usize) -> Decimal
+        requires row { i < num_rows self.now }
+        requires column { j < num_columns self.now }
+        ensures { result ≡ coefficient_at self.now (row_name self.now i) (column_name self.now j) }
+    {
+        value_at(cells_at(&self.parts.columns, j), i)
+    }
+
+    /// Whether the parts beside rows, columns and coefficients are the same.
+    fn has_same_objective(&self, other: &Model) -> bool
+        ensures { Decides result (IsSameObjective self.now other.now) }
+    {
+        self.parts.sense == other.parts.sense
+            && self.parts.objective == other.parts.objective
+            && self.parts.constant == other.parts.constant
+    }
+
+    /// Whether this is the same model: its sense, the objective's name and constant, the names of rows and columns, their
+    /// limits, bounds and kinds, and each coefficient. Numbers are compared by value.
+    pub fn same(&self, other: &Model) -> bool
+        ensures { Decides result (self.now ≡ other.now) }
+    {
+        self.has_same_objective(other)
+            && (same_rows(&self.parts.rows, &other.parts.rows)
+                && same_columns(&self.parts.columns, &other.parts.columns))
+    }
+
+    /// How many coefficients of rows in the column of number `j` are not 0. It takes constant time and no memory.
+    pub fn column_len(&self, j: usize) -> usize
+        requires { j < num_columns self.now }
+        ensures { result ≡ length (column_elements self.now (column_name self.now j)) }
+    {
+        row_cells(cells_at(&self.parts.columns, j)).len()
+    }
+
+    /// The coefficient of number `k` among those of rows that are not 0 in the column of number `j`, in the order of rows: the
+    /// row's number, and the value. It takes constant time and no memory.
+    pub fn entry(&self, j: usize, k: usize) -> (usize, Decimal)
+        requires column { j < num_columns self.now }
+        requires entry { k < length (column_elements self.now (column_name self.now j)) }
+        ensures { slice_get (numbered_elements self.now (column_name self.now j)) k ≡ Some (Some result.0, result.1) }
+    {
+        let cell = entry_at(row_cells(cells_at(&self.parts.columns, j)), k);
+        (row_of(cell.0), cell.1.value())
+    }
+    /// The columns that have a coefficient in the row of number `i`.
+    fn columns_of_row(&self, i: usize) -> &[u32]
+        requires { i < num_rows self.now }
+        ensures { result.now ≡ row_columns self.now (row_name self.now i) }
+    {
+        list_of(&self.by_row, i)
+    }
+
+    /// In how many columns the row of number `i` has a coefficient that is not 0. It takes constant time and no memory.
+    pub fn row_len(&self, i: usize) -> usize
+        requires { i < num_rows self.now }
+        ensures { result ≡ length (row_columns self.now (row_name self.now i)) }
+    {
+        self.columns_of_row(i).len()
+    }
+
+    /// The coefficient of number `k` among those of the row of number `i` that are not 0, in the order of columns: the
+    /// column's number, and the value. It takes no memory, and a search by halves in that column.
+    pub fn row_entry(&self, i: usize, k: usize) -> (usize, Decimal)
+        requires row { i < num_rows self.now }
+        requires entry { k < length (row_columns self.now (row_name self.now i)) }
+        ensures column { slice_get (row_columns self.now (row_name self.now i)) k ≡ Some result.0 }
+        ensures value { result.1 ≡ coefficient_at self.now (row_name self.now i) (column_name self.now result.0) }
+    {
+        let j = self.columns_of_row(i)[k] as usize;
+        (j, self.coefficient(i, j))
+    }
+}

@@ -1,0 +1,81 @@
+-- Lines that follow others: what they declare, and that they have a good form.
+use Rattle.std.proofs.Common.{◌≡◌, refl, ap, ◌∙◌, ℕ, List, [], ◌∷◌, ◌++◌, Bool, true, map}
+use Rattle.std.specs.Prelude.{◌&&◌, not}
+use Rattle.std.specs.List.{flat_map, list_all}
+use Rattle.std.specs.Cmp.{first_so, second_so}
+use Rattle.mpslp_builder.specs.Declaration.{Declarations, Draft, with_declarations}
+use Rattle.mpslp_model_core.specs.Lists.{is_nonempty, those_of}
+use Rattle.mpslp_types.specs.declared.faults.FaultKind.{FaultKind}
+use Rattle.mpslp_types.specs.declared.faults.FaultKind.TheVariants.{LineTooLong, BadByte}
+use Rattle.mpslp_types.proofs.BoolLemmas.{both_so}
+use Rattle.mpslp_lines.specs.LegalLine.{has_legal_length, is_legal_byte}
+use Rattle.mpslp_lines.proofs.HeldLemmas.{later_tests}
+use Rattle.mpslp_lines.proofs.FirstFaultLemmas.{legal-only}
+use Rattle.mpslp_mps.specs.Line.{LineContent, content_of, outside_comment, is_legal_line}
+use Rattle.mpslp_mps.specs.Context.{Context, context_of}
+use Rattle.mpslp_mps.specs.LineDeclarations.{line_declares}
+use Rattle.mpslp_mps.specs.LineFault.{item_tests, line_tests}
+use Rattle.mpslp_mps.specs.MpsText.{declared_at, is_well_formed, lines_in_context_after}
+
+-- the faults of the form of what is read of a line
+abbrev pub form_faults : Context → Draft → LineContent → List FaultKind
+form_faults context earlier item = those_of (item_tests context earlier item)
+
+-- what items declare after these, which declared `earlier`; and whether they have a good form there
+abbrev pub declared_items : List LineContent → Draft → List LineContent → Declarations
+declared_items before earlier [] = []
+declared_items before earlier (item ∷ items) =
+    line_declares (context_of before) earlier item ++ declared_items (before ++ item ∷ []) (with_declarations earlier (line_declares (context_of before) earlier item)) items
+
+abbrev pub are_well_formed : List LineContent → Draft → List LineContent → Bool
+are_well_formed before earlier [] = true
+are_well_formed before earlier (item ∷ items) =
+    not (is_nonempty (form_faults (context_of before) earlier item)) && are_well_formed (before ++ item ∷ []) (with_declarations earlier (line_declares (context_of before) earlier item)) items
+
+pub no_faults : (faults : List FaultKind) → not (is_nonempty faults) ≡ true → faults ≡ []
+no_faults [] h = refl
+no_faults (fault ∷ faults) h = cc
+
+-- ---- lines, and what is read of them
+
+pub lines-declare : (before : List LineContent) (earlier : Draft) (lines : List (List ℕ)) → flat_map declared_at (lines_in_context_after before earlier lines) ≡ declared_items before earlier (map content_of lines)
+lines-declare before earlier [] = refl
+lines-declare before earlier (line ∷ lines) =
+    let here = line_declares (context_of before) earlier (content_of line) in
+    ap (λ (more : Declarations). here ++ more) (lines-declare (before ++ content_of line ∷ []) (with_declarations earlier here) lines)
+
+abbrev are_good : List LineContent → Draft → List (List ℕ) → Bool
+are_good before earlier lines = list_all is_well_formed (lines_in_context_after before earlier lines)
+
+pub item-form : (context : Context) (earlier : Draft) (line : List ℕ) → those_of (line_tests context earlier line) ≡ [] → form_faults context earlier (content_of line) ≡ []
+item-form context earlier line h =
+    let tests = item_tests context earlier (content_of line) in
+    let bytes = not (list_all is_legal_byte (outside_comment line)) in
+    later_tests bytes BadByte tests (later_tests (not (has_legal_length line)) LineTooLong ((bytes, BadByte) ∷ tests) h)
+
+-- where lines have a good form, so has what is read of them
+pub items-good : (before : List LineContent) (earlier : Draft) (lines : List (List ℕ)) → are_good before earlier lines ≡ true → are_well_formed before earlier (map content_of lines) ≡ true
+items-good before earlier [] h = refl
+items-good before earlier (line ∷ lines) h =
+    let item = content_of line in
+    let next = with_declarations earlier (line_declares (context_of before) earlier item) in
+    let forms = those_of (line_tests (context_of before) earlier line) in
+    let more = are_good (before ++ item ∷ []) next lines in
+    both_so (not (is_nonempty (form_faults (context_of before) earlier item))) (are_well_formed (before ++ item ∷ []) next (map content_of lines))
+    (ap (λ (faults : List FaultKind). not (is_nonempty faults)) (item-form (context_of before) earlier line (no_faults forms (first_so (not (is_nonempty forms)) more h))))
+    (items-good (before ++ item ∷ []) next lines (second_so (not (is_nonempty forms)) more h))
+
+-- and conversely, where the lines have legal lengths and bytes
+pub lines-good : (before : List LineContent) (earlier : Draft) (lines : List (List ℕ)) → list_all is_legal_line lines ≡ true → are_well_formed before earlier (map content_of lines) ≡ true → are_good before earlier lines ≡ true
+lines-good before earlier [] legal h = refl
+lines-good before earlier (line ∷ lines) legal h =
+    let item = content_of line in
+    let next = with_declarations earlier (line_declares (context_of before) earlier item) in
+    let forms = form_faults (context_of before) earlier item in
+    let more = are_well_formed (before ++ item ∷ []) next (map content_of lines) in
+    let here = first_so (is_legal_line line) (list_all is_legal_line lines) legal in
+    let only = legal-only line (outside_comment line) (item_tests (context_of before) earlier item) (first_so (has_legal_length line) (list_all is_legal_byte (outside_comment line)) here)
+    (second_so (has_legal_length line) (list_all is_legal_byte (outside_comment line)) here) in
+    both_so (not (is_nonempty (those_of (line_tests (context_of before) earlier line)))) (are_good (before ++ item ∷ []) next lines)
+    (ap (λ (faults : List FaultKind). not (is_nonempty faults)) only ∙ first_so (not (is_nonempty forms)) more h)
+    (lines-good (before ++ item ∷ []) next lines (second_so (is_legal_line line) (list_all is_legal_line lines) legal) (second_so (not (is_nonempty forms)) more h))

@@ -1,0 +1,205 @@
+-- The first fault of the right sides of a line.
+use Rattle.std.proofs.Common.{◌≡◌, refl, sym, ap, subst, ◌∙◌, ℕ, List, [], ◌∷◌, ◌++◌, Bool, true, false, not, cond}
+use Rattle.std.specs.Prelude.{◌&&◌, ◌||◌, Option, Some, None, is_some, MatchResult}
+use Rattle.std.specs.Option.{option_map_or}
+use Rattle.std.specs.Cmp.{second_so}
+use Rattle.mpslp_decimal.specs.Decimal.{Number}
+use Rattle.mpslp_types.specs.Name.{same_bytes}
+use Rattle.mpslp_builder.specs.Declaration.{RowDefinition, by_type, by_limits, declare_rhs, Draft, with_declaration, with_declarations, at_name, has_name, has_row, is_objective, is_free_definition, is_free_row, is_definition_by_limits, is_row_by_limits, rhs_declared}
+use Rattle.mpslp_types.specs.declared.faults.FaultKind.{FaultKind}
+use Rattle.mpslp_types.specs.declared.faults.FaultKind.TheVariants as kinds
+use Rattle.mpslp_types.proofs.BoolLemmas.{or_right}
+use Rattle.mpslp_builder.proofs.SlotLemmas.{has-put, same_name}
+use Rattle.mpslp_lines.specs.Declaring.{declared_fault}
+use Rattle.mpslp_lines.specs.LineAnswer.{LineResult, IsErrorOf}
+use Rattle.mpslp_mps.specs.VectorDeclared.{HasMpsSides}
+use Rattle.mpslp_lines.specs.declared.errors.LineError.{LineError}
+use Rattle.mpslp_lines.specs.declared.errors.LineError.TheVariants.{Fault, OutOfMemory}
+use Rattle.mpslp_lines.proofs.LeastLemmas.{earlier_of}
+use Rattle.mpslp_lines.proofs.RefusedLemmas.{declared-one, declared-append}
+
+-- ---- one right side
+
+-- a right side of this row is declared
+abbrev is_sided : Draft → List ℕ → Bool
+is_sided all row = has_name all.rhs_values row || (is_row_by_limits all row || (is_objective all row && is_some all.constant))
+
+-- the kind of the fault, by whether the row is there and has a right side
+abbrev pub side_kind : Bool → Bool → Option FaultKind
+side_kind there sided = cond (not there) (Some kinds.UnknownRow) (cond sided (Some kinds.DuplicateRhs) None)
+
+free_there : (o : Option RowDefinition) → option_map_or is_free_definition o false ≡ true → is_some o ≡ true
+free_there None h = cc
+free_there (Some form) h = refl
+
+free_unlimited : (o : Option RowDefinition) → option_map_or is_free_definition o false ≡ true → option_map_or is_definition_by_limits o false ≡ false
+free_unlimited None h = cc
+free_unlimited (Some (by_type type)) h = refl
+free_unlimited (Some (by_limits lower upper)) h = cc
+
+free_row : (all : Draft) (row : List ℕ) → is_free_row all row ≡ true → has_row all row ≡ true
+free_row all row h = or_right (is_objective all row) (has_name all.rows row) (free_there (at_name all.rows row) h)
+
+none_so : (b : Bool) (o : Option Number) → o ≡ None → (b && is_some o) ≡ false
+none_so true o h = ap is_some h
+none_so false o h = refl
+
+-- rows of type N have no right sides
+abbrev pub AreLimited : Draft → Type 0
+AreLimited all = (row : List ℕ) → is_free_row all row ≡ true → is_sided all row ≡ false
+
+limited-from : (all : Draft) → ((row : List ℕ) → is_free_row all row ≡ true → has_name all.rhs_values row ≡ false) → all.constant ≡ None → AreLimited all
+limited-from all limited constant row h =
+    let given = limited row h in
+    let limits = free_unlimited (at_name all.rows row) h in
+    let objective = none_so (is_objective all row) all.constant constant in
+    λ i. given i || (limits i || objective i)
+
+pub limited : (all : Draft) → HasMpsSides all → AreLimited all
+limited all sides = limited-from all sides.limited sides.constant
+
+-- of one right side
+pub side_fault : (all : Draft) (row : List ℕ) (value : Number) → AreLimited all
+    → declared_fault all (rhs_declared all row value) ≡ side_kind (has_row all row) (is_sided all row)
+side_fault all row value free_unsided =
+    elim (is_free_row all row) as (λ b. is_free_row all row ≡ b
+    → declared_fault all (cond b [] (declare_rhs row value ∷ [])) ≡ side_kind (has_row all row) (is_sided all row)) [
+      | true ↦ λ free. let there = free_row all row free in let sided = free_unsided row free in λ i. side_kind (sym there i) (sym sided i)
+      | false ↦ λ _.
+          declared-one all (declare_rhs row value) refl
+    ] refl
+
+-- ---- after a right side
+
+abbrev pub after_side : Draft → List ℕ → Number → Draft
+after_side all row value = with_declarations all (rhs_declared all row value)
+
+-- right sides leave the rows as they are
+same_row : (all : Draft) (row : List ℕ) (value : Number) (other : List ℕ) → has_row (after_side all row value) other ≡ has_row all other
+same_row all row value other =
+    elim (is_free_row all row) as (λ b. has_row (with_declarations all (cond b [] (declare_rhs row value ∷ []))) other ≡ has_row all other) [ true ↦ refl | false ↦ refl ]
+
+pub same_free : (all : Draft) (row : List ℕ) (value : Number) (other : List ℕ) → is_free_row (after_side all row value) other ≡ is_free_row all other
+same_free all row value other =
+    elim (is_free_row all row) as (λ b. is_free_row (with_declarations all (cond b [] (declare_rhs row value ∷ []))) other ≡ is_free_row all other) [ true ↦ refl | false ↦ refl ]
+
+same_side : (all : Draft) (row : List ℕ) (value : Number) (other : List ℕ) (second : Number)
+    → rhs_declared (after_side all row value) other second ≡ rhs_declared all other second
+same_side all row value other second = ap (λ (b : Bool). cond b [] (declare_rhs other second ∷ [])) (same_free all row value other)
+
+side_known : (all : Draft) (row : List ℕ) (value : Number) → HasMpsSides all → has_row all row ≡ true → (q : List ℕ)
+    → has_name (with_declaration all (declare_rhs row value)).rhs_values q ≡ true → has_row all q ≡ true
+side_known all row value sides there q h = by (same_bytes q row) refl (sym (has-put q row value all.rhs_values) ∙ h)
+  where
+    by : (b : Bool) → same_bytes q row ≡ b → (b || has_name all.rhs_values q) ≡ true → has_row all q ≡ true
+    by true same k = ap (has_row all) (same_name q row same) ∙ there
+    by false same k = sides.known q k
+
+side_limited : (all : Draft) (row : List ℕ) (value : Number) → HasMpsSides all → is_free_row all row ≡ false → (q : List ℕ)
+    → is_free_row all q ≡ true → has_name (with_declaration all (declare_rhs row value)).rhs_values q ≡ false
+side_limited all row value sides limited q h = has-put q row value all.rhs_values ∙ by (same_bytes q row) refl
+  where
+    by : (b : Bool) → same_bytes q row ≡ b → (b || has_name all.rhs_values q) ≡ false
+    by true same = let free = ap (is_free_row all) (sym (same_name q row same)) ∙ h in cc
+    by false same = sides.limited q h
+
+limited-after : (all : Draft) (row : List ℕ) (value : Number) → HasMpsSides all → AreLimited (after_side all row value)
+limited-after all row value sides =
+    elim (is_free_row all row) as (λ b. is_free_row all row ≡ b → AreLimited (with_declarations all (cond b [] (declare_rhs row value ∷ [])))) [
+      | true ↦ λ _. limited all sides
+      | false ↦ λ given. limited-from (with_declaration all (declare_rhs row value)) (side_limited all row value sides given) sides.constant
+    ] refl
+
+pub sides-after : (all : Draft) (row : List ℕ) (value : Number) → HasMpsSides all → has_row all row ≡ true → HasMpsSides (after_side all row value)
+sides-after all row value sides there =
+    elim (is_free_row all row) as (λ b. is_free_row all row ≡ b → HasMpsSides (with_declarations all (cond b [] (declare_rhs row value ∷ [])))) [
+      | true ↦ λ _. sides
+      | false ↦ λ limited. record { known = side_known all row value sides there; limited = side_limited all row value sides limited; constant = sides.constant }
+    ] refl
+
+-- ---- two right sides
+
+abbrev both : Draft → List ℕ → Number → List ℕ → Number → Option FaultKind
+both all row value other second = declared_fault all (rhs_declared all row value ++ rhs_declared all other second)
+
+both_fault : (all : Draft) (row : List ℕ) (value : Number) (other : List ℕ) (second : Number) → HasMpsSides all
+    → both all row value other second ≡ earlier_of (side_kind (has_row all row) (is_sided all row)) (side_kind (has_row all other) (is_sided (after_side all row value) other))
+both_fault all row value other second sides =
+    let mid = after_side all row value in
+    declared-append (rhs_declared all row value) (rhs_declared all other second) all
+    ∙ (λ i. earlier_of (side_fault all row value (limited all sides) i) (declared_fault mid (sym (same_side all row value other second) i)))
+    ∙ (λ i. earlier_of (side_kind (has_row all row) (is_sided all row)) (side_fault mid other second (limited-after all row value sides) i))
+    ∙ (λ i. earlier_of (side_kind (has_row all row) (is_sided all row)) (side_kind (same_row all row value other i) (is_sided mid other)))
+
+pub row-unknown : (all : Draft) (row : List ℕ) (value : Number) (other : List ℕ) (second : Number) → HasMpsSides all → (has_row all row && has_row all other) ≡ false
+    → both all row value other second ≡ Some kinds.UnknownRow
+row-unknown all row value other second sides h =
+    both_fault all row value other second sides ∙ by (has_row all row) (is_sided all row) (has_row all other) (is_sided (after_side all row value) other) h
+  where
+    by : (a b c d : Bool) → (a && c) ≡ false → earlier_of (side_kind a b) (side_kind c d) ≡ Some kinds.UnknownRow
+    by true b true d k = cc
+    by true true false d k = refl
+    by true false false d k = refl
+    by false b true true k = refl
+    by false b true false k = refl
+    by false b false d k = refl
+
+pub first-refused : (all : Draft) (row : List ℕ) (value : Number) (other : List ℕ) (second : Number) (error : LineError) → HasMpsSides all → (has_row all row && has_row all other) ≡ true
+    → IsErrorOf (declared_fault all (rhs_declared all row value)) error → IsErrorOf (both all row value other second) error
+first-refused all row value other second error sides h fault_is =
+    subst (λ (o : Option FaultKind). IsErrorOf o error) (sym (both_fault all row value other second sides))
+    (by (has_row all row) (is_sided all row) (has_row all other) (is_sided (after_side all row value) other) error h
+    (subst (λ (o : Option FaultKind). IsErrorOf o error) (side_fault all row value (limited all sides)) fault_is))
+  where
+    by : (a b c d : Bool) (e : LineError) → (a && c) ≡ true → IsErrorOf (side_kind a b) e → IsErrorOf (earlier_of (side_kind a b) (side_kind c d)) e
+    by a b c d OutOfMemory k given = tt
+    by true true true true (Fault kind) k given = given
+    by true true true false (Fault kind) k given = given
+    by true false c d (Fault kind) k given = cc
+    by false b c d (Fault kind) k given = cc
+    by true b false d (Fault kind) k given = cc
+
+-- ---- right sides that are asked for before they are declared
+
+-- the second right side is one more of the row, which is not of type N
+abbrev is_again : Draft → List ℕ → List ℕ → Bool
+is_again all row other = same_bytes other row && not (is_free_row all row)
+
+sided_after : (all : Draft) (row : List ℕ) (value : Number) (other : List ℕ) → is_sided (after_side all row value) other ≡ (is_again all row other || is_sided all other)
+sided_after all row value other =
+    elim (is_free_row all row) as (λ b. is_sided (with_declarations all (cond b [] (declare_rhs row value ∷ []))) other ≡ ((same_bytes other row && not b) || is_sided all other)) [
+      | true ↦ free (same_bytes other row)
+      | false ↦
+          ap (λ (b : Bool). b || (is_row_by_limits all other || (is_objective all other && is_some all.constant))) (has-put other row value all.rhs_values)
+          ∙ held (same_bytes other row) (has_name all.rhs_values other) (is_row_by_limits all other || (is_objective all other && is_some all.constant))
+    ]
+  where
+    free : (a : Bool) → is_sided all other ≡ ((a && false) || is_sided all other)
+    free true = refl
+    free false = refl
+
+    held : (a b c : Bool) → ((a || b) || c) ≡ ((a && true) || (b || c))
+    held true b c = refl
+    held false b c = refl
+
+both_after : (all : Draft) (row : List ℕ) (value : Number) (other : List ℕ) (second : Number) → HasMpsSides all → declared_fault all (rhs_declared all row value) ≡ None
+    → both all row value other second ≡ side_kind (has_row all other) (is_again all row other || is_sided all other)
+both_after all row value other second sides none =
+    both_fault all row value other second sides
+    ∙ (λ i. earlier_of (side_kind (has_row all row) (is_sided all row)) (side_kind (has_row all other) (sided_after all row value other i)))
+    ∙ ap (λ (o : Option FaultKind). earlier_of o (side_kind (has_row all other) (is_again all row other || is_sided all other))) (sym (side_fault all row value (limited all sides)) ∙ none)
+
+-- where the first one has no fault
+pub given-again : (all : Draft) (row : List ℕ) (value : Number) (other : List ℕ) (second : Number) → HasMpsSides all → (has_row all row && has_row all other) ≡ true
+    → declared_fault all (rhs_declared all row value) ≡ None → (same_bytes other row && not (is_free_row all row)) ≡ true → both all row value other second ≡ Some kinds.DuplicateRhs
+given-again all row value other second sides rows none again =
+    let there = second_so (has_row all row) (has_row all other) rows in
+    both_after all row value other second sides none ∙ (λ i. side_kind (there i) (again i || is_sided all other))
+
+pub given-apart : (all : Draft) (row : List ℕ) (value : Number) (other : List ℕ) (second : Number) (answer : LineResult) → HasMpsSides all
+    → declared_fault all (rhs_declared all row value) ≡ None → (same_bytes other row && not (is_free_row all row)) ≡ false
+    → MatchResult answer (λ _. declared_fault all (rhs_declared all other second) ≡ None) (IsErrorOf (declared_fault all (rhs_declared all other second)))
+    → MatchResult answer (λ _. both all row value other second ≡ None) (IsErrorOf (both all row value other second))
+given-apart all row value other second answer sides none apart h =
+    subst (λ (o : Option FaultKind). MatchResult answer (λ _. o ≡ None) (IsErrorOf o))
+    (side_fault all other second (limited all sides) ∙ (λ i. side_kind (has_row all other) (sym apart i || is_sided all other)) ∙ sym (both_after all row value other second sides none)) h

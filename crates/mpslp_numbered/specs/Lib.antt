@@ -1,4 +1,0 @@
-pub mod Ordered
-pub mod Parts
-pub mod Sides
-pub mod StoredSides

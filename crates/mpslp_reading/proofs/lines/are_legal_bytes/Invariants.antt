@@ -1,8 +1,0 @@
-use Rattle.std.proofs.Common.{◌≡◌, take}
-use Rattle.std.specs.List.{list_all}
-use Rattle.mpslp_reading.specs.LegalLine.{is_legal_byte}
-use Rattle.mpslp_reading.proofs.lines.are_legal_bytes.Given as goal
-
--- the bytes so far
-abbrev pub invariant-loop-byte : goal.invariant-loop-byte
-invariant-loop-byte l = l.legal ≡ list_all is_legal_byte (take l.byte-index l.text)

@@ -1,9 +1,0 @@
-pub mod Tests
-pub mod LegalLine
-pub mod Field
-pub mod Declaring
-pub mod ErrorOf
-pub mod LineAnswer
-pub mod OpenLine
-pub mod LinesRead
-pub mod Pieces

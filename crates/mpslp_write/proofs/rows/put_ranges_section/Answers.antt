@@ -1,8 +1,0 @@
-use Rattle.std.proofs.Common.{refl}
-use Rattle.std.specs.Prelude.{codes}
-use Rattle.mpslp_mps.specs.declared.sections.Section.TheVariants.{Ranges}
-use Rattle.mpslp_write.proofs.OutputLemmas.{under-text, section_under}
-use Rattle.mpslp_write.proofs.rows.put_ranges_section.Goals as goal
-
-pub returns : goal.returns
-returns g c = section_under (codes "RANGES\n") (under-text Ranges _ _ refl) c.open_section.ensures c.put_ranges.ensures c.close_section.ensures.closed

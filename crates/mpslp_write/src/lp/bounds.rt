@@ -1,0 +1,103 @@
+//! The bounds of columns in canonical LP.
+
+ghost use Rattle.std.specs.Prelude.{◌≡◌, ◌<◌};
+ghost use Rattle.std.specs.List.{flat_map};
+ghost use Rattle.std.specs.FinMap.{entries};
+ghost use Rattle.mpslp_model_core.specs.Views.{num_columns};
+ghost use Rattle.mpslp_types.specs.declared.kinds.Limit.{Limit};
+ghost use Rattle.mpslp_canonical_lp.specs.Printed.{line_text};
+ghost use Rattle.mpslp_canonical_lp.specs.Listing.{listing_of};
+ghost use Rattle.mpslp_canonical_lp.specs.CanonicalLp.{bound_lexemes, line_of_some, bound_lines, bounds_section};
+ghost use Rattle.mpslp_write.specs.LinesAt.{lines_at};
+ghost use Rattle.mpslp_write.specs.LpLinesAt.{lines_between, lines_from};
+ghost use Rattle.mpslp_write.specs.TextBuffer.{Prints, PrintsSection};
+
+use crate::lp::lines::{
+    put_between_line, put_fixed_line, put_free_column_line, put_lower_bound_line,
+    put_upper_bound_line,
+};
+use crate::mps::bounds::have_same_value;
+use crate::text_buffer::Buffer;
+use mpslp_decimal::Decimal;
+use mpslp_model::{Limit, Model, Sink};
+
+/// Puts the line of two finite bounds.
+fn put_between<W: Sink>(
+    sink: &mut W,
+    buffer: &mut Buffer,
+    column: &[u8],
+    lower: Decimal,
+    upper: Decimal,
+)
+    ensures { Prints line_text W.holds W.failed W.count sink.old sink.new buffer.old buffer.new (lines_between column.now lower upper) }
+{
+    if have_same_value(lower, upper) {
+        put_fixed_line(sink, buffer, column, upper);
+    } else {
+        put_between_line(sink, buffer, column, lower, upper);
+    }
+}
+
+/// Puts the line of a lower bound alone, unless it is 0.
+fn put_from<W: Sink>(sink: &mut W, buffer: &mut Buffer, column: &[u8], lower: Decimal)
+    ensures { Prints line_text W.holds W.failed W.count sink.old sink.new buffer.old buffer.new (lines_from column.now lower) }
+{
+    if !lower.is_zero() {
+        put_lower_bound_line(sink, buffer, column, lower);
+    }
+}
+
+/// Puts the line of the bounds of a column, unless they are 0 and plus infinity.
+fn put_bounds_of<W: Sink>(
+    sink: &mut W,
+    buffer: &mut Buffer,
+    column: &[u8],
+    lower: &Limit,
+    upper: &Limit,
+)
+    ensures { Prints line_text W.holds W.failed W.count sink.old sink.new buffer.old buffer.new (line_of_some (bound_lexemes column.now lower.now upper.now)) }
+{
+    match lower {
+        Limit::MinusInf => match upper {
+            Limit::Finite(upper) => put_upper_bound_line(sink, buffer, column, *upper),
+            Limit::MinusInf | Limit::PlusInf => put_free_column_line(sink, buffer, column),
+        },
+        Limit::Finite(lower) => match upper {
+            Limit::Finite(upper) => put_between(sink, buffer, column, *lower, *upper),
+            Limit::MinusInf | Limit::PlusInf => put_from(sink, buffer, column, *lower),
+        },
+        Limit::PlusInf => put_free_column_line(sink, buffer, column),
+    }
+}
+
+/// Puts the line of the bounds of the column of number `j`.
+fn put_bounds<W: Sink>(model: &Model, j: usize, sink: &mut W, buffer: &mut Buffer)
+    requires { j < num_columns model.now }
+    ensures { Prints line_text W.holds W.failed W.count sink.old sink.new buffer.old buffer.new (lines_at bound_lines (entries model.now.columns) j) }
+{
+    let lower = model.col_lower(j);
+    let upper = model.col_upper(j);
+    let column = model.column_name(j).as_bytes();
+    put_bounds_of(sink, buffer, column, &lower, &upper);
+}
+
+/// Puts the lines of the bounds of all columns.
+fn put_all_bounds<W: Sink>(model: &Model, sink: &mut W, buffer: &mut Buffer)
+    ensures { Prints line_text W.holds W.failed W.count sink.old sink.new buffer.old buffer.new (flat_map bound_lines (entries model.now.columns)) }
+{
+    for j in 0..model.num_cols() {
+        if buffer.has_failed() {
+            return;
+        }
+        put_bounds(model, j, sink, buffer);
+    }
+}
+
+/// Puts the section of bounds, or nothing where all are 0 and plus infinity.
+pub(crate) fn put_bounds_section<W: Sink>(model: &Model, sink: &mut W, buffer: &mut Buffer)
+    ensures { PrintsSection line_text W.holds W.failed W.count sink.old sink.new buffer.old buffer.new (bounds_section (listing_of model.now)) }
+{
+    buffer.open_section(b"Bounds\n");
+    put_all_bounds(model, sink, buffer);
+    buffer.close_section();
+}

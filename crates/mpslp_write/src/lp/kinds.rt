@@ -1,0 +1,87 @@
+//! The sections of canonical LP that name the columns of a kind.
+
+ghost use Rattle.std.specs.Prelude.{◌≡◌, ◌<◌};
+ghost use Rattle.std.specs.List.{flat_map};
+ghost use Rattle.std.specs.FinMap.{entries};
+ghost use Rattle.mpslp_model_core.specs.Views.{num_columns};
+ghost use Rattle.mpslp_canonical_lp.specs.Printed.{line_text};
+ghost use Rattle.mpslp_canonical_lp.specs.Listing.{listing_of};
+ghost use Rattle.mpslp_canonical_lp.specs.CanonicalLp.{generals_section, semis_section};
+ghost use Rattle.mpslp_write.specs.LinesAt.{lines_at};
+ghost use Rattle.mpslp_write.specs.LpLinesAt.{is_of_section, name_lines};
+ghost use Rattle.mpslp_write.specs.TextBuffer.{Prints, PrintsSection};
+
+use crate::lp::lines::put_name_line;
+use crate::text_buffer::Buffer;
+use mpslp_model::{Kind, Model, Sink};
+
+/// A section that names the columns of a kind.
+#[derive(Clone, Copy)]
+enum KindSection {
+    /// The integer columns.
+    Generals,
+    /// The semi-continuous columns.
+    SemiContinuous,
+}
+
+/// Whether columns of the kind are named in the section.
+fn is_of_section(section: KindSection, kind: Kind) -> bool
+    ensures { result ≡ is_of_section section kind }
+{
+    match section {
+        KindSection::Generals => match kind {
+            Kind::Integer => true,
+            Kind::Continuous | Kind::Semi => false,
+        },
+        KindSection::SemiContinuous => match kind {
+            Kind::Semi => true,
+            Kind::Continuous | Kind::Integer => false,
+        },
+    }
+}
+
+/// Puts the name of the column of number `j`, if the section names it.
+fn put_name<W: Sink>(
+    model: &Model,
+    j: usize,
+    section: KindSection,
+    sink: &mut W,
+    buffer: &mut Buffer,
+)
+    requires { j < num_columns model.now }
+    ensures { Prints line_text W.holds W.failed W.count sink.old sink.new buffer.old buffer.new (lines_at (name_lines section) (entries model.now.columns) j) }
+{
+    if is_of_section(section, model.column_kind(j)) {
+        put_name_line(sink, buffer, model.column_name(j).as_bytes());
+    }
+}
+
+/// Puts the names of the columns that the section names.
+fn put_names<W: Sink>(model: &Model, section: KindSection, sink: &mut W, buffer: &mut Buffer)
+    ensures { Prints line_text W.holds W.failed W.count sink.old sink.new buffer.old buffer.new (flat_map (name_lines section) (entries model.now.columns)) }
+{
+    for j in 0..model.num_cols() {
+        if buffer.has_failed() {
+            return;
+        }
+        put_name(model, j, section, sink, buffer);
+    }
+}
+
+/// Puts the section of integer columns, or nothing where there are none.
+pub(crate) fn put_generals_section<W: Sink>(model: &Model, sink: &mut W, buffer: &mut Buffer)
+    ensures { PrintsSection line_text W.holds W.failed W.count sink.old sink.new buffer.old buffer.new (generals_section (listing_of model.now)) }
+{
+    buffer.open_section(b"Generals\n");
+    put_names(model, KindSection::Generals, sink, buffer);
+    buffer.close_section();
+}
+
+/// Puts the section of semi-continuous columns, or nothing where there are none.
+pub(crate) fn put_semis_section<W: Sink>(model: &Model, sink: &mut W, buffer: &mut Buffer)
+    ensures { PrintsSection line_text W.holds W.failed W.count sink.old sink.new buffer.old buffer.new (semis_section (listing_of model.now)) }
+{
+    buffer.open_section(b"Semi-Continuous\n");
+    put_names(model, KindSection::SemiContinuous, sink, buffer);
+    buffer.close_section();
+}

@@ -1,0 +1,73 @@
+//! The objective of canonical LP.
+
+ghost use Rattle.std.specs.Prelude.{◌≡◌, ◌<◌};
+ghost use Rattle.std.specs.List.{flat_map};
+ghost use Rattle.std.specs.FinMap.{entries};
+ghost use Rattle.mpslp_model_core.specs.Views.{num_columns};
+ghost use Rattle.mpslp_canonical_lp.specs.Printed.{line_text};
+ghost use Rattle.mpslp_canonical_lp.specs.Listing.{listing_of};
+ghost use Rattle.mpslp_canonical_lp.specs.CanonicalLp.{constant_lines, objective_section};
+ghost use Rattle.mpslp_write.specs.LinesAt.{lines_at};
+ghost use Rattle.mpslp_write.specs.LpLinesAt.{objective_term_lines, sense_lines};
+ghost use Rattle.mpslp_write.specs.TextBuffer.{Prints, PrintsSection};
+
+use crate::lp::lines::{put_constant_line, put_label_line, put_term_line};
+use crate::text_buffer::Buffer;
+use mpslp_decimal::Decimal;
+use mpslp_model::laws::each_model_is_sound;
+use mpslp_model::{Model, Sense, Sink};
+
+/// Puts the word that the text begins with.
+fn put_sense<W: Sink>(sense: Sense, sink: &mut W, buffer: &mut Buffer)
+    ensures { PrintsSection line_text W.holds W.failed W.count sink.old sink.new buffer.old buffer.new (sense_lines sense) }
+{
+    match sense {
+        Sense::Minimize => buffer.put(sink, b"Minimize\n"),
+        Sense::Maximize => buffer.put(sink, b"Maximize\n"),
+    }
+}
+
+/// Puts the term of the column of number `j`, where it is not 0 or the column has no coefficient of a
+/// row.
+fn put_objective_term<W: Sink>(model: &Model, j: usize, sink: &mut W, buffer: &mut Buffer)
+    requires { j < num_columns model.now }
+    ensures { Prints line_text W.holds W.failed W.count sink.old sink.new buffer.old buffer.new (lines_at (objective_term_lines (listing_of model.now)) (entries model.now.columns) j) }
+{
+    each_model_is_sound(model);
+    let value = model.objective_coefficient(j);
+    if value.is_zero() && model.column_len(j) > 0 {
+        return;
+    }
+    put_term_line(sink, buffer, model.column_name(j).as_bytes(), value);
+}
+
+/// Puts the terms of all columns.
+fn put_objective_terms<W: Sink>(model: &Model, sink: &mut W, buffer: &mut Buffer)
+    ensures { Prints line_text W.holds W.failed W.count sink.old sink.new buffer.old buffer.new (flat_map (objective_term_lines (listing_of model.now)) (entries model.now.columns)) }
+{
+    for j in 0..model.num_cols() {
+        if buffer.has_failed() {
+            return;
+        }
+        put_objective_term(model, j, sink, buffer);
+    }
+}
+
+/// Puts the constant of the objective, unless it is 0.
+fn put_constant<W: Sink>(sink: &mut W, buffer: &mut Buffer, value: Decimal)
+    ensures { Prints line_text W.holds W.failed W.count sink.old sink.new buffer.old buffer.new (constant_lines value) }
+{
+    if !value.is_zero() {
+        put_constant_line(sink, buffer, value);
+    }
+}
+
+/// Puts the objective: its sense, its name, its terms and its constant.
+pub(crate) fn put_objective_section<W: Sink>(model: &Model, sink: &mut W, buffer: &mut Buffer)
+    ensures { PrintsSection line_text W.holds W.failed W.count sink.old sink.new buffer.old buffer.new (objective_section (listing_of model.now)) }
+{
+    put_sense(model.objective_sense(), sink, buffer);
+    put_label_line(sink, buffer, model.objective_name().as_bytes());
+    put_objective_terms(model, sink, buffer);
+    put_constant(sink, buffer, model.objective_constant());
+}

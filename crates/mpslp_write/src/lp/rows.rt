@@ -1,0 +1,138 @@
+//! The rows of canonical LP.
+
+ghost use Rattle.std.specs.Prelude.{◌<◌, [], ◌∷◌, length, map};
+ghost use Rattle.std.specs.List.{flat_map};
+ghost use Rattle.std.specs.FinMap.{entries};
+ghost use Rattle.mpslp_model_core.specs.Views.{num_rows, row_name, row_columns};
+ghost use Rattle.mpslp_canonical_lp.specs.Printed.{line_text};
+ghost use Rattle.mpslp_canonical_lp.specs.Listing.{listing_of};
+ghost use Rattle.mpslp_canonical_lp.specs.CanonicalLp.{term_line, row_terms, left_lines, last_line, row_lines, rows_section};
+ghost use Rattle.mpslp_write.specs.LinesAt.{lines_at};
+ghost use Rattle.mpslp_write.specs.LpLinesAt.{numbered_term_lines, left_between, last_between};
+ghost use Rattle.mpslp_write.specs.TextBuffer.{Prints, PrintsSection};
+
+use crate::lp::lines::{
+    put_at_least_line, put_at_most_line, put_equal_line, put_free_row_line, put_label_line,
+    put_left_line, put_term_line,
+};
+use crate::mps::bounds::have_same_value;
+use crate::text_buffer::Buffer;
+use mpslp_decimal::Decimal;
+use mpslp_model::laws::each_model_is_sound;
+use mpslp_model::{Limit, Model, Sink};
+
+/// Puts the term of number `k` of the row of number `i`.
+fn put_term<W: Sink>(model: &Model, i: usize, k: usize, sink: &mut W, buffer: &mut Buffer)
+    requires row { i < num_rows model.now }
+    requires term { k < length (row_columns model.now (row_name model.now i)) }
+    ensures { Prints line_text W.holds W.failed W.count sink.old sink.new buffer.old buffer.new (lines_at (numbered_term_lines model.now (row_name model.now i)) (row_columns model.now (row_name model.now i)) k) }
+{
+    let (j, value) = model.row_entry(i, k);
+    put_term_line(sink, buffer, model.column_name(j).as_bytes(), value);
+}
+
+/// Puts the terms of the row of number `i`.
+fn put_terms<W: Sink>(model: &Model, i: usize, sink: &mut W, buffer: &mut Buffer)
+    requires { i < num_rows model.now }
+    ensures { Prints line_text W.holds W.failed W.count sink.old sink.new buffer.old buffer.new (flat_map (numbered_term_lines model.now (row_name model.now i)) (row_columns model.now (row_name model.now i))) }
+{
+    for k in 0..model.row_len(i) {
+        put_term(model, i, k, sink, buffer);
+    }
+}
+
+/// Puts the terms of the row of number `i`: one without any has the first column, with 0.
+fn put_row_terms<W: Sink>(model: &Model, i: usize, sink: &mut W, buffer: &mut Buffer)
+    requires { i < num_rows model.now }
+    ensures { Prints line_text W.holds W.failed W.count sink.old sink.new buffer.old buffer.new (map term_line (row_terms (listing_of model.now) (row_name model.now i))) }
+{
+    each_model_is_sound(model);
+    put_terms(model, i, sink, buffer);
+    if model.row_len(i) == 0 {
+        let first = model.column_name(0).as_bytes();
+        put_term_line(sink, buffer, first, Decimal::zero());
+    }
+}
+
+/// Puts the lower one of two limits that differ.
+fn put_left_between<W: Sink>(sink: &mut W, buffer: &mut Buffer, lower: Decimal, upper: Decimal)
+    ensures { Prints line_text W.holds W.failed W.count sink.old sink.new buffer.old buffer.new (left_between lower upper) }
+{
+    if !have_same_value(lower, upper) {
+        put_left_line(sink, buffer, lower);
+    }
+}
+
+/// Puts what stands before the terms of a row: the lower one of two limits that differ.
+fn put_left_limit<W: Sink>(sink: &mut W, buffer: &mut Buffer, lower: &Limit, upper: &Limit)
+    ensures { Prints line_text W.holds W.failed W.count sink.old sink.new buffer.old buffer.new (left_lines lower.now upper.now) }
+{
+    match lower {
+        Limit::Finite(lower) => match upper {
+            Limit::Finite(upper) => put_left_between(sink, buffer, *lower, *upper),
+            Limit::MinusInf | Limit::PlusInf => {}
+        },
+        Limit::MinusInf | Limit::PlusInf => {}
+    }
+}
+
+/// Puts the upper one of two limits, as the only one where both are the same.
+fn put_last_between<W: Sink>(sink: &mut W, buffer: &mut Buffer, lower: Decimal, upper: Decimal)
+    ensures { Prints line_text W.holds W.failed W.count sink.old sink.new buffer.old buffer.new (last_between lower upper) }
+{
+    if have_same_value(lower, upper) {
+        put_equal_line(sink, buffer, upper);
+    } else {
+        put_at_most_line(sink, buffer, upper);
+    }
+}
+
+/// Puts what stands behind the terms of a row: its upper limit, or else its lower one. One without
+/// limits is at least minus infinity.
+fn put_last_limit<W: Sink>(sink: &mut W, buffer: &mut Buffer, lower: &Limit, upper: &Limit)
+    ensures { Prints line_text W.holds W.failed W.count sink.old sink.new buffer.old buffer.new (last_line lower.now upper.now ∷ []) }
+{
+    match lower {
+        Limit::Finite(lower) => match upper {
+            Limit::Finite(upper) => put_last_between(sink, buffer, *lower, *upper),
+            Limit::MinusInf | Limit::PlusInf => put_at_least_line(sink, buffer, *lower),
+        },
+        Limit::MinusInf | Limit::PlusInf => match upper {
+            Limit::Finite(upper) => put_at_most_line(sink, buffer, *upper),
+            Limit::MinusInf | Limit::PlusInf => put_free_row_line(sink, buffer),
+        },
+    }
+}
+
+/// Puts the row of number `i`.
+fn put_row<W: Sink>(model: &Model, i: usize, sink: &mut W, buffer: &mut Buffer)
+    requires { i < num_rows model.now }
+    ensures { Prints line_text W.holds W.failed W.count sink.old sink.new buffer.old buffer.new (lines_at (row_lines (listing_of model.now)) (entries model.now.rows) i) }
+{
+    let lower = model.row_lower(i);
+    let upper = model.row_upper(i);
+    put_label_line(sink, buffer, model.row_name(i).as_bytes());
+    put_left_limit(sink, buffer, &lower, &upper);
+    put_row_terms(model, i, sink, buffer);
+    put_last_limit(sink, buffer, &lower, &upper);
+}
+
+/// Puts all rows.
+fn put_rows<W: Sink>(model: &Model, sink: &mut W, buffer: &mut Buffer)
+    ensures { Prints line_text W.holds W.failed W.count sink.old sink.new buffer.old buffer.new (flat_map (row_lines (listing_of model.now)) (entries model.now.rows)) }
+{
+    for i in 0..model.num_rows() {
+        if buffer.has_failed() {
+            return;
+        }
+        put_row(model, i, sink, buffer);
+    }
+}
+
+/// Puts the rows under their heading.
+pub(crate) fn put_rows_section<W: Sink>(model: &Model, sink: &mut W, buffer: &mut Buffer)
+    ensures { PrintsSection line_text W.holds W.failed W.count sink.old sink.new buffer.old buffer.new (rows_section (listing_of model.now)) }
+{
+    buffer.put(sink, b"Subject To\n");
+    put_rows(model, sink, buffer);
+}

@@ -1,0 +1,196 @@
+//! The section BOUNDS.
+
+ghost use Rattle.std.specs.Prelude.{◌≡◌, ◌<◌, [], ◌∷◌, ◌++◌, Some, None, map, if◌then◌else◌};
+ghost use Rattle.std.specs.List.{flat_map};
+ghost use Rattle.std.specs.FinMap.{entries};
+ghost use Rattle.mpslp_model_core.specs.Views.{num_columns};
+ghost use Rattle.mpslp_canonical_mps.specs.Printed.{line_text};
+ghost use Rattle.mpslp_canonical_mps.specs.PrintedValues.{have_same_value, is_fixed, printed_lower, printed_upper, printed_bounds};
+ghost use Rattle.mpslp_canonical_mps.specs.CanonicalMps.{bound_line, column_bound_lines, bounds_section};
+ghost use Rattle.mpslp_canonical_mps.specs.Listing.{listing_of};
+ghost use Rattle.mpslp_write.specs.LinesAt.{lines_at, fixed_value, are_free};
+ghost use Rattle.mpslp_write.specs.TextBuffer.{Prints, PrintsSection};
+
+use crate::mps::lines::{put_bare_bound, put_valued_bound};
+use crate::text_buffer::Buffer;
+use mpslp_decimal::Decimal;
+use mpslp_decimal::laws::each_value_is_a_decimal;
+use mpslp_model::{Kind, Limit, Model, Sink};
+
+/// Puts the line of a lower bound, unless it is 0.
+fn put_lower<W: Sink>(sink: &mut W, buffer: &mut Buffer, column: &[u8], lower: &Limit)
+    ensures { Prints line_text W.holds W.failed W.count sink.old sink.new buffer.old buffer.new (map (bound_line column.now) (printed_lower lower.now)) }
+{
+    match lower {
+        Limit::MinusInf => put_bare_bound(sink, buffer, b"MI", column),
+        Limit::Finite(value) => {
+            if !value.is_zero() {
+                put_valued_bound(sink, buffer, b"LO", column, *value);
+            }
+        }
+        Limit::PlusInf => {}
+    }
+}
+
+/// Puts the line of a finite upper bound, which tells a semi-continuous column's kind too.
+fn put_finite_upper<W: Sink>(
+    sink: &mut W,
+    buffer: &mut Buffer,
+    column: &[u8],
+    kind: Kind,
+    value: Decimal,
+)
+    ensures { Prints line_text W.holds W.failed W.count sink.old sink.new buffer.old buffer.new (map (bound_line column.now) (printed_upper kind (Limit.Finite value))) }
+{
+    match kind {
+        Kind::Continuous | Kind::Integer => put_valued_bound(sink, buffer, b"UP", column, value),
+        Kind::Semi => put_valued_bound(sink, buffer, b"SC", column, value),
+    }
+}
+
+/// Puts the line of an upper bound. Plus infinity has one for an integer column alone, which would end
+/// at 1 without it.
+fn put_upper<W: Sink>(sink: &mut W, buffer: &mut Buffer, column: &[u8], kind: Kind, upper: &Limit)
+    ensures { Prints line_text W.holds W.failed W.count sink.old sink.new buffer.old buffer.new (map (bound_line column.now) (printed_upper kind upper.now)) }
+{
+    match upper {
+        Limit::MinusInf => {}
+        Limit::Finite(value) => put_finite_upper(sink, buffer, column, kind, *value),
+        Limit::PlusInf => match kind {
+            Kind::Integer => put_bare_bound(sink, buffer, b"PL", column),
+            Kind::Continuous | Kind::Semi => {}
+        },
+    }
+}
+
+/// Puts the lines of a lower and an upper bound, one after the other.
+fn put_both<W: Sink>(
+    sink: &mut W,
+    buffer: &mut Buffer,
+    column: &[u8],
+    kind: Kind,
+    lower: &Limit,
+    upper: &Limit,
+)
+    ensures { Prints line_text W.holds W.failed W.count sink.old sink.new buffer.old buffer.new (map (bound_line column.now) (printed_lower lower.now ++ printed_upper kind upper.now)) }
+{
+    put_lower(sink, buffer, column, lower);
+    put_upper(sink, buffer, column, kind, upper);
+}
+
+/// Whether the numbers have the same value.
+pub(crate) fn have_same_value(a: Decimal, b: Decimal) -> bool
+    ensures { result ≡ have_same_value a b }
+{
+    each_value_is_a_decimal(a);
+    each_value_is_a_decimal(b);
+    a.cmp(&b).is_eq()
+}
+
+/// Whether finite bounds are told together: they have the same value, and the column is not
+/// semi-continuous, since its upper bound tells its kind.
+fn is_fixed(kind: Kind, lower: Decimal, upper: Decimal) -> bool
+    ensures { result ≡ is_fixed kind lower upper }
+{
+    match kind {
+        Kind::Continuous | Kind::Integer => have_same_value(lower, upper),
+        Kind::Semi => false,
+    }
+}
+
+/// The value of a column whose bounds are told together, as they are finite and have the same value.
+fn fixed_value(kind: Kind, lower: &Limit, upper: &Limit) -> Option<Decimal>
+    ensures { result ≡ fixed_value kind lower.now upper.now }
+{
+    match lower {
+        Limit::Finite(lower) => match upper {
+            Limit::Finite(upper) => value_if_fixed(kind, *lower, *upper),
+            _ => None,
+        },
+        _ => None,
+    }
+}
+
+/// The upper one of two bounds that are told together.
+fn value_if_fixed(kind: Kind, lower: Decimal, upper: Decimal) -> Option<Decimal>
+    ensures { result ≡ (if is_fixed kind lower upper then Some upper else None) }
+{
+    if is_fixed(kind, lower, upper) {
+        Some(upper)
+    } else {
+        None
+    }
+}
+
+/// Whether neither bound is finite.
+fn are_free(lower: &Limit, upper: &Limit) -> bool
+    ensures { result ≡ are_free lower.now upper.now }
+{
+    match lower {
+        Limit::MinusInf => match upper {
+            Limit::PlusInf => true,
+            _ => false,
+        },
+        _ => false,
+    }
+}
+
+/// Puts the lines of the bounds of a column.
+fn put_bounds_of<W: Sink>(
+    sink: &mut W,
+    buffer: &mut Buffer,
+    column: &[u8],
+    kind: Kind,
+    lower: &Limit,
+    upper: &Limit,
+)
+    ensures { Prints line_text W.holds W.failed W.count sink.old sink.new buffer.old buffer.new (map (bound_line column.now) (printed_bounds kind lower.now upper.now)) }
+{
+    if are_free(lower, upper) {
+        put_bare_bound(sink, buffer, b"FR", column);
+        return;
+    }
+    match fixed_value(kind, lower, upper) {
+        Some(value) => put_valued_bound(sink, buffer, b"FX", column, value),
+        None => put_both(sink, buffer, column, kind, lower, upper),
+    }
+}
+
+/// Puts the lines of the bounds of the column of number `j`.
+fn put_bounds<W: Sink>(model: &Model, j: usize, sink: &mut W, buffer: &mut Buffer)
+    requires { j < num_columns model.now }
+    ensures { Prints line_text W.holds W.failed W.count sink.old sink.new buffer.old buffer.new (lines_at column_bound_lines (entries model.now.columns) j) }
+{
+    let lower = model.col_lower(j);
+    let upper = model.col_upper(j);
+    let kind = model.column_kind(j);
+    put_bounds_of(
+        sink,
+        buffer,
+        model.column_name(j).as_bytes(),
+        kind,
+        &lower,
+        &upper,
+    );
+}
+
+/// Puts the lines of the bounds of all columns.
+fn put_all_bounds<W: Sink>(model: &Model, sink: &mut W, buffer: &mut Buffer)
+    ensures { Prints line_text W.holds W.failed W.count sink.old sink.new buffer.old buffer.new (flat_map column_bound_lines (entries model.now.columns)) }
+{
+    for j in 0..model.num_cols() {
+        if buffer.has_failed() {
+            return;
+        }
+        put_bounds(model, j, sink, buffer);
+    }
+}
+
+/// Puts the section BOUNDS, or nothing where all bounds are those that a column has without a line.
+pub(crate) fn put_bounds_section<W: Sink>(model: &Model, sink: &mut W, buffer: &mut Buffer)
+    ensures { PrintsSection line_text W.holds W.failed W.count sink.old sink.new buffer.old buffer.new (bounds_section (listing_of model.now)) }
+{
+    buffer.open_section(b"BOUNDS\n");
+    put_all_bounds(model, sink, buffer);
+    buffer.close_section();
+}

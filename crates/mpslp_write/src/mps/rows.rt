@@ -1,0 +1,147 @@
+//! The sections of rows: ROWS, RHS and RANGES.
+
+ghost use Rattle.std.specs.Prelude.{◌≡◌, ◌<◌, [], ◌∷◌, Some, slice_get};
+ghost use Rattle.std.specs.List.{flat_map};
+ghost use Rattle.std.specs.Option.{option_map};
+ghost use Rattle.std.specs.FinMap.{entries};
+ghost use Rattle.mpslp_model_core.specs.Views.{num_rows, rows_of};
+ghost use Rattle.mpslp_canonical_mps.specs.Printed.{line_text};
+ghost use Rattle.mpslp_canonical_mps.specs.PrintedValues.{printed_rhs};
+ghost use Rattle.mpslp_canonical_mps.specs.CanonicalMps.{row_line, rhs_lines, row_rhs_lines, range_lines, rows_section, rhs_section, ranges_section};
+ghost use Rattle.mpslp_canonical_mps.specs.Listing.{listing_of};
+ghost use Rattle.mpslp_write.specs.LinesAt.{lines_at, printed_letter};
+ghost use Rattle.mpslp_write.specs.TextBuffer.{Prints, PrintsSection};
+
+use crate::mps::lines::{put_short_line, put_value_line};
+use crate::text_buffer::Buffer;
+use mpslp_decimal::Decimal;
+use mpslp_model::laws::each_model_is_sound;
+use mpslp_model::{Limit, Model, Sink};
+
+/// The letter of a row in ROWS: where two limits differ it is G, and RANGES has the row.
+fn printed_letter(sense: u8) -> u8
+    ensures { result ≡ printed_letter sense }
+{
+    if sense == b'R' { b'G' } else { sense }
+}
+
+/// Puts the line of the row of number `i` in ROWS.
+fn put_row<W: Sink>(model: &Model, i: usize, sink: &mut W, buffer: &mut Buffer)
+    requires { i < num_rows model.now }
+    ensures { Prints line_text W.holds W.failed W.count sink.old sink.new buffer.old buffer.new (lines_at (λ row. row_line row ∷ []) (entries model.now.rows) i) }
+{
+    each_model_is_sound(model);
+    let letter = printed_letter(model.row_sense(i));
+    put_short_line(
+        sink,
+        buffer,
+        [letter].as_slice(),
+        model.row_name(i).as_bytes(),
+    );
+}
+
+/// Puts the lines of all rows in ROWS.
+fn put_rows<W: Sink>(model: &Model, sink: &mut W, buffer: &mut Buffer)
+    ensures { Prints line_text W.holds W.failed W.count sink.old sink.new buffer.old buffer.new (flat_map (λ row. row_line row ∷ []) (entries model.now.rows)) }
+{
+    for i in 0..model.num_rows() {
+        if buffer.has_failed() {
+            return;
+        }
+        put_row(model, i, sink, buffer);
+    }
+}
+
+/// Puts the section ROWS: the objective, and then the rows.
+pub(crate) fn put_rows_section<W: Sink>(model: &Model, sink: &mut W, buffer: &mut Buffer)
+    ensures { PrintsSection line_text W.holds W.failed W.count sink.old sink.new buffer.old buffer.new (rows_section (listing_of model.now)) }
+{
+    buffer.put(sink, b"ROWS\n");
+    put_short_line(sink, buffer, b"N", model.objective_name().as_bytes());
+    put_rows(model, sink, buffer);
+}
+
+/// The right side that is printed of the row of number `i`: the lower limit where that is finite.
+fn rhs_at(model: &Model, i: usize) -> Decimal
+    requires { i < num_rows model.now }
+    ensures { option_map (λ row. printed_rhs row.lower row.upper) (slice_get (rows_of model.now) i) ≡ Some result }
+{
+    match model.row_lower(i) {
+        Limit::Finite(lower) => lower,
+        _ => model.right_hand_side(i),
+    }
+}
+
+/// Puts the line of a right side, unless it is 0.
+fn put_rhs<W: Sink>(sink: &mut W, buffer: &mut Buffer, row: &[u8], value: Decimal)
+    ensures { Prints line_text W.holds W.failed W.count sink.old sink.new buffer.old buffer.new (rhs_lines row.now value) }
+{
+    if !value.is_zero() {
+        put_value_line(sink, buffer, b"RHS", row, value);
+    }
+}
+
+/// Puts the right side of the row of number `i`.
+fn put_row_rhs<W: Sink>(model: &Model, i: usize, sink: &mut W, buffer: &mut Buffer)
+    requires { i < num_rows model.now }
+    ensures { Prints line_text W.holds W.failed W.count sink.old sink.new buffer.old buffer.new (lines_at row_rhs_lines (entries model.now.rows) i) }
+{
+    let side = rhs_at(model, i);
+    put_rhs(sink, buffer, model.row_name(i).as_bytes(), side);
+}
+
+/// Puts the right sides of all rows.
+fn put_all_rhs<W: Sink>(model: &Model, sink: &mut W, buffer: &mut Buffer)
+    ensures { Prints line_text W.holds W.failed W.count sink.old sink.new buffer.old buffer.new (flat_map row_rhs_lines (entries model.now.rows)) }
+{
+    for i in 0..model.num_rows() {
+        if buffer.has_failed() {
+            return;
+        }
+        put_row_rhs(model, i, sink, buffer);
+    }
+}
+
+/// Puts the section RHS: the negated constant of the objective, and then the right sides of the rows,
+/// without those that are 0. Where all are, nothing is put.
+pub(crate) fn put_rhs_section<W: Sink>(model: &Model, sink: &mut W, buffer: &mut Buffer)
+    ensures { PrintsSection line_text W.holds W.failed W.count sink.old sink.new buffer.old buffer.new (rhs_section (listing_of model.now)) }
+{
+    buffer.open_section(b"RHS\n");
+    let objective = model.objective_name().as_bytes();
+    put_rhs(sink, buffer, objective, model.objective_offset());
+    put_all_rhs(model, sink, buffer);
+    buffer.close_section();
+}
+
+/// Puts the range of the row of number `i`, unless it is 0.
+fn put_range<W: Sink>(model: &Model, i: usize, sink: &mut W, buffer: &mut Buffer)
+    requires { i < num_rows model.now }
+    ensures { Prints line_text W.holds W.failed W.count sink.old sink.new buffer.old buffer.new (lines_at range_lines (entries model.now.rows) i) }
+{
+    let range = model.row_range(i);
+    if !range.is_zero() {
+        put_value_line(sink, buffer, b"RNG", model.row_name(i).as_bytes(), range);
+    }
+}
+
+/// Puts the ranges of all rows.
+fn put_ranges<W: Sink>(model: &Model, sink: &mut W, buffer: &mut Buffer)
+    ensures { Prints line_text W.holds W.failed W.count sink.old sink.new buffer.old buffer.new (flat_map range_lines (entries model.now.rows)) }
+{
+    for i in 0..model.num_rows() {
+        if buffer.has_failed() {
+            return;
+        }
+        put_range(model, i, sink, buffer);
+    }
+}
+
+/// Puts the section RANGES, or nothing where no row has a range.
+pub(crate) fn put_ranges_section<W: Sink>(model: &Model, sink: &mut W, buffer: &mut Buffer)
+    ensures { PrintsSection line_text W.holds W.failed W.count sink.old sink.new buffer.old buffer.new (ranges_section (listing_of model.now)) }
+{
+    buffer.open_section(b"RANGES\n");
+    put_ranges(model, sink, buffer);
+    buffer.close_section();
+}
