@@ -8,7 +8,8 @@ fenced block or a table, which a reader of the page does not see, says how:
     <!-- file: NAME -->        the block is the file NAME
     <!-- prints: COMMAND -->   the block is what the command prints
     <!-- runs -->              the block is run by sh -e and ends with status 0
-    <!-- table: FORM -->       each row is tried, in the way of docs_tables.py
+    <!-- table: FORM -->       each row is tried, in the way of docs_tables.py, which
+                               also knows some tables by their heads, without a comment
     <!-- check: COMMAND -->    without a block: the command ends with status 0
     <!-- needs: PROGRAM -->    where it is missing, what stands from here to the next
                                paragraph in bold or heading is passed over, and told
@@ -37,7 +38,7 @@ import docs_tables
 
 ROOT = Path(__file__).resolve().parent.parent
 PROGRAM = ROOT / "crates" / "mpslp" / "out" / "mpslp"
-DOCUMENTS = ("README.md", "CONTRIBUTING.md", "examples/README.md", "docs/*.md")
+DOCUMENTS = ("README.md", "CONTRIBUTING.md", "examples/README.md", "vectors/README.md", "docs/*.md")
 MARK = re.compile(r"<!-- (file|prints|table|check|needs): (.+) -->$|<!-- (runs) -->$")
 PARAGRAPH = re.compile(r"#+ |\*\*")
 FENCE = re.compile(r"( *)```(.*)$")
@@ -139,9 +140,9 @@ class Document:
                 self.attempt(number, self.scratch.succeeds, mark[2])
             elif mark:
                 marks.append((mark[1] or mark[3], mark[2]))
-            elif line.startswith("|") and marks:
+            elif line.startswith("|") and (marks or line in docs_tables.HEADS):
                 rows, at = self.table(at)
-                self.check_table(number, marks, rows)
+                self.check_table(number, marks or [("table", docs_tables.HEADS[line])], rows)
                 marks = []
             elif line.strip() and marks:
                 self.wrong.append(f"{self.name}:{number}: no block and no table behind the comment")

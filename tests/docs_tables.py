@@ -288,29 +288,49 @@ class Files(Form):
 
 
 class Statuses(Form):
-    """Exit statuses, with runs that answer them; where memory is refused is tried by bench/refused.py."""
+    """Exit statuses, with runs that end so; where memory is refused is tested by bench/refused.py."""
 
     RUNS = {
         "0": (("canon mps mps examples/small.mps", None), ("same mps examples/small.mps lp examples/small.lp", "same")),
         "1": (("same mps examples/small.mps lp examples/semi.lp", "not the same"),),
         "2": (("canon mps mps short", "file: MissingEnd"), ("same mps short mps short", "first: file: MissingEnd"),
-              ("same mps examples/small.mps mps short", "second: file: MissingEnd")),
+              ("same mps examples/small.mps mps short", "second: file: MissingEnd"),
+              ("canon mps lp unfit", "row 0: NotLp")),
         "3": (("", None), ("canon mps", None), ("convert a b", None), ("same mps - mps -", "both inputs are -"),
-              ("show free -", "unknown format: free")),
-        "4": (("canon mps mps nowhere", "read failed"), ("canon mps mps examples/small.mps > /dev/full", "write failed")),
+              ("show free -", "unknown format: free"), ("canon mps mps -a.mps", None),
+              ("canon mps mps \"$(printf '\\377.mps')\"", None)),
+        "4": (("canon mps mps nowhere", "read failed"), ("canon mps mps examples", "read failed"),
+              ("canon mps mps nowhere 2>&-", None), ("canon mps mps examples/small.mps > /dev/full", "write failed"),
+              ("canon mps mps examples/small.mps >&-", "write failed")),
         "5": (),
     }
+    # What the man page says of paths and streams, each a script that ends with status 0.
+    SCRIPTS = (
+        "(sleep 0.2; status=0; mpslp show mps examples/small.mps 2> errors || status=$?; echo $status > ended) | true; "
+        "sleep 0.6; grep -qx 4 ended; grep -qx 'write failed' errors",
+        "cp examples/small.mps -- -a.mps; mpslp canon -- mps mps -a.mps | cmp - examples/small.canonical.mps; "
+        "mpslp canon mps mps ./-a.mps | cmp - examples/small.canonical.mps",
+        "name=$(printf '\\377.mps'); cp examples/small.mps \"$name\"; "
+        "mpslp canon mps mps - < \"$name\" | cmp - examples/small.canonical.mps",
+        "dd if=examples/small.lp bs=1 2> /dev/null | mpslp canon lp mps - | cmp - examples/small.canonical.mps",
+    )
+    FILES = {"short": "ROWS\n", "unfit": "ROWS\n N  C\n L  R[1]\nCOLUMNS\n    X  C  1  R[1]  1\nENDATA\n"}
 
     def __call__(self, cells):
-        (self.scratch.work / "short").write_text("ROWS\n")
+        for name, text in self.FILES.items():
+            (self.scratch.work / name).write_text(text)
         for words, line in self.RUNS[cells[0]]:
             status, printed = self.scratch.run(f"exec mpslp {words}")
-            printed = printed.decode()
+            printed = printed.decode("latin-1")
             yield told(f"mpslp {words}", str(status), cells[0])
             fits = printed.strip() == line or line is None
-            yield None if fits else f"mpslp {words}: {printed.strip()!r}, wanted is {line!r}"
+            yield None if fits else f"mpslp {words}: {printed.strip()!r}, expected {line!r}"
             stated = [span for span in spans(cells[2]) if line and span.split(" ")[0] == line.split(" ")[0]]
-            yield None if cells[0] < "2" or stated or not line or ": file" in line else f"{line!r} is not told"
+            yield None if cells[0] < "2" or stated or not line or ": file" in line else f"{line!r} is not in the table"
+
+    def at_end(self):
+        return [f"{script}: status {status}, {printed!r}" for script in self.SCRIPTS
+                for status, printed in [self.scratch.run(script)] if status]
 
 
 class Sections(Form):
@@ -377,4 +397,9 @@ FORMS = {
     "statuses": Statuses,
     "sections": Sections,
     "index": Index,
+}
+
+# Tables that need no comment before them, by their heads.
+HEADS = {
+    "| status | meaning | standard error |": "statuses",
 }
