@@ -8,6 +8,7 @@ as a whole lacks.
 import re
 from fractions import Fraction
 
+import errors
 from fault_examples import EXAMPLES
 
 
@@ -347,11 +348,11 @@ class Sections(Form):
         return ()
 
 
-class Index(Form):
-    """Kinds of faults in the order of the alphabet: all of the ranks, NotLp and TooLong.
+class Errors(Form):
+    """The table of docs/errors.tsv: every kind that has a rank, NotLp and TooLong, in alphabetical order.
 
-    The examples of a kind are refused as it says, for NotLp on the way to LP; with
-    the cause changed they are accepted.
+    The example of a cause is rejected with its kind before the fix, and accepted after it;
+    so are the examples of tests/fault_examples.py. For NotLp the text is converted to LP.
     """
 
     RANK = re.compile(r"^\| \d+ \| `(\w+)` \| (?:both|neither|MPS|LP) \|", flags=re.M)
@@ -360,26 +361,42 @@ class Index(Form):
         super().__init__(scratch)
         self.kinds = []
         self.ranked = self.RANK.findall(scratch.page)
+        self.causes = list(errors.causes())
+        self.rows = errors.table().splitlines()
 
     def __call__(self, cells):
-        self.kinds += spans(cells[0])
-        kind = self.kinds[-1]
-        yield None if self.kinds == sorted(self.kinds) else f"{kind} is out of order"
-        broken, mended = EXAMPLES.get(kind, ((), ()))
-        for form, text in broken:
-            status, answer = self.converted(form, text, kind)
-            fits = status == 2 and answer.strip().split(": ")[1].split(" ")[0] == kind
-            yield None if fits else f"{kind}: {text[-200:]!r} is answered {answer.strip()!r}"
-        for form, text in mended:
-            status, answer = self.converted(form, text, kind)
-            yield None if status == 0 else f"{kind}, mended: {text[-200:]!r} is answered {answer.strip()!r}"
+        at = len(self.kinds)
+        cause = self.causes[at]
+        self.kinds.append(cause.kind)
+        yield None if self.rows[at] == "".join(f"| {cell} " if cell else "| " for cell in cells).rstrip() + " |" else (
+            f"{cause.kind}: not the row of errors.tsv; run `python3 tests/errors.py --write`")
+        if cause.place:
+            yield self.rejected(cause.kind, *cause.file(cause.before))
+            yield self.accepted(cause.kind, *cause.file(cause.after))
+
+    def rejected(self, kind, form, text):
+        status, answer = self.converted(form, text.encode("latin-1"), kind)
+        fits = status == 2 and answer.strip().split(": ")[1].split(" ")[0] == kind
+        return None if fits else f"{kind}: {text[-200:]!r} gives {answer.strip()[:200]!r}"
+
+    def accepted(self, kind, form, text):
+        status, answer = self.converted(form, text.encode("latin-1"), kind)
+        return None if status == 0 else f"{kind}, corrected: {text[-200:]!r} gives {answer.strip()!r}"
 
     def converted(self, form, text, kind):
-        return self.scratch.mpslp(f"canon {form} {'lp' if kind == 'NotLp' else form}", text.encode("latin-1"))
+        return self.scratch.mpslp(f"canon {form} {'lp' if kind == 'NotLp' else form}", text)
 
     def at_end(self):
-        return [f"{kind} is in one table alone" for kind in {*self.ranked, "NotLp", "TooLong"} ^ set(self.kinds)] + [
-            f"{kind} has no example" for kind in self.kinds if kind not in EXAMPLES]
+        found = [f"{kind} is in only one of the tables" for kind in {*self.ranked, "NotLp", "TooLong"} ^ set(self.kinds)]
+        found += [f"{kind} has no example in fault_examples.py" for kind in sorted(set(self.kinds) - set(EXAMPLES))]
+        if self.kinds != sorted(self.kinds) or len(self.kinds) != len(self.causes):
+            found.append("the kinds are not those of errors.tsv, in alphabetical order")
+        if errors.manual() not in errors.MANUAL.read_text():
+            found.append("DIAGNOSTICS of docs/mpslp.1 is not made of errors.tsv; run `python3 tests/errors.py --write`")
+        for kind, (broken, mended) in EXAMPLES.items():
+            found += [self.rejected(kind, form, text) for form, text in broken]
+            found += [self.accepted(kind, form, text) for form, text in mended]
+        return filter(None, found)
 
 
 FORMS = {
@@ -396,7 +413,7 @@ FORMS = {
     "files": Files,
     "statuses": Statuses,
     "sections": Sections,
-    "index": Index,
+    "errors": Errors,
 }
 
 # Tables that need no comment before them, by their heads.
