@@ -240,7 +240,7 @@ class Reserved(Form):
         ("ends", "min x\n{}", "End"),
         ("infinity", "min x\nbounds\nx >= -{}\nend\n", "x free"),
         ("both bounds", "min x\nbounds\nx {}\nend\n", "x free"),
-        ("refused", "min {}\nend\n", ": Sos"),
+        ("rejected", "min {}\nend\n", ": Sos"),
     )
 
     def __call__(self, cells):
