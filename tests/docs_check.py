@@ -5,7 +5,8 @@ What README.md, CONTRIBUTING.md, examples/README.md and docs/*.md say of a comma
 or a file is tried, in a scratch folder with the repository's examples. A comment before a
 fenced block or a table, which a reader of the page does not see, says how:
 
-    <!-- file: NAME -->        the block is the file NAME
+    <!-- file: NAME -->        the block is the file NAME; an awk script is also that
+                               file in docs/solvers
     <!-- prints: COMMAND -->   the block is what the command prints
     <!-- runs -->              the block is run by sh -e and ends with status 0
     <!-- table: FORM -->       each row is tried, in the way of docs_tables.py, which
@@ -38,6 +39,7 @@ import docs_tables
 
 ROOT = Path(__file__).resolve().parent.parent
 PROGRAM = ROOT / "crates" / "mpslp" / "out" / "mpslp"
+SCRIPTS = ROOT / "docs" / "solvers"
 DOCUMENTS = ("README.md", "CONTRIBUTING.md", "examples/README.md", "vectors/README.md", "docs/*.md")
 MARK = re.compile(r"<!-- (file|prints|table|check|needs): (.+) -->$|<!-- (runs) -->$")
 PARAGRAPH = re.compile(r"#+ |\*\*")
@@ -176,6 +178,7 @@ class Document:
         for kind, value in marks:
             if kind == "file":
                 (self.scratch.work / value).write_text(text)
+                self.attempt(number, is_stored_as, SCRIPTS / value, text)
             elif kind == "prints":
                 self.attempt(number, self.scratch.wants, value, text.encode())
             elif kind == "runs":
@@ -207,6 +210,12 @@ class Document:
                 continue
             path = (self.path.parent / target).resolve() if target else self.path
             self.attempt(number, leads_somewhere, path, heading, target)
+
+
+def is_stored_as(path, text):
+    """A script that is also a file of its own is the same there."""
+    if path.suffix == ".awk" and (not path.exists() or path.read_text() != text):
+        raise Wrong(f"{path.relative_to(ROOT)} is not this block")
 
 
 def answers_of(check, cells):
