@@ -1,9 +1,6 @@
 # The commands of the README. They need the Rattle kit, whose command is rt.
 
-PREFIX ?= /usr/local
-
-.PHONY: program run test wrong-bodies
-.PHONY: install lib install-lib lib-check python python-check bench refused random vectors docs-check solvers
+.PHONY: program run test wrong-bodies lib lib-check python python-check bench refused random vectors docs-check solvers
 
 # Proves and builds the program: about 20 minutes the first time, and later what changed.
 program:
@@ -25,33 +22,11 @@ test:
 wrong-bodies:
 	sh tests/wrong_bodies.sh
 
-# Builds the program where it is missing or its sources have changed, and installs it with its man page and completions.
-install: program
-	install -d $(DESTDIR)$(PREFIX)/bin
-	install crates/mpslp/out/mpslp $(DESTDIR)$(PREFIX)/bin/mpslp
-	install -d $(DESTDIR)$(PREFIX)/share/man/man1
-	install -m 644 docs/mpslp.1 $(DESTDIR)$(PREFIX)/share/man/man1/mpslp.1
-	install -d $(DESTDIR)$(PREFIX)/share/bash-completion/completions
-	install -m 644 completions/mpslp.bash $(DESTDIR)$(PREFIX)/share/bash-completion/completions/mpslp
-	install -d $(DESTDIR)$(PREFIX)/share/zsh/site-functions
-	install -m 644 completions/_mpslp $(DESTDIR)$(PREFIX)/share/zsh/site-functions/_mpslp
-	install -d $(DESTDIR)$(PREFIX)/share/fish/vendor_completions.d
-	install -m 644 completions/mpslp.fish $(DESTDIR)$(PREFIX)/share/fish/vendor_completions.d/mpslp.fish
-
 # Builds the library for C, proved: build/libmpslp.a and build/libmpslp.so.0.
 lib:
 	sh lib/build.sh
 
-# Installs the library with its header and its pkg-config file.
-install-lib: lib
-	install -d $(DESTDIR)$(PREFIX)/include $(DESTDIR)$(PREFIX)/lib/pkgconfig
-	install -m 644 include/mpslp.h $(DESTDIR)$(PREFIX)/include/mpslp.h
-	install -m 644 build/libmpslp.a $(DESTDIR)$(PREFIX)/lib/libmpslp.a
-	install build/libmpslp.so.0 $(DESTDIR)$(PREFIX)/lib/libmpslp.so.0
-	ln -sf libmpslp.so.0 $(DESTDIR)$(PREFIX)/lib/libmpslp.so
-	sed 's|@PREFIX@|$(PREFIX)|' lib/mpslp.pc.in > $(DESTDIR)$(PREFIX)/lib/pkgconfig/mpslp.pc
-
-# Tries the library from C and C++, beside the program.
+# Tests the library from C and C++, beside the program.
 lib-check: lib program
 	sh tests/c/check.sh
 
@@ -59,7 +34,7 @@ lib-check: lib program
 python: lib
 	sh python/build.sh
 
-# Tries the Python package.
+# Tests the Python package.
 python-check: python
 	sh python/check.sh
 
@@ -89,3 +64,6 @@ docs-check: program
 # Feeds canonical texts to the solvers that are installed, as docs/SOLVERS.md says, and compares the optima.
 solvers: program
 	python3 tests/solvers.py
+
+# install, install-lib, uninstall; dist, dist-check, install-check.
+include release/install.mk release/release.mk

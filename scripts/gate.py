@@ -38,8 +38,10 @@ TESTS = (
     Test("C library and Python package", ("sh", "tests/callers.sh")),
     Test("program on vectors/", ("python3", "tests/vectors.py")),
     Test("library on vectors/", ("../crates/try_vectors/out/try_vectors",), ROOT / "vectors"),
+    Test("make and make run", ("python3", "tests/commands_check.py")),
     Test("a large file", ("python3", "tests/large_file.py")),
     Test("documents", ("python3", "tests/docs_check.py")),
+    Test("digests of canonical texts", ("python3", "tests/digests.py")),
 )
 
 PROVED = re.compile(r"rt: (\w+) proved$")
