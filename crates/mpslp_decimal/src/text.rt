@@ -2,7 +2,7 @@
 
 ghost use Rattle.std.specs.Prelude.{◌≡◌, ◌+◌, ◌≤◌, ◌++◌, ◌<◌, ℕ, List, [], length, replicate, unsigned_abs, decimal};
 ghost use Rattle.mpslp_decimal.specs.Decimal.{depth};
-ghost use Rattle.mpslp_decimal.specs.NumberText.{number_text, sign_text, scaled_text, with_point};
+ghost use Rattle.mpslp_decimal.specs.NumberText.{most_places, number_text, sign_text, scaled_text, with_point};
 
 use crate::number::Decimal;
 use arrayvec::ArrayVec;
@@ -118,7 +118,7 @@ impl DecimalText {
     fn append_with_point(&mut self, digits: &[u8], places: usize)
         requires room { length self.old ≤ 1 }
         requires digits { length digits.now ≤ 40 }
-        requires places { places ≤ unsigned_abs LEAST_WITH_POINT }
+        requires places { places ≤ most_places }
         ensures { self.new ≡ self.old ++ with_point places digits.now }
     {
         if digits.len() > places {
