@@ -12,6 +12,7 @@ pub mod PointLemmas
 pub mod InfinityLemmas
 pub mod ValueLemmas
 pub mod SpellsLemmas
+pub mod RefusedLiterals
 pub mod OrderOfValues
 pub mod SumLemmas
 pub mod WideLemmas

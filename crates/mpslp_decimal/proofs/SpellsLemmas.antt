@@ -63,7 +63,7 @@ stripped-value minus n m z e s =
     ∙ ap (to_signed minus) (times_one n ∙ sym s.value)
     ∙ sym (signed_times minus m (10 ^ z)) ∙ sym (ap (λ (k : ℕ). to_signed minus m *ℤ pos (10 ^ k)) (surplus-all e z))
 
-both : (a b : Bool) → a ≡ true → b ≡ true → (a && b) ≡ true
+pub both : (a b : Bool) → a ≡ true → b ≡ true → (a && b) ≡ true
 both true b p q = q
 both false b p q = p
 
@@ -93,11 +93,11 @@ zero-value : (minus : Bool) (n : ℕ) (e : ℤ) → n ≡ 0 → HasSameValue (re
 zero-value minus n e h = none-times minus n (10 ^ surplus e (pos 0)) h ∙ sym (none-times false 0 (10 ^ surplus (pos 0) e) refl)
 
 -- what is known of the value of a literal
-record IsNormalOf (v d : Number) : Type 0 where
-  normal_form : is_normal d ≡ true
-  same : HasSameValue v d
+pub record IsNormalOf (v d : Number) : Type 0 where
+  pub normal_form : is_normal d ≡ true
+  pub same : HasSameValue v d
 
-normal-same : (minus : Bool) (n : ℕ) (e : ℤ) (len : ℕ) → n < 10 ^ len → len ≤ 255 → IsNormalOf (record { mantissa = to_signed minus n; exponent = e }) (normal (record { mantissa = to_signed minus n; exponent = e }))
+pub normal-same : (minus : Bool) (n : ℕ) (e : ℤ) (len : ℕ) → n < 10 ^ len → len ≤ 255 → IsNormalOf (record { mantissa = to_signed minus n; exponent = e }) (normal (record { mantissa = to_signed minus n; exponent = e }))
 normal-same minus n e len small short = by (n == 0) refl
   where
     v : Number
@@ -142,7 +142,7 @@ passed true false false small v d e = cc
 passed true false true false v d e = cc
 passed true false true true v d e = record { is_literal = refl; is_short = refl; is_few = refl; is_small = refl; is_value = cc }
 
-mantissa-small : (text : List ℕ) → is_literal text ≡ true → digits_sum (mantissa_digits text) < 10 ^ length (mantissa_digits text)
+pub mantissa-small : (text : List ℕ) → is_literal text ≡ true → digits_sum (mantissa_digits text) < 10 ^ length (mantissa_digits text)
 mantissa-small text h =
     digits_sum-small (mantissa_digits text)
     (digits-each (mantissa_digits text) (second_so (nat_lt 0 (length (mantissa_digits text))) (list_all is_digit (mantissa_digits text)) (first_so (are_digits (mantissa_digits text)) _ h)))
@@ -150,7 +150,7 @@ mantissa-small text h =
 around : (text : List ℕ) (i : ℕ) → length (take i text ++ drop (i + 1) text) ≤ length text
 around text i = omega (arith, length-append (take i text) (drop (i + 1) text), length-take i text, length-drop (i + 1) text)
 
-mantissa-short : (text : List ℕ) → length (mantissa_digits text) ≤ length text
+pub mantissa-short : (text : List ℕ) → length (mantissa_digits text) ≤ length text
 mantissa-short text =
     let front : length (take (position_or_len is_exponent_mark text) text) ≤ length text = omega (arith, length-take (position_or_len is_exponent_mark text) text) in
     let parts = around (unsigned_part text) (position_or_len is_point (unsigned_part text)) in

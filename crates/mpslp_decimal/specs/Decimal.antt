@@ -17,6 +17,9 @@ number_code = code_by (ℤ × ℤ) (coded× coded_ℤ coded_ℤ) (λ d. (d.manti
 abbrev pub zero_number : Number
 zero_number = record { mantissa = pos 0; exponent = pos 0 }
 
+abbrev pub one_number : Number
+one_number = record { mantissa = pos 1; exponent = pos 0 }
+
 abbrev pub is_zero : Number → Bool
 is_zero d = unsigned_abs d.mantissa == 0
 

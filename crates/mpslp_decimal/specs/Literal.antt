@@ -87,3 +87,18 @@ number_of text =
     else (if not (has_few_digits value) then Err TooManyDigits
     else (if not (has_small_exponent value) then Err ExponentRange
     else Ok value)))
+
+-- ---- literals that no decimal has the value of
+
+-- No number of at most 36 digits has the literal's value, whatever the number's exponent.
+pub record HasTooManyDigits (text : List ℕ) : Type 0 where
+  pub literal : IsTrue (is_literal text)
+  pub short : length text ≤ MAX_LITERAL_LEN
+  pub many : (d : Number) → IsTrue (has_few_digits d) → HasSameValue (literal_value text) d → ⊥
+
+-- A number of at most 36 digits has the literal's value, but none that is a decimal.
+pub record HasExponentOutOfRange (text : List ℕ) : Type 0 where
+  pub literal : IsTrue (is_literal text)
+  pub short : length text ≤ MAX_LITERAL_LEN
+  pub few : (d : Number) × (IsTrue (has_few_digits d) × HasSameValue (literal_value text) d)
+  pub out : (d : Number) → IsDecimal d → HasSameValue (literal_value text) d → ⊥

@@ -9,10 +9,18 @@ with_point places digits =
     let padded = replicate (places + 1 - length digits) 48 ++ digits in
     take (length padded - places) padded ++ 46 ∷ drop (length padded - places) padded
 
+-- the greatest exponent that is written as zeros
+abbrev pub most_zeros : ℕ
+most_zeros = 5
+
+-- the most digits after a point
+abbrev pub most_places : ℕ
+most_places = 18
+
 -- digits times ten to the exponent
 abbrev pub scaled_text : List ℕ → ℤ → List ℕ
-scaled_text digits (pos n) = if nat_le n 5 then digits ++ replicate n 48 else digits ++ codes "e" ++ decimal n
-scaled_text digits (negsuc n) = if nat_lt n 18 then with_point (n + 1) digits else digits ++ codes "e-" ++ decimal (n + 1)
+scaled_text digits (pos n) = if nat_le n most_zeros then digits ++ replicate n 48 else digits ++ codes "e" ++ decimal n
+scaled_text digits (negsuc n) = if nat_lt n most_places then with_point (n + 1) digits else digits ++ codes "e-" ++ decimal (n + 1)
 
 abbrev pub sign_text : Number → List ℕ
 sign_text d = if is_negative d then codes "-" else []

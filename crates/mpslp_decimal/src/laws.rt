@@ -1,11 +1,12 @@
 //! What holds of all decimals and texts, said by functions that do nothing: their contracts are proved
 //! for every value.
 
-ghost use Rattle.std.specs.Prelude.{◌≡◌, ◌↔◌, ◌+ℤ◌, ℕ, List, Ok, Some};
+ghost use Rattle.std.specs.Prelude.{◌≡◌, ◌↔◌, ◌+ℤ◌, ℕ, List, Ok, Err, Some};
 ghost use Rattle.std.specs.declared.cmp.Ordering.{Ordering};
 ghost use Rattle.mpslp_decimal.specs.Decimal.{Number, HasSameValue, IsBelow, IsDecimal, order_of, scaled, sum_of};
-ghost use Rattle.mpslp_decimal.specs.Literal.{Spells, number_of};
+ghost use Rattle.mpslp_decimal.specs.Literal.{Spells, HasTooManyDigits, HasExponentOutOfRange, number_of};
 ghost use Rattle.mpslp_decimal.specs.NumberText.{number_text};
+ghost use Rattle.mpslp_decimal.specs.declared.literal.NumberFault.TheVariants.{TooManyDigits, ExponentRange};
 
 use crate::number::Decimal;
 
@@ -24,6 +25,18 @@ pub fn one_form()
 /// A text is read as a decimal exactly if it is a literal of at most 255 bytes that has its value.
 pub fn literals_are_read_by_value()
     ensures { (text : List ℕ) (d : Number) → (number_of text ≡ Ok d) ↔ Spells text d }
+{}
+
+/// A text is rejected with `TooManyDigits` if and only if it is a literal of at most 255 bytes and no number of at most
+/// 36 digits has its value, whatever the number's exponent.
+pub fn digits_are_counted_by_value()
+    ensures { (text : List ℕ) → (number_of text ≡ Err TooManyDigits) ↔ HasTooManyDigits text }
+{}
+
+/// A text is rejected with `ExponentRange` if and only if it is a literal of at most 255 bytes, a number of at most 36
+/// digits has its value, and no decimal has it.
+pub fn exponents_are_judged_by_value()
+    ensures { (text : List ℕ) → (number_of text ≡ Err ExponentRange) ↔ HasExponentOutOfRange text }
 {}
 
 /// The canonical text of a decimal is a literal that is read as this decimal.

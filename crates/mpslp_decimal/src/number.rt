@@ -5,7 +5,7 @@ mod sums;
 
 ghost use Rattle.std.specs.Prelude.{◌≡◌, ◌+◌, ◌*◌, ◌^◌, ◌<◌, nat_le};
 ghost use Rattle.mpslp_decimal.specs.Literal.{number_of};
-ghost use Rattle.mpslp_decimal.specs.Decimal.{Number, zero_number, is_zero, is_negative, negated, size_of, is_infinite_size, depth, height, IsDecimal};
+ghost use Rattle.mpslp_decimal.specs.Decimal.{Number, zero_number, one_number, is_zero, is_negative, negated, size_of, is_infinite_size, depth, height, IsDecimal};
 
 use crate::literal::{self, NumberFault};
 use std::marker::Model;
@@ -57,6 +57,13 @@ impl Decimal {
             mantissa: 0,
             exponent: 0,
         }
+    }
+
+    /// The number 1.
+    pub fn one() -> Decimal
+        ensures { result ≡ one_number }
+    {
+        Decimal::from_parts(1, 0)
     }
 
     /// The decimal of these two parts, in normal form already.

@@ -2,7 +2,7 @@
 
 ghost use Rattle.std.specs.Prelude.{◌≡◌, ◌+◌, ◌≤◌, ◌++◌, ◌<◌, ℕ, List, [], length, replicate, unsigned_abs, decimal};
 ghost use Rattle.mpslp_decimal.specs.Decimal.{depth};
-ghost use Rattle.mpslp_decimal.specs.NumberText.{number_text, sign_text, scaled_text, with_point};
+ghost use Rattle.mpslp_decimal.specs.NumberText.{most_places, number_text, sign_text, scaled_text, with_point};
 
 use crate::number::Decimal;
 use arrayvec::ArrayVec;
@@ -12,6 +12,13 @@ use std::marker::Model;
 /// Room for any text: at most a sign, the digits, a point and zeros or an exponent.
 const CAPACITY: usize = 64;
 
+/// The greatest exponent that is written as zeros.
+const MOST_ZEROS: i32 = 5;
+
+/// The least exponent that is written by a point.
+const LEAST_WITH_POINT: i32 = -18;
+
+/// Enough zeros for each text without an exponent part.
 const ZEROS: &[u8] = b"00000000000000000000";
 
 /// The canonical text of one decimal after another, in a place that takes no memory.
@@ -94,11 +101,11 @@ impl DecimalText {
         ensures { self.new ≡ self.old ++ scaled_text digits.now exponent }
     {
         match exponent {
-            0..=5 => {
+            0..=MOST_ZEROS => {
                 self.append(digits);
                 self.append(&ZEROS[..exponent as usize]);
             }
-            -18..=-1 => self.append_with_point(digits, -exponent as usize),
+            LEAST_WITH_POINT..=-1 => self.append_with_point(digits, -exponent as usize),
             _ => {
                 self.append(digits);
                 self.append(b"e");
@@ -111,7 +118,7 @@ impl DecimalText {
     fn append_with_point(&mut self, digits: &[u8], places: usize)
         requires room { length self.old ≤ 1 }
         requires digits { length digits.now ≤ 40 }
-        requires places { places ≤ 18 }
+        requires places { places ≤ most_places }
         ensures { self.new ≡ self.old ++ with_point places digits.now }
     {
         if digits.len() > places {

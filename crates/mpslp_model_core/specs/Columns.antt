@@ -1,5 +1,6 @@
 -- The kind and bounds of a column, from what is declared of it.
-use Rattle.std.specs.Prelude.{pos, Bool, ◌&&◌, ◌||◌, not, is_none, unwrap_or, if◌then◌else◌}
+use Rattle.std.specs.Prelude.{Bool, ◌&&◌, ◌||◌, not, is_none, unwrap_or, if◌then◌else◌}
+use Rattle.mpslp_decimal.specs.Decimal.{one_number}
 pub use Rattle.mpslp_types.specs.Limit.{zero_limit}
 use Rattle.mpslp_model_core.specs.Model.{Column, suits}
 use Rattle.mpslp_types.specs.Limit.{is_at_most}
@@ -10,7 +11,7 @@ use Rattle.mpslp_types.specs.declared.kinds.Limit.{Limit}
 use Rattle.mpslp_types.specs.declared.kinds.Limit.TheVariants.{Finite, PlusInf}
 
 abbrev pub one_limit : Limit
-one_limit = Finite (record { mantissa = pos 1; exponent = pos 0 })
+one_limit = Finite one_number
 
 -- neither side is declared
 abbrev pub no_side_declared : DeclaredColumn → Bool

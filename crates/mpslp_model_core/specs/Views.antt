@@ -54,15 +54,31 @@ is_integer_column column = is_integer_kind column.kind
 
 -- ---- a row by its sense, right side and range
 
--- the ASCII letter N, L, G, E or R. A side that no value meets is in no model
+-- the letters of rows, in ASCII
+abbrev pub letter_N : ℕ
+letter_N = 78
+
+abbrev pub letter_L : ℕ
+letter_L = 76
+
+abbrev pub letter_G : ℕ
+letter_G = 71
+
+abbrev pub letter_E : ℕ
+letter_E = 69
+
+abbrev pub letter_R : ℕ
+letter_R = 82
+
+-- the letter of a row. A side that no value meets is in no model
 abbrev pub row_sense : Row → ℕ
 row_sense row = letter row.lower row.upper
   where
     letter : Limit → Limit → ℕ
-    letter MinusInf (Finite b) = 76
-    letter (Finite a) PlusInf = 71
-    letter (Finite a) (Finite b) = if is_eq (decimal_cmp a b) then 69 else 82
-    letter _ _ = 78
+    letter MinusInf (Finite b) = letter_L
+    letter (Finite a) PlusInf = letter_G
+    letter (Finite a) (Finite b) = if is_eq (decimal_cmp a b) then letter_E else letter_R
+    letter _ _ = letter_N
 
 -- the upper limit, or else the lower one, or else 0
 abbrev pub right_hand_side : Row → Number

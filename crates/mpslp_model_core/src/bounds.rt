@@ -3,8 +3,7 @@
 ghost use Rattle.std.specs.Prelude.{◌≡◌};
 ghost use Rattle.mpslp_types.specs.Limit.{is_finite_above_zero, are_semi_bounds};
 ghost use Rattle.mpslp_model_core.specs.Model.{suits};
-ghost use Rattle.mpslp_model_core.specs.Columns.{one_limit, no_side_declared, upper_by_default, declared_lower, declared_upper, is_declared_integer, declared_kind, declared_column, is_negative_upper, are_crossed_bounds, are_no_binary_bounds, are_no_semi_bounds};
-ghost use Rattle.mpslp_types.specs.declared.kinds.Limit.TheVariants.{Finite};
+ghost use Rattle.mpslp_model_core.specs.Columns.{no_side_declared, upper_by_default, declared_lower, declared_upper, is_declared_integer, declared_kind, declared_column, is_negative_upper, are_crossed_bounds, are_no_binary_bounds, are_no_semi_bounds};
 ghost use Rattle.mpslp_model_core.specs.WrongParts.{bounds_test, are_faulty_bounds, kind_of_column_fault};
 
 use crate::sides::ColumnBounds;
@@ -22,16 +21,6 @@ pub enum ColumnFault {
     BinaryBounds,
     /// The column is semi-continuous, and its lower bound is below 0, or its upper one infinite or not above 0.
     SemiBounds,
-}
-
-/// The number 1.
-fn one() -> Decimal
-    ensures { Finite result ≡ one_limit }
-{
-    match Decimal::parse(b"1".as_slice()) {
-        Ok(value) => value,
-        Err(_) => Decimal::zero(),
-    }
 }
 
 /// Whether the side is a number above 0.
@@ -111,7 +100,7 @@ impl DeclaredColumn {
         ensures { result ≡ upper_by_default self.now }
     {
         if self.binary || (self.marked && self.has_no_side()) {
-            Limit::Finite(one())
+            Limit::Finite(Decimal::one())
         } else {
             Limit::PlusInf
         }
@@ -169,7 +158,7 @@ impl DeclaredColumn {
     {
         self.binary
             && !(Limit::Finite(Decimal::zero()).is_at_most(self.lower_bound())
-                && self.upper_bound().is_at_most(Limit::Finite(one())))
+                && self.upper_bound().is_at_most(Limit::Finite(Decimal::one())))
     }
 
     /// Whether the column is semi-continuous, and its lower bound is below 0, or its upper one infinite or not above 0.

@@ -9,7 +9,7 @@ ghost use Rattle.std.specs.FinMap.{is_sorted};
 ghost use Rattle.mpslp_types.specs.Name.{same_bytes, bytes_cmp};
 ghost use Rattle.mpslp_model_core.specs.Same.{IsSameObjective};
 ghost use Rattle.mpslp_model_core.specs.ModelParts.{linear_model, AreModelParts};
-ghost use Rattle.mpslp_model_core.specs.Views.{row_names, column_names, rows_of, columns_of, num_rows, num_columns, num_elements, row_name, column_name, row_index, column_index, row_sense, right_hand_side, row_range, is_integer_column, coefficient_at, column_elements, numbered_elements, row_columns};
+ghost use Rattle.mpslp_model_core.specs.Views.{letter_E, letter_R, row_names, column_names, rows_of, columns_of, num_rows, num_columns, num_elements, row_name, column_name, row_index, column_index, row_sense, right_hand_side, row_range, is_integer_column, coefficient_at, column_elements, numbered_elements, row_columns};
 
 use crate::by_row::{columns_by_row, list_of};
 use crate::columns::{
@@ -95,7 +95,7 @@ fn index_of<X>(entries: &[(Name, X)], name: &[u8]) -> Option<usize>
 
 /// The letter of a row whose limits are both finite.
 fn letter_between(lower: &Decimal, upper: &Decimal) -> u8
-    ensures { result ≡ (if is_eq (decimal_cmp lower.now upper.now) then 69 else 82) }
+    ensures { result ≡ (if is_eq (decimal_cmp lower.now upper.now) then letter_E else letter_R) }
 {
     each_value_is_a_decimal(*lower);
     each_value_is_a_decimal(*upper);
@@ -135,14 +135,11 @@ fn rhs_of(row: RowLimits) -> Decimal
     }
 }
 
-/// Upper minus lower.
+/// Upper minus lower; 0 where that is no decimal, as in no row of a model.
 fn distance(lower: &Decimal, upper: &Decimal) -> Decimal
     ensures { result ≡ unwrap_or (difference_of upper.now lower.now) zero_number }
 {
-    match upper.checked_sub(*lower) {
-        Some(distance) => distance,
-        None => Decimal::zero(),
-    }
+    upper.checked_sub(*lower).unwrap_or(Decimal::zero())
 }
 
 /// Upper minus lower where both are finite, and else 0.

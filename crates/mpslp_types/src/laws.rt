@@ -1,9 +1,9 @@
-//! Laws of names. Each is the contract of a function that does nothing: to call it is to cite the law.
+//! Laws of names and limits. Each is the contract of a function that does nothing: to call it is to cite the law.
 //!
 //! A law of every name reads a field of it, and that brings what is known of its bytes.
 
 ghost use Rattle.mpslp_types.specs.Name.{IsMpsName};
-ghost use Rattle.mpslp_types.specs.Laws.{LpNamesAreMpsNames};
+ghost use Rattle.mpslp_types.specs.Laws.{LpNamesAreMpsNames, LimitsAreOrdered};
 
 use crate::names::Name;
 
@@ -18,3 +18,9 @@ pub fn each_name_is_legal(name: &Name)
 {
     let _len = name.bytes.len();
 }
+
+/// The order of limits agrees with [`is_at_most`](crate::Limit::is_at_most): the first of two limits is at most the second
+/// if and only if it does not come after it.
+pub fn limits_are_ordered()
+    ensures { LimitsAreOrdered }
+{}

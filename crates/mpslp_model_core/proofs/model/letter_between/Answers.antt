@@ -3,10 +3,11 @@ use Rattle.std.specs.Prelude.{if◌then◌else◌}
 use Rattle.std.specs.Ordering.{is_eq}
 use Rattle.std.specs.declared.cmp.Ordering.{Ordering}
 use Rattle.mpslp_decimal.proofs.OrderOfValues.{order-decimal}
+use Rattle.mpslp_model_core.specs.Views.{letter_E, letter_R}
 use Rattle.mpslp_model_core.proofs.model.letter_between.Goals as goal
 
 letter : Ordering → ℕ
-letter r = if is_eq r then 69 else 82
+letter r = if is_eq r then letter_E else letter_R
 
 pub returns-in-Less : goal.returns-in-Less
 unfolding letter

@@ -1,7 +1,6 @@
 use Rattle.std.proofs.Common.{rules, ◌≡◌, ◌∙◌, sym, subst, to_z, of_z, w32}
 use Rattle.std.specs.Int.{w128}
-use Rattle.mpslp_decimal.specs.Decimal.{Number, IsDecimal}
-use Rattle.mpslp_decimal.specs.Packed.{mantissa_of}
+use Rattle.mpslp_decimal.specs.Decimal.{IsDecimal}
 use Rattle.mpslp_decimal.proofs.packed.PackedDecimal.of.Goals as goal
 
 pub returns : goal.returns

@@ -1,0 +1,5 @@
+use Rattle.mpslp_decimal.proofs.RefusedLiterals.{digits-by_value}
+use Rattle.mpslp_decimal.proofs.laws.digits_are_counted_by_value.Goals as goal
+
+pub returns : goal.returns
+returns c = digits-by_value
