@@ -7,6 +7,3 @@ mod refusals;
 mod tables;
 
 pub use builder::Builder;
-
-#[cfg(test)]
-mod tests;

@@ -14,6 +14,3 @@ pub use literal::{MAX_LITERAL_LEN, NumberFault};
 pub use number::{Decimal, MAX_DIGITS, MAX_EXPONENT, MIN_EXPONENT};
 pub use packed::PackedDecimal;
 pub use text::DecimalText;
-
-#[cfg(test)]
-mod tests;

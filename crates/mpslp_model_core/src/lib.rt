@@ -27,6 +27,3 @@ pub use model::{Model, ModelColumn, ModelParts};
 pub use packed::{PackedColumn, PackedLimit, PackedRow};
 pub use packed_row_definition::PackedRowDefinition;
 pub use sides::{ColumnBounds, RowLimits};
-
-#[cfg(test)]
-mod tests;

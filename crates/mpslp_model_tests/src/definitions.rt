@@ -1,11 +1,11 @@
 //! Public calls with ample memory, on worked examples. Models are made by the builder, whose crate tests their views.
 
-use crate::{
+use mpslp_decimal::Decimal;
+use mpslp_model_core::{
     ColumnBounds, ColumnFault, DeclaredColumn, PackedColumn, PackedLimit, PackedRow, RowFault,
     RowLimits, UnpackedRowDefinition, is_faulty_row, kind_of_column_fault, kind_of_row_fault,
     limits_of, plain_limits, row_has,
 };
-use mpslp_decimal::Decimal;
 use mpslp_types::{FaultKind, Kind, Limit, RowType};
 use std::test::Fail;
 

@@ -6,7 +6,7 @@ mod rows;
 ghost use Rattle.std.specs.Prelude.{IsTrue};
 ghost use Rattle.mpslp_types.specs.Limit.{is_given};
 
-use crate::Builder;
+use mpslp_builder::Builder;
 use mpslp_decimal::{Decimal, DecimalText};
 use mpslp_model_core::Model;
 use mpslp_types::{BuildFault, FaultKind, Kind, Limit, Name, ReadFault, RowType, Sense};

@@ -1,6 +1,6 @@
 //! Worked literals, texts and questions, through the public calls.
 
-use crate::{Decimal, DecimalText, NumberFault, PackedDecimal, laws};
+use mpslp_decimal::{Decimal, DecimalText, NumberFault, PackedDecimal, laws};
 use std::test::Fail;
 
 /// A literal, and its canonical text.

@@ -1,7 +1,7 @@
 //! What files of LP declare, with ample memory.
 
 use super::{Call, first_other_answer, outcome, tells};
-use crate::Builder;
+use mpslp_builder::Builder;
 use mpslp_types::{BuildFault, RowType};
 use std::test::Fail;
 
