@@ -40,5 +40,6 @@ pub mod SoundParts
 pub mod FlatLemmas
 pub mod KeptParts
 pub mod GivenBack
+pub mod FinishMeaning
 mod WorkedRows
 mod WorkedModels

@@ -1,12 +1,14 @@
+-- ---- what public laws and contracts say
 pub mod Declaration
 pub mod Bounds
 pub mod Consistency
 pub mod Refusal
 pub mod Made
 pub mod Meaning
-pub mod Laws
 pub mod Answer
 pub mod Finish
+pub mod Laws
+-- ---- what the code keeps
 pub mod Tables
 pub mod Calls
 pub mod FaultFound

@@ -107,7 +107,8 @@ impl Builder {
     ///
     /// # Errors
     ///
-    /// `DuplicateRow` where a row or the objective has the name, `OutOfMemory`. The name is dropped then.
+    /// `DuplicateRow` where a row or the objective has the name, `OutOfMemory`, also if there are 4,294,967,294 rows. The
+    /// name is dropped then.
     pub fn row(&mut self, name: Name, row_type: RowType) -> Result<(), BuildFault>
         ensures { Answers (refusals self.old (declare_row name (by_type row_type))) result (self.new ≡ with_declaration self.old (declare_row name (by_type row_type))) (self.new ≡ self.old) }
     {
@@ -126,7 +127,7 @@ impl Builder {
     /// # Errors
     ///
     /// `DuplicateRow` where a row or the objective has the name, `InfiniteValue` for a lower limit of plus infinity or an upper
-    /// one of minus infinity, `OutOfMemory`. The name is dropped then.
+    /// one of minus infinity, `OutOfMemory`, also if there are 4,294,967,294 rows. The name is dropped then.
     pub fn row_limits(&mut self, name: Name, lower: Limit, upper: Limit) -> Result<(), BuildFault>
         requires lower { IsTrue (is_given lower) }
         requires upper { IsTrue (is_given upper) }
@@ -146,9 +147,10 @@ impl Builder {
     ///
     /// # Errors
     ///
-    /// `UnknownRow` where neither a row nor the objective has the name, `DuplicateRhs` where the right side is declared already, `OutOfMemory`.
+    /// `UnknownRow` where neither a row nor the objective has the name, `DuplicateRhs` where the right side is declared already. This call takes no memory.
     pub fn rhs(&mut self, row: &[u8], value: Decimal) -> Result<(), BuildFault>
-        ensures { Answers (refusals self.old (declare_rhs row.now value)) result (self.new ≡ with_declarations self.old (rhs_declared self.old row.now value)) (self.new ≡ self.old) }
+        ensures answers { Answers (refusals self.old (declare_rhs row.now value)) result (self.new ≡ with_declarations self.old (rhs_declared self.old row.now value)) (self.new ≡ self.old) }
+        ensures memory { IsNotOutOfMemory result }
     {
         let place = self.tables.rhs_target(row, &self.constant)?;
         if self.tables.is_free(place) {
@@ -165,9 +167,10 @@ impl Builder {
     /// # Errors
     ///
     /// `UnknownRow` where neither a row nor the objective has the name, `DuplicateRange` where the range is declared already, `RangeOnFree` on the objective or a row of type [`Free`](RowType::Free), `InfiniteValue` where
-    /// the size is 10^20 or more, `OutOfMemory`.
+    /// the size is 10^20 or more. This call takes no memory.
     pub fn range(&mut self, row: &[u8], value: Decimal) -> Result<(), BuildFault>
-        ensures { Answers (refusals self.old (declare_range row.now value)) result (self.new ≡ with_declaration self.old (declare_range row.now value)) (self.new ≡ self.old) }
+        ensures answers { Answers (refusals self.old (declare_range row.now value)) result (self.new ≡ with_declaration self.old (declare_range row.now value)) (self.new ≡ self.old) }
+        ensures memory { IsNotOutOfMemory result }
     {
         let index = self.tables.range_target(row, value)?;
         each_value_is_a_decimal(value);
@@ -238,9 +241,10 @@ impl Builder {
     ///
     /// # Errors
     ///
-    /// `UnknownColumn` where no column has the name, `SemiContinuous` where the column is semi-continuous, `OutOfMemory`.
+    /// `UnknownColumn` where no column has the name, `SemiContinuous` where the column is semi-continuous. This call takes no memory.
     pub fn marked(&mut self, column: &[u8]) -> Result<(), BuildFault>
-        ensures { Answers (refusals self.old (declare_marked column.now)) result (self.new ≡ with_declaration self.old (declare_marked column.now)) (self.new ≡ self.old) }
+        ensures answers { Answers (refusals self.old (declare_marked column.now)) result (self.new ≡ with_declaration self.old (declare_marked column.now)) (self.new ≡ self.old) }
+        ensures memory { IsNotOutOfMemory result }
     {
         let number = self.tables.integer_target(column)?;
         self.tables.put_mark(number);
@@ -251,9 +255,10 @@ impl Builder {
     ///
     /// # Errors
     ///
-    /// `UnknownColumn` where no column has the name, `SemiContinuous` where the column is semi-continuous, `OutOfMemory`.
+    /// `UnknownColumn` where no column has the name, `SemiContinuous` where the column is semi-continuous. This call takes no memory.
     pub fn integer(&mut self, column: &[u8]) -> Result<(), BuildFault>
-        ensures { Answers (refusals self.old (declare_integer column.now)) result (self.new ≡ with_declaration self.old (declare_integer column.now)) (self.new ≡ self.old) }
+        ensures answers { Answers (refusals self.old (declare_integer column.now)) result (self.new ≡ with_declaration self.old (declare_integer column.now)) (self.new ≡ self.old) }
+        ensures memory { IsNotOutOfMemory result }
     {
         let number = self.tables.integer_target(column)?;
         self.tables.put_integer(number);
@@ -265,9 +270,10 @@ impl Builder {
     ///
     /// # Errors
     ///
-    /// `UnknownColumn` where no column has the name, `SemiContinuous` where the column is semi-continuous, `OutOfMemory`.
+    /// `UnknownColumn` where no column has the name, `SemiContinuous` where the column is semi-continuous. This call takes no memory.
     pub fn binary(&mut self, column: &[u8]) -> Result<(), BuildFault>
-        ensures { Answers (refusals self.old (declare_binary column.now)) result (self.new ≡ with_declaration self.old (declare_binary column.now)) (self.new ≡ self.old) }
+        ensures answers { Answers (refusals self.old (declare_binary column.now)) result (self.new ≡ with_declaration self.old (declare_binary column.now)) (self.new ≡ self.old) }
+        ensures memory { IsNotOutOfMemory result }
     {
         let number = self.tables.integer_target(column)?;
         self.tables.put_binary(number);
@@ -280,9 +286,10 @@ impl Builder {
     /// # Errors
     ///
     /// `UnknownColumn` where no column has the name, `SemiContinuous` where the column is [marked](Self::marked),
-    /// [integer](Self::integer) or [binary](Self::binary), `OutOfMemory`.
+    /// [integer](Self::integer) or [binary](Self::binary). This call takes no memory.
     pub fn semi(&mut self, column: &[u8]) -> Result<(), BuildFault>
-        ensures { Answers (refusals self.old (declare_semi column.now)) result (self.new ≡ with_declaration self.old (declare_semi column.now)) (self.new ≡ self.old) }
+        ensures answers { Answers (refusals self.old (declare_semi column.now)) result (self.new ≡ with_declaration self.old (declare_semi column.now)) (self.new ≡ self.old) }
+        ensures memory { IsNotOutOfMemory result }
     {
         let number = self.tables.semi_target(column)?;
         self.tables.put_semi(number);

@@ -4,7 +4,7 @@
 //! A law of every builder reads a field of it, and that brings what is known of all its parts.
 
 ghost use Rattle.mpslp_builder.specs.Made.{IsMade};
-ghost use Rattle.mpslp_builder.specs.Laws.{FaultsAreExact, MeanOneModel, MeanTheSameInAnyOrder};
+ghost use Rattle.mpslp_builder.specs.Laws.{FaultsAreExact, FinishAnswersTheMeaning, MadeDeclarationsAreConsistent, MeanOneModel, MeanTheSameInAnyOrder};
 
 use crate::builder::Builder;
 
@@ -22,6 +22,18 @@ pub fn order_is_of_no_account()
 /// means a model.
 pub fn finish_is_exact()
     ensures { FaultsAreExact }
+{}
+
+/// The declarations of a builder, the objective's name among them, are consistent: what may be declared once is declared
+/// once, and what they name is declared.
+pub fn made_declarations_are_consistent()
+    ensures { MadeDeclarationsAreConsistent }
+{}
+
+/// The end of a builder returns a model if and only if the declarations mean one, memory aside, and it is the model that
+/// they mean. This is said of whatever meets the contract of [`finish`](Builder::finish).
+pub fn finish_answers_the_meaning()
+    ensures { FinishAnswersTheMeaning }
 {}
 
 /// What a builder holds was made by legal declarations, one after another, and none of them was refused. So what is true

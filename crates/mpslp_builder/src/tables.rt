@@ -20,6 +20,9 @@ use mpslp_model_core::PackedRowDefinition;
 use mpslp_types::{Limit, Name};
 use std::alloc::{AllocError, Global};
 
+/// The most rows: beside them the objective has a number of 32 bits too.
+const MOST_ROWS: usize = 4_294_967_294;
+
 /// The objective, rows and columns.
 #[derive(Debug, Drop)]
 pub(crate) struct Tables {
@@ -287,9 +290,9 @@ impl Tables {
 
     /// Whether another row has a number.
     pub(crate) fn has_room(&self) -> bool
-        ensures { IsTrue result → index_map_len self.now.rows < 4294967294 }
+        ensures { IsTrue result → index_map_len self.now.rows < MOST_ROWS }
     {
-        self.rows.len() < 4294967294
+        self.rows.len() < MOST_ROWS
     }
 
     /// Adds a row without a right side and a range. None has its name.

@@ -16,8 +16,8 @@ invariant_of-self c =
       column_changed_numbered b.sense b.constant b.tables c.put_integer.new.self (λ parts. record parts { integer = true }) c.in_ok-number.number c.put_integer.ensures refl c.self.invariant.1,
     )
 
-pub returns : goal.returns
-returns c =
+pub returns-clause-answers : goal.returns-clause-answers
+returns-clause-answers c =
     let b = c.self.inside in
     let d = declare_integer c.args.column.now in
     let none = none_refused (refusals (draft b.sense b.constant b.tables) d) c.in_ok-number.ensures.answer in

@@ -8,8 +8,8 @@ use Rattle.mpslp_builder.proofs.AnswerLemmas.{none_refused, made_after, answered
 use Rattle.mpslp_builder.proofs.CallLemmas.{range_added, row_changed_numbered}
 use Rattle.mpslp_builder.proofs.builder.Builder.range.Goals as goal
 
-pub returns-in_err-index : goal.returns-in_err-index
-returns-in_err-index c =
+pub returns-in_err-index-clause-answers : goal.returns-in_err-index-clause-answers
+returns-in_err-index-clause-answers c =
     let d = declare_range c.args.row.now c.args.value in
     let refused = c.in_err-index.ensures.answer ∙ ap (λ (all : Draft). first_refusal (refusals all d)) c.self.view_is in
     handed_on (refusals c.args.self.now d) c.from_residual.result c.in_err-index.field-0.0 _ _ c.from_residual.ensures.1 refused refl
@@ -24,8 +24,8 @@ invariant_of-self c =
       row_changed_numbered b.sense b.constant b.tables c.put_range.new.self (λ row. record row { range = Some c.args.value }) c.in_ok-index.index c.put_range.ensures c.self.invariant.1,
     )
 
-pub returns : goal.returns
-returns c =
+pub returns-clause-answers : goal.returns-clause-answers
+returns-clause-answers c =
     let b = c.self.inside in
     let d = declare_range c.args.row.now c.args.value in
     let none = none_refused (refusals (draft b.sense b.constant b.tables) d) c.in_ok-index.ensures.answer in

@@ -9,14 +9,14 @@ use Rattle.mpslp_builder.proofs.CallLemmas.{rhs_added, rhs_added_numbered}
 use Rattle.mpslp_builder.proofs.ReadingLemmas.{free_at}
 use Rattle.mpslp_builder.proofs.builder.Builder.rhs.Goals as goal
 
-pub returns-in_err-place : goal.returns-in_err-place
-returns-in_err-place c =
+pub returns-in_err-place-clause-answers : goal.returns-in_err-place-clause-answers
+returns-in_err-place-clause-answers c =
     let d = declare_rhs c.args.row.now c.args.value in
     let refused = c.in_err-place.ensures.answer ∙ ap (λ (all : Draft). first_refusal (refusals all d)) c.self.view_is in
     handed_on (refusals c.args.self.now d) c.from_residual.result c.in_err-place.field-0.0 _ _ c.from_residual.ensures.1 refused refl
 
-pub returns-then-is_free : goal.returns-then-is_free
-returns-then-is_free c =
+pub returns-then-is_free-clause-answers : goal.returns-then-is_free-clause-answers
+returns-then-is_free-clause-answers c =
     let b = c.self.inside in
     let all = c.args.self.now in
     let place = c.in_ok-place.ensures in
@@ -37,8 +37,8 @@ invariant_of-self c =
       rhs_added_numbered b.sense b.constant b.tables c.put_rhs.new.self c.in_ok-place.place c.args.value c.self.invariant.1 c.put_rhs.ensures,
     )
 
-pub returns : goal.returns
-returns c =
+pub returns-clause-answers : goal.returns-clause-answers
+returns-clause-answers c =
     let b = c.self.inside in
     let all = c.args.self.now in
     let place = c.in_ok-place.ensures in
