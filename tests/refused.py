@@ -265,7 +265,7 @@ def main():
     options = arguments()
     compiler = os.environ.get("CC") or shutil.which("cc")
     if compiler is None:
-        print("a C compiler is missing: no growth is refused")
+        print("skipped: refused memory (a C compiler is missing)")
         return 0
     with tempfile.TemporaryDirectory() as folder, ThreadPoolExecutor(os.cpu_count()) as workers:
         refusing = Refusing(folder, compiler)
