@@ -44,10 +44,10 @@ bench:
 	python3 bench/run.py --sizes 10M,100M
 	python3 bench/run.py --sizes 10M,100M --hostile
 
-# Refuses each request for memory in turn.
+# Refuses each growth of memory in turn.
 refused: program
 	cd crates/try_refused && rt run > /dev/null
-	python3 bench/refused.py
+	python3 tests/refused.py
 
 # Checks the program on random models in many spellings of both formats, and on broken files.
 random: program

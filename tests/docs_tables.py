@@ -289,7 +289,7 @@ class Files(Form):
 
 
 class Statuses(Form):
-    """Exit statuses, with runs that end so; where memory is refused is tested by bench/refused.py."""
+    """Exit statuses, with runs that end so; where memory is refused is tested by tests/refused.py."""
 
     RUNS = {
         "0": (("canon mps mps examples/small.mps", None), ("same mps examples/small.mps lp examples/small.lp", "same")),

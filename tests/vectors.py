@@ -19,7 +19,8 @@ from pathlib import Path
 ROOT = Path(__file__).resolve().parent.parent
 FOLDER = ROOT / "vectors"
 PROGRAM = ROOT / "crates" / "mpslp" / "out" / "mpslp"
-DESCRIBED = {"README.md", "index.tsv", "changed-lines.tsv", "cuts.tsv", "single-bytes.tsv", "long-lines.tsv"}
+DESCRIBED = {"README.md", "index.tsv", "changed-lines.tsv", "cuts.tsv", "single-bytes.tsv", "long-lines.tsv", "literals.tsv",
+             "sums.tsv"}
 LINE_ENDS = {"LF": b"\n", "CR LF": b"\r\n"}
 
 Entry = namedtuple("Entry", "topic input answer mps lp show")

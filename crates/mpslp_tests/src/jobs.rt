@@ -9,7 +9,15 @@ use std::test::Fail;
 
 const OTHER_LP: &str = "min COST: X + 2Y st LIM1: X <= 5 MYG: 1.5 Y >= 1 end\n";
 
-const CUT_LP: &str = "min COST: X + 2Y st LIM1: X <= 4 MYG: 1.5 Y >= 1\n";
+/// `SMALL_LP` without its last line.
+const CUT_LP: &str = "\\ the same model
+MIN
+COST: 2Y + X
+s.t.
+MYG: 1.5 Y => 1
+LIM1: X
+ <= 4
+";
 
 const TINY_SHOWN: &str = "sense minimize
 objective c constant 0 offset 0

@@ -1,124 +1,260 @@
-//! A model by calls of a builder, each of which is made once more where it is refused for want of memory.
-//!
-//! Where one request alone is refused, the model is the same as where none is: a refused call leaves the builder as it was.
+//! Calls of a builder, each of which is made once more where there was no memory for it.
 
+ghost use Rattle.std.specs.Prelude.{IsTrue};
+ghost use Rattle.std.specs.Option.{ForSome};
+ghost use Rattle.mpslp_types.specs.Limit.{is_given};
+
+use crate::answers::{Answer, put, roomy};
+use crate::refusing::{refuse, refuse_none};
+use mpslp_convert::{RunFault, report};
 use mpslp_decimal::Decimal;
-use mpslp_model::{BuildFault, Builder, Limit, Name, RowType, Sense};
-use std::alloc::Global;
+use mpslp_model::{BuildFault, Builder, Limit, Model, Name, ReadFault, RowType, Sense};
+use mpslp_vectors::FailingWriter;
+use mpslp_write::write_mps;
+use std::alloc::{AllocError, Global};
 
-/// A call of a builder. Names and numbers are texts.
-#[derive(Clone, Copy)]
-enum Call<'a> {
-    Sense,
-    Objective(&'a [u8]),
-    Row(&'a [u8], RowType),
-    Column(&'a [u8]),
-    Coefficient(&'a [u8], &'a [u8], &'a [u8]),
-    Rhs(&'a [u8], &'a [u8]),
-    Range(&'a [u8], &'a [u8]),
-    Bounds(&'a [u8], &'a [u8], &'a [u8]),
-    Marked(&'a [u8]),
-    Integer(&'a [u8]),
-    Semi(&'a [u8]),
+/// Each call, with each of its refusals that the line of a file can have too. A call is its name and what it is made with.
+pub(crate) const EACH_CALL: &str = "objective f
+objective g
+row f L
+row r L
+limits s 1 1
+rhs s 1
+column x
+column x
+coefficient q x 1
+coefficient r y 1
+coefficient r x 1
+coefficient r x 1
+rhs r 4
+rhs r 4
+range f 1
+range r 1e20
+range r -2
+range r -2
+bounds x -1e20 -
+bounds x 0 1
+marked x
+integer x
+binary y
+constant 5
+rhs f 1
+sense
+sense
+";
+
+/// A model with a row of each type and a column of each kind.
+pub(crate) const EACH_KIND: &str = "sense
+objective PROFIT
+row UP L
+row LOW G
+row EVEN E
+row NOTE N
+limits BETWEEN -1 1
+rhs PROFIT -12.5
+rhs UP 40
+range UP 15
+column X
+coefficient PROFIT X 3
+coefficient UP X 1.5
+coefficient LOW X 0
+marked X
+column Y
+coefficient EVEN Y -1
+coefficient LOW Y 1e-3
+integer Y
+bounds Y -4 9
+column Z
+coefficient NOTE Z 7
+bounds Z 2 8
+semi Z
+column B
+binary B
+rhs LOW 1
+";
+
+/// How many rows one column has: they come in falling order, so that most stand in the column's tree.
+const MANY: u16 = 150;
+
+/// The calls of a model of many rows.
+pub(crate) fn calls_of_many_rows(alloc: Global) -> Result<String, AllocError> {
+    let mut calls = String::from_str(alloc, "objective f\ncolumn x\n")?;
+    for number in 100..100 + MANY {
+        push_call(&mut calls, "row r", number, " L\n")?;
+    }
+    for number in (100..100 + MANY).rev() {
+        push_call(&mut calls, "coefficient r", number, " x 2\n")?;
+    }
+    Ok(calls)
+}
+
+/// A call with the number of a row, which has three digits.
+fn push_call(calls: &mut String, front: &str, number: u16, behind: &str) -> Result<(), AllocError> {
+    calls.push_str(front)?;
+    for digits in [number / 100, number / 10, number] {
+        calls.push(char::from(b'0' + (digits % 10) as u8))?;
+    }
+    calls.push_str(behind)
 }
 
 /// A legal name.
-fn named(alloc: Global, text: &[u8]) -> Result<Name, BuildFault> {
-    match Name::new(alloc, text) {
+fn named(alloc: Global, text: &str) -> Result<Name, BuildFault> {
+    match Name::new(alloc, text.as_bytes()) {
         Ok(name) => Ok(name),
         Err(_) => Err(BuildFault::OutOfMemory),
     }
 }
 
 /// The number that a literal spells, and 0 where it spells none.
-fn number(text: &[u8]) -> Decimal {
-    Decimal::parse(text).unwrap_or(Decimal::zero())
+fn number(text: &str) -> Decimal {
+    Decimal::parse(text.as_bytes()).unwrap_or(Decimal::zero())
+}
+
+/// The side that a literal spells; `-` spells none.
+fn side(text: &str) -> Option<Limit>
+    ensures { ForSome result (λ side. IsTrue (is_given side)) }
+{
+    if text == "-" {
+        None
+    } else {
+        Some(Limit::of(number(text)))
+    }
+}
+
+fn row_type(letter: &str) -> RowType {
+    match letter {
+        "L" => RowType::AtMost,
+        "G" => RowType::AtLeast,
+        "E" => RowType::Equal,
+        _ => RowType::Free,
+    }
 }
 
 /// Makes a call once.
-fn made(builder: &mut Builder, alloc: Global, call: Call<'_>) -> Result<(), BuildFault> {
-    match call {
-        Call::Sense => builder.sense(Sense::Maximize),
-        Call::Objective(name) => builder.objective(named(alloc, name)?),
-        Call::Row(name, row_type) => builder.row(named(alloc, name)?, row_type),
-        Call::Column(name) => builder.column(named(alloc, name)?),
-        Call::Coefficient(row, column, value) => builder.coefficient(row, column, number(value)),
-        Call::Rhs(row, value) => builder.rhs(row, number(value)),
-        Call::Range(row, value) => builder.range(row, number(value)),
-        Call::Bounds(column, lower, upper) => builder.bounds(
-            column,
-            Some(Limit::of(number(lower))),
-            Some(Limit::of(number(upper))),
+fn made(builder: &mut Builder, alloc: Global, call: &str) -> Result<(), BuildFault> {
+    let mut words = call.split(' ');
+    let name = words.next().unwrap_or("");
+    let first = words.next().unwrap_or("");
+    let second = words.next().unwrap_or("");
+    let third = words.next().unwrap_or("");
+    match name {
+        "sense" => builder.sense(Sense::Maximize),
+        "objective" => builder.objective(named(alloc, first)?),
+        "constant" => builder.constant(number(first)),
+        "row" => builder.row(named(alloc, first)?, row_type(second)),
+        "limits" => builder.row_limits(
+            named(alloc, first)?,
+            Limit::of(number(second)),
+            Limit::of(number(third)),
         ),
-        Call::Marked(column) => builder.marked(column),
-        Call::Integer(column) => builder.integer(column),
-        Call::Semi(column) => builder.semi(column),
+        "rhs" => builder.rhs(first.as_bytes(), number(second)),
+        "range" => builder.range(first.as_bytes(), number(second)),
+        "column" => builder.column(named(alloc, first)?),
+        "coefficient" => builder.coefficient(first.as_bytes(), second.as_bytes(), number(third)),
+        "bounds" => builder.bounds(first.as_bytes(), side(second), side(third)),
+        "marked" => builder.marked(first.as_bytes()),
+        "integer" => builder.integer(first.as_bytes()),
+        "binary" => builder.binary(first.as_bytes()),
+        _ => builder.semi(first.as_bytes()),
     }
 }
 
-/// Makes a call, and makes it once more where there was no memory for it.
-fn made_at_last(builder: &mut Builder, alloc: Global, call: Call<'_>) -> Result<(), BuildFault> {
-    match made(builder, alloc, call) {
-        Err(BuildFault::OutOfMemory) => made(builder, alloc, call),
-        answer => answer,
+/// What a call answers, in words.
+fn text_of(answer: &Result<(), BuildFault>) -> &'static str {
+    let Err(fault) = answer else {
+        return "Ok";
+    };
+    match fault {
+        BuildFault::DuplicateSense => "DuplicateSense",
+        BuildFault::SecondObjective => "SecondObjective",
+        BuildFault::UnknownRow => "UnknownRow",
+        BuildFault::UnknownColumn => "UnknownColumn",
+        BuildFault::DuplicateRow => "DuplicateRow",
+        BuildFault::DuplicateEntry => "DuplicateEntry",
+        BuildFault::DuplicateRhs => "DuplicateRhs",
+        BuildFault::DuplicateRange => "DuplicateRange",
+        BuildFault::DuplicateBound => "DuplicateBound",
+        BuildFault::RangeOnFree => "RangeOnFree",
+        BuildFault::SemiContinuous => "SemiContinuous",
+        BuildFault::InfiniteValue => "InfiniteValue",
+        BuildFault::OutOfMemory => "out of memory",
     }
 }
 
-/// How many rows one column has: they come in falling order, so that most stand in the column's tree.
-const MANY: u16 = 300;
-
-/// A name of a letter and a number of three digits.
-fn numbered(number: u16) -> [u8; 4] {
-    let digit = |place: u16| b'0' + (number / place % 10) as u8;
-    [b'r', digit(100), digit(10), digit(1)]
+fn tell(told: &mut FailingWriter, call: &str, answer: &Result<(), BuildFault>) {
+    put(told, call);
+    put(told, ": ");
+    put(told, text_of(answer));
+    put(told, "\n");
 }
 
-/// Declares many rows, and a column that has them all.
-fn declare_many(builder: &mut Builder, alloc: Global) -> Result<(), BuildFault> {
-    for number in 0..MANY {
-        let name = numbered(number);
-        made_at_last(builder, alloc, Call::Row(&name, RowType::AtMost))?;
+/// Makes a call and, where there was no memory for it, makes it once more with memory. Whether there was none.
+fn is_made_again(
+    builder: &mut Builder,
+    alloc: Global,
+    call: &str,
+    told: &mut FailingWriter,
+) -> bool {
+    let answer = made(builder, alloc, call);
+    tell(told, call, &answer);
+    if !matches!(answer, Err(BuildFault::OutOfMemory)) {
+        return false;
     }
-    made_at_last(builder, alloc, Call::Column(b"MANY"))?;
-    for number in (0..MANY).rev() {
-        let name = numbered(number);
-        made_at_last(builder, alloc, Call::Coefficient(&name, b"MANY", b"2"))?;
-    }
-    Ok(())
+    refuse_none(alloc);
+    let answer = made(builder, alloc, call);
+    tell(told, call, &answer);
+    true
 }
 
-/// What all calls declare.
-pub(crate) fn declared(alloc: Global) -> Result<Builder, BuildFault> {
+/// The model of what was declared.
+fn finished(builder: Builder) -> Result<Model, ReadFault> {
+    if builder.has_objective() {
+        builder.finish()
+    } else {
+        Err(ReadFault::Failed)
+    }
+}
+
+/// Tells the canonical text of a model, or its fault. Whether there was no memory for it.
+fn tell_finished(told: &mut FailingWriter, answer: Result<Model, ReadFault>) -> bool {
+    match answer {
+        Ok(model) => {
+            let _ = write_mps(&model, told);
+            false
+        }
+        Err(ReadFault::File(fault)) => {
+            let _ = report(&RunFault::File(fault), told);
+            false
+        }
+        Err(ReadFault::Failed) => {
+            put(told, "no objective\n");
+            false
+        }
+        Err(ReadFault::OutOfMemory) => {
+            put(told, "finish: out of memory\n");
+            true
+        }
+    }
+}
+
+/// What calls of a builder answer, one a line, and then the model that they declare.
+pub(crate) fn built(alloc: Global, calls: &str, growth: u32) -> Result<Answer, AllocError> {
+    let mut told = roomy(alloc)?;
     let mut builder = Builder::new(alloc);
-    let calls = [
-        Call::Sense,
-        Call::Objective(b"PROFIT"),
-        Call::Row(b"UP", RowType::AtMost),
-        Call::Row(b"LOW", RowType::AtLeast),
-        Call::Row(b"EVEN", RowType::Equal),
-        Call::Row(b"NOTE", RowType::Free),
-        Call::Rhs(b"PROFIT", b"-12.5"),
-        Call::Rhs(b"UP", b"40"),
-        Call::Range(b"UP", b"15"),
-        Call::Column(b"X"),
-        Call::Coefficient(b"PROFIT", b"X", b"3"),
-        Call::Coefficient(b"UP", b"X", b"1.5"),
-        Call::Coefficient(b"LOW", b"X", b"0"),
-        Call::Marked(b"X"),
-        Call::Column(b"Y"),
-        Call::Coefficient(b"EVEN", b"Y", b"-1"),
-        Call::Coefficient(b"LOW", b"Y", b"1e-3"),
-        Call::Integer(b"Y"),
-        Call::Bounds(b"Y", b"-4", b"9"),
-        Call::Column(b"Z"),
-        Call::Coefficient(b"NOTE", b"Z", b"7"),
-        Call::Bounds(b"Z", b"2", b"8"),
-        Call::Semi(b"Z"),
-        Call::Rhs(b"LOW", b"1"),
-    ];
-    for call in &calls {
-        made_at_last(&mut builder, alloc, *call)?;
+    let mut is_out_of_memory = false;
+    refuse(alloc, growth);
+    for call in calls.lines() {
+        if is_made_again(&mut builder, alloc, call, &mut told) {
+            is_out_of_memory = true;
+        }
     }
-    declare_many(&mut builder, alloc)?;
-    Ok(builder)
+    let answer = finished(builder);
+    refuse_none(alloc);
+    if tell_finished(&mut told, answer) {
+        is_out_of_memory = true;
+    }
+    Ok(Answer {
+        is_out_of_memory,
+        text: told.bytes().to_vec(alloc)?,
+    })
 }

@@ -1,175 +1,120 @@
-//! Makes calls of the library, so that each request for memory of the calls can be refused.
+//! Makes calls of the library again and again, so that each growth of memory can be refused in turn.
 //!
-//! Without words it makes a model by calls of a builder, and prints its canonical text. Else the words are a call and its
-//! formats: `read mps`, `pieces lp`, `canonical mps lp`, `same lp`, `is-canonical mps`. Standard input has the text of the
-//! call, and `same` compares it with itself. What is answered is told on standard output. `bench/refused.py` refuses each
-//! request in turn.
+//! A call is made with its first growth refused, then with its second one, and so on, until it is not answered by want of
+//! memory. `tests/refuse.c`, loaded before this program, refuses them; without it nothing is refused, and each call is made once.
+//! Without words these are calls that need no file: names, words, jobs, and the calls of a builder. Else the words are a format
+//! and a path, twice, as `mps a.mps lp b.lp`, and these are the calls on the first text, and on both.
+//!
+//! Printed are `call` and the name of each call, and for each time that it was made `answer`, how many bytes its answer has, and
+//! the answer. `tests/refused.py` compares them with what is to be answered.
 #![tactic(auto)]
 
+mod answers;
 mod building;
+mod refusing;
+mod texts;
+mod words;
 
-use building::declared;
-use mpslp_convert::{ConvertFault, Form, RunFault, canonical, is_canonical, report, same_model};
-use mpslp_model::{Format, Model, ModelReader, ReadFault, ToWrite};
-use mpslp_write::{Lp, Mps, write_mps};
-use std::alloc::Global;
+use answers::Answer;
+use building::{EACH_CALL, EACH_KIND, built, calls_of_many_rows};
+use mpslp_convert::Form;
+use std::alloc::{AllocError, Global};
 use std::io::{Read, Write};
-use std::rt::Env;
-use std::{env, io};
+use std::rt::{Env, Files};
+use std::{env, fs, io};
+use texts::{TEXT_CALLS, Text, TextCall, answer_to};
+use words::{COMMAND_LINES, job_of, name, word};
 
-/// A call of the library.
+/// More growths than any call here makes.
+const MOST: u32 = 10_000;
+
+/// A call, with what it is made on.
 #[derive(Clone, Copy)]
-enum Call {
-    Build,
-    Read,
-    Pieces,
-    Canonical,
-    Same,
-    IsCanonical,
+enum Call<'a> {
+    Name,
+    Word,
+    Job(&'a str),
+    Build(&'a str),
+    OnTexts(TextCall, &'a Text<'a>, &'a Text<'a>),
 }
 
-/// How many bytes a piece of a text has at most.
-const PIECE: usize = 7;
-
-/// What a reader answers that is fed the text in pieces, and whether it answers `Failed` to what follows a refusal.
-fn fed<P: ModelReader>(alloc: Global, text: &[u8]) -> (Result<Model, ReadFault>, bool) {
-    let mut reader = P::new(alloc);
-    for piece in text.chunks(PIECE) {
-        if let Err(fault) = reader.feed(piece) {
-            let is_spent = matches!(reader.feed(piece), Err(ReadFault::Failed));
-            return (Err(fault), is_spent);
+impl Call<'_> {
+    /// What the call answers while a growth is refused.
+    fn answer(&self, alloc: Global, growth: u32) -> Result<Answer, AllocError> {
+        match *self {
+            Call::Name => name(alloc, growth),
+            Call::Word => word(alloc, growth),
+            Call::Job(line) => job_of(alloc, line, growth),
+            Call::Build(calls) => built(alloc, calls, growth),
+            Call::OnTexts(call, first, second) => answer_to(alloc, call, first, second, growth),
         }
     }
-    (reader.finish(), true)
 }
 
-fn tell_fault(rt: &impl Print, fault: &RunFault) -> io::Result<()> {
-    match report(fault, &mut ToWrite::new(io::writer(rt))) {
-        Ok(()) => Ok(()),
-        Err(_) => println!(rt; "write failed"),
+/// Tells what a call answers with each growth refused, until one answer is not that memory was wanted.
+fn tell_each<R: Print>(rt: &R, alloc: Global, name: &str, call: &Call<'_>) -> io::Result<()> {
+    println!(rt; "call {name}")?;
+    for growth in 1..=MOST {
+        let answer = call.answer(alloc, growth)?;
+        println!(rt; "answer {}", answer.text.len())?;
+        io::writer(rt).write_all(&answer.text)?;
+        if !answer.is_out_of_memory {
+            return Ok(());
+        }
     }
+    Ok(())
 }
 
-fn tell_read(rt: &impl Print, answer: Result<Model, ReadFault>) -> io::Result<()> {
-    match answer {
-        Ok(model) => println!(rt;
-            "rows {} columns {} elements {}",
-            model.num_rows(),
-            model.num_cols(),
-            model.num_elements()
-        ),
-        Err(ReadFault::File(fault)) => tell_fault(rt, &RunFault::File(fault)),
-        Err(ReadFault::Failed) => println!(rt; "failed"),
-        Err(ReadFault::OutOfMemory) => tell_fault(rt, &RunFault::OutOfMemory),
+fn tell_without_files<R: Print>(rt: &R, alloc: Global) -> io::Result<()> {
+    tell_each(rt, alloc, "Name::new", &Call::Name)?;
+    tell_each(rt, alloc, "Word::new", &Call::Word)?;
+    for line in COMMAND_LINES {
+        tell_each(rt, alloc, line, &Call::Job(line))?;
     }
+    tell_each(rt, alloc, "builder: each call", &Call::Build(EACH_CALL))?;
+    tell_each(rt, alloc, "builder: each kind", &Call::Build(EACH_KIND))?;
+    let calls = calls_of_many_rows(alloc)?;
+    tell_each(rt, alloc, "builder: many rows", &Call::Build(&calls))
 }
 
-fn tell_refusal(rt: &impl Print, fault: ConvertFault) -> io::Result<()> {
-    match fault {
-        ConvertFault::First(fault) => tell_fault(rt, &RunFault::File(fault)),
-        ConvertFault::Second(fault) => tell_fault(rt, &RunFault::File(fault)),
-        ConvertFault::NotLp(place) => tell_fault(rt, &RunFault::NotLp(place)),
-        ConvertFault::OutOfMemory => tell_fault(rt, &RunFault::OutOfMemory),
-    }
-}
-
-fn tell_text(rt: &impl Print, answer: Result<Vec<u8>, ConvertFault>) -> io::Result<()> {
-    match answer {
-        Ok(text) => io::writer(rt).write_all(&text),
-        Err(fault) => tell_refusal(rt, fault),
-    }
-}
-
-fn tell_test(rt: &impl Print, answer: Result<bool, ConvertFault>) -> io::Result<()> {
-    match answer {
-        Ok(holds) => println!(rt; "{holds}"),
-        Err(fault) => tell_refusal(rt, fault),
-    }
-}
-
-/// Feeds the text in pieces, and tells of a reader that goes on behind a refusal.
-fn tell_pieces<P: ModelReader>(rt: &impl Print, alloc: Global, text: &[u8]) -> io::Result<()> {
-    let (answer, is_spent) = fed::<P>(alloc, text);
-    tell_read(rt, answer)?;
-    if is_spent {
-        return Ok(());
-    }
-    println!(rt; "goes on behind a refusal")
-}
-
-/// Tells the canonical text of the model that calls of a builder make.
-fn tell_built(rt: &impl Print, alloc: Global) -> io::Result<()> {
-    let Ok(builder) = declared(alloc) else {
-        return println!(rt; "a call was refused");
+fn tell_with_files<R: Files + Print>(rt: &R, alloc: Global, words: &[String]) -> io::Result<()> {
+    let first = content(rt, alloc, word_at(words, 1))?;
+    let second = content(rt, alloc, word_at(words, 3))?;
+    let first = Text {
+        form: form_named(word_at(words, 0)),
+        bytes: &first,
     };
-    if !builder.has_objective() {
-        return println!(rt; "no objective");
+    let second = Text {
+        form: form_named(word_at(words, 2)),
+        bytes: &second,
+    };
+    for (name, call) in TEXT_CALLS {
+        tell_each(rt, alloc, name, &Call::OnTexts(call, &first, &second))?;
     }
-    match builder.finish() {
-        Ok(model) => match write_mps(&model, &mut ToWrite::new(io::writer(rt))) {
-            Ok(()) => Ok(()),
-            Err(_) => println!(rt; "write failed"),
-        },
-        Err(fault) => tell_read(rt, Err(fault)),
-    }
+    Ok(())
 }
 
-/// Makes a call whose text is in `A`, and tells its answer.
-fn tell<A: Format>(
-    rt: &impl Print,
-    alloc: Global,
-    call: Call,
-    to: Form,
-    text: &[u8],
-) -> io::Result<()> {
-    match call {
-        Call::Build => tell_built(rt, alloc),
-        Call::Read => tell_read(rt, A::read(alloc, text)),
-        Call::Pieces => tell_pieces::<A::Reader>(rt, alloc, text),
-        Call::Canonical => match to {
-            Form::Mps => tell_text(rt, canonical::<A, Mps>(alloc, text)),
-            Form::Lp => tell_text(rt, canonical::<A, Lp>(alloc, text)),
-        },
-        Call::Same => tell_test(rt, same_model::<A, A>(alloc, text, text)),
-        Call::IsCanonical => tell_test(rt, is_canonical::<A>(alloc, text)),
-    }
+fn word_at(words: &[String], i: usize) -> &str {
+    words.get(i).map_or("", |word| word.as_str())
 }
 
-fn call_of(word: &str) -> Call {
-    match word {
-        "read" => Call::Read,
-        "pieces" => Call::Pieces,
-        "canonical" => Call::Canonical,
-        "same" => Call::Same,
-        "is-canonical" => Call::IsCanonical,
-        _ => Call::Build,
-    }
-}
-
-fn form_of(word: &str) -> Form {
+fn form_named(word: &str) -> Form {
     if word == "lp" { Form::Lp } else { Form::Mps }
 }
 
-fn run<R: Input + Print + Env + AllocGlobal>(rt: &R, alloc: Global) -> io::Result<()> {
-    let mut words = env::args(rt)?.skip(1);
-    let call = words.next().map_or(Call::Build, |word| call_of(&word));
-    let from = words.next().map_or(Form::Mps, |word| form_of(&word));
-    let to = words.next().map_or(Form::Mps, |word| form_of(&word));
+/// The bytes of a file.
+fn content<R: Files>(rt: &R, alloc: Global, path: &str) -> io::Result<Vec<u8>> {
     let mut text = Vec::new(alloc);
-    rt.reader().read_to_end(&mut text)?;
-    match from {
-        Form::Mps => tell::<Mps>(rt, alloc, call, to, &text),
-        Form::Lp => tell::<Lp>(rt, alloc, call, to, &text),
-    }
+    fs::open(rt, path)?.read_to_end(&mut text)?;
+    Ok(text)
 }
 
-/// Want of memory in reading the words or the text is told like that of a call.
 fn main(rt: HostRuntime) -> io::Result<()> {
-    match run(&rt, rt.alloc()) {
-        Err(error) if error.kind() == io::ErrorKind::OutOfMemory => tell_fault(
-            &rt,
-            &RunFault::OutOfMemory,
-        ),
-        answer => answer,
+    let alloc = rt.alloc();
+    let words = env::args(&rt)?.skip(1).collect::<Vec<String>>(alloc)?;
+    if words.is_empty() {
+        tell_without_files(&rt, alloc)
+    } else {
+        tell_with_files(&rt, alloc, &words)
     }
 }

@@ -189,11 +189,15 @@ pub(crate) fn fed_in(alloc: Global, form: Form, first: &[u8], second: &[u8]) -> 
     told(alloc, answer)
 }
 
-/// The canonical MPS of a text that is read at once.
-pub(crate) fn read_in(alloc: Global, form: Form, text: &[u8]) -> Answer {
-    let answer = match form {
+/// The model of a text that is read at once.
+pub(crate) fn model_in(alloc: Global, form: Form, text: &[u8]) -> Result<Model, ReadFault> {
+    match form {
         Form::Mps => read_mps(alloc, text),
         Form::Lp => read_lp(alloc, text),
-    };
-    told(alloc, answer)
+    }
+}
+
+/// The canonical MPS of a text that is read at once.
+pub(crate) fn read_in(alloc: Global, form: Form, text: &[u8]) -> Answer {
+    told(alloc, model_in(alloc, form, text))
 }

@@ -1,10 +1,12 @@
 //! What is checked of an input and an output that fail.
 
-use crate::answers::{MUCH, run_in, show_in};
+use crate::answers::{MUCH, model_in, run_in, show_in};
 use crate::tables::Entry;
 use mpslp_convert::{Form, RunFault, load};
 use mpslp_io::{Sink, Source};
+use mpslp_model::{Format, Model, WriteFault};
 use mpslp_vectors::{FailingReader, FailingWriter};
+use mpslp_write::{Lp, Mps, write_lp, write_mps};
 use std::alloc::Global;
 
 /// The source of a text that comes at once.
@@ -12,13 +14,14 @@ fn whole(text: &[u8]) -> FailingReader<'_> {
     FailingReader::new(text, usize::MAX, 0)
 }
 
-/// Whether a run writes nothing where a read of this number fails.
+/// Whether a run writes nothing where a read of this number fails. It may read as many bytes as the input has, and no more.
 fn run_stops_in_read(alloc: Global, entry: &Entry, fail_at: u64) -> bool {
     let Ok(mut sink) = FailingWriter::new(alloc, 1) else {
         return false;
     };
+    let len = entry.text.len() as u64;
     let mut source = FailingReader::new(&entry.text, 1, fail_at);
-    let answer = run_in(alloc, MUCH, entry.form, Form::Mps, &mut source, &mut sink);
+    let answer = run_in(alloc, len, entry.form, Form::Mps, &mut source, &mut sink);
     matches!(&answer, Err(RunFault::Read)) && sink.calls() == 0 && source.calls() == fail_at
 }
 
@@ -139,4 +142,58 @@ pub(crate) fn shows_after_each_byte(alloc: Global, entry: &Entry) -> bool {
         }
     }
     true
+}
+
+/// What a writer of a format answers.
+fn write_in<W: Sink>(model: &Model, form: Form, sink: &mut W) -> Result<(), WriteFault> {
+    match form {
+        Form::Mps => write_mps(model, sink),
+        Form::Lp => write_lp(model, sink),
+    }
+}
+
+/// Whether a writer tells how many bytes were taken where its sink takes so many and fails.
+fn write_is_cut(alloc: Global, model: &Model, form: Form, text: &[u8], take: usize) -> bool {
+    let Ok(mut sink) = FailingWriter::new(alloc, take) else {
+        return false;
+    };
+    let answer = write_in(model, form, &mut sink);
+    let is_told = matches!(answer, Err(WriteFault::Write { written }) if written == take as u64);
+    is_told && text.starts_with(sink.bytes()) && sink.bytes().len() == take
+}
+
+/// Whether a writer writes all where its sink has just the room.
+fn write_is_whole(alloc: Global, model: &Model, form: Form, text: &[u8]) -> bool {
+    let Ok(mut sink) = FailingWriter::new(alloc, text.len()) else {
+        return false;
+    };
+    let answer = write_in(model, form, &mut sink);
+    matches!(answer, Ok(())) && sink.bytes() == text
+}
+
+/// Whether a writer into a sink that fails tells how many bytes it took, after whichever byte that is.
+fn writes_up_to_each_byte(alloc: Global, model: &Model, form: Form, text: &[u8]) -> bool {
+    for take in 0..text.len() {
+        if !write_is_cut(alloc, model, form, text, take) {
+            return false;
+        }
+    }
+    write_is_whole(alloc, model, form, text)
+}
+
+/// Whether the model of an entry is expressible just where it has a text, and its writers tell what a sink took that fails.
+pub(crate) fn is_written_after_each_byte(alloc: Global, entry: &Entry) -> bool {
+    let Ok(model) = model_in(alloc, entry.form, &entry.text) else {
+        return !entry.is_model();
+    };
+    let mps = entry.answer_in(Form::Mps);
+    let lp = entry.answer_in(Form::Lp);
+    if !Mps::expressible(&model) || !writes_up_to_each_byte(alloc, &model, Form::Mps, &mps.text) {
+        return false;
+    }
+    if Lp::expressible(&model) {
+        !lp.is_fault && writes_up_to_each_byte(alloc, &model, Form::Lp, &lp.text)
+    } else {
+        lp.is_fault
+    }
 }

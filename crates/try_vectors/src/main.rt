@@ -7,14 +7,18 @@
 mod answers;
 mod checks;
 mod failing;
+mod numbers;
 mod tables;
 
 use checks::{
     compares, is_converted, is_converted_in_large_pieces, is_judged, is_read_in_two_pieces,
     is_shown, is_too_long_by_one, keeps_its_texts,
 };
-use failing::{shows_after_each_byte, stops_after_each_byte, stops_in_each_read};
+use failing::{
+    is_written_after_each_byte, shows_after_each_byte, stops_after_each_byte, stops_in_each_read,
+};
 use mpslp_convert::Form;
+use numbers::{is_read, is_sum};
 use std::alloc::{AllocError, Global};
 use std::io;
 use std::process::ExitCode;
@@ -139,6 +143,12 @@ fn try_failing<R: Print + Eprint>(rt: &R, alloc: Global, entries: &[Entry]) -> i
             shows_after_each_byte(alloc, entry),
             name,
             "failing writes of what is shown",
+        )?;
+        tally.note(
+            rt,
+            is_written_after_each_byte(alloc, entry),
+            name,
+            "failing writes of a model",
         )?;
     }
     tally.end(rt, "failing devices")
@@ -330,6 +340,20 @@ fn try_long_lines<R: Files + Print + Eprint>(
     tally.end(rt, "long lines")
 }
 
+/// Tries each line of a table of numbers.
+fn try_numbers<R: Files + Print + Eprint>(rt: &R, alloc: Global) -> io::Result<bool> {
+    let mut tally = Tally::new();
+    for line in table(rt, alloc, "literals.tsv")?.as_str().lines().skip(1) {
+        let is_right = is_read(&fields(alloc, line)?)?;
+        tally.note(rt, is_right, line, "literal")?;
+    }
+    for line in table(rt, alloc, "sums.tsv")?.as_str().lines().skip(1) {
+        let is_right = is_sum(&fields(alloc, line)?)?;
+        tally.note(rt, is_right, line, "sum")?;
+    }
+    tally.end(rt, "numbers")
+}
+
 /// Whether all is answered as it should be.
 fn try_all<R: Files + Print + Eprint>(rt: &R, alloc: Global) -> io::Result<bool> {
     let entries = entries(rt, alloc)?;
@@ -341,6 +365,7 @@ fn try_all<R: Files + Print + Eprint>(rt: &R, alloc: Global) -> io::Result<bool>
         try_cuts(rt, alloc, &entries)?,
         try_bytes(rt, alloc)?,
         try_long_lines(rt, alloc, &entries)?,
+        try_numbers(rt, alloc)?,
     ];
     Ok(!parts.contains(&false))
 }

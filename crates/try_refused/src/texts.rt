@@ -1,0 +1,279 @@
+//! Calls on the texts of two files.
+
+use crate::answers::{Answer, put, roomy};
+use crate::refusing::{refuse, refuse_none};
+use mpslp_convert::{
+    Form, Job, JobFault, Word, canonical, is_canonical, load, perform, run, same_model, show,
+};
+use mpslp_io::Sink;
+use mpslp_model::{Format, Model, ModelReader, ReadFault};
+use mpslp_vectors::FailingReader;
+use mpslp_write::{Lp, Mps};
+use std::alloc::{AllocError, Global};
+
+/// Room for every text here.
+const MUCH: u64 = 4_000_000;
+
+/// How many bytes a reader is fed at once, and a source gives at most.
+const PIECE: usize = 7;
+
+/// A call on the texts.
+#[derive(Clone, Copy)]
+pub(crate) enum TextCall {
+    Read,
+    Feed,
+    Canonical(Form),
+    Same,
+    SameBehind,
+    IsCanonical,
+    Load,
+    Run(Form),
+    Show,
+    PerformCanon(Form),
+    PerformSame,
+    PerformSameBehind,
+    PerformShow,
+}
+
+/// All calls, and what they are named.
+pub(crate) const TEXT_CALLS: [(&str, TextCall); 16] = [
+    ("read", TextCall::Read),
+    ("feed", TextCall::Feed),
+    ("canonical mps", TextCall::Canonical(Form::Mps)),
+    ("canonical lp", TextCall::Canonical(Form::Lp)),
+    ("same_model", TextCall::Same),
+    ("same_model behind", TextCall::SameBehind),
+    ("is_canonical", TextCall::IsCanonical),
+    ("load", TextCall::Load),
+    ("run mps", TextCall::Run(Form::Mps)),
+    ("run lp", TextCall::Run(Form::Lp)),
+    ("show", TextCall::Show),
+    ("perform canon mps", TextCall::PerformCanon(Form::Mps)),
+    ("perform canon lp", TextCall::PerformCanon(Form::Lp)),
+    ("perform same", TextCall::PerformSame),
+    ("perform same behind", TextCall::PerformSameBehind),
+    ("perform show", TextCall::PerformShow),
+];
+
+/// A text and its format.
+#[derive(Clone, Copy)]
+pub(crate) struct Text<'a> {
+    pub(crate) form: Form,
+    pub(crate) bytes: &'a [u8],
+}
+
+impl Text<'_> {
+    fn source(&self) -> FailingReader<'_> {
+        FailingReader::new(self.bytes, PIECE, 0)
+    }
+}
+
+fn read<A: Format>(alloc: Global, text: &[u8], growth: u32) -> Result<Answer, AllocError> {
+    refuse(alloc, growth);
+    let answer = A::read(alloc, text);
+    refuse_none(alloc);
+    Answer::of_model(alloc, answer)
+}
+
+/// What a reader answers that is fed the text in pieces, and whether it answers `Failed` to all that follows a refusal.
+fn fed<P: ModelReader>(
+    alloc: Global,
+    text: &[u8],
+    growth: u32,
+) -> (Result<Model, ReadFault>, bool) {
+    let mut reader = P::new(alloc);
+    refuse(alloc, growth);
+    for piece in text.chunks(PIECE) {
+        if let Err(fault) = reader.feed(piece) {
+            refuse_none(alloc);
+            let is_spent = matches!(reader.feed(piece), Err(ReadFault::Failed));
+            let ends = matches!(reader.finish(), Err(ReadFault::Failed));
+            return (Err(fault), is_spent && ends);
+        }
+    }
+    let answer = reader.finish();
+    refuse_none(alloc);
+    (answer, true)
+}
+
+fn feed<A: Format>(alloc: Global, text: &[u8], growth: u32) -> Result<Answer, AllocError> {
+    let (answer, is_spent) = fed::<A::Reader>(alloc, text, growth);
+    let mut told = Answer::of_model(alloc, answer)?;
+    if !is_spent {
+        told.text.extend_from_slice(b"goes on behind a refusal\n")?;
+    }
+    Ok(told)
+}
+
+fn canonical_text<A: Format, B: Format>(alloc: Global, text: &[u8], growth: u32) -> Answer {
+    refuse(alloc, growth);
+    let answer = canonical::<A, B>(alloc, text);
+    refuse_none(alloc);
+    Answer::of_conversion(alloc, answer)
+}
+
+fn same<A: Format, B: Format>(
+    alloc: Global,
+    first: &[u8],
+    second: &[u8],
+    growth: u32,
+) -> Result<Answer, AllocError> {
+    refuse(alloc, growth);
+    let answer = same_model::<A, B>(alloc, first, second);
+    refuse_none(alloc);
+    Answer::of_test(alloc, answer)
+}
+
+fn is_own_text<A: Format>(alloc: Global, text: &[u8], growth: u32) -> Result<Answer, AllocError> {
+    refuse(alloc, growth);
+    let answer = is_canonical::<A>(alloc, text);
+    refuse_none(alloc);
+    Answer::of_test(alloc, answer)
+}
+
+fn loaded(alloc: Global, text: &Text<'_>, growth: u32) -> Answer {
+    let mut source = text.source();
+    refuse(alloc, growth);
+    let answer = load(alloc, MUCH, &mut source);
+    refuse_none(alloc);
+    Answer::of_bytes(alloc, answer)
+}
+
+fn ran<A: Format, B: Format>(
+    alloc: Global,
+    text: &Text<'_>,
+    growth: u32,
+) -> Result<Answer, AllocError> {
+    let mut source = text.source();
+    let mut sink = roomy(alloc)?;
+    refuse(alloc, growth);
+    let answer = run::<A, B, _, _>(alloc, MUCH, &mut source, &mut sink);
+    refuse_none(alloc);
+    Answer::of_run(alloc, answer, &sink)
+}
+
+fn shown<A: Format>(alloc: Global, text: &Text<'_>, growth: u32) -> Result<Answer, AllocError> {
+    let mut source = text.source();
+    let mut sink = roomy(alloc)?;
+    refuse(alloc, growth);
+    let answer = show::<A, _, _>(alloc, MUCH, &mut source, &mut sink);
+    refuse_none(alloc);
+    Answer::of_run(alloc, answer, &sink)
+}
+
+/// The exit status of a job, what it prints, and what it tells.
+fn performed(
+    alloc: Global,
+    job: &Result<Job, JobFault>,
+    first: &Text<'_>,
+    second: &Text<'_>,
+    growth: u32,
+) -> Result<Answer, AllocError> {
+    let mut first = first.source();
+    let mut second = second.source();
+    let mut out = roomy(alloc)?;
+    let mut err = roomy(alloc)?;
+    refuse(alloc, growth);
+    let status = perform(
+        alloc,
+        MUCH,
+        job,
+        &mut first,
+        &mut second,
+        &mut out,
+        &mut err,
+    );
+    refuse_none(alloc);
+    put(&mut out, "status ");
+    let _ = out.write(&[b'0' + status % 10, b'\n']);
+    let mut text = out.bytes().to_vec(alloc)?;
+    text.extend_from_slice(err.bytes())?;
+    Ok(Answer {
+        is_out_of_memory: status == 5,
+        text,
+    })
+}
+
+fn a_path(alloc: Global) -> Result<Word, JobFault> {
+    Word::new(alloc, "-")
+}
+
+fn canon_job(alloc: Global, from: Form, to: Form) -> Result<Job, JobFault> {
+    Ok(Job::Canon {
+        from,
+        to,
+        path: a_path(alloc)?,
+    })
+}
+
+fn same_job(alloc: Global, first_form: Form, second_form: Form) -> Result<Job, JobFault> {
+    Ok(Job::Same {
+        first_form,
+        first: a_path(alloc)?,
+        second_form,
+        second: a_path(alloc)?,
+    })
+}
+
+fn show_job(alloc: Global, from: Form) -> Result<Job, JobFault> {
+    Ok(Job::Show {
+        from,
+        path: a_path(alloc)?,
+    })
+}
+
+/// What a call answers while a growth is refused, where the formats of the texts are `A` and `B`.
+fn answer_in<A: Format, B: Format>(
+    alloc: Global,
+    call: TextCall,
+    first: &Text<'_>,
+    second: &Text<'_>,
+    growth: u32,
+) -> Result<Answer, AllocError> {
+    let bytes = first.bytes;
+    match call {
+        TextCall::Read => read::<A>(alloc, bytes, growth),
+        TextCall::Feed => feed::<A>(alloc, bytes, growth),
+        TextCall::Canonical(Form::Mps) => Ok(canonical_text::<A, Mps>(alloc, bytes, growth)),
+        TextCall::Canonical(Form::Lp) => Ok(canonical_text::<A, Lp>(alloc, bytes, growth)),
+        TextCall::Same => same::<A, B>(alloc, bytes, second.bytes, growth),
+        TextCall::SameBehind => same::<B, A>(alloc, second.bytes, bytes, growth),
+        TextCall::IsCanonical => is_own_text::<A>(alloc, bytes, growth),
+        TextCall::Load => Ok(loaded(alloc, first, growth)),
+        TextCall::Run(Form::Mps) => ran::<A, Mps>(alloc, first, growth),
+        TextCall::Run(Form::Lp) => ran::<A, Lp>(alloc, first, growth),
+        TextCall::Show => shown::<A>(alloc, first, growth),
+        TextCall::PerformCanon(to) => {
+            let job = canon_job(alloc, first.form, to);
+            performed(alloc, &job, first, second, growth)
+        }
+        TextCall::PerformSame => {
+            let job = same_job(alloc, first.form, second.form);
+            performed(alloc, &job, first, second, growth)
+        }
+        TextCall::PerformSameBehind => {
+            let job = same_job(alloc, second.form, first.form);
+            performed(alloc, &job, second, first, growth)
+        }
+        TextCall::PerformShow => {
+            let job = show_job(alloc, first.form);
+            performed(alloc, &job, first, second, growth)
+        }
+    }
+}
+
+/// What a call on two texts answers while a growth is refused.
+pub(crate) fn answer_to(
+    alloc: Global,
+    call: TextCall,
+    first: &Text<'_>,
+    second: &Text<'_>,
+    growth: u32,
+) -> Result<Answer, AllocError> {
+    match (first.form, second.form) {
+        (Form::Mps, Form::Mps) => answer_in::<Mps, Mps>(alloc, call, first, second, growth),
+        (Form::Mps, Form::Lp) => answer_in::<Mps, Lp>(alloc, call, first, second, growth),
+        (Form::Lp, Form::Mps) => answer_in::<Lp, Mps>(alloc, call, first, second, growth),
+        (Form::Lp, Form::Lp) => answer_in::<Lp, Lp>(alloc, call, first, second, growth),
+    }
+}

@@ -1,0 +1,60 @@
+//! What is checked of numbers: the decimal of a literal, its text, and exact sums and differences.
+
+use crate::tables::field;
+use mpslp_decimal::{Decimal, DecimalText, NumberFault};
+use std::io;
+
+fn name_of(fault: NumberFault) -> &'static str {
+    match fault {
+        NumberFault::BadNumber => "BadNumber",
+        NumberFault::LongNumber => "LongNumber",
+        NumberFault::TooManyDigits => "TooManyDigits",
+        NumberFault::ExponentRange => "ExponentRange",
+    }
+}
+
+/// Whether a decimal is the pair of these two texts.
+fn is_pair(value: Decimal, mantissa: &str, exponent: &str) -> bool {
+    let is_mantissa = matches!(mantissa.parse::<i128>(), Ok(wanted) if wanted == value.mantissa());
+    let is_exponent = matches!(exponent.parse::<i32>(), Ok(wanted) if wanted == value.exponent());
+    is_mantissa && is_exponent
+}
+
+/// Whether the literal of a line of `literals.tsv` has the decimal, the text or the fault of the line.
+pub(crate) fn is_read(fields: &[&str]) -> io::Result<bool> {
+    match Decimal::parse(field(fields, 0)?.as_bytes()) {
+        Ok(value) => {
+            let mut text = DecimalText::new();
+            Ok(
+                field(fields, 1)? == "decimal"
+                    && is_pair(value, field(fields, 2)?, field(fields, 3)?)
+                    && text.put(value) == field(fields, 4)?.as_bytes(),
+            )
+        }
+        Err(fault) => Ok(field(fields, 1)? == name_of(fault)),
+    }
+}
+
+/// The sum or the difference of two literals, where it is a decimal.
+fn sum_of(first: &str, sign: &str, second: &str) -> Result<Option<Decimal>, NumberFault> {
+    let first = Decimal::parse(first.as_bytes())?;
+    let second = Decimal::parse(second.as_bytes())?;
+    if sign == "+" {
+        Ok(first.checked_add(second))
+    } else {
+        Ok(first.checked_sub(second))
+    }
+}
+
+/// Whether the sum or the difference of a line of `sums.tsv` is the decimal of the line, or none.
+pub(crate) fn is_sum(fields: &[&str]) -> io::Result<bool> {
+    let answer = field(fields, 3)?;
+    match sum_of(field(fields, 0)?, field(fields, 1)?, field(fields, 2)?) {
+        Ok(Some(value)) => {
+            let is_wanted = is_pair(value, field(fields, 4)?, field(fields, 5)?);
+            Ok(answer == "decimal" && is_wanted)
+        }
+        Ok(None) => Ok(answer == "none"),
+        Err(_) => Ok(false),
+    }
+}

@@ -1,0 +1,283 @@
+#!/usr/bin/env python3
+"""Refuse each growth of memory in turn.
+
+`try_refused` makes each call of the library that takes memory with its first growth
+refused, then with its second one, and so on until none is refused: names, words, jobs,
+the calls of a builder, and readers, conversions, comparisons, runs and jobs on each
+file of vectors/. The same is done of the program, on some files. Where a growth is
+refused, the answer has to be that there is no memory, and nothing else; where none is,
+the one that vectors/ has, or the crate's file of what it prints. A builder's call that
+is refused is made again, and then all that follows has to be as if nothing was refused.
+
+refuse.c says what a growth is. This wants the programs that `rt ci` builds, and glibc;
+without a C compiler it tries nothing and says so. Exits with 1 where an answer is
+another one, and names the call.
+"""
+
+import argparse
+import csv
+import os
+import re
+import shutil
+import subprocess
+import sys
+import tempfile
+from collections import namedtuple
+from concurrent.futures import ThreadPoolExecutor
+from functools import partial
+from itertools import count
+from pathlib import Path
+
+HERE = Path(__file__).resolve().parent
+VECTORS = HERE.parent / "vectors"
+CRATES = HERE.parent / "crates"
+CALLS = CRATES / "try_refused" / "out" / "try_refused"
+PRINTED = CRATES / "try_refused" / "stdout"
+PROGRAM = CRATES / "mpslp" / "out" / "mpslp"
+SOURCE = HERE / "refuse.c"
+
+OUT_OF_MEMORY = b"out of memory\n"
+
+# What each file is compared with: one model in both formats.
+OTHER = "small.lp"
+OTHER_OF_ITSELF = "small.mps"
+
+# What the program is run on: files of vectors/, and words that ask for no job, with its exit status.
+PROGRAM_FILES = ("small.lp", "production.lp", "ranges-before-right-sides.mps", "upper-below-0.mps", "columns-of-each-kind.mps")
+PROGRAM_WORDS = {"--help": 0, "canon mps": 3, "canon mps xml -": 3, "same mps - lp -": 3}
+
+Entry = namedtuple("Entry", "topic input answer mps lp show")
+
+# How many growths were counted, and how many requests were refused.
+Counted = namedtuple("Counted", "growths refused")
+
+
+class Refusing:
+    """Runs programs with the library that refuses."""
+
+    def __init__(self, folder, compiler):
+        self.folder = Path(folder)
+        self.library = self.folder / "refuse.so"
+        subprocess.run([compiler, "-O2", "-shared", "-fPIC", "-o", self.library, SOURCE], check=True)
+
+    def run(self, command, growth=None):
+        """How a command ends, and what was counted. A growth that is given is refused, counted from the command's start."""
+        with tempfile.NamedTemporaryFile(dir=self.folder) as log:
+            variables = dict(os.environ, LD_PRELOAD=str(self.library), REFUSE_LOG=log.name)
+            if growth is not None:
+                variables["REFUSE"] = str(growth)
+            ended = subprocess.run(command, env=variables, capture_output=True, cwd=VECTORS, stdin=subprocess.DEVNULL)
+            counts = [Counted(*map(int, line.split())) for line in Path(log.name).read_text().splitlines()]
+            return (ended.returncode, ended.stdout, ended.stderr), counts
+
+    def runs(self, command):
+        """How a command ends with each growth refused in turn, and at last with none; and what was counted."""
+        answers, counts = [], []
+        for growth in count(1):
+            answer, (counted,) = self.run(command, growth)
+            answers.append(answer)
+            counts.append(counted)
+            if not counted.refused:
+                return answers, counts
+
+
+class Tally:
+    """What was tried of a program, and what was answered in another way."""
+
+    def __init__(self, name):
+        self.name = name
+        self.calls = self.growths = self.repeated = 0
+        self.wrong = []
+
+    def take(self, place, answers, counts, is_refused, is_whole):
+        """Takes the answers of a call: with each growth refused in turn, and at last with none."""
+        self.calls += 1
+        self.growths += len(counts) - 1
+        self.repeated += sum(counted.refused > 1 for counted in counts)
+        for growth, (answer, counted) in enumerate(zip(answers, counts), 1):
+            if growth < len(answers):
+                is_right = counted.growths == growth and counted.refused > 0 and is_refused(answer)
+            else:
+                is_right = counted == (growth - 1, 0) and is_whole(answer)
+            if not is_right:
+                self.wrong.append(f"{place}: growth {growth}: {counted}: {answer}")
+
+    def line(self):
+        return (f"{self.name}: {self.calls} calls, {self.growths} growths refused, {self.repeated} of them twice: "
+                f"{len(self.wrong)} answered in another way")
+
+
+def form_of(name):
+    return name.rsplit(".", 1)[1]
+
+
+def content(name):
+    return (VECTORS / name).read_bytes()
+
+
+def entries():
+    with open(VECTORS / "index.tsv", newline="") as table:
+        return [Entry(*row) for row in list(csv.reader(table, delimiter="\t", quoting=csv.QUOTE_NONE))[1:]]
+
+
+def calls_of(output):
+    """The calls that `try_refused` prints, each with its answers."""
+    calls = {}
+    while output:
+        line, _, output = output.partition(b"\n")
+        word, _, rest = line.partition(b" ")
+        if word == b"call":
+            answers = calls[rest.decode()] = []
+        else:
+            answers.append(output[:int(rest)])
+            output = output[int(rest):]
+    return calls
+
+
+def ended(status, out=b"", err=b""):
+    """What `try_refused` prints of a job."""
+    return out + b"status %d\n" % status + err
+
+
+def is_made_again(whole, answer):
+    """Whether one call of a builder was refused and then made again, or the end of the builder was refused."""
+    again, refusals = re.subn(rb"(?m)^(.*): out of memory\n(?=\1: )", b"", answer)
+    if refusals:
+        return refusals == 1 and again == whole
+    calls = b"".join(line for line in whole.splitlines(keepends=True) if b": " in line)
+    return answer == calls + b"finish: " + OUT_OF_MEMORY
+
+
+def is_shown(answer):
+    """Whether a model is shown, where no file has the text."""
+    return answer.startswith(b"sense ")
+
+
+def refusal_of(name, whole):
+    """The test of an answer of which a growth was refused."""
+    if name.startswith("builder"):
+        return partial(is_made_again, whole)
+    return (ended(5, err=OUT_OF_MEMORY) if name.startswith("perform") else OUT_OF_MEMORY).__eq__
+
+
+def take_calls(tally, place, run, whole):
+    """Takes what `try_refused` printed. `whole` has the answers where nothing is refused, or None where a model is shown."""
+    (status, output, told), counts = run
+    calls = calls_of(output)
+    if (status, told, calls.keys(), sum(map(len, calls.values()))) != (0, b"", whole.keys(), len(counts)):
+        tally.wrong.append(f"{place}: status {status}, {len(counts)} counts, {told}, {list(calls)}")
+        return
+    counts = iter(counts)
+    for name, answers in calls.items():
+        is_whole = is_shown if whole[name] is None else whole[name].__eq__
+        tally.take(f"{place}: {name}", answers, [next(counts) for _ in answers], refusal_of(name, whole[name]), is_whole)
+
+
+def answers_of_fault(text, fault):
+    named = ("read", "feed", "canonical mps", "canonical lp", "same_model", "same_model behind", "is_canonical",
+             "run mps", "run lp", "show")
+    performed = ("perform canon mps", "perform canon lp", "perform show")
+    return {
+        **dict.fromkeys(named, fault),
+        **dict.fromkeys(performed, ended(2, err=fault)),
+        "load": text,
+        "perform same": ended(2, err=b"first: " + fault),
+        "perform same behind": ended(2, err=b"second: " + fault),
+    }
+
+
+def answers_of_model(entry, text, is_same):
+    mps = content(entry.mps)
+    lp = entry.lp.encode() + b"\n" if entry.lp.endswith(": NotLp") else content(entry.lp)
+    shown = None if entry.show == "-" else content(entry.show)
+    is_own = text == (mps if form_of(entry.input) == "mps" else lp)
+    compared = ended(0, b"same\n") if is_same else ended(1, b"not the same\n")
+    return {
+        **dict.fromkeys(("read", "feed", "canonical mps", "run mps"), mps),
+        **dict.fromkeys(("canonical lp", "run lp"), lp),
+        **dict.fromkeys(("same_model", "same_model behind"), b"true\n" if is_same else b"false\n"),
+        **dict.fromkeys(("perform same", "perform same behind"), compared),
+        "is_canonical": b"true\n" if is_own else b"false\n",
+        "load": text,
+        "show": shown,
+        "perform show": shown and ended(0, shown),
+        "perform canon mps": ended(0, mps),
+        "perform canon lp": ended(2, err=lp) if entry.lp.endswith(": NotLp") else ended(0, lp),
+    }
+
+
+def answers_of(entry, other):
+    """What is to be answered of a file that is compared with another one, call by call."""
+    text = content(entry.input)
+    if entry.answer == "model":
+        return answers_of_model(entry, text, entry.mps == other.mps)
+    return answers_of_fault(text, entry.answer.encode() + b"\n")
+
+
+def check_calls(workers, refusing, program):
+    """The calls that need no file, and those on each file."""
+    tally = Tally("calls of the library")
+    printed = {name: answers[-1] for name, answers in calls_of(PRINTED.read_bytes()).items()}
+    take_calls(tally, "without files", refusing.run([program]), printed)
+    by_name = {entry.input: entry for entry in entries()}
+    pairs = [(entry, by_name[OTHER_OF_ITSELF if entry.input == OTHER else OTHER]) for entry in by_name.values()]
+    commands = [[program, *(word for entry in pair for word in (form_of(entry.input), entry.input))] for pair in pairs]
+    for (entry, other), run in zip(pairs, workers.map(refusing.run, commands)):
+        take_calls(tally, entry.input, run, answers_of(entry, other))
+    return tally
+
+
+def jobs_on(entry):
+    """Jobs of the program on a file, and what they are named among the calls."""
+    form = form_of(entry.input)
+    yield f"canon {form} mps {entry.input}", "perform canon mps"
+    yield f"canon {form} lp {entry.input}", "perform canon lp"
+    yield f"show {form} {entry.input}", "perform show"
+    yield f"same {form} {entry.input} {form_of(OTHER)} {OTHER}", "perform same"
+
+
+def has_ended(whole, answer):
+    return ended(*answer) == whole
+
+
+def check_program(workers, refusing, program):
+    """The program, whose growths are counted from its start."""
+    tally = Tally("mpslp")
+    by_name = {entry.input: entry for entry in entries()}
+    tests = {words: lambda answer, status=status: answer[0] == status for words, status in PROGRAM_WORDS.items()}
+    for entry in map(by_name.get, PROGRAM_FILES):
+        whole = answers_of(entry, by_name[OTHER])
+        tests.update((words, partial(has_ended, whole[name])) for words, name in jobs_on(entry))
+    runs = workers.map(lambda words: refusing.runs([program, *words.split()]), tests)
+    for (words, is_whole), (answers, counts) in zip(tests.items(), runs):
+        tally.take(words, answers, counts, (5, b"", OUT_OF_MEMORY).__eq__, is_whole)
+    return tally
+
+
+def arguments():
+    parser = argparse.ArgumentParser(description=__doc__, formatter_class=argparse.RawDescriptionHelpFormatter)
+    parser.add_argument("--program", type=Path, default=PROGRAM, help="the path of mpslp")
+    parser.add_argument("--calls", type=Path, default=CALLS, help="the path of try_refused")
+    return parser.parse_args()
+
+
+def main():
+    options = arguments()
+    compiler = os.environ.get("CC") or shutil.which("cc")
+    if compiler is None:
+        print("skipped: refused memory (a C compiler is missing)")
+        return 0
+    with tempfile.TemporaryDirectory() as folder, ThreadPoolExecutor(os.cpu_count()) as workers:
+        refusing = Refusing(folder, compiler)
+        tallies = [check_calls(workers, refusing, options.calls.resolve()),
+                   check_program(workers, refusing, options.program.resolve())]
+    for tally in tallies:
+        print(tally.line())
+    wrong = [line for tally in tallies for line in tally.wrong]
+    for line in wrong:
+        print(line, file=sys.stderr)
+    return 1 if wrong else 0
+
+
+if __name__ == "__main__":
+    sys.exit(main())
