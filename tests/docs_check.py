@@ -5,13 +5,15 @@ What README.md, CONTRIBUTING.md, examples/README.md and docs/*.md say of a comma
 or a file is tried, in a scratch folder with the repository's examples. A comment before a
 fenced block or a table, which a reader of the page does not see, says how:
 
-    <!-- file: NAME -->        the block is the file NAME
+    <!-- file: NAME -->        the block is the file NAME; an awk script is also that
+                               file in docs/solvers
     <!-- prints: COMMAND -->   the block is what the command prints
     <!-- runs -->              the block is run by sh -e and ends with status 0
-    <!-- table: FORM -->       each row is tried, in the way of docs_tables.py
+    <!-- table: FORM -->       each row is tried, in the way of docs_tables.py, which
+                               also knows some tables by their heads, without a comment
     <!-- check: COMMAND -->    without a block: the command ends with status 0
-    <!-- needs: PROGRAM -->    where it is missing, what stands from here to the next
-                               paragraph in bold or heading is passed over, and told
+    <!-- needs: PROGRAM -->    if it is missing, what comes from here to the next
+                               paragraph in bold or heading is skipped, and it says so
 
 A block in the language console needs no comment: a line that begins with "$ "
 is a command, and the lines up to the next one are what it prints.
@@ -37,7 +39,8 @@ import docs_tables
 
 ROOT = Path(__file__).resolve().parent.parent
 PROGRAM = ROOT / "crates" / "mpslp" / "out" / "mpslp"
-DOCUMENTS = ("README.md", "CONTRIBUTING.md", "examples/README.md", "docs/*.md")
+SCRIPTS = ROOT / "docs" / "solvers"
+DOCUMENTS = ("README.md", "CONTRIBUTING.md", "examples/README.md", "vectors/README.md", "docs/*.md")
 MARK = re.compile(r"<!-- (file|prints|table|check|needs): (.+) -->$|<!-- (runs) -->$")
 PARAGRAPH = re.compile(r"#+ |\*\*")
 FENCE = re.compile(r"( *)```(.*)$")
@@ -139,9 +142,9 @@ class Document:
                 self.attempt(number, self.scratch.succeeds, mark[2])
             elif mark:
                 marks.append((mark[1] or mark[3], mark[2]))
-            elif line.startswith("|") and marks:
+            elif line.startswith("|") and (marks or line in docs_tables.HEADS):
                 rows, at = self.table(at)
-                self.check_table(number, marks, rows)
+                self.check_table(number, marks or [("table", docs_tables.HEADS[line])], rows)
                 marks = []
             elif line.strip() and marks:
                 self.wrong.append(f"{self.name}:{number}: no block and no table behind the comment")
@@ -153,7 +156,7 @@ class Document:
     def need(self, number, program):
         self.passes_over = not shutil.which(program)
         if self.passes_over:
-            print(f"{self.name}:{number}: {program} is missing, and what needs it is passed over")
+            print(f"skipped: {self.name}:{number}: {program} is missing")
 
     def block(self, at, indent):
         """The lines of a fenced block, and the line that ends it."""
@@ -175,6 +178,7 @@ class Document:
         for kind, value in marks:
             if kind == "file":
                 (self.scratch.work / value).write_text(text)
+                self.attempt(number, is_stored_as, SCRIPTS / value, text)
             elif kind == "prints":
                 self.attempt(number, self.scratch.wants, value, text.encode())
             elif kind == "runs":
@@ -206,6 +210,12 @@ class Document:
                 continue
             path = (self.path.parent / target).resolve() if target else self.path
             self.attempt(number, leads_somewhere, path, heading, target)
+
+
+def is_stored_as(path, text):
+    """A script that is also a file of its own is the same there."""
+    if path.suffix == ".awk" and (not path.exists() or path.read_text() != text):
+        raise Wrong(f"{path.relative_to(ROOT)} is not this block")
 
 
 def answers_of(check, cells):

@@ -8,6 +8,7 @@ as a whole lacks.
 import re
 from fractions import Fraction
 
+import errors
 from fault_examples import EXAMPLES
 
 
@@ -239,7 +240,7 @@ class Reserved(Form):
         ("ends", "min x\n{}", "End"),
         ("infinity", "min x\nbounds\nx >= -{}\nend\n", "x free"),
         ("both bounds", "min x\nbounds\nx {}\nend\n", "x free"),
-        ("refused", "min {}\nend\n", ": Sos"),
+        ("rejected", "min {}\nend\n", ": Sos"),
     )
 
     def __call__(self, cells):
@@ -288,29 +289,49 @@ class Files(Form):
 
 
 class Statuses(Form):
-    """Exit statuses, with runs that answer them; where memory is refused is tried by bench/refused.py."""
+    """Exit statuses, with runs that end so; where memory is refused is tested by bench/refused.py."""
 
     RUNS = {
         "0": (("canon mps mps examples/small.mps", None), ("same mps examples/small.mps lp examples/small.lp", "same")),
         "1": (("same mps examples/small.mps lp examples/semi.lp", "not the same"),),
         "2": (("canon mps mps short", "file: MissingEnd"), ("same mps short mps short", "first: file: MissingEnd"),
-              ("same mps examples/small.mps mps short", "second: file: MissingEnd")),
+              ("same mps examples/small.mps mps short", "second: file: MissingEnd"),
+              ("canon mps lp unfit", "row 0: NotLp")),
         "3": (("", None), ("canon mps", None), ("convert a b", None), ("same mps - mps -", "both inputs are -"),
-              ("show free -", "unknown format: free")),
-        "4": (("canon mps mps nowhere", "read failed"), ("canon mps mps examples/small.mps > /dev/full", "write failed")),
+              ("show free -", "unknown format: free"), ("canon mps mps -a.mps", None),
+              ("canon mps mps \"$(printf '\\377.mps')\"", None)),
+        "4": (("canon mps mps nowhere", "read failed"), ("canon mps mps examples", "read failed"),
+              ("canon mps mps nowhere 2>&-", None), ("canon mps mps examples/small.mps > /dev/full", "write failed"),
+              ("canon mps mps examples/small.mps >&-", "write failed")),
         "5": (),
     }
+    # What the man page says of paths and streams, each a script that ends with status 0.
+    SCRIPTS = (
+        "(sleep 0.2; status=0; mpslp show mps examples/small.mps 2> errors || status=$?; echo $status > ended) | true; "
+        "sleep 0.6; grep -qx 4 ended; grep -qx 'write failed' errors",
+        "cp examples/small.mps -- -a.mps; mpslp canon -- mps mps -a.mps | cmp - examples/small.canonical.mps; "
+        "mpslp canon mps mps ./-a.mps | cmp - examples/small.canonical.mps",
+        "name=$(printf '\\377.mps'); cp examples/small.mps \"$name\"; "
+        "mpslp canon mps mps - < \"$name\" | cmp - examples/small.canonical.mps",
+        "dd if=examples/small.lp bs=1 2> /dev/null | mpslp canon lp mps - | cmp - examples/small.canonical.mps",
+    )
+    FILES = {"short": "ROWS\n", "unfit": "ROWS\n N  C\n L  R[1]\nCOLUMNS\n    X  C  1  R[1]  1\nENDATA\n"}
 
     def __call__(self, cells):
-        (self.scratch.work / "short").write_text("ROWS\n")
+        for name, text in self.FILES.items():
+            (self.scratch.work / name).write_text(text)
         for words, line in self.RUNS[cells[0]]:
             status, printed = self.scratch.run(f"exec mpslp {words}")
-            printed = printed.decode()
+            printed = printed.decode("latin-1")
             yield told(f"mpslp {words}", str(status), cells[0])
             fits = printed.strip() == line or line is None
-            yield None if fits else f"mpslp {words}: {printed.strip()!r}, wanted is {line!r}"
+            yield None if fits else f"mpslp {words}: {printed.strip()!r}, expected {line!r}"
             stated = [span for span in spans(cells[2]) if line and span.split(" ")[0] == line.split(" ")[0]]
-            yield None if cells[0] < "2" or stated or not line or ": file" in line else f"{line!r} is not told"
+            yield None if cells[0] < "2" or stated or not line or ": file" in line else f"{line!r} is not in the table"
+
+    def at_end(self):
+        return [f"{script}: status {status}, {printed!r}" for script in self.SCRIPTS
+                for status, printed in [self.scratch.run(script)] if status]
 
 
 class Sections(Form):
@@ -327,11 +348,11 @@ class Sections(Form):
         return ()
 
 
-class Index(Form):
-    """Kinds of faults in the order of the alphabet: all of the ranks, NotLp and TooLong.
+class Errors(Form):
+    """The table of docs/errors.tsv: every kind that has a rank, NotLp and TooLong, in alphabetical order.
 
-    The examples of a kind are refused as it says, for NotLp on the way to LP; with
-    the cause changed they are accepted.
+    The example of a cause is rejected with its kind before the fix, and accepted after it;
+    so are the examples of tests/fault_examples.py. For NotLp the text is converted to LP.
     """
 
     RANK = re.compile(r"^\| \d+ \| `(\w+)` \| (?:both|neither|MPS|LP) \|", flags=re.M)
@@ -340,26 +361,42 @@ class Index(Form):
         super().__init__(scratch)
         self.kinds = []
         self.ranked = self.RANK.findall(scratch.page)
+        self.causes = list(errors.causes())
+        self.rows = errors.table().splitlines()
 
     def __call__(self, cells):
-        self.kinds += spans(cells[0])
-        kind = self.kinds[-1]
-        yield None if self.kinds == sorted(self.kinds) else f"{kind} is out of order"
-        broken, mended = EXAMPLES.get(kind, ((), ()))
-        for form, text in broken:
-            status, answer = self.converted(form, text, kind)
-            fits = status == 2 and answer.strip().split(": ")[1].split(" ")[0] == kind
-            yield None if fits else f"{kind}: {text[-200:]!r} is answered {answer.strip()!r}"
-        for form, text in mended:
-            status, answer = self.converted(form, text, kind)
-            yield None if status == 0 else f"{kind}, mended: {text[-200:]!r} is answered {answer.strip()!r}"
+        at = len(self.kinds)
+        cause = self.causes[at]
+        self.kinds.append(cause.kind)
+        yield None if self.rows[at] == "".join(f"| {cell} " if cell else "| " for cell in cells).rstrip() + " |" else (
+            f"{cause.kind}: not the row of errors.tsv; run `python3 tests/errors.py --write`")
+        if cause.place:
+            yield self.rejected(cause.kind, *cause.file(cause.before))
+            yield self.accepted(cause.kind, *cause.file(cause.after))
+
+    def rejected(self, kind, form, text):
+        status, answer = self.converted(form, text.encode("latin-1"), kind)
+        fits = status == 2 and answer.strip().split(": ")[1].split(" ")[0] == kind
+        return None if fits else f"{kind}: {text[-200:]!r} gives {answer.strip()[:200]!r}"
+
+    def accepted(self, kind, form, text):
+        status, answer = self.converted(form, text.encode("latin-1"), kind)
+        return None if status == 0 else f"{kind}, corrected: {text[-200:]!r} gives {answer.strip()!r}"
 
     def converted(self, form, text, kind):
-        return self.scratch.mpslp(f"canon {form} {'lp' if kind == 'NotLp' else form}", text.encode("latin-1"))
+        return self.scratch.mpslp(f"canon {form} {'lp' if kind == 'NotLp' else form}", text)
 
     def at_end(self):
-        return [f"{kind} is in one table alone" for kind in {*self.ranked, "NotLp", "TooLong"} ^ set(self.kinds)] + [
-            f"{kind} has no example" for kind in self.kinds if kind not in EXAMPLES]
+        found = [f"{kind} is in only one of the tables" for kind in {*self.ranked, "NotLp", "TooLong"} ^ set(self.kinds)]
+        found += [f"{kind} has no example in fault_examples.py" for kind in sorted(set(self.kinds) - set(EXAMPLES))]
+        if self.kinds != sorted(self.kinds) or len(self.kinds) != len(self.causes):
+            found.append("the kinds are not those of errors.tsv, in alphabetical order")
+        if errors.manual() not in errors.MANUAL.read_text():
+            found.append("DIAGNOSTICS of docs/mpslp.1 is not made of errors.tsv; run `python3 tests/errors.py --write`")
+        for kind, (broken, mended) in EXAMPLES.items():
+            found += [self.rejected(kind, form, text) for form, text in broken]
+            found += [self.accepted(kind, form, text) for form, text in mended]
+        return filter(None, found)
 
 
 FORMS = {
@@ -376,5 +413,10 @@ FORMS = {
     "files": Files,
     "statuses": Statuses,
     "sections": Sections,
-    "index": Index,
+    "errors": Errors,
+}
+
+# Tables that need no comment before them, by their heads.
+HEADS = {
+    "| status | meaning | standard error |": "statuses",
 }

@@ -21,15 +21,15 @@ FEATURES = {
     "maximise with a constant": (*lp("amount + 10", "ceiling: amount <= 3", sense="max"), "13"),
     "no term in the objective": (*lp("", "minimum_need: amount >= 2"), "0"),
     "no row": (*lp("2 amount + surplus", bounds="amount >= 3"), "6"),
-    "right sides of 0 alone": (*lp("amount + surplus", "balance: amount - surplus >= 0", "surplus >= 2"), "4"),
-    "double-sided row": (*lp("amount - surplus", "between: 2 <= amount <= 9\nwithin: 1 <= surplus <= 5"), "-3"),
+    "all right-hand sides 0": (*lp("amount + surplus", "balance: amount - surplus >= 0", "surplus >= 2"), "4"),
+    "ranged row": (*lp("amount - surplus", "between: 2 <= amount <= 9\nwithin: 1 <= surplus <= 5"), "-3"),
     "row without limits": (*lp("amount", "watched: amount - 1000 surplus >= -inf\nminimum_need: amount + surplus >= 4",
                                "surplus <= 1"), "3"),
     "row without terms": (*lp("amount", "minimum_need: amount >= 2\nempty_row: 0 amount <= 3"), "2"),
     "column without terms": (*lp("amount", "minimum_need: amount >= 2", "unused <= 4"), "2"),
     "fixed column": (*lp("2 amount + surplus", "minimum_need: amount + surplus >= 10", "amount = 3"), "13"),
     "free column": (*lp("amount", "minimum_need: amount + surplus >= -7", "amount free\nsurplus <= 2"), "-9"),
-    "upper bound alone": (*lp("amount - surplus", "minimum_need: amount + surplus >= -6",
+    "only an upper bound": (*lp("amount - surplus", "minimum_need: amount + surplus >= -6",
                               "-inf <= amount <= 4\n-inf <= surplus <= 4"), "-14"),
     "upper bound below 0": (*lp("amount - surplus", "minimum_need: amount + surplus >= -16",
                                 "-inf <= amount <= -4\n-inf <= surplus <= -4"), "-8"),
@@ -44,7 +44,7 @@ FEATURES = {
     "name of 255 bytes": (*lp(LONG, f"minimum_need: {LONG} >= 2"), "2"),
     "names with each symbol of LP": (*lp(" + ".join(SYMBOLS), f"need(1): {' + '.join(SYMBOLS)} >= 2"), "2"),
     "name that begins with $": (*lp("$amount + 3 surplus", "minimum_need: $amount + surplus >= 2"), "2"),
-    "names with [ ], or a digit in front": (
+    "names with [ ], or a digit first": (
         "mps", "NAME\nROWS\n N  total\n G  need[1]\nCOLUMNS\n    2amount  total  3\n    2amount  need[1]  1\n"
                "    amount[1]  total  1\n    amount[1]  need[1]  1\nRHS\n    RHS  need[1]  2\nENDATA\n", "2"),
 }

@@ -1,18 +1,19 @@
 #!/usr/bin/env python3
-"""Feed canonical texts to solvers, and compare the optima with those that are known.
+"""Feed canonical texts to solvers, and compare the optima with the known ones.
 
 The models are the examples, with the optima of examples/README.md, and small ones
 of solver_models.py that have one feature each. Each solver gets the canonical text
-as it is, and then by the recipe of docs/SOLVERS.md: the block of shell behind the
+directly, and then by the recipe of docs/SOLVERS.md: the shell block after the
 comment <!-- solver: NAME FORMAT -->, which reads model.mps or model.lp. A block
-behind <!-- file: NAME --> is a file that recipes read.
+after <!-- file: NAME --> is a file that recipes read.
 
-The tables of that page, each behind a comment <!-- optima: FORMAT -->, say what
-came of it. Cells that differ are told. --tables prints the tables as measured, for
-the solvers that are there.
+The tables of that page, each after a comment <!-- optima: FORMAT -->, state the
+results, and the table after <!-- exports --> what became of the models that a
+command reads and writes again, to the file out. Cells that differ are reported.
+--tables prints the tables as measured, for the solvers that are installed.
 
-A solver that is missing is told and passed over. Exits with 1 where a cell
-differs, or a recipe spoils what was right without it.
+A solver that is missing is reported and skipped. Exits with 1 if a cell differs,
+or a recipe spoils what was right without it.
 """
 
 import argparse
@@ -35,6 +36,7 @@ FORMATS = ("mps", "lp")
 FILE = re.compile(r"^<!-- file: (\S+) -->\n```.*\n((?:.*\n)*?)```$", re.M)
 RECIPE = re.compile(r"^<!-- solver: (\S+) (\S+) -->\n```sh\n((?:.*\n)*?)```$", re.M)
 TABLE = re.compile(r"^<!-- optima: (\S+) -->\n((?:\|.*\n)+)", re.M)
+EXPORTS = re.compile(r"^<!-- exports -->\n((?:\|.*\n)+)", re.M)
 OPTIMUM = re.compile(r"^\| (\S+) \| (?:minimum|maximum) of \S+ is (\S+) \|$", re.M)
 SECONDS = 60
 CLOSE = 1e-6
@@ -78,6 +80,7 @@ class Page:
         self.files = dict(FILE.findall(text))
         self.recipes = {(name, form): recipe for name, form, recipe in RECIPE.findall(text)}
         self.tables = {form: cells_of(rows) for form, rows in TABLE.findall(text)}
+        self.exports = [[cell.strip() for cell in row.split("|")[1:-1]] for row in EXPORTS.search(text)[1].splitlines()]
 
 
 def cells_of(rows):
@@ -121,8 +124,8 @@ def answer(solver, form, command, text, files):
 
 def verdict(found, optimum):
     if found is None:
-        return "refused"
-    return "yes" if abs(found - optimum) <= CLOSE * max(1, abs(optimum)) else "other"
+        return "error"
+    return "yes" if abs(found - optimum) <= CLOSE * max(1, abs(optimum)) else "wrong"
 
 
 def cell(name, form, model, page):
@@ -151,6 +154,60 @@ def measured(form, names, chosen, page):
                 told.append(f"{name}, {form}, {model.name}: the recipe spoils what was right without it")
         rows.append((model.name, cells))
     return rows, told
+
+
+def shown(program, form, text):
+    """What `mpslp show` prints of a text, or None if it is rejected."""
+    done = subprocess.run([program, "show", form, "-"], input=text, capture_output=True)
+    return done.stdout.decode() if done.returncode == 0 else None
+
+
+def without(text, *names):
+    """The text of show without the objective's name, and without the lines that begin with these names."""
+    lines = [re.sub(r"^objective \S+", "objective", line) for line in text.splitlines()]
+    return [line for line in lines if not line.startswith(names)]
+
+
+def exported(program, command, text, files):
+    """What became of a model that a command reads and writes again: a column of the table of exports."""
+    source, target = ("lp" if "model.lp" in command else "mps"), ("lp" if "--wlp" in command else "mps")
+    with tempfile.TemporaryDirectory() as folder:
+        for name, content in {**files, f"model.{source}": text}.items():
+            (Path(folder) / name).write_text(content)
+        try:
+            subprocess.run(["sh", "-c", command], cwd=folder, stdin=subprocess.DEVNULL, capture_output=True, timeout=SECONDS)
+        except subprocess.TimeoutExpired:
+            return "not written"
+        out = Path(folder) / "out"
+        if not out.exists() or not out.stat().st_size:
+            return "not written"
+        before, after = shown(program, source, text.encode()), shown(program, target, out.read_bytes())
+    if after is None:
+        return "changed"
+    if before == after:
+        return "same"
+    if without(before) == without(after):
+        return "objective renamed"
+    return "renamed, sense lost" if without(before, "sense ") == without(after, "sense ") else "changed"
+
+
+def export_differences(program, chosen, page, tables):
+    """The rows of the table of exports that differ, and how many were measured."""
+    head, _, *rows = page.exports
+    tried, told = 0, []
+    for row in rows:
+        command = row[0].strip("`")
+        if not all(shutil.which(part.split()[0]) for part in command.split("; ")):
+            continue
+        source = "lp" if "model.lp" in command else "mps"
+        kinds = [exported(program, command, model.texts[source], page.files) for model in chosen if model.texts[source]]
+        found = [str(kinds.count(kind)) for kind in head[1:]]
+        tried += len(found)
+        if found != row[1:]:
+            told.append(f"{command}: {found}; the page has {row[1:]}")
+        if tables:
+            print("| " + " | ".join([row[0], *found]) + " |")
+    return tried, told
 
 
 def print_table(form, names, rows):
@@ -198,6 +255,8 @@ def main():
         told += spoiled + list(differences(form, rows, page.tables.get(form, {})))
         if options.tables:
             print_table(form, names, rows)
+    more, differ = export_differences(program, chosen, page, options.tables)
+    tried, told = tried + more, told + differ
     for line in told:
         print(line)
     print(f"{tried} tried, {len(told)} differ")
