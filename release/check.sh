@@ -87,6 +87,7 @@ check_archive() {
     (cd "$root/opt/$name" && sha256sum --check --quiet SHA256SUMS)
     in_root PATH="/opt/$name/bin:/usr/bin:/bin" PKG_CONFIG_PATH="/opt/$name/lib/pkgconfig" LD_LIBRARY_PATH="/opt/$name/lib" \
         sh -c "cd $place && sh use.sh $version /opt/$name/share/mpslp/$wheel"
+    in_root sh -c "cd $place && python3 stack.py --program /opt/$name/bin/mpslp examples/*.mps examples/*.lp large/*"
     rm -r "$root/opt/$name"
     is_as_before "the archive"
     echo "archive: installed, used and removed"
@@ -98,6 +99,7 @@ check_package() {
     cp "$package" $root$place
     in_root dpkg --install "$place/$(basename "$package")" > build/roots/log 2>&1 || die "dpkg: $(cat build/roots/log)"
     test -z "$(in_root dpkg --verify mpslp)" || die "dpkg --verify finds changed files"
+    tar -xzf "$archive" -O "$name/bin/mpslp" | cmp - $root/usr/bin/mpslp
     in_root sh -c "cd $place && sh use.sh $version /usr/share/mpslp/$wheel"
     in_root dpkg --purge mpslp > build/roots/log 2>&1 || die "dpkg: $(cat build/roots/log)"
     is_as_before "the package"
