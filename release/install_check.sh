@@ -35,8 +35,9 @@ use() {
     "$mpslp" canon mps mps examples/small.mps | cmp - examples/small.canonical.mps
     LD_LIBRARY_PATH=$libdir "$scratch/shared" canon mps mps examples/small.mps | cmp - examples/small.canonical.mps
     "$scratch/static" canon mps mps examples/small.mps | cmp - examples/small.canonical.mps
-    test -s "$1/share/man/man1/mpslp.1" && test -s "$1/share/doc/mpslp/README.md" && test -s "$1/share/doc/mpslp/docs/C.md" ||
-        die "the man page or the documents are missing in $1"
+    for file in man/man1/mpslp.1 doc/mpslp/README.md doc/mpslp/docs/C.md doc/mpslp/docs/solvers/coin.awk doc/mpslp/examples/small.mps; do
+        test -s "$1/share/$file" || die "$1/share/$file is missing"
+    done
 }
 
 # No file is left, and no directory but those that every package shares.
