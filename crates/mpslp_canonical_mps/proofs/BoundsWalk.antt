@@ -10,7 +10,7 @@ use Rattle.mpslp_types.specs.declared.kinds.Limit.TheVariants.{MinusInf, Finite,
 use Rattle.mpslp_types.proofs.EachLemmas.{Each, Each-append}
 use Rattle.mpslp_mps.specs.Line.{Fields, LineContent, data_line}
 use Rattle.mpslp_mps.specs.BoundLine.{letters_of}
-use Rattle.mpslp_mps.specs.Context.{context_of, current_section, data_lines, bound_set, first_set}
+use Rattle.mpslp_mps.specs.Context.{Context, context_of, current_section, data_lines, bound_set}
 use Rattle.mpslp_mps.specs.LineDeclarations.{line_declares}
 use Rattle.mpslp_mps.specs.FieldFault.{set_tests}
 use Rattle.mpslp_mps.proofs.ContextLineLemmas.{form_faults}
@@ -72,15 +72,15 @@ pub record InBounds (set : List ℕ) (rest : List Bound) (before : List LineCont
   pub one_set : HaveSet bound_set set (data_lines Bounds before)
   pub good : Each GoodBound rest
 
-bound_says : (set : List ℕ) (t : BoundForm) (x text : List ℕ) (v : Number) (before : List LineContent) (earlier : Draft) → current_section before ≡ Some Bounds → number_of text ≡ Ok v → limit_of v ≡ Finite v
-    → line_declares (context_of before) earlier (data_line (fields_at set t x text)) ≡ decl_at t x v
-bound_says set free x text v before earlier s n f = rw s refl
-bound_says set no_lower x text v before earlier s n f = rw s refl
-bound_says set no_upper x text v before earlier s n f = rw s refl
-bound_says set lower x text v before earlier s n f = rw (s, n, f) refl
-bound_says set upper x text v before earlier s n f = rw (s, n, f) refl
-bound_says set fixed x text v before earlier s n f = rw (s, n, f) refl
-bound_says set semi_upper x text v before earlier s n f = rw (s, n, f) refl
+pub bound_says : (set : List ℕ) (t : BoundForm) (x text : List ℕ) (v : Number) (context : Context) (earlier : Draft) → context.section ≡ Some Bounds → number_of text ≡ Ok v → limit_of v ≡ Finite v
+    → line_declares context earlier (data_line (fields_at set t x text)) ≡ decl_at t x v
+bound_says set free x text v context earlier s n f = rw s refl
+bound_says set no_lower x text v context earlier s n f = rw s refl
+bound_says set no_upper x text v context earlier s n f = rw s refl
+bound_says set lower x text v context earlier s n f = rw (s, n, f) refl
+bound_says set upper x text v context earlier s n f = rw (s, n, f) refl
+bound_says set fixed x text v context earlier s n f = rw (s, n, f) refl
+bound_says set semi_upper x text v context earlier s n f = rw (s, n, f) refl
 
 set_at : (set : List ℕ) (t : BoundForm) (x text : List ℕ) → bound_set (fields_at set t x text) ≡ Some set
 set_at set free x text = refl
@@ -91,22 +91,22 @@ set_at set upper x text = refl
 set_at set fixed x text = refl
 set_at set semi_upper x text = refl
 
-bound_good : (set : List ℕ) (t : BoundForm) (x text : List ℕ) (v : Number) (before : List LineContent) (earlier : Draft) → current_section before ≡ Some Bounds → number_of text ≡ Ok v
-    → those_of (set_tests (first_set bound_set (data_lines Bounds before)) set) ≡ [] → form_faults (context_of before) earlier (data_line (fields_at set t x text)) ≡ []
-bound_good set free x text v before earlier s n h = rw s h
-bound_good set no_lower x text v before earlier s n h = rw s h
-bound_good set no_upper x text v before earlier s n h = rw s h
-bound_good set lower x text v before earlier s n h = rw s (vector_good (first_set bound_set (data_lines Bounds before)) set text v n h)
-bound_good set upper x text v before earlier s n h = rw s (vector_good (first_set bound_set (data_lines Bounds before)) set text v n h)
-bound_good set fixed x text v before earlier s n h = rw s (vector_good (first_set bound_set (data_lines Bounds before)) set text v n h)
-bound_good set semi_upper x text v before earlier s n h = rw s (vector_good (first_set bound_set (data_lines Bounds before)) set text v n h)
+pub bound_good : (set : List ℕ) (t : BoundForm) (x text : List ℕ) (v : Number) (context : Context) (earlier : Draft) → context.section ≡ Some Bounds → number_of text ≡ Ok v
+    → those_of (set_tests context.bounds_set set) ≡ [] → form_faults context earlier (data_line (fields_at set t x text)) ≡ []
+bound_good set free x text v context earlier s n h = rw s h
+bound_good set no_lower x text v context earlier s n h = rw s h
+bound_good set no_upper x text v context earlier s n h = rw s h
+bound_good set lower x text v context earlier s n h = rw s (vector_good context.bounds_set set text v n h)
+bound_good set upper x text v context earlier s n h = rw s (vector_good context.bounds_set set text v n h)
+bound_good set fixed x text v context earlier s n h = rw s (vector_good context.bounds_set set text v n h)
+bound_good set semi_upper x text v context earlier s n h = rw s (vector_good context.bounds_set set text v n h)
 
 pub bound_step : (set : List ℕ) (b : Bound) (rest : List Bound) (before : List LineContent) (earlier : Draft) → InBounds set (b ∷ rest) before earlier
     → Step (bound_item set) bound_decl (InBounds set) b rest before earlier
 bound_step set b rest before earlier h =
     record {
-      says = bound_says set b.form b.column b.text b.value before earlier h.section h.good.0.text h.good.0.finite;
-      good = bound_good set b.form b.column b.text b.value before earlier h.section h.good.0.text (set-good bound_set set (data_lines Bounds before) h.one_set);
+      says = bound_says set b.form b.column b.text b.value (context_of before) earlier h.section h.good.0.text h.good.0.finite;
+      good = bound_good set b.form b.column b.text b.value (context_of before) earlier h.section h.good.0.text (set-good bound_set set (data_lines Bounds before) h.one_set);
       next = record {
         section = stays Bounds (bound_fields set b) before h.section;
         one_set = rw (lines-push Bounds (bound_fields set b) before (Some Bounds) h.section)

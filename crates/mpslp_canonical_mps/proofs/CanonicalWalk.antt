@@ -7,7 +7,7 @@ use Rattle.mpslp_builder.specs.Declaration.{Declarations, Draft, is_free_row}
 use Rattle.mpslp_types.proofs.EachLemmas.{Each}
 use Rattle.mpslp_mps.specs.Line.{LineContent}
 use Rattle.mpslp_mps.specs.Section.{begins}
-use Rattle.mpslp_mps.specs.Context.{has_section, is_read, data_lines}
+use Rattle.mpslp_mps.specs.Context.{context_of, has_section, is_read, data_lines}
 use Rattle.mpslp_canonical_mps.proofs.HeaderWalk.{is_bare, wants_word, header_item, MayStand, header-good, header-says, current-header, no-lines, settled-after}
 use Rattle.mpslp_mps.specs.declared.sections.Section.{Section}
 use Rattle.mpslp_mps.specs.declared.sections.Section.TheVariants.{Columns, Rhs, Ranges, Bounds, EndData}
@@ -69,7 +69,7 @@ under-walk : {X : Type 0} (section : Section) → IsLateSection section → (ite
     → has_section before section ≡ false → Walk (before ++ header_item section ∷ []) earlier (map item xs) (flat_map decl xs) → Walk before earlier (under section (map item xs)) (flat_map decl xs)
 under-walk section s item decl [] before earlier h f w = walk-nil before earlier
 under-walk section s item decl (x ∷ xs) before earlier h f w =
-    walk-cons before earlier (header_item section) (map item (x ∷ xs)) [] (flat_map decl (x ∷ xs)) (header-says section before earlier h.objective)
+    walk-cons before earlier (header_item section) (map item (x ∷ xs)) [] (flat_map decl (x ∷ xs)) (header-says section (context_of before) earlier (λ _. h.objective))
     (header-good section before earlier (s.stands before earlier h f) (λ _. h.objective)) w
 
 -- the lines of a section that has not begun
@@ -100,5 +100,5 @@ bounds-walk set bounds before earlier h f good =
 -- the end
 pub end-walk : (before : List LineContent) (earlier : Draft) → IsLate before earlier → has_section before EndData ≡ false → Walk before earlier (header_item EndData ∷ []) []
 end-walk before earlier h f =
-    walk-cons before earlier (header_item EndData) [] [] [] (header-says EndData before earlier h.objective)
+    walk-cons before earlier (header_item EndData) [] [] [] (header-says EndData (context_of before) earlier (λ _. h.objective))
     (header-good EndData before earlier (record { settled = h.settled; fresh = f; begins = h.columns }) (λ _. h.objective)) (walk-nil (before ++ header_item EndData ∷ []) earlier)

@@ -18,7 +18,7 @@ use Rattle.mpslp_builder.proofs.MadeDrafts.{with_declarations-append}
 use Rattle.mpslp_types.proofs.EachLemmas.{Each}
 use Rattle.mpslp_mps.specs.Line.{Fields, LineContent, data_line}
 use Rattle.mpslp_mps.specs.DataLine.{opening_word, closing_word}
-use Rattle.mpslp_mps.specs.Context.{context_of, current_section, data_lines, marker_word, in_integer_part, line_column, last_column}
+use Rattle.mpslp_mps.specs.Context.{Context, context_of, current_section, data_lines, marker_word, in_integer_part, line_column, last_column}
 use Rattle.mpslp_mps.specs.LineDeclarations.{line_declares}
 use Rattle.mpslp_lines.specs.FaultTests.{FaultTests}
 use Rattle.mpslp_lines.specs.Field.{name_tests, number_tests}
@@ -68,9 +68,9 @@ pub record InCells (marked : Bool) (rest : List Cell) (before : List LineContent
   pub good : Each GoodCell rest
   pub unsplit : Unsplit marked (last_column before) earlier rest
 
-cell_says : (marked : Bool) (cell : Cell) (before : List LineContent) (earlier : Draft) → current_section before ≡ Some Columns → in_integer_part before ≡ marked → GoodCell cell
-    → line_declares (context_of before) earlier (cell_item cell) ≡ cell_decl marked cell
-cell_says marked cell before earlier s p g = rw (s, g.row, p, g.text) refl
+pub cell_says : (marked : Bool) (cell : Cell) (context : Context) (earlier : Draft) → context.section ≡ Some Columns → context.in_integer_part ≡ marked → GoodCell cell
+    → line_declares context earlier (cell_item cell) ≡ cell_decl marked cell
+cell_says marked cell context earlier s p g = rw (s, g.row, p, g.text) refl
 
 -- tests of which none holds, before others
 pub none-first : (xs ys : FaultTests) → those_of xs ≡ [] → those_of (xs ++ ys) ≡ those_of ys
@@ -88,9 +88,9 @@ cell_tests_good cell split g e =
     ∙ none-first (number_tests (cell.text ∷ [])) ((split, kinds.ColumnSplit) ∷ []) (number-good cell.text cell.value g.text)
     ∙ ap (λ (b : Bool). those_of ((b, kinds.ColumnSplit) ∷ [])) e
 
-cell_good : (cell : Cell) (before : List LineContent) (earlier : Draft) → current_section before ≡ Some Columns → GoodCell cell → is_split_in (last_column before) earlier cell.column ≡ false
-    → form_faults (context_of before) earlier (cell_item cell) ≡ []
-cell_good cell before earlier s g u = rw (s, g.row) (cell_tests_good cell (is_split_in (last_column before) earlier cell.column) g u)
+pub cell_good : (cell : Cell) (context : Context) (earlier : Draft) → context.section ≡ Some Columns → GoodCell cell → is_split_in context.last_column earlier cell.column ≡ false
+    → form_faults context earlier (cell_item cell) ≡ []
+cell_good cell context earlier s g u = rw (s, g.row) (cell_tests_good cell (is_split_in context.last_column earlier cell.column) g u)
 
 cell_lines : (cell : Cell) (before : List LineContent) → current_section before ≡ Some Columns → data_lines Columns (before ++ cell_item cell ∷ []) ≡ data_lines Columns before ++ cell_fields cell ∷ []
 cell_lines cell before s = lines-push Columns (cell_fields cell) before (Some Columns) s
@@ -120,8 +120,8 @@ pub cell_step : (marked : Bool) (cell : Cell) (rest : List Cell) (before : List 
     → Step cell_item (cell_decl marked) (InCells marked) cell rest before earlier
 cell_step marked cell rest before earlier h =
     record {
-      says = cell_says marked cell before earlier h.section h.part h.good.0;
-      good = cell_good cell before earlier h.section h.good.0 h.unsplit.0;
+      says = cell_says marked cell (context_of before) earlier h.section h.part h.good.0;
+      good = cell_good cell (context_of before) earlier h.section h.good.0 h.unsplit.0;
       next = record {
         section = stays Columns (cell_fields cell) before h.section;
         part = part_kept cell before h.section h.good.0.row ∙ h.part;
@@ -156,14 +156,14 @@ marker_last opens before s =
     ap (λ (lines : List Fields). option_map_or line_column (last_or None lines) None) (marker_lines opens before s)
     ∙ ap (λ (o : Option Fields). option_map_or line_column o None) (last_push (data_lines Columns before) (marker_fields opens))
 
-pub marker_says : (opens : Bool) (before : List LineContent) (earlier : Draft) → current_section before ≡ Some Columns → line_declares (context_of before) earlier (data_line (marker_fields opens)) ≡ []
-marker_says true before earlier s = rw s refl
-marker_says false before earlier s = rw s refl
+pub marker_says : (opens : Bool) (context : Context) (earlier : Draft) → context.section ≡ Some Columns → line_declares context earlier (data_line (marker_fields opens)) ≡ []
+marker_says true context earlier s = rw s refl
+marker_says false context earlier s = rw s refl
 
-pub marker_good : (opens : Bool) (before : List LineContent) (earlier : Draft) → current_section before ≡ Some Columns → in_integer_part before ≡ not opens
-    → form_faults (context_of before) earlier (data_line (marker_fields opens)) ≡ []
-marker_good true before earlier s p = rw (s, p) refl
-marker_good false before earlier s p = rw (s, p) refl
+pub marker_good : (opens : Bool) (context : Context) (earlier : Draft) → context.section ≡ Some Columns → context.in_integer_part ≡ not opens
+    → form_faults context earlier (data_line (marker_fields opens)) ≡ []
+marker_good true context earlier s p = rw (s, p) refl
+marker_good false context earlier s p = rw (s, p) refl
 
 -- ---- columns one after another
 

@@ -12,7 +12,7 @@ use Rattle.mpslp_types.specs.declared.kinds.RowType.TheVariants.{Free}
 use Rattle.mpslp_types.proofs.EachLemmas.{Each}
 use Rattle.mpslp_mps.specs.Line.{Fields, LineContent, data_line}
 use Rattle.mpslp_mps.specs.DataLine.{letter_of, opening_word}
-use Rattle.mpslp_mps.specs.Context.{context_of, current_section, objname, data_lines, marker_word, line_column, in_integer_part, last_column}
+use Rattle.mpslp_mps.specs.Context.{Context, context_of, current_section, objname, data_lines, marker_word, line_column, in_integer_part, last_column}
 use Rattle.mpslp_mps.specs.LineDeclarations.{line_declares}
 use Rattle.mpslp_mps.proofs.ContextLineLemmas.{form_faults}
 use Rattle.mpslp_mps.proofs.ContextLemmas.{objname-push}
@@ -20,7 +20,7 @@ use Rattle.mpslp_mps.specs.declared.sections.Section.TheVariants.{Name, ObjSense
 use Rattle.mpslp_canonical_mps.proofs.ContentsWalk.{Walk, walk-nil, walk-cons, walk-append, section-walk}
 use Rattle.mpslp_canonical_mps.proofs.RowsWalk.{RowItem, row_item, row_decl, InRows, row_step, name-good, stays}
 use Rattle.mpslp_canonical_mps.proofs.ColumnsWalk.{Cell, cell_item, cell_decl, GoodCell, InCells, cell_step, Unsplit, marker_fields, marker_part, marker_last, marker_says, marker_good, Group, cells_of, IsGroup, AreApart, AreAbsent, groups_unsplit}
-use Rattle.mpslp_canonical_mps.proofs.HeaderWalk.{header_item, MayStand, header-good, header-says, early-header-says, current-header}
+use Rattle.mpslp_canonical_mps.proofs.HeaderWalk.{header_item, MayStand, header-good, header-says, current-header}
 use Rattle.mpslp_canonical_mps.proofs.CanonicalWalk.{none-yet}
 
 -- ---- NAME and OBJSENSE
@@ -52,12 +52,12 @@ start-unnamed Maximize = refl
 abbrev pub objective_item : List ℕ → LineContent
 objective_item name = data_line (letter_of Free ∷ name ∷ [])
 
-objective-says : (name : List ℕ) (before : List LineContent) (earlier : Draft) → current_section before ≡ Some Rows → is_none earlier.objective ≡ true → objname before ≡ None
-    → line_declares (context_of before) earlier (objective_item name) ≡ declare_objective name ∷ []
-objective-says name before earlier s o unnamed = rw (s, o, unnamed) refl
+pub objective-says : (name : List ℕ) (context : Context) (earlier : Draft) → context.section ≡ Some Rows → is_none earlier.objective ≡ true → context.objname ≡ None
+    → line_declares context earlier (objective_item name) ≡ declare_objective name ∷ []
+objective-says name context earlier s o unnamed = rw (s, o, unnamed) refl
 
-objective-good : (name : List ℕ) (before : List LineContent) (earlier : Draft) → current_section before ≡ Some Rows → is_mps_name name ≡ true → form_faults (context_of before) earlier (objective_item name) ≡ []
-objective-good name before earlier s h = rw s (name-good name h)
+pub objective-good : (name : List ℕ) (context : Context) (earlier : Draft) → context.section ≡ Some Rows → is_mps_name name ≡ true → form_faults context earlier (objective_item name) ≡ []
+objective-good name context earlier s h = rw s (name-good name h)
 
 pub rows-walk : (name : List ℕ) (rows : List RowItem) (before : List LineContent) (earlier : Draft) → MayStand Rows before → objname before ≡ None → is_none earlier.objective ≡ true → is_mps_name name ≡ true
     → Each (λ (row : RowItem). is_mps_name row.0 ≡ true) rows → Walk before earlier (header_item Rows ∷ objective_item name ∷ map row_item rows) (declare_objective name ∷ flat_map row_decl rows)
@@ -67,8 +67,8 @@ rows-walk name rows before earlier may unnamed none legal names =
     let there = headed ++ objective_item name ∷ [] in
     let named = with_declaration earlier (declare_objective name) in
     let inside : InRows rows there named = record { section = stays Rows (letter_of Free ∷ name ∷ []) headed section; objective = refl; names = names } in
-    walk-cons before earlier (header_item Rows) (objective_item name ∷ map row_item rows) [] (declare_objective name ∷ flat_map row_decl rows) (early-header-says Rows before earlier refl) (header-good Rows before earlier may (λ e. cc))
-    (walk-cons headed earlier (objective_item name) (map row_item rows) (declare_objective name ∷ []) (flat_map row_decl rows) (objective-says name headed earlier section none (objname-push before (header_item Rows) ∙ ap (λ (o : Option (List ℕ)). option_or o None) unnamed)) (objective-good name headed earlier section legal)
+    walk-cons before earlier (header_item Rows) (objective_item name ∷ map row_item rows) [] (declare_objective name ∷ flat_map row_decl rows) (header-says Rows (context_of before) earlier (λ e. cc)) (header-good Rows before earlier may (λ e. cc))
+    (walk-cons headed earlier (objective_item name) (map row_item rows) (declare_objective name ∷ []) (flat_map row_decl rows) (objective-says name (context_of headed) earlier section none (objname-push before (header_item Rows) ∙ ap (λ (o : Option (List ℕ)). option_or o None) unnamed)) (objective-good name (context_of headed) earlier section legal)
     (section-walk row_item row_decl InRows row_step rows there named inside).0)
 
 -- ---- COLUMNS
@@ -101,9 +101,9 @@ part-walk (cell ∷ cells) before earlier s p good unsplit =
     let walked = section-walk cell_item (cell_decl true) (InCells true) (cell_step true) (cell ∷ cells) opened earlier inside in
     let ds = flat_map (cell_decl true) (cell ∷ cells) in
     let after = opened ++ map cell_item (cell ∷ cells) in
-    let closing = walk-cons after (with_declarations earlier ds) (marker_item false) [] [] [] (marker_says false after (with_declarations earlier ds) walked.1.section)
-    (marker_good false after (with_declarations earlier ds) walked.1.section walked.1.part) (walk-nil (after ++ marker_item false ∷ []) (with_declarations earlier ds)) in
-    walk-cons before earlier (marker_item true) (map cell_item (cell ∷ cells) ++ marker_item false ∷ []) [] ds (marker_says true before earlier s) (marker_good true before earlier s p)
+    let closing = walk-cons after (with_declarations earlier ds) (marker_item false) [] [] [] (marker_says false (context_of after) (with_declarations earlier ds) walked.1.section)
+    (marker_good false (context_of after) (with_declarations earlier ds) walked.1.section walked.1.part) (walk-nil (after ++ marker_item false ∷ []) (with_declarations earlier ds)) in
+    walk-cons before earlier (marker_item true) (map cell_item (cell ∷ cells) ++ marker_item false ∷ []) [] ds (marker_says true (context_of before) earlier s) (marker_good true (context_of before) earlier s p)
     (subst (λ (x : Declarations). Walk opened earlier (map cell_item (cell ∷ cells) ++ marker_item false ∷ []) x) (append-nil ds)
     (walk-append opened earlier (map cell_item (cell ∷ cells)) (marker_item false ∷ []) ds [] walked.0 closing))
 
@@ -134,6 +134,6 @@ columns-walk plain integers before earlier may named h =
     let after = headed ++ map cell_item (cells_of plain) in
     let next = with_declarations earlier (flat_map (cell_decl false) (cells_of plain)) in
     walk-cons before earlier (header_item Columns) (map cell_item (cells_of plain) ++ part_items (cells_of integers)) []
-    (flat_map (cell_decl false) (cells_of plain) ++ flat_map (cell_decl true) (cells_of integers)) (header-says Columns before earlier named) (header-good Columns before earlier may (λ _. named))
+    (flat_map (cell_decl false) (cells_of plain) ++ flat_map (cell_decl true) (cells_of integers)) (header-says Columns (context_of before) earlier (λ _. named)) (header-good Columns before earlier may (λ _. named))
     (walk-append headed earlier (map cell_item (cells_of plain)) (part_items (cells_of integers)) (flat_map (cell_decl false) (cells_of plain)) (flat_map (cell_decl true) (cells_of integers)) walked.0
     (part-walk (cells_of integers) after next walked.1.section walked.1.part h.integer_cells (groups_unsplit true integers None next h.integer_groups h.integers_apart h.integers_absent)))

@@ -7,8 +7,8 @@ use Rattle.mpslp_builder.specs.Declaration.{declare_sense, Draft}
 use Rattle.mpslp_types.specs.declared.kinds.Sense.TheVariants.{Maximize}
 use Rattle.mpslp_types.proofs.BoolLemmas.{nor}
 use Rattle.mpslp_mps.specs.Line.{Fields, LineContent, skipped, header, data_line}
-use Rattle.mpslp_mps.specs.Section.{keyword_of, section_of_header, section_named, begins, is_section}
-use Rattle.mpslp_mps.specs.Context.{context_of, current_section, has_section, fields_under, data_lines_after, data_lines, is_read, word_due_after, word_due}
+use Rattle.mpslp_mps.specs.Section.{keyword_of, section_of_header, section_named, begins, is_section, has}
+use Rattle.mpslp_mps.specs.Context.{Context, context_of, current_section, has_section, fields_under, data_lines_after, data_lines, is_read, word_due_after, word_due}
 use Rattle.mpslp_mps.specs.LineDeclarations.{line_declares}
 use Rattle.mpslp_mps.specs.HeaderFault.{may_begin, is_out_of_order}
 use Rattle.mpslp_mps.proofs.ContextLineLemmas.{form_faults}
@@ -46,60 +46,48 @@ pub record MayStand (section : Section) (before : List LineContent) : Type 0 whe
   pub fresh : has_section before section ≡ false
   pub begins : may_begin (context_of before) section ≡ true
 
-in_order : (section : Section) (before : List LineContent) → MayStand section before → is_out_of_order (context_of before) section ≡ false
-in_order section before h = rw (h.settled, h.fresh, h.begins) refl
+in-order : (section : Section) (before : List LineContent) → MayStand section before → is_out_of_order (context_of before) section ≡ false
+in-order section before h = rw (h.settled, h.fresh, h.begins) refl
 
 -- the objective is there where COLUMNS begins
+pub fresh-header-good : (section : Section) (context : Context) (earlier : Draft) → is_out_of_order context section ≡ false → has context.sections_seen section ≡ false
+    → (is_section Columns (Some section) ≡ true → is_none earlier.objective ≡ false) → form_faults context earlier (header_item section) ≡ []
+fresh-header-good Name context earlier o f n = rw (o, f) refl
+fresh-header-good ObjSense context earlier o f n = rw (o, f) refl
+fresh-header-good ObjName context earlier o f n = rw (o, f) refl
+fresh-header-good Rows context earlier o f n = rw (o, f) refl
+fresh-header-good Columns context earlier o f n = rw (o, f, n refl) refl
+fresh-header-good Rhs context earlier o f n = rw (o, f) refl
+fresh-header-good Ranges context earlier o f n = rw (o, f) refl
+fresh-header-good Bounds context earlier o f n = rw (o, f) refl
+fresh-header-good EndData context earlier o f n = rw (o, f) refl
+
 pub header-good : (section : Section) (before : List LineContent) (earlier : Draft) → MayStand section before → (is_section Columns (Some section) ≡ true → is_none earlier.objective ≡ false)
     → form_faults (context_of before) earlier (header_item section) ≡ []
-header-good section before earlier h named = by section (in_order section before h) h.fresh named
-  where
-    by : (s : Section) → is_out_of_order (context_of before) s ≡ false → has_section before s ≡ false → (is_section Columns (Some s) ≡ true → is_none earlier.objective ≡ false)
-        → form_faults (context_of before) earlier (header_item s) ≡ []
-    by Name o f n = rw (o, f) refl
-    by ObjSense o f n = rw (o, f) refl
-    by ObjName o f n = rw (o, f) refl
-    by Rows o f n = rw (o, f) refl
-    by Columns o f n = rw (o, f, n refl) refl
-    by Rhs o f n = rw (o, f) refl
-    by Ranges o f n = rw (o, f) refl
-    by Bounds o f n = rw (o, f) refl
-    by EndData o f n = rw (o, f) refl
+header-good section before earlier h named = fresh-header-good section (context_of before) earlier (in-order section before h) h.fresh named
 
 -- a header declares nothing, but for the objective at COLUMNS where there was none
-pub header-says : (section : Section) (before : List LineContent) (earlier : Draft) → is_none earlier.objective ≡ false → line_declares (context_of before) earlier (header_item section) ≡ []
-header-says Name before earlier o = refl
-header-says ObjSense before earlier o = refl
-header-says ObjName before earlier o = refl
-header-says Rows before earlier o = refl
-header-says Columns before earlier o = rw o refl
-header-says Rhs before earlier o = refl
-header-says Ranges before earlier o = refl
-header-says Bounds before earlier o = refl
-header-says EndData before earlier o = refl
-
--- before ROWS there need be no objective
-pub early-header-says : (section : Section) (before : List LineContent) (earlier : Draft) → is_section Columns (Some section) ≡ false → line_declares (context_of before) earlier (header_item section) ≡ []
-early-header-says Name before earlier o = refl
-early-header-says ObjSense before earlier o = refl
-early-header-says ObjName before earlier o = refl
-early-header-says Rows before earlier o = refl
-early-header-says Columns before earlier o = cc
-early-header-says Rhs before earlier o = refl
-early-header-says Ranges before earlier o = refl
-early-header-says Bounds before earlier o = refl
-early-header-says EndData before earlier o = refl
+pub header-says : (section : Section) (context : Context) (earlier : Draft) → (is_section Columns (Some section) ≡ true → is_none earlier.objective ≡ false) → line_declares context earlier (header_item section) ≡ []
+header-says Name context earlier n = refl
+header-says ObjSense context earlier n = refl
+header-says ObjName context earlier n = refl
+header-says Rows context earlier n = refl
+header-says Columns context earlier n = rw (n refl) refl
+header-says Rhs context earlier n = refl
+header-says Ranges context earlier n = refl
+header-says Bounds context earlier n = refl
+header-says EndData context earlier n = refl
 
 pub current-header : (section : Section) (before : List LineContent) → current_section (before ++ header_item section ∷ []) ≡ Some section
 current-header section before = current_section-push before (header_item section) ∙ ap (λ (o : Option Section). option_or o (current_section before)) (section_named-keyword section)
 
 -- ---- the word of OBJSENSE, on a line of its own
 
-pub word-says : (before : List LineContent) (earlier : Draft) → current_section before ≡ Some ObjSense → line_declares (context_of before) earlier (data_line (codes "MAX" ∷ [])) ≡ declare_sense Maximize ∷ []
-word-says before earlier s = rw s refl
+pub word-says : (context : Context) (earlier : Draft) → context.section ≡ Some ObjSense → line_declares context earlier (data_line (codes "MAX" ∷ [])) ≡ declare_sense Maximize ∷ []
+word-says context earlier s = rw s refl
 
-pub word-good : (before : List LineContent) (earlier : Draft) → current_section before ≡ Some ObjSense → wants_word before ≡ true → form_faults (context_of before) earlier (data_line (codes "MAX" ∷ [])) ≡ []
-word-good before earlier s w = rw (s, w) refl
+pub word-good : (context : Context) (earlier : Draft) → context.section ≡ Some ObjSense → is_some context.word_due ≡ true → form_faults context earlier (data_line (codes "MAX" ∷ [])) ≡ []
+word-good context earlier s w = rw (s, w) refl
 
 -- ---- what has not begun
 

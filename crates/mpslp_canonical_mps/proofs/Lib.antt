@@ -10,6 +10,7 @@ pub mod ReadLemmas
 pub mod CanonicalContents
 pub mod CanonicalWalk
 pub mod EarlyWalk
+pub mod DerivedLines
 pub mod WholeWalk
 pub mod ListedContents
 pub mod DraftText

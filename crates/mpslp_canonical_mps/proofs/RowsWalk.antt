@@ -13,7 +13,7 @@ use Rattle.mpslp_types.proofs.EachLemmas.{Each, Each-append}
 use Rattle.mpslp_builder.proofs.LaterDrafts.{itself_named}
 use Rattle.mpslp_mps.specs.Line.{Fields, LineContent, data_line}
 use Rattle.mpslp_mps.specs.DataLine.{letter_of}
-use Rattle.mpslp_mps.specs.Context.{context_of, current_section, data_lines, fields_under, vector_set, first_set}
+use Rattle.mpslp_mps.specs.Context.{Context, context_of, current_section, data_lines, fields_under, vector_set, first_set}
 use Rattle.mpslp_mps.specs.LineDeclarations.{line_declares}
 use Rattle.mpslp_lines.specs.Field.{name_tests, number_tests}
 use Rattle.mpslp_mps.specs.FieldFault.{set_tests}
@@ -66,20 +66,20 @@ pub record InRows (rest : List RowItem) (before : List LineContent) (earlier : D
   pub objective : is_none earlier.objective ≡ false
   pub names : Each (λ (row : RowItem). is_mps_name row.0 ≡ true) rest
 
-row_says : (row : RowItem) (before : List LineContent) (earlier : Draft) → current_section before ≡ Some Rows → is_none earlier.objective ≡ false
-    → line_declares (context_of before) earlier (row_item row) ≡ row_decl row
-row_says row before earlier s o = by row.1
+pub row_says : (row : RowItem) (context : Context) (earlier : Draft) → context.section ≡ Some Rows → is_none earlier.objective ≡ false
+    → line_declares context earlier (row_item row) ≡ row_decl row
+row_says row context earlier s o = by row.1
   where
-    by : (t : RowType) → line_declares (context_of before) earlier (row_item (row.0, t)) ≡ row_decl (row.0, t)
+    by : (t : RowType) → line_declares context earlier (row_item (row.0, t)) ≡ row_decl (row.0, t)
     by Free = rw (s, o) refl
     by AtMost = rw s refl
     by AtLeast = rw s refl
     by Equal = rw s refl
 
-row_good : (row : RowItem) (before : List LineContent) (earlier : Draft) → current_section before ≡ Some Rows → is_mps_name row.0 ≡ true → form_faults (context_of before) earlier (row_item row) ≡ []
-row_good row before earlier s h = by row.1
+pub row_good : (row : RowItem) (context : Context) (earlier : Draft) → context.section ≡ Some Rows → is_mps_name row.0 ≡ true → form_faults context earlier (row_item row) ≡ []
+row_good row context earlier s h = by row.1
   where
-    by : (t : RowType) → form_faults (context_of before) earlier (row_item (row.0, t)) ≡ []
+    by : (t : RowType) → form_faults context earlier (row_item (row.0, t)) ≡ []
     by Free = rw s (name-good row.0 h)
     by AtMost = rw s (name-good row.0 h)
     by AtLeast = rw s (name-good row.0 h)
@@ -88,8 +88,8 @@ row_good row before earlier s h = by row.1
 pub row_step : (row : RowItem) (rest : List RowItem) (before : List LineContent) (earlier : Draft) → InRows (row ∷ rest) before earlier → Step row_item row_decl InRows row rest before earlier
 row_step row rest before earlier h =
     record {
-      says = row_says row before earlier h.section h.objective;
-      good = row_good row before earlier h.section h.names.0;
+      says = row_says row (context_of before) earlier h.section h.objective;
+      good = row_good row (context_of before) earlier h.section h.names.0;
       next = record { section = stays Rows (letter_of row.1 ∷ row.0 ∷ []) before h.section; objective = h.objective; names = h.names.1 };
     }
 
@@ -124,17 +124,17 @@ pub record InSides (set : List ℕ) (rest : List Side) (before : List LineConten
   pub texts : Each ReadsAs rest
   pub bound : Each (λ (side : Side). is_free_row earlier side.row ≡ false) rest
 
-side_says : (set : List ℕ) (side : Side) (before : List LineContent) (earlier : Draft) → current_section before ≡ Some Rhs → ReadsAs side → is_free_row earlier side.row ≡ false
-    → line_declares (context_of before) earlier (side_item set side) ≡ side_decl side
-side_says set side before earlier s t f = rw (s, f, t) refl
+pub side_says : (set : List ℕ) (side : Side) (context : Context) (earlier : Draft) → context.section ≡ Some Rhs → ReadsAs side → is_free_row earlier side.row ≡ false
+    → line_declares context earlier (side_item set side) ≡ side_decl side
+side_says set side context earlier s t f = rw (s, f, t) refl
 
 pub vector_good : (first : Option (List ℕ)) (set text : List ℕ) (value : Number) → number_of text ≡ Ok value → those_of (set_tests first set) ≡ []
     → those_of (number_tests (text ∷ []) ++ set_tests first set) ≡ []
 vector_good first set text value e h = rw e h
 
-side_good : (set : List ℕ) (side : Side) (before : List LineContent) (earlier : Draft) → current_section before ≡ Some Rhs → ReadsAs side → OneSet Rhs set before
-    → form_faults (context_of before) earlier (side_item set side) ≡ []
-side_good set side before earlier s t h = rw s (vector_good (first_set vector_set (data_lines Rhs before)) set side.text side.value t (set-good vector_set set (data_lines Rhs before) h))
+pub side_good : (set : List ℕ) (side : Side) (context : Context) (earlier : Draft) → context.section ≡ Some Rhs → ReadsAs side → those_of (set_tests context.rhs_set set) ≡ []
+    → form_faults context earlier (side_item set side) ≡ []
+side_good set side context earlier s t h = rw s (vector_good context.rhs_set set side.text side.value t h)
 
 -- one line more of a section
 pub lines-push : (section : Section) (fields : Fields) (before : List LineContent) (o : Option Section) → current_section before ≡ o
@@ -146,8 +146,8 @@ pub side_step : (set : List ℕ) (side : Side) (rest : List Side) (before : List
 side_step set side rest before earlier h =
     let fields : Fields = set ∷ side.row ∷ side.text ∷ [] in
     record {
-      says = side_says set side before earlier h.section h.texts.0 h.bound.0;
-      good = side_good set side before earlier h.section h.texts.0 h.one_set;
+      says = side_says set side (context_of before) earlier h.section h.texts.0 h.bound.0;
+      good = side_good set side (context_of before) earlier h.section h.texts.0 (set-good vector_set set (data_lines Rhs before) h.one_set);
       next = record {
         section = stays Rhs fields before h.section;
         one_set = rw (lines-push Rhs fields before (Some Rhs) h.section) (Each-append _ (data_lines Rhs before) (fields ∷ []) h.one_set (refl, tt));
@@ -161,21 +161,21 @@ pub record InRanges (set : List ℕ) (rest : List Side) (before : List LineConte
   pub one_set : OneSet Ranges set before
   pub texts : Each ReadsAs rest
 
-range_says : (set : List ℕ) (side : Side) (before : List LineContent) (earlier : Draft) → current_section before ≡ Some Ranges → ReadsAs side
-    → line_declares (context_of before) earlier (side_item set side) ≡ range_decl side
-range_says set side before earlier s t = rw (s, t) refl
+pub range_says : (set : List ℕ) (side : Side) (context : Context) (earlier : Draft) → context.section ≡ Some Ranges → ReadsAs side
+    → line_declares context earlier (side_item set side) ≡ range_decl side
+range_says set side context earlier s t = rw (s, t) refl
 
-range_good : (set : List ℕ) (side : Side) (before : List LineContent) (earlier : Draft) → current_section before ≡ Some Ranges → ReadsAs side → OneSet Ranges set before
-    → form_faults (context_of before) earlier (side_item set side) ≡ []
-range_good set side before earlier s t h = rw s (vector_good (first_set vector_set (data_lines Ranges before)) set side.text side.value t (set-good vector_set set (data_lines Ranges before) h))
+pub range_good : (set : List ℕ) (side : Side) (context : Context) (earlier : Draft) → context.section ≡ Some Ranges → ReadsAs side → those_of (set_tests context.ranges_set set) ≡ []
+    → form_faults context earlier (side_item set side) ≡ []
+range_good set side context earlier s t h = rw s (vector_good context.ranges_set set side.text side.value t h)
 
 pub range_step : (set : List ℕ) (side : Side) (rest : List Side) (before : List LineContent) (earlier : Draft) → InRanges set (side ∷ rest) before earlier
     → Step (side_item set) range_decl (InRanges set) side rest before earlier
 range_step set side rest before earlier h =
     let fields : Fields = set ∷ side.row ∷ side.text ∷ [] in
     record {
-      says = range_says set side before earlier h.section h.texts.0;
-      good = range_good set side before earlier h.section h.texts.0 h.one_set;
+      says = range_says set side (context_of before) earlier h.section h.texts.0;
+      good = range_good set side (context_of before) earlier h.section h.texts.0 (set-good vector_set set (data_lines Ranges before) h.one_set);
       next = record {
         section = stays Ranges fields before h.section;
         one_set = rw (lines-push Ranges fields before (Some Ranges) h.section) (Each-append _ (data_lines Ranges before) (fields ∷ []) h.one_set (refl, tt));

@@ -33,9 +33,12 @@ under_header section (line ∷ lines) = header_line section ∷ line ∷ lines
 
 -- ---- OBJSENSE, where the objective is maximized
 
+abbrev pub maximize_line : PrintedLine
+maximize_line = long_line (codes "MAX" ∷ [])
+
 abbrev pub sense_lines : Sense → Lines
 sense_lines Minimize = []
-sense_lines Maximize = header_line ObjSense ∷ long_line (codes "MAX" ∷ []) ∷ []
+sense_lines Maximize = header_line ObjSense ∷ maximize_line ∷ []
 
 -- ---- ROWS: the objective, then the rows
 
@@ -95,8 +98,11 @@ columns_section m =
 abbrev pub vector_line : List ℕ → List ℕ → Number → PrintedLine
 vector_line set row value = long_line (set ∷ row ∷ number_text value ∷ [])
 
+abbrev pub rhs_line : List ℕ → Number → PrintedLine
+rhs_line row value = vector_line (codes "RHS") row value
+
 abbrev pub rhs_lines : List ℕ → Number → Lines
-rhs_lines row value = if is_zero value then [] else vector_line (codes "RHS") row value ∷ []
+rhs_lines row value = if is_zero value then [] else rhs_line row value ∷ []
 
 abbrev pub row_rhs_lines : List ℕ × Row → Lines
 row_rhs_lines row = rhs_lines row.0 (printed_rhs row.1.lower row.1.upper)
@@ -106,8 +112,11 @@ rhs_section m = under_header Rhs (rhs_lines m.objective (negated m.constant) ++ 
 
 -- ---- RANGES: the rows with two limits that differ
 
+abbrev pub range_line : List ℕ → Number → PrintedLine
+range_line row value = vector_line (codes "RNG") row value
+
 abbrev pub range_lines : List ℕ × Row → Lines
-range_lines row = option_map_or (λ value. vector_line (codes "RNG") row.0 value ∷ []) (printed_range row.1.lower row.1.upper) []
+range_lines row = option_map_or (λ value. range_line row.0 value ∷ []) (printed_range row.1.lower row.1.upper) []
 
 abbrev pub ranges_section : Listing → Lines
 ranges_section m = under_header Ranges (flat_map range_lines m.rows)

@@ -2,4 +2,5 @@ pub mod Printed
 pub mod Listing
 pub mod PrintedValues
 pub mod CanonicalMps
+pub mod PrintedDeclarations
 pub mod Laws

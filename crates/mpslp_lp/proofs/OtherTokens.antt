@@ -1,26 +1,24 @@
 -- What other tokens make than those that a case of its own takes.
-use Rattle.std.proofs.Common.{◌≡◌, refl, ℕ, List, [], ◌∷◌, Bool, true, false}
+use Rattle.std.proofs.Common.{◌≡◌, refl, ℕ, List, Bool, true, false}
 use Rattle.std.specs.Prelude.{None}
 use Rattle.mpslp_decimal.specs.Decimal.{Number as Decimal}
 use Rattle.mpslp_types.specs.declared.kinds.Sense.{Sense}
 use Rattle.mpslp_lp.specs.TerminalToken.{terminal_with_text}
 use Rattle.mpslp_lp.specs.Sides.{apply_sign}
-use Rattle.mpslp_lp.specs.Items.{one}
 use Rattle.mpslp_lp.specs.Objective.{objective_declared, first_item_declared, default_objective}
-use Rattle.mpslp_lp.specs.Rows.{default_row, without_terms}
+use Rattle.mpslp_lp.specs.Rows.{without_terms}
 use Rattle.mpslp_lp.specs.declared.context.Context.{Context}
 use Rattle.mpslp_lp.specs.declared.words.SectionWord.{SectionWord}
-use Rattle.mpslp_lp.specs.declared.relations.Relation.{Relation}
 use Rattle.mpslp_lp.specs.declared.terminals.TerminalKind.{TerminalKind}
-use Rattle.mpslp_lp.specs.declared.terminals.TerminalKind.TheVariants.{Opens, Name, Number, Sign, Compares, Colon, Infinity}
+use Rattle.mpslp_lp.specs.declared.terminals.TerminalKind.TheVariants.{Opens, Name, Number, Sign, Colon, Infinity}
 use Rattle.mpslp_lp.specs.declared.states.ItemOwner.{ItemOwner}
 use Rattle.mpslp_lp.specs.declared.states.ItemOwner.TheVariants.{OfRow}
 use Rattle.mpslp_lp.specs.declared.states.Place.{Place}
-use Rattle.mpslp_lp.specs.declared.states.Place.TheVariants.{BeforeItems, InObjective, BetweenRows, InRow, InSemis}
+use Rattle.mpslp_lp.specs.declared.states.Place.TheVariants.{BeforeItems, InObjective, InSemis}
 use Rattle.mpslp_lp.specs.declared.states.SideOwner.{SideOwner}
-use Rattle.mpslp_lp.specs.declared.states.State.TheVariants.{AtObjective, ObjectiveName, AtSemi, ItemNumber, RowName, RowSign, RowNumber, AtSide}
-use Rattle.mpslp_lp.specs.AfterToken.{with_made, take_after_signs, take_side, take_limit}
-use Rattle.mpslp_lp.specs.FirstToken.{begin_row, begin_phrase, begin}
+use Rattle.mpslp_lp.specs.declared.states.State.TheVariants.{AtObjective, ObjectiveName, AtSemi, ItemNumber, RowSign, AtSide}
+use Rattle.mpslp_lp.specs.AfterToken.{take_after_signs, take_side, take_limit}
+use Rattle.mpslp_lp.specs.FirstToken.{begin_phrase, begin}
 use Rattle.mpslp_lp.specs.TokenStep.{begin_after, take_lone, take}
 
 -- ---- the first token of a phrase
@@ -29,11 +27,6 @@ pub begun-other : (place : Place) (context : Context) (kind : TerminalKind) (tex
     → begin place context (terminal_with_text kind text) ≡ begin_phrase place context (terminal_with_text kind text)
 begun-other place context (Opens word) text h = absurd (h word refl)
 begun-other place context _ text h = refl
-
-pub row-other : (context : Context) (kind : TerminalKind) (text : List ℕ) → (kind ≡ Name → ⊥)
-    → begin_phrase BetweenRows context (terminal_with_text kind text) ≡ begin_row context (default_row context) (terminal_with_text kind text)
-row-other context Name text h = absurd (h refl)
-row-other context _ text h = refl
 
 -- ---- later ones
 
@@ -57,23 +50,11 @@ pub item-other : (context : Context) (owner : ItemOwner) (minus : Bool) (value :
 item-other context owner minus value Name text h = absurd (h refl)
 item-other context owner minus value _ text h = refl
 
-pub row_name-other : (context : Context) (name : List ℕ) (kind : TerminalKind) (text : List ℕ) → (kind ≡ Colon → ⊥)
-    → take context (RowName name) (terminal_with_text kind text)
-    ≡ begin (InRow (record { name = default_row context; left = None; terms = (name, one) ∷ [] })) (with_made context []) (terminal_with_text kind text)
-row_name-other context name Colon text h = absurd (h refl)
-row_name-other context name _ text h = refl
-
 pub row_sign-other : (context : Context) (name : List ℕ) (minus : Bool) (kind : TerminalKind) (text : List ℕ) → (kind ≡ Infinity → ⊥) → ((value : Decimal) → kind ≡ Number value → ⊥)
     → take context (RowSign name minus) (terminal_with_text kind text) ≡ take_after_signs context (OfRow (without_terms name None)) minus (terminal_with_text kind text)
 row_sign-other context name minus Infinity text h k = absurd (h refl)
 row_sign-other context name minus (Number value) text h k = absurd (k value refl)
 row_sign-other context name minus _ text h k = refl
-
-pub row_number-other : (context : Context) (name : List ℕ) (minus : Bool) (value : Decimal) (kind : TerminalKind) (text : List ℕ) → (kind ≡ Name → ⊥) → ((relation : Relation) → kind ≡ Compares relation → ⊥)
-    → take context (RowNumber name minus value) (terminal_with_text kind text) ≡ take_lone context (OfRow (without_terms name None)) (apply_sign minus value) (terminal_with_text kind text)
-row_number-other context name minus value Name text h k = absurd (h refl)
-row_number-other context name minus value (Compares relation) text h k = absurd (k relation refl)
-row_number-other context name minus value _ text h k = refl
 
 pub side-other : (context : Context) (sided : SideOwner) (kind : TerminalKind) (text : List ℕ) → ((minus : Bool) → kind ≡ Sign minus → ⊥)
     → take context (AtSide sided) (terminal_with_text kind text)

@@ -1,11 +1,11 @@
 -- Laws of LP text.
-use Rattle.std.specs.Prelude.{◌≡◌, ℕ, ◌+◌, ◌≤◌, ◌<◌, Bool, true, IsTrue, List, [], ◌∷◌, length, take, drop}
+use Rattle.std.specs.Prelude.{◌≡◌, ℕ, ◌+◌, ◌≤◌, ◌<◌, Bool, true, IsTrue, List, [], ◌∷◌, ◌++◌, length, map, take, drop}
 use Rattle.std.specs.List.{list_all}
 use Rattle.mpslp_types.specs.Name.{is_lp_name}
 use Rattle.mpslp_builder.specs.Declaration.{Declaration, declare_objective, declare_row, declare_column}
 use Rattle.mpslp_model_core.specs.Model.{LinearModel}
 use Rattle.mpslp_types.specs.declared.faults.Fault.{Fault}
-use Rattle.mpslp_lp.specs.Line.{has_legal_bytes}
+use Rattle.mpslp_lp.specs.Line.{is_blank, begins_comment, has_legal_bytes}
 use Rattle.mpslp_lp.specs.Token.{Token, tokens}
 use Rattle.mpslp_lp.specs.Scan.{is_known}
 use Rattle.mpslp_lp.specs.LpText.{declarations_of, DeclaresLp}
@@ -24,6 +24,39 @@ AreSlices line place (token ∷ more) =
 -- The tokens of each line are slices of it.
 abbrev pub TokensAreSlices : Type 0
 TokensAreSlices = (line : List ℕ) → AreSlices line 0 (tokens line)
+
+-- spaces and tabs, and a token after them
+pub record SpacedToken : Type 0 where
+  pub blanks : List ℕ
+  pub token : Token
+
+-- these in order, and what is left
+abbrev pub joined : List SpacedToken → List ℕ → List ℕ
+joined [] rest = rest
+joined (spaced ∷ more) rest = spaced.blanks ++ (spaced.token.text ++ joined more rest)
+
+abbrev pub are_blank : List ℕ → Bool
+are_blank bytes = list_all is_blank bytes
+
+-- nothing, or a backslash and what follows it
+abbrev pub is_comment : List ℕ → Bool
+is_comment [] = true
+is_comment (byte ∷ bytes) = begins_comment byte
+
+-- The bytes are these tokens, with nothing but spaces and tabs between them, and then perhaps a comment.
+pub record IsMadeOf (found : List Token) (bytes : List ℕ) : Type 0 where
+  pub parts : List SpacedToken
+  pub last_blanks : List ℕ
+  pub comment : List ℕ
+  pub tokens_are : map (λ spaced. spaced.token) parts ≡ found
+  pub blank : IsTrue (list_all (λ spaced. are_blank spaced.blanks) parts)
+  pub last_blank : IsTrue (are_blank last_blanks)
+  pub comment_is : IsTrue (is_comment comment)
+  pub bytes_are : joined parts (last_blanks ++ comment) ≡ bytes
+
+-- Each line is its tokens, the spaces and tabs between them, and its comment.
+abbrev pub LinesAreTokens : Type 0
+LinesAreTokens = (line : List ℕ) → IsMadeOf (tokens line) line
 
 -- what a declaration gives a name, it gives an LP name
 abbrev pub has_lp_name : Declaration → Bool

@@ -37,6 +37,14 @@ abbrev pub begin_after : Context → Declarations → Place → Terminal → Aft
 begin_after context made place terminal =
     take_after_declarations context terminal (refusals_in_turn context.earlier made) made (begin place (with_made context made) terminal)
 
+-- a number of a row that no name follows
+abbrev pub refuse_constant : Context → Terminal → AfterToken
+refuse_constant context terminal = elim terminal as (λ _. AfterToken) [
+  | Terminal.Sign minus ↦ refuse context terminal ConstantInRow
+  | Terminal.Compares relation ↦ refuse context terminal ConstantInRow
+  | _ ↦ refuse context terminal BadToken
+]
+
 -- a number that no name follows
 abbrev pub take_lone : Context → ItemOwner → Decimal → Terminal → AfterToken
 take_lone context (OfObjective name) value terminal = elim terminal as (λ _. AfterToken) [
@@ -44,11 +52,7 @@ take_lone context (OfObjective name) value terminal = elim terminal as (λ _. Af
   | Terminal.Opens word ↦ begin_after context (declare_constant value ∷ []) (InObjective name) terminal
   | _ ↦ refuse context terminal BadToken
 ]
-take_lone context (OfRow row) value terminal = elim terminal as (λ _. AfterToken) [
-  | Terminal.Sign minus ↦ refuse context terminal ConstantInRow
-  | Terminal.Compares relation ↦ refuse context terminal ConstantInRow
-  | _ ↦ refuse context terminal BadToken
-]
+take_lone context (OfRow row) value terminal = refuse_constant context terminal
 
 abbrev pub take : Context → State → Terminal → AfterToken
 take context (Between place) terminal = begin place context terminal

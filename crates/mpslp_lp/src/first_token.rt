@@ -89,10 +89,11 @@ fn begin_labelled(context: &mut Context, token: &TerminalToken<'_>) -> Result<St
 {
     match token.kind {
         TerminalKind::Name => Ok(State::RowName(context.earlier.copied(token.text)?)),
-        _ => {
+        TerminalKind::Infinity | TerminalKind::Number(_) | TerminalKind::Sign(_) => {
             let name = context.earlier.next_row()?;
             begin_row(context, name, token)
         }
+        _ => refuse(context, token, FaultKind::BadToken),
     }
 }
 

@@ -4,7 +4,7 @@ ghost use Rattle.std.specs.Prelude.{◌≡◌, Some, None};
 ghost use Rattle.mpslp_lp.specs.Grammar.{last_word_text, opened_by};
 ghost use Rattle.mpslp_lp.specs.TerminalToken.{HasLegalName, terminal_of_token};
 ghost use Rattle.mpslp_lp.specs.Declares.{TakesToken};
-ghost use Rattle.mpslp_lp.specs.TokenStep.{take_lone, take};
+ghost use Rattle.mpslp_lp.specs.TokenStep.{refuse_constant, take_lone, take};
 ghost use Rattle.mpslp_lp.specs.Terminal.{Terminal};
 ghost use Rattle.mpslp_lp.specs.declared.states.ItemOwner.{ItemOwner};
 ghost use Rattle.mpslp_lp.specs.declared.states.State.{State};
@@ -154,13 +154,8 @@ fn take_constant(
 }
 
 /// Takes the token after a number of a row that no name follows.
-fn refuse_constant(
-    context: &Context,
-    row: PartialRow,
-    value: Decimal,
-    token: &TerminalToken<'_>,
-) -> Result<State, LineError>
-    ensures { TakesToken (take_lone context.now (ItemOwner.OfRow row) value (terminal_of_token token.now)) result context.now }
+fn refuse_constant(context: &Context, token: &TerminalToken<'_>) -> Result<State, LineError>
+    ensures { TakesToken (refuse_constant context.now (terminal_of_token token.now)) result context.now }
 {
     match token.kind {
         TerminalKind::Sign(_) | TerminalKind::Compares(_) => refuse(
@@ -184,7 +179,7 @@ fn take_lone(
 {
     match owner {
         ItemOwner::OfObjective(name) => take_constant(context, name, value, token),
-        ItemOwner::OfRow(row) => refuse_constant(context, row, value, token),
+        ItemOwner::OfRow(_row) => refuse_constant(context, token),
     }
 }
 
@@ -216,7 +211,7 @@ fn take_after_row_name(
 {
     match token.kind {
         TerminalKind::Colon => Ok(State::RowLabel(name)),
-        _ => {
+        TerminalKind::Sign(_) | TerminalKind::Compares(_) => {
             let label = context.earlier.next_row()?;
             let empty = context.earlier.row_without_terms(label, None)?;
             each_name_is_legal(&name);
@@ -224,6 +219,7 @@ fn take_after_row_name(
             let row = empty.with_term(column, one())?;
             begin(context, Place::InRow(row), token)
         }
+        _ => refuse(context, token, FaultKind::BadToken),
     }
 }
 
@@ -240,10 +236,11 @@ fn take_after_row_sign(
     match token.kind {
         TerminalKind::Infinity => Ok(State::RowLeft(name, GivenLimit::infinity(minus))),
         TerminalKind::Number(value) => Ok(State::RowNumber(name, minus, value)),
-        _ => {
+        TerminalKind::Sign(_) | TerminalKind::Name => {
             let row = context.earlier.row_without_terms(name, None)?;
             take_after_signs(context, ItemOwner::OfRow(row), minus, token)
         }
+        _ => refuse(context, token, FaultKind::BadToken),
     }
 }
 
@@ -272,15 +269,7 @@ fn take_after_row_number(
             let left = Some((GivenLimit::of(apply_sign(minus, value)), relation));
             Ok(State::RowLeftRelation(context.earlier.row_without_terms(name, left)?))
         }
-        _ => {
-            let row = context.earlier.row_without_terms(name, None)?;
-            take_lone(
-                context,
-                ItemOwner::OfRow(row),
-                apply_sign(minus, value),
-                token,
-            )
-        }
+        _ => refuse_constant(context, token),
     }
 }
 

@@ -1,6 +1,6 @@
 -- Lines that are read one after another, and what is left of a text that comes in pieces.
 use Rattle.std.proofs.Common.{◌≡◌, refl, sym, ap, subst, ◌∙◌, ℕ, ◌+◌, ◌-◌, ◌^◌, min, List, [], ◌∷◌, ◌++◌, length, Bool, true, false, append-nil, arith}
-use Rattle.std.specs.Prelude.{◌||◌, Option, Some, None, is_some}
+use Rattle.std.specs.Prelude.{◌||◌, Option, Some, None, is_some, if◌then◌else◌}
 use Rattle.std.specs.List.{list_any}
 use Rattle.std.specs.Option.{option_or, option_map}
 use Rattle.std.proofs.lemmas.List.{length-append}
@@ -12,6 +12,7 @@ use Rattle.mpslp_lines.specs.LineAnswer.{fault_on_line}
 use Rattle.mpslp_mps.specs.Section.{is_section}
 use Rattle.mpslp_mps.specs.Line.{content_of}
 use Rattle.mpslp_mps.specs.Context.{Context, context_of}
+use Rattle.mpslp_mps.specs.NextContext.{without_names, kept_context}
 use Rattle.mpslp_mps.specs.MpsText.{is_end}
 use Rattle.mpslp_mps.specs.FirstFault.{line_fault}
 use Rattle.mpslp_mps.specs.LineByLine.{placed_in, draft_after, context_after, fault_from, draft_from, context_from}
@@ -103,6 +104,14 @@ sides-from (line ∷ text) n context earlier sides h =
     later_none None rest h = h
     later_none (Some kind) rest h = cc
 
+-- ---- names are dropped at the end, where no line is compared with them
+
+kept-section : (c : Context) → (kept_context c).section ≡ c.section
+kept-section c = elim (is_section EndData c.section) as (λ b. (if b then without_names c else c).section ≡ c.section) [ true ↦ refl | false ↦ refl ]
+
+kept-here : (c : Context) → is_section EndData c.section ≡ false → kept_context c ≡ c
+kept-here c h = ap (λ (b : Bool). if b then without_names c else c) h
+
 module _ (text : List (List ℕ)) (context : Context) (earlier : Draft) (number : ℕ) (led : LedTo text context earlier number) where
   module _ (unended : is_section EndData context.section ≡ false) where
     none_yet : list_any is_end text ≡ false
@@ -114,8 +123,14 @@ module _ (text : List (List ℕ)) (context : Context) (earlier : Draft) (number 
     read_on : (line : List ℕ) → lines_to_end (text ++ line ∷ []) ≡ text ++ line ∷ []
     read_on line = unended-more text (line ∷ []) none_yet ∙ ap (λ (read : List (List ℕ)). text ++ read) (one-read line)
 
+    unended_there : is_section EndData (context_from (context_of []) (lines_to_end text)).section ≡ false
+    unended_there =
+        ap (is_section EndData) (sym (ap (λ (c : Context). c.section) led.context_is ∙ kept-section (context_from (context_of []) (lines_to_end text)))) ∙ unended
+
     context_here : context_from (context_of []) text ≡ context
-    context_here = ap (context_from (context_of [])) (sym all_read) ∙ sym led.context_is
+    context_here =
+        ap (context_from (context_of [])) (sym all_read)
+        ∙ sym (led.context_is ∙ kept-here (context_from (context_of []) (lines_to_end text)) unended_there)
 
     draft_here : draft_from (context_of []) empty_draft text ≡ earlier
     draft_here = ap (draft_from (context_of []) empty_draft) (sym all_read) ∙ sym led.draft
@@ -138,15 +153,17 @@ module _ (text : List (List ℕ)) (context : Context) (earlier : Draft) (number 
         ∙ ap (λ (n : ℕ). Some (record { kind = kind; line = n; name = None })) (sym (led.counted none_yet))
 
     pub led-line : (line : List ℕ) (next : Context) (later : Draft) (following : ℕ) → line_fault (placed_in context earlier line) ≡ None
-        → next ≡ context_after context line → later ≡ draft_after context earlier line → following ≡ min (number + 1) (2 ^ 64 - 1)
+        → next ≡ kept_context (context_after context line) → later ≡ draft_after context earlier line → following ≡ min (number + 1) (2 ^ 64 - 1)
         → LedTo (text ++ line ∷ []) next later following
     led-line line next later following none next_is later_is following_is = record {
       clean = fault_next line ∙ ap (λ (o : Option FaultKind). option_or (option_map (fault_on_line (1 + length text)) o) None) none;
-      context_is = next_is ∙ ap (λ (c : Context). context_after c line) (sym context_here) ∙ sym (context_from-append text (line ∷ []) (context_of []))
-          ∙ ap (context_from (context_of [])) (sym (read_on line));
+      context_is = next_is
+          ∙ ap kept_context
+          (ap (λ (c : Context). context_after c line) (sym context_here) ∙ sym (context_from-append text (line ∷ []) (context_of []))
+          ∙ ap (context_from (context_of [])) (sym (read_on line)));
       draft = later_is ∙ (λ i. draft_after (sym context_here i) (sym draft_here i) line) ∙ sym (draft_from-append text (line ∷ []) (context_of []) empty_draft)
           ∙ ap (draft_from (context_of []) empty_draft) (sym (read_on line));
-      ended = ap (λ (c : Context). is_section EndData c.section) next_is ∙ at_end-after context (content_of line) unended
+      ended = ap (is_section EndData) (ap (λ (c : Context). c.section) next_is ∙ kept-section (context_after context line)) ∙ at_end-after context (content_of line) unended
           ∙ sym (list_any-append is_end text (line ∷ []) ∙ ap (λ (b : Bool). b || (is_end line || false)) none_yet ∙ or_false (is_end line));
       counted = λ h. following_is ∙ ap (λ (n : ℕ). min (n + 1) (2 ^ 64 - 1)) (led.counted none_yet)
           ∙ omega (arith, length-append text (line ∷ []));

@@ -8,6 +8,7 @@ use Rattle.mpslp_lines.specs.Pieces.{IsFed}
 use Rattle.mpslp_lines.specs.declared.piece_reader.PieceReader.{PieceReader}
 use Rattle.mpslp_mps.specs.Section.{is_section}
 use Rattle.mpslp_mps.specs.Context.{Context, context_of}
+use Rattle.mpslp_mps.specs.NextContext.{kept_context}
 use Rattle.mpslp_mps.specs.MpsText.{is_end, lines_in_context_after}
 use Rattle.mpslp_mps.specs.FirstFault.{first_line_fault}
 use Rattle.mpslp_mps.specs.LineByLine.{draft_from, context_from}
@@ -29,11 +30,11 @@ IsFaultOfLines text fault = lines_fault text ≡ Some fault
 abbrev pub IsFaultOfComplete : List ℕ → Fault → Type 0
 IsFaultOfComplete bytes fault = IsFaultOfLines (complete_lines bytes) fault
 
--- Lines were read from the first on, up to that of ENDATA, and none of these has a fault: they led to this context and
--- draft, and to the number of the next line.
+-- Lines were read from the first on, up to that of ENDATA, and none of these has a fault: they led to this draft and to this
+-- context, of which no name is kept after ENDATA, and to the number of the next line.
 pub record LedTo (text : List (List ℕ)) (context : Context) (earlier : Draft) (number : ℕ) : Type 0 where
   pub clean : lines_fault text ≡ None
-  pub context_is : context ≡ context_from (context_of []) (lines_to_end text)
+  pub context_is : context ≡ kept_context (context_from (context_of []) (lines_to_end text))
   pub draft : earlier ≡ draft_from (context_of []) empty_draft (lines_to_end text)
   pub ended : is_section EndData context.section ≡ list_any is_end text
   pub counted : list_any is_end text ≡ false → number ≡ min (1 + length text) (2 ^ 64 - 1)

@@ -13,6 +13,7 @@ use Rattle.mpslp_lines.specs.declared.piece_reader.PieceReader.{PieceReader}
 use Rattle.mpslp_lines.specs.LineAnswer.{fault_on_line}
 use Rattle.mpslp_mps.specs.Line.{LineContent, content_of}
 use Rattle.mpslp_mps.specs.Context.{context_of}
+use Rattle.mpslp_mps.specs.NextContext.{kept_context}
 use Rattle.mpslp_mps.specs.MpsText.{LineInContext, is_end, lines_in_context_after, declared_at}
 use Rattle.mpslp_mps.specs.FirstFault.{line_fault, first_line_fault, whole_mps_fault, IsFirstMpsFault}
 use Rattle.mpslp_mps.specs.LineByLine.{draft_from, context_from}
@@ -102,7 +103,7 @@ read-behind_end reader text more led at_end =
     let any : list_any is_end (text ++ more) ≡ true = list_any-append is_end text more ∙ ap (λ (b : Bool). b || list_any is_end more) ended in
     record {
       clean = ap (λ (read : List (List ℕ)). first_line_fault 1 (lines_in_context_after [] empty_draft read)) same ∙ led.clean;
-      context_is = led.context_is ∙ ap (context_from (context_of [])) (sym same);
+      context_is = led.context_is ∙ ap (λ (read : List (List ℕ)). kept_context (context_from (context_of []) read)) (sym same);
       draft = led.draft ∙ ap (draft_from (context_of []) empty_draft) (sym same);
       ended = at_end ∙ sym any;
       counted = λ h. let both : true ≡ false = sym any ∙ h in cc;

@@ -1,5 +1,5 @@
 -- The context after one line more, from the context before it: what a reader keeps in place of the lines.
-use Rattle.std.specs.Prelude.{ℕ, Bool, List, [], ◌++◌, Option, if◌then◌else◌}
+use Rattle.std.specs.Prelude.{ℕ, Bool, List, [], ◌++◌, Option, None, if◌then◌else◌}
 use Rattle.std.specs.List.{cons_option}
 use Rattle.std.specs.Option.{option_map_or, option_or}
 use Rattle.mpslp_types.specs.Name.{same_bytes}
@@ -8,7 +8,7 @@ use Rattle.mpslp_mps.specs.Section.{section_of_header, is_section}
 use Rattle.mpslp_mps.specs.DataLine.{opening_word}
 use Rattle.mpslp_mps.specs.Context.{is_read, word_due_after, objname_word, marker_word, line_column, vector_set, bound_set, Context}
 use Rattle.mpslp_mps.specs.declared.sections.Section.{Section}
-use Rattle.mpslp_mps.specs.declared.sections.Section.TheVariants.{Columns, Rhs, Ranges, Bounds}
+use Rattle.mpslp_mps.specs.declared.sections.Section.TheVariants.{Columns, Rhs, Ranges, Bounds, EndData}
 
 -- what a data line of the section changes a reading to
 abbrev pub changed_under : {X : Type 0} → Section → Option Section → (Fields → X → X) → LineContent → X → X
@@ -35,3 +35,11 @@ next_context c item = record {
   ranges_set = changed_under Ranges c.section (next_set vector_set) item c.ranges_set;
   bounds_set = changed_under Bounds c.section (next_set bound_set) item c.bounds_set;
 }
+
+-- no name that a later line is compared with
+abbrev pub without_names : Context → Context
+without_names c = record c { objname = None; last_column = None; rhs_set = None; ranges_set = None; bounds_set = None }
+
+-- after the line of ENDATA no line is read, and no name is kept
+abbrev pub kept_context : Context → Context
+kept_context c = if is_section EndData c.section then without_names c else c

@@ -7,6 +7,7 @@ ghost use Rattle.mpslp_mps.specs.Section.{has, is_section};
 ghost use Rattle.mpslp_mps.specs.declared.sections.Section.{Section};
 ghost use Rattle.mpslp_mps.specs.Context.{context_of};
 ghost use Rattle.mpslp_mps.specs.ContextStep.{with_objname, after_header, after_objname, after_data, after_marker, after_column, after_rhs, after_range, after_bound};
+ghost use Rattle.mpslp_mps.specs.NextContext.{without_names, kept_context};
 ghost use Rattle.mpslp_mps.specs.HeaderFault.{may_begin, is_out_of_order};
 
 use crate::sections::Section;
@@ -191,6 +192,26 @@ impl LineContext {
         ensures { option_map (λ name. name.now) result ≡ self.now.bounds_set }
     {
         bytes_of(&self.bounds_set)
+    }
+
+    /// Drops the names that a later line would be compared with.
+    fn drop_names(&mut self)
+        ensures { self.new ≡ without_names self.old }
+    {
+        self.objname = None;
+        self.last_column = None;
+        self.rhs_set = None;
+        self.ranges_set = None;
+        self.bounds_set = None;
+    }
+
+    /// Drops the names that a later line would be compared with, if the line of ENDATA has been passed.
+    pub(crate) fn drop_names_at_end(&mut self)
+        ensures { self.new ≡ kept_context self.old }
+    {
+        if self.is_at_end() {
+            self.drop_names();
+        }
     }
 
     /// Goes past the header of a section; `word_due` is the section whose word is to come then, and `objective` the name

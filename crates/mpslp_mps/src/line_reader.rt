@@ -56,6 +56,7 @@ impl ReadLines for LineReader {
             Ok(()) => {}
             Err(error) => return Err(read_fault(self.number, error)),
         }
+        self.context.drop_names_at_end();
         self.number = self.number.saturating_add(1);
         Ok(())
     }

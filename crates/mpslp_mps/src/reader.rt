@@ -9,8 +9,9 @@ use std::marker::Model;
 /// A reader of MPS text that comes in pieces of any length. What the pieces were does not matter: it answers of all of them
 /// together what [`read_mps`](crate::read_mps) answers of the whole text.
 ///
-/// It keeps the model as far as it is declared, and of the text only the line that is not complete: at most 1,048,577 bytes
-/// of it, none where the line of ENDATA is complete. A line is completed by its line feed, the last one perhaps by the end
+/// It keeps the model as far as it is declared, and of the text at most 1,048,577 bytes of the line that is not complete,
+/// beside the names that a later line is compared with: the word of OBJNAME, the last column, and one set name of each
+/// section. After the line of ENDATA it keeps neither. A line is completed by its line feed, the last one perhaps by the end
 /// of the text. Lines that are complete in a piece are not copied. After the line of ENDATA each piece is taken, and not
 /// looked at.
 #[derive(Drop)]

@@ -1,3 +1,5 @@
+use Rattle.std.proofs.Common.{ap, ◌∙◌}
+use Rattle.mpslp_mps.specs.NextContext.{kept_context}
 use Rattle.mpslp_mps.proofs.FedLemmas.{led-sides, led-line}
 use Rattle.mpslp_mps.proofs.LineReaderLemmas.{refuses-line}
 use Rattle.mpslp_mps.proofs.line_reader.LineReaderReadLines.read_line.Goals as goal
@@ -14,5 +16,5 @@ pub returns : goal.returns
 returns c = λ before led.
     let reader = c.args.self.now in
     let answers = c.in-Ok.ensures.answers in
-    led-line before reader.context reader.builder reader.number led c.requires.unended c.args.line.now c.read_line.new.context c.read_line.new.builder c.saturating_add-self.result
-    answers.0 answers.1 answers.2 c.saturating_add-self.ensures
+    led-line before reader.context reader.builder reader.number led c.requires.unended c.args.line.now c.drop_names_at_end.new.self c.read_line.new.builder c.saturating_add-self.result
+    answers.0 (c.drop_names_at_end.ensures ∙ ap kept_context answers.1) answers.2 c.saturating_add-self.ensures

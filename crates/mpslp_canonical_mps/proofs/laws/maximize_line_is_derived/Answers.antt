@@ -1,0 +1,5 @@
+use Rattle.mpslp_canonical_mps.proofs.DerivedLines.{sense-derived}
+use Rattle.mpslp_canonical_mps.proofs.laws.maximize_line_is_derived.Goals as goal
+
+pub returns : goal.returns
+returns c = sense-derived
