@@ -1,10 +1,10 @@
 #!/bin/sh
-# tests/callers.sh: builds the library for C and the Python package over what rt ci has proved in this checkout, and tries both.
-# What they need beside the kit is in docs/C.md and python/README.md; where some of it is missing, this says so and tries neither.
+# tests/callers.sh: builds the library for C and the Python package over what rt ci has proved in this checkout, and tests both.
+# What they need beside the kit is in docs/C.md and python/README.md; if some of it is missing, this says so and skips them.
 set -eu
 cd "$(dirname "$0")/.."
 for tool in gcc g++ valgrind; do
-    command -v $tool > /dev/null || { echo "$tool is missing: the library for C and the Python package are not tried"; exit 0; }
+    command -v $tool > /dev/null || { echo "skipped: the library for C and the Python package ($tool is missing)"; exit 0; }
 done
 # In a fresh checkout the libraries of rt ci stand where it left them. Where one's own checks had left theirs, it has put those back,
 # which have a stamp, and rt lib goes on from them.
@@ -16,6 +16,6 @@ fi
 sh tests/c/check.sh
 python=${PYTHON:-/usr/bin/python3}
 "$python" -c 'import setuptools, pip, sysconfig, venv, wheel; open(sysconfig.get_path("include") + "/Python.h").close()' 2> /dev/null ||
-    { echo "$python has no pip, setuptools, venv, wheel or Python.h: the Python package is not tried"; exit 0; }
+    { echo "skipped: the Python package ($python has no pip, setuptools, venv, wheel or Python.h)"; exit 0; }
 sh python/build.sh
 sh python/check.sh

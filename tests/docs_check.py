@@ -12,8 +12,8 @@ fenced block or a table, which a reader of the page does not see, says how:
     <!-- table: FORM -->       each row is tried, in the way of docs_tables.py, which
                                also knows some tables by their heads, without a comment
     <!-- check: COMMAND -->    without a block: the command ends with status 0
-    <!-- needs: PROGRAM -->    where it is missing, what stands from here to the next
-                               paragraph in bold or heading is passed over, and told
+    <!-- needs: PROGRAM -->    if it is missing, what comes from here to the next
+                               paragraph in bold or heading is skipped, and it says so
 
 A block in the language console needs no comment: a line that begins with "$ "
 is a command, and the lines up to the next one are what it prints.
@@ -156,7 +156,7 @@ class Document:
     def need(self, number, program):
         self.passes_over = not shutil.which(program)
         if self.passes_over:
-            print(f"{self.name}:{number}: {program} is missing, and what needs it is passed over")
+            print(f"skipped: {self.name}:{number}: {program} is missing")
 
     def block(self, at, indent):
         """The lines of a fenced block, and the line that ends it."""

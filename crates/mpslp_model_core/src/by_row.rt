@@ -34,7 +34,7 @@ fn empty_lists(alloc: Global, rows: usize) -> Result<Vec<Vec<u32>>, AllocError>
 fn note_cell(lists: &mut Vec<Vec<u32>>, number: u32, column: u32) -> Result<(), AllocError>
     requires { number ≤ length lists.old.items }
     ensures len { OnOk result (length lists.new.items ≡ length lists.old.items) }
-    ensures column_if { OnOk result (HasNoted number column lists.old.items lists.new.items) }
+    ensures noted { OnOk result (HasNoted number column lists.old.items lists.new.items) }
 {
     if number > 0 {
         lists[row_of(number)].push(column)?;
@@ -51,7 +51,7 @@ fn note_column(
     requires sorted { IsTrue (is_sorted nat_cmp cells.now) }
     requires within { AreWithin (length lists.old.items) cells.now }
     ensures len { OnOk result (length lists.new.items ≡ length lists.old.items) }
-    ensures column_if { OnOk result ((i : ℕ) → list_at lists.new.items i ≡ list_at lists.old.items i ++ column_if (has_number (suc i) cells.now) column) }
+    ensures noted { OnOk result ((i : ℕ) → list_at lists.new.items i ≡ list_at lists.old.items i ++ column_if (has_number (suc i) cells.now) column) }
 {
     for cell in cells {
         note_cell(lists, cell.0, column)?;

@@ -43,7 +43,7 @@ fn ordered<V: Drop>(
 ) -> Result<(Vec<usize>, Vec<(Vec<u8>, V)>), AllocError>
     ensures permutation { IfOk result (λ r. IsPermutation (range_with_len 0 (length entries.items)) r.0.items) }
     ensures sorted { IfOk result (λ r. IsSortedByKey (name_at entries.items) bytes_cmp r.0.items) }
-    ensures entries_at { IfOk result (λ r. r.1.items ≡ entries_at entries.items r.0.items) }
+    ensures taken { IfOk result (λ r. r.1.items ≡ entries_at entries.items r.0.items) }
 {
     let order = order_of(alloc, &entries)?;
     let ordered = in_order(alloc, entries, &order)?;

@@ -14,7 +14,7 @@ pub returns-in-Some-clause-count : goal.returns-in-Some-clause-count
 returns-in-Some-clause-count c =
     let line = c.args.line.now in
     let first = c.in-Some.ensures in
-    sym (prefix_len_is (λ byte. not (begins_comment byte)) line c.in-Some.at 0 (omega (arith, first.0.high)) (λ k below. other (slice_index line k) (first.0.context k (omega arith) below)) (λ within. ap not first.1))
+    sym (prefix_len_is (λ byte. not (begins_comment byte)) line c.in-Some.at 0 (omega (arith, first.0.high)) (λ k below. other (slice_index line k) (first.0.before k (omega arith) below)) (λ within. ap not first.1))
 
 pub returns-in-None-clause-count : goal.returns-in-None-clause-count
 returns-in-None-clause-count c =

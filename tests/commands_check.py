@@ -1,0 +1,180 @@
+#!/usr/bin/env python3
+"""Checks `make`, `make run` and the check of the kit with a stand-in for `rt`, on a copy: tests/commands_check.py
+
+It proves nothing: the stand-in keeps a list of what it was asked for.
+"""
+
+import os
+import shutil
+import signal
+import subprocess
+import sys
+import tempfile
+import time
+import unittest
+from pathlib import Path
+
+ROOT = Path(__file__).resolve().parent.parent
+KIT_SUM = (ROOT / "kit-sum").read_text().strip()
+
+STAND_IN = """#!/bin/sh
+case "$1" in
+    version) echo "rattle-kit-99 logic ${STAND_IN_SUM:-%s}"; exit 0 ;;
+esac
+echo "$1 $(basename "$PWD")" >> "$STAND_IN_CALLS"
+case "$1 $(basename "$PWD")" in
+    "$STAND_IN_FAILS") echo "fn bounds::put: not proved"; exit 1 ;;
+    "lib $STAND_IN_SLOW") sleep 60 ;;
+    "run mpslp") mkdir -p out; cp "$0.program" out/mpslp ;;
+    "try mpslp") sh "$0.try"; exit $? ;;
+esac
+"""
+
+
+class Commands(unittest.TestCase):
+    def setUp(self) -> None:
+        self.folder = Path(tempfile.mkdtemp(prefix="mpslp-commands-"))
+        self.addCleanup(shutil.rmtree, self.folder)
+        self.copy = self.folder / "copy"
+        for name in ("Makefile", "HANDLES", "kit-sum", "crates.txt"):
+            self.copy.mkdir(exist_ok=True)
+            shutil.copy(ROOT / name, self.copy)
+        for name in ("scripts", "examples", "release"):
+            if (ROOT / name).exists():
+                shutil.copytree(ROOT / name, self.copy / name)
+        # The roots of the crates are enough for a stand-in.
+        for source in ROOT.glob("crates/*/src/*.rt"):
+            if source.name in ("lib.rt", "main.rt"):
+                copied = self.copy / source.relative_to(ROOT)
+                copied.parent.mkdir(parents=True)
+                shutil.copyfile(source, copied)
+        self.tools = self.folder / "tools"
+        self.tools.mkdir()
+        self.write_tool("rt", STAND_IN % KIT_SUM)
+        self.write_tool("rt.program", "#!/bin/sh\necho proved \"$@\"\n")
+        self.calls_file = self.folder / "calls"
+
+    def write_tool(self, name: str, text: str) -> None:
+        (self.tools / name).write_text(text)
+        (self.tools / name).chmod(0o755)
+
+    def environment(self, **more: str) -> dict[str, str]:
+        path = f"{self.tools}:{os.environ['PATH']}"
+        return {**os.environ, "PATH": path, "STAND_IN_CALLS": str(self.calls_file), "MAKEFLAGS": "", **more}
+
+    def make(self, *words: str, **more: str) -> subprocess.CompletedProcess[str]:
+        return subprocess.run(
+            ["make", "--no-print-directory", *words],
+            cwd=self.copy, env=self.environment(**more), capture_output=True, text=True, timeout=120, check=False,
+        )
+
+    def calls(self) -> list[str]:
+        return self.calls_file.read_text().splitlines() if self.calls_file.exists() else []
+
+    def test_another_kit_is_reported_at_once(self) -> None:
+        for target in ("program", "run", "test"):
+            begun = time.monotonic()
+            made = self.make(target, STAND_IN_SUM="0123456789abcdef")
+            self.assertLess(time.monotonic() - begun, 5)
+            self.assertNotEqual(made.returncode, 0)
+            self.assertIn(KIT_SUM, made.stderr)
+            self.assertIn("0123456789abcdef", made.stderr)
+        self.assertEqual(self.calls(), [])
+
+    def test_a_missing_kit_is_reported_at_once(self) -> None:
+        (self.tools / "rt").unlink()
+        # Only what the commands need, so that an installed kit is not found.
+        for tool in ("make", "python3", "sh"):
+            (self.tools / tool).symlink_to(sys.executable if tool == "python3" else shutil.which(tool))
+        for target in ("program", "run", "test"):
+            made = self.make(target, PATH=str(self.tools))
+            self.assertNotEqual(made.returncode, 0)
+            self.assertIn("rt is not on your PATH", made.stderr)
+
+    def test_each_crate_is_proved_once_and_after_those_that_it_uses(self) -> None:
+        made = self.make()
+        self.assertEqual(made.returncode, 0, made.stderr)
+        self.assertLessEqual(len((made.stdout + made.stderr).splitlines()), 60)
+        proved = [call.split()[1] for call in self.calls()]
+        self.assertEqual(len(proved), len(set(proved)))
+        self.assertEqual(proved[-1], "mpslp")
+        for line in (self.copy / "crates.txt").read_text().splitlines():
+            name, _, uses = line.partition("#")[0].partition(":")
+            if name in proved:
+                for use in (use for use in uses.split() if use in proved):
+                    self.assertLess(proved.index(use), proved.index(name), f"{name} before {use}")
+        self.assertNotIn("mpslp_tests", proved)
+        again = self.make()
+        self.assertEqual((again.returncode, again.stdout, len(self.calls())), (0, "", len(proved)))
+
+    def test_a_change_proves_its_crate_and_those_above(self) -> None:
+        self.make()
+        before = len(self.calls())
+        with (self.copy / "crates" / "mpslp_convert" / "src" / "lib.rt").open("a") as source:
+            source.write("// changed\n")
+        self.assertEqual(self.make().returncode, 0)
+        self.assertEqual(self.calls()[before:], ["lib mpslp_convert", "run mpslp"])
+
+    def test_an_interrupted_make_goes_on(self) -> None:
+        process = subprocess.Popen(
+            [sys.executable, "scripts/prove.py", "mpslp"],
+            cwd=self.copy, env=self.environment(STAND_IN_SLOW="mpslp_builder"), stdout=subprocess.PIPE, stderr=subprocess.PIPE, text=True,
+        )
+        for _ in range(200):
+            if "lib mpslp_builder" in self.calls():
+                break
+            time.sleep(0.1)
+        process.send_signal(signal.SIGINT)
+        _, said = process.communicate(timeout=20)
+        self.assertNotEqual(process.returncode, 0)
+        self.assertIn("interrupted", said)
+        before = self.calls()
+        self.assertIn("lib mpslp_types", before)
+        self.assertEqual(self.make().returncode, 0)
+        after = self.calls()[len(before) :]
+        self.assertIn("lib mpslp_builder", after)
+        self.assertNotIn("lib mpslp_types", after)
+
+    def test_a_crate_that_fails_is_shown_with_its_last_lines(self) -> None:
+        made = self.make(STAND_IN_FAILS="lib mpslp_write")
+        self.assertNotEqual(made.returncode, 0)
+        self.assertIn("mpslp_write is not proved", made.stderr)
+        self.assertIn("fn bounds::put: not proved", made.stderr)
+        self.assertNotIn("run mpslp", self.calls())
+
+    def test_run_takes_the_proved_program_only_while_it_is_current(self) -> None:
+        self.write_tool("rt.try", "cat > /dev/null; echo unproved; echo 'run=ended status=0 runners=1 proved=no' >&2\n")
+        made = self.make("run")
+        self.assertEqual((made.returncode, made.stdout), (0, "unproved\n"))
+        self.assertIn("not proved on this machine yet", made.stderr)
+        self.assertNotIn("run=ended", made.stderr)
+        self.make()
+        made = self.make("run", "FILE=examples/small.lp", "TO=mps")
+        self.assertEqual((made.returncode, made.stdout, made.stderr), (0, "proved canon lp mps -\n", ""))
+        with (self.copy / "crates" / "mpslp" / "src" / "main.rt").open("a") as source:
+            source.write("// changed\n")
+        self.assertEqual(self.make("run").stdout, "unproved\n")
+
+    def test_run_says_what_is_wrong_with_its_arguments(self) -> None:
+        for words, said in (
+            (("FILE=examples/none.mps",), "examples/none.mps: no such file"),
+            (("FILE=HANDLES",), "the format of a file is its extension"),
+            (("TO=xml",), "unknown format: xml"),
+        ):
+            made = self.make("run", *words)
+            self.assertNotEqual(made.returncode, 0)
+            self.assertIn(said, made.stderr)
+        self.assertEqual(self.calls(), [])
+
+    def test_run_hands_on_the_programs_error_and_the_limits_of_an_unproved_run(self) -> None:
+        self.write_tool("rt.try", "echo 'line 7: DuplicateEntry' >&2; echo 'run=ended status=2 runners=1 proved=no' >&2; exit 2\n")
+        made = self.make("run")
+        self.assertIn("line 7: DuplicateEntry", made.stderr)
+        self.assertIn("Error 2", made.stderr)
+        self.write_tool("rt.try", "echo 'run=none proved=no' >&2; exit 6\n")
+        made = self.make("run")
+        self.assertIn("build the program with `make` first", made.stderr)
+
+
+if __name__ == "__main__":
+    unittest.main()
