@@ -53,7 +53,7 @@ class Wrong(Exception):
 
 
 class Scratch:
-    """A folder with the examples, in which commands find mpslp and git."""
+    """A directory with the examples and the header, in which commands find mpslp and git."""
 
     def __init__(self, folder, program):
         self.folder = Path(folder)
@@ -61,7 +61,8 @@ class Scratch:
         (self.folder / "work").mkdir()
         (self.folder / "bin" / "mpslp").symlink_to(program)
         self.work = self.folder / "work"
-        shutil.copytree(ROOT / "examples", self.work / "examples")
+        for name in ("examples", "include"):
+            shutil.copytree(ROOT / name, self.work / name)
         names = {"GIT_AUTHOR_NAME": "a", "GIT_AUTHOR_EMAIL": "a@b", "GIT_COMMITTER_NAME": "a", "GIT_COMMITTER_EMAIL": "a@b"}
         path = f"{self.folder / 'bin'}{os.pathsep}{os.environ['PATH']}"
         self.environment = {**os.environ, **names, "PATH": path, "HOME": str(self.folder), "GIT_CONFIG_NOSYSTEM": "1",
