@@ -50,7 +50,6 @@ RULES = (
     (r"as it is|as they are", "unchanged, directly"),
     (r"wrong bod(?:y|ies)", "mutant"),
     (r"judge[sd]?", "check"),
-    (r"makes it", "(say what)"),
     (r"perhaps", "optional"),
     (r"do(?:es)? not hold", "fails"),
     (r"has gone", "broken pipe"),
