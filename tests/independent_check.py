@@ -27,6 +27,7 @@ from typing import NamedTuple
 
 import independent_reader as reader
 import vectors
+from close_cases import CASES
 from fault_examples import EXAMPLES as FAULTS
 from models import drawn_model, is_lp_name
 from mutations import assembled, mutated
@@ -101,13 +102,15 @@ def described_texts():
 
 
 def given_files():
-    """Files of the repository, what the tables of vectors/ describe, and files with each usual cause of an error."""
+    """Files of the repository, what the tables of vectors/ describe, close cases, and files with each usual cause of an error."""
     for folder in ("examples", "vectors"):
         for path in sorted((ROOT / folder).iterdir()):
             if path.suffix in (".mps", ".lp"):
                 yield File("given", vectors.form_of(path.name), path.read_bytes())
     for form, text in described_texts():
         yield File("given", form, text)
+    for form, text, _ in CASES:
+        yield File("given", form, text.encode("latin-1"))
     for broken, mended in FAULTS.values():
         for form, text in (*broken, *mended):
             yield File("given", form, text.encode("latin-1"))
@@ -137,6 +140,15 @@ def tallied(compared):
     except Differs as differs:
         return tally, differs
     return tally, None
+
+
+def check_close_cases():
+    """The close cases have the answers that are written beside them."""
+    for form, text, answer in CASES:
+        model = reader.read(text.encode("latin-1"), form)
+        read = str(model) if isinstance(model, reader.Fault) else "model"
+        if read != answer:
+            raise SystemExit(f"{text!r}: {read} in place of {answer}")
 
 
 def compare_given(program, files):
@@ -195,6 +207,7 @@ def arguments():
 def main():
     options = arguments()
     options.program = options.program.resolve()
+    check_close_cases()
     try:
         total = compare_all(options)
     except Differs as differs:
