@@ -1,6 +1,6 @@
 # Completion of mpslp for fish.
 
-# The number of words behind the program's name, without the one that is being written.
+# The number of arguments after the name of the program, without the one being written.
 function __mpslp_words
     math (count (commandline -opc)) - 1
 end
@@ -12,8 +12,8 @@ end
 
 complete -c mpslp -f
 complete -c mpslp -n 'test (__mpslp_words) = 0' -a canon -d 'Write the canonical text of a model file'
-complete -c mpslp -n 'test (__mpslp_words) = 0' -a same -d 'Tell whether two model files declare the same model'
-complete -c mpslp -n 'test (__mpslp_words) = 0' -a show -d 'Show the model of a file'
+complete -c mpslp -n 'test (__mpslp_words) = 0' -a same -d 'Compare two model files'
+complete -c mpslp -n 'test (__mpslp_words) = 0' -a show -d 'Print the model of a file'
 complete -c mpslp -n 'test (__mpslp_words) = 0' -a help -d 'Print help'
 complete -c mpslp -n 'test (__mpslp_words) = 0' -s h -l help -d 'Print help'
 complete -c mpslp -n 'test (__mpslp_words) = 0' -s V -l version -d 'Print the version'

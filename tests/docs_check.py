@@ -1,15 +1,16 @@
 #!/usr/bin/env python3
 """Check the documents and the examples against the built program.
 
-What README.md, CONTRIBUTING.md, examples/README.md and docs/*.md say of a command
-or a file is tried, in a scratch folder with the repository's examples. A comment before a
-fenced block or a table, which a reader of the page does not see, says how:
+The commands, files and tables of README.md, CONTRIBUTING.md, the READMEs of examples/
+and vectors/, and docs/*.md are tested in a scratch directory with the repository's
+examples. A comment before a fenced block or a table, which a reader of the page does
+not see, says how:
 
     <!-- file: NAME -->        the block is the file NAME; an awk script is also that
                                file in docs/solvers
     <!-- prints: COMMAND -->   the block is what the command prints
     <!-- runs -->              the block is run by sh -e and ends with status 0
-    <!-- table: FORM -->       each row is tried, in the way of docs_tables.py, which
+    <!-- table: FORM -->       each row is checked, in the way of docs_tables.py, which
                                also knows some tables by their heads, without a comment
     <!-- check: COMMAND -->    without a block: the command ends with status 0
     <!-- needs: PROGRAM -->    if it is missing, what comes from here to the next
@@ -19,11 +20,12 @@ A block in the language console needs no comment: a line that begins with "$ "
 is a command, and the lines up to the next one are what it prints.
 
 Links within the repository have to lead to a file, and to a heading of it. Each
-pair of examples has to give one canonical text, the stated one where there is
-one, and canonical texts have to be fixed points.
+pair of examples has to give one canonical text, the stated one if there is one, and
+canonical texts have to be fixed points. prose_lint.py has to find nothing in the
+documents.
 
-It needs git, make and gzip. One line tells each thing that differs; then they
-are counted. Exits with 1 where one differs.
+It needs git, make and gzip. One line reports each thing that differs; then they are
+counted. Exits with 1 if one differs.
 """
 
 import argparse
@@ -36,6 +38,7 @@ import tempfile
 from pathlib import Path
 
 import docs_tables
+import prose_lint
 
 ROOT = Path(__file__).resolve().parent.parent
 PROGRAM = ROOT / "crates" / "mpslp" / "out" / "mpslp"
@@ -53,7 +56,7 @@ class Wrong(Exception):
 
 
 class Scratch:
-    """A folder with the examples, in which commands find mpslp and git."""
+    """A directory with the examples and the header, in which commands find mpslp and git."""
 
     def __init__(self, folder, program):
         self.folder = Path(folder)
@@ -61,7 +64,8 @@ class Scratch:
         (self.folder / "work").mkdir()
         (self.folder / "bin" / "mpslp").symlink_to(program)
         self.work = self.folder / "work"
-        shutil.copytree(ROOT / "examples", self.work / "examples")
+        for name in ("examples", "include"):
+            shutil.copytree(ROOT / name, self.work / name)
         names = {"GIT_AUTHOR_NAME": "a", "GIT_AUTHOR_EMAIL": "a@b", "GIT_COMMITTER_NAME": "a", "GIT_COMMITTER_EMAIL": "a@b"}
         path = f"{self.folder / 'bin'}{os.pathsep}{os.environ['PATH']}"
         self.environment = {**os.environ, **names, "PATH": path, "HOME": str(self.folder), "GIT_CONFIG_NOSYSTEM": "1",
@@ -284,6 +288,7 @@ def main():
             told += document.wrong
     with tempfile.TemporaryDirectory() as folder:
         tried += check_examples(Scratch(folder, program), told)
+    told += prose_lint.check()
     for line in told:
         print(line)
     print(f"{tried} tried, {len(told)} differ")

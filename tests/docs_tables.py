@@ -1,8 +1,7 @@
-"""The tables of the documents whose rows are tried, each form in its own way.
+"""The tables of the documents whose rows are checked, each form in its own way.
 
-A form is made with the scratch folder. Called with the cells of a row it answers,
-for each thing that it tried, what differs, or None. at_end tells what the table
-as a whole lacks.
+A form is made with the scratch directory. Called with the cells of a row it yields, for
+each check, what differs, or None. at_end returns what the table as a whole lacks.
 """
 
 import re

@@ -79,8 +79,12 @@ def table():
 
 
 def plain(text):
-    """A text for the manual page: without marks of code, and of a link its words alone."""
-    return re.sub(r"\[([^\]]*)\]\(([^)]*)\)", r"\1", text).replace("`", "")
+    """A text for the manual page: without marks of code, and with the file instead of a link."""
+    return re.sub(r"\[[^\]]*\]\(([^)#]*)[^)]*\)", r"\1", text).replace("`", "")
+
+
+def sentence(text):
+    return text[0].upper() + text[1:] + "."
 
 
 def roff(text):
@@ -94,8 +98,7 @@ def manual():
     for cause in causes():
         if (cause.kind, cause.cause) != last:
             lines.append(f".TP\n.B {cause.kind}\n" if cause.kind != last[0] else ".br\n")
-            text = f"{roff(cause.cause)}:\n{roff(cause.fix)}.\n"
-            lines.append(text[0].upper() + text[1:])
+            lines.append(f"{roff(sentence(cause.cause))}\n{roff(sentence(cause.fix))}\n")
         last = (cause.kind, cause.cause)
     return "".join(lines)
 

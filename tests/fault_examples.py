@@ -1,4 +1,4 @@
-"""For each kind of fault a file with its usual cause, and the file with that changed."""
+"""For each kind of error a file with its usual cause, and the file with that corrected."""
 
 COUNT = 1_048_576
 
@@ -26,7 +26,7 @@ def lp(rows="c: x <= 1\n", tail="", objective="min x"):
 OPEN, CLOSE = "    M  'MARKER'  'INTORG'\n", "    M  'MARKER'  'INTEND'\n"
 X, Y = "    X  C  1\n", "    Y  C  1\n"
 
-# kind, the files that have it, the files that have it no more
+# kind, the files that have it, the corrected files
 EXAMPLES = {
     "BadByte": ([mps("    \xc4  C  1\n"), lp("\xef\xbb\xbf"), lp("x <= 1\x07\n")],
                 [mps("    A  C  1\n"), mps(head="* \xc4\n"), lp("\\ \xc4\nx <= 1\n")]),
