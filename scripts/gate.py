@@ -41,7 +41,6 @@ TESTS = (
     Test("refused memory", ("python3", "tests/refused.py")),
     Test("independent reader", ("python3", "tests/independent_check.py", "--runs", "20000")),
     Test("make and make run", ("python3", "tests/commands_check.py")),
-    Test("install and uninstall", ("sh", "release/install_check.sh")),
     Test("a large file", ("python3", "tests/large_file.py")),
     Test("documents", ("python3", "tests/docs_check.py")),
     Test("digests of canonical texts", ("python3", "tests/digests.py")),
