@@ -44,6 +44,7 @@ TESTS = (
     Test("a large file", ("python3", "tests/large_file.py")),
     Test("documents", ("python3", "tests/docs_check.py")),
     Test("digests of canonical texts", ("python3", "tests/digests.py")),
+    Test("version", ("sh", "release/version.sh", "crates/mpslp/out/mpslp")),
 )
 
 PROVED = re.compile(r"rt: (\w+) proved$")
