@@ -19,7 +19,8 @@ MemoryError. Calls may run in many threads at once, and let the others go on mea
 
 from mpslp._calls import canonical, is_canonical, same
 from mpslp._faults import ModelFileError
-from mpslp._models import Column, Kind, Model, Row, Sense, fraction, load
+from mpslp._models import Column, Kind, Model, Row, Sense, load
+from mpslp._numbers import Number, fraction
 from mpslp._sources import Format, Source
 
 __all__ = [
@@ -28,6 +29,7 @@ __all__ = [
     "Kind",
     "Model",
     "ModelFileError",
+    "Number",
     "Row",
     "Sense",
     "Source",
@@ -37,3 +39,8 @@ __all__ = [
     "load",
     "same",
 ]
+
+# Whatever module has them: they are shown, and pickled, by the names under which they are found.
+for _each in (Column, Model, ModelFileError, Row, canonical, fraction, is_canonical, load, same):
+    _each.__module__ = __name__
+del _each
