@@ -1,8 +1,10 @@
 """What may be given to the calls: bytes, other buffers and paths, and formats."""
 
 import array
+import copy
 import mmap
 import os
+import pickle
 import tempfile
 import unittest
 from pathlib import Path
@@ -57,9 +59,11 @@ class Buffers(unittest.TestCase):
             mpslp.canonical(b"", "lp")
 
     def test_what_is_no_text(self):
-        for source in (None, 7, 1.5, ["NAME"], object()):
-            with self.subTest(source), self.assertRaisesRegex(TypeError, "^a text is bytes or a path, not "):
-                mpslp.canonical(source, "mps")
+        for source in (None, 7, 1.5, ["NAME"], object(), mpslp.load(TEXT, "mps")):
+            for call in (mpslp.canonical, mpslp.is_canonical, mpslp.load, lambda *words: mpslp.same(TEXT, words[0], "mps", *words[1:])):
+                for words in ((), ("mps",), ("qps",)):
+                    with self.subTest(source, words=words), self.assertRaisesRegex(TypeError, "^a text is bytes or a path, not "):
+                        call(source, *words)
 
 
 class Paths(unittest.TestCase):
@@ -101,6 +105,26 @@ class Paths(unittest.TestCase):
                 self.assertEqual(mpslp.canonical(path, "mps"), CANONICAL)
                 with self.assertRaisesRegex(ValueError, "has to be told"):
                     mpslp.canonical(path)
+
+    def test_a_fault_has_the_path(self):
+        path = self.file("broken.lp", b"min x y\nend\n")
+        good = EXAMPLES / "small.lp"
+        for call, source in (
+            (mpslp.canonical, path), (mpslp.is_canonical, str(path)), (mpslp.load, BytesPath(path)),
+            (lambda source: mpslp.same(source, good), path), (lambda source: mpslp.same(good, source), path),
+            (lambda source: mpslp.same(b"min x\nend\n", source, "lp"), path),
+        ):
+            with self.subTest(type(source)), self.assertRaises(mpslp.ModelFileError) as caught:
+                call(source)
+            self.assertEqual((caught.exception.filename, str(caught.exception)), (str(path), f"{path}: line 1: BadToken"))
+            for other in (pickle.loads(pickle.dumps(caught.exception)), copy.copy(caught.exception)):
+                self.assertEqual((other.filename, str(other)), (str(path), f"{path}: line 1: BadToken"))
+        with self.assertRaises(mpslp.ModelFileError) as caught:
+            mpslp.same(path, b"min x y\nend\n", second_format="lp")
+        self.assertEqual((caught.exception.which, caught.exception.filename), ("first", str(path)))
+        with self.assertRaises(mpslp.ModelFileError) as caught:
+            mpslp.same(good, b"min x y\nend\n", second_format="lp")
+        self.assertEqual((str(caught.exception), caught.exception.filename), ("second: line 1: BadToken", None))
 
     def test_a_name_that_is_no_text(self):
         path = Path(os.fsdecode(bytes(self.folder) + b"/\xff.mps"))

@@ -1,6 +1,9 @@
 """What a checker of types has to find right; check.sh gives it to mypy."""
 
 from array import array
+from collections.abc import Mapping
+from decimal import Decimal
+from fractions import Fraction
 from mmap import mmap
 from os import PathLike
 from pathlib import Path
@@ -27,8 +30,24 @@ def faults(error: mpslp.ModelFileError) -> None:
     assert_type(error.line, Union[int, None])
     assert_type(error.name, Union[str, None])
     assert_type(error.number, Union[int, None])
+    assert_type(error.filename, Union[str, None])
+
+
+def models(source: mpslp.Source) -> None:
+    model = mpslp.load(source, "lp")
+    assert_type(mpslp.__version__, str)
+    assert_type(model.sense, mpslp.Sense)
+    assert_type(model.digest, str)
+    assert_type(model.rows["r"], mpslp.Row)
+    assert_type(model.rows["r"].entries["x"], Decimal)
+    assert_type(model.columns["x"].kind, mpslp.Kind)
+    assert_type(model.columns["x"].entries, Mapping[str, Decimal])
+    assert_type(mpslp.fraction(3), Union[Fraction, None])
+    assert_type({model: 1}, dict[mpslp.Model, int])
 
 
 def wrong(text: bytes) -> None:
     mpslp.canonical(7, "mps")  # type: ignore[arg-type]
     mpslp.canonical(text, "qps")  # type: ignore[arg-type]
+    mpslp.load(text, "lp").sense = "maximize"  # type: ignore[misc]
+    mpslp.load(text, "lp").rows["r"] = mpslp.Row("r")  # type: ignore[index]

@@ -17,6 +17,8 @@ unknown or missing, TypeError for what is neither bytes nor a path, OSError wher
 MemoryError. Calls may run in many threads at once, and let the others go on meanwhile.
 """
 
+from mpslp._mpslp import VERSION as __version__
+
 from mpslp._calls import canonical, is_canonical, same
 from mpslp._faults import ModelFileError
 from mpslp._models import Column, Kind, Model, Row, Sense, load
@@ -24,6 +26,7 @@ from mpslp._numbers import Number, fraction
 from mpslp._sources import Format, Source
 
 __all__ = [
+    "__version__",
     "Column",
     "Format",
     "Kind",

@@ -3,7 +3,6 @@
 # Annotations are evaluated here: the classes say that they are of the package, whose names are fewer.
 
 import dataclasses
-import hashlib
 from collections.abc import Iterable, Iterator, Mapping
 from dataclasses import dataclass
 from decimal import Decimal
@@ -12,7 +11,7 @@ from typing import TYPE_CHECKING, Any, Literal, TypeAlias
 from mpslp import _mpslp
 from mpslp._mappings import Held, Numbered
 from mpslp._numbers import INFINITY, Number, decimal_of, difference, limit_of
-from mpslp._sources import Format, Source, read
+from mpslp._sources import Format, Source, naming, read
 from mpslp._writing import ColumnParts, Parts, RowParts, _store, mps_text
 
 Sense: TypeAlias = Literal["minimize", "maximize"]
@@ -342,6 +341,8 @@ class Model(_Part):
         """The SHA-256 of the model's canonical MPS text, as 64 hexadecimal digits: the same for each file of the model."""
         found = self._digest
         if found is None:
+            import hashlib  # it breaks further interpreters of CPython 3.12.1, and is wanted here only
+
             found = hashlib.sha256(_store(self._arrays, _mpslp.MPS)).hexdigest()
             self._fill(_digest=found)
         return found
@@ -369,7 +370,9 @@ def load(source: Source, format: Format | None = None) -> Model:
 
     Raises ModelFileError where the text declares no model.
     """
-    return model_of(_mpslp.load(*read(source, format)))
+    text = read(source, format)
+    with naming(text):
+        return model_of(_mpslp.load(text.content, text.format))
 
 
 def model_of(arrays: _mpslp.Arrays) -> Model:

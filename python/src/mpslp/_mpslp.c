@@ -556,6 +556,7 @@ static int begin(PyObject *module) {
     if ((held->decimal = imported("decimal", "Decimal")) == NULL) return -1;
     if ((held->infinity = PyObject_CallFunction(held->decimal, "s", "Infinity")) == NULL) return -1;
     if ((held->minus_infinity = PyObject_CallFunction(held->decimal, "s", "-Infinity")) == NULL) return -1;
+    if (PyModule_AddStringConstant(module, "VERSION", PACKAGE_VERSION) < 0) return -1;
     for (size_t i = 0; i < sizeof words / sizeof words[0]; i++)
         if (PyModule_AddIntConstant(module, words[i].name, words[i].number) < 0) return -1;
     return 0;
@@ -581,10 +582,24 @@ static int clear(PyObject *module) {
     return 0;
 }
 
+/*
+ * The first slot, Py_mod_multiple_interpreters with Py_MOD_PER_INTERPRETER_GIL_SUPPORTED, is known from CPython 3.12 on: all
+ * that the module holds is in its state.
+ */
 static PyModuleDef_Slot slots[] = {
+    { 3, (void *)2 },
     { Py_mod_exec, begin },
     { 0, NULL },
 };
+
+/* Whether the Python that runs is 3.12 or later: the stable interface is that of 3.10. */
+static int knows_interpreters(void) {
+    const char *version = Py_GetVersion();
+    char *end;
+    long major = strtol(version, &end, 10);
+    long minor = *end == '.' ? strtol(end + 1, NULL, 10) : 0;
+    return major > 3 || (major == 3 && minor >= 12);
+}
 
 static struct PyModuleDef definition = {
     .m_base = PyModuleDef_HEAD_INIT,
@@ -592,9 +607,11 @@ static struct PyModuleDef definition = {
     .m_doc = "The calls of the C library, on bytes.",
     .m_size = sizeof(state),
     .m_methods = calls,
-    .m_slots = slots,
     .m_traverse = traverse,
     .m_clear = clear,
 };
 
-PyMODINIT_FUNC PyInit__mpslp(void) { return PyModuleDef_Init(&definition); }
+PyMODINIT_FUNC PyInit__mpslp(void) {
+    definition.m_slots = knows_interpreters() ? slots : slots + 1;
+    return PyModuleDef_Init(&definition);
+}

@@ -1,6 +1,7 @@
 from decimal import Decimal
 from typing import ClassVar, final
 
+VERSION: str
 MPS: int
 LP: int
 MINIMIZE: int

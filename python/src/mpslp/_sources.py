@@ -1,11 +1,12 @@
 """Where the bytes of a text come from, and which format they have."""
 
-from __future__ import annotations
-
 import os
-from typing import TYPE_CHECKING, Literal, TypeAlias, Union
+from collections.abc import Iterator
+from contextlib import contextmanager
+from typing import TYPE_CHECKING, Literal, NamedTuple, TypeAlias, Union
 
 from mpslp import _mpslp
+from mpslp._faults import ModelFileError
 
 if TYPE_CHECKING:
     from _typeshed import ReadableBuffer
@@ -16,31 +17,49 @@ else:
 Format: TypeAlias = Literal["mps", "lp"]
 """A format of texts."""
 
-Source: TypeAlias = Union[ReadableBuffer, str, "os.PathLike[str]", "os.PathLike[bytes]"]
+Source: TypeAlias = Union[ReadableBuffer, str, os.PathLike[str], os.PathLike[bytes]]
 """A text: its bytes, in any object that has a buffer; or the path of its file."""
 
 _NUMBERS = {"mps": _mpslp.MPS, "lp": _mpslp.LP}
 
 
+class Text(NamedTuple):
+    """The bytes of a text, the number of its format, and the path of its file."""
+
+    content: bytes
+    format: int
+    filename: str | None
+
+
 def format_number(format: str) -> int:
     """The number of a format in the library."""
-    try:
-        return _NUMBERS[format]
-    except (KeyError, TypeError):
-        raise ValueError(f"unknown format: {format!r} is neither 'mps' nor 'lp'") from None
+    if not isinstance(format, str) or format not in _NUMBERS:
+        raise ValueError(f"unknown format: {format!r} is neither 'mps' nor 'lp'")
+    return _NUMBERS[format]
 
 
-def read(source: Source, format: Format | None) -> tuple[bytes, int]:
-    """The bytes of a text and the number of its format. A format that is told goes before the ending of a path."""
+def read(source: Source, format: Format | None) -> Text:
+    """The text of a source. A format that is told goes before the ending of a path."""
     if isinstance(source, (str, os.PathLike)):
         path = os.fspath(source)
         number = format_number(_format_of_path(path) if format is None else format)
         with open(path, "rb") as file:
-            return file.read(), number
+            return Text(file.read(), number, os.fsdecode(path))
+    view = _view(source)
     if format is None:
         raise ValueError("the format of bytes has to be told: 'mps' or 'lp'")
-    number = format_number(format)
-    return _frozen(source), number
+    return Text(_frozen(view), format_number(format), None)
+
+
+@contextmanager
+def naming(first: Text, second: Text | None = None) -> Iterator[None]:
+    """Within it, a ModelFileError gets the path of the text that has the fault."""
+    try:
+        yield
+    except ModelFileError as error:
+        text = second if second is not None and error.which == "second" else first
+        error.filename = text.filename
+        raise
 
 
 def _format_of_path(path: str | bytes) -> str:
@@ -51,15 +70,20 @@ def _format_of_path(path: str | bytes) -> str:
     raise ValueError(f"the format of {name!r} has to be told, 'mps' or 'lp': it ends neither in .mps nor in .lp")
 
 
-def _frozen(source: ReadableBuffer) -> bytes:
+def _view(source: ReadableBuffer) -> bytes | memoryview:
+    """The bytes of an object as they are."""
+    if isinstance(source, bytes):
+        return source
+    try:
+        return memoryview(source)
+    except TypeError:
+        raise TypeError(f"a text is bytes or a path, not {type(source).__name__}") from None
+
+
+def _frozen(view: bytes | memoryview) -> bytes:
     """Bytes that cannot change: the object itself, or a copy.
 
     The library reads without the interpreter's lock, and what it reads has to stay as it is. Another thread may write to
     a bytearray or a mapped file meanwhile, and a view that is read-only may be one of either, so all but bytes is copied.
     """
-    if isinstance(source, bytes):
-        return source
-    try:
-        return memoryview(source).tobytes()
-    except TypeError:
-        raise TypeError(f"a text is bytes or a path, not {type(source).__name__}") from None
+    return view if isinstance(view, bytes) else view.tobytes()
