@@ -38,6 +38,8 @@ class Mappings(unittest.TestCase):
             self.assertEqual(list(mapping.keys()), list(as_dict))
             self.assertEqual(list(mapping.values()), list(as_dict.values()))
             self.assertEqual(list(mapping.items()), list(as_dict.items()))
+            for view, wanted in ((mapping.keys(), as_dict.keys()), (mapping.values(), as_dict.values()), (mapping.items(), as_dict.items())):
+                self.assertEqual(list(reversed(view)), list(reversed(wanted)))
             self.assertEqual(len(mapping), len(as_dict))
             self.assertEqual(repr(mapping), repr(as_dict))
             for name, value in as_dict.items():

@@ -2,6 +2,7 @@
 
 from array import array
 from collections.abc import Mapping
+from dataclasses import replace
 from decimal import Decimal
 from fractions import Fraction
 from mmap import mmap
@@ -44,10 +45,16 @@ def models(source: mpslp.Source) -> None:
     assert_type(model.columns["x"].entries, Mapping[str, Decimal])
     assert_type(mpslp.fraction(3), Union[Fraction, None])
     assert_type({model: 1}, dict[mpslp.Model, int])
+    assert_type(mpslp.dumps(model, "mps"), bytes)
+    mpslp.dump(model, Path("a.lp"))
+    column = mpslp.Column("x", "integer", 0, 2.5, Fraction(1, 2), {"r": Decimal(1)})
+    made = mpslp.Model("maximize", rows=[mpslp.Row("r", upper=4)], columns={"x": replace(column, cost=3)})
+    assert_type(replace(made, constant=1), mpslp.Model)
 
 
 def wrong(text: bytes) -> None:
     mpslp.canonical(7, "mps")  # type: ignore[arg-type]
     mpslp.canonical(text, "qps")  # type: ignore[arg-type]
+    mpslp.Row("r", "3")  # type: ignore[arg-type]
     mpslp.load(text, "lp").sense = "maximize"  # type: ignore[misc]
     mpslp.load(text, "lp").rows["r"] = mpslp.Row("r")  # type: ignore[index]

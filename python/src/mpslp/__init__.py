@@ -21,7 +21,7 @@ from mpslp._mpslp import VERSION as __version__
 
 from mpslp._calls import canonical, is_canonical, same
 from mpslp._faults import ModelFileError
-from mpslp._models import Column, Kind, Model, Row, Sense, load
+from mpslp._models import Column, Kind, Model, Row, Sense, dump, dumps, load
 from mpslp._numbers import Number, fraction
 from mpslp._sources import Format, Source
 
@@ -37,6 +37,8 @@ __all__ = [
     "Sense",
     "Source",
     "canonical",
+    "dump",
+    "dumps",
     "fraction",
     "is_canonical",
     "load",
@@ -44,6 +46,6 @@ __all__ = [
 ]
 
 # Whatever module has them: they are shown, and pickled, by the names under which they are found.
-for _each in (Column, Model, ModelFileError, Row, canonical, fraction, is_canonical, load, same):
+for _each in (Column, Model, ModelFileError, Row, canonical, dump, dumps, fraction, is_canonical, load, same):
     _each.__module__ = __name__
 del _each

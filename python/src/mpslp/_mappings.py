@@ -2,7 +2,7 @@
 
 from __future__ import annotations
 
-from collections.abc import ItemsView, Iterable, Iterator, Mapping, ValuesView
+from collections.abc import ItemsView, Iterable, Iterator, KeysView, Mapping, ValuesView
 from itertools import islice
 from typing import Any, TypeVar
 
@@ -13,19 +13,65 @@ Value = TypeVar("Value", covariant=True)
 _MOST_SHOWN = 20
 
 
+class _Keys(KeysView[str]):
+    """Names, which can be had backwards, as those of a dict."""
+
+    _mapping: ReadOnly[Any]
+
+    def __reversed__(self) -> Iterator[str]:
+        return reversed(self._mapping)
+
+
+class _Values(ValuesView[Value]):
+    """Values in turn, without a search for each name."""
+
+    _mapping: ReadOnly[Value]
+
+    def __iter__(self) -> Iterator[Value]:
+        return (value for _, value in self._mapping.pairs())
+
+    def __reversed__(self) -> Iterator[Value]:
+        return reversed(list(self))
+
+
+class _Items(ItemsView[str, Value]):
+    """Names and values in turn, without a search for each name."""
+
+    _mapping: ReadOnly[Value]
+
+    def __iter__(self) -> Iterator[tuple[str, Value]]:
+        return iter(self._mapping.pairs())
+
+    def __reversed__(self) -> Iterator[tuple[str, Value]]:
+        return reversed(list(self))
+
+
 class ReadOnly(Mapping[str, Value]):
     """What all of these mappings have. Their values do not change, so a copy is the mapping itself."""
 
     __slots__ = ("__weakref__",)
 
-    def __hash__(self) -> int:
-        return hash(frozenset(self.items()))
+    def pairs(self) -> Iterable[tuple[str, Value]]:
+        """Each name with its value."""
+        raise NotImplementedError
+
+    def keys(self) -> KeysView[str]:
+        return _Keys(self)
+
+    def values(self) -> ValuesView[Value]:
+        return _Values(self)
+
+    def items(self) -> ItemsView[str, Value]:
+        return _Items(self)
 
     def __reversed__(self) -> Iterator[str]:
         return reversed(list(self))
 
+    def __hash__(self) -> int:
+        return hash(frozenset(self.items()))
+
     def __repr__(self) -> str:
-        shown = [f"{name!r}: {value!r}" for name, value in islice(self.items(), _MOST_SHOWN)]
+        shown = [f"{name!r}: {value!r}" for name, value in islice(self.pairs(), _MOST_SHOWN)]
         if len(self) > _MOST_SHOWN:
             shown.append("...")
         return "{" + ", ".join(shown) + "}"
@@ -57,23 +103,8 @@ class Held(ReadOnly[Value]):
     def __len__(self) -> int:
         return len(self._held)
 
-
-class _Values(ValuesView[Value]):
-    """Values in turn, without a search for each name."""
-
-    _mapping: Numbered[Value]
-
-    def __iter__(self) -> Iterator[Value]:
-        return (value for _, value in self._mapping.pairs())
-
-
-class _Items(ItemsView[str, Value]):
-    """Names and values in turn, without a search for each name."""
-
-    _mapping: Numbered[Value]
-
-    def __iter__(self) -> Iterator[tuple[str, Value]]:
-        return iter(self._mapping.pairs())
+    def pairs(self) -> Iterable[tuple[str, Value]]:
+        return self._held.items()
 
 
 class Numbered(ReadOnly[Value]):
@@ -83,14 +114,3 @@ class Numbered(ReadOnly[Value]):
 
     def __init__(self, arrays: _mpslp.Arrays) -> None:
         self._arrays = arrays
-
-    def pairs(self) -> Iterable[tuple[str, Value]]:
-        """Each name with its value."""
-        raise NotImplementedError
-
-    def values(self) -> ValuesView[Value]:
-        return _Values(self)
-
-    def items(self) -> ItemsView[str, Value]:
-        return _Items(self)
-

@@ -11,7 +11,7 @@ from typing import TYPE_CHECKING, Any, Literal, TypeAlias
 from mpslp import _mpslp
 from mpslp._mappings import Held, Numbered
 from mpslp._numbers import INFINITY, Number, decimal_of, difference, limit_of
-from mpslp._sources import Format, Source, naming, read
+from mpslp._sources import Format, Path, Source, format_number, naming, read, write
 from mpslp._writing import ColumnParts, Parts, RowParts, _store, mps_text
 
 Sense: TypeAlias = Literal["minimize", "maximize"]
@@ -373,6 +373,31 @@ def load(source: Source, format: Format | None = None) -> Model:
     text = read(source, format)
     with naming(text):
         return model_of(_mpslp.load(text.content, text.format))
+
+
+def dumps(model: Model, format: Format) -> bytes:
+    """Returns the canonical text of a model.
+
+    Raises ModelFileError if a name is not legal in LP and the format is LP.
+
+    >>> mpslp.dumps(mpslp.Model(columns=[mpslp.Column("x", upper=0.5)]), "lp")
+    b'Minimize\\n obj:\\n  + 0 x\\nSubject To\\nBounds\\n 0 <= x <= 0.5\\nEnd\\n'
+    """
+    number = format_number(format)
+    if not isinstance(model, Model):
+        raise TypeError(f"a model is a mpslp.Model, not {type(model).__name__}")
+    return _store(model._arrays, number)
+
+
+def dump(model: Model, path: Path, format: Format | None = None) -> None:
+    """Writes the canonical text of a model to a file.
+
+    The format may be left out for a path that ends in ``.mps`` or ``.lp``. A file that is there is replaced, after the
+    text is made: if the model has none in the format, the file stays as it is.
+
+    Raises ModelFileError if a name is not legal in LP and the format is LP.
+    """
+    write(path, format, lambda each: dumps(model, each))
 
 
 def model_of(arrays: _mpslp.Arrays) -> Model:

@@ -1,7 +1,7 @@
 """Where the bytes of a text come from, and which format they have."""
 
 import os
-from collections.abc import Iterator
+from collections.abc import Callable, Iterator
 from contextlib import contextmanager
 from typing import TYPE_CHECKING, Literal, NamedTuple, TypeAlias, Union
 
@@ -17,10 +17,13 @@ else:
 Format: TypeAlias = Literal["mps", "lp"]
 """A format of texts."""
 
-Source: TypeAlias = Union[ReadableBuffer, str, os.PathLike[str], os.PathLike[bytes]]
+Path: TypeAlias = Union[str, os.PathLike[str], os.PathLike[bytes]]
+"""The path of a file."""
+
+Source: TypeAlias = Union[ReadableBuffer, Path]
 """A text: its bytes, in any object that has a buffer; or the path of its file."""
 
-_NUMBERS = {"mps": _mpslp.MPS, "lp": _mpslp.LP}
+_NUMBERS: dict[Format, int] = {"mps": _mpslp.MPS, "lp": _mpslp.LP}
 
 
 class Text(NamedTuple):
@@ -31,7 +34,7 @@ class Text(NamedTuple):
     filename: str | None
 
 
-def format_number(format: str) -> int:
+def format_number(format: Format) -> int:
     """The number of a format in the library."""
     if not isinstance(format, str) or format not in _NUMBERS:
         raise ValueError(f"unknown format: {format!r} is neither 'mps' nor 'lp'")
@@ -51,6 +54,16 @@ def read(source: Source, format: Format | None) -> Text:
     return Text(_frozen(view), format_number(format), None)
 
 
+def write(path: Path, format: Format | None, text: Callable[[Format], bytes]) -> None:
+    """Writes a text in a format to a file, which is opened once the text is made."""
+    if not isinstance(path, (str, os.PathLike)):
+        raise TypeError(f"a path is a str or an os.PathLike, not {type(path).__name__}")
+    name = os.fspath(path)
+    content = text(_format_of_path(name) if format is None else format)
+    with open(name, "wb") as file:
+        file.write(content)
+
+
 @contextmanager
 def naming(first: Text, second: Text | None = None) -> Iterator[None]:
     """Within it, a ModelFileError gets the path of the text that has the fault."""
@@ -62,7 +75,7 @@ def naming(first: Text, second: Text | None = None) -> Iterator[None]:
         raise
 
 
-def _format_of_path(path: str | bytes) -> str:
+def _format_of_path(path: str | bytes) -> Format:
     name = os.fsdecode(path)
     for format in _NUMBERS:
         if name.lower().endswith("." + format):
