@@ -1,10 +1,12 @@
 """What a checker of types has to find right; check.sh gives it to mypy."""
 
+import gzip
 from array import array
 from collections.abc import Mapping
 from dataclasses import replace
 from decimal import Decimal
 from fractions import Fraction
+from io import BytesIO
 from mmap import mmap
 from os import PathLike
 from pathlib import Path
@@ -20,6 +22,10 @@ def calls(text: bytes, changing: bytearray, view: memoryview, mapped: mmap, path
     assert_type(mpslp.same(view, mapped, "mps", "mps"), bool)
     assert_type(mpslp.is_canonical(other), bool)
     assert_type(mpslp.is_canonical(array("B"), "mps"), bool)
+    with open(path, "rb") as file, gzip.open(path) as unpacked:
+        assert_type(mpslp.load(file), mpslp.Model)
+        assert_type(mpslp.load(unpacked, "lp"), mpslp.Model)
+    assert_type(mpslp.canonical(BytesIO(text), "lp"), bytes)
 
 
 def passed_on(source: mpslp.Source, format: mpslp.Format) -> bytes:

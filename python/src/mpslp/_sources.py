@@ -1,11 +1,13 @@
 """Where the bytes of a text come from, and which format they have."""
 
+import io
 import os
 from collections.abc import Callable, Iterator
 from contextlib import contextmanager
-from typing import TYPE_CHECKING, Literal, NamedTuple, TypeAlias, Union
+from typing import TYPE_CHECKING, Literal, NamedTuple, Protocol, TypeAlias, Union
 
 from mpslp import _mpslp
+from mpslp._compression import pack, unpack, without_ending
 from mpslp._faults import ModelFileError
 
 if TYPE_CHECKING:
@@ -20,8 +22,15 @@ Format: TypeAlias = Literal["mps", "lp"]
 Path: TypeAlias = Union[str, os.PathLike[str], os.PathLike[bytes]]
 """The path of a file."""
 
-Source: TypeAlias = Union[ReadableBuffer, Path]
-"""A text: its bytes, in any object that has a buffer; or the path of its file."""
+
+class BinaryFile(Protocol):
+    """A file that is open for reading bytes."""
+
+    def read(self, /) -> bytes: ...
+
+
+Source: TypeAlias = Union[ReadableBuffer, Path, BinaryFile]
+"""A text: its bytes, in any object that has a buffer; the path of its file; or that file, open for reading bytes."""
 
 _NUMBERS: dict[Format, int] = {"mps": _mpslp.MPS, "lp": _mpslp.LP}
 
@@ -34,7 +43,7 @@ class Text(NamedTuple):
     filename: str | None
 
 
-def format_number(format: Format) -> int:
+def format_number(format: Format | None) -> int:
     """The number of a format in the library."""
     if not isinstance(format, str) or format not in _NUMBERS:
         raise ValueError(f"unknown format: {format!r} is neither 'mps' nor 'lp'")
@@ -47,11 +56,29 @@ def read(source: Source, format: Format | None) -> Text:
         path = os.fspath(source)
         number = format_number(_format_of_path(path) if format is None else format)
         with open(path, "rb") as file:
-            return Text(file.read(), number, os.fsdecode(path))
+            return Text(unpack(os.fsdecode(path), file.read()), number, os.fsdecode(path))
     view = _view(source)
+    if view is None:
+        return _read_file(source, format)
     if format is None:
         raise ValueError("the format of bytes has to be told: 'mps' or 'lp'")
     return Text(_frozen(view), format_number(format), None)
+
+
+def _read_file(source: object, format: Format | None) -> Text:
+    """The rest of an open file. Its path, where it has one, tells the format; it is read as it is, not decompressed."""
+    read_all = getattr(source, "read", None)
+    if not callable(read_all) or isinstance(source, io.TextIOBase):
+        raise TypeError(f"a text is bytes, a path or an open binary file, not {type(source).__name__}")
+    path = getattr(source, "name", None)
+    filename = os.fsdecode(path) if isinstance(path, (str, bytes, os.PathLike)) else None
+    if format is None and filename is None:
+        raise ValueError("the format of an open file without a path has to be told: 'mps' or 'lp'")
+    number = format_number(_format_of_path(filename) if format is None and filename is not None else format)
+    content = read_all()
+    if not isinstance(content, bytes):
+        raise TypeError(f"an open file gives bytes, not {type(content).__name__}")
+    return Text(content, number, filename)
 
 
 def write(path: Path, format: Format | None, text: Callable[[Format], bytes]) -> None:
@@ -59,7 +86,7 @@ def write(path: Path, format: Format | None, text: Callable[[Format], bytes]) ->
     if not isinstance(path, (str, os.PathLike)):
         raise TypeError(f"a path is a str or an os.PathLike, not {type(path).__name__}")
     name = os.fspath(path)
-    content = text(_format_of_path(name) if format is None else format)
+    content = pack(os.fsdecode(name), text(_format_of_path(name) if format is None else format))
     with open(name, "wb") as file:
         file.write(content)
 
@@ -76,21 +103,21 @@ def naming(first: Text, second: Text | None = None) -> Iterator[None]:
 
 
 def _format_of_path(path: str | bytes) -> Format:
-    name = os.fsdecode(path)
+    name, _ = without_ending(os.fsdecode(path))
     for format in _NUMBERS:
         if name.lower().endswith("." + format):
             return format
-    raise ValueError(f"the format of {name!r} has to be told, 'mps' or 'lp': it ends neither in .mps nor in .lp")
+    raise ValueError(f"the format of {os.fsdecode(path)!r} has to be told, 'mps' or 'lp': it ends neither in .mps nor in .lp")
 
 
-def _view(source: ReadableBuffer) -> bytes | memoryview:
-    """The bytes of an object as they are."""
+def _view(source: ReadableBuffer | BinaryFile) -> bytes | memoryview | None:
+    """The bytes of an object as they are, or None if it has no buffer."""
     if isinstance(source, bytes):
         return source
     try:
-        return memoryview(source)
+        return memoryview(source)  # type: ignore[arg-type]
     except TypeError:
-        raise TypeError(f"a text is bytes or a path, not {type(source).__name__}") from None
+        return None
 
 
 def _frozen(view: bytes | memoryview) -> bytes:
