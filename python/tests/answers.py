@@ -29,6 +29,8 @@ CALLS = {
     "is_canonical, refused": partial(_mpslp.is_canonical, b"", _mpslp.MPS),
     "load": partial(_mpslp.load, OTHER, _mpslp.LP),
     "a model's counts and objective": lambda: (LOADED.counts(), LOADED.objective()),
+    "a model's doubles": LOADED.doubles,
+    "a model's lists of names": LOADED.names,
     "a model's row": partial(LOADED.row, 0),
     "a model's column": partial(LOADED.column, 0),
     "a model's names": lambda: (LOADED.row_name(1), LOADED.column_name(0)),

@@ -21,14 +21,16 @@ meanwhile.
 
 from mpslp._mpslp import VERSION as __version__
 
+from mpslp._arrays import Arrays
 from mpslp._calls import canonical, is_canonical, same
 from mpslp._faults import ModelFileError
-from mpslp._models import Column, Kind, Model, Row, Sense, dump, dumps, load
+from mpslp._models import Column, Kind, Model, Row, Sense, dump, dumps, from_arrays, load
 from mpslp._numbers import Number, fraction
 from mpslp._sources import Format, Source
 
 __all__ = [
     "__version__",
+    "Arrays",
     "Column",
     "Format",
     "Kind",
@@ -42,12 +44,13 @@ __all__ = [
     "dump",
     "dumps",
     "fraction",
+    "from_arrays",
     "is_canonical",
     "load",
     "same",
 ]
 
 # Whatever module has them: they are shown, and pickled, by the names under which they are found.
-for _each in (Column, Model, ModelFileError, Row, canonical, dump, dumps, fraction, is_canonical, load, same):
+for _each in (Arrays, Column, Model, ModelFileError, Row, canonical, dump, dumps, fraction, from_arrays, is_canonical, load, same):
     _each.__module__ = __name__
 del _each

@@ -9,6 +9,7 @@ from decimal import Decimal
 from typing import TYPE_CHECKING, Any, Literal, TypeAlias
 
 from mpslp import _mpslp
+from mpslp._arrays import Arrays, arrays_of, listed
 from mpslp._mappings import Held, Numbered
 from mpslp._numbers import INFINITY, Number, decimal_of, difference, limit_of
 from mpslp._sources import Format, Path, Source, format_number, naming, read, write
@@ -347,6 +348,17 @@ class Model(_Part):
             self._fill(_digest=found)
         return found
 
+    def arrays(self) -> Arrays:
+        """Returns the model as arrays of doubles, in the form in which solvers take it.
+
+        Rows and columns are numbered in byte order of their names, and each number is the nearest double.
+
+        >>> arrays = mpslp.load(b"max 3 x + y\\nst limit: 0.5 x + y <= 4\\nend\\n", "lp").arrays()
+        >>> list(arrays.c), list(arrays.data), list(arrays.row_upper)
+        ([3.0, 1.0], [0.5, 1.0], [4.0])
+        """
+        return arrays_of(self._arrays, self.sense)
+
     def __eq__(self, other: object) -> bool:
         if not isinstance(other, Model):
             return NotImplemented
@@ -373,6 +385,40 @@ def load(source: Source, format: Format | None = None) -> Model:
     text = read(source, format)
     with naming(text):
         return model_of(_mpslp.load(text.content, text.format))
+
+
+def from_arrays(arrays: Arrays) -> Model:
+    """Returns the model of arrays, with each double as the decimal of its shortest text.
+
+    Raises ValueError for arrays that do not fit each other, and for what no model has.
+
+    >>> arrays = mpslp.Arrays(c=[3, 1], indptr=[0, 1, 2], indices=[0, 0], data=[0.5, 1], row_lower=[0], row_upper=[4])
+    >>> mpslp.from_arrays(arrays).columns["x0"].entries
+    {'r0': Decimal('0.5')}
+    """
+    row_names = _names_of(arrays.row_names, "r", len(arrays.row_lower))
+    column_names = _names_of(arrays.column_names, "x", len(arrays.c))
+    starts, indices, values = listed(arrays.indptr), listed(arrays.indices), listed(arrays.data)
+    count = len(column_names)
+    lower = [0] * count if arrays.lower is None else listed(arrays.lower)
+    upper = [INFINITY] * count if arrays.upper is None else listed(arrays.upper)
+    kinds = [0] * count if arrays.integrality is None else listed(arrays.integrality)
+    if len(arrays.row_upper) != len(row_names) or not len(lower) == len(upper) == len(kinds) == count:
+        raise ValueError("the limits of the rows, or the arrays of the columns, differ in length")
+    if len(starts) != count + 1 or starts[0] != 0 or starts[-1] != len(values) or len(indices) != len(values) or starts != sorted(starts):
+        raise ValueError("indptr, indices and data are no matrix in compressed columns with as many columns as c")
+    if not all(0 <= row < len(row_names) for row in indices):
+        raise ValueError("indices has a row that is not there")
+    if not all(kind in _KINDS for kind in kinds):
+        raise ValueError("integrality is 0, 1 or 2")
+    rows = [Row(*row) for row in zip(row_names, listed(arrays.row_lower), listed(arrays.row_upper))]
+    columns = []
+    for j, (name, cost) in enumerate(zip(column_names, listed(arrays.c))):
+        entries = {row_names[indices[k]]: values[k] for k in range(starts[j], starts[j + 1])}
+        if len(entries) != starts[j + 1] - starts[j]:
+            raise ValueError(f"column {name!r} has two entries in one row")
+        columns.append(Column(name, _KINDS[kinds[j]], lower[j], upper[j], cost, entries))
+    return Model(arrays.sense, arrays.objective, arrays.constant, rows, columns)
 
 
 def dumps(model: Model, format: Format) -> bytes:
@@ -405,6 +451,17 @@ def model_of(arrays: _mpslp.Arrays) -> Model:
     model = object.__new__(Model)
     model._keep(arrays)
     return model
+
+
+def _names_of(names: Iterable[str] | None, letter: str, count: int) -> list[str]:
+    """The names of so many rows or columns. Those that are made have one length, so that their order is that of the arrays."""
+    if names is None:
+        width = len(str(max(count - 1, 0)))
+        return [f"{letter}{number:0{width}}" for number in range(count)]
+    given = list(names)
+    if len(given) != count or len(set(given)) != count:
+        raise ValueError("there is not one name for each row and each column")
+    return given
 
 
 def _check_name(name: str, what: str) -> None:

@@ -467,7 +467,55 @@ static PyObject *arrays_row_entries(PyObject *self, PyObject *number) {
     return filled(made, is_filled);
 }
 
+/* Room for so many items, to be written without the interpreter's lock: nothing else has the object yet. */
+static PyObject *room_for(size_t count, size_t size) { return PyByteArray_FromStringAndSize(NULL, (Py_ssize_t)(count * size)); }
+
+enum { COSTS, STARTS, ROWS, VALUES, ROW_LOWER, ROW_UPPER, LOWER, UPPER, KINDS, PARTS };
+
+static PyObject *arrays_doubles(PyObject *self, PyObject *Py_UNUSED(none)) {
+    const mpslp_model *model = model_of(self);
+    const size_t rows = model->num_rows, columns = model->num_columns, elements = model->num_elements;
+    if (!mpslp_fits_int32(model)) {
+        PyErr_SetString(PyExc_OverflowError, "the model has more parts than an index of 32 bits");
+        return NULL;
+    }
+    PyObject *parts[PARTS] = {
+        [COSTS] = room_for(columns, sizeof(double)),     [STARTS] = room_for(columns + 1, sizeof(int32_t)),
+        [ROWS] = room_for(elements, sizeof(int32_t)),    [VALUES] = room_for(elements, sizeof(double)),
+        [ROW_LOWER] = room_for(rows, sizeof(double)),    [ROW_UPPER] = room_for(rows, sizeof(double)),
+        [LOWER] = room_for(columns, sizeof(double)),     [UPPER] = room_for(columns, sizeof(double)),
+        [KINDS] = room_for(columns, sizeof(int8_t)),
+    };
+    void *at[PARTS];
+    for (int part = 0; part < PARTS; part++) {
+        if (parts[part] == NULL) return tuple_of(PARTS, parts);
+        at[part] = PyByteArray_AsString(parts[part]);
+    }
+    Py_BEGIN_ALLOW_THREADS
+    mpslp_costs(model, at[COSTS]);
+    mpslp_matrix(model, at[STARTS], at[ROWS], at[VALUES]);
+    mpslp_row_limits(model, at[ROW_LOWER], at[ROW_UPPER]);
+    mpslp_column_bounds(model, at[LOWER], at[UPPER]);
+    for (size_t j = 0; j < columns; j++) ((int8_t *)at[KINDS])[j] = (int8_t)model->columns[j].kind;
+    Py_END_ALLOW_THREADS
+    return tuple_of(PARTS, parts);
+}
+
+static PyObject *arrays_names(PyObject *self, PyObject *Py_UNUSED(none)) {
+    const mpslp_model *model = model_of(self);
+    PyObject *items[] = { PyList_New((Py_ssize_t)model->num_rows), PyList_New((Py_ssize_t)model->num_columns) };
+    int is_filled = items[0] != NULL && items[1] != NULL;
+    for (size_t i = 0; is_filled && i < model->num_rows; i++) is_filled = put(items[0], i, name_of(model, model->rows[i].name));
+    for (size_t j = 0; is_filled && j < model->num_columns; j++) is_filled = put(items[1], j, name_of(model, model->columns[j].name));
+    if (is_filled) return tuple_of(2, items);
+    Py_XDECREF(items[0]);
+    Py_XDECREF(items[1]);
+    return NULL;
+}
+
 static PyMethodDef arrays_methods[] = {
+    { "doubles", arrays_doubles, METH_NOARGS, "doubles($self, /)\n--\n\nThe numbers of the model as arrays of doubles and of 32-bit indices." },
+    { "names", arrays_names, METH_NOARGS, "names($self, /)\n--\n\nThe names of the rows, and of the columns." },
     { "counts", arrays_counts, METH_NOARGS, "counts($self, /)\n--\n\nHow many rows, columns and nonzero coefficients of rows there are." },
     { "objective", arrays_objective, METH_NOARGS, "objective($self, /)\n--\n\nThe sense, and the objective's name and constant." },
     { "row_name", arrays_row_name, METH_O, "row_name($self, number, /)\n--\n\nThe name of a row." },

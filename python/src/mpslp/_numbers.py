@@ -3,6 +3,7 @@
 import math
 from decimal import MAX_EMAX, MIN_EMIN, Context, Decimal
 from fractions import Fraction
+from functools import lru_cache
 from numbers import Integral, Rational, Real
 from typing import TypeAlias, Union
 
@@ -28,16 +29,25 @@ def fraction(number: Number) -> Fraction | None:
     return Fraction(number) if is_finite else None
 
 
+@lru_cache(maxsize=4096)
+def _of_float(number: float) -> Decimal:
+    """The same for a float: many of a model are alike."""
+    return _checked(Decimal(float.__repr__(number)))
+
+
 def decimal_of(number: Number) -> Decimal:
     """The decimal that a number is, in normal form; an infinite one as it is.
 
     Raises ValueError where no decimal of a model is the number, and TypeError for what is no number.
     """
-    found = _decimal(number)
+    return _of_float(number) if type(number) is float else _checked(_decimal(number))
+
+
+def _checked(found: Decimal) -> Decimal:
     if found.is_infinite():
         return found
     if found.is_nan():
-        raise ValueError(f"{number!r} is no number")
+        raise ValueError(f"{found} is no number")
     return _normal(found)
 
 
