@@ -5,6 +5,7 @@
  * docs/C.md says what that rests on, and what a caller owes. In short: no pointer is null, even where a length is 0; what is written lies apart from all else that a call is
  * given; texts, models and faults begin as MPSLP_NO_TEXT, MPSLP_NO_MODEL and MPSLP_NO_FAULT. A call keeps no pointer, has
  * no state, and may run in many threads at once, each with texts, models and faults of its own. It wants a stack of 256 KiB.
+ * Texts may have any length for which there is memory: the limit of 1 GiB is the program's, and TooLong is none of the library's.
  */
 #ifndef MPSLP_H
 #define MPSLP_H
@@ -15,17 +16,57 @@
 #include <stdbool.h>
 #include <stddef.h>
 #include <stdint.h>
+#include <stdio.h>
 #include <stdlib.h>
+#include <string.h>
+
+/* The version of this header; mpslp_version() is that of the library. */
+#define MPSLP_VERSION_MAJOR 0
+#define MPSLP_VERSION_MINOR 1
+#define MPSLP_VERSION_PATCH 0
+
+/*
+ * An enumeration has 4 bytes. In C++ it has the type of these, so that a number that is none of its words is no undefined
+ * behaviour.
+ */
+#if defined __cplusplus && __cplusplus >= 201103L
+#define MPSLP_ENUM(name) enum name : uint32_t
+#else
+#define MPSLP_ENUM(name) enum name
+#endif
+
+/* A result that may not be ignored. */
+#ifdef __GNUC__
+#define MPSLP_MUST_USE __attribute__((warn_unused_result))
+#else
+#define MPSLP_MUST_USE
+#endif
+
+/* A call that is inline here, and exported by the library, too, for languages that read no header. */
+#if defined __GNUC_GNU_INLINE__ && !defined __cplusplus
+#define MPSLP_INLINE extern inline __attribute__((gnu_inline))
+#else
+#define MPSLP_INLINE inline
+#endif
+
+/* Casts of C and C++. */
+#ifdef __cplusplus
+#define MPSLP_CAST(type, value) static_cast<type>(value)
+#define MPSLP_POINTER(type, value) reinterpret_cast<type>(value)
+#else
+#define MPSLP_CAST(type, value) ((type)(value))
+#define MPSLP_POINTER(type, value) ((type)(value))
+#endif
 
 #ifdef __cplusplus
 extern "C" {
 #endif
 
 /* The formats of texts. */
-enum { MPSLP_MPS = 0, MPSLP_LP = 1 };
+typedef MPSLP_ENUM(mpslp_format) { MPSLP_MPS = 0, MPSLP_LP = 1 } mpslp_format;
 
 /* What the calls return. */
-enum {
+typedef MPSLP_ENUM(mpslp_status) {
     MPSLP_OK = 0,             /* done; yes */
     MPSLP_DIFFERS = 1,        /* no */
     MPSLP_REFUSED = 2,        /* the text, or the first of two, declares no model; the fault is told */
@@ -33,10 +74,10 @@ enum {
     MPSLP_NOT_LP = 4,         /* the model has a name that LP cannot tell; its place is told */
     MPSLP_OUT_OF_MEMORY = 5,  /* malloc or realloc gave none */
     MPSLP_UNKNOWN_FORMAT = 6  /* a format is neither MPSLP_MPS nor MPSLP_LP */
-};
+} mpslp_status;
 
 /* Places in a model. */
-enum { MPSLP_NOWHERE = 0, MPSLP_AT_OBJECTIVE = 1, MPSLP_AT_ROW = 2, MPSLP_AT_COLUMN = 3 };
+typedef MPSLP_ENUM(mpslp_place) { MPSLP_NOWHERE = 0, MPSLP_AT_OBJECTIVE = 1, MPSLP_AT_ROW = 2, MPSLP_AT_COLUMN = 3 } mpslp_place;
 
 /* So many bytes, with no 0 behind them. A text that a call gave is the caller's, who gives it back by mpslp_free. */
 typedef struct mpslp_text {
@@ -44,13 +85,13 @@ typedef struct mpslp_text {
     size_t len;
 } mpslp_text;
 
-#define MPSLP_NO_TEXT { (const uint8_t *)"", 0 }
+#define MPSLP_NO_TEXT { MPSLP_POINTER(const uint8_t *, ""), 0 }
 
 /* Why a text is refused, or has no LP text. There is nothing to free: the name of the kind lives as long as the library. */
 typedef struct mpslp_fault {
     mpslp_text kind;  /* the name of its kind, as DuplicateEntry; docs/FORMATS.md has them all. NotLp at MPSLP_NOT_LP */
     uint64_t line;    /* counted from 1; 0 for a fault of the whole text, and at MPSLP_NOT_LP */
-    uint32_t place;   /* at MPSLP_NOT_LP: the objective, a row or a column has the name; else MPSLP_NOWHERE */
+    mpslp_place place; /* at MPSLP_NOT_LP: the objective, a row or a column has the name; else MPSLP_NOWHERE */
     size_t number;    /* the number of that row or column, from 0 in byte order of names; else 0 */
     size_t name_len;  /* the length of the name of the row or column that a whole text's fault is told of; or 0 */
     char name[256];   /* that name, and zeros behind it */
@@ -65,7 +106,7 @@ typedef struct mpslp_fault {
  * MPSLP_NOT_LP: `to` is LP, and `*fault` tells where the first name stands that LP cannot tell. Or MPSLP_OUT_OF_MEMORY,
  * or MPSLP_UNKNOWN_FORMAT. What the status does not tell of stays as it was; an old text in `*out` is not freed.
  */
-uint32_t mpslp_canonical(uint32_t from, uint32_t to, const uint8_t *bytes, size_t len, mpslp_text *out, mpslp_fault *fault);
+MPSLP_MUST_USE mpslp_status mpslp_canonical(mpslp_format from, mpslp_format to, const uint8_t *bytes, size_t len, mpslp_text *out, mpslp_fault *fault);
 
 /*
  * Tells whether two texts, each in its format, declare the same model: MPSLP_OK if they do, MPSLP_DIFFERS if not.
@@ -74,8 +115,8 @@ uint32_t mpslp_canonical(uint32_t from, uint32_t to, const uint8_t *bytes, size_
  * one and the second none, and `*fault` is the first fault of the second. Or MPSLP_OUT_OF_MEMORY, or
  * MPSLP_UNKNOWN_FORMAT. At another status `*fault` stays as it was. The two texts may overlap.
  */
-uint32_t mpslp_same(uint32_t first_format, const uint8_t *first, size_t first_len, uint32_t second_format, const uint8_t *second,
-                    size_t second_len, mpslp_fault *fault);
+MPSLP_MUST_USE mpslp_status mpslp_same(mpslp_format first_format, const uint8_t *first, size_t first_len, mpslp_format second_format,
+                                       const uint8_t *second, size_t second_len, mpslp_fault *fault);
 
 /*
  * Tells whether bytes are the canonical text of the model that they declare: MPSLP_OK if they are, MPSLP_DIFFERS if not.
@@ -84,19 +125,62 @@ uint32_t mpslp_same(uint32_t first_format, const uint8_t *first, size_t first_le
  * MPSLP_REFUSED: they declare no model, and `*fault` is their first fault. Or MPSLP_OUT_OF_MEMORY, or
  * MPSLP_UNKNOWN_FORMAT. At another status `*fault` stays as it was.
  */
-uint32_t mpslp_is_canonical(uint32_t format, const uint8_t *bytes, size_t len, mpslp_fault *fault);
+MPSLP_MUST_USE mpslp_status mpslp_is_canonical(mpslp_format format, const uint8_t *bytes, size_t len, mpslp_fault *fault);
+
+/* The version of the library, as "0.1.0". */
+const char *mpslp_version(void);
+
+/* What a status says, in a few words. */
+MPSLP_INLINE const char *mpslp_status_text(mpslp_status status) {
+    switch (status) {
+    case MPSLP_OK: return "done";
+    case MPSLP_DIFFERS: return "no";
+    case MPSLP_REFUSED: return "the text, or the first of two, defines no model";
+    case MPSLP_SECOND_REFUSED: return "the second text defines no model";
+    case MPSLP_NOT_LP: return "a name is not legal in LP";
+    case MPSLP_OUT_OF_MEMORY: return "out of memory";
+    case MPSLP_UNKNOWN_FORMAT: return "unknown format";
+    default: return "unknown status";
+    }
+}
+
+/* Room for each line of a fault, with the 0 at its end. */
+enum { MPSLP_LINE_ROOM = 320 };
+
+/*
+ * Writes the line that the program mpslp prints for a fault, as "line 7: DuplicateEntry", without an end of line, and a 0 after
+ * it. A line with no room in `size` bytes is cut off. Answers how many letters the whole line has.
+ */
+MPSLP_INLINE size_t mpslp_fault_line(const mpslp_fault *fault, char *line, size_t size) {
+    const unsigned long number = fault->line != 0 ? fault->line : fault->number;
+    char where[40];
+    int len;
+    if (fault->line != 0) snprintf(where, sizeof where, "line %lu", number);
+    else if (fault->place == MPSLP_AT_ROW) snprintf(where, sizeof where, "row %lu", number);
+    else if (fault->place == MPSLP_AT_COLUMN) snprintf(where, sizeof where, "column %lu", number);
+    else snprintf(where, sizeof where, "%s", fault->place == MPSLP_AT_OBJECTIVE ? "objective" : "file");
+    len = snprintf(line, size, "%s: %.*s%s%.*s", where, MPSLP_CAST(int, fault->kind.len), MPSLP_POINTER(const char *, fault->kind.bytes),
+                   fault->name_len != 0 ? " " : "", MPSLP_CAST(int, fault->name_len), fault->name);
+    return len < 0 ? 0 : MPSLP_CAST(size_t, len);
+}
 
 /* ---- a whole model */
 
 /* Which values a column may take. */
-enum {
+typedef MPSLP_ENUM(mpslp_kind) {
     MPSLP_CONTINUOUS = 0,     /* those within its bounds */
     MPSLP_INTEGER = 1,        /* the whole numbers within its bounds */
     MPSLP_SEMI_CONTINUOUS = 2 /* 0, and those within its bounds */
-};
+} mpslp_kind;
 
 /* Which value of the objective is wanted: the least or the greatest. */
-enum { MPSLP_MINIMIZE = 0, MPSLP_MAXIMIZE = 1 };
+typedef MPSLP_ENUM(mpslp_sense) { MPSLP_MINIMIZE = 0, MPSLP_MAXIMIZE = 1 } mpslp_sense;
+
+/* The library was built with enumerations of 4 bytes; -fshort-enums makes others. */
+typedef char mpslp_enumerations_have_4_bytes[sizeof(mpslp_format) == 4 && sizeof(mpslp_status) == 4 && sizeof(mpslp_place) == 4 &&
+                                                     sizeof(mpslp_kind) == 4 && sizeof(mpslp_sense) == 4
+                                                 ? 1
+                                                 : -1];
 
 /*
  * An exact decimal: `high` times 2^64 and `low`, together the mantissa, times ten to the `exponent`. The mantissa has 36
@@ -126,7 +210,7 @@ typedef struct mpslp_column {
     mpslp_number lower, upper;
     mpslp_number cost; /* its coefficient in the objective */
     size_t first;      /* its first element: how many elements the columns before it have */
-    uint32_t kind;     /* MPSLP_CONTINUOUS, MPSLP_INTEGER or MPSLP_SEMI_CONTINUOUS */
+    mpslp_kind kind;   /* MPSLP_CONTINUOUS, MPSLP_INTEGER or MPSLP_SEMI_CONTINUOUS */
 } mpslp_column;
 
 /* A coefficient of a row, which is not 0. */
@@ -150,11 +234,12 @@ typedef struct mpslp_model {
     size_t num_elements;
     mpslp_number constant; /* of the objective */
     mpslp_name objective;
-    uint32_t sense; /* MPSLP_MINIMIZE or MPSLP_MAXIMIZE */
+    mpslp_sense sense; /* MPSLP_MINIMIZE or MPSLP_MAXIMIZE */
 } mpslp_model;
 
 #define MPSLP_NO_MODEL \
-    { MPSLP_NO_TEXT, (const mpslp_row *)(uintptr_t)8, 0, (const mpslp_column *)(uintptr_t)8, 0, (const mpslp_element *)(uintptr_t)8, 0, \
+    { MPSLP_NO_TEXT, MPSLP_POINTER(const mpslp_row *, MPSLP_CAST(uintptr_t, 8)), 0, \
+      MPSLP_POINTER(const mpslp_column *, MPSLP_CAST(uintptr_t, 8)), 0, MPSLP_POINTER(const mpslp_element *, MPSLP_CAST(uintptr_t, 8)), 0, \
       { 0, 0, 0, 0 }, { 0, 0 }, MPSLP_MINIMIZE }
 
 /*
@@ -164,24 +249,62 @@ typedef struct mpslp_model {
  * MPSLP_OUT_OF_MEMORY, or MPSLP_UNKNOWN_FORMAT. What the status does not tell of stays as it was; an old model in `*out` is
  * not freed.
  */
-uint32_t mpslp_load(uint32_t format, const uint8_t *bytes, size_t len, mpslp_model *out, mpslp_fault *fault);
+MPSLP_MUST_USE mpslp_status mpslp_load(mpslp_format format, const uint8_t *bytes, size_t len, mpslp_model *out, mpslp_fault *fault);
 
 /*
  * What is asked of a model. The number of a row or a column is below their count, and that of an entry below the length of its
  * column: nothing checks it. A text that is answered lives as long as the model, and is not freed.
  */
 
+/* Below 0, 0 or above: a name of a model against `len` bytes, in byte order. */
+MPSLP_INLINE int mpslp_compare_name(const mpslp_model *model, mpslp_name name, const char *bytes, size_t len) {
+    const int order = memcmp(model->names.bytes + name.at, bytes, name.len < len ? name.len : len);
+    return order != 0 ? order : (name.len > len) - (name.len < len);
+}
+
+/* Finds the row whose name is `len` bytes, by bisection: whether there is one, and its number in `*number`. */
+MPSLP_INLINE MPSLP_MUST_USE bool mpslp_find_row(const mpslp_model *model, const char *name, size_t len, size_t *number) {
+    size_t first = 0, end = model->num_rows;
+    while (first < end) {
+        const size_t middle = first + (end - first) / 2;
+        const int order = mpslp_compare_name(model, model->rows[middle].name, name, len);
+        if (order == 0) {
+            *number = middle;
+            return true;
+        }
+        if (order < 0) first = middle + 1;
+        else end = middle;
+    }
+    return false;
+}
+
+/* Finds the column whose name is `len` bytes, by bisection: whether there is one, and its number in `*number`. */
+MPSLP_INLINE MPSLP_MUST_USE bool mpslp_find_column(const mpslp_model *model, const char *name, size_t len, size_t *number) {
+    size_t first = 0, end = model->num_columns;
+    while (first < end) {
+        const size_t middle = first + (end - first) / 2;
+        const int order = mpslp_compare_name(model, model->columns[middle].name, name, len);
+        if (order == 0) {
+            *number = middle;
+            return true;
+        }
+        if (order < 0) first = middle + 1;
+        else end = middle;
+    }
+    return false;
+}
+
 /* How many rows there are. */
-static inline size_t mpslp_num_rows(const mpslp_model *model) { return model->num_rows; }
+MPSLP_INLINE size_t mpslp_num_rows(const mpslp_model *model) { return model->num_rows; }
 
 /* How many columns there are: one at least. */
-static inline size_t mpslp_num_cols(const mpslp_model *model) { return model->num_columns; }
+MPSLP_INLINE size_t mpslp_num_columns(const mpslp_model *model) { return model->num_columns; }
 
 /* How many coefficients of rows are not 0. Those of the objective are not counted. */
-static inline size_t mpslp_num_elements(const mpslp_model *model) { return model->num_elements; }
+MPSLP_INLINE size_t mpslp_num_elements(const mpslp_model *model) { return model->num_elements; }
 
 /* The bytes of a name that the model tells. */
-static inline mpslp_text mpslp_name_text(const mpslp_model *model, mpslp_name name) {
+MPSLP_INLINE mpslp_text mpslp_name_text(const mpslp_model *model, mpslp_name name) {
     mpslp_text text;
     text.bytes = model->names.bytes + name.at;
     text.len = name.len;
@@ -189,74 +312,74 @@ static inline mpslp_text mpslp_name_text(const mpslp_model *model, mpslp_name na
 }
 
 /* The name of row `i`. */
-static inline mpslp_text mpslp_row_name(const mpslp_model *model, size_t i) { return mpslp_name_text(model, model->rows[i].name); }
+MPSLP_INLINE mpslp_text mpslp_row_name(const mpslp_model *model, size_t i) { return mpslp_name_text(model, model->rows[i].name); }
 
 /* The lower limit of row `i`; minus infinity where there is none. */
-static inline mpslp_number mpslp_row_lower(const mpslp_model *model, size_t i) { return model->rows[i].lower; }
+MPSLP_INLINE mpslp_number mpslp_row_lower(const mpslp_model *model, size_t i) { return model->rows[i].lower; }
 
 /* The upper limit of row `i`; plus infinity where there is none. */
-static inline mpslp_number mpslp_row_upper(const mpslp_model *model, size_t i) { return model->rows[i].upper; }
+MPSLP_INLINE mpslp_number mpslp_row_upper(const mpslp_model *model, size_t i) { return model->rows[i].upper; }
 
 /* The name of column `j`. */
-static inline mpslp_text mpslp_column_name(const mpslp_model *model, size_t j) { return mpslp_name_text(model, model->columns[j].name); }
+MPSLP_INLINE mpslp_text mpslp_column_name(const mpslp_model *model, size_t j) { return mpslp_name_text(model, model->columns[j].name); }
 
 /* The lower bound of column `j`; minus infinity where there is none. */
-static inline mpslp_number mpslp_col_lower(const mpslp_model *model, size_t j) { return model->columns[j].lower; }
+MPSLP_INLINE mpslp_number mpslp_column_lower(const mpslp_model *model, size_t j) { return model->columns[j].lower; }
 
 /* The upper bound of column `j`; plus infinity where there is none. */
-static inline mpslp_number mpslp_col_upper(const mpslp_model *model, size_t j) { return model->columns[j].upper; }
+MPSLP_INLINE mpslp_number mpslp_column_upper(const mpslp_model *model, size_t j) { return model->columns[j].upper; }
 
 /* Which values column `j` may take: MPSLP_CONTINUOUS, MPSLP_INTEGER or MPSLP_SEMI_CONTINUOUS. */
-static inline uint32_t mpslp_column_kind(const mpslp_model *model, size_t j) { return model->columns[j].kind; }
+MPSLP_INLINE mpslp_kind mpslp_column_kind(const mpslp_model *model, size_t j) { return model->columns[j].kind; }
 
 /* Whether column `j` takes whole numbers alone. */
-static inline bool mpslp_is_integer(const mpslp_model *model, size_t j) { return model->columns[j].kind == MPSLP_INTEGER; }
+MPSLP_INLINE bool mpslp_is_integer(const mpslp_model *model, size_t j) { return model->columns[j].kind == MPSLP_INTEGER; }
 
 /* The coefficient of the objective in column `j`, which may be 0. */
-static inline mpslp_number mpslp_objective_coefficient(const mpslp_model *model, size_t j) { return model->columns[j].cost; }
+MPSLP_INLINE mpslp_number mpslp_objective_coefficient(const mpslp_model *model, size_t j) { return model->columns[j].cost; }
 
 /* How many coefficients of rows in column `j` are not 0. */
-static inline size_t mpslp_column_len(const mpslp_model *model, size_t j) {
+MPSLP_INLINE size_t mpslp_column_len(const mpslp_model *model, size_t j) {
     return (j + 1 < model->num_columns ? model->columns[j + 1].first : model->num_elements) - model->columns[j].first;
 }
 
 /* The coefficient of number `k` among those of rows in column `j`, in the order of rows: the row's number, and the value. */
-static inline mpslp_element mpslp_entry(const mpslp_model *model, size_t j, size_t k) { return model->elements[model->columns[j].first + k]; }
+MPSLP_INLINE mpslp_element mpslp_entry(const mpslp_model *model, size_t j, size_t k) { return model->elements[model->columns[j].first + k]; }
 
 /* The name of the objective. */
-static inline mpslp_text mpslp_objective_name(const mpslp_model *model) { return mpslp_name_text(model, model->objective); }
+MPSLP_INLINE mpslp_text mpslp_objective_name(const mpslp_model *model) { return mpslp_name_text(model, model->objective); }
 
 /* Which value of the objective is wanted: MPSLP_MINIMIZE or MPSLP_MAXIMIZE. */
-static inline uint32_t mpslp_objective_sense(const mpslp_model *model) { return model->sense; }
+MPSLP_INLINE mpslp_sense mpslp_objective_sense(const mpslp_model *model) { return model->sense; }
 
 /* The constant of the objective, which is added to its value. */
-static inline mpslp_number mpslp_objective_constant(const mpslp_model *model) { return model->constant; }
+MPSLP_INLINE mpslp_number mpslp_objective_constant(const mpslp_model *model) { return model->constant; }
 
 /* ---- numbers as floating point */
 
 /* Divides a number of 128 bits, its highest 32 bits first, and answers what is left over. */
-static inline uint32_t mpslp_divide_limbs(uint32_t limbs[4], uint32_t divisor) {
+MPSLP_INLINE uint32_t mpslp_divide_limbs(uint32_t limbs[4], uint32_t divisor) {
     uint64_t left = 0;
     int i;
     for (i = 0; i < 4; i++) {
         left = left << 32 | limbs[i];
-        limbs[i] = (uint32_t)(left / divisor);
+        limbs[i] = MPSLP_CAST(uint32_t, left / divisor);
         left %= divisor;
     }
-    return (uint32_t)left;
+    return MPSLP_CAST(uint32_t, left);
 }
 
 /* The mantissa of a number without its sign, its highest 32 bits first. */
-static inline void mpslp_mantissa_limbs(mpslp_number number, uint32_t limbs[4]) {
-    uint64_t low = number.low, high = (uint64_t)number.high;
+MPSLP_INLINE void mpslp_mantissa_limbs(mpslp_number number, uint32_t limbs[4]) {
+    uint64_t low = number.low, high = MPSLP_CAST(uint64_t, number.high);
     if (number.high < 0) {
         low = ~low + 1;
         high = ~high + (low == 0);
     }
-    limbs[0] = (uint32_t)(high >> 32);
-    limbs[1] = (uint32_t)high;
-    limbs[2] = (uint32_t)(low >> 32);
-    limbs[3] = (uint32_t)low;
+    limbs[0] = MPSLP_CAST(uint32_t, high >> 32);
+    limbs[1] = MPSLP_CAST(uint32_t, high);
+    limbs[2] = MPSLP_CAST(uint32_t, low >> 32);
+    limbs[3] = MPSLP_CAST(uint32_t, low);
 }
 
 /* The room for the text of a number: a sign, 39 digits, `e`, 11 letters of an exponent, and 0. */
@@ -266,19 +389,19 @@ enum { MPSLP_NUMBER_ROOM = 53 };
  * Writes a finite number: a minus where it is below 0, its digits, `e` and the exponent, and a 0 behind it. There is no point,
  * so no locale changes what is read of it. Answers how many letters there are before the 0.
  */
-static inline size_t mpslp_number_text(mpslp_number number, char text[MPSLP_NUMBER_ROOM]) {
+MPSLP_INLINE size_t mpslp_number_text(mpslp_number number, char text[MPSLP_NUMBER_ROOM]) {
     char turned[40];
     uint32_t limbs[4];
-    uint32_t left = number.exponent < 0 ? ~(uint32_t)number.exponent + 1 : (uint32_t)number.exponent;
+    uint32_t left = number.exponent < 0 ? ~MPSLP_CAST(uint32_t, number.exponent) + 1 : MPSLP_CAST(uint32_t, number.exponent);
     size_t len = 0, count = 0;
     if (number.high < 0) text[len++] = '-';
     mpslp_mantissa_limbs(number, limbs);
-    do turned[count++] = (char)('0' + mpslp_divide_limbs(limbs, 10));
+    do turned[count++] = MPSLP_CAST(char, '0' + mpslp_divide_limbs(limbs, 10));
     while (limbs[0] | limbs[1] | limbs[2] | limbs[3]);
     while (count != 0) text[len++] = turned[--count];
     text[len++] = 'e';
     if (number.exponent < 0) text[len++] = '-';
-    do turned[count++] = (char)('0' + left % 10);
+    do turned[count++] = MPSLP_CAST(char, '0' + left % 10);
     while (left /= 10);
     while (count != 0) text[len++] = turned[--count];
     text[len] = 0;
@@ -289,7 +412,7 @@ static inline size_t mpslp_number_text(mpslp_number number, char text[MPSLP_NUMB
  * Whether a finite number is a double. It is where it is an odd number below 2^53 times a power of two that a double has
  * room for.
  */
-static inline bool mpslp_is_double(mpslp_number number) {
+MPSLP_INLINE bool mpslp_is_double(mpslp_number number) {
     uint32_t limbs[4];
     int32_t fives = number.exponent, twos = number.exponent, bits = 0;
     uint64_t odd;
@@ -301,7 +424,7 @@ static inline bool mpslp_is_double(mpslp_number number) {
         mpslp_divide_limbs(limbs, 2);
         twos++;
     }
-    odd = (uint64_t)limbs[2] << 32 | limbs[3];
+    odd = MPSLP_CAST(uint64_t, limbs[2]) << 32 | limbs[3];
     if (limbs[0] | limbs[1] || odd >> 53 != 0) return false;
     for (; fives > 0; fives--) {
         odd *= 5;
@@ -312,67 +435,143 @@ static inline bool mpslp_is_double(mpslp_number number) {
 }
 
 /*
- * The double that is nearest to a number, the one with an even last bit of two; an infinity where the number is one or is too
- * large. `*is_exact` tells whether the double is the number; it may be null. It stands on a strtod that rounds correctly, as
- * those of glibc and musl do, and rounds in the mode that is set. `errno` stays as it was.
+ * Whether a finite number is one product or quotient of two doubles that are exact: a mantissa of 53 bits and a power of ten up
+ * to 10^22. Such a double is rounded once, and so is the nearest one.
  */
-static inline double mpslp_to_double(mpslp_number number, bool *is_exact) {
+MPSLP_INLINE bool mpslp_is_short(mpslp_number number) {
+    const int64_t limit = MPSLP_CAST(int64_t, 1) << 53;
+    const int64_t mantissa = MPSLP_CAST(int64_t, number.low);
+#if defined FLT_EVAL_METHOD && FLT_EVAL_METHOD == 0
+    return number.high == (mantissa < 0 ? -1 : 0) && -limit <= mantissa && mantissa <= limit && -22 <= number.exponent && number.exponent <= 22;
+#else
+    (void)limit;
+    (void)mantissa;
+    return false;
+#endif
+}
+
+/* The double of a number that is short. */
+MPSLP_INLINE double mpslp_short_to_double(mpslp_number number) {
+    static const double powers[] = { 1e0,  1e1,  1e2,  1e3,  1e4,  1e5,  1e6,  1e7,  1e8,  1e9,  1e10, 1e11,
+                                     1e12, 1e13, 1e14, 1e15, 1e16, 1e17, 1e18, 1e19, 1e20, 1e21, 1e22 };
+    const double mantissa = MPSLP_CAST(double, MPSLP_CAST(int64_t, number.low));
+    return number.exponent < 0 ? mantissa / powers[-number.exponent] : mantissa * powers[number.exponent];
+}
+
+/* The double of a finite number, by strtod; `errno` stays as it was. */
+MPSLP_INLINE double mpslp_text_to_double(mpslp_number number) {
     char text[MPSLP_NUMBER_ROOM];
+    const int error = errno;
     double nearest;
-    int error = errno;
-    if (number.infinity != 0) {
-        if (is_exact) *is_exact = true;
-        return number.infinity < 0 ? -HUGE_VAL : HUGE_VAL;
-    }
     mpslp_number_text(number, text);
     nearest = strtod(text, NULL);
     errno = error;
-    if (is_exact) *is_exact = mpslp_is_double(number);
     return nearest;
 }
 
 /*
- * The double nearest to a number, as mpslp_to_double gives it, or the infinity of its sign. A number of few digits and a small
- * exponent is one product or quotient of two doubles, which are exact, so that it is rounded once.
+ * The double that is nearest to a number, the one with an even last bit of two; an infinity if the number is one or is too
+ * large. `*is_exact` says whether the double is the number; it may be null. It relies on a strtod that rounds correctly, as
+ * those of glibc and musl do, and rounds in the mode that is set. `errno` stays as it was.
  */
-static inline double mpslp_nearest(mpslp_number number) {
-    static const double powers[] = { 1e0,  1e1,  1e2,  1e3,  1e4,  1e5,  1e6,  1e7,  1e8,  1e9,  1e10, 1e11,
-                                     1e12, 1e13, 1e14, 1e15, 1e16, 1e17, 1e18, 1e19, 1e20, 1e21, 1e22 };
-    const int64_t limit = (int64_t)1 << 53;
-    const int64_t mantissa = (int64_t)number.low;
-#if defined FLT_EVAL_METHOD && FLT_EVAL_METHOD == 0
-    if (number.infinity == 0 && number.high == (mantissa < 0 ? -1 : 0) && -limit <= mantissa && mantissa <= limit && -22 <= number.exponent &&
-        number.exponent <= 22)
-        return number.exponent < 0 ? (double)mantissa / powers[-number.exponent] : (double)mantissa * powers[number.exponent];
-#endif
-    return mpslp_to_double(number, NULL);
+MPSLP_INLINE double mpslp_to_double(mpslp_number number, bool *is_exact) {
+    if (number.infinity != 0) {
+        if (is_exact) *is_exact = true;
+        return number.infinity < 0 ? -HUGE_VAL : HUGE_VAL;
+    }
+    if (is_exact) *is_exact = mpslp_is_double(number);
+    return mpslp_is_short(number) ? mpslp_short_to_double(number) : mpslp_text_to_double(number);
+}
+
+/* Which decimal of a double is wanted: the shortest one that is read back as it, as 0.1, or the one that it is exactly. */
+typedef MPSLP_ENUM(mpslp_decimal) { MPSLP_SHORTEST = 0, MPSLP_EXACT = 1 } mpslp_decimal;
+
+/* The most significant digits of a double, and the room for its text: a sign, these, a point, `e-1074` and 0. */
+enum { MPSLP_DOUBLE_DIGITS = 767, MPSLP_DOUBLE_ROOM = 780, MPSLP_MOST_DIGITS = 36 };
+
+/* Makes a number of the text of printf's %e, whatever its point is. Answers whether it has 36 digits at most. */
+MPSLP_INLINE bool mpslp_read_double(const char *text, mpslp_number *number) {
+    uint32_t limbs[4] = { 0, 0, 0, 0 };
+    char digits[MPSLP_DOUBLE_ROOM];
+    const char *at = text;
+    uint64_t low, high;
+    int len = 0, i, limb;
+    for (; *at != 'e'; at++)
+        if ('0' <= *at && *at <= '9') digits[len++] = *at;
+    number->exponent = MPSLP_CAST(int32_t, strtol(at + 1, NULL, 10)) - (len - 1);
+    while (len > 1 && digits[len - 1] == '0') {
+        len--;
+        number->exponent++;
+    }
+    if (len > MPSLP_MOST_DIGITS) return false;
+    for (i = 0; i < len; i++) {
+        uint64_t carry = MPSLP_CAST(uint64_t, digits[i] - '0');
+        for (limb = 3; limb >= 0; limb--) {
+            carry += MPSLP_CAST(uint64_t, limbs[limb]) * 10;
+            limbs[limb] = MPSLP_CAST(uint32_t, carry);
+            carry >>= 32;
+        }
+    }
+    low = MPSLP_CAST(uint64_t, limbs[2]) << 32 | limbs[3];
+    high = MPSLP_CAST(uint64_t, limbs[0]) << 32 | limbs[1];
+    if (low == 0 && high == 0) number->exponent = 0;
+    if (text[0] == '-') {
+        low = ~low + 1;
+        high = ~high + (low == 0);
+    }
+    number->low = low;
+    number->high = MPSLP_CAST(int64_t, high);
+    number->infinity = 0;
+    return true;
+}
+
+/*
+ * Makes a number of a double. Answers false, and leaves `*number` as it was, for what is no number, and if the exact decimal is
+ * wanted and has more than 36 digits. An infinity is that of its sign, and -0 is 0. It relies on a printf and a strtod that
+ * round correctly, as those of glibc and musl do.
+ */
+MPSLP_INLINE MPSLP_MUST_USE bool mpslp_from_double(double value, mpslp_decimal wanted, mpslp_number *number) {
+    const mpslp_number infinite = { 0, 0, 0, value < 0 ? -1 : 1 };
+    char text[MPSLP_DOUBLE_ROOM];
+    mpslp_number made;
+    int places = 0;
+    if (value != value) return false;
+    if (value - value != 0) {
+        *number = infinite;
+        return true;
+    }
+    do snprintf(text, sizeof text, "%.*e", wanted == MPSLP_EXACT ? MPSLP_DOUBLE_DIGITS - 1 : places, value);
+    while (wanted != MPSLP_EXACT && strtod(text, NULL) != value && ++places < 17);
+    if (!mpslp_read_double(text, &made)) return false;
+    *number = made;
+    return true;
 }
 
 /* ---- doubles in bulk, into arrays of the caller's, as solvers take a model */
 
 /* The coefficient of the objective in each column. */
-static inline void mpslp_costs(const mpslp_model *model, double *costs) {
-    for (size_t j = 0; j < model->num_columns; j++) costs[j] = mpslp_nearest(model->columns[j].cost);
+MPSLP_INLINE void mpslp_costs(const mpslp_model *model, double *costs) {
+    for (size_t j = 0; j < model->num_columns; j++) costs[j] = mpslp_to_double(model->columns[j].cost, NULL);
 }
 
 /* The limits of each row, with infinities where there is none. */
-static inline void mpslp_row_limits(const mpslp_model *model, double *lower, double *upper) {
+MPSLP_INLINE void mpslp_row_limits(const mpslp_model *model, double *lower, double *upper) {
     for (size_t i = 0; i < model->num_rows; i++) {
-        lower[i] = mpslp_nearest(model->rows[i].lower);
-        upper[i] = mpslp_nearest(model->rows[i].upper);
+        lower[i] = mpslp_to_double(model->rows[i].lower, NULL);
+        upper[i] = mpslp_to_double(model->rows[i].upper, NULL);
     }
 }
 
 /* The bounds of each column, with infinities where there is none. */
-static inline void mpslp_column_bounds(const mpslp_model *model, double *lower, double *upper) {
+MPSLP_INLINE void mpslp_column_bounds(const mpslp_model *model, double *lower, double *upper) {
     for (size_t j = 0; j < model->num_columns; j++) {
-        lower[j] = mpslp_nearest(model->columns[j].lower);
-        upper[j] = mpslp_nearest(model->columns[j].upper);
+        lower[j] = mpslp_to_double(model->columns[j].lower, NULL);
+        upper[j] = mpslp_to_double(model->columns[j].upper, NULL);
     }
 }
 
 /* Whether all numbers of rows, columns and elements are an int32_t: what mpslp_matrix asks for. */
-static inline bool mpslp_fits_int32(const mpslp_model *model) {
+MPSLP_INLINE bool mpslp_fits_int32(const mpslp_model *model) {
     const size_t most = INT32_MAX;
     return model->num_rows <= most && model->num_columns <= most && model->num_elements <= most;
 }
@@ -382,31 +581,31 @@ static inline bool mpslp_fits_int32(const mpslp_model *model) {
  * element of each column, and at its end how many elements there are; `rows` and `values` have the row and the value of each
  * element. The model is one of which mpslp_fits_int32 holds.
  */
-static inline void mpslp_matrix(const mpslp_model *model, int32_t *starts, int32_t *rows, double *values) {
-    for (size_t j = 0; j < model->num_columns; j++) starts[j] = (int32_t)model->columns[j].first;
-    starts[model->num_columns] = (int32_t)model->num_elements;
+MPSLP_INLINE void mpslp_matrix(const mpslp_model *model, int32_t *starts, int32_t *rows, double *values) {
+    for (size_t j = 0; j < model->num_columns; j++) starts[j] = MPSLP_CAST(int32_t, model->columns[j].first);
+    starts[model->num_columns] = MPSLP_CAST(int32_t, model->num_elements);
     for (size_t k = 0; k < model->num_elements; k++) {
-        rows[k] = (int32_t)model->elements[k].row;
-        values[k] = mpslp_nearest(model->elements[k].value);
+        rows[k] = MPSLP_CAST(int32_t, model->elements[k].row);
+        values[k] = mpslp_to_double(model->elements[k].value, NULL);
     }
 }
 
 /* ---- what is given back */
 
 /* Frees a text that mpslp_canonical gave, and makes it MPSLP_NO_TEXT. A text of no bytes has nothing to free. */
-static inline void mpslp_free(mpslp_text *text) {
+MPSLP_INLINE void mpslp_free(mpslp_text *text) {
     const mpslp_text none = MPSLP_NO_TEXT;
-    if (text->len != 0) free((void *)(uintptr_t)text->bytes);
+    if (text->len != 0) free(MPSLP_POINTER(void *, MPSLP_POINTER(uintptr_t, text->bytes)));
     *text = none;
 }
 
 /* Frees a model that mpslp_load gave, and makes it MPSLP_NO_MODEL. An array without items has nothing to free. */
-static inline void mpslp_free_model(mpslp_model *model) {
+MPSLP_INLINE void mpslp_free_model(mpslp_model *model) {
     const mpslp_model none = MPSLP_NO_MODEL;
     mpslp_free(&model->names);
-    if (model->num_rows != 0) free((void *)(uintptr_t)model->rows);
-    if (model->num_columns != 0) free((void *)(uintptr_t)model->columns);
-    if (model->num_elements != 0) free((void *)(uintptr_t)model->elements);
+    if (model->num_rows != 0) free(MPSLP_POINTER(void *, MPSLP_POINTER(uintptr_t, model->rows)));
+    if (model->num_columns != 0) free(MPSLP_POINTER(void *, MPSLP_POINTER(uintptr_t, model->columns)));
+    if (model->num_elements != 0) free(MPSLP_POINTER(void *, MPSLP_POINTER(uintptr_t, model->elements)));
     *model = none;
 }
 

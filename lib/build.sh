@@ -1,5 +1,6 @@
 #!/bin/sh
-# lib/build.sh: puts libmpslp.a and libmpslp.so.0 into build/, of the proved crate mpslp_c and the kit's heap.
+# lib/build.sh: puts libmpslp.a and libmpslp.so.0 into build/, of the proved crate mpslp_c, the kit's heap, and the inline calls
+# of the header.
 #
 # lib/build.sh gate: the same over the libraries that rt ci has proved in this checkout and left there, of which rt lib
 # takes none. The crate itself is proved once more: rattle builds no other.
@@ -20,11 +21,12 @@ if test "${1:-}" = gate; then
         --extern "std=$kit/rlibs/std.rlib" -L "dependency=$kit/rlibs" "$@" --antt-project "$kit/rattle/logic/antt-project.json" \
         --logic-built "$kit/logic_built" --toolchain "$kit/toolchain" --jobs 2 -o out/libmpslp_c.a)
 else
-    (cd crates/mpslp_c && rt lib)
+    python3 scripts/prove.py mpslp_c
 fi
 rm -rf build/objects
 mkdir -p build/objects
 (cd build/objects && ar x "$root/crates/mpslp_c/out/libmpslp_c.a" && ar x "$kit/c/liblibc_c.a" heap.pic.o)
+"${CC:-cc}" -std=c99 -O2 -fPIC -Wall -Wextra -Iinclude "-DMPSLP_LIBRARY_VERSION=\"$(cat VERSION)\"" -c -o build/objects/inline.o lib/inline.c
 rm -f build/libmpslp.a
 ar rcs build/libmpslp.a build/objects/*.o
 "${CC:-cc}" -shared -Wl,-soname,libmpslp.so.0 -Wl,--version-script=lib/mpslp.map -Wl,-z,defs -o build/libmpslp.so.0 build/objects/*.o

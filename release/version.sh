@@ -18,7 +18,9 @@ has() {
 has crates/mpslp_command/src/usage.rt "const VERSION: &str = \"$version\";"
 has docs/mpslp.1 "\"mpslp $version\""
 has CHANGELOG.md "## $version"
-! grep -q MPSLP_VERSION include/mpslp.h || has include/mpslp.h "#define MPSLP_VERSION \"$version\""
+has include/mpslp.h "#define MPSLP_VERSION_MAJOR $(echo "$version" | cut -d. -f1)"
+has include/mpslp.h "#define MPSLP_VERSION_MINOR $(echo "$version" | cut -d. -f2)"
+has include/mpslp.h "#define MPSLP_VERSION_PATCH $(echo "$version" | cut -d. -f3)"
 if test $# -gt 0; then
     printed=$("$1" --version)
     test "$printed" = "mpslp $version" || differs "$1 --version prints: $printed"

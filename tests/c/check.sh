@@ -18,8 +18,8 @@ die() {
 test -x $mpslp || die "the program is not built: make run"
 
 # The shared library exports the calls of the header, and nothing else.
-sed -n 's/^uint32_t \(mpslp_[a-z_]*\)(.*/\1/p' include/mpslp.h | sort > $tried/declared
-nm -D --defined-only build/libmpslp.so.0 | sed -n 's/^[0-9a-f]* T \([a-z_]*\).*/\1/p' | sort > $tried/exported
+sed -n 's/^\(MPSLP_MUST_USE mpslp_status\|const char\|MPSLP_INLINE [^(]*[ *]\) *\*\{0,1\}\(mpslp_[a-z0-9_]*\)(.*/\2/p' include/mpslp.h | sort > $tried/declared
+nm -D --defined-only build/libmpslp.so.0 | sed -n 's/^[0-9a-f]* T \([a-z0-9_]*\).*/\1/p' | sort > $tried/exported
 test -s $tried/declared || die "the header declares no call"
 cmp $tried/declared $tried/exported || die "the shared library exports other calls than the header declares"
 
@@ -29,6 +29,33 @@ g++ -x c++ $warn -Iinclude -o $tried/layout-shared tests/c/layout.c -x none -Lbu
 gcc -std=c99 $warn -O2 -Iinclude -o $tried/program tests/c/program.c build/libmpslp.a
 gcc -std=c99 $warn -g -fsanitize=address,undefined -fno-sanitize-recover=all -Iinclude -o $tried/program-sanitized tests/c/program.c build/libmpslp.a
 gcc -std=c99 $warn -g -Iinclude -o $tried/failing tests/c/failing_allocations.c build/libmpslp.a -Wl,--wrap=malloc,--wrap=realloc
+# The inline calls: as C and as C++, inlined and exported, and with each warning that is an error for somebody.
+version=$(cat VERSION)
+gcc -std=c99 $warn -Wconversion -O2 -Iinclude -o $tried/header tests/c/header.c build/libmpslp.a
+gcc -std=c99 $warn -g -fsanitize=address,undefined -fno-sanitize-recover=all -Iinclude -o $tried/header-sanitized tests/c/header.c build/libmpslp.a
+gcc -std=c99 $warn -fno-inline -Iinclude -o $tried/header-shared tests/c/header.c -Lbuild -lmpslp
+g++ -std=c++11 -x c++ $warn -Wold-style-cast -Iinclude -o $tried/header-cpp tests/c/header.c -x none -Lbuild -lmpslp
+for program in header header-sanitized header-shared header-cpp; do
+    LD_LIBRARY_PATH=build $tried/$program "$version" || die "an inline call of $program"
+done
+python3 tests/c/decimals.py $tried/header || die "the decimal of a double"
+
+# What the compiler has to warn of: a format that is none, and a status that is ignored.
+for wrong in 'return mpslp_canonical(MPSLP_MAXIMIZE, MPSLP_LP, text.bytes, 0, &text, &fault) == MPSLP_OK' \
+             'mpslp_canonical(MPSLP_MPS, MPSLP_LP, text.bytes, 0, &text, &fault); return 0'; do
+    echo "#include <mpslp.h>
+int main(void) { mpslp_text text = MPSLP_NO_TEXT; mpslp_fault fault = MPSLP_NO_FAULT; $wrong; }" > $tried/wrong.c
+    ! gcc -std=c99 $warn -Iinclude -c -o $tried/wrong.o $tried/wrong.c 2> $tried/warning || die "no warning of: $wrong"
+    grep -Eq 'enum-conversion|unused-result' $tried/warning || die "another warning of: $wrong"
+done
+! gcc -std=c99 -fshort-enums -Iinclude -c -o $tried/wrong.o tests/c/layout.c 2> $tried/warning || die "short enumerations compile"
+
+# Each call, on a stack of 256 KiB.
+gcc -std=c99 $warn -Iinclude -pthread -o $tried/stack tests/c/stack.c build/libmpslp.a
+for input in examples/*.mps examples/*.lp; do
+    $tried/stack "${input##*.}" "$input" || die "$input on a small stack"
+done
+
 for tool in "" "$checked"; do
     $tool $tried/layout || die "the layout, or a call with a wrong argument"
     LD_LIBRARY_PATH=build $tool $tried/layout-shared || die "the layout in C++, or a call with a wrong argument"

@@ -10,6 +10,12 @@
 #define HOLDS(test, name) typedef char name[(test) ? 1 : -1]
 #endif
 
+HOLDS(sizeof(mpslp_format) == 4, size_of_format);
+HOLDS(sizeof(mpslp_status) == 4, size_of_status);
+HOLDS(sizeof(mpslp_place) == 4, size_of_place);
+HOLDS(sizeof(mpslp_kind) == 4, size_of_kind);
+HOLDS(sizeof(mpslp_sense) == 4, size_of_sense);
+
 HOLDS(sizeof(mpslp_text) == 16, size_of_text);
 HOLDS(offsetof(mpslp_text, bytes) == 0, bytes_of_text);
 HOLDS(offsetof(mpslp_text, len) == 8, len_of_text);
@@ -63,10 +69,11 @@ HOLDS(offsetof(mpslp_model, sense) == 104, sense_of_model);
 
 /* Bytes that declare no model, through each call. */
 int main(void) {
-    uint32_t (*const canonical)(uint32_t, uint32_t, const uint8_t *, size_t, mpslp_text *, mpslp_fault *) = mpslp_canonical;
-    uint32_t (*const same)(uint32_t, const uint8_t *, size_t, uint32_t, const uint8_t *, size_t, mpslp_fault *) = mpslp_same;
-    uint32_t (*const is_canonical)(uint32_t, const uint8_t *, size_t, mpslp_fault *) = mpslp_is_canonical;
-    uint32_t (*const load)(uint32_t, const uint8_t *, size_t, mpslp_model *, mpslp_fault *) = mpslp_load;
+    mpslp_status (*const canonical)(mpslp_format, mpslp_format, const uint8_t *, size_t, mpslp_text *, mpslp_fault *) = mpslp_canonical;
+    mpslp_status (*const same)(mpslp_format, const uint8_t *, size_t, mpslp_format, const uint8_t *, size_t, mpslp_fault *) = mpslp_same;
+    mpslp_status (*const is_canonical)(mpslp_format, const uint8_t *, size_t, mpslp_fault *) = mpslp_is_canonical;
+    mpslp_status (*const load)(mpslp_format, const uint8_t *, size_t, mpslp_model *, mpslp_fault *) = mpslp_load;
+    const mpslp_format unknown = MPSLP_CAST(mpslp_format, 2), largest = MPSLP_CAST(mpslp_format, 4294967295u);
     const uint8_t none = 0;
     mpslp_text text = MPSLP_NO_TEXT;
     mpslp_model model = MPSLP_NO_MODEL;
@@ -75,11 +82,11 @@ int main(void) {
     if (fault.line != 0 || fault.kind.len != 10 || fault.kind.bytes[0] != 'M' || fault.name_len != 0) return 2;
     if (same(MPSLP_LP, &none, 0, MPSLP_MPS, &none, 0, &fault) != MPSLP_REFUSED) return 3;
     if (is_canonical(MPSLP_LP, &none, 1, &fault) != MPSLP_REFUSED || fault.line != 1) return 4;
-    if (canonical(2, MPSLP_LP, &none, 0, &text, &fault) != MPSLP_UNKNOWN_FORMAT) return 5;
-    if (same(MPSLP_LP, &none, 0, 2, &none, 0, &fault) != MPSLP_UNKNOWN_FORMAT) return 6;
-    if (is_canonical(4294967295u, &none, 0, &fault) != MPSLP_UNKNOWN_FORMAT) return 7;
+    if (canonical(unknown, MPSLP_LP, &none, 0, &text, &fault) != MPSLP_UNKNOWN_FORMAT) return 5;
+    if (same(MPSLP_LP, &none, 0, unknown, &none, 0, &fault) != MPSLP_UNKNOWN_FORMAT) return 6;
+    if (is_canonical(largest, &none, 0, &fault) != MPSLP_UNKNOWN_FORMAT) return 7;
     if (load(MPSLP_LP, &none, 1, &model, &fault) != MPSLP_REFUSED || fault.line != 1) return 8;
-    if (load(2, &none, 0, &model, &fault) != MPSLP_UNKNOWN_FORMAT) return 9;
+    if (load(unknown, &none, 0, &model, &fault) != MPSLP_UNKNOWN_FORMAT) return 9;
     mpslp_free_model(&model);
     mpslp_free(&text);
     return text.len != 0 || model.num_columns != 0;

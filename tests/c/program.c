@@ -194,19 +194,19 @@ static void put_model(const mpslp_model *model) {
     put_number(mpslp_objective_constant(model));
     printf(" offset ");
     put_number(negative(mpslp_objective_constant(model)));
-    printf("\nrows %zu columns %zu elements %zu\n", mpslp_num_rows(model), mpslp_num_cols(model), mpslp_num_elements(model));
+    printf("\nrows %zu columns %zu elements %zu\n", mpslp_num_rows(model), mpslp_num_columns(model), mpslp_num_elements(model));
     for (size_t i = 0; i < mpslp_num_rows(model); i++) {
         printf("row %zu ", i);
         put(stdout, mpslp_row_name(model, i));
         put_limits(mpslp_row_lower(model, i), mpslp_row_upper(model, i));
     }
-    for (size_t j = 0; j < mpslp_num_cols(model); j++) {
+    for (size_t j = 0; j < mpslp_num_columns(model); j++) {
         printf("column %zu ", j);
         put(stdout, mpslp_column_name(model, j));
         printf(" %s ", kinds[mpslp_column_kind(model, j)]);
-        put_number(mpslp_col_lower(model, j));
+        put_number(mpslp_column_lower(model, j));
         putchar(' ');
-        put_number(mpslp_col_upper(model, j));
+        put_number(mpslp_column_upper(model, j));
         printf(" objective ");
         put_number(mpslp_objective_coefficient(model, j));
         putchar('\n');
@@ -233,9 +233,9 @@ static void put_doubles(const mpslp_model *model) {
         put_double(mpslp_row_lower(model, i));
         put_double(mpslp_row_upper(model, i));
     }
-    for (size_t j = 0; j < mpslp_num_cols(model); j++) {
-        put_double(mpslp_col_lower(model, j));
-        put_double(mpslp_col_upper(model, j));
+    for (size_t j = 0; j < mpslp_num_columns(model); j++) {
+        put_double(mpslp_column_lower(model, j));
+        put_double(mpslp_column_upper(model, j));
         put_double(mpslp_objective_coefficient(model, j));
         for (size_t k = 0; k < mpslp_column_len(model, j); k++) put_double(mpslp_entry(model, j, k).value);
     }

@@ -43,7 +43,7 @@ static PyObject *number_or_none(int is_told, unsigned long long number) {
     return is_told ? PyLong_FromUnsignedLongLong(number) : Py_NewRef(Py_None);
 }
 
-static const char *place_word(uint32_t place) {
+static const char *place_word(mpslp_place place) {
     switch (place) {
     case MPSLP_AT_OBJECTIVE: return "objective";
     case MPSLP_AT_ROW: return "row";
@@ -67,7 +67,7 @@ static void raise_fault(PyObject *module, const mpslp_fault *fault, const char *
 }
 
 /* Raises what a status tells that is no answer. It returns null, as a function of Python that raised does. */
-static PyObject *refuse(PyObject *module, uint32_t status, const mpslp_fault *fault, const char *which) {
+static PyObject *refuse(PyObject *module, mpslp_status status, const mpslp_fault *fault, const char *which) {
     switch (status) {
     case MPSLP_REFUSED:
     case MPSLP_SECOND_REFUSED:
@@ -80,7 +80,7 @@ static PyObject *refuse(PyObject *module, uint32_t status, const mpslp_fault *fa
 }
 
 /* The answer of a call that tells yes or no. */
-static PyObject *truth(PyObject *module, uint32_t status, const mpslp_fault *fault, const char *which) {
+static PyObject *truth(PyObject *module, mpslp_status status, const mpslp_fault *fault, const char *which) {
     switch (status) {
     case MPSLP_OK: return Py_NewRef(Py_True);
     case MPSLP_DIFFERS: return Py_NewRef(Py_False);
@@ -94,7 +94,7 @@ static PyObject *canonical(PyObject *module, PyObject *arguments) {
     content text;
     mpslp_text out = MPSLP_NO_TEXT;
     mpslp_fault fault = MPSLP_NO_FAULT;
-    uint32_t status;
+    mpslp_status status;
     if (!PyArg_ParseTuple(arguments, "SII:canonical", &source, &from, &to) || !find_content(source, &text)) return NULL;
     Py_BEGIN_ALLOW_THREADS
     status = mpslp_canonical(from, to, text.bytes, text.len, &out, &fault);
@@ -110,7 +110,7 @@ static PyObject *same(PyObject *module, PyObject *arguments) {
     unsigned first_format, second_format;
     content first, second;
     mpslp_fault fault = MPSLP_NO_FAULT;
-    uint32_t status;
+    mpslp_status status;
     if (!PyArg_ParseTuple(arguments, "SISI:same", &first_source, &first_format, &second_source, &second_format)) return NULL;
     if (!find_content(first_source, &first) || !find_content(second_source, &second)) return NULL;
     Py_BEGIN_ALLOW_THREADS
@@ -124,7 +124,7 @@ static PyObject *is_canonical(PyObject *module, PyObject *arguments) {
     unsigned format;
     content text;
     mpslp_fault fault = MPSLP_NO_FAULT;
-    uint32_t status;
+    mpslp_status status;
     if (!PyArg_ParseTuple(arguments, "SI:is_canonical", &source, &format) || !find_content(source, &text)) return NULL;
     Py_BEGIN_ALLOW_THREADS
     status = mpslp_is_canonical(format, text.bytes, text.len, &fault);
@@ -298,43 +298,20 @@ static PyObject *arrays_column(PyObject *self, PyObject *number) {
     return tuple_of(5, items);
 }
 
-/* The name of row or column `i`. */
-static mpslp_name row_name_at(const mpslp_model *model, size_t i) { return model->rows[i].name; }
-static mpslp_name column_name_at(const mpslp_model *model, size_t j) { return model->columns[j].name; }
-
-/* Below 0, 0 or above: a name of the model against other bytes, in byte order. */
-static int compare_name(const mpslp_model *model, mpslp_name name, const char *bytes, size_t len) {
-    int order = memcmp(model->names.bytes + name.at, bytes, name.len < len ? name.len : len);
-    return order != 0 ? order : (name.len > len) - (name.len < len);
-}
-
 /* The number of what has a name, or None: also for what is no text, or cannot be a name. */
-static PyObject *number_of_name(const mpslp_model *model, PyObject *name, mpslp_name (*name_at)(const mpslp_model *, size_t), size_t count) {
-    size_t first = 0, end = count;
+static PyObject *number_of_name(PyObject *self, PyObject *name, bool (*find)(const mpslp_model *, const char *, size_t, size_t *)) {
     Py_ssize_t len;
     const char *bytes = PyUnicode_Check(name) ? PyUnicode_AsUTF8AndSize(name, &len) : NULL;
-    if (bytes == NULL) {
-        if (PyErr_Occurred() && !PyErr_ExceptionMatches(PyExc_UnicodeEncodeError)) return NULL;
-        PyErr_Clear();
-        return Py_NewRef(Py_None);
-    }
-    while (first < end) {
-        size_t middle = first + (end - first) / 2;
-        int order = compare_name(model, name_at(model, middle), bytes, (size_t)len);
-        if (order == 0) return PyLong_FromSize_t(middle);
-        if (order < 0) first = middle + 1;
-        else end = middle;
-    }
+    size_t number;
+    if (bytes != NULL) return find(model_of(self), bytes, (size_t)len, &number) ? PyLong_FromSize_t(number) : Py_NewRef(Py_None);
+    if (PyErr_Occurred() && !PyErr_ExceptionMatches(PyExc_UnicodeEncodeError)) return NULL;
+    PyErr_Clear();
     return Py_NewRef(Py_None);
 }
 
-static PyObject *arrays_find_row(PyObject *self, PyObject *name) {
-    return number_of_name(model_of(self), name, row_name_at, model_of(self)->num_rows);
-}
+static PyObject *arrays_find_row(PyObject *self, PyObject *name) { return number_of_name(self, name, mpslp_find_row); }
 
-static PyObject *arrays_find_column(PyObject *self, PyObject *name) {
-    return number_of_name(model_of(self), name, column_name_at, model_of(self)->num_columns);
-}
+static PyObject *arrays_find_column(PyObject *self, PyObject *name) { return number_of_name(self, name, mpslp_find_column); }
 
 /* Where the elements of a column end. */
 static size_t column_end(const mpslp_model *model, size_t j) {
@@ -553,7 +530,7 @@ static PyObject *load(PyObject *module, PyObject *arguments) {
     content text;
     mpslp_model model = MPSLP_NO_MODEL;
     mpslp_fault fault = MPSLP_NO_FAULT;
-    uint32_t status;
+    mpslp_status status;
     if (!PyArg_ParseTuple(arguments, "SI:load", &source, &format) || !find_content(source, &text)) return NULL;
     Py_BEGIN_ALLOW_THREADS
     status = mpslp_load(format, text.bytes, text.len, &model, &fault);
