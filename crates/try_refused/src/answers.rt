@@ -45,6 +45,18 @@ impl Answer {
         }
     }
 
+    /// What a sink holds.
+    pub(crate) fn of_sink(
+        alloc: Global,
+        is_out_of_memory: bool,
+        sink: &FailingWriter,
+    ) -> Result<Answer, AllocError> {
+        Ok(Answer {
+            is_out_of_memory,
+            text: sink.bytes().to_vec(alloc)?,
+        })
+    }
+
     /// The line of a fault, behind what was written before it.
     pub(crate) fn of_fault(fault: &RunFault, written: Vec<u8>) -> Answer {
         let mut sink = ToWrite::new(written);

@@ -253,8 +253,5 @@ pub(crate) fn built(alloc: Global, calls: &str, growth: u32) -> Result<Answer, A
     if tell_finished(&mut told, answer) {
         is_out_of_memory = true;
     }
-    Ok(Answer {
-        is_out_of_memory,
-        text: told.bytes().to_vec(alloc)?,
-    })
+    Answer::of_sink(alloc, is_out_of_memory, &told)
 }

@@ -1,10 +1,11 @@
 //! Calls that make a name, a word, or a job of the words of a command line.
 
-use crate::answers::Answer;
+use crate::answers::{Answer, put, roomy};
 use crate::refusing::{refuse, refuse_none};
 use mpslp_command::job;
 use mpslp_convert::{Form, Job, JobFault, RunFault, Word};
 use mpslp_model::{Name, NameFault};
+use mpslp_vectors::FailingWriter;
 use std::alloc::{AllocError, Global};
 
 /// Words of a command line, with a blank between two: each job, and each way to ask for none.
@@ -31,7 +32,7 @@ pub(crate) fn name(alloc: Global, growth: u32) -> Result<Answer, AllocError> {
     match answer {
         Ok(name) => Ok(Answer::of_text(name.as_bytes().to_vec(alloc)?)),
         Err(NameFault::OutOfMemory) => Ok(out_of_memory(alloc)),
-        Err(_) => line_of(alloc, &["no name"]),
+        Err(_) => Ok(Answer::of_text(b"no name".to_vec(alloc)?)),
     }
 }
 
@@ -41,58 +42,66 @@ pub(crate) fn word(alloc: Global, growth: u32) -> Result<Answer, AllocError> {
     let answer = Word::new(alloc, "a word");
     refuse_none(alloc);
     match answer {
-        Ok(word) => line_of(alloc, &[word.as_str()]),
+        Ok(word) => Ok(Answer::of_text(word.as_str().as_bytes().to_vec(alloc)?)),
         Err(JobFault::OutOfMemory) => Ok(out_of_memory(alloc)),
-        Err(_) => line_of(alloc, &["no word"]),
+        Err(_) => Ok(Answer::of_text(b"no word".to_vec(alloc)?)),
     }
 }
 
-fn text_of_form(form: Form) -> &'static str {
+/// Puts a word behind another one.
+fn put_word(told: &mut FailingWriter, word: &str) {
+    put(told, " ");
+    put(told, word);
+}
+
+fn put_form(told: &mut FailingWriter, form: Form) {
     match form {
-        Form::Mps => "mps",
-        Form::Lp => "lp",
+        Form::Mps => put(told, " mps"),
+        Form::Lp => put(told, " lp"),
     }
 }
 
-/// The words of a job; a word that is empty stands for none.
-fn words_of(job: &Job) -> [&str; 5] {
+/// Puts the words of a job.
+fn put_job(told: &mut FailingWriter, job: &Job) {
     match job {
-        Job::Canon { from, to, path } => [
-            "canon",
-            text_of_form(*from),
-            text_of_form(*to),
-            path.as_str(),
-            "",
-        ],
+        Job::Canon { from, to, path } => {
+            put(told, "canon");
+            put_form(told, *from);
+            put_form(told, *to);
+            put_word(told, path.as_str());
+        }
         Job::Same {
             first_form,
             first,
             second_form,
             second,
-        } => [
-            "same",
-            text_of_form(*first_form),
-            first.as_str(),
-            text_of_form(*second_form),
-            second.as_str(),
-        ],
-        Job::Show { from, path } => ["show", text_of_form(*from), path.as_str(), "", ""],
+        } => {
+            put(told, "same");
+            put_form(told, *first_form);
+            put_word(told, first.as_str());
+            put_form(told, *second_form);
+            put_word(told, second.as_str());
+        }
+        Job::Show { from, path } => {
+            put(told, "show");
+            put_form(told, *from);
+            put_word(told, path.as_str());
+        }
     }
 }
 
-/// Words with a blank between two.
-fn line_of(alloc: Global, words: &[&str]) -> Result<Answer, AllocError> {
-    let mut text = Vec::new(alloc);
-    for word in words {
-        if !word.is_empty() {
-            if !text.is_empty() {
-                text.push(b' ')?;
-            }
-            text.extend_from_slice(word.as_bytes())?;
+/// Puts why words ask for no job.
+fn put_fault(told: &mut FailingWriter, fault: &JobFault) {
+    match fault {
+        JobFault::Help(_) => put(told, "Help"),
+        JobFault::Usage(_) => put(told, "Usage"),
+        JobFault::UnknownFormat(word) => {
+            put(told, "UnknownFormat");
+            put_word(told, word.as_str());
         }
+        JobFault::BothInputs => put(told, "BothInputs"),
+        JobFault::OutOfMemory => put(told, "out of memory"),
     }
-    text.push(b'\n')?;
-    Ok(Answer::of_text(text))
 }
 
 /// What `job` answers: the words of the job, or why there is none.
@@ -101,15 +110,14 @@ pub(crate) fn job_of(alloc: Global, line: &str, growth: u32) -> Result<Answer, A
     for word in line.split(' ') {
         words.push(String::from_str(alloc, word)?)?;
     }
+    let mut told = roomy(alloc)?;
     refuse(alloc, growth);
     let answer = job(alloc, &words);
     refuse_none(alloc);
-    match answer {
-        Ok(job) => line_of(alloc, &words_of(&job)),
-        Err(JobFault::Help(_)) => line_of(alloc, &["Help"]),
-        Err(JobFault::Usage(_)) => line_of(alloc, &["Usage"]),
-        Err(JobFault::UnknownFormat(word)) => line_of(alloc, &["UnknownFormat", word.as_str()]),
-        Err(JobFault::BothInputs) => line_of(alloc, &["BothInputs"]),
-        Err(JobFault::OutOfMemory) => Ok(out_of_memory(alloc)),
+    match &answer {
+        Ok(job) => put_job(&mut told, job),
+        Err(fault) => put_fault(&mut told, fault),
     }
+    put(&mut told, "\n");
+    Answer::of_sink(alloc, matches!(&answer, Err(JobFault::OutOfMemory)), &told)
 }
