@@ -49,9 +49,11 @@ refused: program
 	cd crates/try_refused && rt run > /dev/null
 	python3 tests/refused.py
 
-# Checks the program on random models in many spellings of both formats, and on broken files.
+# Compares the program with a reader that was written only from docs/FORMATS.md and docs/ERRORS.md, on random models in many
+# spellings of both formats, and on broken files.
 random: program
 	python3 tests/random_files.py
+	python3 tests/independent_check.py
 
 # Checks the program on the files of vectors/.
 vectors: program

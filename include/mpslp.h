@@ -10,6 +10,7 @@
 #define MPSLP_H
 
 #include <errno.h>
+#include <float.h>
 #include <math.h>
 #include <stdbool.h>
 #include <stddef.h>
@@ -328,6 +329,66 @@ static inline double mpslp_to_double(mpslp_number number, bool *is_exact) {
     errno = error;
     if (is_exact) *is_exact = mpslp_is_double(number);
     return nearest;
+}
+
+/*
+ * The double nearest to a number, as mpslp_to_double gives it, or the infinity of its sign. A number of few digits and a small
+ * exponent is one product or quotient of two doubles, which are exact, so that it is rounded once.
+ */
+static inline double mpslp_nearest(mpslp_number number) {
+    static const double powers[] = { 1e0,  1e1,  1e2,  1e3,  1e4,  1e5,  1e6,  1e7,  1e8,  1e9,  1e10, 1e11,
+                                     1e12, 1e13, 1e14, 1e15, 1e16, 1e17, 1e18, 1e19, 1e20, 1e21, 1e22 };
+    const int64_t limit = (int64_t)1 << 53;
+    const int64_t mantissa = (int64_t)number.low;
+#if defined FLT_EVAL_METHOD && FLT_EVAL_METHOD == 0
+    if (number.infinity == 0 && number.high == (mantissa < 0 ? -1 : 0) && -limit <= mantissa && mantissa <= limit && -22 <= number.exponent &&
+        number.exponent <= 22)
+        return number.exponent < 0 ? (double)mantissa / powers[-number.exponent] : (double)mantissa * powers[number.exponent];
+#endif
+    return mpslp_to_double(number, NULL);
+}
+
+/* ---- doubles in bulk, into arrays of the caller's, as solvers take a model */
+
+/* The coefficient of the objective in each column. */
+static inline void mpslp_costs(const mpslp_model *model, double *costs) {
+    for (size_t j = 0; j < model->num_columns; j++) costs[j] = mpslp_nearest(model->columns[j].cost);
+}
+
+/* The limits of each row, with infinities where there is none. */
+static inline void mpslp_row_limits(const mpslp_model *model, double *lower, double *upper) {
+    for (size_t i = 0; i < model->num_rows; i++) {
+        lower[i] = mpslp_nearest(model->rows[i].lower);
+        upper[i] = mpslp_nearest(model->rows[i].upper);
+    }
+}
+
+/* The bounds of each column, with infinities where there is none. */
+static inline void mpslp_column_bounds(const mpslp_model *model, double *lower, double *upper) {
+    for (size_t j = 0; j < model->num_columns; j++) {
+        lower[j] = mpslp_nearest(model->columns[j].lower);
+        upper[j] = mpslp_nearest(model->columns[j].upper);
+    }
+}
+
+/* Whether all numbers of rows, columns and elements are an int32_t: what mpslp_matrix asks for. */
+static inline bool mpslp_fits_int32(const mpslp_model *model) {
+    const size_t most = INT32_MAX;
+    return model->num_rows <= most && model->num_columns <= most && model->num_elements <= most;
+}
+
+/*
+ * The coefficients of the rows in compressed columns: `starts`, with one item more than there are columns, has the first
+ * element of each column, and at its end how many elements there are; `rows` and `values` have the row and the value of each
+ * element. The model is one of which mpslp_fits_int32 holds.
+ */
+static inline void mpslp_matrix(const mpslp_model *model, int32_t *starts, int32_t *rows, double *values) {
+    for (size_t j = 0; j < model->num_columns; j++) starts[j] = (int32_t)model->columns[j].first;
+    starts[model->num_columns] = (int32_t)model->num_elements;
+    for (size_t k = 0; k < model->num_elements; k++) {
+        rows[k] = (int32_t)model->elements[k].row;
+        values[k] = mpslp_nearest(model->elements[k].value);
+    }
 }
 
 /* ---- what is given back */

@@ -1,4 +1,4 @@
-"""Builds the extension module; all else stands in pyproject.toml.
+"""Builds the extension module, and reads the version from VERSION of the repository; all else is in pyproject.toml.
 
 MPSLP_INCLUDE is the folder of mpslp.h and MPSLP_LIBRARY is libmpslp.a, where these are not those of the repository.
 """
@@ -13,11 +13,14 @@ ROOT = Path(__file__).resolve().parent.parent
 INCLUDE = Path(os.environ.get("MPSLP_INCLUDE", ROOT / "include"))
 LIBRARY = Path(os.environ.get("MPSLP_LIBRARY", ROOT / "build" / "libmpslp.a"))
 
+VERSION = (ROOT / "VERSION").read_text().strip()
+
 for part in (INCLUDE / "mpslp.h", LIBRARY):
     if not part.is_file():
         sys.exit(f"{part} is missing: make lib builds the library")
 
 setup(
+    version=VERSION,
     ext_modules=[
         Extension(
             "mpslp._mpslp",
@@ -26,7 +29,7 @@ setup(
             extra_objects=[str(LIBRARY)],
             depends=[str(INCLUDE / "mpslp.h"), str(LIBRARY)],
             # The stable interface of CPython: one wheel serves 3.10 and all later ones.
-            define_macros=[("Py_LIMITED_API", "0x030A0000")],
+            define_macros=[("Py_LIMITED_API", "0x030A0000"), ("PACKAGE_VERSION", f'"{VERSION}"')],
             py_limited_api=True,
             extra_compile_args=["-std=c11", "-Wall", "-Wextra", "-fvisibility=hidden"],
             # Other copies of the library in one process do not meet.

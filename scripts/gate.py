@@ -39,6 +39,7 @@ TESTS = (
     Test("program on vectors/", ("python3", "tests/vectors.py")),
     Test("library on vectors/", ("../crates/try_vectors/out/try_vectors",), ROOT / "vectors"),
     Test("refused memory", ("python3", "tests/refused.py")),
+    Test("independent reader", ("python3", "tests/independent_check.py", "--runs", "20000")),
     Test("make and make run", ("python3", "tests/commands_check.py")),
     Test("a large file", ("python3", "tests/large_file.py")),
     Test("documents", ("python3", "tests/docs_check.py")),

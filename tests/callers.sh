@@ -1,5 +1,6 @@
 #!/bin/sh
-# tests/callers.sh: builds the library for C and the Python package over what rt ci has proved in this checkout, and tests both.
+# tests/callers.sh: builds the library for C and the Python package over what rt ci has proved in this checkout, and tests both
+# and their installation.
 # What they need beside the kit is in docs/C.md and python/README.md; if some of it is missing, this says so and skips them.
 set -eu
 cd "$(dirname "$0")/.."
@@ -14,6 +15,11 @@ else
     sh lib/build.sh gate
 fi
 sh tests/c/check.sh
+if command -v pkg-config > /dev/null; then
+    sh release/install_check.sh
+else
+    echo "skipped: install and uninstall (pkg-config is missing)"
+fi
 python=${PYTHON:-/usr/bin/python3}
 "$python" -c 'import setuptools, pip, sysconfig, venv, wheel; open(sysconfig.get_path("include") + "/Python.h").close()' 2> /dev/null ||
     { echo "skipped: the Python package ($python has no pip, setuptools, venv, wheel or Python.h)"; exit 0; }

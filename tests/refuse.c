@@ -1,7 +1,8 @@
 /* Loaded before a program (LD_PRELOAD), this refuses a growth of memory.
 
    A growth is a request for memory and, where that one is refused, the next request if it is for the same block and no larger, and
-   nothing was freed in between: a collection asks so, first for room to spare and then for what it needs. Both are refused.
+   nothing was freed in between. A collection asks so that is filled from an iterator: first for all that may come, and then for
+   less. Both are refused.
 
    Growths are counted from where the program asks for 2^60 + n bytes, which no machine has, and the one of number n is refused;
    from where it asks for 2^60 bytes none is counted. For a program that does not ask, the variable REFUSE has a number: growths

@@ -39,6 +39,18 @@ def form_of(name):
     return name.rsplit(".", 1)[1]
 
 
+def with_changed_line(name, number, lines):
+    """The text that a row of changed-lines.tsv describes."""
+    own = content(name).splitlines(keepends=True)
+    own[int(number) - 1] = b"".join(line.encode() + b"\n" for line in lines)
+    return b"".join(own)
+
+
+def with_long_line(first, further, length, end, name):
+    """The text that a row of long-lines.tsv describes."""
+    return first.encode() + further.encode() * (int(length) - 1) + LINE_ENDS[end] + content(name)
+
+
 class Checker:
     """Runs of the program, and the answers that were other ones."""
 
@@ -147,9 +159,7 @@ def check_changed_lines(checker, entries):
     inputs = {entry.input for entry in entries}
     seen = set()
     for _, name, number, answer, *lines in rows("changed-lines.tsv"):
-        own = content(name).splitlines(keepends=True)
-        own[int(number) - 1] = b"".join(line.encode() + b"\n" for line in lines)
-        text = b"".join(own)
+        text = with_changed_line(name, number, lines)
         place = f"{name} with {lines} for line {number}"
         checker.wants(f"{place} stands twice, or without an index", text in seen or name not in inputs, False)
         seen.add(text)
@@ -182,10 +192,9 @@ def check_single_bytes(checker):
 def check_long_lines(checker, entries):
     by_input = {entry.input: entry for entry in entries}
     for first, further, length, end, name, answer in rows("long-lines.tsv"):
-        comment = first.encode() + further.encode() * (int(length) - 1)
         entry = by_input[name] if answer == "model" else refused(answer)
         place = f"{name} behind {length} bytes and {end}"
-        checker.answers(place, form_of(name), comment + LINE_ENDS[end] + content(name), entry)
+        checker.answers(place, form_of(name), with_long_line(first, further, length, end, name), entry)
 
 
 def arguments():

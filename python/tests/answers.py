@@ -11,6 +11,7 @@ OTHER = (EXAMPLES / "semi.lp").read_bytes()
 CANONICAL = (EXAMPLES / "small.canonical.mps").read_bytes()
 ON_A_LINE = b"ROWS\n N  cost\n N  cost\nENDATA\n"
 WITH_A_NAME = b"ROWS\n N  cost\nCOLUMNS\n    x  cost  1\nBOUNDS\n UP  B  x  -1\nENDATA\n"
+LOADED = _mpslp.load(OTHER, _mpslp.LP)
 NOT_LP = b"ROWS\n N  cost\nCOLUMNS\n    x[1]  cost  1\nENDATA\n"
 
 # Each has all of its arguments, so that nothing but the call itself takes memory.
@@ -27,6 +28,16 @@ CALLS = {
     "is_canonical, not": partial(_mpslp.is_canonical, MPS, _mpslp.MPS),
     "is_canonical, refused": partial(_mpslp.is_canonical, b"", _mpslp.MPS),
     "load": partial(_mpslp.load, OTHER, _mpslp.LP),
+    "a model's counts and objective": lambda: (LOADED.counts(), LOADED.objective()),
+    "a model's doubles": LOADED.doubles,
+    "a model's lists of names": LOADED.names,
+    "a model's row": partial(LOADED.row, 0),
+    "a model's column": partial(LOADED.column, 0),
+    "a model's names": lambda: (LOADED.row_name(1), LOADED.column_name(0)),
+    "a model's numbers": lambda: (LOADED.find_row("weight"), LOADED.find_column("none"), LOADED.find_row("\udcff"), LOADED.find_row(7)),
+    "a model's entry": lambda: (LOADED.entry(0, 0), LOADED.entry(1, 1)),
+    "a model's column's entries": lambda: (LOADED.column_len(0), LOADED.column_entries(0)),
+    "a model's row's entries": lambda: (lambda loaded: (loaded.row_len(0), loaded.row_entries(0)))(_mpslp.load(OTHER, _mpslp.LP)),
     "load, refused": partial(_mpslp.load, ON_A_LINE, _mpslp.MPS),
 }
 
@@ -34,6 +45,10 @@ CALLS = {
 WRONG_CALLS = {
     "an unknown format": partial(_mpslp.canonical, MPS, 2, 2),
     "no bytes": partial(_mpslp.is_canonical, "NAME", _mpslp.MPS),
+    "a row that is not there": partial(LOADED.row, 2),
+    "a column that is not there": partial(LOADED.column_entries, 2**64),
+    "a number below 0": partial(LOADED.row_entries, -1),
+    "no number": partial(LOADED.entry, 0, None),
     "an argument too few": partial(_mpslp.same, MPS, _mpslp.MPS, LP),
 }
 

@@ -20,7 +20,7 @@ def fault(call, *arguments, **named):
 
 class Faults(unittest.TestCase):
     def tells(self, error, line_of_program, **told):
-        wanted = {"line": None, "name": None, "place": None, "number": None, "which": None, **told}
+        wanted = {"line": None, "name": None, "place": None, "number": None, "which": None, "filename": None, **told}
         self.assertEqual({name: getattr(error, name) for name in wanted}, wanted)
         self.assertEqual(str(error), line_of_program)
 

@@ -83,7 +83,9 @@ class Vectors(unittest.TestCase):
                 continue
             with self.subTest(entry.input), self.assertRaises(mpslp.ModelFileError) as caught:
                 mpslp.load(VECTORS / entry.input)
-            self.assertEqual((str(caught.exception), caught.exception.which), (entry.answer, None))
+            error = caught.exception
+            self.assertEqual((error.which, error.filename), (None, str(VECTORS / entry.input)))
+            self.assertEqual(str(error), f"{VECTORS / entry.input}: {entry.answer}")
 
     def test_models_are_equal_exactly_if_they_are_the_same(self):
         loaded = {}

@@ -37,9 +37,9 @@ class Shown(unittest.TestCase):
         self.assertGreater(page.tried, 5)
 
     def test_what_the_package_shows(self):
-        failed, tried = doctest.testmod(mpslp)
+        failed, tried = doctest.testmod(mpslp, extraglobs={"mpslp": mpslp})
         self.assertEqual(failed, 0)
-        self.assertGreater(tried, 0)
+        self.assertGreater(tried, 5)
 
 
 if __name__ == "__main__":

@@ -1,8 +1,14 @@
 """What may be given to the calls: bytes, other buffers and paths, and formats."""
 
 import array
+import bz2
+import copy
+import gzip
+import io
+import lzma
 import mmap
 import os
+import pickle
 import tempfile
 import unittest
 from pathlib import Path
@@ -57,9 +63,11 @@ class Buffers(unittest.TestCase):
             mpslp.canonical(b"", "lp")
 
     def test_what_is_no_text(self):
-        for source in (None, 7, 1.5, ["NAME"], object()):
-            with self.subTest(source), self.assertRaisesRegex(TypeError, "^a text is bytes or a path, not "):
-                mpslp.canonical(source, "mps")
+        for source in (None, 7, 1.5, ["NAME"], object(), mpslp.load(TEXT, "mps")):
+            for call in (mpslp.canonical, mpslp.is_canonical, mpslp.load, lambda *words: mpslp.same(TEXT, words[0], "mps", *words[1:])):
+                for words in ((), ("mps",), ("qps",)):
+                    with self.subTest(source, words=words), self.assertRaisesRegex(TypeError, "^a text is bytes, a path or an open binary file, not "):
+                        call(source, *words)
 
 
 class Paths(unittest.TestCase):
@@ -95,12 +103,32 @@ class Paths(unittest.TestCase):
         self.assertEqual(mpslp.canonical(self.file("model.lp"), "mps"), CANONICAL)
 
     def test_an_ending_that_tells_no_format(self):
-        for name in ("model", "model.txt", "model.mps.gz", "model.mps ", "mps", "my-lp"):
+        for name in ("model", "model.txt", "model.mps.zip", "model.mps ", "mps", "my-lp"):
             path = self.file(name)
             with self.subTest(name):
                 self.assertEqual(mpslp.canonical(path, "mps"), CANONICAL)
                 with self.assertRaisesRegex(ValueError, "has to be told"):
                     mpslp.canonical(path)
+
+    def test_a_fault_has_the_path(self):
+        path = self.file("broken.lp", b"min x y\nend\n")
+        good = EXAMPLES / "small.lp"
+        for call, source in (
+            (mpslp.canonical, path), (mpslp.is_canonical, str(path)), (mpslp.load, BytesPath(path)),
+            (lambda source: mpslp.same(source, good), path), (lambda source: mpslp.same(good, source), path),
+            (lambda source: mpslp.same(b"min x\nend\n", source, "lp"), path),
+        ):
+            with self.subTest(type(source)), self.assertRaises(mpslp.ModelFileError) as caught:
+                call(source)
+            self.assertEqual((caught.exception.filename, str(caught.exception)), (str(path), f"{path}: line 1: BadToken"))
+            for other in (pickle.loads(pickle.dumps(caught.exception)), copy.copy(caught.exception)):
+                self.assertEqual((other.filename, str(other)), (str(path), f"{path}: line 1: BadToken"))
+        with self.assertRaises(mpslp.ModelFileError) as caught:
+            mpslp.same(path, b"min x y\nend\n", second_format="lp")
+        self.assertEqual((caught.exception.which, caught.exception.filename), ("first", str(path)))
+        with self.assertRaises(mpslp.ModelFileError) as caught:
+            mpslp.same(good, b"min x y\nend\n", second_format="lp")
+        self.assertEqual((str(caught.exception), caught.exception.filename), ("second: line 1: BadToken", None))
 
     def test_a_name_that_is_no_text(self):
         path = Path(os.fsdecode(bytes(self.folder) + b"/\xff.mps"))
@@ -115,6 +143,115 @@ class Paths(unittest.TestCase):
             mpslp.same(EXAMPLES / "small.mps", self.folder / "none.lp")
         with self.assertRaises(IsADirectoryError):
             mpslp.is_canonical(self.folder, "lp")
+
+
+class CompressedFiles(unittest.TestCase):
+    def setUp(self):
+        folder = tempfile.TemporaryDirectory()
+        self.addCleanup(folder.cleanup)
+        self.folder = Path(folder.name)
+        self.packs = {".gz": gzip.compress, ".bz2": bz2.compress, ".xz": lzma.compress}
+        try:
+            import zstandard
+        except ImportError:
+            return
+        self.packs[".zst"] = zstandard.ZstdCompressor().compress
+
+    def file(self, name, content):
+        path = self.folder / name
+        path.write_bytes(content)
+        return path
+
+    def test_paths_tell_compression_and_format(self):
+        lp = (EXAMPLES / "small.lp").read_bytes()
+        for ending, pack in self.packs.items():
+            for name, text in ((f"a.mps{ending}", TEXT), (f"a.LP{ending.upper()}", lp)):
+                path = self.file(name, pack(text))
+                with self.subTest(name):
+                    self.assertEqual(mpslp.canonical(path, to_format="mps"), CANONICAL)
+                    self.assertEqual(mpslp.load(str(path)), mpslp.load(text, name[2:].split(".")[0].lower()))
+                    self.assertTrue(mpslp.same(path, EXAMPLES / "small.mps"))
+                    self.assertIs(mpslp.is_canonical(path), False)
+            path = self.file(f"a{ending}", pack(TEXT))
+            self.assertEqual(mpslp.canonical(path, "mps"), CANONICAL)
+            with self.assertRaisesRegex(ValueError, "has to be told"):
+                mpslp.canonical(path)
+
+    def test_files_of_several_parts(self):
+        for ending, pack in self.packs.items():
+            path = self.file(f"a.mps{ending}", pack(TEXT[:40]) + pack(TEXT[40:]))
+            with self.subTest(ending):
+                self.assertEqual(mpslp.canonical(path), CANONICAL)
+
+    def test_files_that_are_broken(self):
+        for ending, pack in self.packs.items():
+            whole = pack(TEXT * 20)
+            for content in (TEXT, whole[:-1], whole[: len(whole) // 2], whole[:3], whole[:20] + b"\xff" * 20 + whole[40:]):
+                path = self.file(f"a.mps{ending}", content)
+                with self.subTest(ending, len=len(content)), self.assertRaises(OSError) as caught:
+                    mpslp.load(path)
+                self.assertIn(str(path), str(caught.exception))
+
+    def test_the_fault_of_a_file(self):
+        path = self.file("a.lp.gz", gzip.compress(b"min x y\nend\n"))
+        with self.assertRaisesRegex(mpslp.ModelFileError, "a.lp.gz: line 1: BadToken$"):
+            mpslp.load(path)
+
+    def test_files_that_are_written(self):
+        model = mpslp.load(TEXT, "mps")
+        for ending, pack in self.packs.items():
+            for name in (f"b.mps{ending}", f"b.lp{ending}"):
+                path = self.folder / name
+                mpslp.dump(model, path)
+                with self.subTest(name):
+                    self.assertEqual(mpslp.load(path), model)
+                    self.assertNotEqual(path.read_bytes()[:4], b"NAME")
+                    first = path.read_bytes()
+                    mpslp.dump(model, path)
+                    self.assertEqual(path.read_bytes(), first)
+        with gzip.open(self.folder / "b.mps.gz") as file:
+            self.assertEqual(file.read(), CANONICAL)
+
+
+class OpenFiles(unittest.TestCase):
+    def test_files(self):
+        for path in (EXAMPLES / "small.mps", EXAMPLES / "small.lp"):
+            with open(path, "rb") as file:
+                self.assertEqual(mpslp.canonical(file, to_format="mps"), CANONICAL)
+                self.assertEqual(file.read(), b"")
+            with open(path, "rb", buffering=0) as file:
+                self.assertEqual(mpslp.load(file), mpslp.load(path))
+        with open(EXAMPLES / "small.mps", "rb") as file, self.assertRaisesRegex(mpslp.ModelFileError, "small.mps: line "):
+            mpslp.load(file, "lp")
+
+    def test_files_without_a_path(self):
+        self.assertEqual(mpslp.canonical(io.BytesIO(TEXT), "mps"), CANONICAL)
+        with self.assertRaisesRegex(ValueError, "has to be told"):
+            mpslp.canonical(io.BytesIO(TEXT))
+        with open(os.open(EXAMPLES / "small.mps", os.O_RDONLY), "rb") as file:
+            with self.assertRaisesRegex(ValueError, "has to be told"):
+                mpslp.load(file)
+            self.assertEqual(mpslp.canonical(file, "mps"), CANONICAL)
+
+    def test_a_file_that_is_decompressed(self):
+        with tempfile.TemporaryDirectory() as folder:
+            path = Path(folder) / "a.mps.gz"
+            path.write_bytes(gzip.compress(TEXT))
+            with gzip.open(path) as file:
+                self.assertEqual(mpslp.canonical(file), CANONICAL)
+
+    def test_files_of_text(self):
+        with open(EXAMPLES / "small.mps") as file, self.assertRaisesRegex(TypeError, "open binary file, not TextIOWrapper"):
+            mpslp.load(file)
+        with self.assertRaisesRegex(TypeError, "open binary file, not StringIO"):
+            mpslp.load(io.StringIO("min x"), "lp")
+
+        class Text:
+            def read(self):
+                return "min x"
+
+        with self.assertRaisesRegex(TypeError, "an open file gives bytes, not str"):
+            mpslp.load(Text(), "lp")
 
 
 class Formats(unittest.TestCase):

@@ -28,10 +28,22 @@ class Threads(unittest.TestCase):
             lambda: mpslp.canonical(text, "mps"),
             lambda: mpslp.same(text, text, "mps", "mps"),
             lambda: mpslp.is_canonical(text, "mps"),
+            lambda: mpslp.load(text, "mps"),
         ):
             during = ticks_during(call)
             # With the lock held there would be none but at the very ends of the call.
             self.assertGreater(during, 5)
+
+    def test_load_holds_the_lock_hardly_at_all(self):
+        text = large_text(100_000)
+        # Other work on the machine makes gaps, too, so the least of some is taken.
+        self.assertLess(min(longest_share_without_ticks(lambda: mpslp.load(text, "mps")) for _ in range(5)), 0.2)
+
+    def test_rows_of_one_model_in_many_threads(self):
+        model = mpslp.load(large_text(2000), "mps")
+        with ThreadPoolExecutor(8) as pool:
+            lengths = list(pool.map(lambda row: len(row.entries), model.rows.values()))
+        self.assertEqual(sorted(lengths), [0] + [4] * 500)
 
     def test_a_buffer_that_another_thread_writes_to(self):
         text = large_text(2000)
@@ -79,6 +91,20 @@ def ticks_during(call):
         time.sleep(0.0005)
         ticks += 1
     return ticks
+
+
+def longest_share_without_ticks(call):
+    """The longest time in which this thread did not run while another one was within a call, as a share of that call's."""
+    caller = threading.Thread(target=call)
+    longest = 0.0
+    begin = last = time.perf_counter()
+    caller.start()
+    while caller.is_alive():
+        time.sleep(0.0002)
+        now = time.perf_counter()
+        longest = max(longest, now - last)
+        last = now
+    return longest / (last - begin)
 
 
 if __name__ == "__main__":

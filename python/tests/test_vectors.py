@@ -19,6 +19,7 @@ class Calls(vectors.Checker):
         try:
             return 0, self.answer(text, *words), b""
         except mpslp.ModelFileError as error:
+            error.filename = None  # so that it is the line of the program
             return 2, b"", str(error).encode() + b"\n"
         except Differs:
             return 1, b"not the same\n", b""
@@ -61,7 +62,7 @@ class Vectors(unittest.TestCase):
                     continue
                 with self.assertRaises(mpslp.ModelFileError) as caught:
                     mpslp.is_canonical(path)
-                self.assertEqual(str(caught.exception), entry.answer)
+                self.assertEqual(str(caught.exception), f"{path}: {entry.answer}")
 
     def test_what_a_fault_tells(self):
         for entry in entries():

@@ -1,6 +1,12 @@
 """What a checker of types has to find right; check.sh gives it to mypy."""
 
+import gzip
 from array import array
+from collections.abc import Mapping
+from dataclasses import replace
+from decimal import Decimal
+from fractions import Fraction
+from io import BytesIO
 from mmap import mmap
 from os import PathLike
 from pathlib import Path
@@ -16,6 +22,10 @@ def calls(text: bytes, changing: bytearray, view: memoryview, mapped: mmap, path
     assert_type(mpslp.same(view, mapped, "mps", "mps"), bool)
     assert_type(mpslp.is_canonical(other), bool)
     assert_type(mpslp.is_canonical(array("B"), "mps"), bool)
+    with open(path, "rb") as file, gzip.open(path) as unpacked:
+        assert_type(mpslp.load(file), mpslp.Model)
+        assert_type(mpslp.load(unpacked, "lp"), mpslp.Model)
+    assert_type(mpslp.canonical(BytesIO(text), "lp"), bytes)
 
 
 def passed_on(source: mpslp.Source, format: mpslp.Format) -> bytes:
@@ -27,8 +37,33 @@ def faults(error: mpslp.ModelFileError) -> None:
     assert_type(error.line, Union[int, None])
     assert_type(error.name, Union[str, None])
     assert_type(error.number, Union[int, None])
+    assert_type(error.filename, Union[str, None])
+
+
+def models(source: mpslp.Source) -> None:
+    model = mpslp.load(source, "lp")
+    assert_type(mpslp.__version__, str)
+    assert_type(model.sense, mpslp.Sense)
+    assert_type(model.digest, str)
+    assert_type(model.rows["r"], mpslp.Row)
+    assert_type(model.rows["r"].entries["x"], Decimal)
+    assert_type(model.columns["x"].kind, mpslp.Kind)
+    assert_type(model.columns["x"].entries, Mapping[str, Decimal])
+    assert_type(mpslp.fraction(3), Union[Fraction, None])
+    assert_type({model: 1}, dict[mpslp.Model, int])
+    assert_type(mpslp.dumps(model, "mps"), bytes)
+    assert_type(model.arrays(), mpslp.Arrays)
+    assert_type(model.arrays().sense, mpslp.Sense)
+    assert_type(mpslp.from_arrays(model.arrays()), mpslp.Model)
+    mpslp.dump(model, Path("a.lp"))
+    column = mpslp.Column("x", "integer", 0, 2.5, Fraction(1, 2), {"r": Decimal(1)})
+    made = mpslp.Model("maximize", rows=[mpslp.Row("r", upper=4)], columns={"x": replace(column, cost=3)})
+    assert_type(replace(made, constant=1), mpslp.Model)
 
 
 def wrong(text: bytes) -> None:
     mpslp.canonical(7, "mps")  # type: ignore[arg-type]
     mpslp.canonical(text, "qps")  # type: ignore[arg-type]
+    mpslp.Row("r", "3")  # type: ignore[arg-type]
+    mpslp.load(text, "lp").sense = "maximize"  # type: ignore[misc]
+    mpslp.load(text, "lp").rows["r"] = mpslp.Row("r")  # type: ignore[index]

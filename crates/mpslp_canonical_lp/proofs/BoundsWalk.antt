@@ -165,7 +165,7 @@ some-line : (from to : Point) (n : ℕ) (piece : Lexeme) (lexemes : List Lexeme)
     → Walks from (all_terminals n (line_of_some (piece ∷ lexemes))) made to
 some-line from to n piece lexemes made h = subst (λ (tokens : List TerminalAt). Walks from tokens made to) (sym (append-nil (pieces_terminals n (piece ∷ lexemes)))) h
 
-column-walk : (sections_seen : SectionsSeen) (all : Draft) (n : ℕ) (column : List ℕ) (lower upper : Limit) → IsGoodName column → refusals_in_turn all (bound_made column lower upper) ≡ []
+pub column-walk : (sections_seen : SectionsSeen) (all : Draft) (n : ℕ) (column : List ℕ) (lower upper : Limit) → IsGoodName column → refusals_in_turn all (bound_made column lower upper) ≡ []
     → Walks (bounds_point sections_seen all) (all_terminals n (line_of_some (bound_lexemes column lower upper))) (bound_made column lower upper) (bounds_point sections_seen (with_declarations all (bound_made column lower upper)))
 column-walk sections_seen all n column MinusInf (Finite b) good h = some-line _ _ n minus_infinity (sense AtMost ∷ word column ∷ sense AtMost ∷ number b ∷ []) _ (infinite-line sections_seen all n column b good h)
 column-walk sections_seen all n column (Finite a) (Finite b) good h = by (have_same_value a b) h

@@ -24,6 +24,7 @@ use Rattle.mpslp_lp.specs.declared.words.SectionWord.TheVariants as section_word
 use Rattle.mpslp_canonical_lp.specs.Printed.{PrintedLine}
 use Rattle.mpslp_canonical_lp.specs.Listing.{Listing}
 use Rattle.mpslp_canonical_lp.specs.CanonicalLp.{Lines, Term, heading, long_line, signed_lexemes, label_line, sense_word, term_line, objective_terms, constant_lines, objective_section}
+pub use Rattle.mpslp_canonical_lp.specs.PrintedDeclarations.{constant_declared}
 use Rattle.mpslp_canonical_lp.proofs.PrintableLemmas.{IsTerm, IsFit, objective-fits}
 use Rattle.mpslp_canonical_lp.proofs.TerminalLemmas.{at, line_terminals_in, all_terminals, signed-value}
 use Rattle.mpslp_canonical_lp.proofs.PhraseLemmas.{Walks, walks-none, walks-then, point_at, sense_opens, start-walks, first-term-walks, term-walks, subject-walks, constant-walks}
@@ -73,7 +74,7 @@ term-terminals n term h = λ i. at n (Sign (is_negative term.1)) ∷ at n (Numbe
 abbrev pub items_at : List ℕ → Bool → Place
 items_at name started = if started then InObjective name else BeforeItems name
 
-one-term : (started : Bool) (sections_seen : SectionsSeen) (all : Draft) (name : List ℕ) (n : ℕ) (term : Term) → IsTerm term → refusals_in_turn all (term_declared name term) ≡ []
+pub one-term : (started : Bool) (sections_seen : SectionsSeen) (all : Draft) (name : List ℕ) (n : ℕ) (term : Term) → IsTerm term → refusals_in_turn all (term_declared name term) ≡ []
     → Walks (point_at (items_at name started) sections_seen all) (line_terminals_in n (term_line term)) (term_declared name term) (point_at (InObjective name) sections_seen (with_declarations all (term_declared name term)))
 one-term started sections_seen all name n term good h =
     subst (λ (tokens : List TerminalAt). Walks (point_at (items_at name started) sections_seen all) tokens (term_declared name term) (point_at (InObjective name) sections_seen (with_declarations all (term_declared name term))))
@@ -105,9 +106,6 @@ objective-terms-walk started sections_seen all name n (term ∷ terms) good h =
     (objective-terms-walk true sections_seen (with_declarations all (term_declared name term)) name (n + 1) terms good.1 parts.1)
 
 -- ---- the constant, and `Subject To`
-
-abbrev pub constant_declared : Decimal → Declarations
-constant_declared value = if is_zero value then [] else declare_constant value ∷ []
 
 abbrev pub subject_heading : PrintedLine
 subject_heading = heading (codes "Subject" ∷ codes "To" ∷ [])
@@ -150,10 +148,10 @@ objective_made m = objective_declared m.sense m.objective ++ (terms_declared m.o
 abbrev pub in_rows : SectionsSeen
 in_rows = with_section (with_section no_section_seen sections.Objective) sections.Rows
 
-begin-terminals : (sense : Sense) (name : List ℕ) → all_terminals 1 (heading (sense_word sense ∷ []) ∷ label_line name ∷ [])
-    ≡ at 1 (Opens (sense_opens sense)) ∷ at 2 (Name name) ∷ at 2 Colon ∷ []
-begin-terminals Minimize name = refl
-begin-terminals Maximize name = refl
+pub begin-terminals : (n : ℕ) (sense : Sense) (name : List ℕ) → all_terminals n (heading (sense_word sense ∷ []) ∷ label_line name ∷ [])
+    ≡ at n (Opens (sense_opens sense)) ∷ at (n + 1) (Name name) ∷ at (n + 1) Colon ∷ []
+begin-terminals n Minimize name = refl
+begin-terminals n Maximize name = refl
 
 pub objective-walk : (m : Listing) → IsFit m → refusals_in_turn empty_draft (objective_made m) ≡ []
     → Walks start (all_terminals 1 (objective_section m ++ subject_heading ∷ [])) (objective_made m) (point_at BetweenRows in_rows (with_declarations empty_draft (objective_made m)))
@@ -170,7 +168,7 @@ objective-walk m fit h =
     subst (λ (tokens : List TerminalAt). Walks start tokens (objective_made m) (point_at BetweenRows in_rows (with_declarations empty_draft (objective_made m))))
     (sym (ap (λ (more : Lines). all_terminals 1 (first ++ more)) (append_assoc lines (constant_lines m.constant) (subject_heading ∷ []))
     ∙ terminals-append 1 first (lines ++ ending)
-    ∙ (λ i. begin-terminals m.sense m.objective i ++ terminals-append 3 lines ending i)))
+    ∙ (λ i. begin-terminals 1 m.sense m.objective i ++ terminals-append 3 lines ending i)))
     (parts-walk AtStart (BeforeItems m.objective) BetweenRows no_section_seen sections_seen in_rows empty_draft
     (at 1 (Opens (sense_opens m.sense)) ∷ at 2 (Name m.objective) ∷ at 2 Colon ∷ [])
     (all_terminals 3 lines ++ all_terminals (number_after 3 lines) ending)

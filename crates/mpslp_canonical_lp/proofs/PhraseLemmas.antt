@@ -39,6 +39,7 @@ use Rattle.mpslp_lp.specs.declared.relations.Relation.TheVariants.{AtMost}
 use Rattle.mpslp_lp.specs.declared.words.Section.TheVariants as sections
 use Rattle.mpslp_lp.specs.declared.words.SectionWord.{SectionWord}
 use Rattle.mpslp_lp.specs.declared.words.SectionWord.TheVariants as section_words
+pub use Rattle.mpslp_canonical_lp.specs.PrintedDeclarations.{point_at}
 use Rattle.mpslp_canonical_lp.proofs.TerminalLemmas.{at}
 
 abbrev pub Tokens : Type 0
@@ -122,11 +123,6 @@ walks-context from between to token tokens ys made more h k =
       | Refuses fault ↦ []
       | Unfinished ↦ []
     ]
-
--- ---- points
-
-abbrev pub point_at : Place → SectionsSeen → Draft → Point
-point_at place sections_seen all = record { place = place; context = record { sections_seen = sections_seen; earlier = all } }
 
 -- ---- the objective
 

@@ -49,7 +49,7 @@ use Rattle.mpslp_canonical_lp.proofs.LineLemmas.{IsPrintableLine}
 -- ---- words
 
 -- by computation
-code-word : (w : List ℕ) → is_word w ≡ true → nat_le (length w) 255 ≡ true → token_fault kinds.Word w ≡ None → IsGoodWord w
+pub code-word : (w : List ℕ) → is_word w ≡ true → nat_le (length w) 255 ≡ true → token_fault kinds.Word w ≡ None → IsGoodWord w
 code-word w is short faultless = record { is = is; short = leb-true (length w) 255 short; faultless = faultless }
 
 no-fault : (name : List ℕ) → is_mps_name name ≡ true → is_like_exponent name ≡ false → name_fault name ≡ None
@@ -101,29 +101,29 @@ good-name name h = record { word_is = good-word name h; word_class = word_class-
 abbrev pub AllPrintable : Lines → Type 0
 AllPrintable lines = Each IsPrintableLine lines
 
-a-line : (indent : ℕ) (lexemes : List Lexeme) → nat_le indent 2 ≡ true → nat_le (length lexemes) 5 ≡ true → Each IsPrintable lexemes → IsPrintableLine (record { indent = indent; lexemes = lexemes })
+pub a-line : (indent : ℕ) (lexemes : List Lexeme) → nat_le indent 2 ≡ true → nat_le (length lexemes) 5 ≡ true → Each IsPrintable lexemes → IsPrintableLine (record { indent = indent; lexemes = lexemes })
 a-line indent lexemes near few each = record { near = leb-true indent 2 near; few = leb-true (length lexemes) 5 few; each = each }
 
-heading-printable : (w : List ℕ) → IsGoodWord w → IsPrintableLine (heading (w ∷ []))
+pub heading-printable : (w : List ℕ) → IsGoodWord w → IsPrintableLine (heading (w ∷ []))
 heading-printable w h = a-line 0 (word w ∷ []) refl refl (h, tt)
 
 under-printable : (section : List ℕ) (lines : Lines) → IsGoodWord section → AllPrintable lines → AllPrintable (under_heading section lines)
 under-printable section [] w h = tt
 under-printable section (line ∷ lines) w h = (heading-printable section w, h)
 
-label-printable : (name : List ℕ) → IsGoodName name → IsPrintableLine (label_line name)
+pub label-printable : (name : List ℕ) → IsGoodName name → IsPrintableLine (label_line name)
 label-printable name h = a-line 1 (label name ∷ []) refl refl (h, tt)
 
 abbrev pub IsTerm : Term → Type 0
 IsTerm term = IsGoodName term.0 × IsDecimal term.1
 
-term-printable : (term : Term) → IsTerm term → IsPrintableLine (term_line term)
+pub term-printable : (term : Term) → IsTerm term → IsPrintableLine (term_line term)
 term-printable term h = a-line 2 (sign (is_negative term.1) ∷ number (size_of term.1) ∷ word term.0 ∷ []) refl refl (tt, (h.1, (h.0.word_is, tt)))
 
 terms-printable : (terms : List Term) → Each IsTerm terms → AllPrintable (map term_line terms)
 terms-printable terms h = Each-map IsPrintableLine term_line terms (Each-weaker IsTerm (λ term. IsPrintableLine (term_line term)) term-printable terms h)
 
-constant-printable : (value : Number) → IsDecimal value → AllPrintable (constant_lines value)
+pub constant-printable : (value : Number) → IsDecimal value → AllPrintable (constant_lines value)
 constant-printable value h =
     elim (is_zero value) as (λ b. AllPrintable (cond b [] (long_line (signed_lexemes value) ∷ []))) [
       | true ↦ tt
@@ -154,7 +154,7 @@ upper-decimal PlusInf h = tt
 abbrev pub IsLimits : Limit → Limit → Type 0
 IsLimits lower upper = IsDecimalLimit lower × IsDecimalLimit upper
 
-sides-decimal : (lower upper : Limit) → are_sides lower upper ≡ true → IsLimits lower upper
+pub sides-decimal : (lower upper : Limit) → are_sides lower upper ≡ true → IsLimits lower upper
 sides-decimal lower upper h = (
   lower-decimal lower (first_so (is_lower_side lower) (is_upper_side upper && is_at_most lower upper) h),
   upper-decimal upper (first_so (is_upper_side upper) (is_at_most lower upper) (second_so (is_lower_side lower) (is_upper_side upper && is_at_most lower upper) h)),
@@ -192,7 +192,7 @@ last-printable PlusInf PlusInf h = right-printable AtLeast minus_large refl
 free-word : IsGoodWord (codes "free")
 free-word = code-word (codes "free") refl refl refl
 
-bound-printable : (column : List ℕ) (lower upper : Limit) → IsGoodWord column → IsLimits lower upper → AllPrintable (line_of_some (bound_lexemes column lower upper))
+pub bound-printable : (column : List ℕ) (lower upper : Limit) → IsGoodWord column → IsLimits lower upper → AllPrintable (line_of_some (bound_lexemes column lower upper))
 bound-printable column MinusInf (Finite b) w h =
     (a-line 1 (minus_infinity ∷ sense AtMost ∷ word column ∷ sense AtMost ∷ number b ∷ []) refl refl (tt, (tt, (w, (tt, (h.1, tt))))), tt)
 bound-printable column (Finite a) (Finite b) w h =
@@ -290,10 +290,10 @@ some-fits (column ∷ columns) (term ∷ terms) c h = h
 
 -- ---- all lines
 
-in-turn : (xs ys : Lines) → AllPrintable xs → AllPrintable ys → AllPrintable (xs ++ ys)
+pub in-turn : (xs ys : Lines) → AllPrintable xs → AllPrintable ys → AllPrintable (xs ++ ys)
 in-turn xs ys h k = Each-append IsPrintableLine xs ys h k
 
-sense-good : (s : Sense) → IsGoodWord (sense_word s)
+pub sense-good : (s : Sense) → IsGoodWord (sense_word s)
 sense-good Minimize = code-word (codes "Minimize") refl refl refl
 sense-good Maximize = code-word (codes "Maximize") refl refl refl
 
@@ -306,24 +306,24 @@ objective-printable m h = (
   ),
 )
 
-row-printable : (m : Listing) → IsFit m → (row : List ℕ × Row) → IsFitRow row → AllPrintable (row_lines m row)
-row-printable m h row r =
+pub row-printable : (m : Listing) (row : List ℕ × Row) → IsFitRow row → Each IsTerm (row_terms m row.0) → AllPrintable (row_lines m row)
+row-printable m row r good =
     let terms = row_terms m row.0 in
     let last : Lines = last_line row.1.lower row.1.upper ∷ [] in (
       label-printable row.0 r.name,
       in-turn (left_lines row.1.lower row.1.upper) (map term_line terms ++ last) (left-printable row.1.lower row.1.upper r.limits)
-          (in-turn (map term_line terms) last (terms-printable terms (some-fits m.columns (filter_map (term_in m row.0) m.columns) h.columns (terms-fit m h row.0)))
+          (in-turn (map term_line terms) last (terms-printable terms good)
           (last-printable row.1.lower row.1.upper r.limits, tt)),
     )
 
-subject-printable : IsPrintableLine (heading (codes "Subject" ∷ codes "To" ∷ []))
+pub subject-printable : IsPrintableLine (heading (codes "Subject" ∷ codes "To" ∷ []))
 subject-printable =
     a-line 0 (word (codes "Subject") ∷ word (codes "To") ∷ []) refl refl (code-word (codes "Subject") refl refl refl, (code-word (codes "To") refl refl refl, tt))
 
 rows-printable : (m : Listing) → IsFit m → AllPrintable (rows_section m)
 rows-printable m h = (
   subject-printable,
-  Each-flat_map IsPrintableLine (row_lines m) m.rows (Each-weaker IsFitRow (λ row. AllPrintable (row_lines m row)) (λ row r. row-printable m h row r) m.rows h.rows),
+  Each-flat_map IsPrintableLine (row_lines m) m.rows (Each-weaker IsFitRow (λ row. AllPrintable (row_lines m row)) (λ row r. row-printable m row r (some-fits m.columns (filter_map (term_in m row.0) m.columns) h.columns (terms-fit m h row.0))) m.rows h.rows),
 )
 
 bounds-printable : (m : Listing) → IsFit m → AllPrintable (bounds_section m)

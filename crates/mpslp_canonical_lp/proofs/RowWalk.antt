@@ -23,6 +23,7 @@ use Rattle.mpslp_lp.specs.declared.relations.Relation.{Relation}
 use Rattle.mpslp_lp.specs.declared.relations.Relation.TheVariants.{AtMost}
 use Rattle.mpslp_canonical_lp.specs.Printed.{number, sense}
 use Rattle.mpslp_canonical_lp.specs.CanonicalLp.{Lines, Term, long_line, label_line, term_line, right_line}
+pub use Rattle.mpslp_canonical_lp.specs.PrintedDeclarations.{AreNew}
 use Rattle.mpslp_canonical_lp.proofs.PrintableLemmas.{IsTerm}
 use Rattle.mpslp_canonical_lp.proofs.TerminalLemmas.{at, terminals_in, line_terminals_in, all_terminals, mapped-append, signed-value}
 use Rattle.mpslp_canonical_lp.proofs.PhraseLemmas.{Walks, walks-none, walks-then, point_at, row-walks, left-row-walks, signed-row-walks, row-term-walks, ended_by, row-end-walks, signed-end-walks}
@@ -81,11 +82,6 @@ begin-walk sections_seen all name n (Some left) term good =
     (begin-left sections_seen all name n (n + 1) (n + 1 + 1) left term)
 
 -- ---- its further terms
-
--- none of the columns stands twice
-abbrev pub AreNew : List Term → List Term → Type 0
-AreNew seen [] = Unit {0}
-AreNew seen (term ∷ terms) = (list_any (λ (earlier : Term). same_bytes term.0 earlier.0) seen ≡ false) × AreNew (seen ++ term ∷ []) terms
 
 more-term : (sections_seen : SectionsSeen) (all : Draft) (row : PartialRow) (n : ℕ) (term : Term) → IsTerm term → list_any (λ (earlier : Term). same_bytes term.0 earlier.0) row.terms ≡ false
     → Walks (in_row sections_seen all row) (line_terminals_in n (term_line term)) [] (in_row sections_seen all (record row { terms = row.terms ++ term ∷ [] }))

@@ -24,6 +24,7 @@ use Rattle.mpslp_lp.specs.Grammar.{phrase_at, may_begin_section}
 use Rattle.mpslp_lp.specs.declared.words.Section.TheVariants as sections
 use Rattle.mpslp_lp.specs.declared.words.SectionWord.TheVariants as section_words
 use Rattle.mpslp_canonical_lp.specs.CanonicalLp.{Lines, heading, under_heading, name_line, under_semi_heading}
+use Rattle.mpslp_canonical_lp.proofs.LexemeLemmas.{IsGoodName}
 use Rattle.mpslp_canonical_lp.proofs.PrintableLemmas.{IsFitColumn}
 use Rattle.mpslp_canonical_lp.proofs.TerminalLemmas.{at, line_terminals_in, all_terminals}
 use Rattle.mpslp_canonical_lp.proofs.PhraseLemmas.{Walks, walks-none, point_at, generals-section-walks, general-walks, end-says, end-makes, semis-section-walks, semi-walks}
@@ -54,11 +55,11 @@ end-ends place sections_seen all n may fault = record { says = end-says place se
 abbrev pub general_made : List ℕ × Column → Declarations
 general_made column = declare_column column.0 ∷ declare_integer column.0 ∷ []
 
-one-general : (sections_seen : SectionsSeen) (all : Draft) (n : ℕ) (column : List ℕ × Column) → IsFitColumn column → refusals_in_turn all (general_made column) ≡ []
+pub one-general : (sections_seen : SectionsSeen) (all : Draft) (n : ℕ) (column : List ℕ × Column) → IsGoodName column.0 → refusals_in_turn all (general_made column) ≡ []
     → Walks (point_at InGenerals sections_seen all) (line_terminals_in n (name_line column)) (general_made column) (point_at InGenerals sections_seen (with_declarations all (general_made column)))
-one-general sections_seen all n column fit h =
+one-general sections_seen all n column good h =
     subst (λ (tokens : List TerminalAt). Walks (point_at InGenerals sections_seen all) tokens (general_made column) (point_at InGenerals sections_seen (with_declarations all (general_made column))))
-    (λ i. at n (word_terminal column.0 (sym fit.name.word_class i)) ∷ []) (general-walks sections_seen all n column.0 h)
+    (λ i. at n (word_terminal column.0 (sym good.word_class i)) ∷ []) (general-walks sections_seen all n column.0 h)
 
 pub generals-walk : (sections_seen : SectionsSeen) (all : Draft) (n : ℕ) (columns : List (List ℕ × Column)) → Each IsFitColumn columns → refusals_in_turn all (flat_map general_made columns) ≡ []
     → Walks (point_at InGenerals sections_seen all) (all_terminals n (map name_line columns)) (flat_map general_made columns) (point_at InGenerals sections_seen (with_declarations all (flat_map general_made columns)))
@@ -66,7 +67,7 @@ generals-walk sections_seen all n [] fit h = walks-none (point_at InGenerals sec
 generals-walk sections_seen all n (column ∷ columns) fit h =
     let parts = parts-taken all (general_made column) (flat_map general_made columns) h in
     parts-walk InGenerals InGenerals InGenerals sections_seen sections_seen sections_seen all (line_terminals_in n (name_line column)) (all_terminals (n + 1) (map name_line columns))
-    (general_made column) (flat_map general_made columns) (one-general sections_seen all n column fit.0 parts.0)
+    (general_made column) (flat_map general_made columns) (one-general sections_seen all n column fit.0.name parts.0)
     (generals-walk sections_seen (with_declarations all (general_made column)) (n + 1) columns fit.1 parts.1)
 
 -- ---- semi-continuous columns
@@ -74,11 +75,11 @@ generals-walk sections_seen all n (column ∷ columns) fit h =
 abbrev pub semi_made : List ℕ × Column → Declarations
 semi_made column = declare_column column.0 ∷ declare_semi column.0 ∷ []
 
-one-semi : (sections_seen : SectionsSeen) (all : Draft) (n : ℕ) (column : List ℕ × Column) → IsFitColumn column → refusals_in_turn all (semi_made column) ≡ []
+pub one-semi : (sections_seen : SectionsSeen) (all : Draft) (n : ℕ) (column : List ℕ × Column) → IsGoodName column.0 → refusals_in_turn all (semi_made column) ≡ []
     → Walks (point_at InSemis sections_seen all) (line_terminals_in n (name_line column)) (semi_made column) (point_at InSemis sections_seen (with_declarations all (semi_made column)))
-one-semi sections_seen all n column fit h =
+one-semi sections_seen all n column good h =
     subst (λ (tokens : List TerminalAt). Walks (point_at InSemis sections_seen all) tokens (semi_made column) (point_at InSemis sections_seen (with_declarations all (semi_made column))))
-    (λ i. at n (word_terminal column.0 (sym fit.name.word_class i)) ∷ []) (semi-walks sections_seen all n column.0 h)
+    (λ i. at n (word_terminal column.0 (sym good.word_class i)) ∷ []) (semi-walks sections_seen all n column.0 h)
 
 pub semis-walk : (sections_seen : SectionsSeen) (all : Draft) (n : ℕ) (columns : List (List ℕ × Column)) → Each IsFitColumn columns → refusals_in_turn all (flat_map semi_made columns) ≡ []
     → Walks (point_at InSemis sections_seen all) (all_terminals n (map name_line columns)) (flat_map semi_made columns) (point_at InSemis sections_seen (with_declarations all (flat_map semi_made columns)))
@@ -86,7 +87,7 @@ semis-walk sections_seen all n [] fit h = walks-none (point_at InSemis sections_
 semis-walk sections_seen all n (column ∷ columns) fit h =
     let parts = parts-taken all (semi_made column) (flat_map semi_made columns) h in
     parts-walk InSemis InSemis InSemis sections_seen sections_seen sections_seen all (line_terminals_in n (name_line column)) (all_terminals (n + 1) (map name_line columns))
-    (semi_made column) (flat_map semi_made columns) (one-semi sections_seen all n column fit.0 parts.0)
+    (semi_made column) (flat_map semi_made columns) (one-semi sections_seen all n column fit.0.name parts.0)
     (semis-walk sections_seen (with_declarations all (semi_made column)) (n + 1) columns fit.1 parts.1)
 
 -- ---- the last sections, where they have lines, and the end

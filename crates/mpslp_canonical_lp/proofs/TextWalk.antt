@@ -114,7 +114,7 @@ one-row sections_seen all name n left relation right term terms good new fits h 
     (subst (λ (tokens : List TerminalAt). Walks whole tokens made after) (sym (append-nil (line_terminals_in j (right_line relation right))))
     (row-end-walk sections_seen all (partial name left (term ∷ terms)) j relation right fits h))))
 
-row-walk : (sections_seen : SectionsSeen) (all : Draft) (name : List ℕ) (n : ℕ) (lower upper : Limit) (terms : List Term) → IsRow terms → refusals_in_turn all (row_by name lower upper terms) ≡ []
+pub row-walk : (sections_seen : SectionsSeen) (all : Draft) (name : List ℕ) (n : ℕ) (lower upper : Limit) (terms : List Term) → IsRow terms → refusals_in_turn all (row_by name lower upper terms) ≡ []
     → Walks (point_at BetweenRows sections_seen all) (all_terminals n (label_line name ∷ (left_lines lower upper ++ (map term_line terms ++ last_line lower upper ∷ [])))) (row_by name lower upper terms)
     (point_at BetweenRows sections_seen (with_declarations all (row_by name lower upper terms)))
 row-walk sections_seen all name n lower upper [] good h = absurd good

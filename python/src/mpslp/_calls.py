@@ -3,7 +3,7 @@
 from __future__ import annotations
 
 from mpslp import _mpslp
-from mpslp._sources import Format, Source, format_number, read
+from mpslp._sources import Format, Source, format_number, naming, read
 
 
 def canonical(source: Source, from_format: Format | None = None, to_format: Format | None = None) -> bytes:
@@ -14,10 +14,14 @@ def canonical(source: Source, from_format: Format | None = None, to_format: Form
 
     Raises ModelFileError where the text declares no model, or where it has a name that LP cannot tell and
     ``to_format`` is LP.
+
+    >>> mpslp.canonical(b"max 2.50 x\\nend\\n", "lp")
+    b'Maximize\\n obj:\\n  + 2.5 x\\nSubject To\\nEnd\\n'
     """
     to_number = None if to_format is None else format_number(to_format)
-    text, from_number = read(source, from_format)
-    return _mpslp.canonical(text, from_number, from_number if to_number is None else to_number)
+    text = read(source, from_format)
+    with naming(text):
+        return _mpslp.canonical(text.content, text.format, text.format if to_number is None else to_number)
 
 
 def same(
@@ -28,10 +32,14 @@ def same(
     A format may be left out for a path that ends in ``.mps`` or ``.lp``.
 
     Raises ModelFileError where a text declares no model; ``which`` tells which one.
+
+    >>> mpslp.same(b"min x + 2 y\\nend\\n", b"min 2.0 y + x\\nend\\n", "lp", "lp")
+    True
     """
-    first_text, first_number = read(first, first_format)
-    second_text, second_number = read(second, second_format)
-    return _mpslp.same(first_text, first_number, second_text, second_number)
+    first_text = read(first, first_format)
+    second_text = read(second, second_format)
+    with naming(first_text, second_text):
+        return _mpslp.same(first_text.content, first_text.format, second_text.content, second_text.format)
 
 
 def is_canonical(source: Source, format: Format | None = None) -> bool:
@@ -40,5 +48,10 @@ def is_canonical(source: Source, format: Format | None = None) -> bool:
     The format may be left out for a path that ends in ``.mps`` or ``.lp``.
 
     Raises ModelFileError where the text declares no model.
+
+    >>> mpslp.is_canonical(b"min x\\nend\\n", "lp")
+    False
     """
-    return _mpslp.is_canonical(*read(source, format))
+    text = read(source, format)
+    with naming(text):
+        return _mpslp.is_canonical(text.content, text.format)

@@ -1,36 +1,39 @@
-"""Why a model file is refused."""
+"""Why a model file is rejected."""
 
-from __future__ import annotations
-
-from typing import Literal
+from typing import Any, Literal
 
 
 class ModelFileError(ValueError):
-    """A text declares no model, or its model has a name that LP cannot tell.
+    """A text defines no model, or its model has a name that is not legal in LP.
 
     As text it is the line that the program mpslp prints: ``line 7: DuplicateEntry``, ``file: NegativeUpper X``,
-    ``row 3: NotLp``, and of two texts ``second: file: MissingEnd``.
+    ``row 3: NotLp``, and of two texts ``second: file: MissingEnd``. If the text is of a file, the path is its prefix:
+    ``plan.mps: line 7: DuplicateEntry``.
+
+    kind
+        The kind of the fault, as ``DuplicateEntry``; docs/FORMATS.md explains each. ``NotLp`` for a name that is not
+        legal in LP.
+    line
+        The line of the fault, counted from 1; None for a fault of the whole text.
+    name
+        The row or column that a fault of the whole text is reported of; names are ASCII.
+    place
+        What has the name that is not legal in LP: ``"objective"``, ``"row"`` or ``"column"``; else None.
+    number
+        The number of that row or column, counted from 0 in byte order of names; else None.
+    which
+        ``"first"`` or ``"second"``: which of the two texts of ``same`` is rejected; None for the other calls.
+    filename
+        The path of the file; None for a text that is bytes.
     """
 
-    __module__ = "mpslp"  # where it is found, and what tracebacks tell
-
     kind: str
-    """The kind of the fault, as ``DuplicateEntry``; docs/FORMATS.md explains each. ``NotLp`` where LP cannot tell a name."""
-
     line: int | None
-    """The line of the fault, counted from 1; None for a fault of the whole text."""
-
     name: str | None
-    """The row or column that a fault of the whole text is told of; names are ASCII."""
-
     place: Literal["objective", "row", "column"] | None
-    """What has the name that LP cannot tell."""
-
     number: int | None
-    """The number of that row or column, counted from 0 in byte order of names."""
-
     which: Literal["first", "second"] | None
-    """Which of the two texts of ``same`` is refused; None for the other calls, which have one."""
+    filename: str | None
 
     def __init__(
         self,
@@ -40,20 +43,29 @@ class ModelFileError(ValueError):
         place: Literal["objective", "row", "column"] | None = None,
         number: int | None = None,
         which: Literal["first", "second"] | None = None,
+        filename: str | None = None,
     ) -> None:
-        # All of them are the arguments of the exception, so that it can be pickled.
-        super().__init__(kind, line, name, place, number, which)
+        super().__init__(kind, line, name, place, number, which, filename)
         self.kind = kind
         self.line = line
         self.name = name
         self.place = place
         self.number = number
         self.which = which
+        self.filename = filename
+
+    def __reduce__(self) -> tuple[Any, ...]:
+        # By its attributes: the path is found after the fault, and the arguments are those of the fault.
+        parts = (self.kind, self.line, self.name, self.place, self.number, self.which, self.filename)
+        return type(self), parts, self.__dict__
 
     def __str__(self) -> str:
-        which = "" if self.which is None else f"{self.which}: "
         name = "" if self.name is None else f" {self.name}"
-        return f"{which}{self._where()}: {self.kind}{name}"
+        return f"{self._prefix()}{self._where()}: {self.kind}{name}"
+
+    def _prefix(self) -> str:
+        text = self.which if self.filename is None else self.filename
+        return "" if text is None else f"{text}: "
 
     def _where(self) -> str:
         if self.place is not None:

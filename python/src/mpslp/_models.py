@@ -1,15 +1,19 @@
 """Models, with exact numbers."""
 
-from __future__ import annotations
+# Annotations are evaluated here: the classes say that they are of the package, whose names are fewer.
 
-from collections.abc import Mapping
+import dataclasses
+from collections.abc import Iterable, Iterator, Mapping
 from dataclasses import dataclass
 from decimal import Decimal
-from fractions import Fraction
-from typing import Literal, TypeAlias
+from typing import TYPE_CHECKING, Any, Literal, TypeAlias
 
 from mpslp import _mpslp
-from mpslp._sources import Format, Source, read
+from mpslp._arrays import Arrays, arrays_of, listed
+from mpslp._mappings import Held, Numbered
+from mpslp._numbers import INFINITY, Number, decimal_of, difference, limit_of
+from mpslp._sources import Format, Path, Source, format_number, naming, read, write
+from mpslp._writing import ColumnParts, Parts, RowParts, _store, mps_text
 
 Sense: TypeAlias = Literal["minimize", "maximize"]
 """What is done with the objective."""
@@ -17,64 +21,358 @@ Sense: TypeAlias = Literal["minimize", "maximize"]
 Kind: TypeAlias = Literal["continuous", "integer", "semi-continuous"]
 """What a column may be; a semi-continuous one is 0 or within its bounds."""
 
-# By their numbers in the library.
+# By their numbers in the library, and the other way round.
 _SENSES: dict[int, Sense] = {_mpslp.MINIMIZE: "minimize", _mpslp.MAXIMIZE: "maximize"}
 _KINDS: dict[int, Kind] = {
     _mpslp.CONTINUOUS: "continuous",
     _mpslp.INTEGER: "integer",
     _mpslp.SEMI_CONTINUOUS: "semi-continuous",
 }
+_SENSE_NUMBERS: dict[str, int] = {word: number for number, word in _SENSES.items()}
+_KIND_NUMBERS: dict[str, int] = {word: number for number, word in _KINDS.items()}
+
+_MOST_BYTES = 255
 
 
-@dataclass(frozen=True, slots=True)
-class Row:
-    """A row: what its sum has to keep to."""
+class _Part:
+    """What rows, columns and models have: they are frozen, and a copy is the part itself."""
+
+    __slots__ = ()
+
+    def _fill(self, **values: object) -> None:
+        for name, value in values.items():
+            object.__setattr__(self, name, value)
+
+    def __copy__(self) -> "_Part":
+        return self
+
+    def __deepcopy__(self, memo: object) -> "_Part":
+        return self
+
+    def __repr__(self) -> str:
+        shown = ", ".join(f"{each.name}={getattr(self, each.name)!r}" for each in dataclasses.fields(self))
+        return f"mpslp.{type(self).__name__}({shown})"
+
+
+@dataclass(frozen=True, init=False, repr=False)
+class Row(_Part):
+    """A row: what its sum has to keep to.
+
+    Limits are given as any :data:`Number`; one of size 10^20 or more is infinite, by its sign. Raises ValueError for what
+    no model has: a wrong name, a number that is no decimal, or limits that cross.
+
+    >>> mpslp.Row("hours", upper=40)
+    mpslp.Row(name='hours', lower=Decimal('-Infinity'), upper=Decimal('40'))
+    """
+
+    __slots__ = {
+        "name": "The name.",
+        "lower": "The lower limit, or Decimal('-Infinity').",
+        "upper": "The upper limit, or Decimal('Infinity').",
+        "_entries": "",
+        "__weakref__": "",
+    }
 
     name: str
     lower: Decimal
-    """The lower limit, or Decimal('-Infinity')."""
     upper: Decimal
-    """The upper limit, or Decimal('Infinity')."""
+    if TYPE_CHECKING:  # a slot, and no field
+        _entries: Mapping[str, Decimal]
+
+    def __init__(self, name: str, lower: Number = -INFINITY, upper: Number = INFINITY) -> None:
+        about = f"row {name!r}"
+        _check_name(name, "row")
+        self._fill(name=name, lower=_given(about, "lower", limit_of, lower), upper=_given(about, "upper", limit_of, upper))
+        self._fill(_entries=Held[Decimal]())
+        _check_sides(about, self.lower, self.upper)
+        if self.lower.is_finite() and self.upper.is_finite():
+            _given_difference(about, self.upper, self.lower)
+
+    @property
+    def entries(self) -> Mapping[str, Decimal]:
+        """The nonzero coefficients of columns, by the names of the columns, in byte order of these.
+
+        They are those of the model that has the row. A row that was made without a model has none: coefficients are given
+        with the columns.
+        """
+        return self._entries
+
+    def __reduce__(self) -> tuple[Any, ...]:
+        return Row, (self.name, self.lower, self.upper), dict(self.entries)
+
+    def __setstate__(self, entries: Mapping[str, Decimal]) -> None:
+        self._fill(_entries=Held(entries.items()))
 
 
-@dataclass(frozen=True, slots=True)
-class Column:
-    """A column: one unknown of the model."""
+@dataclass(frozen=True, init=False, repr=False)
+class Column(_Part):
+    """A column: one unknown of the model.
+
+    Numbers are given as any :data:`Number`; a bound of size 10^20 or more is infinite, by its sign. Raises ValueError for
+    what no model has: a wrong name or kind, a number that is no decimal, or bounds that cross.
+
+    >>> mpslp.Column("x", "integer", upper=10, cost=2.5, entries={"hours": 1}).cost
+    Decimal('2.5')
+    """
+
+    __slots__ = {
+        "name": "The name.",
+        "kind": "'continuous', 'integer' or 'semi-continuous'.",
+        "lower": "The lower bound, or Decimal('-Infinity').",
+        "upper": "The upper bound, or Decimal('Infinity').",
+        "cost": "The coefficient in the objective; 0 where there is none.",
+        "entries": "The nonzero coefficients in rows, by the names of the rows, in byte order of these.",
+        "__weakref__": "",
+    }
 
     name: str
     kind: Kind
     lower: Decimal
-    """The lower bound, or Decimal('-Infinity')."""
     upper: Decimal
-    """The upper bound, or Decimal('Infinity')."""
     cost: Decimal
-    """The coefficient in the objective; 0 where there is none."""
     entries: Mapping[str, Decimal]
-    """The nonzero coefficients in rows, by the names of the rows, in byte order of these."""
+
+    def __init__(
+        self,
+        name: str,
+        kind: Kind = "continuous",
+        lower: Number = 0,
+        upper: Number = INFINITY,
+        cost: Number = 0,
+        entries: Mapping[str, Number] = Held[Decimal](),
+    ) -> None:
+        about = f"column {name!r}"
+        _check_name(name, "column")
+        if kind not in _KIND_NUMBERS:
+            raise ValueError(f"{about}: the kind {kind!r} is none of {', '.join(map(repr, _KIND_NUMBERS))}")
+        self._fill(name=name, kind=kind, lower=_given(about, "lower", limit_of, lower), upper=_given(about, "upper", limit_of, upper))
+        self._fill(cost=_finite(about, "cost", cost), entries=_entries(about, entries))
+        _check_sides(about, self.lower, self.upper)
+        if kind == "semi-continuous" and not (self.lower >= 0 and 0 < self.upper < INFINITY):
+            raise ValueError(f"{about} is semi-continuous: lower is at least 0, and upper above 0 and finite")
+
+    def __reduce__(self) -> tuple[Any, ...]:
+        return Column, (self.name, self.kind, self.lower, self.upper, self.cost, dict(self.entries))
 
 
-@dataclass(frozen=True, slots=True)
-class Model:
+class _Rows(Numbered[Row]):
+    """The rows of a model that is loaded."""
+
+    __slots__ = ()
+
+    def __getitem__(self, name: str) -> Row:
+        number = self._arrays.find_row(name)
+        if number is None:
+            raise KeyError(name)
+        return self._row(number)
+
+    def __iter__(self) -> Iterator[str]:
+        return map(self._arrays.row_name, range(len(self)))
+
+    def __len__(self) -> int:
+        return self._arrays.counts()[0]
+
+    def pairs(self) -> Iterable[tuple[str, Row]]:
+        return ((row.name, row) for row in map(self._row, range(len(self))))
+
+    def _row(self, number: int) -> Row:
+        name, lower, upper = self._arrays.row(number)
+        row = object.__new__(Row)
+        row._fill(name=name, lower=lower, upper=upper, _entries=_RowEntries(self._arrays, number))
+        return row
+
+
+class _Columns(Numbered[Column]):
+    """The columns of a model that is loaded."""
+
+    __slots__ = ()
+
+    def __getitem__(self, name: str) -> Column:
+        number = self._arrays.find_column(name)
+        if number is None:
+            raise KeyError(name)
+        return self._column(number)
+
+    def __iter__(self) -> Iterator[str]:
+        return map(self._arrays.column_name, range(len(self)))
+
+    def __len__(self) -> int:
+        return self._arrays.counts()[1]
+
+    def pairs(self) -> Iterable[tuple[str, Column]]:
+        return ((column.name, column) for column in map(self._column, range(len(self))))
+
+    def _column(self, number: int) -> Column:
+        name, kind, lower, upper, cost = self._arrays.column(number)
+        column = object.__new__(Column)
+        entries = _ColumnEntries(self._arrays, number)
+        column._fill(name=name, kind=_KINDS[kind], lower=lower, upper=upper, cost=cost, entries=entries)
+        return column
+
+
+class _RowEntries(Numbered[Decimal]):
+    """The coefficients of a row, by the names of columns."""
+
+    __slots__ = ("_row",)
+
+    def __init__(self, arrays: _mpslp.Arrays, row: int) -> None:
+        super().__init__(arrays)
+        self._row = row
+
+    def __getitem__(self, name: str) -> Decimal:
+        column = self._arrays.find_column(name)
+        value = None if column is None else self._arrays.entry(self._row, column)
+        if value is None:
+            raise KeyError(name)
+        return value
+
+    def __iter__(self) -> Iterator[str]:
+        return (name for name, _ in self.pairs())
+
+    def __len__(self) -> int:
+        return self._arrays.row_len(self._row)
+
+    def pairs(self) -> Iterable[tuple[str, Decimal]]:
+        return self._arrays.row_entries(self._row)
+
+
+class _ColumnEntries(Numbered[Decimal]):
+    """The coefficients of a column, by the names of rows."""
+
+    __slots__ = ("_column",)
+
+    def __init__(self, arrays: _mpslp.Arrays, column: int) -> None:
+        super().__init__(arrays)
+        self._column = column
+
+    def __getitem__(self, name: str) -> Decimal:
+        row = self._arrays.find_row(name)
+        value = None if row is None else self._arrays.entry(row, self._column)
+        if value is None:
+            raise KeyError(name)
+        return value
+
+    def __iter__(self) -> Iterator[str]:
+        return (name for name, _ in self.pairs())
+
+    def __len__(self) -> int:
+        return self._arrays.column_len(self._column)
+
+    def pairs(self) -> Iterable[tuple[str, Decimal]]:
+        return self._arrays.column_entries(self._column)
+
+
+@dataclass(frozen=True, init=False, eq=False, repr=False)
+class Model(_Part):
     """A model, with all defaults filled in. Two of them are equal exactly if they are the same model.
 
     Numbers are exactly those of the text. A Decimal keeps its digits, but sums and products of Decimals are rounded to
     the 28 digits of Python's usual context; Fraction(number) is exact, and so is what is computed of it.
+
+    A model keeps the arrays of the library; rows, columns and entries are made of them when they are looked at.
+
+    One may also be made: of rows and columns, in any order, or of mappings from their names. Raises ValueError where they
+    are no model: no column, a name twice, or entries in a row that is not there.
+
+    >>> model = mpslp.Model("maximize", rows=[mpslp.Row("hours", upper=40)], columns=[mpslp.Column("x", cost=3, entries={"hours": 2})])
+    >>> model.rows["hours"].entries["x"]
+    Decimal('2')
     """
+
+    __slots__ = {
+        "sense": "'minimize' or 'maximize'.",
+        "objective": "The name of the objective.",
+        "constant": "What is added to the objective.",
+        "rows": "The rows by name, in byte order of names.",
+        "columns": "The columns by name, in byte order of names.",
+        "_arrays": "",
+        "_digest": "",
+        "__weakref__": "",
+    }
 
     sense: Sense
     objective: str
-    """The name of the objective."""
     constant: Decimal
-    """What is added to the objective."""
     rows: Mapping[str, Row]
-    """The rows by name, in byte order of names."""
     columns: Mapping[str, Column]
-    """The columns by name, in byte order of names."""
+    if TYPE_CHECKING:  # slots, and no fields
+        _arrays: _mpslp.Arrays
+        _digest: str | None
 
+    def __init__(
+        self,
+        sense: Sense = "minimize",
+        objective: str = "obj",
+        constant: Number = 0,
+        rows: Iterable[Row] | Mapping[str, Row] = (),
+        columns: Iterable[Column] | Mapping[str, Column] = (),
+    ) -> None:
+        if sense not in _SENSE_NUMBERS:
+            raise ValueError(f"the sense {sense!r} is neither 'minimize' nor 'maximize'")
+        _check_name(objective, "objective")
+        all_rows = _distinct(rows, Row, "row")
+        all_columns = _distinct(columns, Column, "column")
+        if objective in all_rows:
+            raise ValueError(f"row {objective!r} has the name of the objective")
+        if not all_columns:
+            raise ValueError("a model has at least one column")
+        for column in all_columns.values():
+            for row in column.entries:
+                if row not in all_rows:
+                    raise ValueError(f"column {column.name!r} has an entry in row {row!r}, which is not there")
+        parts = Parts(
+            _SENSE_NUMBERS[sense],
+            objective,
+            _finite("the objective", "constant", constant),
+            [RowParts(row.name, row.lower, row.upper) for row in all_rows.values()],
+            [
+                ColumnParts(each.name, _KIND_NUMBERS[each.kind], each.lower, each.upper, each.cost, each.entries.items())
+                for each in all_columns.values()
+            ],
+        )
+        self._keep(_mpslp.load(mps_text(parts), _mpslp.MPS))
 
-def fraction(number: Decimal) -> Fraction | None:
-    """Returns a number of a model as a Fraction, exactly, and None for a side that is infinite."""
-    return Fraction(number) if number.is_finite() else None
+    def _keep(self, arrays: _mpslp.Arrays) -> None:
+        sense, objective, constant = arrays.objective()
+        self._fill(sense=_SENSES[sense], objective=objective, constant=constant, rows=_Rows(arrays), columns=_Columns(arrays))
+        self._fill(_arrays=arrays, _digest=None)
+
+    @property
+    def digest(self) -> str:
+        """The SHA-256 of the model's canonical MPS text, as 64 hexadecimal digits: the same for each file of the model."""
+        found = self._digest
+        if found is None:
+            import hashlib  # it breaks further interpreters of CPython 3.12.1, and is wanted here only
+
+            found = hashlib.sha256(_store(self._arrays, _mpslp.MPS)).hexdigest()
+            self._fill(_digest=found)
+        return found
+
+    def arrays(self) -> Arrays:
+        """Returns the model as arrays of doubles, in the form in which solvers take it.
+
+        Rows and columns are numbered in byte order of their names, and each number is the nearest double.
+
+        >>> arrays = mpslp.load(b"max 3 x + y\\nst limit: 0.5 x + y <= 4\\nend\\n", "lp").arrays()
+        >>> list(arrays.c), list(arrays.data), list(arrays.row_upper)
+        ([3.0, 1.0], [0.5, 1.0], [4.0])
+        """
+        return arrays_of(self._arrays, self.sense)
+
+    def __eq__(self, other: object) -> bool:
+        if not isinstance(other, Model):
+            return NotImplemented
+        return self._arrays == other._arrays
+
+    def __hash__(self) -> int:
+        return hash(self.digest)
+
+    def __reduce__(self) -> tuple[Any, ...]:
+        return load, (_store(self._arrays, _mpslp.MPS), "mps")
+
+    def __repr__(self) -> str:
+        rows, columns, elements = self._arrays.counts()
+        return f"<mpslp.Model: {self.sense} {self.objective}, {rows} rows, {columns} columns, {elements} entries>"
 
 
 def load(source: Source, format: Format | None = None) -> Model:
@@ -84,14 +382,145 @@ def load(source: Source, format: Format | None = None) -> Model:
 
     Raises ModelFileError where the text declares no model.
     """
-    sense, objective, constant, rows, columns = _mpslp.load(*read(source, format))
-    return Model(
-        _SENSES[sense],
-        objective,
-        constant,
-        {name: Row(name, lower, upper) for name, lower, upper in rows},
-        {
-            name: Column(name, _KINDS[kind], lower, upper, cost, entries)
-            for name, kind, lower, upper, cost, entries in columns
-        },
-    )
+    text = read(source, format)
+    with naming(text):
+        return model_of(_mpslp.load(text.content, text.format))
+
+
+def from_arrays(arrays: Arrays) -> Model:
+    """Returns the model of arrays, with each double as the decimal of its shortest text.
+
+    Raises ValueError for arrays that do not fit each other, and for what no model has.
+
+    >>> arrays = mpslp.Arrays(c=[3, 1], indptr=[0, 1, 2], indices=[0, 0], data=[0.5, 1], row_lower=[0], row_upper=[4])
+    >>> mpslp.from_arrays(arrays).columns["x0"].entries
+    {'r0': Decimal('0.5')}
+    """
+    row_names = _names_of(arrays.row_names, "r", len(arrays.row_lower))
+    column_names = _names_of(arrays.column_names, "x", len(arrays.c))
+    starts, indices, values = listed(arrays.indptr), listed(arrays.indices), listed(arrays.data)
+    count = len(column_names)
+    lower = [0] * count if arrays.lower is None else listed(arrays.lower)
+    upper = [INFINITY] * count if arrays.upper is None else listed(arrays.upper)
+    kinds = [0] * count if arrays.integrality is None else listed(arrays.integrality)
+    if len(arrays.row_upper) != len(row_names) or not len(lower) == len(upper) == len(kinds) == count:
+        raise ValueError("the limits of the rows, or the arrays of the columns, differ in length")
+    if len(starts) != count + 1 or starts[0] != 0 or starts[-1] != len(values) or len(indices) != len(values) or starts != sorted(starts):
+        raise ValueError("indptr, indices and data are no matrix in compressed columns with as many columns as c")
+    if not all(0 <= row < len(row_names) for row in indices):
+        raise ValueError("indices has a row that is not there")
+    if not all(kind in _KINDS for kind in kinds):
+        raise ValueError("integrality is 0, 1 or 2")
+    rows = [Row(*row) for row in zip(row_names, listed(arrays.row_lower), listed(arrays.row_upper))]
+    columns = []
+    for j, (name, cost) in enumerate(zip(column_names, listed(arrays.c))):
+        entries = {row_names[indices[k]]: values[k] for k in range(starts[j], starts[j + 1])}
+        if len(entries) != starts[j + 1] - starts[j]:
+            raise ValueError(f"column {name!r} has two entries in one row")
+        columns.append(Column(name, _KINDS[kinds[j]], lower[j], upper[j], cost, entries))
+    return Model(arrays.sense, arrays.objective, arrays.constant, rows, columns)
+
+
+def dumps(model: Model, format: Format) -> bytes:
+    """Returns the canonical text of a model.
+
+    Raises ModelFileError if a name is not legal in LP and the format is LP.
+
+    >>> mpslp.dumps(mpslp.Model(columns=[mpslp.Column("x", upper=0.5)]), "lp")
+    b'Minimize\\n obj:\\n  + 0 x\\nSubject To\\nBounds\\n 0 <= x <= 0.5\\nEnd\\n'
+    """
+    number = format_number(format)
+    if not isinstance(model, Model):
+        raise TypeError(f"a model is a mpslp.Model, not {type(model).__name__}")
+    return _store(model._arrays, number)
+
+
+def dump(model: Model, path: Path, format: Format | None = None) -> None:
+    """Writes the canonical text of a model to a file.
+
+    The format may be left out for a path that ends in ``.mps`` or ``.lp``. A file that is there is replaced, after the
+    text is made: if the model has none in the format, the file stays as it is.
+
+    Raises ModelFileError if a name is not legal in LP and the format is LP.
+    """
+    write(path, format, lambda each: dumps(model, each))
+
+
+def model_of(arrays: _mpslp.Arrays) -> Model:
+    """The model that has these arrays."""
+    model = object.__new__(Model)
+    model._keep(arrays)
+    return model
+
+
+def _names_of(names: Iterable[str] | None, letter: str, count: int) -> list[str]:
+    """The names of so many rows or columns. Those that are made have one length, so that their order is that of the arrays."""
+    if names is None:
+        width = len(str(max(count - 1, 0)))
+        return [f"{letter}{number:0{width}}" for number in range(count)]
+    given = list(names)
+    if len(given) != count or len(set(given)) != count:
+        raise ValueError("there is not one name for each row and each column")
+    return given
+
+
+def _check_name(name: str, what: str) -> None:
+    if not isinstance(name, str):
+        raise TypeError(f"the name of a {what} is a str, not {type(name).__name__}")
+    if not 0 < len(name) <= _MOST_BYTES or not all("!" <= letter <= "~" for letter in name) or name == "'MARKER'":
+        raise ValueError(f"{name!r} is no name of a {what}: it has 1 to {_MOST_BYTES} bytes from '!' to '~', and is not \"'MARKER'\"")
+
+
+def _given(about: str, what: str, make: Any, number: Number) -> Decimal:
+    """A number as a decimal, or the exception with what it is of."""
+    try:
+        found: Decimal = make(number)
+        return found
+    except (TypeError, ValueError) as error:
+        raise type(error)(f"{about}: {what}: {error}") from None
+
+
+def _finite(about: str, what: str, number: Number) -> Decimal:
+    found = _given(about, what, decimal_of, number)
+    if not found.is_finite():
+        raise ValueError(f"{about}: {what}: {number!r} is not finite")
+    return found
+
+
+def _given_difference(about: str, upper: Decimal, lower: Decimal) -> None:
+    try:
+        distance = difference(upper, lower)
+    except ValueError as error:
+        raise ValueError(f"{about}: upper minus lower: {error}") from None
+    if limit_of(distance).is_infinite():
+        raise ValueError(f"{about}: upper minus lower has size 10^20 or more")
+
+
+def _check_sides(about: str, lower: Decimal, upper: Decimal) -> None:
+    if lower == INFINITY or upper == -INFINITY:
+        raise ValueError(f"{about}: lower is plus infinity, or upper is minus infinity")
+    if lower > upper:
+        raise ValueError(f"{about}: lower {lower} is above upper {upper}")
+
+
+def _entries(about: str, given: Mapping[str, Number]) -> Mapping[str, Decimal]:
+    """The coefficients that are not 0."""
+    for row in given:
+        _check_name(row, "row")
+    values = ((row, _finite(about, f"entry {row!r}", number)) for row, number in given.items())
+    return Held((row, value) for row, value in values if value)
+
+
+def _distinct(given: Iterable[Any] | Mapping[str, Any], wanted: type, what: str) -> dict[str, Any]:
+    """Rows or columns by their names."""
+    found: dict[str, Any] = {}
+    for part in given.values() if isinstance(given, Mapping) else given:
+        if not isinstance(part, wanted):
+            raise TypeError(f"a {what} is a mpslp.{wanted.__name__}, not {type(part).__name__}")
+        name: str = part.name  # type: ignore[attr-defined]
+        if name in found:
+            raise ValueError(f"{what} {name!r} is there twice")
+        found[name] = part
+    if isinstance(given, Mapping) and list(found) != list(given):
+        raise ValueError(f"a {what} is not at its own name")
+    return found

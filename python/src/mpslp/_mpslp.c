@@ -3,16 +3,19 @@
  * formats into numbers.
  *
  * Bytes objects cannot change, and the arguments of a call hold them, so the interpreter's lock is let go while the
- * library reads them. Nothing here keeps memory between calls.
+ * library reads them. A model keeps the arrays that the library gave, and gives them back with its last reference.
  */
 #define PY_SSIZE_T_CLEAN
 #include <Python.h>
+
+#include <string.h>
 
 #include <mpslp.h>
 
 /* What a module holds. */
 typedef struct {
     PyObject *error;          /* the class ModelFileError */
+    PyObject *arrays;         /* the class Arrays */
     PyObject *decimal;        /* the class Decimal */
     PyObject *infinity;       /* Decimal('Infinity') */
     PyObject *minus_infinity; /* Decimal('-Infinity') */
@@ -159,83 +162,393 @@ static PyObject *name_of(const mpslp_model *model, mpslp_name name) {
     return PyUnicode_FromStringAndSize((const char *)model->names.bytes + name.at, (Py_ssize_t)name.len);
 }
 
-/* Puts an object into a tuple that is being filled, which holds it from then on. Answers whether there was one. */
-static int put(PyObject *tuple, Py_ssize_t at, PyObject *item) { return item != NULL && PyTuple_SetItem(tuple, at, item) == 0; }
+/* A tuple of new objects, which are given away; null where one of them is. */
+static PyObject *tuple_of(Py_ssize_t len, PyObject **items) {
+    PyObject *made = PyTuple_New(len);
+    int is_whole = made != NULL;
+    for (Py_ssize_t i = 0; i < len; i++) {
+        if (items[i] == NULL) is_whole = 0;
+        else if (made == NULL || PyTuple_SetItem(made, i, items[i]) < 0) is_whole = 0;
+        if (made == NULL) Py_XDECREF(items[i]);
+    }
+    if (is_whole) return made;
+    Py_XDECREF(made);
+    return NULL;
+}
 
-/* A list or a tuple, where it was filled; else null. */
+/* ---- models, which keep the arrays of the library: Python's objects are made when they are looked at */
+
+typedef struct {
+    PyObject_HEAD
+    mpslp_model model;
+    /* Of each row the place of its first element in `row_elements`, and how many there are; null until a row is asked. */
+    size_t *row_starts;
+    size_t *row_elements; /* the elements by number, row after row, those of a row in the order of columns */
+} arrays;
+
+static const mpslp_model *model_of(PyObject *self) { return &((arrays *)self)->model; }
+
+/* The type cannot be derived from, so that it is the one of the module. */
+static const state *state_at(PyObject *self) { return PyType_GetModuleState(Py_TYPE(self)); }
+
+static void arrays_dealloc(PyObject *self) {
+    PyTypeObject *type = Py_TYPE(self);
+    arrays *held = (arrays *)self;
+    free(held->row_starts);
+    free(held->row_elements);
+    mpslp_free_model(&held->model);
+    PyObject_Free(self);
+    Py_DECREF(type);
+}
+
+/* Takes a model over, also where there is no memory for its object. */
+static PyObject *arrays_of(PyObject *module, mpslp_model *model) {
+    arrays *made = PyObject_New(arrays, (PyTypeObject *)state_of(module)->arrays);
+    if (made == NULL) {
+        mpslp_free_model(model);
+        return PyErr_NoMemory();
+    }
+    made->model = *model;
+    made->row_starts = NULL;
+    made->row_elements = NULL;
+    return (PyObject *)made;
+}
+
+static int is_same_column(const mpslp_column *one, const mpslp_column *other) {
+    /* Bytes of padding lie behind the kind. */
+    return memcmp(one, other, offsetof(mpslp_column, kind) + sizeof one->kind) == 0;
+}
+
+/* Whether two models are one: numbers are in normal form, and names stand in the order of what has them. */
+static int is_same_model(const mpslp_model *one, const mpslp_model *other) {
+    if (one->sense != other->sense || memcmp(&one->constant, &other->constant, sizeof one->constant) != 0) return 0;
+    if (one->names.len != other->names.len || one->num_rows != other->num_rows || one->num_columns != other->num_columns ||
+        one->num_elements != other->num_elements)
+        return 0;
+    if (memcmp(&one->objective, &other->objective, sizeof one->objective) != 0 ||
+        memcmp(one->names.bytes, other->names.bytes, one->names.len) != 0 ||
+        memcmp(one->rows, other->rows, one->num_rows * sizeof *one->rows) != 0 ||
+        memcmp(one->elements, other->elements, one->num_elements * sizeof *one->elements) != 0)
+        return 0;
+    for (size_t j = 0; j < one->num_columns; j++)
+        if (!is_same_column(&one->columns[j], &other->columns[j])) return 0;
+    return 1;
+}
+
+static PyObject *arrays_compare(PyObject *self, PyObject *other, int operation) {
+    int is_same;
+    if (Py_TYPE(self) != Py_TYPE(other) || (operation != Py_EQ && operation != Py_NE)) return Py_NewRef(Py_NotImplemented);
+    Py_BEGIN_ALLOW_THREADS
+    is_same = self == other || is_same_model(model_of(self), model_of(other));
+    Py_END_ALLOW_THREADS
+    return PyBool_FromLong(is_same == (operation == Py_EQ));
+}
+
+static PyObject *arrays_counts(PyObject *self, PyObject *Py_UNUSED(none)) {
+    const mpslp_model *model = model_of(self);
+    PyObject *items[] = { PyLong_FromSize_t(model->num_rows), PyLong_FromSize_t(model->num_columns), PyLong_FromSize_t(model->num_elements) };
+    return tuple_of(3, items);
+}
+
+static PyObject *arrays_objective(PyObject *self, PyObject *Py_UNUSED(none)) {
+    const mpslp_model *model = model_of(self);
+    PyObject *items[] = { PyLong_FromLong((long)model->sense), name_of(model, model->objective), decimal_of(state_at(self), &model->constant) };
+    return tuple_of(3, items);
+}
+
+/* Whether an object is a number below a count; else it raises. */
+static int find_number(PyObject *object, size_t count, size_t *number) {
+    *number = PyLong_AsSize_t(object);
+    if (*number == (size_t)-1 && PyErr_Occurred()) return 0;
+    if (*number < count) return 1;
+    PyErr_SetString(PyExc_IndexError, "the model has no such row or column");
+    return 0;
+}
+
+static PyObject *arrays_row_name(PyObject *self, PyObject *number) {
+    const mpslp_model *model = model_of(self);
+    size_t i;
+    return find_number(number, model->num_rows, &i) ? name_of(model, model->rows[i].name) : NULL;
+}
+
+static PyObject *arrays_column_name(PyObject *self, PyObject *number) {
+    const mpslp_model *model = model_of(self);
+    size_t j;
+    return find_number(number, model->num_columns, &j) ? name_of(model, model->columns[j].name) : NULL;
+}
+
+static PyObject *arrays_row(PyObject *self, PyObject *number) {
+    const mpslp_model *model = model_of(self);
+    size_t i;
+    if (!find_number(number, model->num_rows, &i)) return NULL;
+    const mpslp_row *row = &model->rows[i];
+    const state *held = state_at(self);
+    PyObject *items[] = { name_of(model, row->name), decimal_of(held, &row->lower), decimal_of(held, &row->upper) };
+    return tuple_of(3, items);
+}
+
+static PyObject *arrays_column(PyObject *self, PyObject *number) {
+    const mpslp_model *model = model_of(self);
+    size_t j;
+    if (!find_number(number, model->num_columns, &j)) return NULL;
+    const mpslp_column *column = &model->columns[j];
+    const state *held = state_at(self);
+    PyObject *items[] = { name_of(model, column->name), PyLong_FromLong((long)column->kind), decimal_of(held, &column->lower),
+                          decimal_of(held, &column->upper), decimal_of(held, &column->cost) };
+    return tuple_of(5, items);
+}
+
+/* The name of row or column `i`. */
+static mpslp_name row_name_at(const mpslp_model *model, size_t i) { return model->rows[i].name; }
+static mpslp_name column_name_at(const mpslp_model *model, size_t j) { return model->columns[j].name; }
+
+/* Below 0, 0 or above: a name of the model against other bytes, in byte order. */
+static int compare_name(const mpslp_model *model, mpslp_name name, const char *bytes, size_t len) {
+    int order = memcmp(model->names.bytes + name.at, bytes, name.len < len ? name.len : len);
+    return order != 0 ? order : (name.len > len) - (name.len < len);
+}
+
+/* The number of what has a name, or None: also for what is no text, or cannot be a name. */
+static PyObject *number_of_name(const mpslp_model *model, PyObject *name, mpslp_name (*name_at)(const mpslp_model *, size_t), size_t count) {
+    size_t first = 0, end = count;
+    Py_ssize_t len;
+    const char *bytes = PyUnicode_Check(name) ? PyUnicode_AsUTF8AndSize(name, &len) : NULL;
+    if (bytes == NULL) {
+        if (PyErr_Occurred() && !PyErr_ExceptionMatches(PyExc_UnicodeEncodeError)) return NULL;
+        PyErr_Clear();
+        return Py_NewRef(Py_None);
+    }
+    while (first < end) {
+        size_t middle = first + (end - first) / 2;
+        int order = compare_name(model, name_at(model, middle), bytes, (size_t)len);
+        if (order == 0) return PyLong_FromSize_t(middle);
+        if (order < 0) first = middle + 1;
+        else end = middle;
+    }
+    return Py_NewRef(Py_None);
+}
+
+static PyObject *arrays_find_row(PyObject *self, PyObject *name) {
+    return number_of_name(model_of(self), name, row_name_at, model_of(self)->num_rows);
+}
+
+static PyObject *arrays_find_column(PyObject *self, PyObject *name) {
+    return number_of_name(model_of(self), name, column_name_at, model_of(self)->num_columns);
+}
+
+/* Where the elements of a column end. */
+static size_t column_end(const mpslp_model *model, size_t j) {
+    return j + 1 < model->num_columns ? model->columns[j + 1].first : model->num_elements;
+}
+
+/* The coefficient of column `j` in row `i`, or None. */
+static PyObject *arrays_entry(PyObject *self, PyObject *arguments) {
+    const mpslp_model *model = model_of(self);
+    PyObject *row, *column;
+    size_t i, j;
+    if (!PyArg_ParseTuple(arguments, "OO:entry", &row, &column)) return NULL;
+    if (!find_number(row, model->num_rows, &i) || !find_number(column, model->num_columns, &j)) return NULL;
+    size_t first = model->columns[j].first, end = column_end(model, j);
+    while (first < end) {
+        size_t middle = first + (end - first) / 2;
+        const mpslp_element *element = &model->elements[middle];
+        if (element->row == i) return decimal_of(state_at(self), &element->value);
+        if (element->row < i) first = middle + 1;
+        else end = middle;
+    }
+    return Py_NewRef(Py_None);
+}
+
+/* A name and a coefficient. */
+static PyObject *entry_of(PyObject *self, mpslp_name name, const mpslp_number *value) {
+    PyObject *items[] = { name_of(model_of(self), name), decimal_of(state_at(self), value) };
+    return tuple_of(2, items);
+}
+
+/* Puts a new object into a list that has room for it. Answers whether there was one. */
+static int put(PyObject *list, size_t at, PyObject *item) { return item != NULL && PyList_SetItem(list, (Py_ssize_t)at, item) == 0; }
+
+/* A list, where it was filled; else null. */
 static PyObject *filled(PyObject *made, int is_filled) {
     if (is_filled) return made;
     Py_XDECREF(made);
     return NULL;
 }
 
-/* A row's name, lower and upper limit. */
-static PyObject *row_of(const state *held, const mpslp_model *model, const mpslp_row *row) {
-    PyObject *made = PyTuple_New(3);
-    return filled(made, made != NULL && put(made, 0, name_of(model, row->name)) &&
-                            put(made, 1, decimal_of(held, &row->lower)) && put(made, 2, decimal_of(held, &row->upper)));
+static PyObject *arrays_column_len(PyObject *self, PyObject *number) {
+    const mpslp_model *model = model_of(self);
+    size_t j;
+    return find_number(number, model->num_columns, &j) ? PyLong_FromSize_t(column_end(model, j) - model->columns[j].first) : NULL;
 }
 
-static PyObject *rows_of(const state *held, const mpslp_model *model) {
-    PyObject *rows = PyList_New((Py_ssize_t)model->num_rows);
-    int is_filled = rows != NULL;
-    for (size_t i = 0; is_filled && i < model->num_rows; i++) {
-        PyObject *row = row_of(held, model, &model->rows[i]);
-        is_filled = row != NULL && PyList_SetItem(rows, (Py_ssize_t)i, row) == 0;
+static PyObject *arrays_column_entries(PyObject *self, PyObject *number) {
+    const mpslp_model *model = model_of(self);
+    size_t j;
+    if (!find_number(number, model->num_columns, &j)) return NULL;
+    size_t first = model->columns[j].first, len = column_end(model, j) - first;
+    PyObject *made = PyList_New((Py_ssize_t)len);
+    int is_filled = made != NULL;
+    for (size_t k = 0; is_filled && k < len; k++) {
+        const mpslp_element *element = &model->elements[first + k];
+        is_filled = put(made, k, entry_of(self, model->rows[element->row].name, &element->value));
     }
-    return filled(rows, is_filled);
+    return filled(made, is_filled);
 }
 
-/* Puts a coefficient behind the name of its row, which is one of rows_of. Answers whether it was put. */
-static int put_entry(const state *held, PyObject *entries, PyObject *rows, const mpslp_element *element) {
-    PyObject *row = PyList_GetItem(rows, (Py_ssize_t)element->row);
-    PyObject *value = row == NULL ? NULL : decimal_of(held, &element->value);
-    int is_put = value != NULL && PyDict_SetItem(entries, PyTuple_GetItem(row, 0), value) == 0;
-    Py_XDECREF(value);
-    return is_put;
-}
-
-/* The coefficients of a column by the names of their rows. */
-static PyObject *entries_of(const state *held, const mpslp_model *model, PyObject *rows, size_t column) {
-    size_t end = column + 1 < model->num_columns ? model->columns[column + 1].first : model->num_elements;
-    PyObject *entries = PyDict_New();
-    int is_filled = entries != NULL;
-    for (size_t k = model->columns[column].first; is_filled && k < end; k++)
-        is_filled = put_entry(held, entries, rows, &model->elements[k]);
-    return filled(entries, is_filled);
-}
-
-/* A column's name, kind, lower and upper bound, coefficient in the objective, and other coefficients. */
-static PyObject *column_of(const state *held, const mpslp_model *model, PyObject *rows, size_t number) {
-    const mpslp_column *column = &model->columns[number];
-    PyObject *made = PyTuple_New(6);
-    return filled(made, made != NULL && put(made, 0, name_of(model, column->name)) &&
-                            put(made, 1, PyLong_FromLong((long)column->kind)) && put(made, 2, decimal_of(held, &column->lower)) &&
-                            put(made, 3, decimal_of(held, &column->upper)) && put(made, 4, decimal_of(held, &column->cost)) &&
-                            put(made, 5, entries_of(held, model, rows, number)));
-}
-
-static PyObject *columns_of(const state *held, const mpslp_model *model, PyObject *rows) {
-    PyObject *columns = PyList_New((Py_ssize_t)model->num_columns);
-    int is_filled = columns != NULL;
-    for (size_t j = 0; is_filled && j < model->num_columns; j++) {
-        PyObject *column = column_of(held, model, rows, j);
-        is_filled = column != NULL && PyList_SetItem(columns, (Py_ssize_t)j, column) == 0;
+/* The elements row after row: how many there are of each, where those of each begin, and then each to its place. */
+static void sort_by_rows(const mpslp_model *model, size_t *starts, size_t *elements) {
+    size_t i, k, place = 0;
+    memset(starts, 0, (model->num_rows + 1) * sizeof *starts);
+    for (k = 0; k < model->num_elements; k++) starts[model->elements[k].row]++;
+    for (i = 0; i <= model->num_rows; i++) {
+        size_t count = starts[i];
+        starts[i] = place;
+        place += count;
     }
-    return filled(columns, is_filled);
+    for (k = 0; k < model->num_elements; k++) elements[starts[model->elements[k].row]++] = k;
+    /* Each start is now the one of the next row. */
+    for (i = model->num_rows; i > 0; i--) starts[i] = starts[i - 1];
+    starts[0] = 0;
 }
 
-/* A model's sense, the name and the constant of its objective, its rows and its columns. */
-static PyObject *model_of(const state *held, const mpslp_model *model) {
-    PyObject *made = PyTuple_New(5);
-    return filled(made, made != NULL && put(made, 0, PyLong_FromLong((long)model->sense)) &&
-                            put(made, 1, name_of(model, model->objective)) && put(made, 2, decimal_of(held, &model->constant)) &&
-                            put(made, 3, rows_of(held, model)) &&
-                            put(made, 4, columns_of(held, model, PyTuple_GetItem(made, 3))));
+/* Whether the elements are sorted by rows. Another thread may have done it meanwhile; its work is as good. */
+static int is_sorted_by_rows(PyObject *self) {
+    arrays *held = (arrays *)self;
+    const mpslp_model *model = &held->model;
+    size_t *starts, *elements;
+    if (held->row_starts != NULL) return 1;
+    Py_BEGIN_ALLOW_THREADS
+    starts = malloc((model->num_rows + 1) * sizeof *starts);
+    elements = malloc((model->num_elements + 1) * sizeof *elements);
+    if (starts != NULL && elements != NULL) sort_by_rows(model, starts, elements);
+    Py_END_ALLOW_THREADS
+    if (held->row_starts == NULL && starts != NULL && elements != NULL) {
+        held->row_elements = elements;
+        held->row_starts = starts;
+        return 1;
+    }
+    free(starts);
+    free(elements);
+    if (held->row_starts == NULL) PyErr_NoMemory();
+    return held->row_starts != NULL;
 }
+
+static PyObject *arrays_row_len(PyObject *self, PyObject *number) {
+    const arrays *held = (const arrays *)self;
+    size_t i;
+    if (!find_number(number, held->model.num_rows, &i) || !is_sorted_by_rows(self)) return NULL;
+    return PyLong_FromSize_t(held->row_starts[i + 1] - held->row_starts[i]);
+}
+
+/* The column that an element is of: the last one that begins with it or before it. */
+static size_t column_of_element(const mpslp_model *model, size_t element) {
+    size_t first = 0, end = model->num_columns;
+    while (end - first > 1) {
+        size_t middle = first + (end - first) / 2;
+        if (model->columns[middle].first <= element) first = middle;
+        else end = middle;
+    }
+    return first;
+}
+
+static PyObject *arrays_row_entries(PyObject *self, PyObject *number) {
+    const arrays *held = (const arrays *)self;
+    const mpslp_model *model = &held->model;
+    size_t i;
+    if (!find_number(number, model->num_rows, &i) || !is_sorted_by_rows(self)) return NULL;
+    size_t first = held->row_starts[i], len = held->row_starts[i + 1] - first;
+    PyObject *made = PyList_New((Py_ssize_t)len);
+    int is_filled = made != NULL;
+    for (size_t k = 0; is_filled && k < len; k++) {
+        size_t element = held->row_elements[first + k];
+        mpslp_name name = model->columns[column_of_element(model, element)].name;
+        is_filled = put(made, k, entry_of(self, name, &model->elements[element].value));
+    }
+    return filled(made, is_filled);
+}
+
+/* Room for so many items, to be written without the interpreter's lock: nothing else has the object yet. */
+static PyObject *room_for(size_t count, size_t size) { return PyByteArray_FromStringAndSize(NULL, (Py_ssize_t)(count * size)); }
+
+enum { COSTS, STARTS, ROWS, VALUES, ROW_LOWER, ROW_UPPER, LOWER, UPPER, KINDS, PARTS };
+
+static PyObject *arrays_doubles(PyObject *self, PyObject *Py_UNUSED(none)) {
+    const mpslp_model *model = model_of(self);
+    const size_t rows = model->num_rows, columns = model->num_columns, elements = model->num_elements;
+    if (!mpslp_fits_int32(model)) {
+        PyErr_SetString(PyExc_OverflowError, "the model has more parts than an index of 32 bits");
+        return NULL;
+    }
+    PyObject *parts[PARTS] = {
+        [COSTS] = room_for(columns, sizeof(double)),     [STARTS] = room_for(columns + 1, sizeof(int32_t)),
+        [ROWS] = room_for(elements, sizeof(int32_t)),    [VALUES] = room_for(elements, sizeof(double)),
+        [ROW_LOWER] = room_for(rows, sizeof(double)),    [ROW_UPPER] = room_for(rows, sizeof(double)),
+        [LOWER] = room_for(columns, sizeof(double)),     [UPPER] = room_for(columns, sizeof(double)),
+        [KINDS] = room_for(columns, sizeof(int8_t)),
+    };
+    void *at[PARTS];
+    for (int part = 0; part < PARTS; part++) {
+        if (parts[part] == NULL) return tuple_of(PARTS, parts);
+        at[part] = PyByteArray_AsString(parts[part]);
+    }
+    Py_BEGIN_ALLOW_THREADS
+    mpslp_costs(model, at[COSTS]);
+    mpslp_matrix(model, at[STARTS], at[ROWS], at[VALUES]);
+    mpslp_row_limits(model, at[ROW_LOWER], at[ROW_UPPER]);
+    mpslp_column_bounds(model, at[LOWER], at[UPPER]);
+    for (size_t j = 0; j < columns; j++) ((int8_t *)at[KINDS])[j] = (int8_t)model->columns[j].kind;
+    Py_END_ALLOW_THREADS
+    return tuple_of(PARTS, parts);
+}
+
+static PyObject *arrays_names(PyObject *self, PyObject *Py_UNUSED(none)) {
+    const mpslp_model *model = model_of(self);
+    PyObject *items[] = { PyList_New((Py_ssize_t)model->num_rows), PyList_New((Py_ssize_t)model->num_columns) };
+    int is_filled = items[0] != NULL && items[1] != NULL;
+    for (size_t i = 0; is_filled && i < model->num_rows; i++) is_filled = put(items[0], i, name_of(model, model->rows[i].name));
+    for (size_t j = 0; is_filled && j < model->num_columns; j++) is_filled = put(items[1], j, name_of(model, model->columns[j].name));
+    if (is_filled) return tuple_of(2, items);
+    Py_XDECREF(items[0]);
+    Py_XDECREF(items[1]);
+    return NULL;
+}
+
+static PyMethodDef arrays_methods[] = {
+    { "doubles", arrays_doubles, METH_NOARGS, "doubles($self, /)\n--\n\nThe numbers of the model as arrays of doubles and of 32-bit indices." },
+    { "names", arrays_names, METH_NOARGS, "names($self, /)\n--\n\nThe names of the rows, and of the columns." },
+    { "counts", arrays_counts, METH_NOARGS, "counts($self, /)\n--\n\nHow many rows, columns and nonzero coefficients of rows there are." },
+    { "objective", arrays_objective, METH_NOARGS, "objective($self, /)\n--\n\nThe sense, and the objective's name and constant." },
+    { "row_name", arrays_row_name, METH_O, "row_name($self, number, /)\n--\n\nThe name of a row." },
+    { "column_name", arrays_column_name, METH_O, "column_name($self, number, /)\n--\n\nThe name of a column." },
+    { "row", arrays_row, METH_O, "row($self, number, /)\n--\n\nA row's name, lower and upper limit." },
+    { "column", arrays_column, METH_O, "column($self, number, /)\n--\n\nA column's name, kind, lower and upper bound, and cost." },
+    { "find_row", arrays_find_row, METH_O, "find_row($self, name, /)\n--\n\nThe number of the row that has a name, or None." },
+    { "find_column", arrays_find_column, METH_O, "find_column($self, name, /)\n--\n\nThe number of the column that has a name, or None." },
+    { "entry", arrays_entry, METH_VARARGS, "entry($self, row, column, /)\n--\n\nA coefficient, or None where it is 0." },
+    { "row_len", arrays_row_len, METH_O, "row_len($self, number, /)\n--\n\nHow many coefficients of a row are not 0." },
+    { "column_len", arrays_column_len, METH_O, "column_len($self, number, /)\n--\n\nHow many coefficients of a column are not 0." },
+    { "row_entries", arrays_row_entries, METH_O, "row_entries($self, number, /)\n--\n\nThe columns of a row, and their coefficients." },
+    { "column_entries", arrays_column_entries, METH_O, "column_entries($self, number, /)\n--\n\nThe rows of a column, and their coefficients." },
+    { NULL, NULL, 0, NULL },
+};
+
+static PyType_Slot arrays_slots[] = {
+    { Py_tp_doc, "A model as the arrays of the library. Rows and columns are numbered in byte order of their names." },
+    { Py_tp_dealloc, arrays_dealloc },
+    { Py_tp_richcompare, arrays_compare },
+    { Py_tp_methods, arrays_methods },
+    { 0, NULL },
+};
+
+static PyType_Spec arrays_spec = {
+    .name = "mpslp._mpslp.Arrays",
+    .basicsize = sizeof(arrays),
+    .flags = Py_TPFLAGS_DEFAULT | Py_TPFLAGS_DISALLOW_INSTANTIATION,
+    .slots = arrays_slots,
+};
 
 static PyObject *load(PyObject *module, PyObject *arguments) {
-    PyObject *source, *answer;
+    PyObject *source;
     unsigned format;
     content text;
     mpslp_model model = MPSLP_NO_MODEL;
@@ -245,10 +558,7 @@ static PyObject *load(PyObject *module, PyObject *arguments) {
     Py_BEGIN_ALLOW_THREADS
     status = mpslp_load(format, text.bytes, text.len, &model, &fault);
     Py_END_ALLOW_THREADS
-    if (status != MPSLP_OK) return refuse(module, status, &fault, NULL);
-    answer = model_of(state_of(module), &model);
-    mpslp_free_model(&model);
-    return answer;
+    return status == MPSLP_OK ? arrays_of(module, &model) : refuse(module, status, &fault, NULL);
 }
 
 static PyMethodDef calls[] = {
@@ -259,7 +569,7 @@ static PyMethodDef calls[] = {
     { "is_canonical", is_canonical, METH_VARARGS,
       "is_canonical($module, source, format, /)\n--\n\nWhether bytes are the canonical text of their model." },
     { "load", load, METH_VARARGS,
-      "load($module, source, format, /)\n--\n\nA model's sense, the name and the constant of its objective, rows and columns." },
+      "load($module, source, format, /)\n--\n\nThe model that bytes declare." },
     { NULL, NULL, 0, NULL },
 };
 
@@ -289,9 +599,12 @@ static const struct {
 static int begin(PyObject *module) {
     state *held = state_of(module);
     if ((held->error = imported("mpslp._faults", "ModelFileError")) == NULL) return -1;
+    if ((held->arrays = PyType_FromModuleAndSpec(module, &arrays_spec, NULL)) == NULL) return -1;
+    if (PyModule_AddType(module, (PyTypeObject *)held->arrays) < 0) return -1;
     if ((held->decimal = imported("decimal", "Decimal")) == NULL) return -1;
     if ((held->infinity = PyObject_CallFunction(held->decimal, "s", "Infinity")) == NULL) return -1;
     if ((held->minus_infinity = PyObject_CallFunction(held->decimal, "s", "-Infinity")) == NULL) return -1;
+    if (PyModule_AddStringConstant(module, "VERSION", PACKAGE_VERSION) < 0) return -1;
     for (size_t i = 0; i < sizeof words / sizeof words[0]; i++)
         if (PyModule_AddIntConstant(module, words[i].name, words[i].number) < 0) return -1;
     return 0;
@@ -300,6 +613,7 @@ static int begin(PyObject *module) {
 static int traverse(PyObject *module, visitproc visit, void *arg) {
     const state *held = state_of(module);
     Py_VISIT(held->error);
+    Py_VISIT(held->arrays);
     Py_VISIT(held->decimal);
     Py_VISIT(held->infinity);
     Py_VISIT(held->minus_infinity);
@@ -309,16 +623,31 @@ static int traverse(PyObject *module, visitproc visit, void *arg) {
 static int clear(PyObject *module) {
     state *held = state_of(module);
     Py_CLEAR(held->error);
+    Py_CLEAR(held->arrays);
     Py_CLEAR(held->decimal);
     Py_CLEAR(held->infinity);
     Py_CLEAR(held->minus_infinity);
     return 0;
 }
 
+/*
+ * The first slot, Py_mod_multiple_interpreters with Py_MOD_PER_INTERPRETER_GIL_SUPPORTED, is known from CPython 3.12 on: all
+ * that the module holds is in its state.
+ */
 static PyModuleDef_Slot slots[] = {
+    { 3, (void *)2 },
     { Py_mod_exec, begin },
     { 0, NULL },
 };
+
+/* Whether the Python that runs is 3.12 or later: the stable interface is that of 3.10. */
+static int knows_interpreters(void) {
+    const char *version = Py_GetVersion();
+    char *end;
+    long major = strtol(version, &end, 10);
+    long minor = *end == '.' ? strtol(end + 1, NULL, 10) : 0;
+    return major > 3 || (major == 3 && minor >= 12);
+}
 
 static struct PyModuleDef definition = {
     .m_base = PyModuleDef_HEAD_INIT,
@@ -326,9 +655,11 @@ static struct PyModuleDef definition = {
     .m_doc = "The calls of the C library, on bytes.",
     .m_size = sizeof(state),
     .m_methods = calls,
-    .m_slots = slots,
     .m_traverse = traverse,
     .m_clear = clear,
 };
 
-PyMODINIT_FUNC PyInit__mpslp(void) { return PyModuleDef_Init(&definition); }
+PyMODINIT_FUNC PyInit__mpslp(void) {
+    definition.m_slots = knows_interpreters() ? slots : slots + 1;
+    return PyModuleDef_Init(&definition);
+}

@@ -1,11 +1,14 @@
 """Where the bytes of a text come from, and which format they have."""
 
-from __future__ import annotations
-
+import io
 import os
-from typing import TYPE_CHECKING, Literal, TypeAlias, Union
+from collections.abc import Callable, Iterator
+from contextlib import contextmanager
+from typing import TYPE_CHECKING, Literal, NamedTuple, Protocol, TypeAlias, Union
 
 from mpslp import _mpslp
+from mpslp._compression import pack, unpack, without_ending
+from mpslp._faults import ModelFileError
 
 if TYPE_CHECKING:
     from _typeshed import ReadableBuffer
@@ -16,50 +19,111 @@ else:
 Format: TypeAlias = Literal["mps", "lp"]
 """A format of texts."""
 
-Source: TypeAlias = Union[ReadableBuffer, str, "os.PathLike[str]", "os.PathLike[bytes]"]
-"""A text: its bytes, in any object that has a buffer; or the path of its file."""
-
-_NUMBERS = {"mps": _mpslp.MPS, "lp": _mpslp.LP}
+Path: TypeAlias = Union[str, os.PathLike[str], os.PathLike[bytes]]
+"""The path of a file."""
 
 
-def format_number(format: str) -> int:
+class BinaryFile(Protocol):
+    """A file that is open for reading bytes."""
+
+    def read(self, /) -> bytes: ...
+
+
+Source: TypeAlias = Union[ReadableBuffer, Path, BinaryFile]
+"""A text: its bytes, in any object that has a buffer; the path of its file; or that file, open for reading bytes."""
+
+_NUMBERS: dict[Format, int] = {"mps": _mpslp.MPS, "lp": _mpslp.LP}
+
+
+class Text(NamedTuple):
+    """The bytes of a text, the number of its format, and the path of its file."""
+
+    content: bytes
+    format: int
+    filename: str | None
+
+
+def format_number(format: Format | None) -> int:
     """The number of a format in the library."""
-    try:
-        return _NUMBERS[format]
-    except (KeyError, TypeError):
-        raise ValueError(f"unknown format: {format!r} is neither 'mps' nor 'lp'") from None
+    if not isinstance(format, str) or format not in _NUMBERS:
+        raise ValueError(f"unknown format: {format!r} is neither 'mps' nor 'lp'")
+    return _NUMBERS[format]
 
 
-def read(source: Source, format: Format | None) -> tuple[bytes, int]:
-    """The bytes of a text and the number of its format. A format that is told goes before the ending of a path."""
+def read(source: Source, format: Format | None) -> Text:
+    """The text of a source. A format that is told goes before the ending of a path."""
     if isinstance(source, (str, os.PathLike)):
         path = os.fspath(source)
         number = format_number(_format_of_path(path) if format is None else format)
         with open(path, "rb") as file:
-            return file.read(), number
+            return Text(unpack(os.fsdecode(path), file.read()), number, os.fsdecode(path))
+    view = _view(source)
+    if view is None:
+        return _read_file(source, format)
     if format is None:
         raise ValueError("the format of bytes has to be told: 'mps' or 'lp'")
-    number = format_number(format)
-    return _frozen(source), number
+    return Text(_frozen(view), format_number(format), None)
 
 
-def _format_of_path(path: str | bytes) -> str:
-    name = os.fsdecode(path)
+def _read_file(source: object, format: Format | None) -> Text:
+    """The rest of an open file. Its path, where it has one, tells the format; it is read as it is, not decompressed."""
+    read_all = getattr(source, "read", None)
+    if not callable(read_all) or isinstance(source, io.TextIOBase):
+        raise TypeError(f"a text is bytes, a path or an open binary file, not {type(source).__name__}")
+    path = getattr(source, "name", None)
+    filename = os.fsdecode(path) if isinstance(path, (str, bytes, os.PathLike)) else None
+    if format is None and filename is None:
+        raise ValueError("the format of an open file without a path has to be told: 'mps' or 'lp'")
+    number = format_number(_format_of_path(filename) if format is None and filename is not None else format)
+    content = read_all()
+    if not isinstance(content, bytes):
+        raise TypeError(f"an open file gives bytes, not {type(content).__name__}")
+    return Text(content, number, filename)
+
+
+def write(path: Path, format: Format | None, text: Callable[[Format], bytes]) -> None:
+    """Writes a text in a format to a file, which is opened once the text is made."""
+    if not isinstance(path, (str, os.PathLike)):
+        raise TypeError(f"a path is a str or an os.PathLike, not {type(path).__name__}")
+    name = os.fspath(path)
+    content = pack(os.fsdecode(name), text(_format_of_path(name) if format is None else format))
+    with open(name, "wb") as file:
+        file.write(content)
+
+
+@contextmanager
+def naming(first: Text, second: Text | None = None) -> Iterator[None]:
+    """Within it, a ModelFileError gets the path of the text that has the fault."""
+    try:
+        yield
+    except ModelFileError as error:
+        text = second if second is not None and error.which == "second" else first
+        error.filename = text.filename
+        raise
+
+
+def _format_of_path(path: str | bytes) -> Format:
+    name, _ = without_ending(os.fsdecode(path))
     for format in _NUMBERS:
         if name.lower().endswith("." + format):
             return format
-    raise ValueError(f"the format of {name!r} has to be told, 'mps' or 'lp': it ends neither in .mps nor in .lp")
+    raise ValueError(f"the format of {os.fsdecode(path)!r} has to be told, 'mps' or 'lp': it ends neither in .mps nor in .lp")
 
 
-def _frozen(source: ReadableBuffer) -> bytes:
+def _view(source: ReadableBuffer | BinaryFile) -> bytes | memoryview | None:
+    """The bytes of an object as they are, or None if it has no buffer."""
+    if isinstance(source, bytes):
+        return source
+    try:
+        return memoryview(source)  # type: ignore[arg-type]
+    except TypeError:
+        return None
+
+
+def _frozen(view: bytes | memoryview) -> bytes:
     """Bytes that cannot change: the object itself, or a copy.
 
     The library reads without the interpreter's lock, and what it reads has to stay as it is. Another thread may write to
     a bytearray or a mapped file meanwhile, and a view that is read-only may be one of either, so all but bytes is copied.
     """
-    if isinstance(source, bytes):
-        return source
-    try:
-        return memoryview(source).tobytes()
-    except TypeError:
-        raise TypeError(f"a text is bytes or a path, not {type(source).__name__}") from None
+    return view if isinstance(view, bytes) else view.tobytes()

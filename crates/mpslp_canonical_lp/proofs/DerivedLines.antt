@@ -1,0 +1,172 @@
+-- Each printed phrase declares what it was printed from, whatever is declared before.
+use Rattle.std.proofs.Common.{◌≡◌, refl, sym, ap, subst, ◌∙◌, ℕ, ◌+◌, List, [], ◌∷◌, ◌++◌, Bool, true, false}
+use Rattle.std.specs.Prelude.{Some, None, codes, if◌then◌else◌}
+use Rattle.std.specs.List.{flat_map}
+use Rattle.std.specs.Cmp.{first_so, second_so}
+use Rattle.std.proofs.lemmas.List.{append-nil}
+use Rattle.mpslp_decimal.specs.Decimal.{Number, is_decimal, is_zero}
+use Rattle.mpslp_decimal.proofs.OrderLemmas.{same_decimal}
+use Rattle.mpslp_decimal.proofs.CutLemmas.{Each, Each-weaker}
+use Rattle.mpslp_types.specs.Name.{is_lp_name}
+use Rattle.mpslp_types.specs.Limit.{are_sides, is_lower_side, is_upper_side, is_bounded_decimal, limit_of}
+use Rattle.mpslp_types.specs.declared.kinds.Limit.{Limit}
+use Rattle.mpslp_types.specs.declared.kinds.Limit.TheVariants.{MinusInf, Finite, PlusInf}
+use Rattle.mpslp_types.proofs.EachLemmas.{Each-from_list_all}
+use Rattle.mpslp_model_core.specs.Model.{Row}
+use Rattle.mpslp_builder.specs.Declaration.{RowDefinition, declare_row, declare_column, declare_lower, declare_upper, bounds_declared, Declarations, draft_of, with_declarations}
+use Rattle.mpslp_builder.proofs.SoundParts.{lower_of, upper_of, bounded_so, bounded_finite}
+use Rattle.mpslp_lp.specs.Rules.{phrases, made_by}
+use Rattle.mpslp_lp.specs.Terminal.{TerminalAt}
+use Rattle.mpslp_lp.specs.Point.{Point, start}
+use Rattle.mpslp_lp.specs.Grammar.{phrase_at}
+use Rattle.mpslp_lp.specs.Objective.{objective_declared, term_declared}
+use Rattle.mpslp_lp.specs.Sides.{limits_by}
+use Rattle.mpslp_lp.specs.declared.relations.Relation.TheVariants.{AtLeast, EqualTo}
+use Rattle.mpslp_lp.specs.declared.states.Place.TheVariants.{BeforeItems, InObjective, BetweenRows, InBounds}
+use Rattle.mpslp_canonical_lp.specs.Printed.{PrintedLine, word, semi_continuous}
+use Rattle.mpslp_canonical_lp.specs.CanonicalLp.{Lines, Term, heading, label_line, sense_word, term_line, constant_lines, row_terms, row_lines, have_same_value, bound_lines, name_line, semi_heading}
+use Rattle.mpslp_canonical_lp.specs.PrintedDeclarations.{point_at, terminals_at, AreDerived, AreDerivedAt, is_legal_term, after_objective, rows_heading, constant_declared, DeriveObjectives, AreLegalTerms, row_and_terms, DeriveRows, column_and_bounds, DeriveBounds, DeriveAllKinds, end_heading, DeriveAllHeadings}
+use Rattle.mpslp_canonical_lp.proofs.LexemeLemmas.{IsGoodName}
+use Rattle.mpslp_canonical_lp.proofs.LineLemmas.{line-terminals}
+use Rattle.mpslp_canonical_lp.proofs.TextLemmas.{all-faultless}
+use Rattle.mpslp_canonical_lp.proofs.TerminalLemmas.{line_terminals_in, line-seen, all_terminals}
+use Rattle.mpslp_canonical_lp.proofs.PrintableLemmas.{AllPrintable, IsTerm, code-word, a-line, good-name, sense-good, heading-printable, label-printable, term-printable, constant-printable, subject-printable, sides-decimal, bound-printable, row-printable, in-turn}
+use Rattle.mpslp_canonical_lp.proofs.PhraseLemmas.{Walks, column_and, start-walks, bounds-section-walks, generals-section-walks, semis-section-walks, end-says, end-makes}
+use Rattle.mpslp_canonical_lp.proofs.ObjectiveWalk.{begin-terminals, items_at, one-term, constant-walk}
+use Rattle.mpslp_canonical_lp.proofs.BoundsWalk.{bound_made, column-walk}
+use Rattle.mpslp_canonical_lp.proofs.TailWalk.{one-general, one-semi}
+use Rattle.mpslp_canonical_lp.proofs.TextWalk.{row_by, IsRow, row-walk}
+use Rattle.mpslp_canonical_lp.proofs.MeantRows.{limits-back}
+
+-- ---- what is walked over are the texts of the lines
+
+printed-terminals : (n : ℕ) (lines : Lines) → AllPrintable lines → terminals_at n lines ≡ all_terminals n lines
+printed-terminals n [] h = refl
+printed-terminals n (line ∷ lines) h = λ i. (line-terminals n line h.0.each ∙ line-seen n line h.0.each) i ++ printed-terminals (n + 1) lines h.1 i
+
+derive : (from to : Point) (n : ℕ) (lines : Lines) (made : Declarations) → AllPrintable lines → Walks from (all_terminals n lines) made to → AreDerived from n lines made to
+derive from to n lines made printable walk =
+    let same = printed-terminals n lines printable in
+    record {
+      faultless = all-faultless lines printable;
+      says = λ rest. ap (λ (tokens : List TerminalAt). phrases phrase_at from 0 (tokens ++ rest)) same ∙ walk.says rest;
+      makes = λ rest. ap (λ (tokens : List TerminalAt). made_by phrase_at from 0 (tokens ++ rest)) same ∙ walk.makes rest;
+    }
+
+one-line : (from to : Point) (n : ℕ) (line : PrintedLine) (made : Declarations) → Walks from (line_terminals_in n line) made to → Walks from (all_terminals n (line ∷ [])) made to
+one-line from to n line made walk = subst (λ (tokens : List TerminalAt). Walks from tokens made to) (sym (append-nil (line_terminals_in n line))) walk
+
+-- ---- the objective
+
+legal-term : (term : Term) → is_legal_term term ≡ true → IsTerm term
+legal-term term h = (good-name term.0 (first_so (is_lp_name term.0) (is_decimal term.1) h), second_so (is_lp_name term.0) (is_decimal term.1) h)
+
+-- before the first item, or after one
+objective-term : (started : Bool) (name : List ℕ) (term : Term) → is_legal_term term ≡ true → AreDerivedAt (items_at name started) (term_line term ∷ []) (term_declared name term) (InObjective name)
+objective-term started name term legal n sections_seen earlier h =
+    let good = legal-term term legal in
+    let from = point_at (items_at name started) sections_seen earlier in
+    let to = point_at (InObjective name) sections_seen (with_declarations earlier (term_declared name term)) in
+    derive from to n (term_line term ∷ []) (term_declared name term) (term-printable term good, tt)
+    (one-line from to n (term_line term) (term_declared name term) (one-term started sections_seen earlier name n term good h))
+
+pub objectives-derived : DeriveObjectives
+objectives-derived name legal =
+    record {
+      begin = λ n sense.
+          let lines : Lines = heading (sense_word sense ∷ []) ∷ label_line name ∷ [] in
+          let to = point_at (BeforeItems name) after_objective (draft_of (objective_declared sense name)) in
+          derive start to n lines (objective_declared sense name)
+          (heading-printable (sense_word sense) (sense-good sense), (label-printable name (good-name name legal), tt))
+          (subst (λ (tokens : List TerminalAt). Walks start tokens (objective_declared sense name) to) (sym (begin-terminals n sense name)) (start-walks n (n + 1) sense name));
+      first = objective-term false name;
+      later = objective-term true name;
+      constant = λ n earlier value decimal h.
+          derive _ _ n (constant_lines value ++ rows_heading) (constant_declared value)
+          (in-turn (constant_lines value) rows_heading (constant-printable value decimal) (subject-printable, tt))
+          (constant-walk true after_objective earlier name n value h refl);
+    }
+
+-- ---- rows
+
+absent : false ≡ true → ⊥
+absent e = cc
+
+some-terms : (terms : List Term) → AreLegalTerms terms → Each IsTerm terms
+some-terms terms h = Each-weaker (λ term. is_legal_term term ≡ true) IsTerm legal-term terms (Each-from_list_all is_legal_term terms h.legal)
+
+are-row : (terms : List Term) → AreLegalTerms terms → IsRow terms
+are-row [] h = absurd (absent h.some)
+are-row (term ∷ terms) h = (some-terms (term ∷ terms) h, h.new)
+
+row-said : (row : List ℕ × Row) (terms : List Term) → are_sides row.1.lower row.1.upper ≡ true → row_by row.0 row.1.lower row.1.upper terms ≡ row_and_terms row terms
+row-said row terms sides = ap (λ (definition : RowDefinition). declare_row row.0 definition ∷ flat_map (term_declared row.0) terms) (limits-back row.1.lower row.1.upper sides)
+
+pub rows-derived : DeriveRows
+rows-derived m row legal sides terms =
+    subst (λ (made : Declarations). AreDerivedAt BetweenRows (row_lines m row) made BetweenRows) (row-said row (row_terms m row.0) sides)
+    (λ n sections_seen earlier h.
+    derive _ _ n (row_lines m row) (row_by row.0 row.1.lower row.1.upper (row_terms m row.0))
+    (row-printable m row (record { name = good-name row.0 legal; limits = sides-decimal row.1.lower row.1.upper sides }) (some-terms (row_terms m row.0) terms))
+    (row-walk sections_seen earlier row.0 n row.1.lower row.1.upper (row_terms m row.0) (are-row (row_terms m row.0) terms) h))
+
+-- ---- bounds and kinds of columns
+
+bounds-said : (column : List ℕ) (lower upper : Limit) → are_sides lower upper ≡ true → bound_made column lower upper ≡ column_and_bounds column lower upper
+bounds-said column lower upper h = by lower upper (lower_of lower upper h) (upper_of lower upper h)
+  where
+    between : (a b : Number) → is_bounded_decimal a ≡ true → is_bounded_decimal b ≡ true → (same : Bool) → have_same_value a b ≡ same
+        → (if same then column_and column (limits_by EqualTo (limit_of b)) else column_and column (limits_by AtLeast (limit_of a)) ++ bounds_declared column None (Some (limit_of b)))
+        ≡ declare_column column ∷ declare_lower column (Finite a) ∷ declare_upper column (Finite b) ∷ []
+    between a b p q true e =
+        let equal : limit_of b ≡ Finite a = bounded_finite b q ∙ ap (λ (d : Number). Finite d) (sym (same_decimal a b (bounded_so a p) (bounded_so b q) e)) in
+        λ i. declare_column column ∷ declare_lower column (equal i) ∷ declare_upper column (bounded_finite b q i) ∷ []
+    between a b p q false e = λ i. declare_column column ∷ declare_lower column (bounded_finite a p i) ∷ declare_upper column (bounded_finite b q i) ∷ []
+
+    by : (l u : Limit) → is_lower_side l ≡ true → is_upper_side u ≡ true → bound_made column l u ≡ column_and_bounds column l u
+    by MinusInf (Finite b) p q = λ i. declare_column column ∷ declare_lower column MinusInf ∷ declare_upper column (bounded_finite b q i) ∷ []
+    by MinusInf PlusInf p q = refl
+    by (Finite a) (Finite b) p q = between a b p q (have_same_value a b) refl
+    by (Finite a) PlusInf p q = ap (λ (l : Limit). if is_zero a then [] else declare_column column ∷ declare_lower column l ∷ []) (bounded_finite a p)
+    by MinusInf MinusInf p q = absurd (absent q)
+    by (Finite a) MinusInf p q = absurd (absent q)
+    by PlusInf u p q = absurd (absent p)
+
+pub bounds-derived : DeriveBounds
+bounds-derived column legal sides =
+    let l = column.1.lower in
+    let u = column.1.upper in
+    let name = good-name column.0 legal in
+    subst (λ (made : Declarations). AreDerivedAt (InBounds None) (bound_lines column) made (InBounds None)) (bounds-said column.0 l u sides)
+    (λ n sections_seen earlier h.
+    derive _ _ n (bound_lines column) (bound_made column.0 l u) (bound-printable column.0 l u name.word_is (sides-decimal l u sides)) (column-walk sections_seen earlier n column.0 l u name h))
+
+pub kinds-derived : DeriveAllKinds
+kinds-derived column legal =
+    record {
+      integer = λ n sections_seen earlier h. derive _ _ n (name_line column ∷ []) _ printable (one-line _ _ n (name_line column) _ (one-general sections_seen earlier n column name h));
+      semi = λ n sections_seen earlier h. derive _ _ n (name_line column ∷ []) _ printable (one-line _ _ n (name_line column) _ (one-semi sections_seen earlier n column name h));
+    }
+  where
+    name : IsGoodName column.0
+    name = good-name column.0 legal
+
+    printable : AllPrintable (name_line column ∷ [])
+    printable = (a-line 1 (word column.0 ∷ []) refl refl (name.word_is, tt), tt)
+
+-- ---- headings
+
+pub headings-derived : DeriveAllHeadings
+headings-derived place sections_seen earlier n may =
+    let from = point_at place sections_seen earlier in
+    record {
+      bounds = λ fault. derive _ _ n (heading (codes "Bounds" ∷ []) ∷ []) [] (heading-printable (codes "Bounds") (code-word (codes "Bounds") refl refl refl), tt) (bounds-section-walks place sections_seen earlier n may fault);
+      generals = λ fault. derive _ _ n (heading (codes "Generals" ∷ []) ∷ []) [] (heading-printable (codes "Generals") (code-word (codes "Generals") refl refl refl), tt) (generals-section-walks place sections_seen earlier n may fault);
+      semis = λ fault. derive _ _ n (semi_heading ∷ []) [] (a-line 0 (semi_continuous ∷ []) refl refl (tt, tt), tt) (semis-section-walks place sections_seen earlier n may fault);
+      end_faultless = all-faultless end_heading end;
+      end_says = λ fault. ap (λ (tokens : List TerminalAt). phrases phrase_at from 0 tokens) (printed-terminals n end_heading end) ∙ end-says place sections_seen earlier n may fault;
+      end_makes = λ fault. ap (λ (tokens : List TerminalAt). made_by phrase_at from 0 tokens) (printed-terminals n end_heading end) ∙ end-makes place sections_seen earlier n may fault;
+    }
+  where
+    end : AllPrintable end_heading
+    end = (heading-printable (codes "End") (code-word (codes "End") refl refl refl), tt)

@@ -1,0 +1,121 @@
+"""Files that are compressed, by the ending of their path."""
+
+from __future__ import annotations
+
+from collections.abc import Callable
+from importlib import import_module
+from typing import Any, NamedTuple
+
+
+class Compression(NamedTuple):
+    """How a file is compressed. Modules are imported when they are needed: a Python may lack some."""
+
+    pack: Callable[[bytes], bytes]
+    unpack: Callable[[bytes], bytes]
+
+
+def without_ending(name: str) -> tuple[str, str]:
+    """A path without the ending of a compression, and that ending; or the path and no ending."""
+    for ending in COMPRESSIONS:
+        if name.lower().endswith(ending):
+            return name[: -len(ending)], ending
+    return name, ""
+
+
+def pack(name: str, content: bytes) -> bytes:
+    """The bytes of a file whose path is ``name`` and whose text is ``content``."""
+    _, ending = without_ending(name)
+    return COMPRESSIONS[ending].pack(content) if ending else content
+
+
+def unpack(name: str, content: bytes) -> bytes:
+    """The text of a file whose path is ``name``, of its bytes; raises OSError if they are not compressed so."""
+    _, ending = without_ending(name)
+    if not ending:
+        return content
+    try:
+        return COMPRESSIONS[ending].unpack(content)
+    except (ImportError, MemoryError):
+        raise
+    except Exception as error:  # each module has exceptions of its own
+        raise OSError(f"{name!r} is no whole file of {ending}: {error}") from error
+
+
+def _gzip(content: bytes) -> bytes:
+    import gzip
+
+    return gzip.compress(content, mtime=0)  # without a time, so that one text has one file
+
+
+def _gunzip(content: bytes) -> bytes:
+    import gzip
+
+    return gzip.decompress(content)
+
+
+def _bzip2(content: bytes) -> bytes:
+    import bz2
+
+    return bz2.compress(content)
+
+
+def _bunzip2(content: bytes) -> bytes:
+    import bz2
+
+    return bz2.decompress(content)
+
+
+def _xz(content: bytes) -> bytes:
+    import lzma
+
+    return lzma.compress(content)
+
+
+def _unxz(content: bytes) -> bytes:
+    import lzma
+
+    return lzma.decompress(content)
+
+
+def _zstd(content: bytes) -> bytes:
+    own = _own_zstd()
+    if own is not None:
+        return bytes(own.compress(content))
+    import zstandard
+
+    return bytes(zstandard.ZstdCompressor().compress(content))
+
+
+def _unzstd(content: bytes) -> bytes:
+    own = _own_zstd()
+    return _unzstandard(content) if own is None else bytes(own.decompress(content))
+
+
+def _own_zstd() -> Any:
+    """Python's own module, which 3.14 brings; or None."""
+    try:
+        return import_module("compression.zstd")
+    except ImportError:
+        return None
+
+
+def _unzstandard(content: bytes) -> bytes:
+    """Frame after frame; a frame that is cut off is an error, which the module's own readers pass over."""
+    import zstandard
+
+    parts: list[bytes] = []
+    while content or not parts:
+        frame = zstandard.ZstdDecompressor().decompressobj()
+        parts.append(frame.decompress(content))
+        if not frame.eof:
+            raise EOFError("a frame is cut off")
+        content = frame.unused_data
+    return b"".join(parts)
+
+
+COMPRESSIONS = {
+    ".gz": Compression(_gzip, _gunzip),
+    ".bz2": Compression(_bzip2, _bunzip2),
+    ".xz": Compression(_xz, _unxz),
+    ".zst": Compression(_zstd, _unzstd),
+}

@@ -1,0 +1,114 @@
+"""Exact decimals, of the numbers that Python has."""
+
+import math
+from decimal import MAX_EMAX, MIN_EMIN, Context, Decimal
+from fractions import Fraction
+from functools import lru_cache
+from numbers import Integral, Rational, Real
+from typing import TypeAlias, Union
+
+Number: TypeAlias = Union[int, float, Decimal, Fraction]
+"""What may be given as a number: a float is the decimal of its shortest text, as 0.1."""
+
+INFINITY = Decimal("Infinity")
+MOST_DIGITS = 36
+MOST_EXPONENT = 500
+LARGE = Decimal(10**20)
+"""From here on a limit or a bound is infinite."""
+
+# The most zeros that are written out after digits, as the extension module does it.
+_MOST_ZEROS = 20
+
+# Room for each difference of two numbers of a model.
+_EXACT = Context(prec=4 * MOST_EXPONENT, Emax=MAX_EMAX, Emin=MIN_EMIN)
+
+
+def fraction(number: Number) -> Fraction | None:
+    """Returns a number as a Fraction, exactly, and None for one that is infinite."""
+    is_finite = number.is_finite() if isinstance(number, Decimal) else not isinstance(number, float) or math.isfinite(number)
+    return Fraction(number) if is_finite else None
+
+
+@lru_cache(maxsize=4096)
+def _of_float(number: float) -> Decimal:
+    """The same for a float: many of a model are alike."""
+    return _checked(Decimal(float.__repr__(number)))
+
+
+def decimal_of(number: Number) -> Decimal:
+    """The decimal that a number is, in normal form; an infinite one as it is.
+
+    Raises ValueError where no decimal of a model is the number, and TypeError for what is no number.
+    """
+    return _of_float(number) if type(number) is float else _checked(_decimal(number))
+
+
+def _checked(found: Decimal) -> Decimal:
+    if found.is_infinite():
+        return found
+    if found.is_nan():
+        raise ValueError(f"{found} is no number")
+    return _normal(found)
+
+
+def limit_of(number: Number) -> Decimal:
+    """The same for a limit or a bound, which is infinite, by its sign, from 10^20 on."""
+    found = decimal_of(number)
+    return found if found.copy_abs() < LARGE else INFINITY.copy_sign(found)
+
+
+def difference(upper: Decimal, lower: Decimal) -> Decimal:
+    """The exact difference of two finite numbers; raises ValueError where it is no decimal of a model."""
+    return _normal(_EXACT.subtract(upper, lower))
+
+
+def _decimal(number: Number) -> Decimal:
+    if isinstance(number, Decimal):
+        return number
+    if isinstance(number, float):
+        return Decimal(float.__repr__(number))
+    if isinstance(number, bool):
+        raise TypeError(f"{number!r} is no number")
+    if isinstance(number, Integral):
+        return Decimal(int(number))
+    if isinstance(number, Rational):
+        return _decimal_of_fraction(number)
+    if isinstance(number, Real):
+        return Decimal(repr(float(number)))
+    raise TypeError(f"a number is an int, a float, a Decimal or a Fraction, not {type(number).__name__}")
+
+
+def _decimal_of_fraction(number: Rational) -> Decimal:
+    left, twos, fives = int(number.denominator), 0, 0
+    while left % 2 == 0:
+        left, twos = left // 2, twos + 1
+    while left % 5 == 0:
+        left, fives = left // 5, fives + 1
+    if left != 1:
+        raise ValueError(f"{number!r} is no finite decimal")
+    places = max(twos, fives)
+    return _scaled(int(number.numerator) * 2 ** (places - twos) * 5 ** (places - fives), -places)
+
+
+def _scaled(mantissa: int, exponent: int) -> Decimal:
+    sign, digits, _ = Decimal(mantissa).as_tuple()
+    return Decimal((sign, digits, exponent))
+
+
+def _normal(number: Decimal) -> Decimal:
+    """A finite number without zeros at its end, or with no more than a whole number has."""
+    sign, digits, exponent = number.as_tuple()
+    assert isinstance(exponent, int)
+    if not number:
+        return Decimal(0)
+    last = len(digits)
+    while digits[last - 1] == 0:
+        last -= 1
+    first = next(place for place, digit in enumerate(digits) if digit != 0)
+    exponent += len(digits) - last
+    if last - first > MOST_DIGITS:
+        raise ValueError(f"{number} has more than {MOST_DIGITS} digits")
+    if abs(exponent) > MOST_EXPONENT:
+        raise ValueError(f"{number} has an exponent beyond {MOST_EXPONENT}")
+    zeros = exponent if 0 <= exponent <= _MOST_ZEROS else 0
+    return Decimal((sign, digits[first:last] + (0,) * zeros, exponent - zeros))

@@ -1,0 +1,147 @@
+"""Models as arrays of doubles, and back."""
+
+import math
+import random
+import sys
+import typing
+import unittest
+from array import array
+from decimal import Decimal
+from unittest import mock
+
+import mpslp
+from repository import EXAMPLES, VECTORS, model_files
+from test_load import entries, sample
+
+KINDS = ["continuous", "integer", "semi-continuous"]
+
+
+def doubles(numbers):
+    return [float(number) for number in numbers]
+
+
+def plain(arrays):
+    """The arrays as lists of Python's numbers."""
+    return arrays._replace(**{name: list(value) for name, value in arrays._asdict().items() if not isinstance(value, (str, float))})
+
+
+class ToArrays(unittest.TestCase):
+    def agrees(self, model):
+        arrays = plain(model.arrays())
+        rows, columns = list(model.rows.values()), list(model.columns.values())
+        self.assertEqual(arrays.sense, model.sense)
+        self.assertEqual(arrays.objective, model.objective)
+        self.assertEqual(arrays.constant, float(model.constant))
+        self.assertEqual(arrays.row_names, list(model.rows))
+        self.assertEqual(arrays.column_names, list(model.columns))
+        self.assertEqual(arrays.c, doubles(column.cost for column in columns))
+        self.assertEqual(arrays.row_lower, doubles(row.lower for row in rows))
+        self.assertEqual(arrays.row_upper, doubles(row.upper for row in rows))
+        self.assertEqual(arrays.lower, doubles(column.lower for column in columns))
+        self.assertEqual(arrays.upper, doubles(column.upper for column in columns))
+        self.assertEqual([KINDS[kind] for kind in arrays.integrality], [column.kind for column in columns])
+        self.assertEqual(arrays.indptr[0], 0)
+        self.assertEqual(arrays.indptr[-1], len(arrays.data))
+        for j, column in enumerate(columns):
+            part = slice(arrays.indptr[j], arrays.indptr[j + 1])
+            found = [(arrays.row_names[row], value) for row, value in zip(arrays.indices[part], arrays.data[part])]
+            self.assertEqual(found, [(row, float(value)) for row, value in column.entries.items()])
+
+    def test_models(self):
+        for path in model_files(EXAMPLES) + [VECTORS / entry.input for entry in entries() if entry.answer == "model"]:
+            with self.subTest(path.name):
+                self.agrees(mpslp.load(path))
+
+    def test_each_double_is_the_nearest(self):
+        source = random.Random(3)
+        literals = [f"{source.choice(['', '-'])}{source.randrange(1, 10 ** source.randrange(1, 20))}e{source.randrange(-30, 30)}" for _ in range(5000)]
+        literals += [f"{sign}{mantissa}e{exponent}" for sign in ("", "-") for mantissa in (1, 3, 2**53 - 1, 2**53, 2**53 + 1, 2**64 - 1, 2**64 + 1)
+                     for exponent in (-500, -330, -324, -23, -22, -21, -1, 0, 1, 21, 22, 23, 290, 308, 400)]
+        columns = [mpslp.Column(f"x{number:06}", cost=Decimal(literal)) for number, literal in enumerate(literals)]
+        costs = mpslp.Model(columns=columns).arrays().c
+        for literal, cost in zip(literals, costs):
+            self.assertEqual((float(cost), math.copysign(1, cost)), (float(literal), math.copysign(1, float(literal))), literal)
+
+    def test_types_with_and_without_numpy(self):
+        with mock.patch.dict(sys.modules, numpy=None):
+            arrays = sample().arrays()
+        codes = {"c": "d", "indptr": "i", "indices": "i", "data": "d", "row_lower": "d", "row_upper": "d", "lower": "d", "upper": "d", "integrality": "b"}
+        for name, code in codes.items():
+            self.assertIs(type(getattr(arrays, name)), array)
+            self.assertEqual(getattr(arrays, name).typecode, code)
+        self.assertEqual(mpslp.from_arrays(arrays).columns["x"].cost, Decimal("3.5"))
+        try:
+            import numpy
+        except ImportError:
+            self.skipTest("there is no numpy")
+        others = sample().arrays()
+        for name, code in codes.items():
+            found = getattr(others, name)
+            self.assertIsInstance(found, numpy.ndarray)
+            self.assertEqual(found.dtype, numpy.dtype(code))
+            self.assertTrue(found.flags.writeable)
+            self.assertEqual(list(found), list(getattr(arrays, name)))
+        others.c[0] = 99  # they are the caller's
+        self.assertEqual(sample().arrays().c[0], 0)
+
+    def test_the_matrix_of_scipy(self):
+        try:
+            import scipy  # noqa: F401
+        except ImportError:
+            self.skipTest("there is no scipy")
+        model = sample()
+        matrix = model.arrays().matrix
+        self.assertEqual(matrix.shape, (5, 4))
+        for j, column in enumerate(model.columns.values()):
+            for i, row in enumerate(model.rows):
+                self.assertEqual(matrix[i, j], float(column.entries.get(row, 0)))
+        self.assertEqual(mpslp.load(b"min x\nend\n", "lp").arrays().matrix.shape, (0, 1))
+
+    def test_types_can_be_asked_for(self):
+        self.assertIs(typing.get_type_hints(mpslp.Model.arrays)["return"], mpslp.Arrays)
+
+
+class FromArrays(unittest.TestCase):
+    def test_models_whose_numbers_are_short(self):
+        for path in model_files(EXAMPLES):
+            model = mpslp.load(path)
+            with self.subTest(path.name):
+                self.assertEqual(mpslp.from_arrays(model.arrays()), model)
+                self.assertEqual(mpslp.from_arrays(plain(model.arrays())), model)
+
+    def test_another_order(self):
+        model = mpslp.from_arrays(mpslp.Arrays([1, 2], [0, 1, 3], [1, 1, 0], [5, 7, 6], [0, 1], [9, 9], row_names=["b", "a"], column_names=["y", "x"]))
+        self.assertEqual(list(model.rows), ["a", "b"])
+        self.assertEqual((model.columns["y"].cost, model.columns["y"].entries), (1, {"a": 5}))
+        self.assertEqual((model.columns["x"].cost, model.columns["x"].entries), (2, {"a": 7, "b": 6}))
+
+    def test_what_is_left_out(self):
+        count = 12
+        arrays = mpslp.Arrays(range(count), range(count + 1), [0] * count, [0.1] * count, [float("-inf")], [4])
+        model = mpslp.from_arrays(arrays)
+        self.assertEqual((list(model.rows), list(model.columns)), (["r0"], [f"x{number:02}" for number in range(count)]))
+        self.assertEqual([column.cost for column in model.columns.values()], list(range(count)))
+        self.assertEqual({(column.kind, column.lower, column.upper) for column in model.columns.values()}, {("continuous", 0, Decimal("Infinity"))})
+        self.assertEqual((model.sense, model.objective, model.constant), ("minimize", "obj", 0))
+        self.assertEqual(model.columns["x00"].entries, {"r0": Decimal("0.1")})
+
+    def test_arrays_that_are_wrong(self):
+        good = mpslp.Arrays([1, 2], [0, 1, 2], [0, 0], [5, 7], [0], [9], [0, 0], [1, 1], [0, 0], ["r"], ["x", "y"])
+        self.assertEqual(len(mpslp.from_arrays(good).columns), 2)
+        for changes, words in (
+            ({"c": [1]}, "one name"), ({"row_lower": [0, 0]}, "one name"), ({"row_upper": [9, 9]}, "differ in length"), ({"lower": [0]}, "differ in length"),
+            ({"upper": [1, 1, 1]}, "differ in length"), ({"integrality": [0]}, "differ in length"), ({"integrality": [0, 3]}, "integrality is 0, 1 or 2"),
+            ({"indptr": [0, 2]}, "compressed columns"), ({"indptr": [1, 1, 2]}, "compressed columns"), ({"indptr": [0, 1, 3]}, "compressed columns"),
+            ({"indptr": [0, 3, 2]}, "compressed columns"), ({"indices": [0]}, "compressed columns"), ({"data": [5]}, "compressed columns"),
+            ({"indices": [0, 1]}, "a row that is not there"), ({"indices": [-1, 0]}, "a row that is not there"), ({"indptr": [0, 0, 2]}, "column 'y' has two entries in one row"),
+            ({"data": [float("nan"), 1]}, "is no number"), ({"data": [float("inf"), 1]}, "is not finite"), ({"c": [float("inf"), 1]}, "is not finite"),
+            ({"row_names": ["r", "r"]}, "one name"), ({"column_names": ["x", "x"]}, "one name"), ({"column_names": ["x", "a b"]}, "is no name"),
+            ({"lower": [2, 0]}, "is above upper"), ({"integrality": [2, 0], "upper": [0, 1]}, "is semi-continuous"),
+            ({"sense": "max"}, "the sense 'max'"), ({"objective": "r"}, "the name of the objective"), ({"constant": float("nan")}, "is no number"),
+        ):
+            with self.subTest(words, changes=changes), self.assertRaisesRegex(ValueError, words):
+                mpslp.from_arrays(good._replace(**changes))
+
+
+if __name__ == "__main__":
+    unittest.main()

@@ -1,0 +1,101 @@
+"""The package as Python finds it: its version, names, help and types, and further interpreters."""
+
+import inspect
+import pickle
+import pydoc
+import subprocess
+import sys
+import typing
+import unittest
+from decimal import Decimal
+from fractions import Fraction
+from importlib import metadata
+
+import mpslp
+from repository import EXAMPLES, ROOT
+
+PUBLIC = [each for each in map(vars(mpslp).get, mpslp.__all__) if inspect.isclass(each) or inspect.isfunction(each)]
+
+IN_AN_INTERPRETER = """
+try:
+    import _interpreters as interpreters
+except ImportError:
+    import _xxsubinterpreters as interpreters
+import sys, threading
+sys.path[:0] = {path!r}
+import mpslp
+for _ in range(3):
+    each = interpreters.create()
+    failed = interpreters.run_string(each, '''
+import sys
+sys.path[:0] = {path!r}
+import mpslp
+assert mpslp.load({file!r}).rows["weight"].upper == 4.5
+try:
+    mpslp.canonical(b"", "lp")
+except mpslp.ModelFileError as error:
+    assert str(error) == "file: MissingEnd"
+else:
+    raise AssertionError
+''')
+    assert failed is None, failed
+    interpreters.destroy(each)
+print(mpslp.load({file!r}).objective)
+"""
+
+
+class Package(unittest.TestCase):
+    def test_version(self):
+        self.assertEqual(mpslp.__version__, (ROOT / "VERSION").read_text().strip())
+        self.assertEqual(mpslp.__version__, metadata.version("mpslp"))
+
+    def test_names_are_public(self):
+        self.assertGreater(len(PUBLIC), 5)
+        for each in PUBLIC:
+            with self.subTest(each):
+                self.assertEqual(each.__module__, "mpslp")
+                self.assertIs(pickle.loads(pickle.dumps(each)), each)
+                self.assertNotIn("mpslp._", repr(each))
+        self.assertEqual(repr(mpslp.Model), "<class 'mpslp.Model'>")
+        self.assertEqual(repr(mpslp.Row("r", 0, 1)), "mpslp.Row(name='r', lower=Decimal('0'), upper=Decimal('1'))")
+        self.assertEqual(eval(repr(mpslp.Row("r", 0))), mpslp.Row("r", 0))
+        self.assertEqual(eval(repr(mpslp.Column("x", entries={"r": 1}))), mpslp.Column("x", entries={"r": 1}))
+
+    def test_types_can_be_asked_for(self):
+        for each in PUBLIC:
+            with self.subTest(each):
+                self.assertIsInstance(typing.get_type_hints(each), dict)
+        self.assertEqual(typing.get_type_hints(mpslp.load)["return"], mpslp.Model)
+        self.assertEqual(typing.get_type_hints(mpslp.Row)["lower"], Decimal)
+
+    def test_help_has_the_fields(self):
+        for each, words in (
+            (mpslp.Row, ("The lower limit", "The upper limit", "nonzero coefficients of columns")),
+            (mpslp.Column, ("The lower bound", "'semi-continuous'", "coefficient in the objective", "nonzero coefficients in rows")),
+            (mpslp.Model, ("The name of the objective", "added to the objective", "The rows by name", "SHA-256")),
+            (mpslp.ModelFileError, ("kind\n", "line\n", "name\n", "place\n", "number\n", "which\n", "filename\n")),
+        ):
+            text = pydoc.render_doc(each, renderer=pydoc.plaintext)
+            for word in words:
+                with self.subTest(each, word=word):
+                    self.assertIn(word, text)
+
+    def test_fractions_of_all_numbers(self):
+        for number, wanted in ((3, Fraction(3)), (0.5, Fraction(1, 2)), (Fraction(1, 3), Fraction(1, 3)), (Decimal("1e500"), Fraction(10**500)),
+                               (float("inf"), None), (Decimal("-Infinity"), None), (10**400, Fraction(10**400))):
+            with self.subTest(number):
+                self.assertEqual(mpslp.fraction(number), wanted)
+
+    def test_formats_as_bytes_where_these_are_errors(self):
+        program = "import mpslp\ntry: mpslp.canonical(b'', b'mps')\nexcept ValueError as error: print(error)"
+        done = subprocess.run([sys.executable, "-bb", "-c", program], capture_output=True, text=True)
+        self.assertEqual((done.stdout, done.stderr), ("unknown format: b'mps' is neither 'mps' nor 'lp'\n", ""))
+
+    def test_further_interpreters(self):
+        program = IN_AN_INTERPRETER.format(path=sys.path, file=str(EXAMPLES / "semi.mps"))
+        done = subprocess.run([sys.executable, "-c", program], capture_output=True, text=True)
+        self.assertEqual((done.returncode, done.stdout, done.stderr), (0, "use\n", ""))
+
+
+if __name__ == "__main__":
+    unittest.main()
