@@ -153,16 +153,16 @@ def minutes(seconds: float) -> str:
 
 
 class Lane:
-    """A copy of the sources in which one crate is proved at a time."""
+    """A copy of all sources, in which one crate is proved at a time."""
 
-    def __init__(self, number: int, crates: list[Crate]):
+    def __init__(self, number: int, crates: dict[str, Crate]):
         self.folder = LANES / str(number)
         self.folder.mkdir(parents=True, exist_ok=True)
-        (self.folder / "crates.txt").write_text("".join(f"{crate.line}\n" for crate in crates))
-        shutil.copyfile(ROOT / "HANDLES", self.folder / "HANDLES")
-        for crate in crates:
+        for name in ("crates.txt", "HANDLES"):
+            shutil.copyfile(ROOT / name, self.folder / name)
+        for crate in crates.values():
             self.copy(crate)
-        for old in set(os.listdir(self.folder / "crates")) - {crate.name for crate in crates}:
+        for old in set(os.listdir(self.folder / "crates")) - set(crates):
             shutil.rmtree(self.folder / "crates" / old)
 
     def copy(self, crate: Crate) -> None:
@@ -216,12 +216,13 @@ class Runner:
 class Proof:
     """Proves the crates below the last one, and builds that one in the checkout."""
 
-    def __init__(self, crates: list[Crate], lanes: int):
-        self.crates, self.top = {crate.name: crate for crate in crates}, crates[-1]
+    def __init__(self, every: dict[str, Crate], top: str, lanes: int):
+        crates = below(every, top)
+        self.crates, self.top = {crate.name: crate for crate in crates}, every[top]
         self.sums = sums_of(crates)
         self.estimate = Estimate(crates)
         self.processors = len(os.sched_getaffinity(0))
-        self.lanes = [Lane(number, crates) for number in range(1, lanes + 1)]
+        self.lanes = [Lane(number, every) for number in range(1, lanes + 1)]
         self.runner = Runner()
         is_current = is_proved_and_built(crates)
         self.done = {it.name for it in crates if is_current or it is not self.top and is_marked(it, self.sums[it.name])}
@@ -317,7 +318,7 @@ def main() -> int:
     LOGS.mkdir(parents=True, exist_ok=True)
     signal.signal(signal.SIGTERM, lambda *_: (_ for _ in ()).throw(Interrupted()))
     begun = time.monotonic()
-    proof = Proof(below(crates, arguments.crate), arguments.lanes or default_lanes())
+    proof = Proof(crates, arguments.crate, arguments.lanes or default_lanes())
     if not proof.to_do:
         return 0
     left = proof.estimate.span(set(proof.to_do), len(proof.lanes))
