@@ -1,9 +1,10 @@
 /*
  * mpslp: one canonical text for each linear or mixed-integer model in an MPS or LP file.
  *
- * Each call of the library, which is each that is not inline, is proved to answer what is said here, for all bytes;
- * docs/C.md says what that rests on, and what a caller owes. In short: no pointer is null, even where a length is 0; what is written lies apart from all else that a call is
- * given; texts, models and faults begin as MPSLP_NO_TEXT, MPSLP_NO_MODEL and MPSLP_NO_FAULT. A call keeps no pointer, has
+ * Every function of the library (all that are not inline) is proved to behave as documented here, for every input;
+ * docs/C.md says what that rests on, and what a caller owes. In short: no pointer may be null,
+ * even if a length is 0; outputs must not overlap inputs or each other;
+ * texts, models and faults begin as MPSLP_NO_TEXT, MPSLP_NO_MODEL and MPSLP_NO_FAULT. A call keeps no pointer, has
  * no state, and may run in many threads at once, each with texts, models and faults of its own. It wants a stack of 256 KiB.
  * Texts may have any length for which there is memory: the limit of 1 GiB is the program's, and TooLong is none of the library's.
  */
@@ -71,7 +72,7 @@ typedef MPSLP_ENUM(mpslp_status) {
     MPSLP_DIFFERS = 1,        /* no */
     MPSLP_REFUSED = 2,        /* the text, or the first of two, declares no model; the fault is told */
     MPSLP_SECOND_REFUSED = 3, /* the first text declares a model and the second does not; its fault is told */
-    MPSLP_NOT_LP = 4,         /* the model has a name that LP cannot tell; its place is told */
+    MPSLP_NOT_LP = 4,         /* a name is not legal in LP; see place and number */
     MPSLP_OUT_OF_MEMORY = 5,  /* malloc or realloc gave none */
     MPSLP_UNKNOWN_FORMAT = 6  /* a format is neither MPSLP_MPS nor MPSLP_LP */
 } mpslp_status;
@@ -79,7 +80,7 @@ typedef MPSLP_ENUM(mpslp_status) {
 /* Places in a model. */
 typedef MPSLP_ENUM(mpslp_place) { MPSLP_NOWHERE = 0, MPSLP_AT_OBJECTIVE = 1, MPSLP_AT_ROW = 2, MPSLP_AT_COLUMN = 3 } mpslp_place;
 
-/* So many bytes, with no 0 behind them. A text that a call gave is the caller's, who gives it back by mpslp_free. */
+/* A byte string, not NUL-terminated. Release a returned text with mpslp_free. */
 typedef struct mpslp_text {
     const uint8_t *bytes; /* never null */
     size_t len;
@@ -104,7 +105,7 @@ typedef struct mpslp_fault {
  *
  * MPSLP_OK: `*out` is the text. MPSLP_REFUSED: the bytes declare no model, and `*fault` is their first fault.
  * MPSLP_NOT_LP: `to` is LP, and `*fault` tells where the first name stands that LP cannot tell. Or MPSLP_OUT_OF_MEMORY,
- * or MPSLP_UNKNOWN_FORMAT. What the status does not tell of stays as it was; an old text in `*out` is not freed.
+ * or MPSLP_UNKNOWN_FORMAT. Other outputs are left unchanged; a previous text in `*out` is not freed.
  */
 MPSLP_MUST_USE mpslp_status mpslp_canonical(mpslp_format from, mpslp_format to, const uint8_t *bytes, size_t len, mpslp_text *out, mpslp_fault *fault);
 
@@ -173,7 +174,7 @@ typedef MPSLP_ENUM(mpslp_kind) {
     MPSLP_SEMI_CONTINUOUS = 2 /* 0, and those within its bounds */
 } mpslp_kind;
 
-/* Which value of the objective is wanted: the least or the greatest. */
+/* Objective sense. */
 typedef MPSLP_ENUM(mpslp_sense) { MPSLP_MINIMIZE = 0, MPSLP_MAXIMIZE = 1 } mpslp_sense;
 
 /* The library was built with enumerations of 4 bytes; -fshort-enums makes others. */
@@ -246,14 +247,13 @@ typedef struct mpslp_model {
  * Gives the model that `len` bytes declare in the format `format`.
  *
  * MPSLP_OK: `*out` is the model, exactly. MPSLP_REFUSED: the bytes declare no model, and `*fault` is their first fault. Or
- * MPSLP_OUT_OF_MEMORY, or MPSLP_UNKNOWN_FORMAT. What the status does not tell of stays as it was; an old model in `*out` is
- * not freed.
+ * MPSLP_OUT_OF_MEMORY, or MPSLP_UNKNOWN_FORMAT. Other outputs are left unchanged; a previous model in `*out` is not freed.
  */
 MPSLP_MUST_USE mpslp_status mpslp_load(mpslp_format format, const uint8_t *bytes, size_t len, mpslp_model *out, mpslp_fault *fault);
 
 /*
- * What is asked of a model. The number of a row or a column is below their count, and that of an entry below the length of its
- * column: nothing checks it. A text that is answered lives as long as the model, and is not freed.
+ * Accessors. Row and column indices must be in range, and so must the index of an entry in its column: nothing checks them.
+ * A returned text is valid as long as the model, and is not freed.
  */
 
 /* Below 0, 0 or above: a name of a model against `len` bytes, in byte order. */
@@ -590,7 +590,7 @@ MPSLP_INLINE void mpslp_matrix(const mpslp_model *model, int32_t *starts, int32_
     }
 }
 
-/* ---- what is given back */
+/* ---- releasing memory */
 
 /* Frees a text that mpslp_canonical gave, and makes it MPSLP_NO_TEXT. A text of no bytes has nothing to free. */
 MPSLP_INLINE void mpslp_free(mpslp_text *text) {

@@ -64,7 +64,7 @@ const HELPS: [(&str, &str); 6] = [
     ),
     (
         "help same",
-        "Tells whether two model files declare the same model\n\nUsage: mpslp same <FROM> <PATH> <FROM> <PATH>\n",
+        "Compares two model files\n\nUsage: mpslp same <FROM> <PATH> <FROM> <PATH>\n",
     ),
     ("--version", "mpslp 0.1.0\n"),
 ];

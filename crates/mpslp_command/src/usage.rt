@@ -12,11 +12,11 @@ const STATUSES: &str = "\
 Formats: mps, lp. A PATH of - is standard input.
 
 Exit statuses:
-  0  done; the models are the same; help was asked for
+  0  success; the models are the same; help was requested
   1  the models are not the same
-  2  a file was refused: standard error has its line and the reason
-  3  wrong command line
-  4  a file does not open, or a read or a write failed
+  2  a file was rejected: standard error has the line number and the reason
+  3  usage error
+  4  a file cannot be opened, read or written
   5  out of memory
 
 Examples:
@@ -27,16 +27,17 @@ Examples:
 
 const CANON: &str = "\
 Two files of one model have the same canonical text, byte for byte; two models never do.
-Nothing is written before the whole file was accepted. A file that is refused is told on standard error,
-as 'line 7: DuplicateEntry'; a name that LP cannot tell as 'row 3: NotLp'.
+Nothing is written until the whole file has been accepted.
+Errors go to standard error, such as 'line 7: DuplicateEntry', or 'row 3: NotLp' for a name
+that is not legal in LP. man mpslp explains each kind.
 
 Examples:
   mpslp canon mps mps model.mps > canonical.mps
   gzip -dc model.mps.gz | mpslp canon mps lp - > model.lp";
 
 const SAME: &str = "\
-Prints 'same', and ends with 0, or prints 'not the same', and ends with 1. One PATH at most is -.
-A refused file is told on standard error, behind 'first: ' or 'second: '.
+Prints 'same' (exit status 0) or 'not the same' (1). At most one PATH may be -.
+Errors go to standard error, prefixed by 'first: ' or 'second: '.
 
 Example:
   mpslp same mps model.mps lp model.lp";
@@ -67,7 +68,7 @@ fn canon<'a>(alloc: Global) -> Result<Command<'a>, AllocError> {
 
 fn same<'a>(alloc: Global) -> Result<Command<'a>, AllocError> {
     Command::new(alloc, "same")
-        .about("Tells whether two model files declare the same model")
+        .about("Compares two model files")
         .after_help(SAME)
         .arg(argument(
             alloc,
@@ -97,7 +98,7 @@ fn same<'a>(alloc: Global) -> Result<Command<'a>, AllocError> {
 
 fn show<'a>(alloc: Global) -> Result<Command<'a>, AllocError> {
     Command::new(alloc, "show")
-        .about("Shows the model of a file, a line for each row, column and coefficient")
+        .about("Prints the model of a file, one line for each row, column and coefficient")
         .after_help(SHOW)
         .arg(argument(alloc, "from", "FROM", "The format of the file: mps or lp"))?
         .arg(argument(alloc, "path", "PATH", "The file, or - for standard input"))
