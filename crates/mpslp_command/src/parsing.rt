@@ -86,10 +86,11 @@ fn job_of(alloc: Global, matches: &ArgMatches<'_>) -> Result<Job, JobFault>
             path: word_at(alloc, words, "path")?,
         }),
         "same" => same_of(alloc, words),
-        _ => Ok(Job::Show {
+        "show" => Ok(Job::Show {
             from: form_at(alloc, words, "from")?,
             path: word_at(alloc, words, "path")?,
         }),
+        _ => Err(unlike(alloc)),
     }
 }
 

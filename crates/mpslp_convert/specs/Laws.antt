@@ -18,5 +18,7 @@ pub record Headline (declares_x : Declares) (unfit_x : Unfit) (text_x : TextOf) 
   pub no_other : (x : List ℕ) (m n : LinearModel) → declares_x x m → unfit m ≡ None → declares (text m) n → n ≡ m
   -- they canonicalise to themselves
   pub fixed : (x : List ℕ) (m n : LinearModel) → declares_x x m → unfit m ≡ None → declares (text m) n → text n ≡ text m
+  -- the format that x is in can tell the model that they declare
+  pub told_back : (x : List ℕ) (m n : LinearModel) → declares_x x m → unfit m ≡ None → declares (text m) n → unfit_x n ≡ None
   -- converting there and back keeps the model
   pub kept : (x : List ℕ) (m n : LinearModel) → declares_x x m → unfit m ≡ None → declares (text m) n → declares_x (text_x n) m

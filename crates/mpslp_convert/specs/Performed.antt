@@ -1,5 +1,5 @@
 -- What is done of a job, what is told of it, and the status that ends it.
-use Rattle.std.specs.Prelude.{◌≡◌, ℕ, List, [], ◌++◌, Bool, true, false, Option, None, Result, Ok, Err, Vec, codes, if◌then◌else◌}
+use Rattle.std.specs.Prelude.{◌≡◌, ℕ, ◌+◌, ◌≤◌, List, [], ◌++◌, length, Bool, true, false, Option, None, Result, Ok, Err, Vec, codes, if◌then◌else◌}
 use Rattle.std.specs.declared.alloc.Global.{Global}
 use Rattle.mpslp_types.specs.declared.faults.NameAt.{NameAt}
 use Rattle.mpslp_types.specs.declared.faults.WriteFault.{WriteFault}
@@ -85,14 +85,15 @@ refusal_status (refused.UnknownFormat word) = 3
 refusal_status refused.BothInputs = 3
 refusal_status refused.OutOfMemory = 5
 
--- A sink took the line, or its first bytes before it failed.
-abbrev pub IsTold : {E : Type 0} → (E → List ℕ → Type 0) → (E → Bool) → E → E → List ℕ → Type 0
-IsTold holds failed old new line = (answer : Result (Unit {0}) WriteFault) × IsTaken holds failed old new line answer
+-- A sink took the line, or its first bytes before it failed, in no more calls than the line has bytes.
+abbrev pub IsTold : {E : Type 0} → (E → List ℕ → Type 0) → (E → Bool) → (E → ℕ) → E → E → List ℕ → Type 0
+IsTold holds failed count old new line =
+    (answer : Result (Unit {0}) WriteFault) × IsTaken holds failed old new line answer × (count new ≤ count old + length line)
 
 -- The status of what was done, with nothing told; or the failure's, with its line told.
-abbrev pub IsEnded : {E : Type 0} → (E → List ℕ → Type 0) → (E → Bool) → E → E → Result ℕ Failure → ℕ → Type 0
-IsEnded holds failed old new (Ok do_job) status = (status ≡ do_job) × (new ≡ old)
-IsEnded holds failed old new (Err failure) status = (status ≡ status_of failure.fault) × IsTold holds failed old new (failure_line failure)
+abbrev pub IsEnded : {E : Type 0} → (E → List ℕ → Type 0) → (E → Bool) → (E → ℕ) → E → E → Result ℕ Failure → ℕ → Type 0
+IsEnded holds failed count old new (Ok do_job) status = (status ≡ do_job) × (new ≡ old)
+IsEnded holds failed count old new (Err failure) status = (status ≡ status_of failure.fault) × IsTold holds failed count old new (failure_line failure)
 
 -- A text was handed on, or the sink failed.
 abbrev pub IsPrinted : {W : Type 0} → (W → List ℕ → Type 0) → (W → Bool) → (W → ℕ) → W → W → List ℕ → Result (Unit {0}) RunFault → Type 0
@@ -178,23 +179,23 @@ IsDone holds failed count left source_failed left' source_failed' limit first fi
     × (second' ≡ second)
 
 -- Why words are no job was told: a text that was asked for is printed, and all else goes where faults go.
-abbrev pub IsRefused : {W E : Type 0} → (W → List ℕ → Type 0) → (W → Bool) → (W → ℕ) → (E → List ℕ → Type 0) → (E → Bool) → W → W → E → E → JobFault → ℕ → Type 0
-IsRefused holds failed count holds_err failed_err old new err err' (refused.Help text) status =
-    (answer : Result (Unit {0}) RunFault) × IsPrinted holds failed count old new text answer × IsEnded holds_err failed_err err err' (ended_by 0 answer) status
-IsRefused holds failed count holds_err failed_err old new err err' (refused.Usage text) status =
-    (status ≡ 3) × (new ≡ old) × IsTold holds_err failed_err err err' (refusal_line (refused.Usage text))
-IsRefused holds failed count holds_err failed_err old new err err' (refused.UnknownFormat word) status =
-    (status ≡ 3) × (new ≡ old) × IsTold holds_err failed_err err err' (refusal_line (refused.UnknownFormat word))
-IsRefused holds failed count holds_err failed_err old new err err' refused.BothInputs status =
-    (status ≡ 3) × (new ≡ old) × IsTold holds_err failed_err err err' (refusal_line refused.BothInputs)
-IsRefused holds failed count holds_err failed_err old new err err' refused.OutOfMemory status =
-    (status ≡ 5) × (new ≡ old) × IsTold holds_err failed_err err err' (refusal_line refused.OutOfMemory)
+abbrev pub IsRefused : {W E : Type 0} → (W → List ℕ → Type 0) → (W → Bool) → (W → ℕ) → (E → List ℕ → Type 0) → (E → Bool) → (E → ℕ) → W → W → E → E → JobFault → ℕ → Type 0
+IsRefused holds failed count holds_err failed_err count_err old new err err' (refused.Help text) status =
+    (answer : Result (Unit {0}) RunFault) × IsPrinted holds failed count old new text answer × IsEnded holds_err failed_err count_err err err' (ended_by (refusal_status (refused.Help text)) answer) status
+IsRefused holds failed count holds_err failed_err count_err old new err err' (refused.Usage text) status =
+    (status ≡ refusal_status (refused.Usage text)) × (new ≡ old) × IsTold holds_err failed_err count_err err err' (refusal_line (refused.Usage text))
+IsRefused holds failed count holds_err failed_err count_err old new err err' (refused.UnknownFormat word) status =
+    (status ≡ refusal_status (refused.UnknownFormat word)) × (new ≡ old) × IsTold holds_err failed_err count_err err err' (refusal_line (refused.UnknownFormat word))
+IsRefused holds failed count holds_err failed_err count_err old new err err' refused.BothInputs status =
+    (status ≡ refusal_status refused.BothInputs) × (new ≡ old) × IsTold holds_err failed_err count_err err err' (refusal_line refused.BothInputs)
+IsRefused holds failed count holds_err failed_err count_err old new err err' refused.OutOfMemory status =
+    (status ≡ refusal_status refused.OutOfMemory) × (new ≡ old) × IsTold holds_err failed_err count_err err err' (refusal_line refused.OutOfMemory)
 
 -- A job was done, or why there is none was told, and the status answered. Of words that are no job nothing is read.
-abbrev pub IsPerformed : {W E R S : Type 0} → (W → List ℕ → Type 0) → (W → Bool) → (W → ℕ) → (E → List ℕ → Type 0) → (E → Bool)
+abbrev pub IsPerformed : {W E R S : Type 0} → (W → List ℕ → Type 0) → (W → Bool) → (W → ℕ) → (E → List ℕ → Type 0) → (E → Bool) → (E → ℕ)
     → (R → Option (List ℕ)) → (R → Bool) → (S → Option (List ℕ)) → (S → Bool) → ℕ → R → R → S → S → W → W → E → E → Result Job JobFault → ℕ → Type 0
-IsPerformed holds failed count holds_err failed_err left source_failed left' source_failed' limit first first' second second' old new err err' (Ok job) status =
+IsPerformed holds failed count holds_err failed_err count_err left source_failed left' source_failed' limit first first' second second' old new err err' (Ok job) status =
     (do_job : Result ℕ Failure) × IsDone holds failed count left source_failed left' source_failed' limit first first' second second' old new job do_job
-    × IsEnded holds_err failed_err err err' do_job status
-IsPerformed holds failed count holds_err failed_err left source_failed left' source_failed' limit first first' second second' old new err err' (Err fault) status =
-    (first' ≡ first) × (second' ≡ second) × IsRefused holds failed count holds_err failed_err old new err err' fault status
+    × IsEnded holds_err failed_err count_err err err' do_job status
+IsPerformed holds failed count holds_err failed_err count_err left source_failed left' source_failed' limit first first' second second' old new err err' (Err fault) status =
+    (first' ≡ first) × (second' ≡ second) × IsRefused holds failed count holds_err failed_err count_err old new err err' fault status

@@ -21,6 +21,13 @@ IsLonger left limit = IfSome left (λ all. limit < length all)
 abbrev pub TakesAtMost : ℕ → Option (List ℕ) → Option (List ℕ) → Type 0
 TakesAtMost most old new = (taken : List ℕ) × (length taken ≤ most) × Consumes old new taken
 
+-- A source was read within the limit: for one byte beyond it at most, in as many calls at most; and once it has failed it stays
+-- failed.
+pub record ReadsWithin {R : Type 0} (left : R → Option (List ℕ)) (failed : R → Bool) (count : R → ℕ) (limit : ℕ) (old new : R) : Type 0 where
+  pub asked : TakesAtMost (limit + 1) (left old) (left new)
+  pub calls : count new ≤ count old + limit + 1
+  pub stays : failed old ≡ true → failed new ≡ true
+
 -- A source gave these bytes to its end, within the limit, and has not failed.
 pub record SourceGave (left left_now : Option (List ℕ)) (failed : Bool) (limit : ℕ) (bytes : List ℕ) : Type 0 where
   pub works : failed ≡ false

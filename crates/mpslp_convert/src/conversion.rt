@@ -12,8 +12,13 @@ use crate::faults::ConvertFault;
 use mpslp_model::{Format, Model, ReadFault, WriteFault};
 use std::alloc::Global;
 
-/// The model that the first text declares.
-fn read_first<A: Format>(alloc: Global, bytes: &[u8]) -> Result<Model, ConvertFault>
+/// The model that the bytes declare in A.
+///
+/// # Errors
+///
+/// [`First`](ConvertFault::First) with the first fault of bytes that declare no model;
+/// [`OutOfMemory`](ConvertFault::OutOfMemory) if memory was refused. The others are never returned.
+pub fn model_of<A: Format>(alloc: Global, bytes: &[u8]) -> Result<Model, ConvertFault>
     ensures { IsReadingOfFirst A.declares A.first_fault bytes.now result }
 {
     match A::read(alloc, bytes) {
@@ -24,8 +29,13 @@ fn read_first<A: Format>(alloc: Global, bytes: &[u8]) -> Result<Model, ConvertFa
     }
 }
 
-/// The text of a model in memory.
-fn text_of<B: Format>(alloc: Global, model: &Model) -> Result<Vec<u8>, ConvertFault>
+/// The canonical text in B of a model.
+///
+/// # Errors
+///
+/// [`NotLp`](ConvertFault::NotLp) with the first place of the model that B cannot tell;
+/// [`OutOfMemory`](ConvertFault::OutOfMemory) if memory was refused. The others are never returned.
+pub fn text_of<B: Format>(alloc: Global, model: &Model) -> Result<Vec<u8>, ConvertFault>
     ensures { IsText B.unfit B.text model.now result }
 {
     let mut sink = Collected::new(alloc);
@@ -54,7 +64,7 @@ pub fn canonical<A: Format, B: Format>(alloc: Global, bytes: &[u8]) -> Result<Ve
         → IsErrUnless result (ConvertFault.NotLp name_at) ConvertFault.OutOfMemory }
     ensures keeps { (m : LinearModel) → A.declares bytes.now m → IfOk result (λ out. B.declares out.items m) }
 {
-    let model = read_first::<A>(alloc, bytes)?;
+    let model = model_of::<A>(alloc, bytes)?;
     text_of::<B>(alloc, &model)
 }
 
@@ -79,7 +89,7 @@ pub fn same_model<A: Format, B: Format>(
     ensures refuses_second { (m : LinearModel) (fault : Fault) → A.declares first.now m → B.first_fault second.now fault
         → IsErrUnless result (ConvertFault.Second fault) ConvertFault.OutOfMemory }
 {
-    let one = read_first::<A>(alloc, first)?;
+    let one = model_of::<A>(alloc, first)?;
     match B::read(alloc, second) {
         Ok(other) => Ok(one.same(&other)),
         Err(ReadFault::File(fault)) => Err(ConvertFault::Second(fault)),
@@ -101,7 +111,7 @@ pub fn is_canonical<A: Format>(alloc: Global, bytes: &[u8]) -> Result<bool, Conv
     ensures refuses { (fault : Fault) → A.first_fault bytes.now fault
         → IsErrUnless result (ConvertFault.First fault) ConvertFault.OutOfMemory }
 {
-    let model = read_first::<A>(alloc, bytes)?;
+    let model = model_of::<A>(alloc, bytes)?;
     let mut comparison = Comparison::with(bytes);
     let Ok(()) = A::write(&model, &mut comparison) else {
         unreachable!()

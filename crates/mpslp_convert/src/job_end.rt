@@ -75,7 +75,8 @@ fn is_of_input(fault: &RunFault) -> bool
 
 /// Writes three pieces as one text, as far as the sink takes it, and does not flush.
 fn tell<E: Sink>(err: &mut E, front: &[u8], middle: &[u8], end: &[u8])
-    ensures { IsTold E.holds E.failed err.old err.new (front.now ++ middle.now ++ end.now) }
+    ensures answer { IsTold E.holds E.failed E.count err.old err.new (front.now ++ middle.now ++ end.now) }
+    ensures err_stays { E.failed err.old ≡ true → E.failed err.new ≡ true }
 {
     let mut buffer = Buffer::new();
     buffer.put(err, front);
@@ -86,7 +87,8 @@ fn tell<E: Sink>(err: &mut E, front: &[u8], middle: &[u8], end: &[u8])
 
 /// Tells the line of a failure.
 fn tell_failure<E: Sink>(failure: &Failure, err: &mut E)
-    ensures { IsTold E.holds E.failed err.old err.new (failure_line failure.now) }
+    ensures answer { IsTold E.holds E.failed E.count err.old err.new (failure_line failure.now) }
+    ensures err_stays { E.failed err.old ≡ true → E.failed err.new ≡ true }
 {
     let line = line_of(&failure.fault);
     let input = if is_of_input(&failure.fault) {
@@ -99,7 +101,8 @@ fn tell_failure<E: Sink>(failure: &Failure, err: &mut E)
 
 /// The exit status of a job that ended so. A failure is told.
 pub(crate) fn status_of_end<E: Sink>(end: &Result<u8, Failure>, err: &mut E) -> u8
-    ensures { IsEnded E.holds E.failed err.old err.new end.now result }
+    ensures answer { IsEnded E.holds E.failed E.count err.old err.new end.now result }
+    ensures err_stays { E.failed err.old ≡ true → E.failed err.new ≡ true }
 {
     match end {
         Ok(status) => *status,
@@ -112,7 +115,8 @@ pub(crate) fn status_of_end<E: Sink>(end: &Result<u8, Failure>, err: &mut E) -> 
 
 /// Writes a text to a sink, and flushes it once.
 pub(crate) fn print<W: Sink>(text: &[u8], out: &mut W) -> Result<(), RunFault>
-    ensures { IsPrinted W.holds W.failed W.count out.old out.new text.now result }
+    ensures answer { IsPrinted W.holds W.failed W.count out.old out.new text.now result }
+    ensures out_stays { W.failed out.old ≡ true → W.failed out.new ≡ true }
 {
     let mut written = 0;
     if put_all(out, &mut written, text).is_err() {
@@ -136,7 +140,9 @@ pub(crate) fn ended_by(status: u8, answer: Result<(), RunFault>) -> Result<u8, F
 
 /// Tells why there is no job, and answers the exit status.
 pub(crate) fn refuse<W: Sink, E: Sink>(fault: &JobFault, out: &mut W, err: &mut E) -> u8
-    ensures { IsRefused W.holds W.failed W.count E.holds E.failed out.old out.new err.old err.new fault.now result }
+    ensures answer { IsRefused W.holds W.failed W.count E.holds E.failed E.count out.old out.new err.old err.new fault.now result }
+    ensures out_stays { W.failed out.old ≡ true → W.failed out.new ≡ true }
+    ensures err_stays { E.failed err.old ≡ true → E.failed err.new ≡ true }
 {
     match fault {
         JobFault::Help(text) => {

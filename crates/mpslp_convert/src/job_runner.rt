@@ -1,6 +1,7 @@
 //! The jobs of a program, done between sources and sinks.
 
-ghost use Rattle.std.specs.Prelude.{◌≡◌, ◌+◌, ◌≤◌, None, true};
+ghost use Rattle.std.specs.Prelude.{◌≡◌, None, true};
+ghost use Rattle.mpslp_convert.specs.Runs.{ReadsWithin};
 ghost use Rattle.mpslp_convert.specs.ShownText.{shown_text};
 ghost use Rattle.mpslp_convert.specs.Performed.{declares_in, first_fault_in, unfit_in, text_in, IsRunDone, IsSaid, IsSecondDone, IsSameDone, IsDone, IsPerformed};
 
@@ -23,8 +24,10 @@ fn canon<R: Source, W: Sink>(
     source: &mut R,
     out: &mut W,
 ) -> Result<u8, Failure>
-    ensures { IsRunDone (declares_in from) (first_fault_in from) (unfit_in to) (text_in to) W.holds W.failed W.count
+    ensures answer { IsRunDone (declares_in from) (first_fault_in from) (unfit_in to) (text_in to) W.holds W.failed W.count
         (R.left source.old) (R.left source.new) (R.failed source.new) max_bytes out.old out.new result }
+    ensures source { ReadsWithin R.left R.failed R.count max_bytes source.old source.new }
+    ensures out_stays { W.failed out.old ≡ true → W.failed out.new ≡ true }
 {
     match (from, to) {
         (Form::Mps, Form::Mps) => ended_by(0, run::<Mps, Mps, R, W>(alloc, max_bytes, source, out)),
@@ -42,8 +45,10 @@ fn show_in<R: Source, W: Sink>(
     source: &mut R,
     out: &mut W,
 ) -> Result<u8, Failure>
-    ensures { IsRunDone (declares_in from) (first_fault_in from) (λ m. None) shown_text W.holds W.failed W.count
+    ensures answer { IsRunDone (declares_in from) (first_fault_in from) (λ m. None) shown_text W.holds W.failed W.count
         (R.left source.old) (R.left source.new) (R.failed source.new) max_bytes out.old out.new result }
+    ensures source { ReadsWithin R.left R.failed R.count max_bytes source.old source.new }
+    ensures out_stays { W.failed out.old ≡ true → W.failed out.new ≡ true }
 {
     match from {
         Form::Mps => ended_by(0, show::<Mps, R, W>(alloc, max_bytes, source, out)),
@@ -53,7 +58,8 @@ fn show_in<R: Source, W: Sink>(
 
 /// Prints what a comparison answered.
 fn say<W: Sink>(same: Result<bool, ConvertFault>, out: &mut W) -> Result<u8, Failure>
-    ensures { IsSaid W.holds W.failed W.count out.old out.new same result }
+    ensures answer { IsSaid W.holds W.failed W.count out.old out.new same result }
+    ensures out_stays { W.failed out.old ≡ true → W.failed out.new ≡ true }
 {
     match same {
         Ok(true) => ended_by(0, print(b"same\n", out)),
@@ -70,8 +76,11 @@ fn compare<A: Format, B: Format, R: Source, S: Source, W: Sink>(
     second: &mut S,
     out: &mut W,
 ) -> Result<u8, Failure>
-    ensures { IsSameDone A.declares A.first_fault B.declares B.first_fault W.holds W.failed W.count
+    ensures answer { IsSameDone A.declares A.first_fault B.declares B.first_fault W.holds W.failed W.count
         R.left R.failed S.left S.failed max_bytes first.old first.new second.old second.new out.old out.new result }
+    ensures first { ReadsWithin R.left R.failed R.count max_bytes first.old first.new }
+    ensures second { ReadsWithin S.left S.failed S.count max_bytes second.old second.new }
+    ensures out_stays { W.failed out.old ≡ true → W.failed out.new ≡ true }
 {
     let one = match load(alloc, max_bytes, first) {
         Ok(one) => one,
@@ -94,8 +103,11 @@ fn same<R: Source, S: Source, W: Sink>(
     second: &mut S,
     out: &mut W,
 ) -> Result<u8, Failure>
-    ensures { IsSameDone (declares_in first_form) (first_fault_in first_form) (declares_in second_form) (first_fault_in second_form) W.holds W.failed W.count
+    ensures answer { IsSameDone (declares_in first_form) (first_fault_in first_form) (declares_in second_form) (first_fault_in second_form) W.holds W.failed W.count
         R.left R.failed S.left S.failed max_bytes first.old first.new second.old second.new out.old out.new result }
+    ensures first { ReadsWithin R.left R.failed R.count max_bytes first.old first.new }
+    ensures second { ReadsWithin S.left S.failed S.count max_bytes second.old second.new }
+    ensures out_stays { W.failed out.old ≡ true → W.failed out.new ≡ true }
 {
     match (first_form, second_form) {
         (Form::Mps, Form::Mps) => compare::<Mps, Mps, R, S, W>(
@@ -116,7 +128,10 @@ fn do_job<R: Source, S: Source, W: Sink>(
     second: &mut S,
     out: &mut W,
 ) -> Result<u8, Failure>
-    ensures { IsDone W.holds W.failed W.count R.left R.failed S.left S.failed max_bytes first.old first.new second.old second.new out.old out.new job.now result }
+    ensures answer { IsDone W.holds W.failed W.count R.left R.failed S.left S.failed max_bytes first.old first.new second.old second.new out.old out.new job.now result }
+    ensures first { ReadsWithin R.left R.failed R.count max_bytes first.old first.new }
+    ensures second { ReadsWithin S.left S.failed S.count max_bytes second.old second.new }
+    ensures out_stays { W.failed out.old ≡ true → W.failed out.new ≡ true }
 {
     match job {
         Job::Canon { from, to, path: _ } => canon(alloc, max_bytes, *from, *to, first, out),
@@ -157,6 +172,9 @@ fn do_job<R: Source, S: Source, W: Sink>(
 /// Of two inputs `first: ` or `second: ` goes before the line of a fault that is one input's: a refused file, one that is
 /// too long, a read that failed. The second source is read by `same` alone, after the first was read to its end; of words that are no job neither is.
 /// A fault of `err` changes no status.
+///
+/// Each source is asked for at most `max_bytes + 1` bytes, in at most so many calls. `out` is called at most once for each byte of
+/// its text, and once to flush it; `err` at most once for each byte of its line. A device that has failed stays failed.
 pub fn perform<R: Source, S: Source, W: Sink, E: Sink>(
     alloc: Global,
     max_bytes: u64,
@@ -166,8 +184,12 @@ pub fn perform<R: Source, S: Source, W: Sink, E: Sink>(
     out: &mut W,
     err: &mut E,
 ) -> u8
-    ensures { IsPerformed W.holds W.failed W.count E.holds E.failed R.left R.failed S.left S.failed max_bytes
+    ensures answer { IsPerformed W.holds W.failed W.count E.holds E.failed E.count R.left R.failed S.left S.failed max_bytes
         first.old first.new second.old second.new out.old out.new err.old err.new job.now result }
+    ensures first { ReadsWithin R.left R.failed R.count max_bytes first.old first.new }
+    ensures second { ReadsWithin S.left S.failed S.count max_bytes second.old second.new }
+    ensures out_stays { W.failed out.old ≡ true → W.failed out.new ≡ true }
+    ensures err_stays { E.failed err.old ≡ true → E.failed err.new ≡ true }
 {
     match job {
         Ok(job) => {

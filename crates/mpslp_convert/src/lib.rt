@@ -21,7 +21,7 @@ mod shown_text;
 mod shown_words;
 mod source_to_sink;
 
-pub use conversion::{canonical, is_canonical, same_model};
+pub use conversion::{canonical, is_canonical, model_of, same_model, text_of};
 pub use fault_line::report;
 pub use faults::{ConvertFault, RunFault};
 pub use job_runner::perform;
