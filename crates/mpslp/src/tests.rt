@@ -1,5 +1,7 @@
 //! The program's jobs on files.
 
+mod command_line;
+
 use crate::inputs::perform_on_inputs;
 use mpslp_command::job;
 use mpslp_model::ToWrite;

@@ -8,6 +8,3 @@ mod parsing;
 mod usage;
 
 pub use parsing::job;
-
-#[cfg(test)]
-mod tests;

@@ -1,6 +1,6 @@
 //! Words, and the jobs that they ask for.
 
-use crate::job;
+use mpslp_command::job;
 use mpslp_jobs::{Form, Job, JobFault, Word};
 use std::alloc::{AllocError, Global};
 use std::test::Fail;
