@@ -3,7 +3,8 @@
 # Annotations are evaluated here: the classes say that they are of the package, whose names are fewer.
 
 import dataclasses
-from collections.abc import Iterable, Iterator, Mapping
+import re
+from collections.abc import Callable, Iterable, Iterator, Mapping
 from dataclasses import dataclass
 from decimal import Decimal
 from typing import TYPE_CHECKING, Any, Literal, TypeAlias
@@ -32,6 +33,7 @@ _SENSE_NUMBERS: dict[str, int] = {word: number for number, word in _SENSES.items
 _KIND_NUMBERS: dict[str, int] = {word: number for number, word in _KINDS.items()}
 
 _MOST_BYTES = 255
+_NAME = re.compile(f"[!-~]{{1,{_MOST_BYTES}}}")
 
 
 class _Part:
@@ -467,23 +469,22 @@ def _names_of(names: Iterable[str] | None, letter: str, count: int) -> list[str]
 def _check_name(name: str, what: str) -> None:
     if not isinstance(name, str):
         raise TypeError(f"the name of a {what} is a str, not {type(name).__name__}")
-    if not 0 < len(name) <= _MOST_BYTES or not all("!" <= letter <= "~" for letter in name) or name == "'MARKER'":
+    if not _NAME.fullmatch(name) or name == "'MARKER'":
         raise ValueError(f"{name!r} is no name of a {what}: it has 1 to {_MOST_BYTES} bytes from '!' to '~', and is not \"'MARKER'\"")
 
 
-def _given(about: str, what: str, make: Any, number: Number) -> Decimal:
+def _given(about: str, what: str, make: Callable[[Number], Decimal], number: Number, row: str = "") -> Decimal:
     """A number as a decimal, or the exception with what it is of."""
     try:
-        found: Decimal = make(number)
-        return found
+        return make(number)
     except (TypeError, ValueError) as error:
-        raise type(error)(f"{about}: {what}: {error}") from None
+        raise type(error)(f"{about}: {what}{row and ' '}{row}: {error}") from None
 
 
-def _finite(about: str, what: str, number: Number) -> Decimal:
-    found = _given(about, what, decimal_of, number)
+def _finite(about: str, what: str, number: Number, row: str = "") -> Decimal:
+    found = _given(about, what, decimal_of, number, row)
     if not found.is_finite():
-        raise ValueError(f"{about}: {what}: {number!r} is not finite")
+        raise ValueError(f"{about}: {what}{row and ' '}{row}: {number!r} is not finite")
     return found
 
 
@@ -507,7 +508,7 @@ def _entries(about: str, given: Mapping[str, Number]) -> Mapping[str, Decimal]:
     """The coefficients that are not 0."""
     for row in given:
         _check_name(row, "row")
-    values = ((row, _finite(about, f"entry {row!r}", number)) for row, number in given.items())
+    values = ((row, _finite(about, "entry in row", number, row)) for row, number in given.items())
     return Held((row, value) for row, value in values if value)
 
 

@@ -162,16 +162,15 @@ static PyObject *name_of(const mpslp_model *model, mpslp_name name) {
     return PyUnicode_FromStringAndSize((const char *)model->names.bytes + name.at, (Py_ssize_t)name.len);
 }
 
-/* A tuple of new objects, which are given away; null where one of them is. */
-static PyObject *tuple_of(Py_ssize_t len, PyObject **items) {
-    PyObject *made = PyTuple_New(len);
-    int is_whole = made != NULL;
-    for (Py_ssize_t i = 0; i < len; i++) {
-        if (items[i] == NULL) is_whole = 0;
-        else if (made == NULL || PyTuple_SetItem(made, i, items[i]) < 0) is_whole = 0;
-        if (made == NULL) Py_XDECREF(items[i]);
-    }
-    if (is_whole) return made;
+/* Puts a new object into a tuple that is being filled, which holds it from then on. Answers whether there was one. */
+static int put(PyObject *tuple, Py_ssize_t at, PyObject *item) { return item != NULL && PyTuple_SetItem(tuple, at, item) == 0; }
+
+/* The same for a list. */
+static int put_listed(PyObject *list, size_t at, PyObject *item) { return item != NULL && PyList_SetItem(list, (Py_ssize_t)at, item) == 0; }
+
+/* A list or a tuple, where it was filled; else null. No further object is made once one could not be. */
+static PyObject *filled(PyObject *made, int is_filled) {
+    if (is_filled) return made;
     Py_XDECREF(made);
     return NULL;
 }
@@ -246,14 +245,16 @@ static PyObject *arrays_compare(PyObject *self, PyObject *other, int operation) 
 
 static PyObject *arrays_counts(PyObject *self, PyObject *Py_UNUSED(none)) {
     const mpslp_model *model = model_of(self);
-    PyObject *items[] = { PyLong_FromSize_t(model->num_rows), PyLong_FromSize_t(model->num_columns), PyLong_FromSize_t(model->num_elements) };
-    return tuple_of(3, items);
+    PyObject *made = PyTuple_New(3);
+    return filled(made, made != NULL && put(made, 0, PyLong_FromSize_t(model->num_rows)) && put(made, 1, PyLong_FromSize_t(model->num_columns)) &&
+                            put(made, 2, PyLong_FromSize_t(model->num_elements)));
 }
 
 static PyObject *arrays_objective(PyObject *self, PyObject *Py_UNUSED(none)) {
     const mpslp_model *model = model_of(self);
-    PyObject *items[] = { PyLong_FromLong((long)model->sense), name_of(model, model->objective), decimal_of(state_at(self), &model->constant) };
-    return tuple_of(3, items);
+    PyObject *made = PyTuple_New(3);
+    return filled(made, made != NULL && put(made, 0, PyLong_FromLong((long)model->sense)) && put(made, 1, name_of(model, model->objective)) &&
+                            put(made, 2, decimal_of(state_at(self), &model->constant)));
 }
 
 /* Whether an object is a number below a count; else it raises. */
@@ -283,8 +284,9 @@ static PyObject *arrays_row(PyObject *self, PyObject *number) {
     if (!find_number(number, model->num_rows, &i)) return NULL;
     const mpslp_row *row = &model->rows[i];
     const state *held = state_at(self);
-    PyObject *items[] = { name_of(model, row->name), decimal_of(held, &row->lower), decimal_of(held, &row->upper) };
-    return tuple_of(3, items);
+    PyObject *made = PyTuple_New(3);
+    return filled(made, made != NULL && put(made, 0, name_of(model, row->name)) && put(made, 1, decimal_of(held, &row->lower)) &&
+                            put(made, 2, decimal_of(held, &row->upper)));
 }
 
 static PyObject *arrays_column(PyObject *self, PyObject *number) {
@@ -293,9 +295,10 @@ static PyObject *arrays_column(PyObject *self, PyObject *number) {
     if (!find_number(number, model->num_columns, &j)) return NULL;
     const mpslp_column *column = &model->columns[j];
     const state *held = state_at(self);
-    PyObject *items[] = { name_of(model, column->name), PyLong_FromLong((long)column->kind), decimal_of(held, &column->lower),
-                          decimal_of(held, &column->upper), decimal_of(held, &column->cost) };
-    return tuple_of(5, items);
+    PyObject *made = PyTuple_New(5);
+    return filled(made, made != NULL && put(made, 0, name_of(model, column->name)) && put(made, 1, PyLong_FromLong((long)column->kind)) &&
+                            put(made, 2, decimal_of(held, &column->lower)) && put(made, 3, decimal_of(held, &column->upper)) &&
+                            put(made, 4, decimal_of(held, &column->cost)));
 }
 
 /* The number of what has a name, or None: also for what is no text, or cannot be a name. */
@@ -338,18 +341,8 @@ static PyObject *arrays_entry(PyObject *self, PyObject *arguments) {
 
 /* A name and a coefficient. */
 static PyObject *entry_of(PyObject *self, mpslp_name name, const mpslp_number *value) {
-    PyObject *items[] = { name_of(model_of(self), name), decimal_of(state_at(self), value) };
-    return tuple_of(2, items);
-}
-
-/* Puts a new object into a list that has room for it. Answers whether there was one. */
-static int put(PyObject *list, size_t at, PyObject *item) { return item != NULL && PyList_SetItem(list, (Py_ssize_t)at, item) == 0; }
-
-/* A list, where it was filled; else null. */
-static PyObject *filled(PyObject *made, int is_filled) {
-    if (is_filled) return made;
-    Py_XDECREF(made);
-    return NULL;
+    PyObject *made = PyTuple_New(2);
+    return filled(made, made != NULL && put(made, 0, name_of(model_of(self), name)) && put(made, 1, decimal_of(state_at(self), value)));
 }
 
 static PyObject *arrays_column_len(PyObject *self, PyObject *number) {
@@ -367,7 +360,7 @@ static PyObject *arrays_column_entries(PyObject *self, PyObject *number) {
     int is_filled = made != NULL;
     for (size_t k = 0; is_filled && k < len; k++) {
         const mpslp_element *element = &model->elements[first + k];
-        is_filled = put(made, k, entry_of(self, model->rows[element->row].name, &element->value));
+        is_filled = put_listed(made, k, entry_of(self, model->rows[element->row].name, &element->value));
     }
     return filled(made, is_filled);
 }
@@ -439,55 +432,67 @@ static PyObject *arrays_row_entries(PyObject *self, PyObject *number) {
     for (size_t k = 0; is_filled && k < len; k++) {
         size_t element = held->row_elements[first + k];
         mpslp_name name = model->columns[column_of_element(model, element)].name;
-        is_filled = put(made, k, entry_of(self, name, &model->elements[element].value));
+        is_filled = put_listed(made, k, entry_of(self, name, &model->elements[element].value));
     }
     return filled(made, is_filled);
 }
 
-/* Room for so many items, to be written without the interpreter's lock: nothing else has the object yet. */
-static PyObject *room_for(size_t count, size_t size) { return PyByteArray_FromStringAndSize(NULL, (Py_ssize_t)(count * size)); }
-
 enum { COSTS, STARTS, ROWS, VALUES, ROW_LOWER, ROW_UPPER, LOWER, UPPER, KINDS, PARTS };
 
-static PyObject *arrays_doubles(PyObject *self, PyObject *Py_UNUSED(none)) {
-    const mpslp_model *model = model_of(self);
-    const size_t rows = model->num_rows, columns = model->num_columns, elements = model->num_elements;
-    if (!mpslp_fits_int32(model)) {
-        PyErr_SetString(PyExc_OverflowError, "the model has more parts than an index of 32 bits");
-        return NULL;
-    }
-    PyObject *parts[PARTS] = {
-        [COSTS] = room_for(columns, sizeof(double)),     [STARTS] = room_for(columns + 1, sizeof(int32_t)),
-        [ROWS] = room_for(elements, sizeof(int32_t)),    [VALUES] = room_for(elements, sizeof(double)),
-        [ROW_LOWER] = room_for(rows, sizeof(double)),    [ROW_UPPER] = room_for(rows, sizeof(double)),
-        [LOWER] = room_for(columns, sizeof(double)),     [UPPER] = room_for(columns, sizeof(double)),
-        [KINDS] = room_for(columns, sizeof(int8_t)),
-    };
-    void *at[PARTS];
-    for (int part = 0; part < PARTS; part++) {
-        if (parts[part] == NULL) return tuple_of(PARTS, parts);
-        at[part] = PyByteArray_AsString(parts[part]);
-    }
-    Py_BEGIN_ALLOW_THREADS
+/* Writes the numbers of a model into memory that has room for them. */
+static void write_doubles(const mpslp_model *model, void *at[PARTS]) {
     mpslp_costs(model, at[COSTS]);
     mpslp_matrix(model, at[STARTS], at[ROWS], at[VALUES]);
     mpslp_row_limits(model, at[ROW_LOWER], at[ROW_UPPER]);
     mpslp_column_bounds(model, at[LOWER], at[UPPER]);
-    for (size_t j = 0; j < columns; j++) ((int8_t *)at[KINDS])[j] = (int8_t)model->columns[j].kind;
+    for (size_t j = 0; j < model->num_columns; j++) ((int8_t *)at[KINDS])[j] = (int8_t)model->columns[j].kind;
+}
+
+static PyObject *arrays_doubles(PyObject *self, PyObject *Py_UNUSED(none)) {
+    const mpslp_model *model = model_of(self);
+    const size_t rows = model->num_rows, columns = model->num_columns, elements = model->num_elements;
+    const size_t sizes[PARTS] = {
+        [COSTS] = columns * sizeof(double),  [STARTS] = (columns + 1) * sizeof(int32_t), [ROWS] = elements * sizeof(int32_t),
+        [VALUES] = elements * sizeof(double), [ROW_LOWER] = rows * sizeof(double),       [ROW_UPPER] = rows * sizeof(double),
+        [LOWER] = columns * sizeof(double),  [UPPER] = columns * sizeof(double),         [KINDS] = columns * sizeof(int8_t),
+    };
+    void *at[PARTS];
+    PyObject *made;
+    if (!mpslp_fits_int32(model)) {
+        PyErr_SetString(PyExc_OverflowError, "the model has more parts than an index of 32 bits");
+        return NULL;
+    }
+    made = PyTuple_New(PARTS);
+    if (made == NULL) return NULL;
+    for (Py_ssize_t part = 0; part < PARTS; part++) {
+        /* It grows to its size, since CPython forgets to say that one without memory has no views. */
+        PyObject *room = PyByteArray_FromStringAndSize(NULL, 0);
+        if (!put(made, part, room) || PyByteArray_Resize(room, (Py_ssize_t)sizes[part]) < 0) return filled(made, 0);
+        at[part] = PyByteArray_AsString(room);
+    }
+    /* Nothing else has these objects yet. */
+    Py_BEGIN_ALLOW_THREADS
+    write_doubles(model, at);
     Py_END_ALLOW_THREADS
-    return tuple_of(PARTS, parts);
+    return made;
+}
+
+/* The names of so many rows or columns, of which `name_at` has the name of one. */
+static PyObject *names_of(const mpslp_model *model, size_t count, mpslp_text (*name_at)(const mpslp_model *, size_t)) {
+    PyObject *made = PyList_New((Py_ssize_t)count);
+    int is_filled = made != NULL;
+    for (size_t i = 0; is_filled && i < count; i++) {
+        mpslp_text name = name_at(model, i);
+        is_filled = put_listed(made, i, PyUnicode_FromStringAndSize((const char *)name.bytes, (Py_ssize_t)name.len));
+    }
+    return filled(made, is_filled);
 }
 
 static PyObject *arrays_names(PyObject *self, PyObject *Py_UNUSED(none)) {
     const mpslp_model *model = model_of(self);
-    PyObject *items[] = { PyList_New((Py_ssize_t)model->num_rows), PyList_New((Py_ssize_t)model->num_columns) };
-    int is_filled = items[0] != NULL && items[1] != NULL;
-    for (size_t i = 0; is_filled && i < model->num_rows; i++) is_filled = put(items[0], i, name_of(model, model->rows[i].name));
-    for (size_t j = 0; is_filled && j < model->num_columns; j++) is_filled = put(items[1], j, name_of(model, model->columns[j].name));
-    if (is_filled) return tuple_of(2, items);
-    Py_XDECREF(items[0]);
-    Py_XDECREF(items[1]);
-    return NULL;
+    PyObject *made = PyTuple_New(2);
+    return filled(made, made != NULL && put(made, 0, names_of(model, model->num_rows, mpslp_row_name)) &&
+                            put(made, 1, names_of(model, model->num_columns, mpslp_column_name)));
 }
 
 static PyMethodDef arrays_methods[] = {
