@@ -1,11 +1,11 @@
 -- A text is cut into fields from its front.
-use Rattle.std.proofs.Common.{◌≡◌, refl, sym, ap, subst, ◌∙◌, ℕ, suc, ◌+◌, ◌-◌, ◌<◌, List, [], ◌∷◌, ◌++◌, map, length, take, drop, Bool, true, false, cond, arith, append_assoc, Bor}
-use Rattle.std.specs.Prelude.{Some, None, filter, nat_lt, not}
-use Rattle.std.specs.List.{slice_split, position, position_or_len}
+use Rattle.std.proofs.Common.{◌≡◌, refl, sym, ap, subst, ◌∙◌, ℕ, suc, ◌+◌, ◌-◌, ◌<◌, ◌≤◌, List, [], ◌∷◌, ◌++◌, map, length, take, drop, Bool, true, false, arith, append_assoc, Bor}
+use Rattle.std.specs.Prelude.{filter, nat_lt, not, ◌||◌, ◌==◌, codes, slice_index}
+use Rattle.std.specs.List.{slice_split, position_or_len}
 use Rattle.std.proofs.lemmas.Bool.{lt-ltb}
-use Rattle.std.proofs.lemmas.Bool.Decides.{nat_tests}
-use Rattle.std.proofs.lemmas.List.Sums.{prefix_len-le-length}
+use Rattle.std.proofs.lemmas.List.Sums.{position_or_len_is}
 use Rattle.std.proofs.lemmas.List.{map-append}
+use Rattle.bstr.specs.Bytes.{is_in, not_in}
 use Rattle.mpslp_mps.specs.Line.{Fields, is_blank, fields}
 
 abbrev has_bytes : List ℕ → Bool
@@ -72,12 +72,47 @@ fields-cut (b ∷ w) h some =
 
 -- ---- the steps of the code
 
-pub position-none : {X : Type 0} (p : X → Bool) (xs : List X) → position p xs ≡ None → length xs ≡ position_or_len p xs
-position-none p xs h = by (nat_lt (position_or_len p xs) (length xs)) refl h
+-- the set that is searched for is that of blanks
+in-blanks : (byte : ℕ) → is_in (codes " \t") byte ≡ is_blank byte
+unfolding is_in
+in-blanks byte = by (byte == 32) (byte == 9)
   where
-    by : (b : Bool) → nat_lt (position_or_len p xs) (length xs) ≡ b → cond b (Some (position_or_len p xs)) None ≡ None → length xs ≡ position_or_len p xs
-    by true e k = cc
-    by false e k = let within = prefix_len-le-length (λ x. not (p x)) xs in grind (arith, nat_tests)
+    by : (space tab : Bool) → (space || (tab || false)) ≡ (space || tab)
+    by true tab = refl
+    by false true = refl
+    by false false = refl
+
+no-pass : (b : Bool) → (b ≡ true → ⊥) → b ≡ false
+no-pass true h = absurd (h refl)
+no-pass false h = refl
+
+-- no byte before this place passes the test
+abbrev NonePasses : (ℕ → Bool) → List ℕ → ℕ → Type 0
+NonePasses test text at = (k : ℕ) → 0 ≤ k → k < at → test (slice_index text k) ≡ true → ⊥
+
+-- the first place whose byte passes one test is the first one of another test that is the same
+first-place : (test p : ℕ → Bool) → ((byte : ℕ) → test byte ≡ p byte) → (text : List ℕ) (at : ℕ) → at < length text → NonePasses test text at → test (slice_index text at) ≡ true
+    → at ≡ position_or_len p text
+first-place test p same text at within none here =
+    sym (position_or_len_is p text at 0 (omega (arith, within)) (λ k below. sym (same (slice_index text k)) ∙ no-pass (test (slice_index text k)) (none k (omega arith) below))
+    (λ _. sym (same (slice_index text at)) ∙ here))
+
+no-place : (test p : ℕ → Bool) → ((byte : ℕ) → test byte ≡ p byte) → (text : List ℕ) → NonePasses test text (length text) → length text ≡ position_or_len p text
+no-place test p same text none =
+    sym (position_or_len_is p text (length text) 0 (omega arith) (λ k below. sym (same (slice_index text k)) ∙ no-pass (test (slice_index text k)) (none k (omega arith) below))
+    (λ within. absurd (omega (arith, within))))
+
+pub first-blank : (text : List ℕ) (at : ℕ) → at < length text → NonePasses (is_in (codes " \t")) text at → is_in (codes " \t") (slice_index text at) ≡ true → at ≡ position_or_len is_blank text
+first-blank text at within none here = first-place (is_in (codes " \t")) is_blank in-blanks text at within none here
+
+pub no-blank : (text : List ℕ) → NonePasses (is_in (codes " \t")) text (length text) → length text ≡ position_or_len is_blank text
+no-blank text none = no-place (is_in (codes " \t")) is_blank in-blanks text none
+
+pub first-solid : (text : List ℕ) (at : ℕ) → at < length text → NonePasses (not_in (codes " \t")) text at → not_in (codes " \t") (slice_index text at) ≡ true → at ≡ position_or_len is_solid text
+first-solid text at within none here = first-place (not_in (codes " \t")) is_solid (λ byte. ap not (in-blanks byte)) text at within none here
+
+pub no-solid : (text : List ℕ) → NonePasses (not_in (codes " \t")) text (length text) → length text ≡ position_or_len is_solid text
+no-solid text none = no-place (not_in (codes " \t")) is_solid (λ byte. ap not (in-blanks byte)) text none
 
 pub no-fields : (w from : List ℕ) → from ≡ drop (position_or_len is_solid w) w → length from ≡ 0 → fields w ≡ []
 no-fields w [] e h = sym (fields-after_blanks w) ∙ ap fields (sym e)

@@ -1,35 +1,21 @@
 //! The fields of a line.
 
 ghost use Rattle.std.specs.Prelude.{◌≡◌, ◌≤◌, [], ◌∷◌, map, take, drop, length, not, MatchOption};
-ghost use Rattle.std.specs.List.{position, position_or_len};
+ghost use Rattle.std.specs.List.{position_or_len};
 ghost use Rattle.mpslp_mps.specs.Line.{is_blank, fields};
 
-use crate::line::is_blank;
 use arrayvec::ArrayVec;
+use bstr::ByteSlice;
 
 /// One field more than a data line of any shape has.
 pub(crate) const FRONT_LEN: usize = 6;
-
-/// Where the first byte other than a blank or tab stands.
-fn first_solid(text: &[u8]) -> Option<usize>
-    ensures { result ≡ position (λ byte. not (is_blank byte)) text.now }
-{
-    text.iter().position(|byte| !is_blank(*byte))
-}
-
-/// Where the first blank or tab stands.
-fn first_blank(text: &[u8]) -> Option<usize>
-    ensures { result ≡ position is_blank text.now }
-{
-    text.iter().position(|byte| is_blank(*byte))
-}
 
 /// How many blanks and tabs a text begins with.
 fn blanks_len(text: &[u8]) -> usize
     ensures len { result ≡ position_or_len (λ byte. not (is_blank byte)) text.now }
     ensures within { result ≤ length text.now }
 {
-    match first_solid(text) {
+    match text.find_not_byteset(b" \t") {
         Some(at) => at,
         None => text.len(),
     }
@@ -40,7 +26,7 @@ fn field_len(text: &[u8]) -> usize
     ensures len { result ≡ position_or_len is_blank text.now }
     ensures within { result ≤ length text.now }
 {
-    match first_blank(text) {
+    match text.find_byteset(b" \t") {
         Some(at) => at,
         None => text.len(),
     }

@@ -1,6 +1,10 @@
-use Rattle.std.proofs.Common.{◌∙◌, sym}
-use Rattle.mpslp_mps.proofs.FieldsLemmas.{position-none}
+use Rattle.mpslp_mps.proofs.FieldsLemmas.{first-blank, no-blank}
 use Rattle.mpslp_mps.proofs.fields.field_len.Goals as goal
 
+pub returns-in-Some-clause-len : goal.returns-in-Some-clause-len
+returns-in-Some-clause-len c =
+    let found = c.in-Some.ensures in
+    first-blank c.args.text.now c.in-Some.at found.0.high found.0.before found.1
+
 pub returns-in-None-clause-len : goal.returns-in-None-clause-len
-returns-in-None-clause-len c = position-none _ c.args.text.now (sym c.first_blank.ensures ∙ c.in-None.is)
+returns-in-None-clause-len c = no-blank c.args.text.now c.in-None.ensures
