@@ -3,8 +3,7 @@ use Rattle.std.proofs.Common.{◌≡◌, refl, sym, ap, ◌∙◌, Bool, true, f
 use Rattle.std.specs.Prelude.{Option, Some, None, unwrap_or, ◌&&◌, not, if◌then◌else◌}
 use Rattle.std.specs.Option.{option_map_or}
 use Rattle.std.specs.Cmp.{first_so, second_so}
-use Rattle.std.specs.Ordering.{is_eq}
-use Rattle.mpslp_decimal.specs.Decimal.{Number, IsDecimal, is_decimal, is_zero, zero_number, is_infinite_size, size_of, sum_of, difference_of, decimal_cmp}
+use Rattle.mpslp_decimal.specs.Decimal.{Number, IsDecimal, is_decimal, is_zero, zero_number, is_infinite_size, size_of, sum_of, difference_of, have_same_value}
 use Rattle.mpslp_types.specs.Limit.{limit_of, are_sides, is_at_most, is_bounded_decimal, has_bounded_distance}
 use Rattle.mpslp_model_core.specs.Limits.{sides, limits_of, plain_limits}
 use Rattle.mpslp_builder.specs.Declaration.{by_type}
@@ -14,9 +13,6 @@ use Rattle.mpslp_types.specs.declared.kinds.RowType.{RowType}
 use Rattle.mpslp_types.specs.declared.kinds.RowType.TheVariants.{Free, AtMost, AtLeast, Equal}
 use Rattle.mpslp_decimal.proofs.ScaleLemmas.{sum-difference}
 use Rattle.mpslp_decimal.proofs.OrderLemmas.{same_decimal, difference_size}
-
-abbrev pub have_same_value : Number → Number → Bool
-have_same_value a b = is_eq (decimal_cmp a b)
 
 abbrev pub printed_type : Limit → Limit → RowType
 printed_type (Finite a) (Finite b) = if have_same_value a b then Equal else AtLeast

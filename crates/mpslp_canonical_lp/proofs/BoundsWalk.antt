@@ -3,7 +3,7 @@ use Rattle.std.proofs.Common.{◌≡◌, refl, sym, ap, subst, ◌∙◌, ℕ, L
 use Rattle.std.specs.Prelude.{Some, None, ◌||◌, codes, if◌then◌else◌, is_some}
 use Rattle.std.specs.List.{flat_map}
 use Rattle.std.proofs.lemmas.List.{append-nil}
-use Rattle.mpslp_decimal.specs.Decimal.{Number as Decimal, is_zero, is_negative, size_of}
+use Rattle.mpslp_decimal.specs.Decimal.{Number as Decimal, is_zero, is_negative, size_of, have_same_value}
 use Rattle.mpslp_model_core.specs.Model.{Column}
 use Rattle.mpslp_types.specs.Limit.{limit_of}
 use Rattle.mpslp_builder.specs.Declaration.{Draft, Declarations, declare_column, bounds_declared, with_declarations}
@@ -22,7 +22,7 @@ use Rattle.mpslp_lp.specs.Bounds.{no_limits}
 use Rattle.mpslp_lp.specs.declared.relations.Relation.{Relation}
 use Rattle.mpslp_lp.specs.declared.relations.Relation.TheVariants.{AtMost, AtLeast, EqualTo}
 use Rattle.mpslp_canonical_lp.specs.Printed.{Lexeme, word, number, sense, minus_infinity}
-use Rattle.mpslp_canonical_lp.specs.CanonicalLp.{have_same_value, bound_lexemes, line_of_some, bound_lines}
+use Rattle.mpslp_canonical_lp.specs.CanonicalLp.{bound_lexemes, line_of_some, bound_lines}
 use Rattle.mpslp_canonical_lp.proofs.LexemeLemmas.{IsGoodName}
 use Rattle.mpslp_canonical_lp.proofs.PrintableLemmas.{IsFitColumn}
 use Rattle.mpslp_canonical_lp.proofs.TerminalLemmas.{at, terminals_in, all_terminals, mapped-append, signed-value}

@@ -11,7 +11,7 @@ use Rattle.mpslp_lp.specs.Rules.{Outcome}
 use Rattle.mpslp_lp.specs.Rules.Outcome.{Finished}
 use Rattle.mpslp_lp.specs.Grammar.{text_says, text_declares}
 use Rattle.mpslp_lp.specs.LpText.{numbered_lines, first_own_fault, or_else, outcome, is_finished, declarations_of, DeclaresLp}
-use Rattle.mpslp_canonical_lp.specs.Listing.{listing_of}
+use Rattle.mpslp_model_core.specs.Listing.{listing_of}
 use Rattle.mpslp_canonical_lp.specs.CanonicalLp.{row_terms, canonical_lp}
 use Rattle.mpslp_canonical_lp.specs.Unfit.{unfit}
 use Rattle.mpslp_canonical_lp.proofs.PrintableLemmas.{fit-from_sound}

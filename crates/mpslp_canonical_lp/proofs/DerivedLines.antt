@@ -4,7 +4,7 @@ use Rattle.std.specs.Prelude.{Some, None, codes, if◌then◌else◌}
 use Rattle.std.specs.List.{flat_map}
 use Rattle.std.specs.Cmp.{first_so, second_so}
 use Rattle.std.proofs.lemmas.List.{append-nil}
-use Rattle.mpslp_decimal.specs.Decimal.{Number, is_decimal, is_zero}
+use Rattle.mpslp_decimal.specs.Decimal.{Number, is_decimal, is_zero, have_same_value}
 use Rattle.mpslp_decimal.proofs.OrderLemmas.{same_decimal}
 use Rattle.mpslp_decimal.proofs.CutLemmas.{Each, Each-weaker}
 use Rattle.mpslp_types.specs.Name.{is_lp_name}
@@ -24,7 +24,7 @@ use Rattle.mpslp_lp.specs.Sides.{limits_by}
 use Rattle.mpslp_lp.specs.declared.relations.Relation.TheVariants.{AtLeast, EqualTo}
 use Rattle.mpslp_lp.specs.declared.states.Place.TheVariants.{BeforeItems, InObjective, BetweenRows, InBounds}
 use Rattle.mpslp_canonical_lp.specs.Printed.{PrintedLine, word, semi_continuous}
-use Rattle.mpslp_canonical_lp.specs.CanonicalLp.{Lines, Term, heading, label_line, sense_word, term_line, constant_lines, row_terms, row_lines, have_same_value, bound_lines, name_line, semi_heading}
+use Rattle.mpslp_canonical_lp.specs.CanonicalLp.{Lines, Term, heading, label_line, sense_word, term_line, constant_lines, row_terms, row_lines, bound_lines, name_line, semi_heading}
 use Rattle.mpslp_canonical_lp.specs.PrintedDeclarations.{point_at, terminals_at, AreDerived, AreDerivedAt, is_legal_term, after_objective, rows_heading, constant_declared, DeriveObjectives, AreLegalTerms, row_and_terms, DeriveRows, column_and_bounds, DeriveBounds, DeriveAllKinds, end_heading, DeriveAllHeadings}
 use Rattle.mpslp_canonical_lp.proofs.LexemeLemmas.{IsGoodName}
 use Rattle.mpslp_canonical_lp.proofs.LineLemmas.{line-terminals}

@@ -2,7 +2,7 @@
 use Rattle.std.proofs.Common.{◌≡◌, refl, ℕ, List, [], ◌∷◌, ◌++◌, Bool, true, false}
 use Rattle.std.specs.Prelude.{Option, Some, None, filter, unwrap_or, if◌then◌else◌}
 use Rattle.std.specs.List.{list_any, flat_map}
-use Rattle.mpslp_decimal.specs.Decimal.{Number, is_zero}
+use Rattle.mpslp_decimal.specs.Decimal.{Number, is_zero, have_same_value}
 use Rattle.mpslp_types.specs.Limit.{limit_of}
 use Rattle.mpslp_types.specs.declared.kinds.Sense.{Sense}
 use Rattle.mpslp_types.specs.declared.kinds.Limit.{Limit}
@@ -15,8 +15,8 @@ use Rattle.mpslp_lp.specs.Sides.{limits_by}
 use Rattle.mpslp_lp.specs.Rows.{row_limits}
 use Rattle.mpslp_lp.specs.declared.relations.Relation.{Relation}
 use Rattle.mpslp_lp.specs.declared.relations.Relation.TheVariants.{AtLeast, EqualTo}
-use Rattle.mpslp_canonical_lp.specs.Listing.{Listing}
-use Rattle.mpslp_canonical_lp.specs.CanonicalLp.{Term, have_same_value, row_terms, objective_terms, is_integer_column, is_semi_column}
+use Rattle.mpslp_model_core.specs.Listing.{Listing}
+use Rattle.mpslp_canonical_lp.specs.CanonicalLp.{Term, row_terms, objective_terms, is_integer_column, is_semi_column}
 use Rattle.mpslp_canonical_lp.proofs.PhraseLemmas.{column_and}
 use Rattle.mpslp_canonical_lp.proofs.RowWalk.{left_of}
 use Rattle.mpslp_canonical_lp.proofs.ObjectiveWalk.{terms_declared, constant_declared, objective_made}

@@ -8,7 +8,7 @@ use Rattle.mpslp_builder.specs.Declaration.{draft_of}
 use Rattle.mpslp_builder.specs.Consistency.{AreConsistent}
 use Rattle.mpslp_builder.specs.Meaning.{DraftMeans, Means}
 use Rattle.mpslp_builder.proofs.GivenBack.{model-back, columns-back, no-negative_upper, binary-within}
-use Rattle.mpslp_canonical_lp.specs.Listing.{listing_of}
+use Rattle.mpslp_model_core.specs.Listing.{listing_of}
 use Rattle.mpslp_canonical_lp.proofs.TextWalk.{listed_declarations}
 use Rattle.mpslp_canonical_lp.proofs.SoundListing.{sound-listing}
 use Rattle.mpslp_canonical_lp.proofs.ListedParts.{drafted}

@@ -10,7 +10,7 @@ use Rattle.mpslp_types.proofs.BoolLemmas.{T_from}
 use Rattle.mpslp_lp.specs.LpText.{DeclaresLp}
 use Rattle.mpslp_lp.proofs.WorkedFiles.{Passes, declares-from_passes}
 use Rattle.mpslp_canonical_lp.specs.Printed.{text_of}
-use Rattle.mpslp_canonical_lp.specs.Listing.{Listing, listing_of}
+use Rattle.mpslp_model_core.specs.Listing.{Listing, listing_of}
 use Rattle.mpslp_canonical_lp.specs.CanonicalLp.{listed_lines, canonical_lp}
 use Rattle.mpslp_canonical_lp.specs.Unfit.{unfit_in, unfit}
 

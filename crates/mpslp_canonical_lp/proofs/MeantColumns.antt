@@ -2,7 +2,7 @@
 use Rattle.std.proofs.Common.{◌≡◌, refl, sym, ap, ◌∙◌, List, [], ◌∷◌, ℕ, Bool, true, false, cond, map}
 use Rattle.std.specs.Prelude.{Option, Some, None, is_some, is_none, unwrap_or, filter, ◌&&◌, ◌||◌, if◌then◌else◌}
 use Rattle.std.specs.Ordering.{eq_by_cmp}
-use Rattle.mpslp_decimal.specs.Decimal.{Number, is_zero}
+use Rattle.mpslp_decimal.specs.Decimal.{Number, is_zero, have_same_value}
 use Rattle.mpslp_decimal.proofs.NumberTextLemmas.{zero-is}
 use Rattle.mpslp_decimal.proofs.OrderLemmas.{same_decimal}
 use Rattle.mpslp_model_core.specs.Model.{Column}
@@ -21,8 +21,8 @@ use Rattle.mpslp_builder.proofs.BoundsLemmas.{column_of-is}
 use Rattle.mpslp_builder.proofs.DraftLemmas.{lowers-all, uppers-all, marked-all, integers-all, binaries-all, semis-all}
 use Rattle.mpslp_builder.proofs.MeaningFromNoFault.{sorted-mapped}
 use Rattle.mpslp_builder.proofs.SortedDrafts.{bytes_total, tied_names}
-use Rattle.mpslp_canonical_lp.specs.Listing.{Listing}
-use Rattle.mpslp_canonical_lp.specs.CanonicalLp.{have_same_value, is_integer_kind, is_semi_kind, is_integer_column, is_semi_column}
+use Rattle.mpslp_model_core.specs.Listing.{Listing}
+use Rattle.mpslp_canonical_lp.specs.CanonicalLp.{is_integer_kind, is_semi_kind, is_integer_column, is_semi_column}
 use Rattle.mpslp_canonical_lp.proofs.TextWalk.{listed_declarations}
 use Rattle.mpslp_builder.proofs.EntryLemmas.{then_told, all_told, puts-own, find-kept, find-told, sorted-told, sorted-kept}
 use Rattle.mpslp_builder.proofs.SoundParts.{column_sides, lower_of, upper_of, bounded_so, bounded_finite}

@@ -2,7 +2,7 @@
 use Rattle.std.proofs.Common.{◌≡◌, refl, sym, ap, ◌∙◌, List, [], ◌∷◌, ◌++◌, ℕ, Bool, true, false}
 use Rattle.std.specs.Prelude.{Option, Some, None, filter, unwrap_or, if◌then◌else◌}
 use Rattle.std.specs.List.{flat_map}
-use Rattle.mpslp_decimal.specs.Decimal.{Number, IsDecimal, is_zero, zero_number, negated}
+use Rattle.mpslp_decimal.specs.Decimal.{Number, IsDecimal, is_zero, zero_number, negated, have_same_value}
 use Rattle.mpslp_decimal.proofs.NumberTextLemmas.{zero-is}
 use Rattle.mpslp_model_core.specs.Model.{Row, CoefficientKey}
 use Rattle.mpslp_types.specs.Name.{bytes_cmp}
@@ -19,8 +19,8 @@ use Rattle.mpslp_builder.proofs.MadeDrafts.{with_declarations-append}
 use Rattle.mpslp_lp.specs.Sides.{limits_by}
 use Rattle.mpslp_lp.specs.Objective.{term_declared, objective_declared}
 use Rattle.mpslp_lp.specs.declared.relations.Relation.TheVariants.{AtLeast, EqualTo}
-use Rattle.mpslp_canonical_lp.specs.Listing.{Listing}
-use Rattle.mpslp_canonical_lp.specs.CanonicalLp.{Term, have_same_value, objective_terms, row_terms, is_integer_column, is_semi_column}
+use Rattle.mpslp_model_core.specs.Listing.{Listing}
+use Rattle.mpslp_canonical_lp.specs.CanonicalLp.{Term, objective_terms, row_terms, is_integer_column, is_semi_column}
 use Rattle.mpslp_canonical_lp.proofs.PhraseLemmas.{column_and}
 use Rattle.mpslp_canonical_lp.proofs.ObjectiveWalk.{terms_declared, constant_declared}
 use Rattle.mpslp_canonical_lp.proofs.TailWalk.{general_made, semi_made}

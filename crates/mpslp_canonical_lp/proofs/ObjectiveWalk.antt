@@ -22,7 +22,7 @@ use Rattle.mpslp_lp.specs.Objective.{term_declared, objective_declared}
 use Rattle.mpslp_lp.specs.declared.words.Section.TheVariants as sections
 use Rattle.mpslp_lp.specs.declared.words.SectionWord.TheVariants as section_words
 use Rattle.mpslp_canonical_lp.specs.Printed.{PrintedLine}
-use Rattle.mpslp_canonical_lp.specs.Listing.{Listing}
+use Rattle.mpslp_model_core.specs.Listing.{Listing}
 use Rattle.mpslp_canonical_lp.specs.CanonicalLp.{Lines, Term, heading, long_line, signed_lexemes, label_line, sense_word, term_line, objective_terms, constant_lines, objective_section}
 pub use Rattle.mpslp_canonical_lp.specs.PrintedDeclarations.{constant_declared}
 use Rattle.mpslp_canonical_lp.proofs.PrintableLemmas.{IsTerm, IsFit, objective-fits}

@@ -9,7 +9,7 @@ use Rattle.mpslp_builder.specs.Declaration.{at_name, names_in}
 use Rattle.mpslp_types.proofs.BoolLemmas.{true_from}
 use Rattle.mpslp_types.proofs.EachLemmas.{Each, Each-both, Each-from_list_all}
 use Rattle.mpslp_builder.proofs.NamedEntries.{own-found}
-use Rattle.mpslp_canonical_lp.specs.Listing.{Listing, listing_of}
+use Rattle.mpslp_model_core.specs.Listing.{Listing, listing_of}
 
 -- a decimal that is not 0, of a row or the objective and of a column that are there
 abbrev pub is_sound_entry : Listing → CoefficientKey × Number → Bool

@@ -3,7 +3,7 @@ use Rattle.std.proofs.Common.{◌≡◌, refl, sym, ap, subst, ◌∙◌, ℕ, �
 use Rattle.std.specs.Prelude.{Option, Some, None, codes, if◌then◌else◌, filter}
 use Rattle.std.specs.List.{flat_map}
 use Rattle.std.proofs.lemmas.List.{append-nil}
-use Rattle.mpslp_decimal.specs.Decimal.{Number as Decimal, is_zero}
+use Rattle.mpslp_decimal.specs.Decimal.{Number as Decimal, is_zero, have_same_value}
 use Rattle.mpslp_model_core.specs.Model.{Row, Column}
 use Rattle.mpslp_types.specs.Limit.{limit_of}
 use Rattle.mpslp_builder.specs.Declaration.{Draft, empty_draft, Declarations, with_declarations}
@@ -24,8 +24,8 @@ use Rattle.mpslp_lp.specs.declared.relations.Relation.{Relation}
 use Rattle.mpslp_lp.specs.declared.relations.Relation.TheVariants.{AtMost, AtLeast, EqualTo}
 use Rattle.mpslp_lp.specs.declared.words.Section.TheVariants as sections
 use Rattle.mpslp_lp.specs.declared.words.SectionWord.TheVariants as section_words
-use Rattle.mpslp_canonical_lp.specs.Listing.{Listing}
-use Rattle.mpslp_canonical_lp.specs.CanonicalLp.{Lines, Term, under_heading, label_line, term_line, right_line, have_same_value, left_lines, last_line, minus_large, row_terms, row_lines, line_of_some, bound_lexemes, bound_lines, is_integer_column, name_line, objective_section, bounds_section, generals_section, listed_lines, under_semi_heading, is_semi_column, semis_section}
+use Rattle.mpslp_model_core.specs.Listing.{Listing}
+use Rattle.mpslp_canonical_lp.specs.CanonicalLp.{Lines, Term, under_heading, label_line, term_line, right_line, left_lines, last_line, minus_large, row_terms, row_lines, line_of_some, bound_lexemes, bound_lines, is_integer_column, name_line, objective_section, bounds_section, generals_section, listed_lines, under_semi_heading, is_semi_column, semis_section}
 use Rattle.mpslp_canonical_lp.specs.Printed.{word, number, sense}
 use Rattle.mpslp_canonical_lp.proofs.PrintableLemmas.{IsTerm, IsFitColumn, IsFit}
 use Rattle.mpslp_canonical_lp.proofs.TerminalLemmas.{line_terminals_in, all_terminals, at}

@@ -5,7 +5,7 @@ use Rattle.std.specs.List.{list_all, list_any, flat_map}
 use Rattle.std.specs.Option.{option_map_or}
 use Rattle.std.specs.Cmp.Lexicographic.{nat_list_eq_equiv}
 use Rattle.std.specs.FinMap.{entries}
-use Rattle.mpslp_decimal.specs.Decimal.{Number, is_zero}
+use Rattle.mpslp_decimal.specs.Decimal.{Number, is_zero, have_same_value}
 use Rattle.mpslp_types.specs.Name.{same_bytes, bytes_cmp, is_one_of}
 use Rattle.mpslp_types.specs.Limit.{limit_of, is_plus_infinite, is_minus_infinite, is_bounded_decimal, are_sides}
 use Rattle.mpslp_types.specs.declared.kinds.Kind.{Kind}
@@ -25,8 +25,8 @@ use Rattle.mpslp_builder.proofs.WellFormed.{fresh-from_once}
 use Rattle.mpslp_builder.proofs.RefusalLemmas.{consistent-from_none, none-from_fine_in_turn}
 use Rattle.mpslp_lp.specs.Sides.{limits_by}
 use Rattle.mpslp_lp.specs.declared.relations.Relation.TheVariants.{AtMost, AtLeast, EqualTo}
-use Rattle.mpslp_canonical_lp.specs.Listing.{Listing, listing_of}
-use Rattle.mpslp_canonical_lp.specs.CanonicalLp.{have_same_value, row_terms, is_integer_kind, is_semi_kind, is_integer_column, is_semi_column}
+use Rattle.mpslp_model_core.specs.Listing.{Listing, listing_of}
+use Rattle.mpslp_canonical_lp.specs.CanonicalLp.{row_terms, is_integer_kind, is_semi_kind, is_integer_column, is_semi_column}
 use Rattle.mpslp_canonical_lp.specs.Unfit.{unfit}
 use Rattle.mpslp_canonical_lp.proofs.PrintableLemmas.{fit-from_sound}
 use Rattle.mpslp_canonical_lp.proofs.PhraseLemmas.{column_and}

@@ -12,7 +12,7 @@ use Rattle.mpslp_types.specs.declared.kinds.Kind.TheVariants.{Continuous, Intege
 use Rattle.mpslp_types.specs.declared.kinds.Limit.{Limit}
 use Rattle.mpslp_types.specs.declared.kinds.Limit.TheVariants.{MinusInf, Finite, PlusInf}
 use Rattle.mpslp_lp.proofs.WorkedFiles.{text}
-use Rattle.mpslp_canonical_lp.specs.Listing.{Listing}
+use Rattle.mpslp_model_core.specs.Listing.{Listing}
 use Rattle.mpslp_canonical_lp.specs.Unfit.{unfit}
 use Rattle.mpslp_canonical_lp.proofs.ListedText.{model_in, IsPrinted, line_text-from_passes, unfit-listed}
 

@@ -2,9 +2,8 @@
 use Rattle.std.specs.Prelude.{ℕ, negsuc, pos, Bool, true, false, List, [], ◌∷◌, ◌++◌, map, filter, filter_map, Option, Some, if◌then◌else◌, codes}
 use Rattle.std.specs.List.{flat_map, list_any}
 use Rattle.std.specs.Option.{option_map}
-use Rattle.std.specs.Ordering.{is_eq}
 use Rattle.std.specs.FinMap.{find}
-use Rattle.mpslp_decimal.specs.Decimal.{Number, is_zero, is_negative, size_of, zero_number, decimal_cmp}
+use Rattle.mpslp_decimal.specs.Decimal.{Number, is_zero, is_negative, size_of, zero_number, have_same_value}
 use Rattle.mpslp_types.specs.Name.{same_bytes}
 use Rattle.mpslp_model_core.specs.Model.{LinearModel, Row, Column, CoefficientKey, key_cmp}
 use Rattle.mpslp_types.specs.declared.kinds.Sense.{Sense}
@@ -16,7 +15,7 @@ use Rattle.mpslp_types.specs.declared.kinds.Limit.TheVariants.{MinusInf, Finite}
 use Rattle.mpslp_lp.specs.declared.relations.Relation.{Relation}
 use Rattle.mpslp_lp.specs.declared.relations.Relation.TheVariants.{AtMost, AtLeast, EqualTo}
 use Rattle.mpslp_canonical_lp.specs.Printed.{PrintedLine, Lexeme, word, label, number, sign, sense, minus_infinity, text_of, semi_continuous}
-use Rattle.mpslp_canonical_lp.specs.Listing.{Listing, listing_of}
+use Rattle.mpslp_model_core.specs.Listing.{Listing, listing_of}
 
 abbrev pub Lines : Type 0
 Lines = List PrintedLine
@@ -82,9 +81,6 @@ objective_section m =
     heading (sense_word m.sense ∷ []) ∷ label_line m.objective ∷ (map term_line (objective_terms m) ++ constant_lines m.constant)
 
 -- ---- rows
-
-abbrev pub have_same_value : Number → Number → Bool
-have_same_value a b = is_eq (decimal_cmp a b)
 
 -- two limits that differ: the lower one stands before the terms
 abbrev pub left_lines : Limit → Limit → Lines

@@ -7,6 +7,7 @@ use Rattle.mpslp_lp.specs.declared.relations.Relation.{Relation}
 use Rattle.mpslp_lp.specs.declared.relations.Relation.TheVariants.{AtMost, AtLeast, EqualTo}
 use Rattle.mpslp_lp.specs.declared.tokens.TokenKind.{TokenKind}
 use Rattle.mpslp_lp.specs.declared.tokens.TokenKind.TheVariants as kinds
+use Rattle.mpslp_lines.specs.WrittenLines.{with_line_feeds}
 
 pub data Lexeme : Type 0 where
   -- a name, or a word of the language
@@ -48,10 +49,6 @@ lexeme_text semi_continuous = codes "Semi-Continuous"
 -- one blank between the pieces
 abbrev pub line_text : PrintedLine → List ℕ
 line_text line = replicate line.indent 32 ++ join_by lexeme_text (codes " ") line.lexemes
-
--- each line ended by a line feed
-abbrev pub with_line_feeds : List (List ℕ) → List ℕ
-with_line_feeds lines = flat_map (λ line. line ++ 10 ∷ []) lines
 
 abbrev pub text_of : List PrintedLine → List ℕ
 text_of lines = with_line_feeds (map line_text lines)

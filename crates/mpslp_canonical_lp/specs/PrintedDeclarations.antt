@@ -23,7 +23,7 @@ use Rattle.mpslp_lp.specs.declared.sections_seen.SectionsSeen.{SectionsSeen}
 use Rattle.mpslp_lp.specs.declared.states.Place.{Place}
 use Rattle.mpslp_lp.specs.declared.states.Place.TheVariants.{BeforeItems, InObjective, BetweenRows, InBounds, InGenerals, InSemis}
 use Rattle.mpslp_lp.specs.declared.words.Section.TheVariants as sections
-use Rattle.mpslp_canonical_lp.specs.Listing.{Listing}
+use Rattle.mpslp_model_core.specs.Listing.{Listing}
 use Rattle.mpslp_canonical_lp.specs.Printed.{line_text}
 use Rattle.mpslp_canonical_lp.specs.CanonicalLp.{Lines, Term, heading, label_line, sense_word, term_line, constant_lines, row_terms, row_lines, bound_lines, name_line, semi_heading}
 

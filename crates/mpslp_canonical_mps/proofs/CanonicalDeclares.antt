@@ -10,7 +10,7 @@ use Rattle.mpslp_mps.specs.Line.{is_legal_line, content_of}
 use Rattle.mpslp_mps.specs.MpsText.{read_lines, has_end, declarations_of, DeclaresMps}
 use Rattle.mpslp_mps.proofs.ContextLineLemmas.{declared_items, are_well_formed, lines-declare, lines-good}
 use Rattle.mpslp_canonical_mps.proofs.ContentsWalk.{Walk}
-use Rattle.mpslp_canonical_mps.specs.Listing.{listing_of}
+use Rattle.mpslp_model_core.specs.Listing.{listing_of}
 use Rattle.mpslp_canonical_mps.specs.CanonicalMps.{canonical_mps}
 use Rattle.mpslp_canonical_mps.specs.Laws.{IsReadAsPrinted, DeclareTheirModels, TellModelsApart}
 use Rattle.mpslp_canonical_mps.proofs.ReadLemmas.{read-as-line_text}

@@ -17,7 +17,7 @@ use Rattle.mpslp_builder.proofs.LaterDrafts.{value_in}
 use Rattle.mpslp_builder.proofs.SlotLemmas.{same_name}
 use Rattle.mpslp_builder.proofs.SortedDrafts.{key_total}
 use Rattle.mpslp_builder.proofs.NamedEntries.{any-name}
-use Rattle.mpslp_canonical_mps.specs.Listing.{Listing}
+use Rattle.mpslp_model_core.specs.Listing.{Listing}
 use Rattle.mpslp_canonical_mps.specs.CanonicalMps.{cell_at, column_coefficients, printed_coefficients, is_integer_column, is_plain_column}
 use Rattle.mpslp_canonical_mps.proofs.CanonicalContents.{to_cell, cells_in}
 use Rattle.mpslp_builder.proofs.EntryLemmas.{puts-kept, found-each, filter-not_not, found-either}

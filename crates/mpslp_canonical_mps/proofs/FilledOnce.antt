@@ -19,7 +19,7 @@ use Rattle.mpslp_builder.proofs.CoefficientLemmas.{flat_map-flat_map}
 use Rattle.mpslp_builder.proofs.SlotLemmas.{same_name}
 use Rattle.mpslp_canonical_mps.proofs.ColumnsWalk.{Cell, cell_decl, cells_of}
 use Rattle.mpslp_canonical_mps.proofs.BoundsWalk.{bound_decl}
-use Rattle.mpslp_canonical_mps.specs.Listing.{Listing}
+use Rattle.mpslp_model_core.specs.Listing.{Listing}
 use Rattle.mpslp_canonical_mps.specs.CanonicalMps.{is_integer_column, is_plain_column}
 use Rattle.mpslp_canonical_mps.proofs.CanonicalContents.{group_in, cells_in, bounds_in}
 use Rattle.mpslp_canonical_mps.proofs.EarlyWalk.{sense_decl}

@@ -23,7 +23,7 @@ use Rattle.mpslp_builder.proofs.DraftEntries.{same_key}
 use Rattle.mpslp_builder.proofs.SortedDrafts.{bytes_total, key_total, tied_names}
 use Rattle.mpslp_canonical_mps.proofs.RowsWalk.{row_decl}
 use Rattle.mpslp_canonical_mps.proofs.ColumnsWalk.{cell_decl, GoodCell, AreOf, Group, cells_of, IsGroup, AreApart, AreAbsent}
-use Rattle.mpslp_canonical_mps.specs.Listing.{Listing}
+use Rattle.mpslp_model_core.specs.Listing.{Listing}
 use Rattle.mpslp_canonical_mps.specs.CanonicalMps.{cell_at, column_coefficients, printed_coefficients, is_integer_column, is_plain_column}
 use Rattle.mpslp_canonical_mps.proofs.CanonicalContents.{to_row, to_cell, cells_in, group_in}
 use Rattle.mpslp_canonical_mps.proofs.EarlyWalk.{sense_decl, AreColumns}

@@ -3,7 +3,7 @@ use Rattle.std.proofs.Common.{◌≡◌, refl, sym, ap, ◌∙◌, List, [], ◌
 use Rattle.std.specs.Prelude.{Option, Some, None}
 use Rattle.std.specs.List.{flat_map}
 use Rattle.std.specs.Option.{option_map_or}
-use Rattle.mpslp_decimal.specs.Decimal.{Number, IsDecimal, is_zero, zero_number, negated}
+use Rattle.mpslp_decimal.specs.Decimal.{Number, IsDecimal, is_zero, zero_number, negated, have_same_value}
 use Rattle.mpslp_decimal.proofs.NumberTextLemmas.{number-text}
 use Rattle.mpslp_types.specs.Name.{is_mps_name, bytes_cmp}
 use Rattle.mpslp_model_core.specs.Model.{Row, Column, is_sound_row, is_sound_column}
@@ -24,8 +24,8 @@ use Rattle.mpslp_builder.proofs.SortedDrafts.{bytes_total, tied_names}
 use Rattle.mpslp_canonical_mps.proofs.RowsWalk.{RowItem, row_decl, Side, ReadsAs}
 use Rattle.mpslp_canonical_mps.proofs.ColumnsWalk.{Cell, cell_decl, cells_of}
 use Rattle.mpslp_canonical_mps.proofs.BoundsWalk.{GoodBound}
-use Rattle.mpslp_canonical_mps.specs.Listing.{Listing}
-use Rattle.mpslp_canonical_mps.specs.PrintedValues.{have_same_value, is_fixed, bound_with_value, printed_type, printed_rhs, printed_range, PrintedBound, printed_lower, printed_upper, printed_bounds}
+use Rattle.mpslp_model_core.specs.Listing.{Listing}
+use Rattle.mpslp_canonical_mps.specs.PrintedValues.{is_fixed, bound_with_value, printed_type, printed_rhs, printed_range, PrintedBound, printed_lower, printed_upper, printed_bounds}
 use Rattle.mpslp_mps.specs.declared.bound_types.BoundType.TheVariants as bounds
 use Rattle.mpslp_canonical_mps.proofs.CanonicalContents.{to_row, to_side, side_unless_zero, row_side, sides_in, row_range, to_bound, bounds_in}
 use Rattle.mpslp_canonical_mps.proofs.EarlyWalk.{sense_decl}

@@ -6,7 +6,7 @@ use Rattle.std.specs.Option.{option_map, option_map_or}
 use Rattle.std.specs.Cmp.{second_so}
 use Rattle.std.specs.Cmp.Lexicographic.{texts_ties}
 use Rattle.std.specs.FinMap.{find}
-use Rattle.mpslp_decimal.specs.Decimal.{Number, is_decimal, is_zero, is_infinite_size, negated, difference_of}
+use Rattle.mpslp_decimal.specs.Decimal.{Number, is_decimal, is_zero, is_infinite_size, negated, difference_of, have_same_value}
 use Rattle.mpslp_types.specs.Name.{same_bytes}
 use Rattle.mpslp_model_core.specs.Model.{Row, Column, CoefficientKey, key_cmp}
 use Rattle.mpslp_types.specs.Limit.{is_bounded_decimal, has_bounded_distance}
@@ -29,8 +29,8 @@ use Rattle.mpslp_canonical_mps.proofs.RowsWalk.{RowItem, row_decl, Side, side_de
 use Rattle.mpslp_canonical_mps.proofs.ColumnsWalk.{Cell, cell_decl, Group, cells_of}
 use Rattle.mpslp_canonical_mps.proofs.BoundsWalk.{BoundForm, fixed, free, no_lower, no_upper, semi_upper, Bound, bound_decl, decl_at}
 use Rattle.mpslp_canonical_mps.proofs.BoundsWalk as forms
-use Rattle.mpslp_canonical_mps.specs.Listing.{Listing}
-use Rattle.mpslp_canonical_mps.specs.PrintedValues.{have_same_value, bound_with_value, printed_type, printed_rhs, printed_range, PrintedBound, printed_lower, printed_upper, printed_bounds}
+use Rattle.mpslp_model_core.specs.Listing.{Listing}
+use Rattle.mpslp_canonical_mps.specs.PrintedValues.{bound_with_value, printed_type, printed_rhs, printed_range, PrintedBound, printed_lower, printed_upper, printed_bounds}
 use Rattle.mpslp_canonical_mps.specs.CanonicalMps.{cell_at, column_coefficients, printed_coefficients, is_integer_column, is_plain_column}
 use Rattle.mpslp_canonical_mps.proofs.PrintableLemmas.{Holds}
 use Rattle.mpslp_canonical_mps.proofs.CanonicalContents.{to_cell, cells_in, group_in, to_side, side_unless_zero, row_side, sides_in, row_range, form_of, value_in, to_bound, bounds_in}

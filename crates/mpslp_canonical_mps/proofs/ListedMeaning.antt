@@ -5,7 +5,7 @@ use Rattle.std.specs.List.{list_all}
 use Rattle.std.specs.Ordering.{eq_by_cmp, is_eq}
 use Rattle.std.specs.declared.cmp.Ordering.{Ordering}
 use Rattle.std.specs.Cmp.{first_so, second_so, tied_itself}
-use Rattle.mpslp_decimal.specs.Decimal.{Number, IsDecimal, is_decimal, is_infinite_size, zero_number, negated, difference_of}
+use Rattle.mpslp_decimal.specs.Decimal.{Number, IsDecimal, is_decimal, is_infinite_size, zero_number, negated, difference_of, have_same_value}
 use Rattle.mpslp_decimal.proofs.NumberTextLemmas.{zero-is}
 use Rattle.mpslp_decimal.proofs.OrderLemmas.{same_decimal}
 use Rattle.mpslp_model_core.specs.Model.{LinearModel, Row, Column, is_sound_row, is_sound_column, IsSound}
@@ -32,8 +32,8 @@ use Rattle.mpslp_canonical_mps.proofs.RowsWalk.{RowItem, row_decl, Side, side_de
 use Rattle.mpslp_canonical_mps.proofs.ColumnsWalk.{Cell, cell_decl, cells_of}
 use Rattle.mpslp_canonical_mps.proofs.BoundsWalk.{BoundForm, fixed, free, no_lower, no_upper, semi_upper, Bound, bound_decl, decl_at}
 use Rattle.mpslp_canonical_mps.proofs.BoundsWalk as forms
-use Rattle.mpslp_canonical_mps.specs.Listing.{Listing, listing_of}
-use Rattle.mpslp_canonical_mps.specs.PrintedValues.{have_same_value, printed_type, printed_rhs, printed_range}
+use Rattle.mpslp_model_core.specs.Listing.{Listing, listing_of}
+use Rattle.mpslp_canonical_mps.specs.PrintedValues.{printed_type, printed_rhs, printed_range}
 use Rattle.mpslp_canonical_mps.proofs.PrintableLemmas.{side-decimal, negated-decimal}
 use Rattle.mpslp_canonical_mps.proofs.EarlyWalk.{sense_decl}
 use Rattle.mpslp_canonical_mps.proofs.WholeWalk.{Whole, whole_decl}

@@ -13,7 +13,7 @@ use Rattle.mpslp_builder.proofs.DistinctLemmas.{distinct-sorted}
 use Rattle.mpslp_builder.proofs.SlotLemmas.{same_name}
 use Rattle.mpslp_builder.proofs.SortedDrafts.{bytes_total, tied_names}
 use Rattle.mpslp_canonical_mps.proofs.RowsWalk.{row_decl, Side, side_decl, range_decl}
-use Rattle.mpslp_canonical_mps.specs.Listing.{Listing}
+use Rattle.mpslp_model_core.specs.Listing.{Listing}
 use Rattle.mpslp_canonical_mps.proofs.CanonicalContents.{to_row, sides_in, row_range}
 use Rattle.mpslp_builder.proofs.EntryLemmas.{then_told, told, all_told, sorted-told, find-told}
 use Rattle.mpslp_canonical_mps.proofs.WholeParts.{made_of}

@@ -17,7 +17,7 @@ use Rattle.mpslp_mps.specs.BoundLine.{letters_of}
 use Rattle.mpslp_mps.specs.declared.sections.Section.{Section}
 use Rattle.mpslp_mps.specs.declared.sections.Section.TheVariants.{Name, ObjSense, Rows, Columns, Rhs, Ranges, Bounds, EndData}
 use Rattle.mpslp_canonical_mps.specs.Printed.{PrintedLine, heading, short_line, long_line, text_of}
-use Rattle.mpslp_canonical_mps.specs.Listing.{Listing, listing_of}
+use Rattle.mpslp_model_core.specs.Listing.{Listing, listing_of}
 use Rattle.mpslp_canonical_mps.specs.PrintedValues.{printed_type, printed_rhs, printed_range, PrintedBound, printed_bounds}
 
 abbrev pub Lines : Type 0

@@ -1,5 +1,4 @@
 pub mod Printed
-pub mod Listing
 pub mod PrintedValues
 pub mod CanonicalMps
 pub mod PrintedDeclarations

@@ -1,7 +1,8 @@
 -- Printed lines: their fields, how they are printed, and what a reader of MPS sees in them.
 use Rattle.std.specs.Prelude.{ℕ, List, [], ◌∷◌, ◌++◌, map, codes}
-use Rattle.std.specs.List.{flat_map, join_by}
+use Rattle.std.specs.List.{join_by}
 use Rattle.mpslp_mps.specs.Line.{Fields, LineContent, header, data_line}
+use Rattle.mpslp_lines.specs.WrittenLines.{with_line_feeds}
 
 -- a header; a data line after one blank; a data line after four
 pub data PrintedLine : Type 0 where
@@ -17,10 +18,6 @@ abbrev pub line_text : PrintedLine → List ℕ
 line_text (heading keyword) = keyword
 line_text (short_line fields) = codes " " ++ fields_text fields
 line_text (long_line fields) = codes "    " ++ fields_text fields
-
--- each line ended by a line feed
-abbrev pub with_line_feeds : List (List ℕ) → List ℕ
-with_line_feeds lines = flat_map (λ line. line ++ 10 ∷ []) lines
 
 abbrev pub text_of : List PrintedLine → List ℕ
 text_of lines = with_line_feeds (map line_text lines)

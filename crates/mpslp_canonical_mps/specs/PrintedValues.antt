@@ -1,7 +1,6 @@
 -- What is printed of a row and of a column's bounds: the declarations that give them back.
 use Rattle.std.specs.Prelude.{Bool, false, List, [], ◌∷◌, ◌++◌, Option, Some, None, if◌then◌else◌}
-use Rattle.std.specs.Ordering.{is_eq}
-use Rattle.mpslp_decimal.specs.Decimal.{Number, is_zero, zero_number, difference_of, decimal_cmp}
+use Rattle.mpslp_decimal.specs.Decimal.{Number, is_zero, zero_number, difference_of, have_same_value}
 use Rattle.mpslp_types.specs.declared.kinds.Kind.{Kind}
 use Rattle.mpslp_types.specs.declared.kinds.Kind.TheVariants.{Continuous, Integer, Semi}
 use Rattle.mpslp_types.specs.declared.kinds.Limit.{Limit}
@@ -10,9 +9,6 @@ use Rattle.mpslp_types.specs.declared.kinds.RowType.{RowType}
 use Rattle.mpslp_types.specs.declared.kinds.RowType.TheVariants.{Free, AtMost, AtLeast, Equal}
 use Rattle.mpslp_mps.specs.declared.bound_types.BoundType.{BoundType}
 use Rattle.mpslp_mps.specs.declared.bound_types.BoundType.TheVariants as bounds
-
-abbrev pub have_same_value : Number → Number → Bool
-have_same_value a b = is_eq (decimal_cmp a b)
 
 -- ---- rows, by their lower and upper limits
 

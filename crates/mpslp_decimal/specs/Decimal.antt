@@ -1,6 +1,6 @@
 -- Decimals and their values.
 use Rattle.std.specs.Prelude.{◌≡◌, ℕ, zero, suc, ◌+◌, ◌-◌, ◌/◌, ◌%◌, ◌^◌, ℤ, pos, negsuc, ◌+ℤ◌, ◌-ℤ◌, ◌*ℤ◌, ◌<ℤ◌, neg_ℤ, unsigned_abs, int_le, int_div, Bool, ◌&&◌, not, nat_lt, ◌==◌, if◌then◌else◌, IsTrue, Option, Some, None, refl}
-use Rattle.std.specs.Ordering.{int_cmp, int_eq, on, then_cmp}
+use Rattle.std.specs.Ordering.{int_cmp, int_eq, is_eq, on, then_cmp}
 use Rattle.std.specs.declared.cmp.Ordering.{Ordering}
 use Rattle.std.specs.Coded.{Coded, code_by, coded×, coded_ℤ}
 use Rattle.mpslp_decimal.specs.declared.number.TheConstants.{MAX_DIGITS, MIN_EXPONENT, MAX_EXPONENT}
@@ -109,6 +109,9 @@ at_scale units = record { mantissa = units; exponent = MIN_EXPONENT }
 
 abbrev pub decimal_cmp : Number → Number → Ordering
 decimal_cmp = on scaled int_cmp
+
+abbrev pub have_same_value : Number → Number → Bool
+have_same_value a b = is_eq (decimal_cmp a b)
 
 -- by value. Where the values are one, as those of different decimals never are, by the parts
 abbrev pub order_of : Number → Number → Ordering

@@ -12,3 +12,4 @@ pub mod LineLemmas
 pub mod LineEndLemmas
 pub mod PieceLemmas
 pub mod ReadLinesLemmas
+pub mod WrittenLineLemmas

@@ -7,3 +7,4 @@ pub mod LineAnswer
 pub mod OpenLine
 pub mod LinesRead
 pub mod Pieces
+pub mod WrittenLines

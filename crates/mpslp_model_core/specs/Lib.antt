@@ -1,5 +1,6 @@
 pub mod Lists
 pub mod Model
+pub mod Listing
 pub mod Limits
 pub mod Columns
 pub mod WrongParts

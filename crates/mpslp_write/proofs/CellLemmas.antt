@@ -20,7 +20,7 @@ use Rattle.mpslp_types.proofs.EachLemmas.{Each, Each-filter, Each-all}
 use Rattle.mpslp_builder.proofs.DraftEntries.{same_key}
 use Rattle.mpslp_builder.proofs.SlotLemmas.{same_name}
 use Rattle.mpslp_builder.proofs.SortedDrafts.{bytes_total, key_total, tied_names}
-use Rattle.mpslp_canonical_mps.specs.Listing.{Listing, listing_of}
+use Rattle.mpslp_model_core.specs.Listing.{Listing, listing_of}
 use Rattle.mpslp_canonical_mps.specs.CanonicalMps.{cell_at, column_coefficients}
 use Rattle.mpslp_builder.proofs.EntryLemmas.{found-each}
 use Rattle.mpslp_canonical_mps.proofs.CoefficientMap.{place_at}

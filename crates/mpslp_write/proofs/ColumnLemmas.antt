@@ -18,7 +18,7 @@ use Rattle.mpslp_types.proofs.BoolLemmas.{not_so}
 use Rattle.mpslp_builder.proofs.DraftEntries.{same_key}
 use Rattle.mpslp_builder.proofs.SlotLemmas.{same_name}
 use Rattle.mpslp_builder.proofs.SortedDrafts.{key_total}
-use Rattle.mpslp_canonical_mps.specs.Listing.{listing_of}
+use Rattle.mpslp_model_core.specs.Listing.{listing_of}
 use Rattle.mpslp_canonical_mps.specs.CanonicalMps.{Lines, bound_line, column_bound_lines, coefficient_line, column_coefficients, printed_coefficients, is_integer_column}
 use Rattle.mpslp_write.specs.LinesAt.{lines_at, is_wanted, of_part, element_lines, objective_line_at, objective_lines}
 use Rattle.mpslp_write.specs.declared.mps.columns.Part.{Part}

@@ -7,11 +7,10 @@ use Rattle.std.specs.FinMap.{int_cmp-IsAntisymmetric}
 use Rattle.std.specs.declared.cmp.Ordering.TheVariants.{Equal}
 use Rattle.std.proofs.lemmas.Int.{ints}
 use Rattle.mpslp_model_core.proofs.PutsLemmas.{equal_from}
-use Rattle.mpslp_decimal.specs.Decimal.{Number, is_zero, height, scaled, negated, difference_of}
+use Rattle.mpslp_decimal.specs.Decimal.{Number, is_zero, height, scaled, negated, difference_of, have_same_value}
 use Rattle.mpslp_decimal.proofs.NormalLemmas.{pow_positive, zero_mantissa}
 use Rattle.mpslp_decimal.proofs.ScaleLemmas.{signed_times, negated_scaled}
 use Rattle.mpslp_decimal.proofs.ExactLaws.{sums-exact}
-use Rattle.mpslp_canonical_mps.specs.PrintedValues.{have_same_value}
 
 abbrev times : Number → ℕ
 times d = 10 ^ height d.exponent

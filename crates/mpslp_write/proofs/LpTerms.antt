@@ -22,7 +22,7 @@ use Rattle.mpslp_model_core.proofs.ByRowLemmas.{listed_below}
 use Rattle.mpslp_builder.proofs.SlotLemmas.{same_name}
 use Rattle.mpslp_builder.proofs.SortedDrafts.{key_total}
 use Rattle.mpslp_canonical_mps.proofs.CoefficientMap.{place_at}
-use Rattle.mpslp_canonical_lp.specs.Listing.{Listing, listing_of}
+use Rattle.mpslp_model_core.specs.Listing.{Listing, listing_of}
 use Rattle.mpslp_canonical_lp.specs.CanonicalLp.{Lines, Term, term_line, some_term}
 use Rattle.mpslp_write.specs.LpLinesAt.{term_lines, row_term_lines, numbered_term_lines, has_lines}
 use Rattle.mpslp_write.proofs.ColumnLemmas.{coefficient-not_zero, named-lines}

@@ -3,7 +3,7 @@ use Rattle.std.proofs.Common.{◌≡◌, refl, sym, ap, ◌∙◌, ℕ, zero, su
 use Rattle.std.specs.Prelude.{Option, Some, None, unwrap_or, slice_get, ◌&&◌, codes, if◌then◌else◌}
 use Rattle.std.specs.List.{list_all}
 use Rattle.std.specs.Option.{option_map, option_map_or}
-use Rattle.mpslp_decimal.specs.Decimal.{Number, is_zero, zero_number, difference_of}
+use Rattle.mpslp_decimal.specs.Decimal.{Number, is_zero, zero_number, difference_of, have_same_value}
 use Rattle.mpslp_write.proofs.DifferenceLemmas.{difference-zero}
 use Rattle.std.specs.Cmp.{first_so, second_so}
 use Rattle.std.specs.FinMap.{entries}
@@ -16,7 +16,7 @@ use Rattle.mpslp_types.specs.declared.kinds.Limit.TheVariants.{MinusInf, Finite,
 use Rattle.mpslp_types.specs.declared.kinds.RowType.TheVariants.{AtLeast, Equal}
 use Rattle.mpslp_mps.specs.DataLine.{letter_of}
 use Rattle.mpslp_canonical_mps.specs.Printed.{short_line}
-use Rattle.mpslp_canonical_mps.specs.PrintedValues.{have_same_value, printed_type, printed_rhs}
+use Rattle.mpslp_canonical_mps.specs.PrintedValues.{printed_type, printed_rhs}
 use Rattle.mpslp_canonical_mps.specs.CanonicalMps.{Lines, row_line, vector_line, range_lines}
 use Rattle.mpslp_write.specs.LinesAt.{lines_at, printed_letter}
 use Rattle.mpslp_write.proofs.LinesAtLemmas.{both_seen, lines_seen, nothing_seen}

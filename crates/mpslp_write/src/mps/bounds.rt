@@ -5,9 +5,10 @@ ghost use Rattle.std.specs.List.{flat_map};
 ghost use Rattle.std.specs.FinMap.{entries};
 ghost use Rattle.mpslp_model_core.specs.Views.{num_columns};
 ghost use Rattle.mpslp_canonical_mps.specs.Printed.{line_text};
-ghost use Rattle.mpslp_canonical_mps.specs.PrintedValues.{have_same_value, is_fixed, printed_lower, printed_upper, printed_bounds};
+ghost use Rattle.mpslp_decimal.specs.Decimal.{have_same_value};
+ghost use Rattle.mpslp_canonical_mps.specs.PrintedValues.{is_fixed, printed_lower, printed_upper, printed_bounds};
 ghost use Rattle.mpslp_canonical_mps.specs.CanonicalMps.{bound_line, column_bound_lines, bounds_section};
-ghost use Rattle.mpslp_canonical_mps.specs.Listing.{listing_of};
+ghost use Rattle.mpslp_model_core.specs.Listing.{listing_of};
 ghost use Rattle.mpslp_write.specs.LinesAt.{lines_at, fixed_value, are_free};
 ghost use Rattle.mpslp_write.specs.TextBuffer.{Prints, PrintsSection};
 

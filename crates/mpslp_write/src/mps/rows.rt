@@ -8,7 +8,7 @@ ghost use Rattle.mpslp_model_core.specs.Views.{num_rows, rows_of};
 ghost use Rattle.mpslp_canonical_mps.specs.Printed.{line_text};
 ghost use Rattle.mpslp_canonical_mps.specs.PrintedValues.{printed_rhs};
 ghost use Rattle.mpslp_canonical_mps.specs.CanonicalMps.{row_line, rhs_lines, row_rhs_lines, range_lines, rows_section, rhs_section, ranges_section};
-ghost use Rattle.mpslp_canonical_mps.specs.Listing.{listing_of};
+ghost use Rattle.mpslp_model_core.specs.Listing.{listing_of};
 ghost use Rattle.mpslp_write.specs.LinesAt.{lines_at, printed_letter};
 ghost use Rattle.mpslp_write.specs.TextBuffer.{Prints, PrintsSection};
 

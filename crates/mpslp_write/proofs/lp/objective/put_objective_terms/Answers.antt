@@ -1,6 +1,6 @@
 use Rattle.std.proofs.Common.{sym, ◌∙◌, arith}
 use Rattle.std.specs.FinMap.{entries}
-use Rattle.mpslp_canonical_lp.specs.Listing.{listing_of}
+use Rattle.mpslp_model_core.specs.Listing.{listing_of}
 use Rattle.mpslp_write.specs.LpLinesAt.{objective_term_lines}
 use Rattle.mpslp_write.proofs.LinesAtLemmas.{flat_map-next, all-taken}
 use Rattle.mpslp_write.proofs.OutputLemmas.{prints_nothing, prints_then, prints_same, prints_cut}

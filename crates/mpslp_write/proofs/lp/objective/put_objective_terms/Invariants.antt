@@ -2,7 +2,7 @@ use Rattle.std.proofs.Common.{take}
 use Rattle.std.specs.List.{flat_map}
 use Rattle.std.specs.FinMap.{entries}
 use Rattle.mpslp_canonical_lp.specs.Printed.{line_text}
-use Rattle.mpslp_canonical_lp.specs.Listing.{listing_of}
+use Rattle.mpslp_model_core.specs.Listing.{listing_of}
 use Rattle.mpslp_write.specs.LpLinesAt.{objective_term_lines}
 use Rattle.mpslp_write.specs.TextBuffer.{Prints}
 use Rattle.mpslp_write.proofs.lp.objective.put_objective_terms.Given as goal
