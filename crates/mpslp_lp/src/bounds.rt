@@ -68,7 +68,7 @@ pub(crate) fn take_second_relation(
     }
 }
 
-/// Takes a token of the right-hand side of a bound, which declares the bound when it is complete.
+/// Takes a token that completes the right-hand side of a bound, and declares the bound.
 pub(crate) fn take_bound(
     context: &mut Context,
     is_new: bool,

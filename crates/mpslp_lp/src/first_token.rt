@@ -157,7 +157,7 @@ fn take_semi(context: &mut Context, token: &TerminalToken<'_>) -> Result<State, 
     }
 }
 
-/// Takes a token in the Bounds section, where a bound may begin or the last one may get its right-hand side.
+/// Takes a token in the Bounds section, where a bound may begin, or the last one may continue with a right-hand side.
 fn begin_in_bounds(
     context: &mut Context,
     left: Option<(Name, Relation)>,

@@ -45,7 +45,7 @@ fn put_lines<W: Sink>(model: &Model, sink: &mut W, buffer: &mut Buffer)
 ///
 /// [`NotLp`](WriteFault::NotLp) if and only if a name of the model is not an LP name, with the place of the first such name;
 /// then the sink is not called. [`Write`](WriteFault::Write) if and only if all names are LP names and the sink has failed
-/// when the call ends. It contains the number of bytes that the sink accepted, at most 2^64 - 1: the sink holds this prefix
+/// when the call ends. It contains the number of bytes that the sink accepted, at most 2^64 - 1: the sink accepted this prefix
 /// of the text and nothing else, and is not called again.
 pub fn write_lp<W: Sink>(model: &Model, sink: &mut W) -> Result<(), WriteFault>
     ensures answer { IsWritten unfit canonical_lp W.holds W.failed model.now sink.old sink.new result }

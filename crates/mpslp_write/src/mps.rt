@@ -47,7 +47,7 @@ fn put_lines<W: Sink>(model: &Model, sink: &mut W, buffer: &mut Buffer)
 /// # Errors
 ///
 /// [`Write`](WriteFault::Write) if and only if the sink has failed when the call ends. It contains the number of bytes that
-/// the sink accepted, at most 2^64 - 1: the sink holds this prefix of the text and nothing else, and is not called again.
+/// the sink accepted, at most 2^64 - 1: the sink accepted this prefix of the text and nothing else, and is not called again.
 /// Never [`NotLp`](WriteFault::NotLp).
 pub fn write_mps<W: Sink>(model: &Model, sink: &mut W) -> Result<(), WriteFault>
     ensures answer { IsWritten (λ _. None) canonical_mps W.holds W.failed model.now sink.old sink.new result }

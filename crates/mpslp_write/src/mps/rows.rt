@@ -61,7 +61,7 @@ pub(crate) fn put_rows_section<W: Sink>(model: &Model, sink: &mut W, buffer: &mu
     put_rows(model, sink, buffer);
 }
 
-/// The right-hand side that is printed for row `i`: its lower limit if that is finite.
+/// The right-hand side that is printed for row `i`: its lower limit if that is finite, or else its right-hand side.
 fn rhs_at(model: &Model, i: usize) -> Decimal
     requires { i < num_rows model.now }
     ensures { option_map (λ row. printed_rhs row.lower row.upper) (slice_get (rows_of model.now) i) ≡ Some result }
