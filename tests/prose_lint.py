@@ -112,7 +112,7 @@ def prose(path, text):
         text = "\n".join(line if re.match(r" *//[/!]", line) else "" for line in text.split("\n"))
     elif not path.endswith((".1", ".tsv")) and not path.startswith("completions/"):
         first = [line for line in text.split("\n")[:2] if not line.startswith("#!")]
-        text = first[0] if first else ""
+        text = first[0] if first and first[0].startswith(("--", "#", '"""')) else ""
     return re.sub(r"`[^`\n]*`", "`", text)
 
 

@@ -1,4 +1,4 @@
--- The printed bounds of columns declare their sides.
+-- The printed bounds of columns declare the bounds.
 use Rattle.std.proofs.Common.{◌≡◌, refl, sym, ap, subst, ◌∙◌, ℕ, List, [], ◌∷◌, ◌++◌, Bool, true, false, append_assoc, map}
 use Rattle.std.specs.Prelude.{Some, None, ◌||◌, codes, if◌then◌else◌, is_some}
 use Rattle.std.specs.List.{flat_map}
@@ -30,7 +30,7 @@ use Rattle.mpslp_canonical_lp.proofs.PhraseLemmas.{Walks, walks-none, point_at, 
 use Rattle.mpslp_canonical_lp.proofs.ObjectiveWalk.{number_after, terminals-append, parts-taken, parts-walk}
 use Rattle.mpslp_canonical_lp.proofs.TailWalk.{sides-taken}
 
--- ---- a number is read by its sign and its size
+-- ---- a number is read by its sign and its absolute value
 
 pub number-either : (P : Decimal → List Terminal → Type 0) (value : Decimal) → ((v : Decimal) → P v (Number v ∷ [])) → ((below : Bool) (v : Decimal) → P (apply_sign below v) (Sign below ∷ Number v ∷ []))
     → P value (terminals_in (number value))
@@ -51,7 +51,7 @@ bound_made column (Finite lower) (Finite upper) =
 bound_made column (Finite lower) _ = if is_zero lower then [] else column_and column (limits_by AtLeast (limit_of lower))
 bound_made column _ _ = column_and column no_limits
 
--- nothing of these is refused, so the sides are taken
+-- none of these is rejected, so the bounds are declared
 taken-from : (all : Draft) (column : List ℕ) (limits : Limits) → (is_some limits.lower || is_some limits.upper) ≡ true → refusals_in_turn all (column_and column limits) ≡ [] → AreTaken all column limits
 taken-from all column limits some h =
     let parts = parts-taken all (declare_column column ∷ []) (bounds_declared column limits.lower limits.upper) h in
@@ -67,7 +67,7 @@ some-limits EqualTo limit = refl
 abbrev bounds_point : SectionsSeen → Draft → Point
 bounds_point sections_seen all = point_at (InBounds None) sections_seen all
 
--- a column, a sense and a number
+-- a column, a relation and a number
 valued-walk : (sections_seen : SectionsSeen) (all : Draft) (n : ℕ) (column : List ℕ) (relation : Relation) (value : Decimal) → refusals_in_turn all (column_and column (limits_by relation (limit_of value))) ≡ []
     → Walks (bounds_point sections_seen all) (at n (Name column) ∷ at n (Compares relation) ∷ map (at n) (terminals_in (number value))) (column_and column (limits_by relation (limit_of value)))
     (bounds_point sections_seen (with_declarations all (column_and column (limits_by relation (limit_of value)))))
@@ -89,7 +89,7 @@ left-walk sections_seen all n value column =
     (λ v h. left-bound-walks sections_seen all n v AtMost column (taken-from all column (limits_by AtLeast (limit_of v)) refl h))
     (λ below v h. signed-left-bound-walks sections_seen all n below v AtMost column (taken-from all column (limits_by AtLeast (limit_of (apply_sign below v))) refl h))
 
--- `<=` and a number behind a column with a lower side
+-- `<=` and a number after a column with a lower bound
 upper-walk : (sections_seen : SectionsSeen) (all : Draft) (n : ℕ) (column : List ℕ) (value : Decimal) → refusals_in_turn all (bounds_declared column None (Some (limit_of value))) ≡ []
     → Walks (point_at (InBounds (Some (column, AtMost))) sections_seen all) (at n (Compares AtMost) ∷ map (at n) (terminals_in (number value))) (bounds_declared column None (Some (limit_of value)))
     (bounds_point sections_seen (with_declarations all (bounds_declared column None (Some (limit_of value)))))
@@ -105,7 +105,7 @@ upper-walk sections_seen all n column value =
 abbrev pieces_terminals : ℕ → List Lexeme → List TerminalAt
 pieces_terminals n lexemes = map (at n) (flat_map terminals_in lexemes)
 
--- a column, a sense and a number
+-- a column, a relation and a number
 valued-line : (sections_seen : SectionsSeen) (all : Draft) (n : ℕ) (column : List ℕ) (relation : Relation) (value : Decimal) → IsGoodName column → refusals_in_turn all (column_and column (limits_by relation (limit_of value))) ≡ []
     → Walks (bounds_point sections_seen all) (pieces_terminals n (word column ∷ sense relation ∷ number value ∷ [])) (column_and column (limits_by relation (limit_of value)))
     (bounds_point sections_seen (with_declarations all (column_and column (limits_by relation (limit_of value)))))

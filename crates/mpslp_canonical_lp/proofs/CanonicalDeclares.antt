@@ -1,4 +1,4 @@
--- The canonical LP text of a sound model with LP names declares it.
+-- The canonical LP text of a well-formed model with LP names declares it.
 use Rattle.std.proofs.Common.{◌≡◌, sym, ap, subst, ◌∙◌, List, ℕ}
 use Rattle.mpslp_model_core.specs.Model.{LinearModel}
 use Rattle.mpslp_lp.specs.LpText.{DeclaresLp}

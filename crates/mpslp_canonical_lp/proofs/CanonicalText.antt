@@ -1,4 +1,4 @@
--- What the canonical text of a model says and declares, where nothing of that is refused.
+-- The outcome of the canonical text of a model, and what it declares, if none of that is rejected.
 use Rattle.std.proofs.Common.{◌≡◌, ap, subst, sym, ◌∙◌, []}
 use Rattle.std.specs.Prelude.{None}
 use Rattle.mpslp_model_core.specs.Model.{LinearModel, IsSound}
@@ -18,11 +18,11 @@ use Rattle.mpslp_canonical_lp.proofs.PrintableLemmas.{fit-from_sound}
 use Rattle.mpslp_canonical_lp.proofs.ReadLemmas.{canonical-terminals}
 use Rattle.mpslp_canonical_lp.proofs.TextWalk.{IsRow, listed_declarations, text-ends}
 
--- what is needed of a model beside soundness and LP names
+-- what is needed of a model besides well-formedness and LP names
 pub record IsPlainText (m : LinearModel) : Type 0 where
   -- each row is printed with terms, none of them twice
   pub rows : Each (λ row. IsRow (row_terms (listing_of m) row.0)) (listing_of m).rows
-  -- nothing that is printed is refused
+  -- nothing that is printed is rejected
   pub unrefused : refusals_in_turn empty_draft (listed_declarations (listing_of m)) ≡ []
 
 pub canonical-outcome : (m : LinearModel) → IsSound m → unfit m ≡ None → IsPlainText m

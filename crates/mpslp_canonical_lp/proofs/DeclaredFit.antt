@@ -1,4 +1,4 @@
--- What LP text declares has LP names alone, so that LP can tell it.
+-- What LP text declares has only LP names, so LP can express it.
 use Rattle.std.proofs.Common.{◌≡◌, refl, sym, ap, subst, ◌∙◌, ℕ, List, [], ◌∷◌, Bool, true, false, not, map, length, ◌+◌, cond, arith}
 use Rattle.std.proofs.Math.Dec.{T}
 use Rattle.std.specs.Prelude.{Option, Some, None, nat_lt, unwrap_or, if◌then◌else◌}
@@ -56,7 +56,7 @@ names-with_declarations [] all h names = names
 names-with_declarations (d ∷ ds) all h names =
     names-with_declarations ds (with_declaration all d) (second_so (has_lp_name d) (list_all has_lp_name ds) h) (names-with_declaration all d (first_so (has_lp_name d) (list_all has_lp_name ds) h) names)
 
--- ---- where no name is unfit
+-- ---- if every name is an LP name
 
 whole-front : (names : List (List ℕ)) → Each (λ name. is_lp_name name ≡ true) names → prefix_len (λ name. not (is_no_lp_name name)) names ≡ length names
 whole-front [] h = refl
@@ -103,7 +103,7 @@ draft-fit all objective sorted names =
     (ap (λ (es : List (List ℕ × Limits)). first_unfit (map (λ e. e.0) es)) rows_are ∙ none-unfit (map (λ (e : List ℕ × Limits). e.0) rows) (lp-named row_values all.rows names.rows))
     (ap (λ (es : List (List ℕ × ColumnOf)). first_unfit (map (λ e. e.0) es)) columns_are ∙ none-unfit (map (λ (e : List ℕ × ColumnOf). e.0) columns) (lp-named column_values all.columns names.columns))
 
--- What LP text declares, LP can tell.
+-- LP can express what LP text declares.
 pub declared-fit : (bytes : List ℕ) (m : LinearModel) → DeclaresLp bytes m → unfit m ≡ None
 declared-fit bytes m declares =
     let made = declarations_of bytes in

@@ -38,7 +38,7 @@ use Rattle.mpslp_canonical_lp.proofs.TailWalk.{one-general, one-semi}
 use Rattle.mpslp_canonical_lp.proofs.TextWalk.{row_by, IsRow, row-walk}
 use Rattle.mpslp_canonical_lp.proofs.MeantRows.{limits-back}
 
--- ---- what is walked over are the texts of the lines
+-- ---- the tokens are those of the texts of the lines
 
 printed-terminals : (n : ℕ) (lines : Lines) → AllPrintable lines → terminals_at n lines ≡ all_terminals n lines
 printed-terminals n [] h = refl
@@ -110,7 +110,7 @@ rows-derived m row legal sides terms =
     (row-printable m row (record { name = good-name row.0 legal; limits = sides-decimal row.1.lower row.1.upper sides }) (some-terms (row_terms m row.0) terms))
     (row-walk sections_seen earlier row.0 n row.1.lower row.1.upper (row_terms m row.0) (are-row (row_terms m row.0) terms) h))
 
--- ---- bounds and kinds of columns
+-- ---- bounds and types of columns
 
 bounds-said : (column : List ℕ) (lower upper : Limit) → are_sides lower upper ≡ true → bound_made column lower upper ≡ column_and_bounds column lower upper
 bounds-said column lower upper h = by lower upper (lower_of lower upper h) (upper_of lower upper h)

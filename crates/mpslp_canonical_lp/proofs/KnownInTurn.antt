@@ -36,7 +36,7 @@ known-append (d ∷ xs) ys context h k =
     both_so (is_known context d) (are_known_in_turn (with_declaration context d) (xs ++ ys)) (first_so (is_known context d) (are_known_in_turn (with_declaration context d) xs) h)
     (known-append xs ys (with_declaration context d) (second_so (is_known context d) (are_known_in_turn (with_declaration context d) xs) h) k)
 
--- declarations that name nothing but what they declare themselves
+-- declarations that name only what they declare themselves
 abbrev AlwaysKnown : Declarations → Type 0
 AlwaysKnown ds = (context : Draft) → are_known_in_turn context ds ≡ true
 
@@ -89,7 +89,7 @@ sides-known column (Some l) (Some u) context h = both_so (has_column context col
 limited-known : (column : List ℕ) (limits : Limits) → AlwaysKnown (column_and column limits)
 limited-known column limits context = sides-known column limits.lower limits.upper (with_declaration context (declare_column column)) (there column tt context.columns)
 
--- a lower side, and then an upper one
+-- a lower bound, and then an upper one
 both-known : (column : List ℕ) (lower upper : Limit) → AlwaysKnown (column_and column (limits_by AtLeast lower) ++ bounds_declared column None (Some upper))
 both-known column lower upper context =
     known-append (column_and column (limits_by AtLeast lower)) (bounds_declared column None (Some upper)) context (limited-known column (limits_by AtLeast lower) context)
@@ -115,7 +115,7 @@ bound-known column PlusInf MinusInf = limited-known column no_limits
 bound-known column PlusInf (Finite b) = limited-known column no_limits
 bound-known column PlusInf PlusInf = limited-known column no_limits
 
--- ---- kinds
+-- ---- types
 
 general-known : (column : List ℕ × Column) → AlwaysKnown (general_made column)
 general-known column context = both_so (has_column (with_declaration context (declare_column column.0)) column.0) true (there column.0 tt context.columns) refl

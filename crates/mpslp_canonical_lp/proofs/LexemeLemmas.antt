@@ -25,7 +25,7 @@ use Rattle.mpslp_canonical_lp.proofs.TokenTexts.{word-token, unsigned-begins, un
 
 -- ---- pieces that can be printed
 
--- a word of 1 to 255 bytes, which is no fault by itself
+-- a word of 1 to 255 bytes without an error of its own
 pub record IsGoodWord (text : List ℕ) : Type 0 where
   pub is : is_word text ≡ true
   pub short : length text ≤ 255
@@ -42,7 +42,7 @@ IsPrintable (label name) = IsGoodName name
 IsPrintable (number value) = IsDecimal value
 IsPrintable _ = Unit {0}
 
--- ---- what follows a piece: a blank, or nothing
+-- ---- what follows a piece: a space, or nothing
 
 abbrev Apart : List ℕ → Type 0
 Apart [] = Unit {0}
@@ -90,7 +90,7 @@ negative-nonzero (negsuc n) h = nonzero n
     nonzero : (k : ℕ) → (suc k == 0) ≡ false
     nonzero k = grind (arith, nat_tests)
 
--- a negative number is a minus and its size
+-- a negative number is a minus and its absolute value
 pub negative-text : (value : Number) → is_negative value ≡ true → number_text value ≡ 45 ∷ number_text (size_of value)
 negative-text value h =
     let nonzero : is_zero value ≡ false = negative-nonzero value.mantissa h in
@@ -163,6 +163,6 @@ blanks-read : (n : ℕ) (rest : List ℕ) (expected : List SeenToken) → Reads 
 blanks-read zero rest expected h = h
 blanks-read (suc n) rest expected h = reads-blank (replicate n 32 ++ rest) expected (blanks-read n rest expected h)
 
--- the tokens of a printed line are those that its pieces are printed from
+-- the tokens of a printed line are those from which its pieces are printed
 pub line-read : (line : PrintedLine) → Each IsPrintable line.lexemes → seen (tokens (line_text line)) ≡ line_tokens line
 line-read line h = blanks-read line.indent (join_by lexeme_text (codes " ") line.lexemes) (line_tokens line) (lexemes-read line.lexemes h) 0

@@ -1,4 +1,4 @@
--- A printed line has no fault by itself, and its terminals are those of its pieces.
+-- A printed line has no error of its own, and its terminals are those of its pieces.
 use Rattle.std.proofs.Common.{◌≡◌, refl, sym, ap, ◌∙◌, ℕ, zero, suc, ◌*◌, ◌≤◌, List, [], ◌∷◌, Bool, true, false, not, length, replicate, arith, length-append, map}
 use Rattle.std.specs.Prelude.{Option, Some, None, ◌||◌, ◌&&◌, ◌==◌, nat_le, codes, filter_map, if◌then◌else◌}
 use Rattle.std.specs.List.{join_by, list_all, list_any, cons_option}
@@ -39,7 +39,7 @@ use Rattle.mpslp_canonical_lp.proofs.LexemeLemmas.{IsPrintable, after_first_piec
 
 -- ---- bytes
 
--- visible, and no backslash
+-- visible, and not a backslash
 abbrev pub is_plain : ℕ → Bool
 is_plain byte = nat_le 33 byte && (nat_le byte 126 && not (byte == 92))
 
@@ -65,7 +65,7 @@ lp-plain b h = by (is_letter b) (is_digit b) refl refl h
     by false true e f k = digit-plain b f
     by false false e f k = symbol-plain (codes "!\"#$%&()/,.;?@_'{}|~`") b refl k
 
--- what is said of plain bytes and of blanks is said of each byte that is printed
+-- a property of plain bytes and of spaces holds for each byte that is printed
 module _ (P : ℕ → Type 0) (plain : (b : ℕ) → is_plain b ≡ true → P b) (blank : P 32) where
   each-word : (text : List ℕ) → is_word text ≡ true → Each P text
   each-word [] h = tt
@@ -122,7 +122,7 @@ bytes-legal line h =
 
 -- ---- length
 
--- a line as it may be printed
+-- a line that can be printed
 pub record IsPrintableLine (line : PrintedLine) : Type 0 where
   pub near : line.indent ≤ 2
   pub few : length line.lexemes ≤ 5
@@ -163,7 +163,7 @@ length-legal line h =
     let joined : length (join_by lexeme_text (codes " ") line.lexemes) ≤ 257 * length line.lexemes = length-joined line.lexemes h.each in
     at_most (length (line_text line)) (omega (arith, h.near, h.few, blanks, joined, length-append (replicate line.indent 32) (join_by lexeme_text (codes " ") line.lexemes)))
 
--- ---- faults of tokens
+-- ---- errors of tokens
 
 abbrev seen_fault : SeenToken → Option FaultKind
 seen_fault token = token_fault token.0 token.1
@@ -199,7 +199,7 @@ piece-faultless semi_continuous h = (refl, (refl, (refl, tt)))
 lexemes-faultless : (lexemes : List Lexeme) → Each IsPrintable lexemes → Each (λ piece. Each (λ token. seen_fault token ≡ None) (tokens_in piece)) lexemes
 lexemes-faultless lexemes h = Each-weaker IsPrintable (λ piece. Each (λ token. seen_fault token ≡ None) (tokens_in piece)) piece-faultless lexemes h
 
--- a printed line has no fault by itself
+-- a printed line has no error of its own
 pub line-faultless : (line : PrintedLine) → IsPrintableLine line → lexical_fault (line_text line) ≡ None
 line-faultless line h =
     let none : filter_map (λ (token : Token). token_fault token.kind token.text) (tokens (line_text line)) ≡ [] =

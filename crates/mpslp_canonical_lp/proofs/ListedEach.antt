@@ -1,4 +1,4 @@
--- What holds of each declaration of a kind holds of each that the canonical text makes.
+-- A property of each kind of declaration holds for every declaration of the canonical text.
 use Rattle.std.proofs.Common.{◌≡◌, refl, ℕ, List, [], ◌∷◌, ◌++◌, Bool, true, false}
 use Rattle.std.specs.Prelude.{Option, Some, None, filter, unwrap_or, if◌then◌else◌}
 use Rattle.std.specs.List.{list_any, flat_map}
@@ -24,7 +24,7 @@ use Rattle.mpslp_canonical_lp.proofs.BoundsWalk.{bound_made, column_made}
 use Rattle.mpslp_canonical_lp.proofs.TailWalk.{general_made, semi_made}
 use Rattle.mpslp_canonical_lp.proofs.TextWalk.{row_left, row_relation, row_right, row_made, listed_declarations}
 
--- the limits that a row is declared by
+-- the limits by which a row is declared
 abbrev pub form_by : Option Number → Relation → Number → RowDefinition
 form_by left relation right =
     let limits = row_limits (left_of left) relation (limit_of right) in
@@ -33,7 +33,7 @@ form_by left relation right =
 abbrev pub form_made : Limit → Limit → RowDefinition
 form_made lower upper = form_by (row_left lower upper) (row_relation lower upper) (row_right lower upper)
 
--- What holds of each declaration, by its kind.
+-- A property of each declaration, by its kind.
 pub record HoldsOfListed (P : Declaration → Type 0) (m : Listing) : Type 0 where
   pub sense : (sense : Sense) → P (declare_sense sense)
   pub objective : (name : List ℕ) → P (declare_objective name)
@@ -72,7 +72,7 @@ module _ (P : Declaration → Type 0) where
       (Each-flat_map P semi_made (filter is_semi_column m.columns)
       (Each-weaker (λ column. P (declare_semi column.0)) (λ column. Each P (semi_made column)) (λ column c. (h.column column.0, (c, tt))) (filter is_semi_column m.columns) h.semis)))))
 
-  -- of the declarations of a column's bounds, whatever the sides are
+  -- for the declarations of the bounds of a column, whatever the bounds are
   pub each-bound : (name : List ℕ) → P (declare_column name) → ((limit : Limit) → P (declare_lower name limit)) → ((limit : Limit) → P (declare_upper name limit)) → (lower upper : Limit) → Each P (bound_made name lower upper)
   each-bound name c l u MinusInf (Finite b) = (c, (l MinusInf, (u (limit_of b), tt)))
   each-bound name c l u (Finite a) (Finite b) = elim (have_same_value a b) as (λ t. Each P (if t then column_and name (limits_by EqualTo (limit_of b)) else column_and name (limits_by AtLeast (limit_of a)) ++ bounds_declared name None (Some (limit_of b)))) [
@@ -87,7 +87,7 @@ module _ (P : Declaration → Type 0) where
   each-bound name c l u PlusInf (Finite b) = (c, (l MinusInf, (u PlusInf, tt)))
   each-bound name c l u PlusInf PlusInf = (c, (l MinusInf, (u PlusInf, tt)))
 
-  -- of any row, any bound and any kind
+  -- for any row, any bound and any type
   pub each-of_kind : (m : Listing) → ((sense : Sense) → P (declare_sense sense)) → ((name : List ℕ) → P (declare_objective name)) → ((value : Number) → P (declare_constant value))
       → ((name : List ℕ) → P (declare_column name)) → ((key : CoefficientKey) (value : Number) → P (declare_coefficient key value)) → ((name : List ℕ) (form : RowDefinition) → P (declare_row name form))
       → ((name : List ℕ) (limit : Limit) → P (declare_lower name limit)) → ((name : List ℕ) (limit : Limit) → P (declare_upper name limit))

@@ -1,4 +1,4 @@
--- Each map of what the declarations of a listing's canonical text put into a draft.
+-- Each map of the draft that the declarations of the canonical text of a listing make.
 use Rattle.std.proofs.Common.{◌≡◌, refl, ap, ◌∙◌, List, [], ◌∷◌, ◌++◌, ℕ, true, false, map}
 use Rattle.std.specs.Prelude.{Some, None, filter, if◌then◌else◌}
 use Rattle.std.specs.List.{flat_map}
@@ -157,11 +157,11 @@ semis-part m =
     }) m
     ∙ (λ i. flat_map-none m.columns i ++ (flat_map-none (filter is_integer_column m.columns) i ++ flat_map_single named (filter is_semi_column m.columns) i))
 
--- the names that the bounds of a column tell
+-- the names that the bounds of a column declare
 abbrev pub bound_names : List ℕ × Column → List (List ℕ × Unit {0})
 bound_names column = flat_map column_part (column_made column)
 
--- columns are named by terms, by bounds and by their kinds
+-- columns are named by terms, by bounds and by their types
 pub columns-part : (m : Listing) → flat_map column_part (listed_declarations m) ≡ all_parts column_part nothing (λ _. own_name) bound_names own_name own_name m
 columns-part =
     listed-parts column_part nothing (λ _. own_name) bound_names own_name own_name (record {

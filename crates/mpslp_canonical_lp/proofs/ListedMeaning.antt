@@ -1,4 +1,4 @@
--- The draft of what a sound model's canonical text declares means the model.
+-- The draft of what the canonical text of a well-formed model declares means the model.
 use Rattle.std.proofs.Common.{ap, List, [], ℕ}
 use Rattle.std.specs.Prelude.{Option, unwrap_or}
 use Rattle.mpslp_model_core.specs.Model.{LinearModel, IsSound}
@@ -18,7 +18,7 @@ use Rattle.mpslp_canonical_lp.proofs.NamedColumns.{columns-drafted}
 use Rattle.mpslp_canonical_lp.proofs.MeantColumns.{binaries-none, each-back}
 use Rattle.mpslp_canonical_lp.proofs.MeantCoefficients.{coefficients-kept}
 
--- The draft of what is printed of a sound model means it.
+-- The draft of what is printed for a well-formed model means it.
 pub draft-means : (m : LinearModel) → IsSound m → DraftMeans (draft_of (listed_declarations (listing_of m))) m
 draft-means m sound =
     let listing = listing_of m in
@@ -42,6 +42,6 @@ draft-means m sound =
       binary_within = binary-within all listing.columns declared back (binaries-none listing);
     }
 
--- So the declarations mean it, where they are consistent.
+-- So the declarations mean it, if they are consistent.
 pub listed-means : (m : LinearModel) → IsSound m → AreConsistent (listed_declarations (listing_of m)) → Means (listed_declarations (listing_of m)) m
 listed-means m sound consistent = record { consistent = consistent; meant = draft-means m sound }

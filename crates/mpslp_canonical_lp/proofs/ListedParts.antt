@@ -1,4 +1,4 @@
--- What the declarations of a listing's canonical text put into each map.
+-- What the declarations of the canonical text of a listing put into each map.
 use Rattle.std.proofs.Common.{◌≡◌, refl, ap, ◌∙◌, List, [], ◌∷◌, ◌++◌, ℕ, true, false}
 use Rattle.std.specs.Prelude.{Option, Some, None, filter, unwrap_or, if◌then◌else◌}
 use Rattle.std.specs.List.{flat_map}
@@ -25,7 +25,7 @@ use Rattle.mpslp_canonical_lp.proofs.BoundsWalk.{column_made}
 use Rattle.mpslp_canonical_lp.proofs.RowWalk.{left_of}
 use Rattle.mpslp_canonical_lp.proofs.TextWalk.{row_left, row_relation, row_right, row_made, listed_declarations}
 
--- ---- what is told of a row and of a column
+-- ---- what is declared of a row and of a column
 
 abbrev pub limits_told : Limit → Limit → Limits
 limits_told lower upper = row_limits (left_of (row_left lower upper)) (row_relation lower upper) (limit_of (row_right lower upper))
@@ -60,8 +60,8 @@ drafted m = draft_of (listed_declarations m)
 
 -- ---- all sections
 
--- What a kind of declaration puts into a map: of a row, of a term in a row or the objective, and of a column where its
--- bounds are told, or its kind.
+-- What a kind of declaration puts into a map: for a row, for a term in a row or the objective, and for a column by its
+-- bounds or its type.
 pub record PartsOf {Y : Type 0} (part : Declaration → List Y) (row : List ℕ × Row → List Y) (term : List ℕ → Term → List Y) (bound general semi : List ℕ × Column → List Y) : Type 0 where
   pub of_sense : (s : Sense) → part (declare_sense s) ≡ []
   pub of_objective : (name : List ℕ) → part (declare_objective name) ≡ []
@@ -111,7 +111,7 @@ module _ {Y : Type 0} (part : Declaration → List Y) (row : List ℕ × Row →
       (follow (flat_map general_made (filter is_integer_column m.columns)) (flat_map semi_made (filter is_semi_column m.columns)) _ _
       (section general_made general h.of_general (filter is_integer_column m.columns)) (section semi_made semi h.of_semi (filter is_semi_column m.columns)))))
 
--- ---- where some sections put nothing into a map
+-- ---- if some sections put nothing into a map
 
 abbrev pub nothing : {X Y : Type 0} → X → List Y
 nothing x = []
@@ -122,7 +122,7 @@ nothing_of name term = []
 abbrev pub own_name : {X : Type 0} → List ℕ × X → List (List ℕ × Unit {0})
 own_name entry = named entry ∷ []
 
--- where terms put nothing into the map
+-- if terms put nothing into the map
 pub without-terms : {Y : Type 0} (row : List ℕ × Row → List Y) (m : Listing) (more : List Y)
     → flat_map nothing (objective_terms m) ++ (flat_map (λ entry. row entry ++ flat_map nothing (row_terms m entry.0)) m.rows ++ more) ≡ flat_map row m.rows ++ more
 without-terms {Y} row m more =
@@ -131,18 +131,18 @@ without-terms {Y} row m more =
     bare : (entry : List ℕ × Row) → row entry ++ flat_map nothing (row_terms m entry.0) ≡ row entry
     bare entry = ap (λ (ys : List Y). row entry ++ ys) (flat_map-none (row_terms m entry.0)) ∙ append-nil (row entry)
 
--- where the lines of rows put nothing into it either
+-- if the lines of rows put nothing into it either
 without-rows : {Y : Type 0} (m : Listing) (more : List Y)
     → flat_map nothing (objective_terms m) ++ (flat_map (λ entry. flat_map nothing (row_terms m entry.0)) m.rows ++ more) ≡ more
 without-rows m more =
     without-terms nothing m more ∙ ap (λ (ys : List _). ys ++ more) (flat_map-none m.rows)
 
--- a map into which the lines of columns alone put something
+-- a map into which only the lines of columns put something
 pub columns-parts : {Y : Type 0} (part : Declaration → List Y) (bound general semi : List ℕ × Column → List Y) → PartsOf part nothing nothing_of bound general semi → (m : Listing)
     → flat_map part (listed_declarations m) ≡ flat_map bound m.columns ++ (flat_map general (filter is_integer_column m.columns) ++ flat_map semi (filter is_semi_column m.columns))
 columns-parts part bound general semi h m = listed-parts part nothing nothing_of bound general semi h m ∙ without-rows m _
 
--- the lines of bounds alone
+-- only the lines of bounds
 pub bounds-parts : {Y : Type 0} (part : Declaration → List Y) (bound : List ℕ × Column → List Y) → PartsOf part nothing nothing_of bound nothing nothing → (m : Listing) → flat_map part (listed_declarations m) ≡ flat_map bound m.columns
 bounds-parts part bound h m =
     columns-parts part bound nothing nothing h m

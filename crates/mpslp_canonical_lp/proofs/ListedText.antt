@@ -50,6 +50,6 @@ line_text-from_passes m output sorted text fits passes =
       fits = ap unfit_in (listing_of-model_in m sorted) ∙ fits;
     }
 
--- where a name of the model of these lists is no LP name
+-- if a name of the model of these lists is not an LP name
 pub unfit-listed : (m : Listing) (place : NameAt) → is_in_order m ≡ true → unfit_in m ≡ Some place → unfit (model_in m) ≡ Some place
 unfit-listed m place sorted h = ap unfit_in (listing_of-model_in m sorted) ∙ h

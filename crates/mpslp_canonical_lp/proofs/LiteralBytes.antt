@@ -10,14 +10,14 @@ use Rattle.mpslp_types.proofs.EachLemmas.{Each-from_list_all}
 use Rattle.mpslp_decimal.proofs.CutLemmas.{Each}
 use Rattle.mpslp_decimal.proofs.CutLemmas.{Each-weaker}
 
--- what is said of each of these bytes is said of each byte of a literal
+-- a property of each of these bytes holds for each byte of a literal
 module _ (P : ℕ → Type 0) (digit : (b : ℕ) → is_digit b ≡ true → P b) (sign : (b : ℕ) → is_sign b ≡ true → P b)
     (point : (b : ℕ) → is_point b ≡ true → P b) (mark : (b : ℕ) → is_exponent_mark b ≡ true → P b) where
   both-parts : (xs ys : List ℕ) → Each P (xs ++ ys) → Each P xs × Each P ys
   both-parts [] ys h = (tt, h)
   both-parts (x ∷ xs) ys h = let more = both-parts xs ys h.1 in ((h.0, more.0), more.1)
 
-  -- what stands before and after the first byte that passes a test, and that byte
+  -- the parts before and after the first byte that passes a test, and that byte
   around : (p : ℕ → Bool) → ((b : ℕ) → p b ≡ true → P b) → (xs : List ℕ) → Each P (before_first p xs) → Each P (after_first p xs) → Each P xs
   around p here [] h k = tt
   around p here (x ∷ xs) h k =

@@ -1,4 +1,4 @@
--- The laws of LP as a format of model files, in the words of the trait of formats.
+-- The laws of LP as a format of model files, in terms of the trait `Format`.
 use Rattle.std.proofs.Common.{◌≡◌, sym, ◌∙◌, List, ℕ}
 use Rattle.std.specs.Prelude.{Some, None}
 use Rattle.mpslp_model_core.specs.Model.{LinearModel, IsSound}
@@ -10,7 +10,7 @@ use Rattle.mpslp_canonical_lp.specs.CanonicalLp.{canonical_lp}
 use Rattle.mpslp_canonical_lp.specs.Unfit.{unfit}
 use Rattle.mpslp_canonical_lp.proofs.CanonicalDeclares.{canonical-declares, one-model, declared-fits}
 
--- The text of a sound model with LP names declares this model.
+-- The text of a well-formed model with LP names declares this model.
 pub text_declares : (m : LinearModel) → IsSound m → unfit m ≡ None → DeclaresLp (canonical_lp m) m
 text_declares = canonical-declares
 
@@ -18,17 +18,17 @@ text_declares = canonical-declares
 pub one_model : (bytes : List ℕ) (m n : LinearModel) → DeclaresLp bytes m → DeclaresLp bytes n → m ≡ n
 one_model = one-model
 
--- What bytes declare is sound, and LP can tell it.
+-- What bytes declare is well-formed, and LP can express it.
 pub declared_sound : (bytes : List ℕ) (m : LinearModel) → DeclaresLp bytes m → IsSound m × (unfit m ≡ None)
 declared_sound = declared-fits
 
--- Bytes that declare a model have no fault.
+-- Bytes that declare a model have no error.
 pub no_fault : (bytes : List ℕ) (m : LinearModel) (fault : Fault) → DeclaresLp bytes m → IsFirstLpFault bytes fault → ⊥
 no_fault = model-or_fault
 
 one-told : (a b : Fault) → Some a ≡ Some b → a ≡ b
 one-told a b e = cc
 
--- No bytes have two first faults.
+-- No bytes have two first errors.
 pub one_fault : (bytes : List ℕ) (fault other : Fault) → IsFirstLpFault bytes fault → IsFirstLpFault bytes other → fault ≡ other
 one_fault bytes a b first second = one-told a b (sym first ∙ second)

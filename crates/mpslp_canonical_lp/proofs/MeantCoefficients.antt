@@ -1,4 +1,4 @@
--- The coefficients that are declared, but for the zeros, are the listing's.
+-- The coefficients that are declared, without zeros, are those of the listing.
 use Rattle.std.proofs.Common.{◌≡◌, refl, sym, ap, ◌∙◌, List, [], ◌∷◌, ◌++◌, ℕ, Bool, true, false, not, cond}
 use Rattle.std.specs.Prelude.{Option, Some, None, filter, filter_map, if◌then◌else◌}
 use Rattle.std.specs.List.{flat_map, cons_option}
@@ -27,7 +27,7 @@ use Rattle.mpslp_canonical_lp.proofs.PrintedTerms.{place_at, no-coefficient, eac
 abbrev is_kept : Number → Bool
 is_kept value = not (is_zero value)
 
--- what is printed at a key is what is there; 0 is printed where nothing is
+-- the value printed for a key is that of the listing, or 0 if it has none
 abbrev IsTrueEntry : Listing → CoefficientKey × Number → Type 0
 IsTrueEntry m entry = find key_cmp entry.0 m.coefficients ≡ cond (is_kept entry.1) (Some entry.1) None
 
@@ -92,7 +92,7 @@ module _ (m : Listing) (h : IsSoundListing m) where
       (entries-true m.objective (objective_terms m) objective-true)
       (Each-flat_map (IsTrueEntry m) row_coefficients m.rows (Each-all (λ row. Each (IsTrueEntry m) (row_coefficients row)) (λ row. entries-true row.0 (row_terms m row.0) (row-true row.0 m.columns)) m.rows))
 
-  -- The coefficients that are declared, but for the zeros, are the listing's.
+  -- The coefficients that are declared, without zeros, are those of the listing.
   pub coefficients-kept : filter (λ entry. not (is_zero entry.1)) (drafted m).coefficients ≡ m.coefficients
   coefficients-kept =
       ap (filter (λ (entry : CoefficientKey × Number). not (is_zero entry.1)))

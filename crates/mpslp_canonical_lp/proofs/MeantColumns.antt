@@ -1,4 +1,4 @@
--- The columns that are declared are the listing's: each has its kind and its bounds.
+-- The columns that are declared are those of the listing: each has its type and its bounds.
 use Rattle.std.proofs.Common.{◌≡◌, refl, sym, ap, ◌∙◌, List, [], ◌∷◌, ℕ, Bool, true, false, cond, map}
 use Rattle.std.specs.Prelude.{Option, Some, None, is_some, is_none, unwrap_or, filter, ◌&&◌, ◌||◌, if◌then◌else◌}
 use Rattle.std.specs.Ordering.{eq_by_cmp}
@@ -31,7 +31,7 @@ use Rattle.mpslp_builder.proofs.NamedEntries.{named}
 use Rattle.mpslp_canonical_lp.proofs.ListedParts.{lower_told, upper_told, column_lower, column_upper, drafted}
 use Rattle.mpslp_canonical_lp.proofs.ListedMaps.{lowers-part, uppers-part, integers-part, semis-part, no-marks, no-binaries}
 
--- ---- sides, kinds
+-- ---- bounds, types
 
 lower-at : (m : Listing) → IsSoundListing m → (q : List ℕ) → at_name (drafted m).lowers q ≡ then_told column_lower (at_name m.columns q)
 lower-at m h q =
@@ -60,7 +60,7 @@ at-named q (column ∷ columns) =
       | false ↦ at-named q columns
     ]
 
--- whether a column is among those whose kind passes
+-- whether a column is among those whose type passes
 kind-at : (m : Listing) → IsSoundListing m → (p : Kind → Bool) (q : List ℕ) (column : Column) → at_name m.columns q ≡ Some column → has_name (map named (filter (λ (c : List ℕ × Column). p c.1.kind) m.columns)) q ≡ p column.kind
 kind-at m h p q column is =
     at-named q (filter (λ (c : List ℕ × Column). p c.1.kind) m.columns)
@@ -85,7 +85,7 @@ marked-none m = marked-all (listed_declarations m) empty_draft ∙ ap (λ (es : 
 pub binaries-none : (m : Listing) → (drafted m).binaries ≡ []
 binaries-none m = binaries-all (listed_declarations m) empty_draft ∙ ap (λ (es : List (List ℕ × Unit {0})). puts bytes_cmp es []) (no-binaries m)
 
--- ---- bounds come back from what is told and the defaults
+-- ---- the bounds follow from what is declared and the defaults
 
 unless-zero : (a : Number) → is_bounded_decimal a ≡ true → unwrap_or (if is_zero a then None else Some (limit_of a)) zero_limit ≡ Finite a
 unless-zero a p = by (is_zero a) refl
@@ -136,7 +136,7 @@ or_none : (b : Bool) → (false || (b || false)) ≡ b
 or_none true = refl
 or_none false = refl
 
--- each column has its kind and bounds
+-- each column has its type and bounds
 bounds-back : (m : Listing) → IsSoundListing m → (column : List ℕ × Column) → IsOwnColumn m column → column_of (drafted m) column.0 ≡ column.1
 bounds-back m h column k =
     let name = column.0 in

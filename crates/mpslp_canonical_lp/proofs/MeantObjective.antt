@@ -1,4 +1,4 @@
--- The sense, the objective and the constant that are declared are the listing's.
+-- The sense, the objective and the constant that are declared are those of the listing.
 use Rattle.std.proofs.Common.{◌≡◌, refl, sym, ap, ◌∙◌, List, [], ◌∷◌, ◌++◌, ℕ, Bool, true, false}
 use Rattle.std.specs.Prelude.{Option, Some, None, filter, unwrap_or, if◌then◌else◌}
 use Rattle.std.specs.List.{flat_map}
@@ -40,7 +40,7 @@ record EachKind (P : Declaration → Type 0) : Type 0 where
   pub of_integer : (x : List ℕ) → P (declare_integer x)
   pub of_semi : (x : List ℕ) → P (declare_semi x)
 
--- what is declared behind the objective
+-- what is declared after the objective
 abbrev rest_declared : Listing → Declarations
 rest_declared m =
     flat_map (row_made m) m.rows ++ (flat_map column_made m.columns ++ (flat_map general_made (filter is_integer_column m.columns) ++ flat_map semi_made (filter is_semi_column m.columns)))
@@ -139,7 +139,7 @@ keeps-constant value = record {
   of_semi = λ _ all is. is;
 }
 
--- it is told unless it is 0
+-- it is declared unless it is 0
 abbrev told_constant : Number → Option Number
 told_constant value = if is_zero value then None else Some value
 

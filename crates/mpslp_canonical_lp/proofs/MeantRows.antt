@@ -1,4 +1,4 @@
--- The rows that are declared are the listing's: each has its limits.
+-- The rows that are declared are those of the listing: each has its limits.
 use Rattle.std.proofs.Common.{◌≡◌, refl, sym, ap, ◌∙◌, List, [], ◌∷◌, ℕ, Bool, true, false, not, map}
 use Rattle.std.specs.Prelude.{Some, None, is_some, if◌then◌else◌}
 use Rattle.std.specs.List.{list_all}
@@ -28,7 +28,7 @@ use Rattle.mpslp_canonical_lp.proofs.SoundListing.{IsSoundListing}
 use Rattle.mpslp_canonical_lp.proofs.ListedParts.{limits_told, form_of, drafted}
 use Rattle.mpslp_canonical_lp.proofs.ListedMaps.{row_forms, rows-part}
 
--- limits that are equal are one decimal
+-- limits that are equal are the same decimal
 between-told : (a b : Number) → is_bounded_decimal a ≡ true → is_bounded_decimal b ≡ true → form_of (limits_told (Finite a) (Finite b)) ≡ by_limits (Finite a) (Finite b)
 between-told a b p q = by (have_same_value a b) refl
   where
@@ -37,7 +37,7 @@ between-told a b p q = by (have_same_value a b) refl
     by true e = λ i. by_limits ((bounded_finite b q ∙ ap (λ (d : Number). Finite d) (sym (same_decimal a b (bounded_so a p) (bounded_so b q) e))) i) (bounded_finite b q i)
     by false e = λ i. by_limits (bounded_finite a p i) (bounded_finite b q i)
 
--- what is told of a row are its limits
+-- what is declared of a row are its limits
 pub limits-back : (lower upper : Limit) → are_sides lower upper ≡ true → form_of (limits_told lower upper) ≡ by_limits lower upper
 limits-back lower upper h = by lower upper (lower_of lower upper h) (upper_of lower upper h)
   where
@@ -73,7 +73,7 @@ rows-back m h = ap (map (row_entry (drafted m))) (rows-drafted m h) ∙ each-bac
     each-back [] = refl
     each-back (row ∷ rows) = ap (λ (more : List (List ℕ × Row)). row ∷ more) (each-back rows)
 
--- a row by limits has no right side, and its limits are decimals
+-- a row declared by limits has no right-hand side, and its limits are decimals
 pub finite-rows : (m : Listing) → IsSoundListing m → list_all (λ row. not (row_passes (drafted m) has_infinite_rhs row)) (drafted m).rows ≡ true
 finite-rows m h =
     ap (list_all (λ row. not (row_passes (drafted m) has_infinite_rhs row))) (rows-drafted m h)

@@ -1,4 +1,4 @@
--- The columns that are declared are those of a sound listing, however often each is named.
+-- The columns that are declared are those of a well-formed listing, however often each is named.
 use Rattle.std.proofs.Common.{◌≡◌, refl, sym, ap, ◌∙◌, List, [], ◌∷◌, ◌++◌, ℕ, Bool, true, false, map, append_assoc}
 use Rattle.std.specs.Prelude.{Option, Some, None, is_some, filter, filter_map, ◌||◌, if◌then◌else◌}
 use Rattle.std.specs.List.{flat_map, list_any}
@@ -40,7 +40,7 @@ Names = List (List ℕ × Unit {0})
 abbrev listed_names : Listing → Names
 listed_names m = all_parts column_part nothing (λ _. own_name) bound_names own_name own_name m
 
--- ---- all of them are columns'
+-- ---- all of them are names of columns
 
 module _ (P : List ℕ × Unit {0} → Type 0) where
   bound-names-hold : (name : List ℕ) (l u : Limit) → P (name, tt) → Each P (flat_map column_part (bound_made name l u))
@@ -105,7 +105,7 @@ module _ (P : List ℕ × Unit {0} → Type 0) where
       (Each-flat_map P bound_names m.columns (Each-weaker HoldsOfColumn (λ column. Each P (bound_names column)) (λ column is. bound-names-hold column.0 column.1.lower column.1.upper is) m.columns h))
       (Each-append P (flat_map own_name (filter is_integer_column m.columns)) (flat_map own_name (filter is_semi_column m.columns)) (kept-named is_integer_column m.columns h) (kept-named is_semi_column m.columns h))))
 
--- ---- and each column is there
+-- ---- and each column is among them
 
 any-each : {X : Type 0} (p : X → Bool) (Q : X → Type 0) (Goal : Type 0) → ((x : X) → p x ≡ true → Q x → Goal) → (xs : List X) → list_any p xs ≡ true → Each Q xs → Goal
 any-each p Q Goal f [] h k = absurd (no_truth h)
@@ -125,7 +125,7 @@ module _ (m : Listing) (h : IsSoundListing m) where
   abbrev term_names : Names
   term_names = flat_map own_name (objective_terms m) ++ flat_map (λ row. flat_map own_name (row_terms m row.0)) m.rows
 
-  -- a term stands before all else
+  -- a term comes first
   in-listed : (name : List ℕ) → IsNamed name term_names → IsNamed name (listed_names m)
   in-listed name is =
       let more = flat_map bound_names m.columns ++ (flat_map own_name (filter is_integer_column m.columns) ++ flat_map own_name (filter is_semi_column m.columns)) in

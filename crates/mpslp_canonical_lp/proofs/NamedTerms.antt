@@ -17,7 +17,7 @@ use Rattle.mpslp_canonical_lp.proofs.RowWalk.{AreNew}
 use Rattle.mpslp_canonical_lp.proofs.TextWalk.{IsRow}
 use Rattle.mpslp_canonical_lp.proofs.RankedSlots.{AreOther}
 
--- a term of those columns that have a value
+-- a term for each column that has a value
 abbrev terms_by : (List ℕ × Column → Option Number) → List (List ℕ × Column) → List Term
 terms_by value_of columns = filter_map (λ column. option_map (λ value. (column.0, value)) (value_of column)) columns
 
@@ -62,7 +62,7 @@ some-other (column ∷ columns) (term ∷ terms) h = h
 pub row-other : (m : Listing) (row : List ℕ) → AreOther m.columns → AreOther (row_terms m row)
 row-other m row h = some-other m.columns (filter_map (term_in m row) m.columns) (other-terms (λ column. find key_cmp (record { row = row; column = column.0 }) m.coefficients) m.columns h)
 
--- terms behind others whose columns they do not have
+-- terms after others with different columns
 new-behind : (seen terms : List Term) → Each (λ (term : Term). list_any (λ (earlier : Term). same_bytes term.0 earlier.0) seen ≡ false) terms → AreOther terms → AreNew seen terms
 new-behind seen [] h other = tt
 new-behind seen (term ∷ terms) h other = (
@@ -82,7 +82,7 @@ some-row [] terms some P h = absurd (omega (arith, some))
 some-row (column ∷ columns) [] some P h = h (column.0, zero_number) []
 some-row (column ∷ columns) (term ∷ terms) some P h = h term terms
 
--- Each row is printed with terms, none of them of one column twice.
+-- Each row is printed with terms, none of them of the same column twice.
 pub plain-row : (m : Listing) → IsFit m → AreOther m.columns → 0 < length m.columns → (row : List ℕ) → IsRow (row_terms m row)
 plain-row m fit other some row =
     let terms = filter_map (term_in m row) m.columns in

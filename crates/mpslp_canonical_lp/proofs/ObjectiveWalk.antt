@@ -31,7 +31,7 @@ use Rattle.mpslp_canonical_lp.proofs.PhraseLemmas.{Walks, walks-none, walks-then
 
 -- ---- lists of lines
 
--- the number of the line behind these
+-- the number of the line after these
 abbrev pub number_after : ℕ → Lines → ℕ
 number_after n [] = n
 number_after n (line ∷ lines) = number_after (n + 1) lines
@@ -42,17 +42,17 @@ terminals-append n (x ∷ xs) ys =
     ap (λ (more : List TerminalAt). line_terminals_in n x ++ more) (terminals-append (n + 1) xs ys)
     ∙ sym (append_assoc (line_terminals_in n x) (all_terminals (n + 1) xs) (all_terminals (number_after (n + 1) xs) ys))
 
--- ---- refusals of parts
+-- ---- errors of parts
 
 none-left : (xs ys : List BuildFault) → xs ++ ys ≡ [] → (xs ≡ []) × (ys ≡ [])
 none-left [] ys h = (refl, h)
 none-left (x ∷ xs) ys h = cc
 
--- where nothing of two parts is refused, nothing of either is
+-- if nothing of two parts is rejected, nothing of either is
 pub parts-taken : (all : Draft) (xs ys : Declarations) → refusals_in_turn all (xs ++ ys) ≡ [] → (refusals_in_turn all xs ≡ []) × (refusals_in_turn (with_declarations all xs) ys ≡ [])
 parts-taken all xs ys h = none-left (refusals_in_turn all xs) (refusals_in_turn (with_declarations all xs) ys) (sym (refusals_in_turn-append xs ys all) ∙ h)
 
--- one part behind the other, each in its draft
+-- one part after the other, each in its draft
 pub parts-walk : (from : Place) (between to : Place) (sections_seen later last : SectionsSeen) (all : Draft) (xs ys : List TerminalAt) (made more : Declarations)
     → Walks (point_at from sections_seen all) xs made (point_at between later (with_declarations all made))
     → Walks (point_at between later (with_declarations all made)) ys more (point_at to last (with_declarations (with_declarations all made) more))

@@ -1,4 +1,4 @@
--- What the grammar makes of the printed forms: each declares what it was printed from, where nothing of it is refused.
+-- How the grammar reads the printed forms: each declares what it was printed from, if none of it is rejected.
 use Rattle.std.proofs.Common.{◌≡◌, refl, sym, ap, ◌∙◌, ℕ, List, [], ◌∷◌, ◌++◌, Bool, true, false, length, append_assoc}
 use Rattle.std.specs.Prelude.{Option, Some, None, codes, if◌then◌else◌}
 use Rattle.std.specs.List.{list_any}
@@ -45,7 +45,7 @@ use Rattle.mpslp_canonical_lp.proofs.TerminalLemmas.{at}
 abbrev pub Tokens : Type 0
 Tokens = List TerminalAt
 
--- From a point on the tokens declare these, and lead to another point, whatever follows them.
+-- From a point on, the tokens declare these and lead to another point, whatever follows them.
 pub record Walks (from : Point) (tokens : Tokens) (made : Declarations) (to : Point) : Type 0 where
   pub says : (rest : Tokens) → phrases phrase_at from 0 (tokens ++ rest) ≡ phrases phrase_at to 0 rest
   pub makes : (rest : Tokens) → made_by phrase_at from 0 (tokens ++ rest) ≡ made ++ made_by phrase_at to 0 rest
@@ -86,7 +86,7 @@ walks-one from token tokens made to h =
 pub walks-none : (point : Point) → Walks point [] [] point
 walks-none point = record { says = λ rest. refl; makes = λ rest. refl }
 
--- one part behind the other
+-- one part after the other
 pub walks-then : (from between to : Point) (xs ys : Tokens) (made more : Declarations) → Walks from xs made between → Walks between ys more to → Walks from (xs ++ ys) (made ++ more) to
 walks-then from between to xs ys made more h k =
     record {
@@ -162,7 +162,7 @@ pub row-walks : (sections_seen : SectionsSeen) (all : Draft) (name : List ℕ) (
 row-walks sections_seen all name k n minus size column =
     walks-one (point_at BetweenRows sections_seen all) (at k (Name name)) (at k Colon ∷ at n (Sign minus) ∷ at n (Number size) ∷ at n (Name column) ∷ []) _ _ (λ rest. refl)
 
--- a label, a limit left of the terms, and the first term
+-- a label, a limit before the terms, and the first term
 pub left-row-walks : (sections_seen : SectionsSeen) (all : Draft) (name : List ℕ) (k j n : ℕ) (value : Decimal) (relation : Relation) (minus : Bool) (size : Decimal) (column : List ℕ)
     → Walks (point_at BetweenRows sections_seen all)
     (at k (Name name) ∷ at k Colon ∷ at j (Number value) ∷ at j (Compares relation) ∷ at n (Sign minus) ∷ at n (Number size) ∷ at n (Name column) ∷ []) []
@@ -191,11 +191,11 @@ row-term-walks sections_seen all row n minus size column h =
     (λ rest. ap (λ (twice : Bool). after_taking 2 ((if twice then refuses context (at n (Name column)) DuplicateEntry
     else goes_to context (InRow (record row { terms = row.terms ++ (column, apply_sign minus size) ∷ [] })) []) rest)) h)
 
--- what a row declares that ends by this sense and this limit
+-- what a row declares that ends with this relation and this limit
 abbrev pub ended_by : PartialRow → Relation → Limit → Declarations
 ended_by row relation limit = row_declared row (row_limits row.left relation limit)
 
--- a sense and a limit right of the terms
+-- a relation and a limit after the terms
 pub row-end-walks : (sections_seen : SectionsSeen) (all : Draft) (row : PartialRow) (n : ℕ) (relation : Relation) (value : Decimal)
     → fits_left row.left relation ≡ true → refusals_in_turn all (ended_by row relation (limit_of value)) ≡ []
     → Walks (point_at (InRow row) sections_seen all) (at n (Compares relation) ∷ at n (Number value) ∷ []) (ended_by row relation (limit_of value))
@@ -219,7 +219,7 @@ signed-end-walks sections_seen all row n relation below value fits h =
 
 -- ---- sections
 
--- a section's word, where a section may begin
+-- a section word, if a section may begin
 opens-section : (place : Place) (sections_seen : SectionsSeen) (all : Draft) (n : ℕ) (word : SectionWord) (tokens : Tokens) → may_begin_section place ≡ true
     → section_fault sections_seen (section_of word) ≡ None
     → phrase_at (point_at place sections_seen all) (at n (Opens word)) tokens ≡ section_start (record { sections_seen = with_section sections_seen (section_of word); earlier = all }) (at n (Opens word)) word tokens
@@ -255,7 +255,7 @@ semis-section-walks place sections_seen all n may fault =
     walks-one (point_at place sections_seen all) (at n (Opens section_words.Semi)) (at n (Sign true) ∷ at n (Name (codes "Continuous")) ∷ []) _ _
     (λ rest. opens-section place sections_seen all n section_words.Semi (at n (Sign true) ∷ at n (Name (codes "Continuous")) ∷ rest) may fault)
 
--- a constant, which is told by what follows it: `Subject To`
+-- a constant, which `Subject To` after it completes
 pub constant-walks : (started : Bool) (sections_seen : SectionsSeen) (all : Draft) (name : List ℕ) (k n : ℕ) (minus : Bool) (size : Decimal)
     → refusals_in_turn all (declare_constant (apply_sign minus size) ∷ []) ≡ [] → section_fault sections_seen sections.Rows ≡ None
     → Walks (point_at (if started then InObjective name else BeforeItems name) sections_seen all) (at k (Sign minus) ∷ at k (Number size) ∷ at n (Opens section_words.Subject) ∷ at n (Name (codes "To")) ∷ [])
@@ -272,7 +272,7 @@ constant-walks false sections_seen all name k n minus size h fault =
     (at n (Opens section_words.Subject) ∷ at n (Name (codes "To")) ∷ rest))) h)
     (subject-walks (InObjective name) sections_seen (with_declarations all (declare_constant (apply_sign minus size) ∷ [])) n refl fault)
 
--- the text is whole at its last word
+-- the text is complete at its last word
 pub end-says : (place : Place) (sections_seen : SectionsSeen) (all : Draft) (n : ℕ) → may_begin_section place ≡ true → section_fault sections_seen sections.End ≡ None
     → phrases phrase_at (point_at place sections_seen all) 0 (at n (Opens section_words.End) ∷ []) ≡ Finished all
 end-says place sections_seen all n may fault = ap whole (opens-section place sections_seen all n section_words.End [] may fault)
@@ -299,15 +299,15 @@ end-makes place sections_seen all n may fault = ap made (opens-section place sec
 
 -- ---- bounds
 
--- what sides of a column declare, and the column with them
+-- what bounds of a column declare, with the column itself
 abbrev pub column_and : List ℕ → Limits → Declarations
 column_and column limits = (declare_column column ∷ []) ++ bounds_declared column limits.lower limits.upper
 
--- sides of a column that is declared with them are not refused
+-- bounds of a column that is declared with them are not rejected
 abbrev pub AreTaken : Draft → List ℕ → Limits → Type 0
 AreTaken all column limits = bounds_refusals (with_declarations all (declare_column column ∷ [])) column limits.lower limits.upper ≡ []
 
--- a column, a sense and a limit
+-- a column, a relation and a limit
 pub bound-walks : (sections_seen : SectionsSeen) (all : Draft) (n : ℕ) (column : List ℕ) (relation : Relation) (value : Decimal) → AreTaken all column (limits_by relation (limit_of value))
     → Walks (point_at (InBounds None) sections_seen all) (at n (Name column) ∷ at n (Compares relation) ∷ at n (Number value) ∷ []) (column_and column (limits_by relation (limit_of value)))
     (point_at (InBounds None) sections_seen (with_declarations all (column_and column (limits_by relation (limit_of value)))))
@@ -329,7 +329,7 @@ free-walks sections_seen all n column h =
     walks-one (point_at (InBounds None) sections_seen all) (at n (Name column)) (at n Free ∷ []) _ _
     (λ rest. ap (λ (refused : List BuildFault). after_taking 1 (unless_refused (record { sections_seen = sections_seen; earlier = all }) (at n Free) refused (InBounds None) (column_and column no_limits) rest)) h)
 
--- a limit left of a column
+-- a limit before a column
 pub left-bound-walks : (sections_seen : SectionsSeen) (all : Draft) (n : ℕ) (value : Decimal) (relation : Relation) (column : List ℕ) → AreTaken all column (limits_by (flip relation) (limit_of value))
     → Walks (point_at (InBounds None) sections_seen all) (at n (Number value) ∷ at n (Compares relation) ∷ at n (Name column) ∷ []) (column_and column (limits_by (flip relation) (limit_of value)))
     (point_at (InBounds (Some (column, relation))) sections_seen (with_declarations all (column_and column (limits_by (flip relation) (limit_of value)))))
@@ -345,7 +345,7 @@ signed-left-bound-walks sections_seen all n below value relation column h =
     walks-one (point_at (InBounds None) sections_seen all) (at n (Sign below)) (at n (Number value) ∷ at n (Compares relation) ∷ at n (Name column) ∷ []) _ _
     (λ rest. ap (λ (refused : List BuildFault). after_taking 1 (after_taking 1 (after_taking 1 (unless_refused (record { sections_seen = sections_seen; earlier = all }) (at n (Name column)) refused (InBounds (Some (column, relation))) (column_and column (limits_by (flip relation) (limit_of (apply_sign below value)))) rest)))) h)
 
--- `-infinity` left of a column
+-- `-infinity` before a column
 pub infinite-left-walks : (sections_seen : SectionsSeen) (all : Draft) (n : ℕ) (relation : Relation) (column : List ℕ) → AreTaken all column (limits_by (flip relation) MinusInf)
     → Walks (point_at (InBounds None) sections_seen all) (at n (Sign true) ∷ at n Infinity ∷ at n (Compares relation) ∷ at n (Name column) ∷ []) (column_and column (limits_by (flip relation) MinusInf))
     (point_at (InBounds (Some (column, relation))) sections_seen (with_declarations all (column_and column (limits_by (flip relation) MinusInf))))
@@ -353,7 +353,7 @@ infinite-left-walks sections_seen all n relation column h =
     walks-one (point_at (InBounds None) sections_seen all) (at n (Sign true)) (at n Infinity ∷ at n (Compares relation) ∷ at n (Name column) ∷ []) _ _
     (λ rest. ap (λ (refused : List BuildFault). after_taking 1 (after_taking 1 (after_taking 1 (unless_refused (record { sections_seen = sections_seen; earlier = all }) (at n (Name column)) refused (InBounds (Some (column, relation))) (column_and column (limits_by (flip relation) MinusInf)) rest)))) h)
 
--- the upper limit of a column that has a limit left of it
+-- the upper limit of a column with a limit before it
 pub upper-walks : (sections_seen : SectionsSeen) (all : Draft) (n : ℕ) (column : List ℕ) (value : Decimal) → bounds_refusals all column None (Some (limit_of value)) ≡ []
     → Walks (point_at (InBounds (Some (column, AtMost))) sections_seen all) (at n (Compares AtMost) ∷ at n (Number value) ∷ []) (bounds_declared column None (Some (limit_of value)))
     (point_at (InBounds None) sections_seen (with_declarations all (bounds_declared column None (Some (limit_of value)))))

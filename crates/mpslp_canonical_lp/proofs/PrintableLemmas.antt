@@ -1,5 +1,4 @@
--- The canonical lines of a sound model with LP names can be printed: their pieces are names, decimals, signs and words
--- of the language.
+-- The canonical lines of a well-formed model with LP names can be printed: names, decimals, signs and words of the language.
 use Rattle.std.proofs.Common.{◌≡◌, refl, sym, ap, ◌∙◌, List, [], ◌∷◌, ◌++◌, length, ℕ, ◌+◌, ◌<◌, arith, Bool, true, false, not, cond, map}
 use Rattle.std.specs.Prelude.{Option, Some, None, nat_le, nat_lt, ◌&&◌, ◌||◌, filter, filter_map, position, codes, if◌then◌else◌}
 use Rattle.std.specs.List.{list_all, list_any, flat_map, cons_option, position_or_len}
@@ -365,7 +364,7 @@ listed-printable m h =
     (in-turn (generals_section m) semis_on (generals-printable m h)
     (in-turn (semis_section m) ending (semis-printable m h) (heading-printable (codes "End") (code-word (codes "End") refl refl refl), tt)))))
 
--- ---- a sound model whose names are LP names
+-- ---- a well-formed model whose names are LP names
 
 any-below : {X : Type 0} (p : X → Bool) (xs : List X) → list_any p xs ≡ true → position_or_len p xs < length xs
 any-below p [] h = cc
@@ -401,7 +400,7 @@ fit-names names h = Each-weaker (λ name. is_no_lp_name name ≡ false) (λ name
     is true e = refl
     is false e = cc
 
--- which names there are
+-- all names are LP names
 record HasLpNames (m : Listing) : Type 0 where
   objective : is_lp_name m.objective ≡ true
   rows : Each (λ row. is_lp_name row.0 ≡ true) m.rows
@@ -460,6 +459,6 @@ fit-from_sound m sound fits =
           (λ entry k. first_so (is_decimal entry.1) _ k) (entries m.coefficients) (Each-from_list_all (is_sound_coefficient m) (entries m.coefficients) sound.coefficients);
     }
 
--- each canonical line of a sound model with LP names can be printed
+-- each canonical line of a well-formed model with LP names can be printed
 pub canonical-printable : (m : LinearModel) → IsSound m → unfit m ≡ None → AllPrintable (canonical_lines m)
 canonical-printable m sound fits = listed-printable (listing_of m) (fit-from_sound m sound fits)

@@ -1,4 +1,4 @@
--- Each coefficient of a sound listing is printed as a term of its row or of the objective.
+-- Each coefficient of a well-formed listing is printed as a term of its row or of the objective.
 use Rattle.std.proofs.Common.{◌≡◌, refl, sym, ap, ◌∙◌, List, [], ◌∷◌, ◌++◌, ℕ, Bool, true, false, not, cond}
 use Rattle.std.specs.Prelude.{Option, Some, None, is_some, filter_map, ◌&&◌, ◌||◌, if◌then◌else◌}
 use Rattle.std.specs.List.{flat_map, list_any, cons_option}
@@ -56,7 +56,7 @@ no-coefficient m row column h = by (find key_cmp (place_at row column.0) m.coeff
     by None e = refl
     by (Some d) e = absurd (no_truth (sym h ∙ has-some row column.0 d m.coefficients e))
 
--- ---- what is made of terms
+-- ---- what terms put into a map
 
 module _ {K X : Type 0} (R : K → K → Ordering) (total : IsTotalOrder R) (same : (x y : K) → R x y ≡ Equal → x ≡ y) (key_of : List ℕ → List ℕ → K) (entry_of : Term → X) where
   -- an entry for each term, by its row or the objective, and its column
@@ -72,7 +72,7 @@ module _ {K X : Type 0} (R : K → K → Ordering) (total : IsTotalOrder R) (sam
   abbrev SomeAt : K → List (K × X) → Type 0
   SomeAt key es = is_some (find R key es) ≡ true
 
-  -- the columns of this name have terms, so there is an entry of it
+  -- the columns of this name have terms, so there is an entry for it
   pub hit : (row q : List ℕ) (f : List ℕ × Column → Option Term) (columns : List (List ℕ × Column)) → list_any (λ column. same_bytes q column.0) columns ≡ true
       → ((column : List ℕ × Column) → same_bytes q column.0 ≡ true → (value : Number) × (f column ≡ Some (column.0, value))) → SomeAt (key_of row q) (flat_map (own_entry row) (filter_map f columns))
   hit row q f [] h some = cc
@@ -120,7 +120,7 @@ module _ {K X : Type 0} (R : K → K → Ordering) (total : IsTotalOrder R) (sam
           | false ↦ (zero_number, refl)
         ]
 
-    -- an entry of each coefficient
+    -- an entry for each coefficient
     pub each-line_text : (key : CoefficientKey) (value : Number) → find key_cmp key m.coefficients ≡ Some value → SomeAt (key_of key.row key.column) (all_entries m)
     each-line_text key value is = by (same_bytes key.row m.objective) refl rows
       where

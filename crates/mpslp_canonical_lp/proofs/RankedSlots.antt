@@ -1,4 +1,4 @@
--- Slots in sections of rising rank: where no section fills a slot twice, all together do not.
+-- Slots in sections of rising rank: if no section fills a slot twice, all together do not.
 use Rattle.std.proofs.Common.{◌≡◌, refl, sym, ap, ◌∙◌, ℕ, suc, ◌<◌, arith, List, [], ◌∷◌, ◌++◌, Bool, true, false, not, append_assoc}
 use Rattle.std.specs.Prelude.{◌&&◌, Option, Some, None}
 use Rattle.std.specs.List.{list_any, flat_map}
@@ -38,7 +38,7 @@ slot_is (lower_slot a) (lower_slot b) h = ap lower_slot (same_name a b h)
 slot_is (upper_slot a) (upper_slot b) h = ap upper_slot (same_name a b h)
 slot_is _ _ h = cc
 
--- a slot is none of those that differ from it
+-- a slot differs from all others
 pub new-from_others : (slot : Slot) (slots : List Slot) → Each (λ later. later ≡ slot → ⊥) slots → IsNew same_slot slot slots
 new-from_others slot [] h = refl
 new-from_others slot (later ∷ slots) h = both_false (same_slot later slot) (list_any (λ x. same_slot x slot) slots) (by (same_slot later slot) refl) (new-from_others slot slots h.1)
@@ -119,7 +119,7 @@ names-distinct (e ∷ es) h =
 
 -- ---- slots of entries
 
--- whose slot it is, by its name
+-- the name of the entry to which the slot belongs
 abbrev pub owner : Slot → Option (List ℕ)
 owner (row_slot name) = Some name
 owner (rhs_slot name) = Some name
@@ -139,7 +139,7 @@ some_name a b e other = no_truth (sym (itself_named b) ∙ sym (ap same_as e) �
     no_truth : true ≡ false → ⊥
     no_truth k = cc
 
--- The slots of entries of different names, where each has its entry's name, are different.
+-- The slots of entries of different names are different, if each has the name of its entry.
 pub owners-apart : {X : Type 0} (f : List ℕ × X → List Slot) → ((e : List ℕ × X) → Each (λ slot. owner slot ≡ Some e.0) (f e)) → (es : List (List ℕ × X)) → AreOther es → Apart same_slot f es
 owners-apart f own [] h = tt
 owners-apart {X} f own (e ∷ es) h = (

@@ -1,4 +1,4 @@
--- The canonical LP text of a sound model with LP names is read as it was printed.
+-- The canonical LP text of a well-formed model with LP names is read as it was printed.
 use Rattle.std.proofs.Common.{◌≡◌, ap, ◌∙◌, List, ℕ}
 use Rattle.std.specs.Prelude.{None}
 use Rattle.std.specs.List.{enumerate_from}

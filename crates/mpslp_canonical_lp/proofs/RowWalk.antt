@@ -30,7 +30,7 @@ use Rattle.mpslp_canonical_lp.proofs.PhraseLemmas.{Walks, walks-none, walks-then
 use Rattle.mpslp_canonical_lp.proofs.ObjectiveWalk.{term-terminals}
 use Rattle.mpslp_canonical_lp.proofs.BoundsWalk.{number-either}
 
--- a limit left of the terms, with its sense, where there is one
+-- a limit before the terms, with its relation, if there is one
 abbrev pub left_of : Option Decimal → Option (Limit × Relation)
 left_of left = option_map (λ value. (limit_of value, AtMost)) left
 
@@ -66,7 +66,7 @@ begin-left sections_seen all name k j n left term =
     (λ v. left-row-walks sections_seen all name k j n v AtMost (is_negative term.1) (size_of term.1) term.0)
     (λ below v. signed-row-walks sections_seen all name k j n below v AtMost (is_negative term.1) (size_of term.1) term.0))
 
--- the label, the left limit where there is one, and the first term
+-- the label, the limit before the terms if there is one, and the first term
 pub begin-walk : (sections_seen : SectionsSeen) (all : Draft) (name : List ℕ) (n : ℕ) (left : Option Decimal) (term : Term) → IsTerm term
     → Walks (point_at BetweenRows sections_seen all) (all_terminals n (label_line name ∷ (left_line left ++ term_line term ∷ []))) [] (in_row sections_seen all (partial name left (term ∷ [])))
 begin-walk sections_seen all name n None term good =

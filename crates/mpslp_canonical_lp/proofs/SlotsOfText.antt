@@ -27,7 +27,7 @@ use Rattle.mpslp_canonical_lp.proofs.TextWalk.{row_made, listed_declarations}
 use Rattle.mpslp_canonical_lp.proofs.RankedSlots.{Section, Sections, joined-once, AreOther, names-distinct, owner, owners-apart, slots-append, slots-flat}
 use Rattle.mpslp_canonical_lp.proofs.NamedTerms.{objective-other, row-other}
 
--- ---- ranks: the objective's row is apart from the others
+-- ---- ranks: the row of the objective is separate from the others
 
 abbrev of_row : Bool → ℕ
 of_row is_objective = if is_objective then 2 else 4
@@ -63,7 +63,7 @@ cells-distinct row columns h = by columns ∙ h
     by [] = refl
     by (name ∷ names) = λ i. not (cells-any row name names i) && by names i
 
--- what holds of each slot of the cells of a row
+-- a property of each slot of the coefficients of a row
 each-cell : (P : Slot → Type 0) (row : List ℕ) (terms : List Term) → ((column : List ℕ) → P (cell_slot row column)) → Each P (all_slots (terms_declared row terms))
 each-cell P row [] h = tt
 each-cell P row (term ∷ terms) h = (h term.0, each-cell P row terms h)
@@ -193,7 +193,7 @@ sections-fill m =
     ∙ (λ i. sense_slot ∷ objective_slot ∷ row_slot m.objective ∷ (slots-append terms constant i ++ later i))
     ∙ ap (λ (slots : List Slot). sense_slot ∷ objective_slot ∷ row_slot m.objective ∷ slots) (append_assoc (all_slots terms) (all_slots constant) (flat_map (row_slots m) m.rows ++ (flat_map bound_slots m.columns ++ [])))
 
--- No slot is filled twice, where rows and columns have different names, and no row that of the objective.
+-- No slot is filled twice, if rows and columns have different names, and no row has that of the objective.
 pub listed-once : (m : Listing) → AreOther m.columns → AreOther m.rows → Each (λ row. same_bytes row.0 m.objective ≡ false) m.rows → are_distinct same_slot (all_slots (listed_declarations m)) ≡ true
 listed-once m columns rows others =
     let all : Sections (rank m.objective) 0 (sections m) =

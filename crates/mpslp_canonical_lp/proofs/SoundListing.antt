@@ -1,4 +1,4 @@
--- The listing of a sound model.
+-- The listing of a well-formed model.
 use Rattle.std.proofs.Common.{◌≡◌, List, ◌∷◌, ℕ, Bool, true, not}
 use Rattle.std.specs.Prelude.{Some, ◌&&◌}
 use Rattle.std.specs.FinMap.{is_sorted, entries, entries_sorted}
@@ -11,7 +11,7 @@ use Rattle.mpslp_types.proofs.EachLemmas.{Each, Each-both, Each-from_list_all}
 use Rattle.mpslp_builder.proofs.NamedEntries.{own-found}
 use Rattle.mpslp_model_core.specs.Listing.{Listing, listing_of}
 
--- a decimal that is not 0, of a row or the objective and of a column that are there
+-- a decimal other than 0, of a row or the objective and of a column that exist
 abbrev pub is_sound_entry : Listing → CoefficientKey × Number → Bool
 is_sound_entry m entry =
     is_decimal entry.1 && (not (is_zero entry.1) && (is_one_of (names_in m.columns) entry.0.column && is_one_of (m.objective ∷ names_in m.rows) entry.0.row))
@@ -36,7 +36,7 @@ sound-listing m h = record {
   coefficients_sorted = true_from (is_sorted key_cmp (entries m.coefficients)) (entries_sorted m.coefficients);
 }
 
--- ---- columns that are sound, and found by their names
+-- ---- columns that are well-formed, and found by their names
 
 abbrev pub IsOwnColumn : Listing → List ℕ × Column → Type 0
 IsOwnColumn m column = (is_sound_column column ≡ true) × (at_name m.columns column.0 ≡ Some column.1)

@@ -1,4 +1,4 @@
--- What ends a token: a blank ends each, a colon ends a name, and a minus stands alone before all but `>`.
+-- What ends a token: a space ends each, a colon ends a name, and a minus is a token by itself unless `>` follows.
 use Rattle.std.proofs.Common.{◌≡◌, refl, sym, ap, ◌∙◌, ℕ, List, [], ◌∷◌, ◌++◌, Bool, true, false, not, arith}
 use Rattle.std.specs.Prelude.{Option, Some, None, ◌&&◌, ◌||◌, ◌==◌, nat_eq, codes}
 use Rattle.std.specs.List.{find, list_all, list_any}
@@ -29,7 +29,7 @@ choice word number operator = elim word as (λ _. Option TokenKind) [
 no-kind : (text : List ℕ) → is_word text ≡ false → is_number text ≡ false → operator_kind text ≡ None → kind_of text ≡ None
 no-kind text a b c = λ i. choice (a i) (b i) (c i)
 
--- one byte that no word goes on with
+-- one byte that no word continues with
 broken : (p : ℕ → Bool) (xs ys : List ℕ) (b : ℕ) → p b ≡ false → list_all p (xs ++ b ∷ ys) ≡ false
 broken p [] ys b h = rw h refl
 broken p (x ∷ xs) ys b h = by (p x) (list_all p (xs ++ b ∷ ys)) (broken p xs ys b h)
@@ -58,7 +58,7 @@ false-and : (a b : Bool) → a ≡ false → (a && b) ≡ false
 false-and true b h = cc
 false-and false b h = refl
 
--- ---- a blank
+-- ---- a space
 
 abbrev NotBlank : ℕ → Type 0
 NotBlank b = (b == 32) ≡ false
@@ -97,7 +97,7 @@ operator-blank (c ∷ d ∷ e ∷ text) more = refl
 pub stops-blank : (text : List ℕ) → StopsAt text 32
 stops-blank text more = no-kind (text ++ 32 ∷ more) (word-broken text more 32 refl refl) (number-blank text more) (operator-blank text more)
 
--- ---- a colon behind a name
+-- ---- a colon after a name
 
 abbrev is_operator_byte : ℕ → Bool
 is_operator_byte b = list_any (λ (o : ℕ). o == b) (codes "<>=:-")
@@ -122,7 +122,7 @@ first-apart c h = by (is_letter c) refl h
     by true e k = letter-apart c e
     by false e k = symbol-apart (codes "!\"#$%&()/,.;?@_'{}|~`") c refl (first_so (is_lp_symbol c) (not (is_period c)) k)
 
--- an operator of two bytes begins with an operator's byte
+-- an operator of two bytes begins with the byte of an operator
 first-found : (c d : ℕ) → is_operator_byte c ≡ false → operator_kind (c ∷ d ∷ []) ≡ None
 first-found c d h =
     let a = nor (60 == c) ((62 == c) || ((61 == c) || ((58 == c) || ((45 == c) || false)))) h in

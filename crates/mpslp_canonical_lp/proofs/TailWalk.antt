@@ -32,7 +32,7 @@ use Rattle.mpslp_canonical_lp.proofs.ObjectiveWalk.{number_after, terminals-appe
 
 -- ---- where the text ends
 
--- From a point on the tokens are a whole text that declares these.
+-- From a point on, the tokens are a complete text that declares these.
 pub record EndsWith (from : Point) (tokens : List TerminalAt) (made : Declarations) : Type 0 where
   pub says : phrases phrase_at from 0 tokens ≡ Finished (with_declarations from.context.earlier made)
   pub makes : made_by phrase_at from 0 tokens ≡ made
@@ -90,7 +90,7 @@ semis-walk sections_seen all n (column ∷ columns) fit h =
     (semi_made column) (flat_map semi_made columns) (one-semi sections_seen all n column fit.0.name parts.0)
     (semis-walk sections_seen (with_declarations all (semi_made column)) (n + 1) columns fit.1 parts.1)
 
--- ---- the last sections, where they have lines, and the end
+-- ---- the last sections, if they have lines, and the end
 
 abbrev pub ending : Lines
 ending = heading (codes "End" ∷ []) ∷ []
@@ -140,7 +140,7 @@ generals-end place sections_seen all n (column ∷ columns) semis fit whole may 
     (generals-walk inside all (n + 1) (column ∷ columns) fit parts.0)
     (semis-end InGenerals inside (with_declarations all made) (number_after (n + 1) lines) semis whole refl later parts.1)))
 
--- ---- sides that are not refused one by one are not refused together
+-- ---- bounds that are not rejected one by one are not rejected together
 
 pub sides-taken : (all : Draft) (column : List ℕ) (lower upper : Option Limit) → refusals_in_turn all (bounds_declared column lower upper) ≡ [] → is_some lower || is_some upper ≡ true
     → bounds_refusals all column lower upper ≡ []

@@ -71,7 +71,7 @@ lexemes-seen n (piece ∷ lexemes) h =
 pub line-seen : (n : ℕ) (line : PrintedLine) → Each IsPrintable line.lexemes → map (seen_at n) (line_tokens line) ≡ line_terminals_in n line
 line-seen n line h = lexemes-seen n line.lexemes h
 
--- those of printed lines that are numbered from here on
+-- the terminals of printed lines, with line numbers from here on
 abbrev pub all_terminals : ℕ → List PrintedLine → List TerminalAt
 all_terminals n [] = []
 all_terminals n (line ∷ lines) = line_terminals_in n line ++ all_terminals (n + 1) lines
@@ -80,7 +80,7 @@ pub lines-seen : (n : ℕ) (lines : List PrintedLine) → Each IsPrintableLine l
 lines-seen n [] h = refl
 lines-seen n (line ∷ lines) h = λ i. line-seen n line h.0.each i ++ lines-seen (n + 1) lines h.1 i
 
--- a sign and a size are the number
+-- a sign and an absolute value give the number
 pub signed-value : (value : Decimal) → apply_sign (is_negative value) (size_of value) ≡ value
 signed-value value = by (is_negative value) refl
   where

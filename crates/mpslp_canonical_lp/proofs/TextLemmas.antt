@@ -1,4 +1,4 @@
--- A text of printed lines is cut into these lines, and its terminals are those of their pieces.
+-- A text of printed lines consists of these lines, and its terminals are those of their pieces.
 use Rattle.std.proofs.Common.{◌≡◌, refl, ap, ◌∙◌, List, [], ◌∷◌, ◌++◌, ℕ, zero, suc, ◌+◌, Bool, true, false, map, arith}
 use Rattle.std.specs.Prelude.{◌==◌, slice_index, Option, Some, None, is_none}
 use Rattle.std.specs.List.{slice_split, list_all, enumerate_from}
@@ -39,7 +39,7 @@ all-tokens (l ∷ ls) h = λ i. line-read l h.0.each i ∷ all-tokens ls h.1 i
 
 -- ---- their terminals
 
--- those of printed lines that are numbered from here on
+-- the terminals of printed lines, with line numbers from here on
 abbrev pub terminals_from : ℕ → List PrintedLine → List TerminalAt
 terminals_from n [] = []
 terminals_from n (l ∷ ls) = map (seen_at n) (line_tokens l) ++ terminals_from (n + 1) ls

@@ -1,4 +1,4 @@
--- The whole canonical text: what it declares, where nothing of that is refused.
+-- The whole canonical text: what it declares, if none of that is rejected.
 use Rattle.std.proofs.Common.{◌≡◌, refl, sym, ap, subst, ◌∙◌, ℕ, ◌+◌, List, [], ◌∷◌, ◌++◌, Bool, true, false, append_assoc, map}
 use Rattle.std.specs.Prelude.{Option, Some, None, codes, if◌then◌else◌, filter}
 use Rattle.std.specs.List.{flat_map}
@@ -51,7 +51,7 @@ row_right _ (Finite b) = b
 row_right (Finite a) _ = a
 row_right _ _ = minus_large
 
--- the printed lines are these, and the second sense goes with the first
+-- these lines are printed, and the second relation agrees with the first
 pub record IsShaped (lower upper : Limit) : Type 0 where
   pub left : left_lines lower upper ≡ left_line (row_left lower upper)
   pub last : last_line lower upper ≡ right_line (row_relation lower upper) (row_right lower upper)

@@ -27,7 +27,7 @@ use Rattle.mpslp_canonical_lp.proofs.TokenLemmas.{BeginsToken, IsToken}
 solid-begin : (b : ℕ) → (is_digit b || b == 46) ≡ true → (begins_comment b ≡ false) × (is_blank b ≡ false)
 solid-begin b h = (grind (arith, nat_tests), grind (arith, nat_tests))
 
--- a byte of a word is no blank and begins no comment
+-- a byte of a word is not a space or tab and does not begin a comment
 symbol-solid : (symbols : List ℕ) (b : ℕ) → list_all (λ s. not (s == 92 || (s == 32 || s == 9))) symbols ≡ true → list_any (λ s. s == b) symbols ≡ true → (b == 92 || (b == 32 || b == 9)) ≡ false
 symbol-solid [] b all any = cc
 symbol-solid (s ∷ symbols) b all any =
@@ -49,7 +49,7 @@ word-solid b h = nor (b == 92) (b == 32 || b == 9) (by (is_letter b) refl h)
     by true e k = letter-solid b e
     by false e k = symbol-solid (codes "!\"#$%&()/,.;?@_'{}|~`") b refl (first_so (is_lp_symbol b) (not (is_period b)) k)
 
--- a byte of names that begins no number begins a word
+-- a byte of names that does not begin a number begins a word
 name-begins : (b : ℕ) → is_lp_byte b ≡ true → (is_digit b || b == 46) ≡ false → begins_word b ≡ true
 name-begins b h k = by (is_letter b) h
   where

@@ -1,4 +1,4 @@
--- Nothing that the canonical text of a sound model declares is refused, and it goes together.
+-- Nothing that the canonical text of a well-formed model declares is rejected, and the declarations are consistent.
 use Rattle.std.proofs.Common.{◌≡◌, refl, sym, ap, ◌∙◌, ℕ, ◌<◌, List, [], ◌∷◌, ◌++◌, Bool, true, false, not, length, suc, subst, map}
 use Rattle.std.specs.Prelude.{Option, Some, None, is_some, ◌&&◌, ◌||◌, filter, if◌then◌else◌}
 use Rattle.std.specs.List.{list_all, list_any, flat_map}
@@ -43,7 +43,7 @@ use Rattle.mpslp_canonical_lp.proofs.KnownInTurn.{listed-known}
 use Rattle.mpslp_canonical_lp.proofs.SlotsOfText.{listed-once}
 use Rattle.mpslp_canonical_lp.proofs.ListedEach.{form_by, form_made, each-listed, each-of_kind, none-any, flat-none}
 
--- ---- sides
+-- ---- bounds
 
 is-below : (d : Number) → is_bounded_decimal d ≡ true → is_plus_infinite (limit_of d) ≡ false
 is-below d h = ap is_plus_infinite (bounded_finite d h)
@@ -51,7 +51,7 @@ is-below d h = ap is_plus_infinite (bounded_finite d h)
 is-above : (d : Number) → is_bounded_decimal d ≡ true → is_minus_infinite (limit_of d) ≡ false
 is-above d h = ap is_minus_infinite (bounded_finite d h)
 
--- ---- rows and bounds have no infinite side that no value meets
+-- ---- rows and bounds have no infinite limit in the wrong direction
 
 neither : (l u : Limit) → is_plus_infinite l ≡ false → is_minus_infinite u ≡ false → not (is_plus_infinite l || is_minus_infinite u) ≡ true
 neither l u a b = ap not (both_false (is_plus_infinite l) (is_minus_infinite u) a b)
@@ -99,7 +99,7 @@ bound-allowed all name PlusInf MinusInf h = cc
 bound-allowed all name PlusInf (Finite b) h = cc
 bound-allowed all name PlusInf PlusInf h = cc
 
--- ---- kinds
+-- ---- types
 
 or_in : (a b c : Bool) → (b || (a || c)) ≡ ((a || b) || c)
 or_in true true c = refl
@@ -158,7 +158,7 @@ integers-said (d ∷ ds) all q =
     integers-said ds (with_declaration all d) q
     ∙ ap (λ (b : Bool). list_any (says_integer q) ds || b) (integer-one all d q) ∙ or_in (says_integer q d) (list_any (says_integer q) ds) (is_integer all q)
 
--- ---- a name has one column, of one kind
+-- ---- a name has one column, of one type
 
 abbrev IsFound : Listing → List ℕ × Column → Type 0
 IsFound m column = at_name m.columns column.0 ≡ Some column.1
@@ -185,7 +185,7 @@ kinds-apart m x y found whole there partly = (by x.0 y.0 (λ same. same) (same_b
     by a b turn true e = absurd (apart (turn (same_name a b e)))
     by a b turn false e = refl
 
--- each integer column is apart from each semi-continuous one
+-- each integer column differs from each semi-continuous one
 abbrev Apart : List ℕ × Column → List ℕ × Column → Type 0
 Apart x y = (same_bytes x.0 y.0 ≡ false) × (same_bytes y.0 x.0 ≡ false)
 
@@ -206,7 +206,7 @@ module _ (m : Listing) (own : Each (IsFound m) m.columns) where
       Each-filter (λ x. same_bytes y.0 x.0 ≡ false) is_integer_column m.columns
       (Each-weaker (IsFound m) (λ x. is_integer_column x ≡ true → same_bytes y.0 x.0 ≡ false) (λ x found whole. (kinds-apart m x y found whole there partly).1) m.columns own)) m.columns own)
 
-  -- so no integer column is told to be semi-continuous
+  -- so no integer column is declared semi-continuous
   general-allowed : Each (λ x. is_allowed (drafted m) (declare_integer x.0) ≡ true) (filter is_integer_column m.columns)
   general-allowed =
       Each-weaker (λ x. Each (λ y. same_bytes x.0 y.0 ≡ false) (filter is_semi_column m.columns)) (λ x. is_allowed (drafted m) (declare_integer x.0) ≡ true)
@@ -219,7 +219,7 @@ module _ (m : Listing) (own : Each (IsFound m) m.columns) where
       (Each-all (λ c. says_semi x.0 (declare_integer c.0) ≡ false) (λ _. refl) (filter is_integer_column m.columns)) apart)) refl))
       (filter is_integer_column m.columns) whole-apart
 
-  -- nor one that is semi-continuous to be integer
+  -- and no semi-continuous column is declared integer
   semi-allowed : Each (λ y. is_allowed (drafted m) (declare_semi y.0) ≡ true) (filter is_semi_column m.columns)
   semi-allowed =
       Each-weaker (λ y. Each (λ x. same_bytes y.0 x.0 ≡ false) (filter is_integer_column m.columns)) (λ y. is_allowed (drafted m) (declare_semi y.0) ≡ true)
@@ -252,9 +252,9 @@ one-constant m =
     not_both (is_some (drafted m).constant) (has_objective_rhs (drafted m))
     (ap (λ (es : List (List ℕ × Number)). option_map_or (λ name. has_name es name) (drafted m).objective false) empty ∙ no_rhs (drafted m).objective)
 
--- ---- the listing of a sound model
+-- ---- the listing of a well-formed model
 
--- what is needed of a listing beside its soundness
+-- what is needed of a listing besides being well-formed
 record HasOtherNames (m : Listing) : Type 0 where
   pub no_row : Each (λ row. same_bytes row.0 m.objective ≡ false) m.rows
   pub rows : AreOther m.rows
@@ -297,7 +297,7 @@ all-allowed m h = list_all-from_Each (is_allowed (drafted m)) (listed_declaratio
 
 -- ---- the lemmas
 
--- Nothing that is printed of a sound model is refused.
+-- Nothing that is printed for a well-formed model is rejected.
 pub listed-unrefused : (m : LinearModel) → IsSound m → refusals_in_turn empty_draft (listed_declarations (listing_of m)) ≡ []
 listed-unrefused m sound =
     let names = other-names m sound in
@@ -305,11 +305,11 @@ listed-unrefused m sound =
     none-from_fine_in_turn made empty_draft (fresh-from_once made (listed-once (listing_of m) names.columns names.rows names.no_row)) (listed-known (listing_of m))
     (all-allowed (listing_of m) (sound-listing m sound)) (one-constant (listing_of m))
 
--- It goes together.
+-- The declarations are consistent.
 pub listed-consistent : (m : LinearModel) → IsSound m → AreConsistent (listed_declarations (listing_of m))
 listed-consistent m sound = consistent-from_none (listed_declarations (listing_of m)) refl (listed-unrefused m sound)
 
--- The rows of a sound model with LP names are printed with terms, and nothing of its text is refused.
+-- The rows of a well-formed model with LP names are printed with terms, and nothing of its text is rejected.
 pub plain-text : (m : LinearModel) → IsSound m → unfit m ≡ None → IsPlainText m
 plain-text m sound fits =
     let names = other-names m sound in

@@ -188,7 +188,7 @@ infinite_bounds =
     line_text-from_passes infinite_bounds_model (text infinite_bounds_lines) refl refl refl
     (record { is_text = refl; objective = refl; legal = refl; unrefused = refl; no_fault = refl; model = refl })
 
--- ---- a lower bound alone
+-- ---- only a lower bound
 
 abbrev lower_bound_lines : List (List ℕ)
 lower_bound_lines =
@@ -224,7 +224,7 @@ empty_column =
     line_text-from_passes empty_column_model (text empty_column_lines) refl refl refl
     (record { is_text = refl; objective = refl; legal = refl; unrefused = refl; no_fault = refl; model = refl })
 
--- ---- rows between two limits
+-- ---- ranged rows
 
 abbrev ranges_lines : List (List ℕ)
 ranges_lines =
@@ -314,7 +314,7 @@ upper_bound =
     line_text-from_passes upper_bound_model (text upper_bound_lines) refl refl refl
     (record { is_text = refl; objective = refl; legal = refl; unrefused = refl; no_fault = refl; model = refl })
 
--- ---- names that LP cannot tell: the objective's is told first, then a row's, then a column's
+-- ---- names that are not legal in LP: that of the objective is reported first, then that of a row, then that of a column
 
 abbrev named : List ℕ → List ℕ → List ℕ → Listing
 named objective second_row column_name =

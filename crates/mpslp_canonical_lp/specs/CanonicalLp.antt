@@ -26,15 +26,15 @@ Lines = List PrintedLine
 abbrev pub heading : List (List ℕ) → PrintedLine
 heading words = record { indent = 0; lexemes = map word words }
 
--- what is named, and a column's bounds, after one blank
+-- names, and the bounds of a column, after one space
 abbrev pub short_line : List Lexeme → PrintedLine
 short_line lexemes = record { indent = 1; lexemes = lexemes }
 
--- what belongs to a name, after two
+-- what belongs to a name, after two spaces
 abbrev pub long_line : List Lexeme → PrintedLine
 long_line lexemes = record { indent = 2; lexemes = lexemes }
 
--- a section whose heading stands only where there are lines
+-- a section whose heading is printed only if there are lines
 abbrev pub under_heading : List ℕ → Lines → Lines
 under_heading section [] = []
 under_heading section (line ∷ lines) = heading (section ∷ []) ∷ line ∷ lines
@@ -42,7 +42,7 @@ under_heading section (line ∷ lines) = heading (section ∷ []) ∷ line ∷ l
 abbrev pub label_line : List ℕ → PrintedLine
 label_line name = short_line (label name ∷ [])
 
--- the sign of a number, and its size
+-- the sign of a number, and its absolute value
 abbrev pub signed_lexemes : Number → List Lexeme
 signed_lexemes value = sign (is_negative value) ∷ number (size_of value) ∷ []
 
@@ -66,7 +66,7 @@ term_in m row column = option_map (λ value. (column.0, value)) (find key_cmp (r
 abbrev pub has_coefficients : Listing → List ℕ × Column → Bool
 has_coefficients m column = list_any (λ (entry : CoefficientKey × Number). same_bytes entry.0.column column.0) m.coefficients
 
--- a column without coefficients stands in the objective, with 0
+-- a column without coefficients is in the objective, with 0
 abbrev pub objective_term : Listing → List ℕ × Column → Option Term
 objective_term m column = if has_coefficients m column then term_in m m.objective column else Some (column.0, zero_number)
 
@@ -82,7 +82,7 @@ objective_section m =
 
 -- ---- rows
 
--- two limits that differ: the lower one stands before the terms
+-- a ranged row: the lower limit comes before the terms
 abbrev pub left_lines : Limit → Limit → Lines
 left_lines (Finite lower) (Finite upper) =
     if have_same_value lower upper then [] else long_line (number lower ∷ sense AtMost ∷ []) ∷ []
@@ -95,7 +95,7 @@ right_line relation value = long_line (sense relation ∷ number value ∷ [])
 abbrev pub minus_large : Number
 minus_large = record { mantissa = negsuc 0; exponent = pos 20 }
 
--- a row without limits is at least minus infinity
+-- a row without limits is at least -1e20, which is read as minus infinity
 abbrev pub last_line : Limit → Limit → PrintedLine
 last_line (Finite lower) (Finite upper) = if have_same_value lower upper then right_line EqualTo upper else right_line AtMost upper
 last_line _ (Finite upper) = right_line AtMost upper
@@ -117,9 +117,9 @@ row_lines m row =
 abbrev pub rows_section : Listing → Lines
 rows_section m = heading (codes "Subject" ∷ codes "To" ∷ []) ∷ flat_map (row_lines m) m.rows
 
--- ---- bounds, where they are not 0 and infinity
+-- ---- bounds, if they are not 0 and infinity
 
--- what is printed of a column between these bounds
+-- what is printed for a column with these bounds
 abbrev pub bound_lexemes : List ℕ → Limit → Limit → List Lexeme
 bound_lexemes column MinusInf (Finite upper) = minus_infinity ∷ sense AtMost ∷ word column ∷ sense AtMost ∷ number upper ∷ []
 bound_lexemes column (Finite lower) (Finite upper) =

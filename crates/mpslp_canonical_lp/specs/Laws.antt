@@ -14,25 +14,25 @@ use Rattle.mpslp_canonical_lp.specs.Unfit.{unfit}
 abbrev pub tokens_seen : List ℕ → List SeenToken
 tokens_seen line = map (λ (token : Token). (token.kind, token.text)) (tokens line)
 
--- The canonical text of a model is cut into the lines that were printed; none of them has a fault by itself; and the
--- tokens of each are those that its pieces were printed from.
+-- The canonical text of a model consists of the lines that were printed; none of them has an error of its own; and the
+-- tokens of each are those from which its pieces were printed.
 pub record IsReadAsPrinted (m : LinearModel) : Type 0 where
   pub lines_are : lines (canonical_lp m) ≡ map line_text (canonical_lines m)
   pub faultless : IsTrue (list_all (λ line. is_none (lexical_fault line)) (map line_text (canonical_lines m)))
   pub tokens_are : map tokens_seen (map line_text (canonical_lines m)) ≡ map line_tokens (canonical_lines m)
 
--- So it is read where the model is sound and all its names are LP names.
+-- It is read like this if the model is well-formed and all its names are LP names.
 abbrev pub AreReadAsPrinted : Type 0
 AreReadAsPrinted = (m : LinearModel) → IsSound m → unfit m ≡ None → IsReadAsPrinted m
 
--- The canonical text of a sound model with LP names declares it.
+-- The canonical text of a well-formed model with LP names declares it.
 abbrev pub DeclareTheirModels : Type 0
 DeclareTheirModels = (m : LinearModel) → IsSound m → unfit m ≡ None → DeclaresLp (canonical_lp m) m
 
--- Sound models with LP names have the same canonical text exactly if they are the same.
+-- Well-formed models with LP names have the same canonical text if and only if they are equal.
 abbrev pub TellModelsApart : Type 0
 TellModelsApart = (m n : LinearModel) → IsSound m → unfit m ≡ None → IsSound n → unfit n ≡ None → (canonical_lp m ≡ canonical_lp n) ↔ (m ≡ n)
 
--- What LP text declares is sound, and LP can tell it.
+-- What LP text declares is well-formed, and LP can express it.
 abbrev pub DeclareWhatFits : Type 0
 DeclareWhatFits = (bytes : List ℕ) (m : LinearModel) → DeclaresLp bytes m → IsSound m × (unfit m ≡ None)

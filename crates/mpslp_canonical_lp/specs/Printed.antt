@@ -14,15 +14,15 @@ pub data Lexeme : Type 0 where
   word : List ℕ → Lexeme
   -- a name and a colon
   label : List ℕ → Lexeme
-  -- a number with its sign, where it is negative
+  -- a number, with its sign if it is negative
   number : Number → Lexeme
   sign : (minus : Bool) → Lexeme
   sense : Relation → Lexeme
   minus_infinity : Lexeme
-  -- the opening of a section, which is read as three tokens
+  -- the heading of a section, which is read as three tokens
   semi_continuous : Lexeme
 
--- pieces after so many blanks
+-- pieces after this number of spaces
 pub record PrintedLine : Type 0 where
   pub indent : ℕ
   pub lexemes : List Lexeme
@@ -46,7 +46,7 @@ lexeme_text (sense relation) = sense_bytes relation
 lexeme_text minus_infinity = codes "-infinity"
 lexeme_text semi_continuous = codes "Semi-Continuous"
 
--- one blank between the pieces
+-- one space between the pieces
 abbrev pub line_text : PrintedLine → List ℕ
 line_text line = replicate line.indent 32 ++ join_by lexeme_text (codes " ") line.lexemes
 

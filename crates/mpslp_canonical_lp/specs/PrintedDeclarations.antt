@@ -1,5 +1,4 @@
--- The printed lines phrase by phrase. Whatever sections were begun and whatever is declared before (`earlier`): where such a
--- phrase may stand, and nothing that it declares is refused, its lines declare what they were printed from.
+-- What each printed phrase declares, at any point where it is allowed, if nothing that it declares is rejected.
 use Rattle.std.specs.Prelude.{◌≡◌, ℕ, Bool, true, false, ◌&&◌, IsTrue, List, [], ◌∷◌, ◌++◌, map, None, is_none, if◌then◌else◌, codes}
 use Rattle.std.specs.List.{flat_map, list_all, list_any, enumerate_from}
 use Rattle.mpslp_decimal.specs.Decimal.{Number, IsDecimal, is_decimal, is_zero}
@@ -39,13 +38,13 @@ terminals_at n lines = flat_map line_terminals (enumerate_from n (map line_text 
 abbrev pub are_faultless : Lines → Bool
 are_faultless lines = list_all (λ line. is_none (lexical_fault line)) (map line_text lines)
 
--- From a point on the lines declare these and lead to another point, whatever follows them, and none has a lexical fault.
+-- From a point on, the lines declare these and lead to another point, whatever follows them, and none has a lexical error.
 pub record AreDerived (from : Point) (n : ℕ) (lines : Lines) (made : Declarations) (to : Point) : Type 0 where
   pub faultless : IsTrue (are_faultless lines)
   pub says : (rest : List TerminalAt) → phrases phrase_at from 0 (terminals_at n lines ++ rest) ≡ phrases phrase_at to 0 rest
   pub makes : (rest : List TerminalAt) → made_by phrase_at from 0 (terminals_at n lines ++ rest) ≡ made ++ made_by phrase_at to 0 rest
 
--- So they do from a place on and lead to another one of the section, where nothing of these declarations is refused.
+-- The same from a place to another one of the section, if none of these declarations is rejected.
 abbrev pub AreDerivedAt : Place → Lines → Declarations → Place → Type 0
 AreDerivedAt from lines made to =
     (n : ℕ) (sections_seen : SectionsSeen) (earlier : Draft) → refusals_in_turn earlier made ≡ []
@@ -67,7 +66,7 @@ rows_heading = heading (codes "Subject" ∷ codes "To" ∷ []) ∷ []
 abbrev pub constant_declared : Number → Declarations
 constant_declared value = if is_zero value then [] else declare_constant value ∷ []
 
--- the sense and the name; the first term and each later one; the constant and the heading of the rows, which decides it
+-- the sense and the name; the first term and each later one; the constant and the heading of the rows, which completes it
 pub record DeriveObjective (name : List ℕ) : Type 0 where
   pub begin : (n : ℕ) (sense : Sense)
       → AreDerived start n (heading (sense_word sense ∷ []) ∷ label_line name ∷ []) (objective_declared sense name)
@@ -83,12 +82,12 @@ DeriveObjectives = (name : List ℕ) → is_lp_name name ≡ true → DeriveObje
 
 -- ---- rows
 
--- none of the columns comes twice, after these terms
+-- none of the columns appears twice, after these terms
 abbrev pub AreNew : List Term → List Term → Type 0
 AreNew seen [] = Unit {0}
 AreNew seen (term ∷ terms) = (list_any (λ (earlier : Term). same_bytes term.0 earlier.0) seen ≡ false) × AreNew (seen ++ term ∷ []) terms
 
--- one term at least, each of an LP name and a decimal
+-- at least one term, each of an LP name and a decimal
 pub record AreLegalTerms (terms : List Term) : Type 0 where
   pub some : is_nonempty terms ≡ true
   pub legal : IsTrue (list_all is_legal_term terms)
@@ -103,9 +102,9 @@ DeriveRows =
     (m : Listing) (row : List ℕ × Row) → is_lp_name row.0 ≡ true → are_sides row.1.lower row.1.upper ≡ true → AreLegalTerms (row_terms m row.0)
     → AreDerivedAt BetweenRows (row_lines m row) (row_and_terms row (row_terms m row.0)) BetweenRows
 
--- ---- bounds and kinds of columns
+-- ---- bounds and types of columns
 
--- a column with both bounds; or with its lower one alone, or without a word, where the upper one is infinite
+-- a column with both bounds; if the upper one is infinite, with only its lower one, or nothing if that is 0
 abbrev pub column_and_bounds : List ℕ → Limit → Limit → Declarations
 column_and_bounds column (Finite lower) PlusInf = if is_zero lower then [] else declare_column column ∷ declare_lower column (Finite lower) ∷ []
 column_and_bounds column lower upper = declare_column column ∷ declare_lower column lower ∷ declare_upper column upper ∷ []
@@ -123,12 +122,12 @@ pub record DeriveKinds (column : List ℕ × Column) : Type 0 where
 abbrev pub DeriveAllKinds : Type 0
 DeriveAllKinds = (column : List ℕ × Column) → is_lp_name column.0 ≡ true → DeriveKinds column
 
--- ---- headings: they declare nothing, and open their sections, wherever these may begin
+-- ---- headings: they declare nothing, and open their sections wherever these may begin
 
 abbrev pub end_heading : Lines
 end_heading = heading (codes "End" ∷ []) ∷ []
 
--- after that of the end the text is whole
+-- after the heading of the end the text is complete
 pub record DeriveHeadings (place : Place) (sections_seen : SectionsSeen) (earlier : Draft) (n : ℕ) : Type 0 where
   pub bounds : section_fault sections_seen sections.Bounds ≡ None
       → AreDerived (point_at place sections_seen earlier) n (heading (codes "Bounds" ∷ []) ∷ []) [] (point_at (InBounds None) (with_section sections_seen sections.Bounds) earlier)

@@ -1,4 +1,4 @@
--- Where a model first has a name that LP cannot tell.
+-- The first name of a model that is not legal in LP.
 use Rattle.std.specs.Prelude.{ℕ, Bool, not, List, map, Option, Some, None, position, if◌then◌else◌}
 use Rattle.std.specs.Option.{option_map}
 use Rattle.mpslp_types.specs.Name.{is_lp_name}
@@ -10,16 +10,16 @@ use Rattle.mpslp_model_core.specs.Listing.{Listing, listing_of}
 abbrev pub is_no_lp_name : List ℕ → Bool
 is_no_lp_name name = not (is_lp_name name)
 
--- the position of the first name that is no LP name
+-- the index of the first name that is not an LP name
 abbrev pub first_unfit : List (List ℕ) → Option ℕ
 first_unfit names = position is_no_lp_name names
 
--- this place, or else that one
+-- the first place, or else the second
 abbrev pub or_else : Option NameAt → Option NameAt → Option NameAt
 or_else (Some place) other = Some place
 or_else None other = other
 
--- the objective's name first, then the least row, then the least column
+-- the name of the objective first, then the first row, then the first column
 abbrev pub unfit_in : Listing → Option NameAt
 unfit_in m =
     if is_no_lp_name m.objective then Some Objective

@@ -27,7 +27,7 @@ slots_at name line_text = flat_map (made_of slots_of bound_decl) (map (to_bound 
 abbrev pub bound_slots : List ℕ × Column → List Slot
 bound_slots column = flat_map (made_of slots_of bound_decl) (bounds_in column)
 
--- ---- these are the column's two sides
+-- ---- these are the two bounds of the column
 
 each-form : (P : Slot → Type 0) (name : List ℕ) → P (lower_slot name) → P (upper_slot name) → (form : BoundForm) (value : Number) → Each P (flat_map slots_of (decl_at form name value))
 each-form P name l u fixed value = (l, (u, tt))
@@ -47,7 +47,7 @@ each-slot P name l u (bound ∷ line_text) =
 pub each-bound_slot : (P : Slot → Type 0) (column : List ℕ × Column) → P (lower_slot column.0) → P (upper_slot column.0) → Each P (bound_slots column)
 each-bound_slot P column l u = each-slot P column.0 l u (printed_bounds column.1.kind column.1.lower column.1.upper)
 
--- ---- each side is declared once
+-- ---- each bound is declared once
 
 lower-once : (name : List ℕ) (a : Number) (rest : List PrintedBound) → are_distinct same_slot (slots_at name rest) ≡ true
     → are_distinct same_slot (slots_at name (bound_with_value bounds.Lower a ∷ rest)) ≡ true
@@ -88,7 +88,7 @@ sides-once name Integer PlusInf PlusInf = refl
 sides-once name Continuous PlusInf PlusInf = refl
 sides-once name Semi PlusInf PlusInf = refl
 
--- ---- and no side is another column's
+-- ---- and no bound is that of another column
 
 new-of_each : (slot : Slot) (slots : List Slot) → Each (λ later. same_slot later slot ≡ false) slots → IsNew same_slot slot slots
 new-of_each slot [] h = refl

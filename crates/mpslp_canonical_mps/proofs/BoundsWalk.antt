@@ -1,4 +1,4 @@
--- Lines of BOUNDS as they are printed: what each declares, and that it has a good form.
+-- Printed lines of BOUNDS: what each declares, and that it is well-formed.
 use Rattle.std.proofs.Common.{◌≡◌, refl, List, [], ◌∷◌, ℕ}
 use Rattle.std.specs.Prelude.{Some, Ok}
 use Rattle.mpslp_decimal.specs.Decimal.{Number}
@@ -19,7 +19,7 @@ use Rattle.mpslp_mps.specs.declared.sections.Section.TheVariants.{Bounds}
 use Rattle.mpslp_canonical_mps.proofs.ContentsWalk.{Step}
 use Rattle.mpslp_canonical_mps.proofs.RowsWalk.{HaveSet, set-good, vector_good, stays, lines-push}
 
--- the bounds that are printed: with the text of a value and the number that it is read as, or without
+-- the bounds that are printed: with the text of a value and the number as which it is read, or without
 pub data BoundForm : Type 0 where
   fixed : BoundForm
   lower : BoundForm
@@ -62,7 +62,7 @@ bound_item set b = data_line (bound_fields set b)
 abbrev pub bound_decl : Bound → Declarations
 bound_decl b = decl_at b.form b.column b.value
 
--- where no value is printed, any text and number that go together will do
+-- if no value is printed, any text with the number that it represents will do
 pub record GoodBound (b : Bound) : Type 0 where
   pub text : number_of b.text ≡ Ok b.value
   pub finite : limit_of b.value ≡ Finite b.value

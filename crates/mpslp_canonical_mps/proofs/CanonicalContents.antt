@@ -1,4 +1,4 @@
--- The items that are read in canonical lines, as those that walks go over.
+-- The items that are read in canonical lines, in the form in which they are followed section by section.
 use Rattle.std.proofs.Common.{◌≡◌, refl, sym, ap, ◌∙◌, List, [], ◌∷◌, ◌++◌, ℕ, Bool, true, false, cond, map}
 use Rattle.std.specs.Prelude.{Option, Some, None, codes}
 use Rattle.std.specs.List.{flat_map}
@@ -63,12 +63,12 @@ column-items m columns =
     flat-items cell_item (column_lines m) (cells_in m) (λ column. cell-items column.0 (printed_coefficients m.objective (column_coefficients m column.0))) columns
     ∙ ap (map cell_item) (sym (cells-grouped m columns))
 
--- ---- right sides and ranges
+-- ---- right-hand sides and ranges
 
 abbrev pub to_side : List ℕ → Number → Side
 to_side row value = record { row = row; text = number_text value; value = value }
 
--- no side where the value is 0
+-- no right-hand side if the value is 0
 abbrev pub side_unless_zero : List ℕ → Number → List Side
 side_unless_zero row value = cond (is_zero value) [] (to_side row value ∷ [])
 
@@ -106,7 +106,7 @@ ranges-items rows = flat-items (side_item (codes "RNG")) range_lines row_range o
 
 -- ---- bounds
 
--- a form and a value for each bound that is printed; where none is printed the value is 0
+-- a form and a value for each bound that is printed; if no value is printed, it is 0
 abbrev pub form_of : BoundType → BoundForm
 form_of bounds.Lower = lower
 form_of bounds.Upper = upper
@@ -123,7 +123,7 @@ value_in (Some d) = d
 abbrev pub to_bound : List ℕ → PrintedBound → Bound
 to_bound column bound = record { form = form_of bound.type; column = column; text = number_text (value_in bound.value); value = value_in bound.value }
 
--- a value is printed with the types that take one, and of the others these three alone are printed
+-- a value is printed for the types that take one; of the others only these three are printed
 abbrev pub is_fit : PrintedBound → Bool
 is_fit bound = fits bound.type bound.value
   where
@@ -142,7 +142,7 @@ bounds_in column = map (to_bound column.0) (printed_bounds column.1.kind column.
 
 -- ---- headers
 
--- a header stands only where there are items
+-- a header is printed only if there are items
 abbrev pub under : Section → List LineContent → List LineContent
 under section [] = []
 under section (item ∷ items) = header_item section ∷ item ∷ items

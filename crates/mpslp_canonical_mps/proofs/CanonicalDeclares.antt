@@ -1,4 +1,4 @@
--- The canonical text of a sound model declares it.
+-- The canonical text of a well-formed model declares it.
 use Rattle.std.proofs.Common.{◌≡◌, sym, ap, subst, ◌∙◌, List, [], ℕ, map}
 use Rattle.std.specs.List.{list_all}
 use Rattle.mpslp_model_core.specs.Model.{LinearModel, IsSound}
@@ -35,7 +35,7 @@ canonical-items m sound =
 pub canonical-declarations : (m : LinearModel) → IsSound m → declarations_of (canonical_mps m) ≡ listed_decl (listing_of m)
 canonical-declarations m sound = lines-declare [] empty_draft (read_lines (canonical_mps m)) ∙ ap (declared_items [] empty_draft) (canonical-items m sound) ∙ (canonical-walk m sound).declares
 
--- The canonical text of a sound model declares it, where its declarations are consistent.
+-- The canonical text of a well-formed model declares it, if its declarations are consistent.
 pub declares-if_consistent : (m : LinearModel) → IsSound m → AreConsistent (listed_decl (listing_of m)) → DeclaresMps (canonical_mps m) m
 declares-if_consistent m sound consistent =
     let read : IsReadAsPrinted m = read-as-line_text m sound in
@@ -46,11 +46,11 @@ declares-if_consistent m sound consistent =
       means = subst (λ (ds : Declarations). Means ds m) (sym (canonical-declarations m sound)) (record { consistent = consistent; meant = draft-means m sound });
     }
 
--- The canonical text of a sound model declares it.
+-- The canonical text of a well-formed model declares it.
 pub canonical-declares : DeclareTheirModels
 canonical-declares m sound = declares-if_consistent m sound (consistent-if_once (listing_of m) (sound-listing m sound) (filled-once (listing_of m) (sound-listing m sound)))
 
--- Sound models have the same canonical text exactly if they are the same.
+-- Well-formed models have the same canonical text if and only if they are equal.
 pub tells-apart : TellModelsApart
 tells-apart m n sound other = (
   λ same. one-model (canonical_mps m) m n (canonical-declares m sound) (subst (λ (text : List ℕ). DeclaresMps text n) (sym same) (canonical-declares n other)),

@@ -17,9 +17,9 @@ use Rattle.mpslp_canonical_mps.proofs.RowsWalk.{Side, side_item, side_decl, rang
 use Rattle.mpslp_canonical_mps.proofs.BoundsWalk.{Bound, bound_item, bound_decl, GoodBound, InBounds, bound_step}
 use Rattle.mpslp_canonical_mps.proofs.CanonicalContents.{under}
 
--- ---- after COLUMNS: the sections that stand only where they have lines
+-- ---- after COLUMNS: the sections that are printed only if they have lines
 
--- nothing is wanted, and COLUMNS has begun
+-- no word is missing, and COLUMNS has begun
 pub record IsLate (before : List LineContent) (earlier : Draft) : Type 0 where
   pub settled : wants_word before ≡ false
   pub columns : has_section before Columns ≡ true
@@ -32,14 +32,14 @@ or_false false = refl
 or_true : (b : Bool) → (true || b) ≡ true
 or_true b = refl
 
--- a header of another section changes nothing of a section
+-- a header of another section does not change the lines of a section
 other-header : (section other : Section) (before : List LineContent) → begins section (header_item other) ≡ false → has_section (before ++ header_item other ∷ []) section ≡ has_section before section
 other-header section other before h = has_section-push section before (header_item other) ∙ ap (λ (b : Bool). has_section before section || b) h ∙ or_false (has_section before section)
 
 still-begun : (section other : Section) (before : List LineContent) → has_section before section ≡ true → has_section (before ++ header_item other ∷ []) section ≡ true
 still-begun section other before h = has_section-push section before (header_item other) ∙ ap (λ (b : Bool). b || begins section (header_item other)) h
 
--- data lines want nothing
+-- data lines leave no word missing
 pub data-settled : {X : Type 0} (item : X → LineContent) → ((x : X) → is_read (item x) ≡ true) → ((x : X) → is_bare (item x) ≡ false) → (xs : List X) (before : List LineContent)
     → wants_word before ≡ false → wants_word (before ++ map item xs) ≡ false
 data-settled item reads bare [] before h = ap wants_word (append-nil before) ∙ h
@@ -64,7 +64,7 @@ late-header : (section : Section) → IsLateSection section → (before : List L
 late-header section s before earlier h =
     record { settled = settled-after before (header_item section) refl s.bare; columns = still-begun Columns section before h.columns; objective = h.objective }
 
--- A section that stands only where there are lines: its lines are walked over after its header.
+-- A section that is printed only if it has lines: its lines follow its header.
 under-walk : {X : Type 0} (section : Section) → IsLateSection section → (item : X → LineContent) (decl : X → Declarations) (xs : List X) (before : List LineContent) (earlier : Draft) → IsLate before earlier
     → has_section before section ≡ false → Walk (before ++ header_item section ∷ []) earlier (map item xs) (flat_map decl xs) → Walk before earlier (under section (map item xs)) (flat_map decl xs)
 under-walk section s item decl [] before earlier h f w = walk-nil before earlier

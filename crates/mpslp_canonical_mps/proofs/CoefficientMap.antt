@@ -1,4 +1,4 @@
--- The coefficients of a sound listing's canonical declarations: with the zeros left out they are the listing's.
+-- The coefficients of the canonical declarations of a well-formed listing, without zeros, are those of the listing.
 use Rattle.std.proofs.Common.{◌≡◌, refl, sym, ap, ◌∙◌, List, [], ◌∷◌, ◌++◌, ℕ, Bool, true, false, not, cond, map}
 use Rattle.std.specs.Prelude.{Option, Some, None, is_some, filter, filter_map, ◌&&◌, ◌||◌}
 use Rattle.std.specs.List.{flat_map, cons_option}
@@ -30,7 +30,7 @@ is_kept value = not (is_zero value)
 abbrev pub place_at : List ℕ → List ℕ → CoefficientKey
 place_at row column = record { row = row; column = column }
 
--- what is printed at a key is what is there; 0 is printed where nothing is
+-- the value printed for a key is that of the listing, or 0 if it has none
 abbrev pub IsTrueCell : List (CoefficientKey × Number) → List ℕ → List ℕ × Number → Type 0
 IsTrueCell coefficients column cell = find key_cmp (place_at cell.0 column) coefficients ≡ cond (is_kept cell.1) (Some cell.1) None
 
@@ -143,7 +143,7 @@ module _ (m : Listing) (h : IsSoundListing m) where
       (found-either key_cmp key_total same_key (λ column. flat_map own_coefficient (cells_in m column)) is_plain_column (λ column. same_bytes key.column column.0) key m.columns
       (sym (any-name key.column m.columns) ∙ there) (hit key found.0 found.1))
 
-  -- The coefficients that are declared, but for the zeros, are the listing's.
+  -- The coefficients that are declared, without zeros, are those of the listing.
   pub coefficients-kept : filter (λ entry. not (is_zero entry.1)) (drafted m).coefficients ≡ m.coefficients
   coefficients-kept =
       let plain = from_cells own_coefficient m (filter is_plain_column m.columns) in

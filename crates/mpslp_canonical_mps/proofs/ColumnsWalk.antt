@@ -1,4 +1,4 @@
--- Lines of COLUMNS as they are printed: those of columns, and marker lines.
+-- Printed lines of COLUMNS: those of columns, and marker lines.
 use Rattle.std.proofs.Common.{◌≡◌, refl, sym, ap, subst, ◌∙◌, List, [], ◌∷◌, ◌++◌, ℕ, Bool, true, false, cond}
 use Rattle.std.specs.Prelude.{Option, Some, None, ◌&&◌, not, codes, Ok, filter_map}
 use Rattle.std.specs.List.{last_or, flat_map}
@@ -28,7 +28,7 @@ use Rattle.mpslp_mps.proofs.SectionLemmas.{last_or-append}
 use Rattle.mpslp_canonical_mps.proofs.ContentsWalk.{Step}
 use Rattle.mpslp_canonical_mps.proofs.RowsWalk.{name-good, number-good, stays, lines-push}
 
--- a column, a row, a number's text and the number
+-- a column, a row, the text of a number and the number
 pub record Cell : Type 0 where
   pub column : List ℕ
   pub row : List ℕ
@@ -41,17 +41,17 @@ cell_fields cell = cell.column ∷ cell.row ∷ cell.text ∷ []
 abbrev pub cell_item : Cell → LineContent
 cell_item cell = data_line (cell_fields cell)
 
--- in an integer part or outside
+-- inside an integer block or outside
 abbrev pub cell_decl : Bool → Cell → Declarations
 cell_decl marked cell =
     declare_column cell.column
     ∷ (when marked (declare_marked cell.column) ++ declare_coefficient (record { row = cell.row; column = cell.column }) cell.value ∷ [])
 
--- a line of a column that is declared already, after a line that is none of its
+-- a line of a declared column after a line of another one
 abbrev pub is_split_in : Option (List ℕ) → Draft → List ℕ → Bool
 is_split_in last earlier column = has_column earlier column && not (option_map_or (same_bytes column) last false)
 
--- the lines of each column stand together, after a last line of this column
+-- the lines of each column are contiguous, after a last line of this column
 abbrev pub Unsplit : Bool → Option (List ℕ) → Draft → List Cell → Type 0
 Unsplit marked last earlier [] = Unit {0}
 Unsplit marked last earlier (cell ∷ rest) =
@@ -72,7 +72,7 @@ pub cell_says : (marked : Bool) (cell : Cell) (context : Context) (earlier : Dra
     → line_declares context earlier (cell_item cell) ≡ cell_decl marked cell
 cell_says marked cell context earlier s p g = rw (s, g.row, p, g.text) refl
 
--- tests of which none holds, before others
+-- tests none of which fails, before others
 pub none-first : (xs ys : FaultTests) → those_of xs ≡ [] → those_of (xs ++ ys) ≡ those_of ys
 none-first [] ys h = refl
 none-first (x ∷ xs) ys h =
@@ -98,7 +98,7 @@ cell_lines cell before s = lines-push Columns (cell_fields cell) before (Some Co
 last_push : {X : Type 0} (xs : List X) (x : X) → last_or None (xs ++ x ∷ []) ≡ Some x
 last_push xs x = last_or-append None xs (x ∷ [])
 
--- a line of a column opens and closes nothing, and it is the last line of its column
+-- a line of a column opens and closes no block, and is the last line of its column
 words_kept : (cell : Cell) (lines : List Fields) → same_bytes cell.row marker ≡ false → filter_map marker_word (lines ++ cell_fields cell ∷ []) ≡ filter_map marker_word lines
 words_kept cell lines h = filter_map-append marker_word lines (cell_fields cell ∷ []) ∙ rw h (append-nil (filter_map marker_word lines))
 
@@ -150,7 +150,7 @@ last_word false lines = ap opens_last (filter_map-append marker_word lines (mark
 pub marker_part : (opens : Bool) (before : List LineContent) → current_section before ≡ Some Columns → in_integer_part (before ++ data_line (marker_fields opens) ∷ []) ≡ opens
 marker_part opens before s = ap (λ (lines : List Fields). opens_last (filter_map marker_word lines)) (marker_lines opens before s) ∙ last_word opens (data_lines Columns before)
 
--- after a marker line no column goes on
+-- after a marker line no column continues
 pub marker_last : (opens : Bool) (before : List LineContent) → current_section before ≡ Some Columns → last_column (before ++ data_line (marker_fields opens) ∷ []) ≡ None
 marker_last opens before s =
     ap (λ (lines : List Fields). option_map_or line_column (last_or None lines) None) (marker_lines opens before s)
@@ -178,7 +178,7 @@ goes_on earlier column = ap (λ (b : Bool). has_column earlier column && not b) 
     none true = refl
     none false = refl
 
--- after a line of a column more lines of it, and then what is unsplit after them
+-- after a line of a column more lines of it, and then lines that do not split a column after them
 pub unsplit_more : (marked : Bool) (column : List ℕ) (cells rest : List Cell) (earlier : Draft) → AreOf column cells
     → Unsplit marked (Some column) (with_declarations earlier (flat_map (cell_decl marked) cells)) rest → Unsplit marked (Some column) earlier (cells ++ rest)
 unsplit_more marked column [] rest earlier h more = more
@@ -200,12 +200,12 @@ Group = List ℕ × List Cell
 abbrev pub cells_of : List Group → List Cell
 cells_of groups = flat_map (λ group. group.1) groups
 
--- one cell at least, each of the column
+-- at least one cell, each of the column
 pub record IsGroup (group : Group) : Type 0 where
   pub some : is_nonempty group.1 ≡ true
   pub own : AreOf group.0 group.1
 
--- no two of one name
+-- no two of the same name
 abbrev pub AreApart : List Group → Type 0
 AreApart [] = Unit {0}
 AreApart (group ∷ groups) = Each (λ (later : Group). same_bytes later.0 group.0 ≡ false) groups × AreApart groups
@@ -213,7 +213,7 @@ AreApart (group ∷ groups) = Each (λ (later : Group). same_bytes later.0 group
 abbrev pub AreAbsent : Draft → List Group → Type 0
 AreAbsent earlier groups = Each (λ (group : Group). has_column earlier group.0 ≡ false) groups
 
--- one cell declares its own column alone
+-- a cell declares only its own column
 cell-column : (marked : Bool) (cell : Cell) (earlier : Draft) (n : List ℕ) → same_bytes n cell.column ≡ false → has_column earlier n ≡ false
     → has_column (with_declarations earlier (cell_decl marked cell)) n ≡ false
 cell-column true cell earlier n apart absent = has-put n cell.column tt earlier.columns ∙ both_false (same_bytes n cell.column) (has_column earlier n) apart absent

@@ -1,4 +1,4 @@
--- Items one after another: what they declare, and that they have a good form.
+-- Items one after another: what they declare, and that they are well-formed.
 use Rattle.std.proofs.Common.{◌≡◌, refl, sym, ap, subst, ◌∙◌, List, [], ◌∷◌, ◌++◌, true, map, append_assoc}
 use Rattle.std.specs.Prelude.{◌&&◌, not}
 use Rattle.std.specs.List.{flat_map}
@@ -14,7 +14,7 @@ use Rattle.mpslp_mps.specs.Context.{context_of}
 use Rattle.mpslp_mps.specs.LineDeclarations.{line_declares}
 use Rattle.mpslp_mps.proofs.ContextLineLemmas.{form_faults, declared_items, are_well_formed}
 
--- after these items and this draft, the items have a good form and declare these
+-- after these items and this draft, the items are well-formed and declare these
 pub record Walk (before : List LineContent) (earlier : Draft) (items : List LineContent) (ds : Declarations) : Type 0 where
   pub declares : declared_items before earlier items ≡ ds
   pub good : are_well_formed before earlier items ≡ true
@@ -69,7 +69,7 @@ pub record Step {X : Type 0} (item : X → LineContent) (decl : X → Declaratio
   pub good : form_faults (context_of before) earlier (item x) ≡ []
   pub next : Inv rest (before ++ item x ∷ []) (with_declarations earlier (decl x))
 
--- A section whose items each keep what the section needs.
+-- A section each of whose items keeps what the section needs.
 pub section-walk : {X : Type 0} (item : X → LineContent) (decl : X → Declarations) (Inv : List X → List LineContent → Draft → Type 0)
     → ((x : X) (rest : List X) (before : List LineContent) (earlier : Draft) → Inv (x ∷ rest) before earlier → Step item decl Inv x rest before earlier)
     → (xs : List X) (before : List LineContent) (earlier : Draft) → Inv xs before earlier

@@ -84,7 +84,7 @@ bounds-derived context earlier column section set =
       no_upper = record { declares = says no_upper zero_number zero; faultless = good no_upper zero_number zero };
     }
   where
-    -- any value will do where none is printed
+    -- any value will do if none is printed
     zero : IsFiniteValue zero_number
     zero = record { decimal = refl; finite = refl }
 

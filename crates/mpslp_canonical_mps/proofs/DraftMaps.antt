@@ -1,4 +1,4 @@
--- The draft of a sound listing's canonical declarations, map by map.
+-- The draft of the canonical declarations of a well-formed listing, map by map.
 use Rattle.std.proofs.Common.{◌≡◌, refl, sym, ap, ◌∙◌, List, [], ◌∷◌, ◌++◌, ℕ, Bool, true, false, not, cond, map, append_assoc}
 use Rattle.std.specs.Prelude.{Option, Some, None, is_some, filter, ◌&&◌}
 use Rattle.std.specs.List.{flat_map}
@@ -29,9 +29,9 @@ use Rattle.mpslp_canonical_mps.proofs.CanonicalContents.{to_cell, cells_in}
 use Rattle.mpslp_builder.proofs.EntryLemmas.{first_there, then_told, told, all_told, sorted-kept, find-puts, puts-own, find-kept, sorted-told, find-told, filter-not_not}
 use Rattle.mpslp_canonical_mps.proofs.ListedParts.{form_told, value_told, side_told, range_told, column_lower, column_upper, semi_told, column_semi, row_forms, own_column, listed_decl, from_cells, rows-part, rhs_values-part, ranges-part, columns-part, marked-part, integers-part, binaries-part, lowers-part, uppers-part, semis-part}
 
--- ---- a sound listing
+-- ---- a well-formed listing
 
--- a decimal that is not 0, of a row or the objective and of a column that are there
+-- a decimal other than 0, of a row or the objective and of a column that exist
 abbrev pub is_sound_entry : Listing → CoefficientKey × Number → Bool
 is_sound_entry m entry =
     is_decimal entry.1 && (not (is_zero entry.1) && (is_one_of (names_in m.columns) entry.0.column && is_one_of (m.objective ∷ names_in m.rows) entry.0.row))
@@ -111,7 +111,7 @@ semi-at m h q =
     ∙ puts-own bytes_cmp bytes_total tied_names (all_told column_semi m.columns) (sorted-told bytes_cmp column_semi m.columns h.columns_sorted))
     ∙ find-told bytes_cmp column_semi bytes_total tied_names q m.columns h.columns_sorted
 
--- a semi-continuous column of a sound listing has a finite upper bound, which tells its kind
+-- a semi-continuous column of a well-formed listing has a finite upper bound, whose line declares its type
 semi-suited : (kind : Kind) (l u : Limit) → suits kind l u ≡ true → is_some (semi_told kind u) ≡ is_semi_kind kind
 semi-suited Continuous l MinusInf h = refl
 semi-suited Continuous l (Finite b) h = refl
@@ -128,7 +128,7 @@ pub semis-at : (m : Listing) → IsSoundListing m → (q : List ℕ) (column : C
 semis-at m h q column suited is =
     ap is_some (semi-at m h q ∙ ap (then_told column_semi) is) ∙ semi-suited column.kind column.lower column.upper suited
 
--- each cell of a column names it, and there is one
+-- each cell of a column names it, and there is at least one
 own-all : (name : List ℕ) (cells : List (List ℕ × Number)) → Each (λ e. e ≡ (name, tt)) (flat_map own_column (map (to_cell name) cells))
 own-all name [] = tt
 own-all name (cell ∷ cells) = (refl, own-all name cells)
@@ -175,7 +175,7 @@ one-part : {X Y : Type 0} (f : X → List Y) (xs : List X) → flat_map f xs ≡
 one-part f [] = refl
 one-part f (x ∷ xs) = ap (λ (ys : List _). f x ++ ys) (one-part f xs) ∙ sym (append_assoc (f x) (flat_map f (filter (λ _. true) xs)) (flat_map f (filter (λ _. not true) xs)))
 
--- columns of one part alone
+-- only columns of one part
 pub plain-alone : (m : Listing) (columns : List (List ℕ × Column)) → is_sorted bytes_cmp columns ≡ true → puts bytes_cmp (from_cells own_column m columns) [] ≡ map named columns
 plain-alone m columns h =
     ap (λ (es : List (List ℕ × Unit {0})). puts bytes_cmp es []) (one-part (λ column. flat_map own_column (cells_in m column)) columns)

@@ -37,7 +37,7 @@ pub start-walk : (sense : Sense) → Walk [] empty_draft (header_item Name ∷ s
 start-walk Minimize = record { declares = refl; good = refl }
 start-walk Maximize = record { declares = refl; good = refl }
 
--- ROWS may follow
+-- ROWS may come next
 pub rows-may : (sense : Sense) → MayStand Rows (header_item Name ∷ sense_items sense)
 rows-may Minimize = record { settled = refl; fresh = refl; begins = refl }
 rows-may Maximize = record { settled = refl; fresh = refl; begins = refl }

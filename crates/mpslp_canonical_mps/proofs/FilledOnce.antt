@@ -1,4 +1,4 @@
--- The canonical declarations of a sound listing fill no slot twice.
+-- The canonical declarations of a well-formed listing fill no slot twice.
 use Rattle.std.proofs.Common.{◌≡◌, refl, sym, ap, ◌∙◌, List, [], ◌∷◌, ◌++◌, ℕ, Bool, true, false, suc, ◌<◌, arith, map}
 use Rattle.std.specs.Prelude.{Option, Some, filter}
 use Rattle.std.specs.List.{flat_map}
@@ -71,7 +71,7 @@ sense-section : (sense : Sense) → Section 0 (sense_slots sense)
 sense-section Minimize = record { once = refl; rank = tt }
 sense-section Maximize = record { once = refl; rank = (refl, tt) }
 
--- ---- COLUMNS: the columns outside the integer part, then those in it
+-- ---- COLUMNS: the columns outside the integer block, then those in it
 
 abbrev listed_columns : Listing → List (List ℕ × Column)
 listed_columns m = filter is_plain_column m.columns ++ filter is_integer_column m.columns
@@ -79,7 +79,7 @@ listed_columns m = filter is_plain_column m.columns ++ filter is_integer_column 
 abbrev IsFound : Listing → List ℕ × Column → Type 0
 IsFound m column = at_name m.columns column.0 ≡ Some column.1
 
--- a name has one column, of one kind
+-- a name has one column, of one type
 kinds_differ : (m : Listing) (x y : List ℕ × Column) → IsFound m x → is_plain_column x ≡ true → IsFound m y → is_integer_column y ≡ true → same_bytes y.0 x.0 ≡ false
 kinds_differ m x y found plain there integer = by (same_bytes y.0 x.0) refl
   where
@@ -165,6 +165,6 @@ sections-fill m =
     last_fill : flat_map (made_of slots_of bound_decl) (flat_map bounds_in m.columns) ≡ flat_map bound_slots m.columns ++ []
     last_fill = bounds-fill m.columns ∙ sym (append-nil (flat_map bound_slots m.columns))
 
--- The canonical declarations of a sound listing fill no slot twice.
+-- The canonical declarations of a well-formed listing fill no slot twice.
 pub filled-once : (m : Listing) → IsSoundListing m → are_distinct same_slot (all_slots (listed_decl m)) ≡ true
 filled-once m h = ap (are_distinct same_slot) (slots-flat (listed_decl m) ∙ sections-fill m) ∙ joined-once 0 (sections m) (sections-once m h)

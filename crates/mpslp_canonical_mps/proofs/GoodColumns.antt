@@ -1,4 +1,4 @@
--- COLUMNS of a sound listing: the columns stand apart, and each has good lines.
+-- COLUMNS of a well-formed listing: the columns are separate, and each has good lines.
 use Rattle.std.proofs.Common.{◌≡◌, refl, ap, ◌∙◌, List, [], ◌∷◌, ℕ, Bool, true, false, not, cond, map}
 use Rattle.std.specs.Prelude.{Option, Some, None, is_some, filter, filter_map}
 use Rattle.std.specs.List.{flat_map, cons_option}

@@ -1,4 +1,4 @@
--- The sections of a sound listing's canonical text are good ones to walk over.
+-- The sections of the canonical text of a well-formed listing meet the conditions for following them.
 use Rattle.std.proofs.Common.{◌≡◌, refl, sym, ap, ◌∙◌, List, [], ◌∷◌, ◌++◌, ℕ, Bool, true, false, cond, map}
 use Rattle.std.specs.Prelude.{Option, Some, None}
 use Rattle.std.specs.List.{flat_map}
@@ -41,7 +41,7 @@ use Rattle.mpslp_types.specs.declared.kinds.RowType.TheVariants.{AtLeast, Equal}
 use Rattle.mpslp_canonical_mps.proofs.PrintableLemmas.{Holds, side-decimal, range-decimal, negated-decimal}
 use Rattle.mpslp_canonical_mps.proofs.GoodColumns.{are-columns}
 
--- ---- right sides and ranges are read as the numbers that they were printed from
+-- ---- right-hand sides and ranges are read as the numbers from which they were printed
 
 reads-side : (row : List ℕ) (value : Number) → IsDecimal value → Each ReadsAs (side_unless_zero row value)
 reads-side row value d = elim (is_zero value) as (λ b. Each ReadsAs (cond b [] (to_side row value ∷ []))) [ true ↦ tt | false ↦ (number-text value d, tt) ]
@@ -63,7 +63,7 @@ reads-ranges m h =
         by None d = tt
         by (Some value) d = (number-text value d, tt)
 
--- ---- no right side is of a row of type N
+-- ---- no right-hand side is that of an N row
 
 abbrev KeepsRows : Declaration → Type 0
 KeepsRows d = (all : Draft) → (with_declaration all d).rows ≡ all.rows
@@ -101,7 +101,7 @@ free-at m h q =
     ap (λ (es : List (List ℕ × RowDefinition)). option_map_or is_free_definition (at_name es q) false) (rows-at-sides m h)
     ∙ ap (λ (o : Option RowDefinition). option_map_or is_free_definition o false) (at-mapped form_told q m.rows)
 
--- a row of type N has no right side
+-- an N row has no right-hand side
 free-side : (l u : Limit) → is_free_definition (by_type (printed_type l u)) ≡ true → is_zero (printed_rhs l u) ≡ true
 free-side MinusInf MinusInf h = refl
 free-side MinusInf (Finite b) h = cc

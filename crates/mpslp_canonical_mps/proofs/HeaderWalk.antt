@@ -1,4 +1,4 @@
--- Headers: what each declares, that it has a good form, and what the lines before say once it stands.
+-- Headers: what each declares, that it is well-formed, and the context after it.
 use Rattle.std.proofs.Common.{◌≡◌, refl, sym, ap, ◌∙◌, List, [], ◌∷◌, ◌++◌, Bool, true, false, map, append_assoc}
 use Rattle.std.specs.Prelude.{Option, Some, None, is_some, is_none, ◌||◌, codes}
 use Rattle.std.specs.Option.{option_or}
@@ -17,7 +17,7 @@ use Rattle.mpslp_mps.specs.declared.sections.Section.TheVariants.{Name, ObjSense
 use Rattle.mpslp_mps.proofs.SectionLemmas.{current_section-push, has_section-append, has_section-cons}
 use Rattle.mpslp_mps.proofs.ContextLemmas.{word_due-push}
 
--- a header that wants a word on a line of its own, and whether a word is to come
+-- a header whose word must follow on a line of its own, and whether a word is missing
 abbrev pub is_bare : LineContent → Bool
 is_bare item = is_some (word_due_after item)
 
@@ -38,7 +38,7 @@ section_named-keyword Ranges = refl
 section_named-keyword Bounds = refl
 section_named-keyword EndData = refl
 
--- ---- a header where it may stand
+-- ---- a header where it is allowed
 
 -- OBJSENSE has its word or has not begun; the section has not begun, and may begin
 pub record MayStand (section : Section) (before : List LineContent) : Type 0 where
@@ -49,7 +49,7 @@ pub record MayStand (section : Section) (before : List LineContent) : Type 0 whe
 in-order : (section : Section) (before : List LineContent) → MayStand section before → is_out_of_order (context_of before) section ≡ false
 in-order section before h = rw (h.settled, h.fresh, h.begins) refl
 
--- the objective is there where COLUMNS begins
+-- the objective exists at the start of COLUMNS
 pub fresh-header-good : (section : Section) (context : Context) (earlier : Draft) → is_out_of_order context section ≡ false → has context.sections_seen section ≡ false
     → (is_section Columns (Some section) ≡ true → is_none earlier.objective ≡ false) → form_faults context earlier (header_item section) ≡ []
 fresh-header-good Name context earlier o f n = rw (o, f) refl
@@ -66,7 +66,7 @@ pub header-good : (section : Section) (before : List LineContent) (earlier : Dra
     → form_faults (context_of before) earlier (header_item section) ≡ []
 header-good section before earlier h named = fresh-header-good section (context_of before) earlier (in-order section before h) h.fresh named
 
--- a header declares nothing, but for the objective at COLUMNS where there was none
+-- a header declares nothing, except for the objective at COLUMNS if there was none
 pub header-says : (section : Section) (context : Context) (earlier : Draft) → (is_section Columns (Some section) ≡ true → is_none earlier.objective ≡ false) → line_declares context earlier (header_item section) ≡ []
 header-says Name context earlier n = refl
 header-says ObjSense context earlier n = refl
@@ -95,7 +95,7 @@ or_false : (b : Bool) → (b || false) ≡ b
 or_false true = refl
 or_false false = refl
 
--- lines that are no headers begin nothing
+-- lines that are not headers begin no section
 pub has_section-data : {X : Type 0} (section : Section) (item : X → LineContent) → ((x : X) → section_of_header (item x) ≡ None) → (xs : List X) (before : List LineContent)
     → has_section (before ++ map item xs) section ≡ has_section before section
 has_section-data section item none xs before =
@@ -132,6 +132,6 @@ lines_of_other section (item ∷ before) current h k =
 pub no-lines : (section : Section) (before : List LineContent) → has_section before section ≡ false → data_lines section before ≡ []
 no-lines section before h = lines_of_other section before None refl h
 
--- after a data line, and after a header that is no bare OBJSENSE
+-- after a data line, and after a header that is not a bare OBJSENSE
 pub settled-after : (before : List LineContent) (item : LineContent) → is_read item ≡ true → is_bare item ≡ false → wants_word (before ++ item ∷ []) ≡ false
 settled-after before item r b = ap is_some (word_due-push before item ∙ rw r refl) ∙ b

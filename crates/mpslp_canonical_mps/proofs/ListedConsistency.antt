@@ -1,4 +1,4 @@
--- The canonical declarations of a sound listing go together, where no slot is filled twice.
+-- The canonical declarations of a well-formed listing are consistent, if no slot is filled twice.
 use Rattle.std.proofs.Common.{◌≡◌, refl, ap, ◌∙◌, List, [], ◌∷◌, ◌++◌, ℕ, Bool, true, false, not, cond, map}
 use Rattle.std.specs.Prelude.{Option, Some, None, is_some, filter, filter_map, ◌&&◌, ◌||◌}
 use Rattle.std.specs.List.{flat_map, list_all, list_any, cons_option}
@@ -45,7 +45,7 @@ use Rattle.mpslp_canonical_mps.proofs.CoefficientMap.{place_at}
 use Rattle.mpslp_builder.proofs.SoundParts.{row_distance, column_suited}
 use Rattle.mpslp_canonical_mps.proofs.ListedMeaning.{constant-drafted, objective-drafted, other-name, IsOwnRow, own-rows, IsOwnColumn, own-columns}
 
--- ---- what is there
+-- ---- what exists
 
 column-there : (m : Listing) → IsSoundListing m → (column : List ℕ × Column) → at_name m.columns column.0 ≡ Some column.1 → has_column (drafted m) column.0 ≡ true
 column-there m h column is =
@@ -222,7 +222,7 @@ integer-not_semi Semi l u h = cc
 abbrev AllowedCell : Listing → Cell → Type 0
 AllowedCell m cell = Each (Allowed m) (cell_decl true cell)
 
--- a column of the integer part is not semi-continuous
+-- a column of the integer block is not semi-continuous
 allowed-integers : (m : Listing) → IsSoundListing m → Each (AllowedCell m) (cells_of (map (group_in m) (filter is_integer_column m.columns)))
 allowed-integers m h =
     Each-flat_map (AllowedCell m) (λ group. group.1) (map (group_in m) (filter is_integer_column m.columns))
@@ -254,7 +254,7 @@ allowed-line_text : (m : Listing) (name : List ℕ) (line_text : List PrintedBou
 allowed-line_text m name [] h = tt
 allowed-line_text m name (bound ∷ line_text) h = (allowed-form m (form_of bound.type) name (value_in bound.value) h.0, allowed-line_text m name line_text h.1)
 
--- a bound that would tell an integer column to be semi-continuous is not printed
+-- a bound that would declare an integer column semi-continuous is not printed
 abbrev TellsNoSemi : PrintedBound → Type 0
 TellsNoSemi bound = tells_semi (form_of bound.type) ≡ false
 
@@ -316,7 +316,7 @@ named-first : (name : List ℕ) (s : Sense) (more : Declarations) → list_any d
 named-first name Minimize more = refl
 named-first name Maximize more = refl
 
--- The canonical declarations of a sound listing go together, where no slot is filled twice.
+-- The canonical declarations of a well-formed listing are consistent, if no slot is filled twice.
 pub consistent-if_once : (m : Listing) → IsSoundListing m → are_distinct same_slot (all_slots (listed_decl m)) ≡ true → AreConsistent (listed_decl m)
 consistent-if_once m h once = record {
   objective = named-first m.objective m.sense _;

@@ -117,7 +117,7 @@ part-items (line ∷ lines) [] h = cc
 part-items (line ∷ lines) (cell ∷ cells) h =
     ap (λ (more : List LineContent). marker_item true ∷ more) (map-append content_in (line ∷ lines) (marker_line closing_word ∷ []) ∙ ap (λ (items : List LineContent). items ++ marker_item false ∷ []) h)
 
--- the items of lines that follow others
+-- the items of lines after others
 follow : (xs ys : Lines) (is js : List LineContent) → items_in xs ≡ is → items_in ys ≡ js → items_in (xs ++ ys) ≡ is ++ js
 follow xs ys is js h k = map-append content_in xs ys ∙ (λ i. h i ++ k i)
 

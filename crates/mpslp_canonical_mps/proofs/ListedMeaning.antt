@@ -1,4 +1,4 @@
--- The draft of a sound model's canonical declarations means the model.
+-- The draft of the canonical declarations of a well-formed model means the model.
 use Rattle.std.proofs.Common.{◌≡◌, refl, sym, ap, ◌∙◌, List, [], ◌∷◌, ◌++◌, ℕ, zero, suc, Bool, true, false, not, cond, map}
 use Rattle.std.specs.Prelude.{ℤ, pos, negsuc, neg_ℤ, Option, Some, None, is_some, unwrap_or, ◌&&◌}
 use Rattle.std.specs.List.{list_all}
@@ -280,7 +280,7 @@ bounds-back m h column k =
 each-column_back : (m : Listing) → IsSoundListing m → Each (λ column. column_of (drafted m) column.0 ≡ column.1) m.columns
 each-column_back m h = Each-weaker (IsOwnColumn m) (λ column. column_of (drafted m) column.0 ≡ column.1) (bounds-back m h) m.columns (own-columns m h)
 
--- ---- right sides
+-- ---- right-hand sides
 
 and_false : (a b : Bool) → a ≡ false → (a && b) ≡ false
 and_false true b h = cc
@@ -312,7 +312,7 @@ finite-row m h row k =
     so_not (row_passes (drafted m) has_infinite_rhs (told_row row))
     ((λ i. has_infinite_rhs (form_told row.1) (side-back m h row k.0 k.1 i) (range-back m h row k.1 i)) ∙ finite-side row.1.lower row.1.upper (row_sides row k.0))
 
--- The draft of the canonical declarations of a sound model means it.
+-- The draft of the canonical declarations of a well-formed model means it.
 pub draft-means : (m : LinearModel) → IsSound m → DraftMeans (drafted (listing_of m)) m
 draft-means m sound =
     let listing = listing_of m in

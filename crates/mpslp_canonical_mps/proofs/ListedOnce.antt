@@ -1,4 +1,4 @@
--- The coefficients of a sound listing fill different slots.
+-- The coefficients of a well-formed listing fill different slots.
 use Rattle.std.proofs.Common.{◌≡◌, refl, ◌∙◌, List, [], ◌∷◌, ◌++◌, ℕ, true, false, not, map}
 use Rattle.std.specs.Prelude.{◌||◌}
 use Rattle.std.specs.List.{flat_map, list_any}

@@ -30,12 +30,12 @@ use Rattle.mpslp_builder.proofs.EntryLemmas.{told, all_told}
 use Rattle.mpslp_builder.proofs.FlatLemmas.{flat-none, flat-same}
 use Rattle.mpslp_canonical_mps.proofs.WholeParts.{made_of, sense-none, bound-none, joined-parts}
 
--- ---- what is told of a row and of a column
+-- ---- what is declared of a row and of a column
 
 abbrev pub form_told : Row → RowDefinition
 form_told row = by_type (printed_type row.lower row.upper)
 
--- a value that is told unless it is 0
+-- a value that is declared unless it is 0
 abbrev pub value_told : Number → Option Number
 value_told value = cond (is_zero value) None (Some value)
 
@@ -51,7 +51,7 @@ column_lower column = lower_told column.kind column.lower column.upper have_same
 abbrev pub column_upper : Column → Option Limit
 column_upper column = upper_told column.kind column.lower column.upper
 
--- a finite upper bound of a semi-continuous column tells its kind
+-- a finite upper bound of a semi-continuous column declares its type
 abbrev pub semi_told : Kind → Limit → Option (Unit {0})
 semi_told kind MinusInf = None
 semi_told kind PlusInf = None
@@ -65,7 +65,7 @@ column_semi column = semi_told column.kind column.upper
 abbrev pub row_forms : List (List ℕ × Row) → List (List ℕ × RowDefinition)
 row_forms rows = map (λ row. (row.0, form_told row.1)) rows
 
--- ---- what each line makes
+-- ---- what each line puts into a map
 
 abbrev pub own_column : Cell → List (List ℕ × Unit {0})
 own_column cell = (cell.column, tt) ∷ []
@@ -124,7 +124,7 @@ lower-front name a rest h =
       | false ↦ ap (λ (more : List (List ℕ × Limit)). (name, Finite a) ∷ more) h
     ]
 
--- no upper bound makes a lower one
+-- an upper bound puts nothing into the map of lower bounds
 no-lower : (name : List ℕ) (kind : Kind) (b : Number) → lowers_made name (printed_upper kind (Finite b)) ≡ []
 no-lower name Continuous b = refl
 no-lower name Integer b = refl
@@ -239,7 +239,7 @@ all-semis columns =
 abbrev pub listed_decl : Listing → Declarations
 listed_decl m = whole_decl (whole_of m)
 
--- what the cells of some columns make
+-- what the cells of some columns put into a map
 abbrev pub from_cells : {Y : Type 0} → (Cell → List Y) → Listing → List (List ℕ × Column) → List Y
 from_cells f m columns = flat_map (λ column. flat_map f (cells_in m column)) columns
 
@@ -287,7 +287,7 @@ ranges-part m =
       of_bounds = flat-none (made_of range_part bound_decl) (bound-none range_part (λ _ _. refl) (λ _ _. refl) (λ _. refl)) (whole_of m).late.bounds;
     }) ∙ append-nil ranges
 
--- a map into which the lines of columns alone put something
+-- a map into which only the lines of columns put something
 cells-part : {Y : Type 0} (part : Declaration → List Y) (plain integers : Cell → List Y) → ((s : Sense) → part (declare_sense s) ≡ []) → ((x : List ℕ) → part (declare_objective x) ≡ [])
     → ((x : List ℕ) (form : RowDefinition) → part (declare_row x form) ≡ []) → ((cell : Cell) → made_of part (cell_decl false) cell ≡ plain cell) → ((cell : Cell) → made_of part (cell_decl true) cell ≡ integers cell)
     → ((x : List ℕ) (v : Number) → part (declare_rhs x v) ≡ []) → ((x : List ℕ) (v : Number) → part (declare_range x v) ≡ []) → ((x : List ℕ) (l : Limit) → part (declare_lower x l) ≡ [])
@@ -330,7 +330,7 @@ binaries-part m =
     cells-part binary_part (λ _. []) (λ _. []) (λ _. refl) (λ _. refl) (λ _ _. refl) (λ _. refl) (λ _. refl) (λ _ _. refl) (λ _ _. refl) (λ _ _. refl) (λ _ _. refl) (λ _. refl) m
     ∙ (λ i. from-none {Y = List ℕ × Unit {0}} m (filter is_plain_column m.columns) i ++ from-none {Y = List ℕ × Unit {0}} m (filter is_integer_column m.columns) i)
 
--- a map into which the lines of bounds alone put something
+-- a map into which only the lines of bounds put something
 bounds-part : {V : Type 0} (part : Declaration → List (List ℕ × V)) (told_of : Column → Option V) → ((s : Sense) → part (declare_sense s) ≡ []) → ((x : List ℕ) → part (declare_objective x) ≡ [])
     → ((x : List ℕ) (form : RowDefinition) → part (declare_row x form) ≡ []) → ((cell : Cell) → made_of part (cell_decl false) cell ≡ []) → ((cell : Cell) → made_of part (cell_decl true) cell ≡ [])
     → ((side : Side) → made_of part side_decl side ≡ []) → ((side : Side) → made_of part range_decl side ≡ [])

@@ -1,4 +1,4 @@
--- The canonical declarations of a sound listing fill no slot twice.
+-- The canonical declarations of a well-formed listing fill no slot twice.
 use Rattle.std.proofs.Common.{◌≡◌, refl, ap, ◌∙◌, List, [], ◌∷◌, ◌++◌, ℕ, Bool, true, false, not, map}
 use Rattle.std.specs.Prelude.{Option, Some, None, filter_map, ◌&&◌, ◌||◌}
 use Rattle.std.specs.List.{flat_map, list_any, cons_option}
@@ -104,7 +104,7 @@ none_and : (a b : Bool) → a ≡ false → (a && b) ≡ false
 none_and true b h = cc
 none_and false b h = refl
 
--- a coefficient of another column is none of a column's
+-- a coefficient of another column is not one of this column
 pub column-new : (row column other : List ℕ) → same_bytes other column ≡ false → (cells : List (List ℕ × Number))
     → IsNew same_slot (coefficient_slot (place_at row column)) (flat_map cell_slot (map (to_cell other) cells))
 column-new row column other h [] = refl
@@ -128,7 +128,7 @@ row-new coefficients row column (x ∷ rows) h =
         both_false (same_bytes x row && same_bytes column column) (list_any (λ later. same_slot later (coefficient_slot (place_at row column))) (flat_map cell_slot (map (to_cell column) (filter_map (cell_at coefficients column) rows))))
         (none_and (same_bytes x row) (same_bytes column column) apart) more
 
--- the coefficients of a column stand in different rows
+-- the coefficients of a column are in different rows
 pub column-distinct : (coefficients : List (CoefficientKey × Number)) (column : List ℕ) (rows : List (List ℕ)) → are_distinct same_bytes rows ≡ true
     → are_distinct same_slot (flat_map cell_slot (map (to_cell column) (filter_map (cell_at coefficients column) rows))) ≡ true
 column-distinct coefficients column [] h = refl

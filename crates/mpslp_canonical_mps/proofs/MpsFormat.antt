@@ -1,4 +1,4 @@
--- The laws of MPS as a format of model files, in the words of the trait of formats.
+-- The laws of MPS as a format of model files, in terms of the trait `Format`.
 use Rattle.std.proofs.Common.{◌≡◌, refl, List, ℕ}
 use Rattle.std.specs.Prelude.{Option, None}
 use Rattle.mpslp_model_core.specs.Model.{LinearModel, IsSound}
@@ -11,11 +11,11 @@ use Rattle.mpslp_canonical_mps.specs.CanonicalMps.{canonical_mps}
 use Rattle.mpslp_canonical_mps.proofs.CanonicalDeclares.{canonical-declares}
 use Rattle.mpslp_canonical_mps.proofs.OneAnswer.{one-model, one-fault}
 
--- No model has what MPS cannot tell.
+-- MPS can express every model.
 abbrev pub mps_unfit : LinearModel → Option NameAt
 mps_unfit m = None
 
--- The text of a sound model declares this model.
+-- The text of a well-formed model declares this model.
 pub text_declares : (m : LinearModel) → IsSound m → mps_unfit m ≡ None → DeclaresMps (canonical_mps m) m
 text_declares m sound fits = canonical-declares m sound
 
@@ -23,14 +23,14 @@ text_declares m sound fits = canonical-declares m sound
 pub one_model : (bytes : List ℕ) (m n : LinearModel) → DeclaresMps bytes m → DeclaresMps bytes n → m ≡ n
 one_model = one-model
 
--- What bytes declare is sound, and MPS can tell it.
+-- What bytes declare is well-formed, and MPS can express it.
 pub declared_sound : (bytes : List ℕ) (m : LinearModel) → DeclaresMps bytes m → IsSound m × (mps_unfit m ≡ None)
 declared_sound bytes m declares = (declares.means.meant.sound, refl)
 
--- Bytes that declare a model have no fault.
+-- Bytes that declare a model have no error.
 pub no_fault : (bytes : List ℕ) (m : LinearModel) (fault : Fault) → DeclaresMps bytes m → IsFirstMpsFault bytes fault → ⊥
 no_fault = model-or_fault
 
--- No bytes have two first faults.
+-- No bytes have two first errors.
 pub one_fault : (bytes : List ℕ) (fault other : Fault) → IsFirstMpsFault bytes fault → IsFirstMpsFault bytes other → fault ≡ other
 one_fault = one-fault

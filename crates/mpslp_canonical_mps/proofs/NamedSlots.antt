@@ -1,4 +1,4 @@
--- The rows, right sides and ranges that a sound listing declares fill different slots.
+-- The rows, right-hand sides and ranges that a well-formed listing declares fill different slots.
 use Rattle.std.proofs.Common.{◌≡◌, refl, sym, ap, ◌∙◌, List, [], ◌∷◌, ◌++◌, ℕ, true, false, not, map}
 use Rattle.std.specs.Prelude.{Option, Some, None, is_some}
 use Rattle.std.specs.List.{flat_map, list_any}
@@ -29,7 +29,7 @@ pub all-named : (n : ℕ) (make : List ℕ → Slot) → ((name : List ℕ) → 
 all-named n make h [] = tt
 all-named n make h (name ∷ names) = (h name, all-named n make h names)
 
--- ---- rows, the objective before them
+-- ---- rows, and the objective before them
 
 abbrev pub row_slots : Listing → List Slot
 row_slots m = objective_slot ∷ map row_slot (m.objective ∷ names_in m.rows)
@@ -48,7 +48,7 @@ row_slots-distinct m h =
     (so_not (list_any (λ later. same_slot later objective_slot) (map row_slot (m.objective ∷ names_in m.rows))) (no-objective (m.objective ∷ names_in m.rows)))
     (distinct-map same_bytes row_slot (λ a b. refl) (m.objective ∷ names_in m.rows) ∙ rows-distinct m h)
 
--- ---- right sides and ranges
+-- ---- right-hand sides and ranges
 
 filled-names : (make : List ℕ → Slot) (sides : List Side) → flat_map (λ side. make side.row ∷ []) sides ≡ map make (names_in (flat_map own_side sides))
 filled-names make [] = refl
@@ -63,7 +63,7 @@ sides-fill m = filled-names rhs_slot (sides_in m) ∙ ap (λ (sides : List (List
 pub ranges-fill : (m : Listing) → flat_map (made_of slots_of range_decl) (flat_map row_range m.rows) ≡ map range_slot (names_in (all_told range_told m.rows))
 ranges-fill m = filled-names range_slot (flat_map row_range m.rows) ∙ ap (λ (ranges : List (List ℕ × Number)). map range_slot (names_in ranges)) (ranges-made m.rows)
 
--- the objective is no row, so no row tells a right side of its name
+-- the objective is not a row, so no row declares a right-hand side of its name
 objective-new : (m : Listing) → IsSoundListing m → list_any (λ later. same_bytes later m.objective) (names_in (all_told side_told m.rows)) ≡ false
 objective-new m h =
     let absent : at_name m.rows m.objective ≡ None = none_is (at_name m.rows m.objective) (sym (one_of-names m.objective m.rows) ∙ h.no_row) in

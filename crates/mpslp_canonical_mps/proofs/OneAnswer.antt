@@ -1,4 +1,4 @@
--- Bytes declare one model, and have one first fault.
+-- Bytes declare at most one model, and have at most one first error.
 use Rattle.std.proofs.Common.{◌≡◌, sym, ◌∙◌}
 use Rattle.std.specs.Prelude.{Some}
 use Rattle.mpslp_types.specs.declared.faults.Fault.{Fault}

@@ -1,4 +1,4 @@
--- The canonical lines of a sound model can be printed: their fields are names, numbers and words of the format.
+-- The canonical lines of a well-formed model can be printed: their fields are names, numbers and words of the format.
 use Rattle.std.proofs.Common.{◌≡◌, refl, List, [], ◌∷◌, ◌++◌, length, ℕ, zero, suc, Bool, true, false, cond, map}
 use Rattle.std.specs.Prelude.{Option, Some, None, nat_lt, nat_le, ◌&&◌, not, ℤ, pos, negsuc, neg_ℤ, filter, filter_map, codes}
 use Rattle.std.specs.List.{list_all, flat_map, cons_option}
@@ -117,7 +117,7 @@ zero-decimal = refl
 bounded-decimal : (d : Number) → is_bounded_decimal d ≡ true → IsDecimal d
 bounded-decimal d h = first_so (is_decimal d) (not (is_infinite_size d)) h
 
--- the sides of a row or column that are finite
+-- the finite limits or bounds of a row or column
 lower-decimal : (a : Number) → is_lower_side (Finite a) ≡ true → IsDecimal a
 lower-decimal a h = bounded-decimal a h
 
@@ -377,6 +377,6 @@ listed-from_sound m h =
           (λ entry k. first_so (is_decimal entry.1) _ k) (entries m.coefficients) (Each-from_list_all (is_sound_coefficient m) (entries m.coefficients) h.coefficients);
     }
 
--- each canonical line of a sound model can be printed
+-- each canonical line of a well-formed model can be printed
 pub canonical-printable : (m : LinearModel) → IsSound m → AllPrintable (canonical_lines m)
 canonical-printable m h = listed-printable (listing_of m) (listed-from_sound m h)

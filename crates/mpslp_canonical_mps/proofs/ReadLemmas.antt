@@ -1,4 +1,4 @@
--- The canonical text of a sound model is read line by line as it was printed, up to ENDATA, its last line.
+-- The canonical text of a well-formed model is read line by line as it was printed, up to ENDATA, its last line.
 use Rattle.std.proofs.Common.{◌≡◌, refl, sym, ap, subst, ◌∙◌, List, [], ◌∷◌, ◌++◌, ℕ, suc, ◌+◌, true, false, cond, map, arith, take}
 use Rattle.std.specs.Prelude.{Option, Some, None, filter, codes}
 use Rattle.std.specs.List.{list_any, flat_map, position_or_len}
@@ -22,7 +22,7 @@ use Rattle.mpslp_canonical_mps.specs.Laws.{AreReadAsPrinted}
 use Rattle.mpslp_canonical_mps.proofs.TextLemmas.{IsPrintable, item-line_text, items-line_text, legal-lines, lines-text}
 use Rattle.mpslp_canonical_mps.proofs.PrintableLemmas.{canonical-printable}
 
--- ---- the last line alone is ENDATA
+-- ---- only the last line is ENDATA
 
 abbrev pub lines_before_end : Listing → Lines
 lines_before_end m =

@@ -1,4 +1,4 @@
--- Lines of ROWS, RHS and RANGES as they are printed: what each declares, and that it has a good form.
+-- Printed lines of ROWS, RHS and RANGES: what each declares, and that it is well-formed.
 use Rattle.std.proofs.Common.{◌≡◌, refl, ap, ◌∙◌, List, [], ◌∷◌, ◌++◌, ℕ, Bool, true, false}
 use Rattle.std.specs.Prelude.{Option, Some, is_none, ◌&&◌, not, Ok}
 use Rattle.std.specs.List.{list_all}
@@ -23,7 +23,7 @@ use Rattle.mpslp_mps.specs.declared.sections.Section.TheVariants.{Rows, Rhs, Ran
 use Rattle.mpslp_mps.proofs.SectionLemmas.{current_section-push, data_lines-push}
 use Rattle.mpslp_canonical_mps.proofs.ContentsWalk.{Step}
 
--- ---- fields that have no fault
+-- ---- fields without an error
 
 pub name-good : (name : List ℕ) → is_mps_name name ≡ true → those_of (name_tests name) ≡ []
 name-good name h = by (has_name_length name) (list_all is_visible name) (same_bytes name marker) refl refl refl h
@@ -37,7 +37,7 @@ name-good name h = by (has_name_length name) (list_all is_visible name) (same_by
 pub number-good : (text : List ℕ) (value : Number) → number_of text ≡ Ok value → those_of (number_tests (text ∷ [])) ≡ []
 number-good text value e = rw e refl
 
--- the set name of each line so far
+-- each line so far has this set name
 abbrev pub HaveSet : (Fields → Option (List ℕ)) → List ℕ → List Fields → Type 0
 HaveSet set_of set lines = Each (λ (fields : Fields). set_of fields ≡ Some set) lines
 
@@ -93,9 +93,9 @@ row_step row rest before earlier h =
       next = record { section = stays Rows (letter_of row.1 ∷ row.0 ∷ []) before h.section; objective = h.objective; names = h.names.1 };
     }
 
--- ---- right sides and ranges
+-- ---- right-hand sides and ranges
 
--- a row's name, a number's text and the number
+-- the name of a row, the text of a number and the number
 pub record Side : Type 0 where
   pub row : List ℕ
   pub text : List ℕ
@@ -113,11 +113,11 @@ side_decl side = declare_rhs side.row side.value ∷ []
 abbrev pub range_decl : Side → Declarations
 range_decl side = declare_range side.row side.value ∷ []
 
--- lines of the section so far have the set name
+-- the lines of the section so far have the set name
 abbrev pub OneSet : Section → List ℕ → List LineContent → Type 0
 OneSet section set before = HaveSet vector_set set (data_lines section before)
 
--- none of the rows to come is of type N
+-- none of the remaining rows is of type N
 pub record InSides (set : List ℕ) (rest : List Side) (before : List LineContent) (earlier : Draft) : Type 0 where
   pub section : current_section before ≡ Some Rhs
   pub one_set : OneSet Rhs set before
@@ -136,7 +136,7 @@ pub side_good : (set : List ℕ) (side : Side) (context : Context) (earlier : Dr
     → form_faults context earlier (side_item set side) ≡ []
 side_good set side context earlier s t h = rw s (vector_good context.rhs_set set side.text side.value t h)
 
--- one line more of a section
+-- one more line of a section
 pub lines-push : (section : Section) (fields : Fields) (before : List LineContent) (o : Option Section) → current_section before ≡ o
     → data_lines section (before ++ data_line fields ∷ []) ≡ data_lines section before ++ fields_under section o (data_line fields)
 lines-push section fields before o s = data_lines-push section before (data_line fields) ∙ ap (λ (c : Option Section). data_lines section before ++ fields_under section c (data_line fields)) s

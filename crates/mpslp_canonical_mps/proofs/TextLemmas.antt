@@ -1,4 +1,4 @@
--- Printed lines are read back as they were.
+-- Printed lines are read back unchanged.
 use Rattle.std.proofs.Common.{◌≡◌, refl, ap, ◌∙◌, List, [], ◌∷◌, ◌++◌, length, ℕ, zero, suc, Bool, true, false, cond, map, arith, ◌<◌, ◌≤◌, ◌*◌, length-append}
 use Rattle.std.specs.Prelude.{nat_lt, nat_le, ◌==◌, slice_index, filter, codes}
 use Rattle.std.specs.List.{slice_split, list_all, flat_map}
@@ -84,7 +84,7 @@ abbrev begins_with_star : List ℕ → Bool
 begins_with_star [] = false
 begins_with_star (byte ∷ _) = byte == 42
 
--- a line as it may be printed
+-- a line that can be printed
 abbrev pub IsPrintable : PrintedLine → Type 0
 IsPrintable (heading keyword) = Word keyword × (begins_with_star keyword ≡ false)
 IsPrintable (short_line ws) = Words ws
@@ -113,7 +113,7 @@ visible-legal b h = grind (arith, nat_tests)
 visible-plain : (b : ℕ) → is_visible b ≡ true → IsPlain b
 visible-plain b h = (grind (arith, nat_tests), grind (arith, nat_tests))
 
--- what is said of visible bytes and of blanks is said of each byte that is printed
+-- a property of visible bytes and of spaces holds for each byte that is printed
 module _ (P : ℕ → Type 0) (visible : (b : ℕ) → is_visible b ≡ true → P b) (blank : P 32) where
   each-word : (w : List ℕ) → Word w → Each P w
   each-word w h = Each-weaker (λ b. is_visible b ≡ true) P visible w h.visible

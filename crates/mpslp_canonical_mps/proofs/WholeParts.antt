@@ -1,4 +1,4 @@
--- The declarations of canonical text, section by section: what they hold of, and what they put into a map.
+-- The declarations of canonical text, section by section: their properties, and what they put into a map.
 use Rattle.std.proofs.Common.{◌≡◌, refl, ap, ◌∙◌, List, [], ◌∷◌, ◌++◌, ℕ, true, false}
 use Rattle.std.specs.List.{flat_map}
 use Rattle.std.proofs.lemmas.List.{append-nil}
@@ -16,7 +16,7 @@ use Rattle.mpslp_canonical_mps.proofs.BoundsWalk.{BoundForm, fixed, lower, upper
 use Rattle.mpslp_canonical_mps.proofs.EarlyWalk.{sense_decl}
 use Rattle.mpslp_canonical_mps.proofs.WholeWalk.{Whole, whole_decl}
 
--- ---- what holds of each declaration
+-- ---- properties of each declaration
 
 pub record EachSection (P : Declaration → Type 0) (w : Whole) : Type 0 where
   pub sense : Each P (sense_decl w.sense)
@@ -46,7 +46,7 @@ each-whole P w h =
 
 -- ---- what declarations put into a map
 
--- what a kind of declaration makes of each line
+-- what each line puts into a map by a kind of declaration
 abbrev pub made_of : {X Y : Type 0} → (Declaration → List Y) → (X → Declarations) → X → List Y
 made_of part decl x = flat_map part (decl x)
 

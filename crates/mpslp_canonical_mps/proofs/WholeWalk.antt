@@ -33,7 +33,7 @@ or_false : (b : Bool) → (b || false) ≡ b
 or_false true = refl
 or_false false = refl
 
--- the lines of a section that stands only where there are some begin that section alone
+-- the lines of a section that is printed only if it has lines begin only that section
 under-begins : {X : Type 0} (section other : Section) (item : X → LineContent) → ((x : X) → section_of_header (item x) ≡ None) → begins other (header_item section) ≡ false → (xs : List X)
     → has_section (under section (map item xs)) other ≡ false
 under-begins section other item none b [] = refl
@@ -196,7 +196,7 @@ columns-settled plain integers before =
     ap wants_word (sym (append_assoc before (header_item Columns ∷ []) (map cell_item (cells_of plain) ++ part_items (cells_of integers))) ∙ sym (append_assoc headed (map cell_item (cells_of plain)) (part_items (cells_of integers))))
     ∙ part-settled (cells_of integers) (headed ++ map cell_item (cells_of plain)) (data-settled cell_item (λ _. refl) (λ _. refl) (cells_of plain) headed (settled-after before (header_item Columns) refl refl))
 
--- The items of canonical text declare what its sections declare, and have a good form.
+-- The items of canonical text declare what its sections declare, and are well-formed.
 pub whole-walk : (w : Whole) → IsGoodWhole w → Walk [] empty_draft (whole_items w) (whole_decl w)
 whole-walk w h =
     let start = start_items w.sense in

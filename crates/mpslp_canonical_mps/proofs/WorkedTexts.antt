@@ -121,7 +121,7 @@ pub usual_layout : IsPrinted files.usual_layout (files.text usual_layout_lines)
 unfolding digits trailing_zeros
 usual_layout = line_text-from_passes files.usual_layout (files.text usual_layout_lines) files.usual_layout_passes refl refl
 
--- ---- an objective that OBJNAME names
+-- ---- an objective named by OBJNAME
 
 abbrev named_objective_lines : List (List ℕ)
 named_objective_lines =
@@ -149,7 +149,7 @@ semi_text bounds =
     files.text (codes "NAME" ∷ codes "ROWS" ∷ codes " N  C" ∷ codes "COLUMNS" ∷ codes "    Y  C  1" ∷ codes "    MARKER  'MARKER'  'INTORG'"
     ∷ codes "    X  C  1" ∷ codes "    MARKER  'MARKER'  'INTEND'" ∷ codes "BOUNDS" ∷ codes " UP  BND  X  1" ∷ bounds ++ codes "ENDATA" ∷ [])
 
--- an upper bound alone: the column stands before the integer ones
+-- only an upper bound: the column is before the integer ones
 abbrev upper_alone : List ℕ
 upper_alone = semi_file (codes " SC  B  Y  4" ∷ [])
 
@@ -158,7 +158,7 @@ unfolding digits trailing_zeros
 semi_upper_alone =
     line_text-from_passes upper_alone (semi_text (codes " SC  BND  Y  4" ∷ [])) (record { is_text = refl; objective = refl; legal = refl; unrefused = refl; no_fault = refl }) refl refl
 
--- both bounds equal, which are told apart, the lower one first
+-- both bounds are equal, but printed separately, the lower one first
 abbrev equal_bounds : List ℕ
 equal_bounds = semi_file (codes " SC  B  Y  4" ∷ codes " LO  B  Y  4" ∷ [])
 

@@ -26,12 +26,12 @@ Lines = List PrintedLine
 abbrev pub header_line : Section → PrintedLine
 header_line section = heading (keyword_of section)
 
--- a section whose header stands only where there are lines
+-- a section whose header is printed only if there are lines
 abbrev pub under_header : Section → Lines → Lines
 under_header section [] = []
 under_header section (line ∷ lines) = header_line section ∷ line ∷ lines
 
--- ---- OBJSENSE, where the objective is maximized
+-- ---- OBJSENSE, if the objective is maximized
 
 abbrev pub maximize_line : PrintedLine
 maximize_line = long_line (codes "MAX" ∷ [])
@@ -65,7 +65,7 @@ cell_at coefficients column row = option_map (λ value. (row, value)) (find key_
 abbrev pub column_coefficients : Listing → List ℕ → List (List ℕ × Number)
 column_coefficients m column = filter_map (cell_at m.coefficients column) (m.objective ∷ map (λ row. row.0) m.rows)
 
--- a column without coefficients has the one line of 0 in the objective
+-- a column without coefficients has one line, with 0 in the objective
 abbrev pub printed_coefficients : List ℕ → List (List ℕ × Number) → List (List ℕ × Number)
 printed_coefficients objective [] = (objective, zero_number) ∷ []
 printed_coefficients objective (cell ∷ cells) = cell ∷ cells
@@ -92,7 +92,7 @@ columns_section m =
     header_line Columns ∷ (flat_map (column_lines m) (filter is_plain_column m.columns)
     ++ integer_part (flat_map (column_lines m) (filter is_integer_column m.columns)))
 
--- ---- RHS: the negated constant of the objective, then the right sides of the rows, where they are not 0
+-- ---- RHS: the negated constant of the objective, then the right-hand sides of the rows, if they are not 0
 
 -- a set name, a row or the objective, and a value
 abbrev pub vector_line : List ℕ → List ℕ → Number → PrintedLine
@@ -110,7 +110,7 @@ row_rhs_lines row = rhs_lines row.0 (printed_rhs row.1.lower row.1.upper)
 abbrev pub rhs_section : Listing → Lines
 rhs_section m = under_header Rhs (rhs_lines m.objective (negated m.constant) ++ flat_map row_rhs_lines m.rows)
 
--- ---- RANGES: the rows with two limits that differ
+-- ---- RANGES: the ranged rows
 
 abbrev pub range_line : List ℕ → Number → PrintedLine
 range_line row value = vector_line (codes "RNG") row value

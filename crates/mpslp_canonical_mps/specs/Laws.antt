@@ -7,8 +7,8 @@ use Rattle.mpslp_mps.specs.MpsText.{read_lines, has_end, DeclaresMps}
 use Rattle.mpslp_canonical_mps.specs.Printed.{line_text, content_in}
 use Rattle.mpslp_canonical_mps.specs.CanonicalMps.{canonical_lines, canonical_mps}
 
--- The canonical text of a model is cut into the lines that were printed, within the limits of lines; each is read as
--- the fields that it was printed from; and the last is ENDATA.
+-- The canonical text of a model consists of the lines that were printed, within the limits of lines; each is read as the
+-- fields from which it was printed; and the last is ENDATA.
 pub record IsReadAsPrinted (m : LinearModel) : Type 0 where
   pub lines : read_lines (canonical_mps m) ≡ map line_text (canonical_lines m)
   pub legal : IsTrue (list_all is_legal_line (map line_text (canonical_lines m)))
@@ -18,10 +18,10 @@ pub record IsReadAsPrinted (m : LinearModel) : Type 0 where
 abbrev pub AreReadAsPrinted : Type 0
 AreReadAsPrinted = (m : LinearModel) → IsSound m → IsReadAsPrinted m
 
--- The canonical text of a sound model declares it.
+-- The canonical text of a well-formed model declares it.
 abbrev pub DeclareTheirModels : Type 0
 DeclareTheirModels = (m : LinearModel) → IsSound m → DeclaresMps (canonical_mps m) m
 
--- Sound models have the same canonical text exactly if they are the same.
+-- Well-formed models have the same canonical text if and only if they are equal.
 abbrev pub TellModelsApart : Type 0
 TellModelsApart = (m n : LinearModel) → IsSound m → IsSound n → (canonical_mps m ≡ canonical_mps n) ↔ (m ≡ n)

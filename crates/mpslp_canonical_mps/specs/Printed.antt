@@ -4,13 +4,13 @@ use Rattle.std.specs.List.{join_by}
 use Rattle.mpslp_mps.specs.Line.{Fields, LineContent, header, data_line}
 use Rattle.mpslp_lines.specs.WrittenLines.{with_line_feeds}
 
--- a header; a data line after one blank; a data line after four
+-- a header; a data line after one space; a data line after four spaces
 pub data PrintedLine : Type 0 where
   heading : List ℕ → PrintedLine
   short_line : Fields → PrintedLine
   long_line : Fields → PrintedLine
 
--- two blanks between the fields
+-- two spaces between the fields
 abbrev pub fields_text : Fields → List ℕ
 fields_text fields = join_by (λ field. field) (codes "  ") fields
 
@@ -22,7 +22,7 @@ line_text (long_line fields) = codes "    " ++ fields_text fields
 abbrev pub text_of : List PrintedLine → List ℕ
 text_of lines = with_line_feeds (map line_text lines)
 
--- what is read in a printed line
+-- the content of a printed line
 abbrev pub content_in : PrintedLine → LineContent
 content_in (heading keyword) = header keyword []
 content_in (short_line fields) = data_line fields

@@ -1,5 +1,4 @@
--- The printed lines one by one. Whatever the lines before one say (`context`) and declare (`earlier`): where they lead to its
--- section, and nothing in them forbids it, it declares what it was printed from.
+-- What each printed line declares, in any context and draft in which its section is current and nothing forbids the line.
 use Rattle.std.specs.Prelude.{◌≡◌, ℕ, Bool, true, false, List, [], ◌∷◌, ◌++◌, Option, Some, None, is_some, is_none, codes}
 use Rattle.std.specs.Option.{option_map_or}
 use Rattle.mpslp_decimal.specs.Decimal.{Number, IsDecimal}
@@ -25,7 +24,7 @@ use Rattle.mpslp_canonical_mps.specs.Printed.{PrintedLine, content_in}
 use Rattle.mpslp_canonical_mps.specs.PrintedValues.{printed_type, bound_without_value, bound_with_value}
 use Rattle.mpslp_canonical_mps.specs.CanonicalMps.{header_line, maximize_line, objective_line, row_line, coefficient_line, marker_line, rhs_line, range_line, bound_line}
 
--- The line declares these, and nothing of its form is a fault.
+-- The line declares these, and its form has no error.
 pub record IsDerived (context : Context) (earlier : Draft) (line : PrintedLine) (declarations : Declarations) : Type 0 where
   pub declares : line_declares context earlier (content_in line) ≡ declarations
   pub faultless : those_of (item_tests context earlier (content_in line)) ≡ []
@@ -47,7 +46,7 @@ DeriveSense =
 
 -- ---- ROWS
 
--- the objective, where none is declared and OBJNAME names none; and then each row with its type
+-- the objective, if none is declared and OBJNAME names none; and then each row with its type
 pub record DeriveRows (context : Context) (earlier : Draft) : Type 0 where
   pub objective : (name : List ℕ) → IsMpsName name → is_none earlier.objective ≡ true → context.objname ≡ None → IsDerived context earlier (objective_line name) (declare_objective name ∷ [])
   pub row : (row : List ℕ × Row) → IsMpsName row.0 → is_none earlier.objective ≡ false
@@ -55,8 +54,8 @@ pub record DeriveRows (context : Context) (earlier : Draft) : Type 0 where
 
 -- ---- COLUMNS
 
--- The lines of a column are not split. In the integer part the column is marked too, and the two marker lines, which
--- declare nothing, open and close this part.
+-- The lines of a column are not split. Inside an integer block the column is also marked. The two marker lines, which
+-- declare nothing, open and close the block.
 pub record DeriveColumns (context : Context) (earlier : Draft) : Type 0 where
   pub coefficient : (column row : List ℕ) (value : Number) → IsMpsName column → same_bytes row marker ≡ false → IsDecimal value → is_split context earlier column ≡ false
       → IsDerived context earlier (coefficient_line column (row, value))
@@ -66,7 +65,7 @@ pub record DeriveColumns (context : Context) (earlier : Draft) : Type 0 where
   pub closing : context.in_integer_part ≡ true → IsDerived context earlier (marker_line closing_word) []
   pub closes : (next_context context (content_in (marker_line closing_word))).in_integer_part ≡ false
 
--- ---- RHS, RANGES and BOUNDS: where no line of the section before has another set name
+-- ---- RHS, RANGES and BOUNDS: if no earlier line of the section has another set name
 
 abbrev pub is_set_of : Option (List ℕ) → List ℕ → Bool
 is_set_of first set = option_map_or (λ name. same_bytes name set) first true
@@ -82,7 +81,7 @@ DeriveRanges =
     (context : Context) (earlier : Draft) (row : List ℕ) (value : Number) → context.section ≡ Some Ranges → is_set_of context.ranges_set (codes "RNG") ≡ true
     → IsDecimal value → IsDerived context earlier (range_line row value) (declare_range row value ∷ [])
 
--- a value below 10^20 in size
+-- a value with magnitude below 1e20
 pub record IsFiniteValue (value : Number) : Type 0 where
   pub decimal : IsDecimal value
   pub finite : limit_of value ≡ Finite value
@@ -99,7 +98,7 @@ pub record DeriveBounds (context : Context) (earlier : Draft) (column : List ℕ
   pub no_lower : IsDerived context earlier (bound_line column (bound_without_value bounds.NoLower)) (declare_lower column MinusInf ∷ [])
   pub no_upper : IsDerived context earlier (bound_line column (bound_without_value bounds.NoUpper)) (declare_upper column PlusInf ∷ [])
 
--- ---- each section's lines, wherever they stand in it
+-- ---- the lines of each section, wherever they are in it
 
 abbrev pub DeriveAllRows : Type 0
 DeriveAllRows = (context : Context) (earlier : Draft) → context.section ≡ Some Rows → DeriveRows context earlier

@@ -1,9 +1,8 @@
-//! The canonical texts of models: which they are, and their laws.
+//! The canonical MPS texts of models, and their laws.
 //!
-//! A model has one canonical MPS text: `canonical_mps` in `specs/CanonicalMps.antt` says which, line by
-//! line, and `specs/Printed.antt` how a line is printed. Models that differ in nothing but the order of
-//! their file, its comments, its names of sets and the like have the same text. The crate has no other
-//! code than the laws; what writes the texts stands above it.
+//! A model has one canonical MPS text. `specs/CanonicalMps.antt` defines it line by line, and `specs/Printed.antt` defines
+//! how a line is printed. Files that differ only in the order of their entries, in comments, in set names and the like have
+//! the same text. The crate has no code other than the laws; the writers are in the crate mpslp_write.
 #![tactic(auto)]
 
 pub mod laws;

@@ -1,4 +1,4 @@
--- A literal is its mantissa, read from the front, and an exponent part.
+-- A literal is its mantissa, read from the start, and an exponent part.
 use Rattle.std.proofs.Common.{◌≡◌, refl, sym, ap, subst, ◌∙◌, List, [], ◌∷◌, ◌++◌, length, take, drop, ℕ, suc, Bool, true, false, cond, arith, ◌<◌, ◌≤◌, ◌+◌, append_assoc}
 use Rattle.std.specs.Prelude.{ℤ, pos, Option, Some, None, ◌&&◌, ◌||◌, not, nat_lt}
 use Rattle.std.specs.List.{list_all, list_any, prefix_len, position_or_len, before_first, after_first}
@@ -10,7 +10,7 @@ use Rattle.mpslp_decimal.specs.declared.literal.Scan.{Scan}
 use Rattle.mpslp_decimal.proofs.NumberTextLemmas.{are-digits}
 use Rattle.mpslp_decimal.proofs.CutLemmas.{Each, Each-weaker, Each-append, AreDigits, digit-no_mark, digit-no_point}
 
--- ---- cuts behind a front that holds no cut
+-- ---- cuts after a prefix without a cut
 
 one_more : (n : ℕ) → 1 + n ≡ suc n
 one_more n = omega arith
@@ -85,7 +85,7 @@ after-past p x xs h = after-more p (x ∷ []) xs (h, tt)
 pub any-past : (p : ℕ → Bool) (x : ℕ) (xs : List ℕ) → p x ≡ false → list_any p (x ∷ xs) ≡ list_any p xs
 any-past p x xs h = any-more p (x ∷ []) xs (h, tt)
 
--- ---- the digits at the front of a text
+-- ---- the digits at the start of a text
 
 abbrev Stops : List ℕ → Type 0
 Stops [] = Unit {0}
@@ -118,7 +118,7 @@ front-of (x ∷ xs) = by (is_digit x) refl (front-of xs)
       stops = rw e e;
     }
 
--- ---- the sign stands apart
+-- ---- the sign is separate
 
 sign-no_mark : (b : ℕ) → is_sign b ≡ true → is_exponent_mark b ≡ false
 sign-no_mark b h = grind (arith, nat_tests)
@@ -186,7 +186,7 @@ is_marked text = list_any is_exponent_mark text
 abbrev has_good_exponent : List ℕ → Bool
 has_good_exponent text = not (is_marked text) || are_digits (without_sign (after_mark text))
 
--- behind digits
+-- after digits
 no_marks : (digits : List ℕ) → AreDigits digits → Each (λ b. is_exponent_mark b ≡ false) digits
 no_marks digits h = Each-weaker (λ b. is_digit b ≡ true) (λ b. is_exponent_mark b ≡ false) digit-no_mark digits h
 
@@ -227,7 +227,7 @@ parts-marked x xs h = record {
   marked_is = any-here is_exponent_mark x xs h;
 }
 
--- a point, and what stands behind it before the exponent part
+-- a point, and what follows it before the exponent part
 parts-pointed : (x : ℕ) (xs exponent : List ℕ) (marked : Bool) → is_point x ≡ true → after_mark xs ≡ exponent → is_marked xs ≡ marked → Parts (x ∷ xs) [] (before_exponent xs) exponent marked
 parts-pointed x xs exponent marked h e m =
     let past = before-past is_exponent_mark x xs (point-no_mark x h) in record {
@@ -251,7 +251,7 @@ is_literal-is text = λ i.
     are_digits (before_first is_point (unsigned-is text i) ++ after_first is_point (unsigned-is text i))
     && (not (marked-is text i) || are_digits (without_sign (exponent-is text i)))
 
--- The text without its sign is a number with this exponent, or none.
+-- The text without its sign is a number with this exponent, or not a number.
 abbrev Says : List ℕ → Option ℤ → Type 0
 Says text (Some exponent) =
     (mantissa_part text ≡ mantissa_front text) × (fraction_part text ≡ fraction_front text) × (has_good_exponent text ≡ true) × (exponent ≡ capped_exponent (after_mark text))
@@ -271,7 +271,7 @@ no_number text front back x h e =
     ∙ ap (λ (b : Bool). (nat_lt 0 (length (front ++ x ∷ back)) && b) && has_good_exponent text) (no_digits front back x h)
     ∙ ap (λ (b : Bool). b && has_good_exponent text) (and-false (nat_lt 0 (length (front ++ x ∷ back))))
 
--- the digits are read, and what follows them is an exponent part or none
+-- the digits are read, and what follows them is an exponent part or not
 says-parts : (text whole fraction exponent : List ℕ) → Parts text whole fraction exponent true → whole ++ fraction ≡ mantissa_front text → fraction ≡ fraction_front text
     → Says text (exponent_of exponent)
 says-parts text whole fraction exponent p m f = by (are_digits (without_sign exponent)) refl
@@ -322,7 +322,7 @@ point-front text x xs e p = ap (λ (r : List ℕ). digits_front (after_point r))
     behind : digits_front (after_point (x ∷ xs)) ≡ digits_front xs
     behind = rw p refl
 
--- behind a point: the fraction's digits, and what follows them
+-- after a point: the digits of the fraction, and what follows them
 pointed : (text : List ℕ) (x : ℕ) (xs rest : List ℕ) → after_digits text ≡ x ∷ xs → is_point x ≡ true → after_digits xs ≡ rest → Says text (exponent_after rest)
 pointed text x xs [] e p f =
     let c = cut-of text (x ∷ xs) e in
@@ -375,7 +375,7 @@ unpointed text x xs e p = by (is_exponent_mark x) refl
         (λ i. append-nil (digits_front text) i ++ sym front i) (sym front)
     by false m = other-cut text (digits_front text) x xs (cut-of text (x ∷ xs) e) stop m p
 
--- what a text without its sign says, read from the front
+-- the result for a text without its sign, read from the start
 pub says : (text : List ℕ) → Says text (exponent_after (after_mantissa text))
 says text = by (after_digits text) refl
   where
@@ -390,7 +390,7 @@ says text = by (after_digits text) refl
         (λ i. append-nil (digits_front text) i ++ sym none i) (sym none)
     by (x ∷ xs) e = point (is_point x) x xs e refl
 
--- ---- the answer of a scan
+-- ---- the result of a scan
 
 no_digits-number : (text : List ℕ) (exponent : Option ℤ) → Says text exponent → length (mantissa_front text) ≡ 0 → is_number text ≡ false
 no_digits-number text None says none = says
@@ -398,12 +398,12 @@ no_digits-number text (Some exponent) says none =
     ap (λ (t : List ℕ). are_digits t && has_good_exponent text) says.0
     ∙ ap (λ (n : ℕ). (nat_lt 0 n && list_all is_digit (mantissa_front text)) && has_good_exponent text) none
 
--- a text without digits before its exponent part is no literal
+-- a text without digits before its exponent part is not a literal
 pub literal-no_digits : (text unsigned : List ℕ) (count : ℕ) → unsigned ≡ without_sign text → count ≡ length (mantissa_front unsigned) → count ≡ 0 → is_literal text ≡ false
 literal-no_digits text unsigned count u c none =
     is_literal-is text ∙ ap is_number (sym u) ∙ no_digits-number unsigned (exponent_after (after_mantissa unsigned)) (says unsigned) (sym c ∙ none)
 
--- what follows the mantissa is no exponent part
+-- what follows the mantissa is not an exponent part
 pub literal-no_exponent : (text unsigned rest : List ℕ) → unsigned ≡ without_sign text → rest ≡ after_mantissa unsigned → exponent_after rest ≡ None → is_literal text ≡ false
 literal-no_exponent text unsigned rest u r none =
     is_literal-is text ∙ ap is_number (sym u) ∙ subst (Says unsigned) (ap exponent_after (sym r) ∙ none) (says unsigned)

@@ -1,4 +1,4 @@
--- When so many units of a power of ten are ten to the twentieth, counted in units of the least exponent.
+-- When a number of units of a power of ten is at least 1e20, counted in units of the least exponent.
 use Rattle.std.proofs.Common.{◌≡◌, refl, sym, ap, ◌∙◌, ℕ, zero, suc, Bool, true, false, arith, ◌<◌, ◌≤◌, ◌+◌, ◌-◌, ◌*◌, ◌^◌, lit<}
 use Rattle.std.specs.Prelude.{ℤ, pos, negsuc, ◌≤ℤ◌, ◌<ℤ◌, ◌-ℤ◌, nat_le, unsigned_abs, ◌==◌, not}
 use Rattle.std.proofs.Math.Nat.{pow-le-pow_right}
@@ -28,7 +28,7 @@ large (suc s) h t le some = let b = at_least (suc s) (10 ^ h) (omega arith) in n
     nonzero : (n : ℕ) → 0 < n → not (n == 0) ≡ true
     nonzero n h = grind (arith, nat_tests)
 
--- no mantissa makes up for so small a power
+-- the power is too small for any mantissa
 small : (s p q t : ℕ) → s < q → 0 < p → q * p ≤ t → false ≡ nat_le t (s * p)
 small s p q t h some le = no t (s * p) (let b = below s p q h some in omega arith)
   where
@@ -97,7 +97,7 @@ infinite-between s (negsuc n) z p power is below above =
     total : (k n : ℕ) → pos k ≡ pos 20 -ℤ negsuc n → n < 15 → k + (499 - n) ≡ 520
     total k n h few = omega (arith, ints)
 
--- the power between the two is one of 128 bits
+-- the power between the two fits in 128 bits
 pub power-fits : (z e : ℤ) → z ≡ pos 20 -ℤ e → e <ℤ pos 20 → negsuc 15 <ℤ e → 10 ^ unsigned_abs z < 2 ^ 128
 power-fits z e is below above =
     let few : unsigned_abs z ≤ 35 = by z e is below above in

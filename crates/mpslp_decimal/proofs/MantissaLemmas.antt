@@ -21,7 +21,7 @@ first-digits text whole h = subst (IsSignificandOf whole) (none (10 ^ length (di
     none : (p s : ℕ) → 0 * p + s ≡ s
     none p s = omega arith
 
--- those after it, read behind them
+-- those after it, read after them
 pub all-digits : (text fraction : List ℕ) (whole result : Significand)
     → ((n : ℕ) → IsSignificandOf (Short 0 0) n → IsSignificandOf whole (n * 10 ^ length (digits_front text) + digits_sum (digits_front text)))
     → ((n : ℕ) → IsSignificandOf whole n → IsSignificandOf result (n * 10 ^ length (digits_front fraction) + digits_sum (digits_front fraction)))
@@ -30,7 +30,7 @@ all-digits text fraction whole result first more e =
     subst (IsSignificandOf result) (sym (digits_sum-append (digits_front text) (digits_front fraction)) ∙ ap (λ (f : List ℕ). digits_sum (digits_front text ++ f)) (sym e))
     (more (digits_sum (digits_front text)) (first-digits text whole first))
 
--- where there is no point
+-- if there is no point
 pub only-digits : (text : List ℕ) (whole : Significand) → fraction_front text ≡ []
     → ((n : ℕ) → IsSignificandOf (Short 0 0) n → IsSignificandOf whole (n * 10 ^ length (digits_front text) + digits_sum (digits_front text))) → IsSignificandOf whole (digits_sum (mantissa_front text))
 only-digits text whole e first =

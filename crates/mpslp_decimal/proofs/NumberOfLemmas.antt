@@ -1,4 +1,4 @@
--- What the parts of a literal give as its decimal.
+-- The decimal that the parts of a literal give.
 use Rattle.std.proofs.Common.{◌≡◌, refl, sym, ap, subst, ◌∙◌, List, [], ◌∷◌, length, ℕ, zero, suc, Bool, true, false, arith, ◌<◌, ◌≤◌, ◌+◌, ◌-◌, ◌*◌, ◌^◌, ◌%◌, pow-suc, lit<}
 use Rattle.std.specs.Prelude.{ℤ, pos, negsuc, ◌+ℤ◌, ◌-ℤ◌, neg_ℤ, unsigned_abs, min, ◌&&◌, not, ◌==◌, nat_lt, nat_le, if◌then◌else◌, Some, Result, Ok, Err}
 use Rattle.std.specs.List.{list_all}
@@ -70,7 +70,7 @@ stripped-normal minus n m z e s some few =
 few_digits-signed : (minus : Bool) (m : ℕ) (e : ℤ) (b : Bool) → nat_lt m (10 ^ 36) ≡ b → has_few_digits (record { mantissa = to_signed minus m; exponent = e }) ≡ b
 few_digits-signed minus m e b h = ap (λ (n : ℕ). nat_lt n (10 ^ 36)) (size-signed minus m) ∙ h
 
--- ---- how many zeros there can be
+-- ---- the number of zeros
 
 digit-small : (b : ℕ) → is_digit b ≡ true → b - 48 < 10
 digit-small b h = grind (arith, nat_tests)
@@ -131,7 +131,7 @@ shifted-down n f z h = omega (arith, ints)
 size-negative : (n : ℕ) → unsigned_abs (neg_ℤ (pos n)) ≡ n
 size-negative n = size-signed true n
 
--- a large exponent stays out of range, whatever point and zeros add to it
+-- a large exponent stays out of range, whatever the point and the zeros add to it
 still-far : (minus : Bool) (n f z : ℕ) (m : ℤ) → 100000 ≤ n → f ≤ 255 → z ≤ 255 → has_small_exponent (record { mantissa = m; exponent = (to_signed minus n -ℤ pos f) +ℤ pos z }) ≡ false
 still-far false n f z m far short few =
     let is : (pos n -ℤ pos f) +ℤ pos z ≡ pos (n + z - f) = shifted-up n f z (omega arith) in
@@ -146,7 +146,7 @@ regroup x f z = omega (arith, ints)
 in_range-out : (d : Number) → has_small_exponent d ≡ false → in_range d ≡ Err ExponentRange
 in_range-out d h = rw h refl
 
--- the cap changes nothing of the answer
+-- the cap does not change the result
 capped-range : (minus : Bool) (n f z : ℕ) (m : ℤ) → f ≤ 255 → z ≤ 255
     → in_range (record { mantissa = m; exponent = (to_signed minus (min n 100000) -ℤ pos f) +ℤ pos z }) ≡ in_range (record { mantissa = m; exponent = (to_signed minus n -ℤ pos f) +ℤ pos z })
 capped-range minus n f z m short few = by (nat_lt n 100000) refl
@@ -163,7 +163,7 @@ capped-range minus n f z m short few = by (nat_lt n 100000) refl
         in_range-out (record { mantissa = m; exponent = (to_signed minus (min n 100000) -ℤ pos f) +ℤ pos z }) (still-far minus (min n 100000) f z m least short few)
         ∙ sym (in_range-out (record { mantissa = m; exponent = (to_signed minus n -ℤ pos f) +ℤ pos z }) (still-far minus n f z m l short few))
 
--- ---- the answers of `parse`
+-- ---- the results of `parse`
 
 positive-product : (m p n : ℕ) → 0 < m → 0 < p → m * p ≡ n → 0 < n
 positive-product m p n h k e = let b : 0 < m * p = product m p h k in omega (arith, e, b)

@@ -76,7 +76,7 @@ no_mark-signed : (minus : Bool) (front : List ℕ) → NoMark front → NoMark (
 no_mark-signed true front h = (refl, h)
 no_mark-signed false front h = h
 
--- the digits before the point and after it, where what stands before the exponent part is known
+-- the digits before the point and after it, if the part before the exponent part is known
 record Digits (front digits fraction : List ℕ) : Type 0 where
   begins : BeginsWithDigit front
   no_mark : NoMark front
@@ -403,7 +403,7 @@ scaled-bytes m (negsuc n) h few = by (nat_lt n 18) refl
         let x = exponent_text (n + 1) (omega (arith, few)) in
         subst NumberBytes (sym (scaled-small (decimal m) n e)) (joined_bytes (decimal m) (101 ∷ 45 ∷ decimal (n + 1)) (digit_bytes (decimal m) spells.digits) (refl, (refl, digit_bytes (decimal (n + 1)) x.0.digits)))
 
--- a text that is read has at most 255 bytes, and one at least
+-- a text that is read has at least one and at most 255 bytes
 pub read-short : (text : List ℕ) (d : Number) → number_of text ≡ Ok d → length text ≤ 255
 read-short text d e = by (is_literal text) (nat_lt 255 (length text)) refl e
   where
@@ -438,7 +438,7 @@ pub printed-pieces : (d : Number) (none sign all ds : List ℕ) (e : ℤ) → Is
 printed-pieces d none sign all ds e ok a b c f g =
     c ∙ (λ i. (b ∙ ap (λ (x : List ℕ). x ++ sign_text (is_negative d)) a) i ++ scaled_text (f i) (g i)) ∙ number_text-is d ok
 
--- decimals with one text are one
+-- decimals with the same text are equal
 pub one-text : (a b : Number) → IsDecimal a → IsDecimal b → number_text a ≡ number_text b → a ≡ b
 one-text a b p q same = same_Ok (sym (number-text a p) ∙ ap number_of same ∙ number-text b q)
   where

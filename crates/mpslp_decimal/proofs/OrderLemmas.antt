@@ -1,4 +1,4 @@
--- What the order of values says of a pair of decimals.
+-- The order of values in terms of the pairs of two decimals.
 use Rattle.std.proofs.Common.{◌≡◌, refl, sym, ap, ◌∙◌, ℕ, zero, suc, Bool, true, false, cond, arith, ◌<◌, ◌*◌, ◌^◌}
 use Rattle.std.specs.Prelude.{ℤ, pos, negsuc, ◌+ℤ◌, ◌*ℤ◌, ◌<ℤ◌, neg_ℤ, unsigned_abs, not, Some, None}
 use Rattle.std.specs.Ordering.{is_eq, is_lt, int_cmp}
@@ -25,7 +25,7 @@ below_from y x k e = omega (arith, ints)
 less_from : (y x : ℤ) → y <ℤ x → is_lt (int_cmp y x) ≡ true
 less_from y x h = ap is_lt (sym (int_cmp_is y x Less h))
 
--- a number whose value is not negative is its own size
+-- a number whose value is not negative is its own absolute value
 own_size : (d : Number) (y x : ℤ) → scaled d ≡ y +ℤ neg_ℤ x → not (is_lt (int_cmp y x)) ≡ true → size_of d ≡ d
 own_size d y x e h = by d.mantissa refl
   where

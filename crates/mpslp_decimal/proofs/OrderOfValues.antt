@@ -13,7 +13,7 @@ use Rattle.mpslp_decimal.proofs.NormalLemmas.{pow_positive}
 use Rattle.mpslp_decimal.proofs.ScaleLemmas.{signed_times, one_form}
 use Rattle.mpslp_decimal.proofs.ValueLemmas.{surplus-heights, least-exponent, scaled-beside}
 
--- ---- a positive factor changes no order
+-- ---- a positive factor does not change the order
 
 product_below : (a b p : ℕ) → a < b → 0 < p → a * p < b * p
 product_below a b p h some = grind arith
@@ -53,7 +53,7 @@ reverse-int_cmp x y = by (int_cmp x y) refl
 
 -- ---- the order of decimals
 
--- different decimals have different values, so no part is asked for
+-- different decimals have different values, so their parts need not be compared
 pub order-decimal : (a b : Number) → IsDecimal a → IsDecimal b → order_of a b ≡ decimal_cmp a b
 order-decimal a b p q = by (int_cmp (scaled a) (scaled b)) refl
   where
@@ -87,7 +87,7 @@ surplus-down e f h = by (f -ℤ e) refl
     by (pos n) g = omega (arith, ints)
     by (negsuc n) g = refl
 
--- at the smaller exponent, the second one's
+-- at the smaller exponent, that of the second
 pub compare-beside : (a b : Number) → IsDecimal a → IsDecimal b → b.exponent ≤ℤ a.exponent → int_cmp (a.mantissa *ℤ pos (10 ^ unsigned_abs (a.exponent -ℤ b.exponent))) b.mantissa ≡ decimal_cmp a b
 compare-beside a b p q h =
     let up = surplus-up a.exponent b.exponent h in

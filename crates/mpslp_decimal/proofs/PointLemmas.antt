@@ -1,9 +1,9 @@
--- Digits that a point and zeros stand before.
+-- Digits after a point and zeros.
 use Rattle.std.proofs.Common.{◌≡◌, refl, sym, ap, ◌∙◌, List, [], ◌∷◌, ◌++◌, length, take, drop, replicate, ℕ, suc, arith, ◌≤◌, ◌+◌, ◌-◌, append_assoc, length-append}
 use Rattle.std.proofs.lemmas.List.{take-replicate, length-replicate}
 use Rattle.mpslp_decimal.specs.NumberText.{with_point}
 
--- one zero before the point, the others behind it
+-- one zero before the point, the others after it
 few-digits : (ds : List ℕ) (p k : ℕ) → p ≡ k + length ds → with_point p ds ≡ 48 ∷ 46 ∷ (replicate k 48 ++ ds)
 few-digits ds p k e = padded (p + 1 - length ds) (omega (arith, e))
   where

@@ -1,4 +1,4 @@
--- Literals whose value no decimal has, and which of the two refusals is due.
+-- Literals whose value is not that of a decimal, and which of the two errors they have.
 use Rattle.std.proofs.Common.{◌≡◌, refl, sym, ap, subst, ◌∙◌, List, length, ℕ, zero, suc, Bool, true, false, arith, ◌<◌, ◌≤◌, ◌+◌, ◌*◌, ◌^◌, ◌%◌, pow-suc}
 use Rattle.std.specs.Prelude.{ℤ, pos, ◌+ℤ◌, ◌-ℤ◌, unsigned_abs, not, ◌==◌, ◌↔◌, nat_lt, if◌then◌else◌, Result, Ok, Err}
 use Rattle.std.proofs.lemmas.Int.{unsigned_abs-mul}
@@ -31,13 +31,13 @@ same_tenth n k h = omega (arith, h)
 ends_in_zero : (m q : ℕ) → 0 < m % 10 → m ≡ q * 10 → ⊥
 ends_in_zero m q h e = omega (arith, h, e)
 
--- a number that does not end in a zero is the least of those that are one with it but for zeros at the end
+-- a number without trailing zeros is the least of those that differ from it only in trailing zeros
 fewest : (b z m d : ℕ) → 0 < m % 10 → m * 10 ^ z ≡ d * 10 ^ b → m ≤ d
 fewest zero z m d ends e = let least = at_least m (10 ^ z) (pow_positive z) in let is = times_one d in omega (arith, least, is, e)
 fewest (suc b) zero m d ends e = absurd (ends_in_zero m (d * 10 ^ b) ends (sym (times_one m) ∙ e ∙ shifted d b))
 fewest (suc b) (suc z) m d ends e = fewest b z m d ends (same_tenth (m * 10 ^ z) (d * 10 ^ b) (sym (shifted m z) ∙ e ∙ shifted d b))
 
--- so of all numbers of one value
+-- so of all numbers with the same value
 fewest-of_value : (v d : Number) (m z : ℕ) → IsStripped (unsigned_abs v.mantissa) m z → 0 < m % 10 → HasSameValue v d → m ≤ unsigned_abs d.mantissa
 fewest-of_value v d m z s ends same =
     let up = surplus v.exponent d.exponent in
@@ -60,7 +60,7 @@ few_by_size minus m e d less few =
     under : (a b c : ℕ) → a ≤ b → b < c → a < c
     under a b c h k = omega (arith, h, k)
 
--- where any number of few digits has a value, its normal form has few digits
+-- if any number of few digits has a value, its normal form has few digits
 few-from_same : (minus : Bool) (n : ℕ) (e : ℤ) (len : ℕ) (d : Number) → n < 10 ^ len → len ≤ 255 → has_few_digits d ≡ true
     → HasSameValue (record { mantissa = to_signed minus n; exponent = e }) d → has_few_digits (normal (record { mantissa = to_signed minus n; exponent = e })) ≡ true
 few-from_same minus n e len d small short few same = by (n == 0) refl
@@ -101,7 +101,7 @@ few-literal text d literal short few same =
     few-from_same (is_minus text) (digits_sum (mantissa_digits text)) (signed_value (exponent_part text) -ℤ pos (length (fraction_digits text))) (length (mantissa_digits text)) d
     (mantissa-small text literal) (digits-short text short) few same
 
--- ---- which refusal is due
+-- ---- which error it is
 
 abbrev Answer : Type 0
 Answer = Result Number NumberFault

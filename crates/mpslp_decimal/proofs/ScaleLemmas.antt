@@ -1,4 +1,4 @@
--- Sums and differences at one scale: and that a difference is taken back.
+-- Sums and differences at one scale, and that adding a difference gives the number back.
 use Rattle.std.proofs.Common.{◌≡◌, refl, sym, ap, ◌∙◌, ℕ, zero, suc, Bool, true, false, cond, arith, ◌<◌, ◌≤◌, ◌*◌, ◌^◌, ◌%◌, ◌/◌, pow-suc}
 use Rattle.std.specs.Prelude.{◌==◌, ℤ, pos, negsuc, ◌+ℤ◌, ◌-ℤ◌, ◌*ℤ◌, neg_ℤ, unsigned_abs, int_div, int_le, ◌&&◌, if◌then◌else◌, Some, None}
 use Rattle.std.specs.Cmp.{first_so, second_so}
@@ -47,7 +47,7 @@ normal-scaled d ok = by (is_zero d) refl
         ∙ normal-tens minus size (height d.exponent) d.exponent (nonzero-ends d ok z) (height_below d.exponent (exponents-of d ok).1)
         ∙ (λ i. record { mantissa = signed-size d.mantissa i; exponent = d.exponent })
 
--- decimals of one value are one
+-- decimals with the same value are equal
 pub one_form : (a b : Number) → IsDecimal a → IsDecimal b → scaled a ≡ scaled b → a ≡ b
 one_form a b p q e = sym (normal-scaled a p) ∙ ap (λ (m : ℤ). normal (at_scale m)) e ∙ normal-scaled b q
 

@@ -31,7 +31,7 @@ value-more xs i n h =
 pub all-more : (xs : List ℕ) (i : ℕ) → i < length xs → list_all is_digit (take i xs) ≡ true → is_digit (get_or xs i 0) ≡ true → list_all is_digit (take (i + 1) xs) ≡ true
 all-more xs i h before here = list_all_more is_digit xs i 0 h ∙ (λ j. before j && here j)
 
--- a number that was cut off at the cap, with one more digit
+-- a number that was limited to the cap, with one more digit
 pub capped-more : (n d cap : ℕ) → min (min n cap * 10 + d) cap ≡ min (n * 10 + d) cap
 capped-more n d cap = omega arith
 

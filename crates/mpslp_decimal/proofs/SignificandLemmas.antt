@@ -1,4 +1,4 @@
--- One more digit behind a number, and its significand.
+-- A number with one more digit appended, and its significand.
 use Rattle.std.proofs.Common.{◌≡◌, refl, sym, ap, ◌∙◌, ℕ, zero, suc, arith, ◌<◌, ◌≤◌, ◌+◌, ◌*◌, ◌^◌, pow-suc, add-one, lit<, subst, Option, Some, None}
 use Rattle.std.proofs.Math.Nat.{pow-le-pow_right, mul-le-mul_left}
 use Rattle.mpslp_decimal.specs.Scan.{IsStripped, IsSignificandOf, parts_of, zeros_of}
@@ -18,7 +18,7 @@ tens m z n h = rw pow-next (regroup m (10 ^ z) ∙ ap (λ (x : ℕ). x * 10) h)
 plus_none : (n : ℕ) → n * 10 ≡ n * 10 + 0
 plus_none n = omega arith
 
--- a zero behind the number is one more zero at its end
+-- appending a zero adds one trailing zero
 pub stripped-zero : (n m z : ℕ) → IsStripped n m z → IsStripped (n * 10 + 0) m (z + 1)
 stripped-zero n m z s = record { value = tens m z n s.value ∙ plus_none n; ends = λ some. s.ends (omega arith) }
 
@@ -47,17 +47,17 @@ ten_positive = lit< tt
 further : (m i j : ℕ) → i ≤ j → m * 10 ^ i ≤ m * 10 ^ j
 further m i j h = mul-le-mul_left m (pow-le-pow_right ten_positive h)
 
--- digits that reach the limit before the last of the zeros is put in
+-- digits that reach the limit before the last of the zeros is appended
 pub many-digit : (n m z i v d : ℕ) → IsStripped n m z → v ≡ m * 10 ^ i → i ≤ z → 10 ^ 35 ≤ v → 0 < d → d < 10 → IsSignificandOf Many (n * 10 + d)
 many-digit n m z i v d s value within long some small =
     let b = further m i z within in
     (n * 10 + d, 0, (stripped-digit n d some small, omega (arith, s.value, value)))
 
--- the mantissa after one more zero is put in
+-- the mantissa after one more zero is appended
 pub one-more-zero : (v m i : ℕ) → v ≡ m * 10 ^ i → v * 10 ≡ m * 10 ^ (i + 1)
 one-more-zero v m i h = sym (tens m i v (sym h))
 
--- the digits with the zeros put in, and the digit behind them
+-- the digits with the zeros appended, and the digit after them
 pub digit-behind : (n m z i v d e : ℕ) → IsStripped n m z → v ≡ m * 10 ^ i → i ≡ z + 1 → v < 10 ^ 36 → e ≡ d → 0 < d → d < 10
     → IsStripped (n * 10 + d) (v + e) 0 × (v + e < 10 ^ 36)
 digit-behind n m z i v d e s value at few same some small =

@@ -1,4 +1,4 @@
--- A text is read as a decimal exactly if it is a literal within the limit that has the decimal's value.
+-- A text is read as a decimal if and only if it is a literal within the limit that has the value of the decimal.
 use Rattle.std.proofs.Common.{◌≡◌, refl, sym, ap, subst, ◌∙◌, List, [], ◌∷◌, ◌++◌, length, take, drop, length-append, length-drop, ℕ, zero, suc, Bool, true, false, arith, ◌<◌, ◌≤◌, ◌+◌, ◌*◌, ◌^◌, ◌%◌, ◌/◌, pow-suc}
 use Rattle.std.specs.Prelude.{ℤ, pos, negsuc, ◌+ℤ◌, ◌-ℤ◌, ◌*ℤ◌, unsigned_abs, int_le, ◌&&◌, not, ◌==◌, nat_lt, if◌then◌else◌, Result, Ok, Err}
 use Rattle.std.specs.List.{list_all, before_first, position_or_len}
@@ -125,7 +125,7 @@ normal-same minus n e len small short = by (n == 0) refl
 abbrev Answer : Type 0
 Answer = Result Number NumberFault
 
--- an answer that is a decimal passed each test
+-- a result that is a decimal passed each test
 record Passed (literal long few small : Bool) (v d : Number) : Type 0 where
   is_literal : literal ≡ true
   is_short : long ≡ false
@@ -181,7 +181,7 @@ spells-from_number text d e =
 
 -- ---- from the literal to its number
 
--- a value beside 0 is 0
+-- a value equal to 0 is 0
 zero-from_same : (v : Number) → HasSameValue v zero_number → unsigned_abs v.mantissa ≡ 0
 zero-from_same v same =
     let none : v.mantissa *ℤ pos (10 ^ surplus v.exponent (pos 0)) ≡ pos 0 = same ∙ none-times false 0 (10 ^ surplus (pos 0) v.exponent) refl in
@@ -212,7 +212,7 @@ above-both e f k up = by (e -ℤ f) (f -ℤ e) refl refl up
     by (pos n) (negsuc m) h j is = refl
     by (negsuc n) b h j is = absurd (omega arith)
 
--- a normal mantissa takes in no zero of the other side
+-- a normal mantissa absorbs no zeros of the other one
 no-zeros-behind : (v d : Number) (k : ℕ) → HasSameValue v d → 0 < unsigned_abs d.mantissa % 10 → surplus v.exponent d.exponent ≡ suc k → ⊥
 no-zeros-behind v d k same ends up =
     let down = above-both v.exponent d.exponent k up in
@@ -230,7 +230,7 @@ no-zeros-behind v d k same ends up =
         last : (q m : ℕ) → q * 10 ≡ m → 0 < m % 10 → ⊥
         last q m e h = omega (arith, e, h)
 
--- the literal's value is the decimal's with zeros behind the mantissa
+-- the value of the literal is that of the decimal with zeros appended to the mantissa
 value-apart : (v d : Number) → HasSameValue v d → 0 < unsigned_abs d.mantissa % 10
     → v ≡ record { mantissa = to_signed (int_le d.mantissa (negsuc 0)) (unsigned_abs d.mantissa * 10 ^ surplus d.exponent v.exponent); exponent = d.exponent -ℤ pos (surplus d.exponent v.exponent) }
 value-apart v d same ends = by (surplus v.exponent d.exponent) refl

@@ -21,7 +21,7 @@ use Rattle.mpslp_decimal.proofs.SpellsLemmas.{strip, ends-well}
 use Rattle.mpslp_decimal.proofs.ValueLemmas.{surplus-heights, least-exponent, scaled-beside, times_twice}
 use Rattle.mpslp_decimal.proofs.OrderOfValues.{surplus-up, surplus-down}
 
--- ---- the zeros at the end of a number
+-- ---- the trailing zeros of a number
 
 ten_positive : 0 < 10
 ten_positive = lit< tt
@@ -123,7 +123,7 @@ sum-scaled a b p q h =
     let left : scaled a ≡ mantissa_beside a b *ℤ pos (10 ^ height b.exponent) = scaled-beside a b (height b.exponent) (omega (arith, over, under, down)) in
     ap (λ (z : ℤ). z +ℤ scaled b) left ∙ sym (sum-times (mantissa_beside a b) b.mantissa (10 ^ height b.exponent))
 
--- the parts of a decimal at which its normal form is its own
+-- adding 0 to a decimal gives the decimal
 lone-sum : (a b : Number) → IsDecimal a → IsDecimal b → scaled a ≡ pos 0 → sum_of a b ≡ Some b
 lone-sum a b p q none =
     ap (λ (z : ℤ). decimal_of (at_scale (z +ℤ scaled b))) none ∙ ap (λ (z : ℤ). decimal_of (at_scale z)) (zero_plus (scaled b))
@@ -153,7 +153,7 @@ sum-zero_second a b p q z = sym (sum-turn a b ∙ lone-sum b a q p (scaled-zero 
 pub sum-other : (a b : Number) → sum_of b a ≡ sum_of a b
 sum-other a b = sum-turn b a
 
--- the sum at the smaller exponent is none
+-- the sum at the smaller exponent is not a decimal
 pub sum-none : (a b : Number) → IsDecimal a → IsDecimal b → b.exponent ≤ℤ a.exponent → a.mantissa *ℤ pos (10 ^ surplus a.exponent b.exponent) +ℤ b.mantissa ≡ pos 0 → Some zero_number ≡ sum_of a b
 sum-none a b p q h none =
     sym (ap (λ (z : ℤ). decimal_of (at_scale z)) (sum-scaled a b p q h ∙ ap (λ (z : ℤ). z *ℤ pos (10 ^ height b.exponent)) none ∙ gone (10 ^ height b.exponent)) ∙ refl)
@@ -237,7 +237,7 @@ triangle x y = by x y (x +ℤ y) refl
     by (negsuc a) (negsuc b) (pos c) e = omega (arith, ints)
     by (negsuc a) (negsuc b) (negsuc c) e = omega (arith, ints)
 
--- ---- the answers of `decimal_of`
+-- ---- the results of `decimal_of`
 
 pub decimal-many : (minus : Bool) (n m z : ℕ) (e : ℤ) → IsStripped n m z → 0 < n → z < 1100 → 10 ^ 36 ≤ m → None ≡ decimal_of (record { mantissa = to_signed minus n; exponent = e })
 decimal-many minus n m z e s some few long =
@@ -255,7 +255,7 @@ decimal-few minus n m z e s some few short =
     by true d = refl
     by false d = refl
 
--- ---- the answers of `sum_at`
+-- ---- the results of `sum_at`
 
 whole-number : (n : ℕ) → 0 < n % 10 → IsStripped n n 0
 whole-number n h = record { value = once_nat n; ends = λ _. h }
@@ -279,7 +279,7 @@ sum-bound x y = by x y (x +ℤ y) refl
     by (negsuc a) (negsuc b) (pos c) e = omega (arith, ints)
     by (negsuc a) (negsuc b) (negsuc c) e = omega (arith, ints)
 
--- a sum that is too far from 0: zeros stand behind one of both, since two mantissas together do not reach so far
+-- a sum that is too large in magnitude: zeros are appended to one of both, because two mantissas together do not reach it
 pub sum-far : (a b : Number) (places : ℕ) → IsDecimal a → IsDecimal b → b.exponent ≤ℤ a.exponent → is_zero b ≡ false
     → places ≡ unsigned_abs (a.exponent -ℤ b.exponent) → 2 * 10 ^ 36 ≤ unsigned_abs (a.mantissa *ℤ pos (10 ^ places) +ℤ b.mantissa) → None ≡ sum_of a b
 sum-far a b zero p q h y e far =
@@ -318,7 +318,7 @@ sum-far a b (suc j) p q h y e far =
     some : 0 < n
     some = omega (arith, ends)
 
--- the sum at the smaller exponent, as it is counted
+-- the sum at the smaller exponent, as it is computed
 pub beside-sum : (a b : Number) (places : ℕ) (s x y : ℤ) → b.exponent ≤ℤ a.exponent → places ≡ unsigned_abs (a.exponent -ℤ b.exponent) → x ≡ a.mantissa → y ≡ b.mantissa → s ≡ (x *ℤ pos (10 ^ places)) +ℤ y
     → a.mantissa *ℤ pos (10 ^ surplus a.exponent b.exponent) +ℤ b.mantissa ≡ s
 beside-sum a b places s x y h e left right is = (λ i. (sym left i *ℤ pos (10 ^ (surplus-up a.exponent b.exponent h ∙ sym e) i)) +ℤ sym right i) ∙ sym is
@@ -335,7 +335,7 @@ size-positive (pos zero) h = absurd (h refl)
 size-positive (pos (suc n)) h = omega arith
 size-positive (negsuc n) h = omega arith
 
--- a number by the sign that a test tells, and its size
+-- a number from its sign and its absolute value
 pub signed-below : (s : ℤ) → s ≡ to_signed (int_lt s (pos 0)) (unsigned_abs s)
 signed-below (pos n) = sym (ap (λ (b : Bool). to_signed b n) (no_less n))
   where

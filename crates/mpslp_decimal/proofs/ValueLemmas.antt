@@ -10,7 +10,7 @@ use Rattle.mpslp_decimal.specs.Literal.{to_signed}
 use Rattle.mpslp_decimal.proofs.NumberTextLemmas.{signed-size}
 use Rattle.mpslp_decimal.proofs.ScaleLemmas.{signed_times, one_form}
 
--- how far two exponents lie apart, by their heights above the least exponent
+-- the distance of two exponents, by their heights above the least exponent
 pub surplus-heights : (e f : ℤ) → int_le (negsuc 499) e ≡ true → int_le (negsuc 499) f ≡ true → surplus e f ≡ height e - height f
 surplus-heights (pos a) (pos b) h k = by (pos a -ℤ pos b) refl
   where
@@ -36,7 +36,7 @@ surplus-heights (negsuc a) (negsuc b) h k = by (leb-true a 499 h) (leb-true b 49
 regroup : (n p q : ℕ) → (n * p) * q ≡ n * (p * q)
 regroup n p q = grind arith
 
--- a product with one power after another
+-- a product with two powers, one after the other
 pub times_twice : (m : ℤ) (p q : ℕ) → (m *ℤ pos p) *ℤ pos q ≡ m *ℤ pos (p * q)
 times_twice m p q =
     let minus = int_le m (negsuc 0) in
@@ -51,7 +51,7 @@ least-exponent d ok =
     first_so (int_le (negsuc 499) d.exponent) (int_le d.exponent (pos 500))
     (first_so (has_small_exponent d) (is_normal d) (second_so (has_few_digits d) (has_small_exponent d && is_normal d) ok))
 
--- beside another decimal, and then down to the least exponent
+-- relative to another decimal, and then at the least exponent
 pub scaled-beside : (a b : Number) (c : ℕ) → surplus a.exponent b.exponent + c ≡ height a.exponent → scaled a ≡ mantissa_beside a b *ℤ pos (10 ^ c)
 scaled-beside a b c e =
     ap (λ (h : ℕ). a.mantissa *ℤ pos (10 ^ h)) (sym e) ∙ ap (λ (p : ℕ). a.mantissa *ℤ pos p) (pow-add 10 (surplus a.exponent b.exponent) c)

@@ -1,4 +1,4 @@
--- What a result that 128 bits do not hold says of its size.
+-- The magnitude of a result that does not fit in 128 bits.
 use Rattle.std.proofs.Common.{◌≡◌, refl, ap, ◌∙◌, ℕ, Bool, true, false, arith, ◌<◌, ◌≤◌, ◌*◌, ◌^◌, Option, Some, None}
 use Rattle.std.specs.Prelude.{ℤ, pos, ◌+ℤ◌, ◌*ℤ◌, unsigned_abs, nat_lt, FitsSigned, MatchOption}
 use Rattle.std.specs.Option.{SomeIff}
@@ -23,7 +23,7 @@ product-held None product m p unfit is =
     omega (arith, far, size)
 product-held (Some x) product m p held is = held.1 ∙ is
 
--- no sum of a product that is too far from 0
+-- the sum with a product that is too large does not fit
 pub far-sum : (m other : ℤ) (p : ℕ) → 10 ^ 37 ≤ unsigned_abs m * p → unsigned_abs other < 10 ^ 36 → 2 * 10 ^ 36 ≤ unsigned_abs (m *ℤ pos p +ℤ other)
 far-sum m other p far small =
     let t = triangle (m *ℤ pos p) other in

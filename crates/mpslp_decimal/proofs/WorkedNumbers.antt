@@ -125,7 +125,7 @@ pub greatest_exponent_by_zeros-text : number_text (decimal_value (pos 1) (pos 50
 unfolding digits trailing_zeros
 greatest_exponent_by_zeros-text = refl
 
--- ---- refusals
+-- ---- errors
 
 pub thirty_seven_digits : number_of (codes "1234567890123456789012345678901234567") ≡ Err TooManyDigits
 unfolding digits trailing_zeros

@@ -33,7 +33,7 @@ abbrev pub natural_part : ℤ → ℕ
 natural_part (pos n) = n
 natural_part (negsuc _) = 0
 
--- how far the first exponent lies above the second, and 0 where it does not
+-- the first exponent minus the second, or 0 if that is negative
 abbrev pub surplus : ℤ → ℤ → ℕ
 surplus e f = natural_part (e -ℤ f)
 
@@ -47,7 +47,7 @@ HasSameValue a b = mantissa_beside a b ≡ mantissa_beside b a
 abbrev pub IsBelow : Number → Number → Type 0
 IsBelow a b = mantissa_beside a b <ℤ mantissa_beside b a
 
--- ---- decimals: the numbers that a `Decimal` holds
+-- ---- decimals: the numbers that a `Decimal` can have
 
 abbrev pub has_few_digits : Number → Bool
 has_few_digits d = nat_lt (unsigned_abs d.mantissa) (10 ^ MAX_DIGITS)
@@ -67,17 +67,17 @@ IsDecimal d = IsTrue (is_decimal d)
 
 -- ---- normal form
 
--- how many zeros a number ends in, of the first `most`
+-- the number of trailing zeros, at most `most`
 abbrev pub zeros_within : ℕ → ℕ → ℕ
 zeros_within zero n = 0
 zeros_within (suc most) n = elim (n % 10) [ zero ↦ suc (zeros_within most (n / 10)) | suc _ ↦ 0 ]
 
--- how many zeros a number that is not 0 ends in. No literal within the limit of its length and no sum of
--- decimals has more than 1,100 digits
+-- The number of trailing zeros of a number other than 0. No literal within the limit of its length and no sum of decimals
+-- has more than 1,100 digits.
 unfoldable pub trailing_zeros : ℕ → ℕ
 trailing_zeros n = zeros_within 1100 n
 
--- the same value, its mantissa without the zeros at the end
+-- the same value, with a mantissa without trailing zeros
 abbrev pub normal : Number → Number
 normal d =
     let zeros = trailing_zeros (unsigned_abs d.mantissa) in
@@ -90,11 +90,11 @@ decimal_of d = if is_decimal (normal d) then Some (normal d) else None
 
 -- ---- calculations with decimals, exact at the least exponent of any
 
--- how far the least exponent of a decimal lies below 0
+-- how far the least exponent of a decimal is below 0
 abbrev pub depth : ℕ
 depth = 500
 
--- how far an exponent of a decimal lies above the least one
+-- how far an exponent of a decimal is above the least one
 abbrev pub height : ℤ → ℕ
 height (pos n) = n + depth
 height (negsuc n) = (depth - 1) - n
@@ -103,7 +103,7 @@ height (negsuc n) = (depth - 1) - n
 abbrev pub scaled : Number → ℤ
 scaled d = d.mantissa *ℤ pos (10 ^ height d.exponent)
 
--- so many units of the least exponent
+-- this number of units of the least exponent
 abbrev pub at_scale : ℤ → Number
 at_scale units = record { mantissa = units; exponent = MIN_EXPONENT }
 
@@ -113,7 +113,7 @@ decimal_cmp = on scaled int_cmp
 abbrev pub have_same_value : Number → Number → Bool
 have_same_value a b = is_eq (decimal_cmp a b)
 
--- by value. Where the values are one, as those of different decimals never are, by the parts
+-- by value; if the values are equal, which those of different decimals never are, by the parts
 abbrev pub order_of : Number → Number → Ordering
 order_of = then_cmp decimal_cmp (then_cmp (on (λ d. d.mantissa) int_cmp) (on (λ d. d.exponent) int_cmp))
 
@@ -123,17 +123,17 @@ negated d = record d { mantissa = neg_ℤ d.mantissa }
 abbrev pub size_of : Number → Number
 size_of d = record d { mantissa = pos (unsigned_abs d.mantissa) }
 
--- the sum and the difference, where they are decimals
+-- the sum and the difference, if they are decimals
 abbrev pub sum_of : Number → Number → Option Number
 sum_of a b = decimal_of (at_scale (scaled a +ℤ scaled b))
 
 abbrev pub difference_of : Number → Number → Option Number
 difference_of a b = sum_of a (negated b)
 
--- 10^20 at the least exponent: 20 places above the point, and those below it
+-- 1e20 at the least exponent
 abbrev pub scaled_infinity : ℤ
 scaled_infinity = pos (10 ^ (20 + depth))
 
--- at least 10^20 in size
+-- the magnitude is at least 1e20
 abbrev pub is_infinite_size : Number → Bool
 is_infinite_size d = int_le scaled_infinity (scaled (size_of d))

@@ -43,7 +43,7 @@ to_signed minus n = if minus then neg_ℤ (pos n) else pos n
 abbrev pub signed_value : List ℕ → ℤ
 signed_value text = to_signed (is_minus text) (digits_sum (without_sign text))
 
--- what stands before the exponent part, without its sign
+-- the part before the exponent part, without its sign
 abbrev pub unsigned_part : List ℕ → List ℕ
 unsigned_part text = without_sign (before_first is_exponent_mark text)
 
@@ -55,7 +55,7 @@ fraction_digits text = after_first is_point (unsigned_part text)
 abbrev pub mantissa_digits : List ℕ → List ℕ
 mantissa_digits text = before_first is_point (unsigned_part text) ++ fraction_digits text
 
--- what follows the `e` or `E`, and nothing where there is none
+-- what follows the `e` or `E`; empty if there is none
 abbrev pub exponent_part : List ℕ → List ℕ
 exponent_part text = after_first is_exponent_mark text
 
@@ -64,7 +64,7 @@ abbrev pub is_literal : List ℕ → Bool
 is_literal text = are_digits (mantissa_digits text)
     && (not (list_any is_exponent_mark text) || are_digits (without_sign (exponent_part text)))
 
--- what a literal spells, not in normal form
+-- the value of a literal, not in normal form
 abbrev pub literal_value : List ℕ → Number
 literal_value text = record {
   mantissa = to_signed (is_minus text) (digits_sum (mantissa_digits text));
@@ -78,7 +78,7 @@ pub record Spells (text : List ℕ) (d : Number) : Type 0 where
   pub decimal : IsDecimal d
   pub value : HasSameValue (literal_value text) d
 
--- the decimal that a text spells, or the first refusal
+-- the decimal with the value of a text, or its first error
 abbrev pub number_of : List ℕ → Result Number NumberFault
 number_of text =
     let value = normal (literal_value text) in
@@ -88,15 +88,15 @@ number_of text =
     else (if not (has_small_exponent value) then Err ExponentRange
     else Ok value)))
 
--- ---- literals that no decimal has the value of
+-- ---- literals whose value is not that of a decimal
 
--- No number of at most 36 digits has the literal's value, whatever the number's exponent.
+-- No number of at most 36 digits has the value of the literal, whatever the exponent of the number.
 pub record HasTooManyDigits (text : List ℕ) : Type 0 where
   pub literal : IsTrue (is_literal text)
   pub short : length text ≤ MAX_LITERAL_LEN
   pub many : (d : Number) → IsTrue (has_few_digits d) → HasSameValue (literal_value text) d → ⊥
 
--- A number of at most 36 digits has the literal's value, but none that is a decimal.
+-- A number of at most 36 digits has the value of the literal, but no decimal does.
 pub record HasExponentOutOfRange (text : List ℕ) : Type 0 where
   pub literal : IsTrue (is_literal text)
   pub short : length text ≤ MAX_LITERAL_LEN

@@ -3,13 +3,13 @@ use Rattle.std.specs.Prelude.{ℕ, ◌+◌, ◌-◌, ℤ, pos, negsuc, unsigned_
 use Rattle.std.specs.Fmt.{decimal}
 use Rattle.mpslp_decimal.specs.Decimal.{Number, is_zero, is_negative}
 
--- digits with a point before the last `places`, and zeros in front so that a digit stands before it
+-- digits with a point before the last `places`, with leading zeros so that a digit is before the point
 abbrev pub with_point : ℕ → List ℕ → List ℕ
 with_point places digits =
     let padded = replicate (places + 1 - length digits) 48 ++ digits in
     take (length padded - places) padded ++ 46 ∷ drop (length padded - places) padded
 
--- the greatest exponent that is written as zeros
+-- the greatest exponent that is printed as zeros
 abbrev pub most_zeros : ℕ
 most_zeros = 5
 

@@ -1,4 +1,4 @@
--- What one pass over a literal finds out.
+-- What a single pass finds in a literal.
 use Rattle.std.specs.Prelude.{◌≡◌, ℕ, ◌*◌, ◌^◌, ◌%◌, ◌<◌, ◌≤◌, ℤ, pos, Option, Some, None, Result, Ok, Err, min, IsTrue, if◌then◌else◌, List, [], ◌∷◌, ◌++◌, length, take, drop}
 use Rattle.std.specs.List.{prefix_len}
 use Rattle.mpslp_decimal.specs.Literal.{is_digit, is_point, is_exponent_mark, are_digits, is_minus, without_sign, to_signed, digits_sum, mantissa_digits, fraction_digits, exponent_part, is_literal}
@@ -11,7 +11,7 @@ use Rattle.mpslp_decimal.specs.declared.literal.Significand.{Significand}
 use Rattle.mpslp_decimal.specs.declared.literal.Significand.TheVariants.{Short, Long, Many}
 use Rattle.mpslp_decimal.specs.declared.literal.Scan.{Scan}
 
--- a number without the zeros at its end, and how many zeros these are
+-- a number without its trailing zeros, and their number
 pub record IsStripped (n mantissa zeros : ℕ) : Type 0 where
   pub value : mantissa * 10 ^ zeros ≡ n
   pub ends : 0 < n → 0 < mantissa % 10
@@ -22,7 +22,7 @@ IsSignificandOf (Short mantissa zeros) n = IsStripped n mantissa zeros × (manti
 IsSignificandOf (Long mantissa zeros) n = IsStripped n mantissa zeros × (mantissa < 10 ^ MAX_DIGITS)
 IsSignificandOf Many n = (mantissa : ℕ) × (zeros : ℕ) × (IsStripped n mantissa zeros × (10 ^ MAX_DIGITS ≤ mantissa))
 
--- the number stripped and how many zeros it lost, unless it has too many digits
+-- the stripped number and how many zeros it lost, unless it has too many digits
 abbrev pub parts_of : Significand → Option (ℕ × ℕ)
 parts_of (Short mantissa zeros) = Some (mantissa, zeros)
 parts_of (Long mantissa zeros) = Some (mantissa, zeros)
@@ -33,18 +33,18 @@ zeros_of (Short mantissa zeros) = zeros
 zeros_of (Long mantissa zeros) = zeros
 zeros_of Many = 0
 
--- the exponent, no further from 0 than the cap
+-- the exponent, with a magnitude of at most the cap
 abbrev pub capped_exponent : List ℕ → ℤ
 capped_exponent text = to_signed (is_minus text) (min (digits_sum (without_sign text)) EXPONENT_CAP)
 
--- the digits that a text begins with, and what follows them
+-- the digits with which a text begins, and what follows them
 abbrev pub digits_front : List ℕ → List ℕ
 digits_front text = take (prefix_len is_digit text) text
 
 abbrev pub after_digits : List ℕ → List ℕ
 after_digits text = drop (prefix_len is_digit text) text
 
--- what follows a point that a text begins with
+-- what follows a point at the start of a text
 abbrev pub after_point : List ℕ → List ℕ
 after_point [] = []
 after_point (byte ∷ bytes) = if is_point byte then bytes else []
@@ -63,16 +63,16 @@ after_fraction (byte ∷ bytes) = if is_point byte then after_digits bytes else 
 abbrev pub after_mantissa : List ℕ → List ℕ
 after_mantissa text = after_fraction (after_digits text)
 
--- the exponent that an optional sign and digits write
+-- the exponent that an optional sign and digits represent
 abbrev pub exponent_of : List ℕ → Option ℤ
 exponent_of text = if are_digits (without_sign text) then Some (capped_exponent text) else None
 
--- the exponent that stands after a mantissa
+-- the exponent after a mantissa
 abbrev pub exponent_after : List ℕ → Option ℤ
 exponent_after [] = Some (pos 0)
 exponent_after (byte ∷ bytes) = if is_exponent_mark byte then exponent_of bytes else None
 
--- the decimal, where its exponent is in range
+-- the decimal, if its exponent is in range
 abbrev pub in_range : Number → Result Number NumberFault
 in_range d = if has_small_exponent d then Ok d else Err ExponentRange
 

@@ -1,5 +1,4 @@
-//! What holds of all decimals and texts, said by functions that do nothing: their contracts are proved
-//! for every value.
+//! Laws of all decimals and texts. Each is the contract of a function that does nothing, proved for every value.
 
 ghost use Rattle.std.specs.Prelude.{◌≡◌, ◌↔◌, ◌+ℤ◌, ℕ, List, Ok, Err, Some};
 ghost use Rattle.std.specs.declared.cmp.Ordering.{Ordering};
@@ -10,19 +9,19 @@ ghost use Rattle.mpslp_decimal.specs.declared.literal.NumberFault.TheVariants.{T
 
 use crate::number::Decimal;
 
-/// Every value of the type is a decimal: in normal form, with few enough digits and an exponent in range.
+/// Every value of the type is a decimal: in normal form, with at most 36 digits and an exponent in range.
 pub fn each_value_is_a_decimal(value: Decimal)
     ensures { IsDecimal value }
 {
     value.is_in_form()
 }
 
-/// Decimals of one value are one pair of mantissa and exponent.
+/// Decimals with the same value have the same mantissa and exponent.
 pub fn one_form()
     ensures { (a b : Number) → IsDecimal a → IsDecimal b → HasSameValue a b → a ≡ b }
 {}
 
-/// A text is read as a decimal exactly if it is a literal of at most 255 bytes that has its value.
+/// A text is read as a decimal if and only if it is a literal of at most 255 bytes and has the value of the decimal.
 pub fn literals_are_read_by_value()
     ensures { (text : List ℕ) (d : Number) → (number_of text ≡ Ok d) ↔ Spells text d }
 {}
@@ -44,19 +43,19 @@ pub fn text_is_read_back()
     ensures { (d : Number) → IsDecimal d → number_of (number_text d) ≡ Ok d }
 {}
 
-/// Decimals with one text are one.
+/// Decimals with the same text are equal.
 pub fn one_text()
     ensures { (a b : Number) → IsDecimal a → IsDecimal b → number_text a ≡ number_text b → a ≡ b }
 {}
 
-/// A decimal comes before another one exactly if its mantissa is less where both are written with the
-/// smaller one of their exponents.
+/// A decimal is less than another one if and only if its mantissa is less when both are written with the smaller of their
+/// exponents.
 pub fn order_is_by_value()
     ensures { (a b : Number) → IsDecimal a → IsDecimal b → (order_of a b ≡ Ordering.Less) ↔ IsBelow a b }
 {}
 
-/// A decimal is the sum of two others exactly if it counts as many units of the least exponent as both of
-/// them together, as whole numbers; where no decimal does, there is no sum.
+/// A decimal is the sum of two others if and only if it has as many units of the least exponent as both of them together. If
+/// there is no such decimal, there is no sum.
 pub fn sums_are_exact()
     ensures { (a b d : Number) → (sum_of a b ≡ Some d) ↔ (IsDecimal d × (scaled d ≡ scaled a +ℤ scaled b)) }
 {}

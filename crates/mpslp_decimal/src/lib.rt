@@ -1,7 +1,7 @@
-//! Exact decimals: the numbers of model files, read and printed with no rounding.
+//! Exact decimals: the numbers of model files, read and printed without rounding.
 //!
-//! A [`Decimal`] is a whole number of at most [`MAX_DIGITS`] digits times a power of ten, in one
-//! normal form, so two decimals are equal exactly if they are the same pair.
+//! A [`Decimal`] is an integer of at most [`MAX_DIGITS`] digits times a power of ten, in a normal form, so two decimals have
+//! the same value if and only if they are the same pair.
 #![tactic(auto)]
 
 pub mod laws;

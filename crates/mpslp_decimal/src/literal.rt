@@ -1,4 +1,4 @@
-//! Number literals, each byte read once.
+//! Number literals, read in one pass.
 
 ghost use Rattle.std.specs.Prelude.{ℤ, pos, ◌+ℤ◌, ◌-ℤ◌, ◌%◌, unsigned_abs, ◌≡◌, ℕ, ◌+◌, ◌*◌, ◌^◌, ◌<◌, ◌≤◌, ◌↔◌, IsTrue, IsSome, IfSome, MatchOption, length, take, drop, not, false};
 ghost use Rattle.std.specs.List.{prefix_len};
@@ -7,44 +7,44 @@ ghost use Rattle.mpslp_decimal.specs.Scan.{in_range, IsSignificandOf, parts_of, 
 
 use crate::number::{Decimal, MAX_DIGITS, MAX_EXPONENT, MIN_EXPONENT};
 
-/// The most bytes that a literal has.
+/// The most bytes of a literal.
 pub const MAX_LITERAL_LEN: usize = 255;
 
-/// An exponent of this size is out of range, however many digits stand before or after the point.
+/// An exponent of this magnitude is out of range, whatever the number of digits before or after the point.
 const EXPONENT_CAP: u32 = 100_000;
 
-/// A mantissa from here on may have no room for a further digit in 64 bits.
+/// A mantissa from this value on may not fit in 64 bits with one more digit.
 const SHORT_ROOM: u64 = 100_000_000_000_000_000;
 
-/// Ten to the `MAX_DIGITS - 1`: a mantissa from here on takes no further digit. The proofs compare the two.
+/// Ten to the `MAX_DIGITS - 1`: a mantissa from this value on cannot take another digit. The proofs compare the two.
 const LONG_ROOM: u128 = 100_000_000_000_000_000_000_000_000_000_000_000;
 
-/// Why a text is not taken as a decimal. Where several hold, the first of this list is told.
+/// Why a text is rejected as a decimal. Of several reasons the first in this list is reported.
 #[derive(Clone, Copy, Debug, PartialEq, Eq)]
 pub enum NumberFault {
-    /// The text is no number literal.
+    /// The text is not a number literal.
     BadNumber,
     /// The literal has more than [`MAX_LITERAL_LEN`] bytes.
     LongNumber,
     /// The value needs more than [`MAX_DIGITS`] digits.
     TooManyDigits,
-    /// The exponent of the normal form lies outside its range.
+    /// The exponent of the normal form is out of range.
     ExponentRange,
 }
 
-/// The number that digits write. Most have few digits, and are counted in 64 bits.
+/// The number that digits represent. Most have few digits, which are counted in 64 bits.
 #[derive(Clone, Copy)]
 enum Significand {
-    /// The number without the zeros at its end, and how many zeros these are.
+    /// The number without its trailing zeros, and their number.
     Short(u64, usize),
-    /// The same of a number that 64 bits may not hold.
+    /// The same for a number that may not fit in 64 bits.
     Long(u128, usize),
-    /// Without the zeros at its end the number has more than `MAX_DIGITS` digits.
+    /// Without its trailing zeros, the number has more than `MAX_DIGITS` digits.
     Many,
 }
 
 impl Significand {
-    /// The significand with one more digit behind it.
+    /// The significand with one more digit appended.
     fn followed_by(self, digit: u8) -> Significand
         requires digit { digit < 10 }
         requires room { zeros_of self + 1 < 2 ^ 64 }
@@ -58,7 +58,7 @@ impl Significand {
         }
     }
 
-    /// The number without the zeros at its end, and how many zeros these are; `None` where it has too many digits.
+    /// The number without its trailing zeros, and their number; `None` if it has too many digits.
     fn parts(self) -> Option<(u128, usize)>
         ensures { result ≡ parts_of self }
     {
@@ -70,7 +70,7 @@ impl Significand {
     }
 }
 
-/// The significand of a mantissa with zeros and one more digit behind it, in 64 bits as long as it fits.
+/// The significand of a mantissa with zeros and one more digit appended, in 64 bits while it fits.
 fn short_followed_by(mantissa: u64, zeros: usize, digit: u8) -> Significand
     requires digit { digit < 10 }
     requires room { zeros + 1 < 2 ^ 64 }
@@ -90,7 +90,7 @@ fn short_followed_by(mantissa: u64, zeros: usize, digit: u8) -> Significand
     Significand::Short(shifted + u64::from(digit), 0)
 }
 
-/// The significand of a mantissa with zeros and one more digit behind it, as long as it has few enough digits.
+/// The significand of a mantissa with zeros and one more digit appended, while it has few enough digits.
 fn long_followed_by(mantissa: u128, zeros: usize, digit: u8) -> Significand
     requires digit { digit < 10 }
     requires room { zeros + 1 < 2 ^ 64 }
@@ -115,12 +115,12 @@ fn long_followed_by(mantissa: u128, zeros: usize, digit: u8) -> Significand
 struct Scan {
     is_negative: bool,
     significand: Significand,
-    /// How many digits stand after the point.
+    /// The number of digits after the point.
     places: usize,
     exponent: i32,
 }
 
-/// A text without its sign, and whether that is a minus.
+/// Whether a text begins with a minus, and the text without its sign.
 fn split_sign(text: &[u8]) -> (bool, &[u8])
     ensures minus { result.0 ≡ is_minus text.now }
     ensures rest { result.1.now ≡ without_sign text.now }
@@ -132,7 +132,7 @@ fn split_sign(text: &[u8]) -> (bool, &[u8])
     }
 }
 
-/// Puts the digits at the front of a text behind those that were read before, and tells what follows them.
+/// Appends the digits at the start of a text to those read before, and returns the rest of the text.
 fn scan_digits(text: &[u8], before: Significand) -> (Significand, &[u8])
     requires room { zeros_of before + length text.now < 2 ^ 64 }
     ensures rest { result.1.now ≡ after_digits text.now }
@@ -150,7 +150,7 @@ fn scan_digits(text: &[u8], before: Significand) -> (Significand, &[u8])
     (significand, &[])
 }
 
-/// The exponent that an optional sign and digits write, cut off at the cap; `None` where they are anything else.
+/// The exponent that an optional sign and digits represent, limited to the cap; `None` for any other text.
 fn scan_exponent(text: &[u8]) -> Option<i32>
     ensures { result ≡ exponent_of text.now }
 {
@@ -173,13 +173,13 @@ fn scan_exponent(text: &[u8]) -> Option<i32>
 #[derive(Clone, Copy)]
 struct Mantissa {
     significand: Significand,
-    /// How many digits there are.
+    /// The number of digits.
     digits: usize,
-    /// How many of them stand after the point.
+    /// The number of digits after the point.
     places: usize,
 }
 
-/// Reads the digits and the point at the front of a text without a sign, and tells what follows them.
+/// Reads the digits and the point at the start of a text without a sign, and returns the rest.
 fn scan_mantissa(text: &[u8]) -> (Mantissa, &[u8])
     ensures rest { result.1.now ≡ after_mantissa text.now }
     ensures significand { IsSignificandOf result.0.significand (digits_sum (mantissa_front text.now)) }
@@ -213,7 +213,7 @@ fn scan_mantissa(text: &[u8]) -> (Mantissa, &[u8])
     }
 }
 
-/// The exponent that stands after a mantissa, 0 where nothing does; `None` where it is no exponent part.
+/// The exponent in the text after a mantissa, 0 if that is empty; `None` if it is not an exponent part.
 fn scan_exponent_part(text: &[u8]) -> Option<i32>
     ensures { result ≡ exponent_after text.now }
 {
@@ -225,7 +225,7 @@ fn scan_exponent_part(text: &[u8]) -> Option<i32>
 }
 
 impl Scan {
-    /// Reads a text as a literal; `None` where it is none.
+    /// Reads a text as a literal; `None` if it is not one.
     fn of(text: &[u8]) -> Option<Scan>
         ensures { MatchOption result (is_literal text.now ≡ false) (λ scan. IsScanOf scan text.now) }
     {
@@ -244,7 +244,7 @@ impl Scan {
     }
 }
 
-/// The exponent of a mantissa whose zeros are cut off and whose point is taken out.
+/// The exponent of a mantissa after its trailing zeros and its point are removed.
 fn normal_exponent(exponent: i32, zeros: usize, places: usize) -> i32
     requires exponent { unsigned_abs exponent ≤ EXPONENT_CAP }
     requires zeros { zeros ≤ MAX_LITERAL_LEN }
@@ -254,7 +254,7 @@ fn normal_exponent(exponent: i32, zeros: usize, places: usize) -> i32
     exponent + zeros as i32 - places as i32
 }
 
-/// The decimal of a mantissa that does not end in a zero, where its exponent is in range.
+/// The decimal of a mantissa without trailing zeros, if its exponent is in range.
 pub(crate) fn in_range(
     is_negative: bool,
     mantissa: u128,
@@ -272,7 +272,7 @@ pub(crate) fn in_range(
     Ok(Decimal::from_parts(mantissa, exponent))
 }
 
-/// The decimal that a literal spells, or the first fault.
+/// The decimal with the value of a literal, or the first error.
 pub(crate) fn parse(text: &[u8]) -> Result<Decimal, NumberFault>
     ensures { result ≡ number_of text.now }
 {

@@ -1,4 +1,4 @@
-//! The type of decimals, and what can be asked of one.
+//! The type of decimals, and its basic properties.
 
 mod order;
 mod sums;
@@ -10,7 +10,7 @@ ghost use Rattle.mpslp_decimal.specs.Decimal.{Number, zero_number, one_number, i
 use crate::literal::{self, NumberFault};
 use std::marker::Model;
 
-/// The most digits that the mantissa of a decimal has.
+/// The most digits of the mantissa of a decimal.
 pub const MAX_DIGITS: u32 = 36;
 
 /// The least exponent of a decimal.
@@ -19,14 +19,14 @@ pub const MIN_EXPONENT: i32 = -500;
 /// The greatest exponent of a decimal.
 pub const MAX_EXPONENT: i32 = 500;
 
-/// Sizes from ten to this exponent on count as infinite where they are limits or bounds.
+/// Numbers with magnitude at least ten to this exponent are infinite as limits or bounds.
 const INFINITE_EXPONENT: i32 = 20;
 
-/// An exact decimal, a mantissa times a power of ten.
+/// An exact decimal: a mantissa times a power of ten.
 ///
-/// The mantissa has at most [`MAX_DIGITS`] digits and does not end in a zero, and the exponent lies
-/// between [`MIN_EXPONENT`] and [`MAX_EXPONENT`]; zero is the mantissa 0 with the exponent 0. So each
-/// value has one form, and comparisons and hashes go by value.
+/// The mantissa has at most [`MAX_DIGITS`] digits and no trailing zero, and the exponent is between [`MIN_EXPONENT`] and
+/// [`MAX_EXPONENT`]; zero has mantissa 0 and exponent 0. So each value has one representation, and comparisons and hashes
+/// are by value.
 #[derive(Clone, Copy, Debug, PartialEq, Eq, Hash)]
 pub struct Decimal {
     mantissa: i128,
@@ -66,7 +66,7 @@ impl Decimal {
         Decimal::from_parts(1, 0)
     }
 
-    /// The decimal of these two parts, in normal form already.
+    /// The decimal with these two parts, which are in normal form already.
     pub(crate) fn from_parts(mantissa: i128, exponent: i32) -> Decimal
         requires { IsDecimal (record { mantissa = mantissa; exponent = exponent }) }
         ensures { result ≡ record { mantissa = mantissa; exponent = exponent } }
@@ -74,21 +74,21 @@ impl Decimal {
         Decimal { mantissa, exponent }
     }
 
-    /// Does nothing but say what every value of the type is.
+    /// Does nothing. Its contract states the invariant of the type.
     pub(crate) fn is_in_form(self)
         ensures { IsDecimal self }
     {
         let _mantissa = self.mantissa;
     }
 
-    /// The exact decimal of a number literal: an optional sign, digits with an optional point and at
-    /// least one digit in all, and perhaps `e` or `E`, an optional sign and at least one digit.
+    /// The exact value of a number literal: an optional sign, digits with an optional point and at least one digit, and
+    /// optionally `e` or `E`, an optional sign and at least one digit.
     ///
-    /// Nothing is rounded. Zero is taken with any exponent.
+    /// Nothing is rounded. Zero is accepted with any exponent.
     ///
     /// # Errors
     ///
-    /// The first [`NumberFault`] that holds, in the order in which they are listed there.
+    /// The first [`NumberFault`] that applies, in the order in which they are listed there.
     pub fn parse(text: &[u8]) -> Result<Decimal, NumberFault>
         ensures { result ≡ number_of text.now }
     {
@@ -102,21 +102,21 @@ impl Decimal {
         self.mantissa == 0
     }
 
-    /// The whole number that is multiplied by the power of ten.
+    /// The integer that is multiplied by the power of ten.
     pub fn mantissa(self) -> i128
         ensures { result ≡ self.mantissa }
     {
         self.mantissa
     }
 
-    /// The power of ten.
+    /// The exponent of the power of ten.
     pub fn exponent(self) -> i32
         ensures { result ≡ self.exponent }
     {
         self.exponent
     }
 
-    /// The same size with the other sign.
+    /// The number with the opposite sign.
     pub fn negate(self) -> Decimal
         ensures { result ≡ negated self }
     {
@@ -133,7 +133,7 @@ impl Decimal {
         self.mantissa < 0
     }
 
-    /// The number without its sign.
+    /// The absolute value.
     pub fn abs(self) -> Decimal
         ensures { result ≡ size_of self }
     {
@@ -144,7 +144,7 @@ impl Decimal {
         }
     }
 
-    /// Whether the size is at least 10^20. Model files write infinite limits and bounds so.
+    /// Whether the magnitude is at least 1e20. Such limits and bounds are infinite in model files.
     pub fn is_infinite_size(self) -> bool
         ensures { result ≡ is_infinite_size self }
     {
@@ -152,7 +152,7 @@ impl Decimal {
     }
 }
 
-/// Whether so many units of a power of ten are 10^20 or more.
+/// Whether this number of units of a power of ten is at least 1e20.
 fn reaches_infinity(units: u128, exponent: i32) -> bool
     requires few { units < 10 ^ MAX_DIGITS }
     ensures { result ≡ nat_le (10 ^ (20 + depth)) (units * 10 ^ height exponent) }

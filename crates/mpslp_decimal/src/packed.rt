@@ -6,11 +6,11 @@ ghost use Rattle.mpslp_decimal.specs.Packed.{mantissa_of};
 use crate::number::Decimal;
 use std::marker::Model;
 
-/// A decimal as it is kept where there are many. Contracts see the number.
+/// A decimal stored compactly, for large collections. Contracts see the number.
 ///
-/// A mantissa of [`MAX_DIGITS`](crate::MAX_DIGITS) digits has 120 bits beside its sign, so the exponent needs room of
-/// its own. The 128 bits of the mantissa stand as bytes, which may lie at any address: so it takes 20 bytes, 24 together with a
-/// number of 32 bits, where a [`Decimal`] takes 32 and 48.
+/// A mantissa of [`MAX_DIGITS`](crate::MAX_DIGITS) digits has 120 bits and a sign, so the exponent does not fit in the same
+/// 128 bits. The mantissa is stored as bytes, without alignment: so a packed decimal takes 20 bytes, and 24 together with a
+/// number of 32 bits, instead of 32 and 48 for a [`Decimal`].
 #[derive(Debug, Drop)]
 pub struct PackedDecimal {
     mantissa: [u8; 16],
@@ -30,7 +30,7 @@ impl Model for PackedDecimal {
     ghost invariant = { λ packed. IsDecimal (unpacked packed) };
 }
 
-/// The bytes of a mantissa, the lowest first.
+/// The bytes of a mantissa in little-endian order.
 fn bytes_of(mantissa: i128) -> [u8; 16]
     ensures { mantissa_of result ≡ mantissa }
 {
@@ -38,7 +38,7 @@ fn bytes_of(mantissa: i128) -> [u8; 16]
 }
 
 impl PackedDecimal {
-    /// The decimal, packed.
+    /// Packs a decimal.
     pub fn of(value: Decimal) -> PackedDecimal
         ensures { result ≡ value }
     {
@@ -52,7 +52,7 @@ impl PackedDecimal {
         }
     }
 
-    /// The decimal.
+    /// The decimal, unpacked.
     pub fn value(&self) -> Decimal
         ensures { result ≡ self.now }
     {

@@ -12,16 +12,16 @@ use std::marker::Model;
 /// Room for any text: at most a sign, the digits, a point and zeros or an exponent.
 const CAPACITY: usize = 64;
 
-/// The greatest exponent that is written as zeros.
+/// The greatest exponent that is printed as zeros.
 const MOST_ZEROS: i32 = 5;
 
-/// The least exponent that is written by a point.
+/// The least exponent that is printed with a point.
 const LEAST_WITH_POINT: i32 = -18;
 
 /// Enough zeros for each text without an exponent part.
 const ZEROS: &[u8] = b"00000000000000000000";
 
-/// The canonical text of one decimal after another, in a place that takes no memory.
+/// Prints canonical texts of decimals, one after another, in a buffer of fixed size. Does not allocate.
 #[derive(Drop)]
 pub struct DecimalText {
     bytes: ArrayVec<u8, CAPACITY>,
@@ -33,7 +33,7 @@ impl Model for DecimalText {
     ghost view = { λ t. t.bytes.items };
 }
 
-/// The digits of a mantissa's size. Most are few, and are printed faster in 64 bits.
+/// The digits of the absolute value of a mantissa. Most are short, and faster to print in 64 bits.
 fn format_size(buffer: &mut Buffer, size: u128) -> &[u8]
     ensures digits { result.now ≡ decimal size }
     ensures short { length result.now ≤ 40 }
@@ -46,7 +46,7 @@ fn format_size(buffer: &mut Buffer, size: u128) -> &[u8]
 }
 
 impl DecimalText {
-    /// A place that holds no text yet.
+    /// An empty buffer.
     pub fn new() -> DecimalText
         ensures { result ≡ [] }
     {
@@ -55,10 +55,10 @@ impl DecimalText {
         }
     }
 
-    /// The canonical text of a decimal, which stays until the next call.
+    /// The canonical text of a decimal, valid until the next call.
     ///
-    /// Zero is `0`. Exponents from 0 to 5 are written as zeros, those from -18 to -1 by a point with a
-    /// digit before it, and any other one after an `e`, as in `15e-20`.
+    /// Zero is `0`. Exponents from 0 to 5 are printed as zeros, those from -18 to -1 with a point and a digit before it, and
+    /// any other exponent after an `e`, as in `15e-20`.
     pub fn put(&mut self, value: Decimal) -> &[u8]
         ensures { result.now ≡ number_text value }
     {
@@ -114,7 +114,7 @@ impl DecimalText {
         }
     }
 
-    /// Appends digits with a point before the last places, and zeros in front where there are too few digits.
+    /// Appends digits with a point before the last places, with leading zeros if there are too few digits.
     fn append_with_point(&mut self, digits: &[u8], places: usize)
         requires room { length self.old ≤ 1 }
         requires digits { length digits.now ≤ 40 }

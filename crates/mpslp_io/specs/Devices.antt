@@ -1,24 +1,24 @@
 -- What a call of a device does to its bytes and to the number of its calls.
 use Rattle.std.specs.Prelude.{◌≡◌, ℕ, ◌+◌, ◌-◌, ◌^◌, ◌<◌, ◌≤◌, min, List, ◌++◌, length, take, Result, Ok, Err}
 
--- one more, where a count stays at 2^64 - 1
+-- one more, at most 2^64 - 1
 abbrev pub one_call_more : ℕ → ℕ
 one_call_more count = min (count + 1) (2 ^ 64 - 1)
 
--- whatever was held is held with these bytes behind it
+-- these bytes were appended to whatever was held
 abbrev pub Grows : {S : Type 0} → (S → List ℕ → Type 0) → S → S → List ℕ → Type 0
 Grows holds old new bytes = (before : List ℕ) → holds old before → holds new (before ++ bytes)
 
--- whatever was held is held still
+-- whatever was held is still held
 abbrev pub KeepsHeld : {S : Type 0} → (S → List ℕ → Type 0) → S → S → Type 0
 KeepsHeld holds old new = (before : List ℕ) → holds old before → holds new before
 
--- A write takes the first bytes of a piece, at least one where there is one. One that fails takes none.
+-- A write accepts a prefix of a piece, at least one byte unless the piece is empty. A failing write accepts none.
 abbrev pub Takes : {S E : Type 0} → (S → List ℕ → Type 0) → S → S → List ℕ → Result ℕ E → Type 0
 Takes holds old new piece (Ok n) = (n ≤ length piece) × (0 < length piece → 0 < n) × Grows holds old new (take n piece)
 Takes holds old new piece (Err _) = KeepsHeld holds old new
 
--- A sink took the first `count` bytes of a piece and no other, and a tally that stays at 2^64 - 1 grew by their number.
+-- A sink accepted the first `count` bytes of a piece and nothing else, and a tally of at most 2^64 - 1 grew by their number.
 pub record TookMore {S : Type 0} (holds : S → List ℕ → Type 0) (old new : S) (piece : List ℕ) (tally_old tally_new : ℕ) : Type 0 where
   pub count : ℕ
   pub within : count ≤ length piece

@@ -1,8 +1,8 @@
-//! What bytes are read from, and what they are written to.
+//! Sources of bytes and sinks for bytes.
 //!
-//! Code is written over the traits [`Source`] and [`Sink`], and proved of every device that keeps their
-//! contracts: a file, a terminal, a list of bytes, a sink that only counts. [`FromRead`] and [`ToWrite`]
-//! make devices of the readers and writers of std, and [`put_all`] writes a whole piece to a sink.
+//! Code is generic over the traits [`Source`] and [`Sink`], and proved for every device that meets their contracts: a file,
+//! a terminal, a list of bytes, a sink that only counts. [`FromRead`] and [`ToWrite`] make devices of the readers and
+//! writers of std, and [`put_all`] writes a whole piece to a sink.
 #![tactic(auto)]
 
 mod devices;

@@ -1,17 +1,17 @@
-//! Whole pieces, written to a sink.
+//! Writes whole pieces to a sink.
 
 ghost use Rattle.std.specs.Prelude.{◌≡◌, ◌<◌, ◌≤◌, ◌+◌, ◌-◌, ◌^◌, min, true, false, length, IsOk, IsErr, OnOk};
 ghost use Rattle.mpslp_io.specs.Devices.{Grows, TookMore};
 
 use crate::devices::{IoFailed, Sink};
 
-/// Writes a whole piece to the sink, in as many calls as it has bytes at most, and does not flush. The
-/// number of bytes that the sink took is added to the tally, which stays at 2^64 - 1.
+/// Writes a whole piece to the sink, in at most as many calls as the piece has bytes, and does not flush. The number of
+/// bytes that the sink accepted is added to `tally`, which saturates at 2^64 - 1.
 ///
-/// Answers [`IoFailed`] where the sink fails before it has the whole piece: it has taken the first
-/// bytes of the piece, as many as the tally has grown by, and nothing else, and it stays failed. So a
-/// piece that has bytes is answered by `Ok` exactly where the sink works when the call ends. The empty
-/// piece makes no call: it is written to whatever sink, also to one that has failed.
+/// Returns [`IoFailed`] if the sink fails before the whole piece is written. Then the sink has accepted a prefix of the
+/// piece, as many bytes as were added to `tally`, and nothing else, and stays failed. So a nonempty piece returns `Ok` if
+/// and only if the sink has not failed when the call ends. The empty piece makes no call and succeeds for every sink, even
+/// one that has failed.
 pub fn put_all<W: Sink>(sink: &mut W, tally: &mut u64, piece: &[u8]) -> Result<(), IoFailed>
     ensures written { OnOk result (Grows W.holds sink.old sink.new piece.now) }
     ensures tally { OnOk result (tally.new ≡ min (tally.old + length piece.now) (2 ^ 64 - 1)) }

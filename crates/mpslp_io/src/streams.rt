@@ -6,17 +6,17 @@ ghost use Rattle.mpslp_io.specs.Devices.{one_call_more};
 use crate::devices::{IoFailed, Sink, Source};
 use std::io::{Read, Write};
 
-/// What is kept of the calls of a device.
+/// The calls of a device so far.
 #[derive(Clone, Copy)]
 struct Calls {
-    /// Their number, which stays at 2^64 - 1.
+    /// Their number, at most 2^64 - 1.
     count: u64,
     /// Whether one of them failed.
     failed: bool,
 }
 
 impl Calls {
-    /// Of a device that was not called.
+    /// No calls.
     fn none() -> Calls
         ensures { result ≡ record { count = 0; failed = false } }
     {
@@ -26,7 +26,7 @@ impl Calls {
         }
     }
 
-    /// Counts one more call. It is to fail at once where one failed before.
+    /// Counts one more call. Returns an error if an earlier call failed.
     fn start(&mut self) -> Result<(), IoFailed>
         ensures counted { self.new.count ≡ one_call_more self.old.count }
         ensures kept { self.new.failed ≡ self.old.failed }
@@ -36,7 +36,7 @@ impl Calls {
         if self.failed { Err(IoFailed) } else { Ok(()) }
     }
 
-    /// The call that was counted last fails, and so will all later ones.
+    /// Marks the call that was counted last as failed. All later calls fail, too.
     fn fail(&mut self) -> IoFailed
         ensures { self.new ≡ record self.old { failed = true } }
     {
@@ -45,8 +45,7 @@ impl Calls {
     }
 }
 
-/// A source over a reader of std. It has the bytes left that the reader tells to remain, where it
-/// tells them.
+/// A source that reads from a reader of std. The bytes left are those that the reader has left, if they are known.
 #[derive(Drop)]
 pub struct FromRead<R> {
     reader: R,
@@ -54,7 +53,7 @@ pub struct FromRead<R> {
 }
 
 impl<R: Read> FromRead<R> {
-    /// A source that has not failed and was not called, over a reader as it stands.
+    /// A source that reads from this reader, from its current position. It has not failed and has no calls.
     pub fn new(reader: R) -> FromRead<R>
         ensures left { ⟦<FromRead<R> as Source>⟧.left result ≡ R.remaining reader }
         ensures works { ⟦<FromRead<R> as Source>⟧.failed result ≡ false }
@@ -66,7 +65,7 @@ impl<R: Read> FromRead<R> {
         }
     }
 
-    /// The reader, as it stands: it has the bytes left that the source had.
+    /// The reader at its current position: it has the bytes left that the source had.
     pub fn into_inner(self) -> R
         ensures { R.remaining result ≡ ⟦<FromRead<R> as Source>⟧.left self }
     {
@@ -74,9 +73,8 @@ impl<R: Read> FromRead<R> {
     }
 }
 
-/// Each `read` reads once, and not at all where an earlier one failed. Whatever error the reader
-/// answers is a failure, [`Interrupted`](std::io::ErrorKind::Interrupted) too. A buffer without room is
-/// handed to the reader like any other.
+/// Each `read` reads once, or not at all after a failure. Every error of the reader is a failure, also
+/// [`Interrupted`](std::io::ErrorKind::Interrupted). An empty buffer is passed to the reader like any other.
 impl<R: Read> Source for FromRead<R> {
     ghost left = { λ s. R.remaining s.reader };
 
@@ -101,7 +99,7 @@ impl<R: Read> Source for FromRead<R> {
     }
 }
 
-/// A sink over a writer of std. It holds the bytes that the writer tells to hold, where it tells them.
+/// A sink that writes to a writer of std. It holds the bytes that the writer holds, if they are known.
 #[derive(Drop)]
 pub struct ToWrite<W> {
     writer: W,
@@ -109,7 +107,7 @@ pub struct ToWrite<W> {
 }
 
 impl<W: Write> ToWrite<W> {
-    /// A sink that has not failed and was not called, over a writer as it stands.
+    /// A sink that writes to this writer, after what was written before. It has not failed and has no calls.
     pub fn new(writer: W) -> ToWrite<W>
         ensures holds { (bytes : List ℕ) → ⟦<ToWrite<W> as Sink>⟧.holds result bytes ↔ (W.contents writer ≡ Some bytes) }
         ensures works { ⟦<ToWrite<W> as Sink>⟧.failed result ≡ false }
@@ -121,7 +119,7 @@ impl<W: Write> ToWrite<W> {
         }
     }
 
-    /// The writer, as it stands: it holds the bytes that the sink held. It is not flushed.
+    /// The writer: it holds the bytes that the sink held. It is not flushed.
     pub fn into_inner(self) -> W
         ensures { (bytes : List ℕ) → ⟦<ToWrite<W> as Sink>⟧.holds self bytes ↔ (W.contents result ≡ Some bytes) }
     {
@@ -129,10 +127,9 @@ impl<W: Write> ToWrite<W> {
     }
 }
 
-/// Each `write` writes once and each `flush` flushes once, and not at all where an earlier call failed.
-/// Whatever error the writer answers is a failure,
-/// [`Interrupted`](std::io::ErrorKind::Interrupted) too, and so is a write that takes 0 bytes of a piece
-/// that has some. The empty piece is handed to the writer like any other.
+/// Each `write` writes once and each `flush` flushes once, or not at all after a failure. Every error of the writer is a
+/// failure, also [`Interrupted`](std::io::ErrorKind::Interrupted), and so is a write that accepts 0 bytes of a nonempty
+/// piece. The empty piece is passed to the writer like any other.
 impl<W: Write> Sink for ToWrite<W> {
     ghost holds = { λ s bytes. W.contents s.writer ≡ Some bytes };
 

@@ -1,4 +1,4 @@
-//! Jobs, and why words ask for none.
+//! Jobs, and why arguments give none.
 
 use crate::word::Word;
 
@@ -9,7 +9,7 @@ pub enum Form {
     Lp,
 }
 
-/// What the words of the command line ask for. A path of `-` is standard input.
+/// A job that the arguments of the command line ask for. The path `-` is standard input.
 #[derive(Debug, Drop)]
 pub enum Job {
     /// Write the canonical text of a file in a format.
@@ -20,7 +20,7 @@ pub enum Job {
         to: Form,
         path: Word,
     },
-    /// Tell whether two files declare the same model. At most one of them is standard input.
+    /// Compare two files: whether they declare the same model. At most one of them is standard input.
     Same {
         first_form: Form,
         first: Word,
@@ -34,17 +34,18 @@ pub enum Job {
     },
 }
 
-/// Why words ask for no job. The first that applies is told, and want of memory where it happens.
+/// Why the arguments give no job. Of several reasons the first in this list is reported, but `OutOfMemory` as soon as it
+/// occurs.
 #[derive(Debug, Drop)]
 pub enum JobFault {
-    /// Help, or the version, was asked for: this text.
+    /// Help or the version was requested: this is its text.
     Help(Word),
-    /// The words are no command: this text tells why.
+    /// The arguments are not a command: this text says why.
     Usage(Word),
-    /// This word stands where a format is named, and names none.
+    /// This argument is not the name of a format.
     UnknownFormat(Word),
     /// Both files of a comparison are standard input.
     BothInputs,
-    /// There was no memory.
+    /// An allocation failed.
     OutOfMemory,
 }

@@ -1,7 +1,7 @@
-//! The jobs of a program: what the words of its command line ask for.
+//! The jobs of the program: what the arguments of its command line ask for.
 //!
-//! They stand in a crate of their own, so that what makes them of words knows no models, and what does them knows no command
-//! line.
+//! Jobs are in a crate of their own. So the crate that makes them from arguments does not depend on models, and the crate
+//! that does them does not depend on the command line.
 #![tactic(auto)]
 
 mod jobs;

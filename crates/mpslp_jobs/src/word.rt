@@ -1,4 +1,4 @@
-//! A text of its own.
+//! A text that a job owns.
 
 ghost use Rattle.std.specs.Prelude.{◌≡◌, IfOk, IfErr, string_bytes};
 
@@ -6,7 +6,7 @@ use crate::jobs::JobFault;
 use std::alloc::Global;
 use std::marker::Model;
 
-/// A word of the command line, or a text that is to be told. Contracts see its bytes.
+/// An argument of the command line, or a text to print. Contracts see its bytes.
 #[derive(Debug, Drop)]
 pub struct Word {
     text: String,
@@ -21,11 +21,11 @@ impl Model for Word {
 }
 
 impl Word {
-    /// A word with this text.
+    /// A copy of this text.
     ///
     /// # Errors
     ///
-    /// [`OutOfMemory`](JobFault::OutOfMemory) alone, where memory was refused.
+    /// Only [`OutOfMemory`](JobFault::OutOfMemory), if an allocation fails.
     pub fn new(alloc: Global, text: &str) -> Result<Word, JobFault>
         ensures text { IfOk result (λ word. word ≡ text.now) }
         ensures memory { IfErr result (λ fault. fault ≡ JobFault.OutOfMemory) }
@@ -36,14 +36,14 @@ impl Word {
         }
     }
 
-    /// A word that is this text. It takes no memory.
+    /// Takes over this text. Does not allocate.
     pub fn of(own: String) -> Word
         ensures { result ≡ string_bytes own }
     {
         Word { text: own }
     }
 
-    /// The text. It takes no memory.
+    /// The text. Does not allocate.
     pub fn as_str(&self) -> &str
         ensures { result.now ≡ self.now }
     {

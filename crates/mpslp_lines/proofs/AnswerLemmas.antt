@@ -1,5 +1,4 @@
--- Laws of a format's text and of the answer of its reader, from its two halves: bytes that declare a model have no first
--- fault, and bytes that have none declare one.
+-- Laws of a format and of the result of its reader: bytes that declare a model have no first error, and all others do.
 use Rattle.std.proofs.Common.{◌≡◌, refl, sym, subst, ◌∙◌, ℕ, List}
 use Rattle.std.specs.Prelude.{Option, Some, None, Result, Ok, Err, IsErrAnd, MatchResult}
 use Rattle.mpslp_model_core.specs.Model.{LinearModel}
@@ -30,9 +29,9 @@ pub no_fault-unless : (o : Option Fault) → ((fault : Fault) → o ≡ Some fau
 no_fault-unless None h = refl
 no_fault-unless (Some fault) h = absurd (h fault refl)
 
--- ---- answers
+-- ---- results
 
--- the end of a builder that holds the draft of the bytes
+-- the end of a builder that has the draft of the bytes
 pub finished-answers : (Declares : List ℕ → LinearModel → Type 0) (first_fault : List ℕ → Option Fault) (bytes : List ℕ) (draft : Draft) (answer : Result LinearModel ReadFault)
     → first_fault bytes ≡ file_fault draft → (first_fault bytes ≡ None → Declares bytes (model_of draft))
     → Finishes draft answer → IsAnswerTo Declares (IsFirst first_fault) bytes answer
@@ -41,7 +40,7 @@ finished-answers Declares first_fault bytes draft (Err (File first)) fault compl
 finished-answers Declares first_fault bytes draft (Err Failed) fault complete f = absurd f
 finished-answers Declares first_fault bytes draft (Err OutOfMemory) fault complete f = tt
 
--- of a call that ends by this error: of a line, and of a text
+-- of a call that ends with this error: of a line, and of a text
 pub ends-by : (answer : LineResult) (error : LineError) (IsRead : Type 0) (first_fault : Option FaultKind) → IsErrAnd answer (λ e. e ≡ error) → IsErrorOf first_fault error
     → MatchResult answer (λ _. IsRead) (IsErrorOf first_fault)
 ends-by (Ok x) error IsRead first_fault h k = absurd h

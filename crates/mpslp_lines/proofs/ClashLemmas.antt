@@ -1,5 +1,4 @@
--- A column that would be both integer and semi-continuous: the one refusal whose kind comes before all else that is told of
--- what a line declares.
+-- A column that would be both integer and semi-continuous: its error comes before all other errors of what a line declares.
 use Rattle.std.proofs.Common.{◌≡◌, refl, ap, ◌∙◌, List, [], ◌∷◌, ◌++◌, Bool, true, false, cond}
 use Rattle.std.specs.Prelude.{◌||◌}
 use Rattle.std.specs.List.{list_any, list_all}
@@ -20,7 +19,7 @@ pub clash-append : (xs ys : Declarations) (earlier : Draft) → has_kind_clash e
 clash-append xs ys earlier =
     ap (list_any is_kind_clash) (refusals_in_turn-append xs ys earlier) ∙ list_any-append is_kind_clash (refusals_in_turn earlier xs) (refusals_in_turn (with_declarations earlier xs) ys)
 
--- ---- declarations that say nothing of a column's kind
+-- ---- declarations that do not concern the type of a column
 
 abbrev pub says_no_kind : Declaration → Bool
 says_no_kind (declare_marked c) = false

@@ -1,4 +1,4 @@
--- The first fault of declarations one after another, and of declarations without one.
+-- The first error of declarations one after another, and of declarations without an error.
 use Rattle.std.proofs.Common.{◌≡◌, refl, ap, ◌∙◌, List, [], ◌∷◌, ◌++◌, Bool, true, false, cond, map}
 use Rattle.std.specs.Prelude.{nat_lt, Option, Some, None}
 use Rattle.std.specs.Option.{option_map_or}
@@ -11,11 +11,11 @@ use Rattle.mpslp_lines.specs.Declaring.{kind_of_build_fault, declaring_faults, d
 use Rattle.mpslp_lines.proofs.LeastLemmas.{is_from, earlier_of}
 use Rattle.mpslp_lines.proofs.RefusedLemmas.{declared-append}
 
--- what comes after declarations that have no fault
+-- what comes after declarations without an error
 pub declared-after : (earlier : Draft) (xs ys : Declarations) → declared_fault earlier xs ≡ None → declared_fault earlier (xs ++ ys) ≡ declared_fault (with_declarations earlier xs) ys
 declared-after earlier xs ys none = declared-append xs ys earlier ∙ ap (λ (o : Option FaultKind). earlier_of o (declared_fault (with_declarations earlier xs) ys)) none
 
--- declarations without a fault are not refused
+-- declarations without an error are not rejected
 pub unrefused : (earlier : Draft) (ds : Declarations) → declaring_faults earlier ds ≡ [] → refusals_in_turn earlier ds ≡ []
 unrefused earlier ds h = by (refusals_in_turn earlier ds) h
   where
@@ -23,7 +23,7 @@ unrefused earlier ds h = by (refusals_in_turn earlier ds) h
     by [] e = refl
     by (refusal ∷ more) e = cc
 
--- ---- kinds that come not before one
+-- ---- kinds that do not come before a given one
 
 abbrev pub are_from : FaultKind → Option FaultKind → Bool
 are_from kind o = option_map_or (is_from kind) o true

@@ -1,4 +1,4 @@
--- Names without a fault are legal, and the values of literals are decimals.
+-- Names without an error are legal, and the values of literals are decimals.
 use Rattle.std.proofs.Common.{◌≡◌, refl, List, [], ◌∷◌, ◌++◌, ℕ, Bool, true, false, cond}
 use Rattle.std.specs.Prelude.{not, Result, Ok, Err}
 use Rattle.std.specs.List.{list_all}
@@ -16,7 +16,7 @@ use Rattle.mpslp_types.proofs.BoolLemmas.{both_so, so_not}
 use Rattle.mpslp_lines.specs.FaultTests.{FaultTests}
 use Rattle.mpslp_lines.specs.Field.{name_tests, value_of}
 
--- the tests of a name stand before others
+-- the tests of a name come before others
 pub name-legal : (name : List ℕ) (more : FaultTests) → those_of (name_tests name ++ more) ≡ [] → is_mps_name name ≡ true
 name-legal name more h = by (has_name_length name) (list_all is_visible name) (same_bytes name marker) refl refl refl h
   where
@@ -38,7 +38,7 @@ value-decimal literal = by (number_of literal) refl
     by (Ok d) e = read_decimal literal d e
     by (Err fault) e = refl
 
--- a decimal, or an infinite side in its place, may be declared as a side
+-- a decimal, or an infinite limit instead of it, may be declared as a limit
 pub limit-given : (d : Number) → is_decimal d ≡ true → is_given (limit_of d) ≡ true
 limit-given d h = by (is_infinite_size d) (is_negative d) refl
   where

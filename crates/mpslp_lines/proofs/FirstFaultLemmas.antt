@@ -1,5 +1,6 @@
--- The first fault of a line is the first one of its form, or else the least of what it declares: all kinds of refusals
--- come from UnknownRow on, but for a column that would be both integer and semi-continuous, which comes before both.
+-- The first error of a line is that of its form, or else the least of what it declares.
+-- Errors of declarations have kinds from UnknownRow on, except for a column that would be both integer and semi-continuous,
+-- which comes before both.
 use Rattle.std.proofs.Common.{◌≡◌, refl, ap, ◌∙◌, ℕ, List, [], ◌∷◌, ◌++◌, Bool, true, false, cond, map, arith}
 use Rattle.std.specs.Prelude.{◌||◌, nat_le, nat_lt, Option, Some, None}
 use Rattle.std.specs.List.{list_any, list_all}
@@ -47,7 +48,7 @@ late_kinds (fault ∷ faults) h =
     let parts = nor (is_kind_clash fault) (list_any is_kind_clash faults) h in
     both_so (is_from kinds.UnknownRow (kind_of_build_fault fault)) (list_all (is_from kinds.UnknownRow) (map kind_of_build_fault faults)) (late_kind fault parts.0) (late_kinds faults parts.1)
 
--- none comes before a clash of kinds
+-- none comes before a clash of column types
 clash_or_later : (fault : BuildFault) → is_from kinds.SemiContinuous (kind_of_build_fault fault) ≡ true
 clash_or_later builds.DuplicateSense = refl
 clash_or_later builds.SecondObjective = refl
@@ -72,7 +73,7 @@ kept : (p : FaultKind → Bool) (b : Bool) (x y : FaultKind) → p x ≡ true �
 kept p true x y h k = h
 kept p false x y h k = k
 
--- what holds of all holds of the least
+-- a property of all is a property of the least
 least_is : (p : FaultKind → Bool) (faults : List FaultKind) → list_all p faults ≡ true → option_map_or p (least_kind faults) true ≡ true
 least_is p [] h = refl
 least_is p (kind ∷ faults) h = from (least_kind faults) (least_is p faults (second_so (p kind) (list_all p faults) h))
@@ -90,7 +91,7 @@ weaker kind other (Some third) h k = three (kind_rank kind) (kind_rank other) (k
 
 -- ---- both together
 
--- a fault of the form, of a kind that comes before one from which on all of what is declared comes
+-- an error of the form whose kind comes before all kinds of what is declared
 form_before : (tests : FaultTests) (kind from : FaultKind) (earlier : Draft) (ds : Declarations) → are_rising tests ≡ true → first_held tests ≡ Some kind → is_from kind from ≡ true
     → list_all (is_from from) (declaring_faults earlier ds) ≡ true → first_fault tests earlier ds ≡ Some kind
 form_before tests kind from earlier ds rising held early late =
@@ -99,19 +100,19 @@ form_before tests kind from earlier ds rising held early late =
     ∙ ap (λ (o : Option FaultKind). earlier_of o (least_kind faults)) (least-those_of tests rising ∙ held)
     ∙ ap (λ (k : FaultKind). Some k) (stays-least kind (least_kind faults) (weaker kind from (least_kind faults) early (least_is (is_from from) faults late)))
 
--- a fault of the form, of a kind that comes before all of what is declared, where no kinds of a column clash
+-- an error of the form whose kind comes before all of what is declared, if no column types clash
 pub form-first : (tests : FaultTests) (kind : FaultKind) (earlier : Draft) (ds : Declarations) → are_rising tests ≡ true → first_held tests ≡ Some kind → is_from kind kinds.UnknownRow ≡ true
     → has_kind_clash earlier ds ≡ false → first_fault tests earlier ds ≡ Some kind
 form-first tests kind earlier ds rising held early none =
     form_before tests kind kinds.UnknownRow earlier ds rising held early (late_kinds (refusals_in_turn earlier ds) none)
 
--- the same of a kind that comes before a clash too
+-- the same for a kind that also comes before a clash
 form-earliest : (tests : FaultTests) (kind : FaultKind) (earlier : Draft) (ds : Declarations) → are_rising tests ≡ true → first_held tests ≡ Some kind → is_from kind kinds.SemiContinuous ≡ true
     → first_fault tests earlier ds ≡ Some kind
 form-earliest tests kind earlier ds rising held early =
     form_before tests kind kinds.SemiContinuous earlier ds rising held early (clash_or_later_all (refusals_in_turn earlier ds))
 
--- the least of refusals is a clash of kinds, where one is
+-- the least error is a clash of column types, if there is one
 clash-least : (refusals : List BuildFault) → list_any is_kind_clash refusals ≡ true → least_kind (map kind_of_build_fault refusals) ≡ Some kinds.SemiContinuous
 clash-least [] h = cc
 clash-least (fault ∷ faults) h = by fault (clash-least faults) h
@@ -135,11 +136,11 @@ clash-least (fault ∷ faults) h = by fault (clash-least faults) h
     by builds.InfiniteValue later there = ap (λ (o : Option FaultKind). Some (lesser kinds.InfiniteValue o)) (later there)
     by builds.OutOfMemory later there = ap (λ (o : Option FaultKind). Some (lesser kinds.DuplicateEntry o)) (later there)
 
--- the kind comes behind a clash of kinds
+-- the kind comes after a clash of column types
 abbrev pub is_behind_clash : FaultKind → Bool
 is_behind_clash kind = nat_lt (kind_rank kinds.SemiContinuous) (kind_rank kind)
 
--- kinds of a column that clash are told before all that is asked of a line's form behind that
+-- a clash of column types is reported before the later tests of the form of a line
 pub clash-first : (tests : FaultTests) (earlier : Draft) (ds : Declarations) → are_rising tests ≡ true → list_all (λ test. is_behind_clash test.1) tests ≡ true → has_kind_clash earlier ds ≡ true
     → first_fault tests earlier ds ≡ Some kinds.SemiContinuous
 clash-first tests earlier ds rising behind clash =
@@ -152,19 +153,19 @@ clash-first tests earlier ds rising behind clash =
     from (Some kind) held =
         ap (λ (b : Bool). Some (cond b kinds.SemiContinuous kind)) (held-among is_behind_clash tests kind behind held)
 
--- no fault of the form
+-- no error of the form
 pub declared-first : (tests : FaultTests) (earlier : Draft) (ds : Declarations) → are_rising tests ≡ true → first_held tests ≡ None
     → first_fault tests earlier ds ≡ declared_fault earlier ds
 declared-first tests earlier ds rising held =
     least-append (those_of tests) (declaring_faults earlier ds) ∙ ap (λ (o : Option FaultKind). earlier_of o (least_kind (declaring_faults earlier ds))) (least-those_of tests rising ∙ held)
 
--- ---- no fault
+-- ---- no error
 
 pub record IsFaultless (tests : FaultTests) (earlier : Draft) (ds : Declarations) : Type 0 where
   pub form : those_of tests ≡ []
   pub unrefused : refusals_in_turn earlier ds ≡ []
 
--- A line has no fault where its form has none and none of its declarations is refused.
+-- A line has no error if its form has none and none of its declarations is rejected.
 pub faultless : (tests : FaultTests) (earlier : Draft) (ds : Declarations) → first_fault tests earlier ds ≡ None → IsFaultless tests earlier ds
 faultless tests earlier ds h =
     let forms = those_of tests in
@@ -175,7 +176,7 @@ faultless tests earlier ds h =
 pub no_fault : (tests : FaultTests) (earlier : Draft) (ds : Declarations) → those_of tests ≡ [] → refusals_in_turn earlier ds ≡ [] → first_fault tests earlier ds ≡ None
 no_fault tests earlier ds form none = λ i. least_kind (form i ++ map kind_of_build_fault (none i))
 
--- ---- length and bytes, which come before all else
+-- ---- length and bytes, which come first
 
 pub too-long : (line outside : List ℕ) (tests : FaultTests) (earlier : Draft) (ds : Declarations) → are_rising (legal_tests line outside ++ tests) ≡ true → has_legal_length line ≡ false
     → first_fault (legal_tests line outside ++ tests) earlier ds ≡ Some kinds.LineTooLong

@@ -1,4 +1,4 @@
--- The first test that holds, where more tests stand behind; and tests of which none holds.
+-- The first failing test, if more tests come after it; and tests none of which fails.
 use Rattle.std.proofs.Common.{◌≡◌, refl, sym, ap, ◌∙◌, [], ◌∷◌, ◌++◌, Bool, true, false, cond, append_assoc}
 use Rattle.std.specs.Prelude.{Option, Some, None}
 use Rattle.std.specs.List.{list_all}
@@ -22,11 +22,11 @@ held_some tests more kind h = held-append tests more ∙ ap (λ (o : Option Faul
 pub held_none : (tests more : FaultTests) → first_held tests ≡ None → first_held (tests ++ more) ≡ first_held more
 held_none tests more h = held-append tests more ∙ ap (λ (o : Option FaultKind). option_or o (first_held more)) h
 
--- of tests in three parts, where the first two are judged together
+-- tests in three parts, of which the first two are taken together
 pub held-third : (tests more last : FaultTests) → first_held (tests ++ (more ++ last)) ≡ option_or (first_held (tests ++ more)) (first_held last)
 held-third tests more last = ap first_held (sym (append_assoc tests more last)) ∙ held-append (tests ++ more) last
 
--- what holds of the kinds of all tests holds of the first that holds
+-- a property of the kinds of all tests is a property of the first failing one
 pub held-among : (p : FaultKind → Bool) (tests : FaultTests) (kind : FaultKind) → list_all (λ test. p test.1) tests ≡ true → first_held tests ≡ Some kind → p kind ≡ true
 held-among p [] kind h held = cc
 held-among p (test ∷ tests) kind h held =
@@ -36,7 +36,7 @@ held-among p (test ∷ tests) kind h held =
     by true k more e = let same : kind ≡ test.1 = cc in ap p same ∙ k
     by false k more e = more e
 
--- ---- tests of which none holds
+-- ---- tests none of which fails
 
 pub first_test : (b : Bool) (kind : FaultKind) (more : FaultTests) → those_of ((b, kind) ∷ more) ≡ [] → b ≡ false
 first_test true kind more h = cc

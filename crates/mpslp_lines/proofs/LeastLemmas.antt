@@ -1,4 +1,4 @@
--- The least kind of tests in the order of kinds is that of the first test that holds.
+-- The least kind of failing tests in the order of kinds is that of the first one.
 use Rattle.std.proofs.Common.{◌≡◌, refl, ap, ◌∙◌, ℕ, List, [], ◌∷◌, ◌++◌, Bool, true, false, cond, arith}
 use Rattle.std.specs.Prelude.{nat_le, nat_lt, ◌&&◌, Option, Some, None}
 use Rattle.std.specs.List.{list_all}
@@ -30,7 +30,7 @@ held-from kind (test ∷ more) h =
       | false ↦ held-from kind more (second_so (is_from kind test.1) (list_all (λ later. is_from kind later.1) more) h)
     ]
 
--- the lesser of a kind and perhaps another, as in `least_kind`
+-- the lesser of a kind and an optional one, as in `least_kind`
 abbrev pub lesser : FaultKind → Option FaultKind → FaultKind
 lesser kind o = elim o as (λ _. FaultKind) [ None ↦ kind | Some other ↦ cond (nat_lt (kind_rank other) (kind_rank kind)) other kind ]
 

@@ -1,4 +1,4 @@
--- The lines that bstr finds are those of std's word.
+-- The lines that bstr finds are those of std's `lines`.
 use Rattle.std.proofs.Common.{◌≡◌, refl, sym, ap, ◌∙◌, List, [], ◌∷◌, ◌++◌, length, take, drop, ℕ, zero, suc, Bool, true, false, map, arith, ◌<◌, ◌≤◌, ◌+◌, ◌-◌, ◌⊎◌, inl, inr, length-append}
 use Rattle.std.specs.Prelude.{nat_lt, ◌==◌, slice_index}
 use Rattle.std.specs.List.{slice_split}
@@ -12,7 +12,7 @@ use Rattle.bstr.proofs.lemmas.LineLemmas.{lines-nil, lines-step}
 abbrev pub is_feed : ℕ → Bool
 is_feed b = b == 10
 
--- no line feed, or the first line and what follows its line feed
+-- no line feed, or the first line and the rest after its line feed
 pub record Whole (w : List ℕ) : Type 0 where
   pub split : slice_split is_feed w ≡ w ∷ []
   pub len : line_len w ≡ length w

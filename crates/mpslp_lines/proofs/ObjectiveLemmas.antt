@@ -5,7 +5,7 @@ use Rattle.mpslp_builder.specs.Declaration.{Declaration, declare_sense, declare_
 use Rattle.mpslp_builder.specs.Consistency.{has_objective}
 use Rattle.mpslp_types.proofs.BoolLemmas.{or_right}
 
--- a name that is there stays
+-- a name of the objective stays
 stays-named : (all : Draft) (d : Declaration) → is_some all.objective ≡ true → is_some (with_declaration all d).objective ≡ true
 stays-named all (declare_objective n) h = refl
 stays-named all (declare_sense s) h = h
@@ -26,7 +26,7 @@ pub named-after : (ds : Declarations) (all : Draft) → is_some all.objective �
 named-after [] all h = h
 named-after (d ∷ ds) all h = named-after ds (with_declaration all d) (stays-named all d h)
 
--- an objective that is there was there, or is declared
+-- an objective that exists after declarations existed before or is declared by them
 pub objective-declared : (ds : Declarations) (all : Draft) → is_some (with_declarations all ds).objective ≡ true → (is_some all.objective || has_objective ds) ≡ true
 objective-declared [] all h = ap (λ (b : Bool). b || false) h
 objective-declared (d ∷ ds) all h = by d (objective-declared ds (with_declaration all d) h)

@@ -84,7 +84,7 @@ module _ {L : Type 0} (has_read : L → List (List ℕ) → Type 0) (at_end : L 
         kept = subst (Keeps new.open_line) (sym (unread-none (at_end new.lines) (bytes ++ 10 ∷ []) (open_tail-ended bytes))) anew;
       }
 
-  -- whole lines, where no line is kept
+  -- whole lines, if no line is kept
   from_start : (old : PieceReader L) (bytes : List ℕ) → at_end old.lines ≡ false → Keeps old.open_line [] → IsFed has_read at_end old bytes → open_tail bytes ≡ []
   from_start old bytes unended anew h = keeps-none old.open_line (open_tail bytes) anew (fed-open old bytes h unended)
 
@@ -116,10 +116,10 @@ module _ {L : Type 0} (has_read : L → List (List ℕ) → Type 0) (at_end : L 
   whole-line old new line unended some line_is read bytes h =
       subst (has_read new.lines) (whole_last old bytes line unended some h (line_is (open_tail bytes) (fed-open old bytes h unended))) (read (complete_lines bytes) h.complete)
 
-  -- ---- behind the line that ends it
+  -- ---- after the line that ends it
 
   module _ (behind_end : (reader : L) (text more : List (List ℕ)) → has_read reader text → at_end reader ≡ true → has_read reader (text ++ more)) where
-    -- behind the line that ends the text
+    -- after the line that ends the text
     pub behind-fed : (reader : PieceReader L) (more bytes : List ℕ) → at_end reader.lines ≡ true → IsFed has_read at_end reader bytes → IsFed has_read at_end reader (bytes ++ more)
     behind-fed reader more bytes ended h =
         let r = reader.lines in
@@ -134,7 +134,7 @@ module _ {L : Type 0} (has_read : L → List (List ℕ) → Type 0) (at_end : L 
     whole-behind reader ended bytes h =
         subst (has_read reader.lines) (sym (lines-are bytes)) (behind_end reader.lines (complete_lines bytes) (last_line (open_tail bytes)) h.complete ended)
 
-  -- ---- what is refused
+  -- ---- errors
 
   module _ (lines_fault : List (List ℕ) → Fault → Type 0) where
     pub refuses-end : (old : PieceReader L) (error : ReadFault) → WasFed has_read at_end old → at_end old.lines ≡ false
@@ -151,7 +151,7 @@ module _ {L : Type 0} (has_read : L → List (List ℕ) → Type 0) (at_end : L 
     refuses-lines old part Failed unended anew whole h = h
     refuses-lines old part OutOfMemory unended anew whole h = tt
 
-    -- parts behind one another
+    -- consecutive parts
     pub refuses-behind : (old mid : PieceReader L) (part rest piece : List ℕ) (error : ReadFault) → part ++ rest ≡ piece → ((bytes : List ℕ) → IsFed has_read at_end old bytes → IsFed has_read at_end mid (bytes ++ part))
         → RefusesPiece has_read at_end lines_fault mid rest error → RefusesPiece has_read at_end lines_fault old piece error
     refuses-behind old mid part rest piece (File fault) is first h = λ bytes fed.
@@ -165,13 +165,13 @@ module _ {L : Type 0} (has_read : L → List (List ℕ) → Type 0) (at_end : L 
         subst (IsFed has_read at_end new) (append_assoc bytes part rest ∙ ap (λ l. bytes ++ l) is) (h (bytes ++ part) (first bytes fed))
     then-feeds old mid new part rest piece (Err error) is first h = refuses-behind old mid part rest piece error is first h
 
-    -- a call that ends by this error
+    -- a call that ends with this error
     pub ends-feed : (old new : PieceReader L) (piece : List ℕ) (error : ReadFault) (answer : Result (Unit {0}) ReadFault) → IsErrAnd answer (λ e. e ≡ error)
         → RefusesPiece has_read at_end lines_fault old piece error → Feeds has_read at_end lines_fault old piece new answer
     ends-feed old new piece error (Ok x) is h = absurd is
     ends-feed old new piece error (Err found) is h = subst (RefusesPiece has_read at_end lines_fault old piece) (sym is) h
 
-    -- what a reader answers that fed the piece
+    -- what a reader returns that has read the piece
     pub feed-refused : {R : Type 0} (after : R → List ℕ → Type 0) (refused : R → Bool) (old new : R) (reader : PieceReader L) (piece : List ℕ) (error : ReadFault)
         (answer : Result (Unit {0}) ReadFault) → IsErrAnd answer (λ e. e ≡ error) → ((bytes : List ℕ) → after old bytes → IsFed has_read at_end reader bytes)
         → RefusesPiece has_read at_end lines_fault reader piece error → IsFedBy after (λ bytes fault. lines_fault (complete_lines bytes) fault) refused old piece new answer

@@ -6,7 +6,7 @@ use Rattle.mpslp_types.specs.declared.faults.ReadFault.{ReadFault}
 use Rattle.mpslp_types.specs.declared.faults.ReadFault.TheVariants.{File, Failed, OutOfMemory}
 use Rattle.mpslp_lines.specs.LinesRead.{IsReader, RefusesLines, ReadsOn}
 
--- of these lines some were read, and the others are left
+-- some of these lines were read, and the others are left
 pub record Passed {L : Type 0} (has_read : L → List (List ℕ) → Type 0) (old now : L) (all left : List (List ℕ)) : Type 0 where
   pub done : List (List ℕ)
   pub split : all ≡ done ++ left
@@ -42,7 +42,7 @@ module _ {L : Type 0} (has_read : L → List (List ℕ) → Type 0) where
     passed-all old now all left p e = λ before led.
         subst (λ l. has_read now (before ++ l)) (sym (p.split ∙ ap (λ l. p.done ++ l) e ∙ append-nil p.done)) (p.reads before led)
 
-    -- all up to one that is refused
+    -- all up to one that is rejected
     module _ (fault_stays : (text more : List (List ℕ)) (fault : Fault) → lines_fault text fault → lines_fault (text ++ more) fault) where
       refuses-next : (old now : L) (all left more : List (List ℕ)) (line : List ℕ) (error : ReadFault) → Passed has_read old now all left → left ≡ line ∷ more
           → RefusesLines has_read lines_fault now (line ∷ []) error → RefusesLines has_read lines_fault old all error

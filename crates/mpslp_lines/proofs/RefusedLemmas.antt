@@ -1,4 +1,4 @@
--- The first fault of declarations that the builder refuses.
+-- The first error of declarations that the builder rejects.
 use Rattle.std.proofs.Common.{◌≡◌, refl, sym, ap, subst, ◌∙◌, List, [], ◌∷◌, ◌++◌, Bool, true, false, cond, map}
 use Rattle.std.specs.Prelude.{Option, Some, None, Ok, Err}
 use Rattle.std.proofs.lemmas.List.{append-nil, map-append}
@@ -23,7 +23,7 @@ RefusalTests = List (Bool × BuildFault)
 abbrev pub kind_tests : RefusalTests → FaultTests
 kind_tests tests = map (λ test. (test.0, kind_of_build_fault test.1)) tests
 
--- ---- the kinds of refusals
+-- ---- the kinds of errors
 
 kinds-those_of : (tests : RefusalTests) → map kind_of_build_fault (those_of tests) ≡ those_of (kind_tests tests)
 kinds-those_of [] = refl
@@ -33,7 +33,7 @@ kinds-those_of (test ∷ tests) =
       | false ↦ kinds-those_of tests
     ]
 
--- the least of refusals whose tests stand in the order of kinds is the first
+-- the least of errors whose tests are in the order of kinds is the first
 pub least-refusal : (tests : RefusalTests) → are_rising (kind_tests tests) ≡ true → least_kind (map kind_of_build_fault (those_of tests)) ≡ first_held (kind_tests tests)
 least-refusal tests rising = ap least_kind (kinds-those_of tests) ∙ least-those_of (kind_tests tests) rising
 
@@ -45,13 +45,13 @@ declared-append xs ys earlier =
     ∙ ap least_kind (map-append kind_of_build_fault (refusals_in_turn earlier xs) (refusals_in_turn (with_declarations earlier xs) ys))
     ∙ least-append (map kind_of_build_fault (refusals_in_turn earlier xs)) (map kind_of_build_fault (refusals_in_turn (with_declarations earlier xs) ys))
 
--- the first fault of one declaration is the first of its tests that holds
+-- the first error of one declaration is that of the first failing test
 pub declared-one : (earlier : Draft) (d : Declaration) → are_rising (kind_tests (refusal_tests earlier d)) ≡ true
     → declared_fault earlier (d ∷ []) ≡ first_held (kind_tests (refusal_tests earlier d))
 declared-one earlier d rising =
     ap (λ (faults : List BuildFault). least_kind (map kind_of_build_fault faults)) (append-nil (refusals earlier d)) ∙ least-refusal (refusal_tests earlier d) rising
 
--- ---- what a call answers
+-- ---- what a call returns
 
 error-of_refusal : (fault : BuildFault) → IsErrorOf (Some (kind_of_build_fault fault)) (error_of_build fault)
 error-of_refusal builds.DuplicateSense = refl
@@ -68,7 +68,7 @@ error-of_refusal builds.SemiContinuous = refl
 error-of_refusal builds.InfiniteValue = refl
 error-of_refusal builds.OutOfMemory = tt
 
--- a call that is refused answers the first test that holds, or there was no memory
+-- a call that is rejected returns the error of the first failing test, or an allocation failed
 pub call-refused : (tests : RefusalTests) (fault : BuildFault) (P Q : Type 0) → Answers (those_of tests) (Err fault) P Q
     → IsErrorOf (first_held (kind_tests tests)) (error_of_build fault)
 call-refused [] fault P Q answer = subst (λ (f : BuildFault). IsErrorOf None (error_of_build f)) (sym answer.0) tt
@@ -86,7 +86,7 @@ pub call-error : (all : Draft) (d : Declaration) (fault : BuildFault) (P Q : Typ
 call-error all d fault P Q rising answer =
     subst (λ (o : Option FaultKind). IsErrorOf o (error_of_build fault)) (sym (declared-one all d rising)) (call-refused (refusal_tests all d) fault P Q answer)
 
--- what would be answered of a declaration is what is answered of it, without want of memory
+-- the check of a declaration returns what the declaration returns, except out of memory
 pub check-none : (all : Draft) (d : Declaration) → are_rising (kind_tests (refusal_tests all d)) ≡ true → Ok tt ≡ first_refusal (refusals all d) → declared_fault all (d ∷ []) ≡ None
 check-none all d rising h = ap (λ (faults : List BuildFault). least_kind (map kind_of_build_fault faults)) (append-nil (refusals all d)) ∙ by (refusals all d) h
   where
@@ -102,7 +102,7 @@ pub check-error : (all : Draft) (d : Declaration) (fault : BuildFault) → are_r
     → IsErrorOf (declared_fault all (d ∷ [])) (error_of_build fault)
 check-error all d fault rising h = call-error all d fault ⊥ (Unit {0}) rising (refused_answers (refusals all d) fault h)
 
--- of a question that is told by its tests
+-- of a check that is defined by its tests
 pub tests-none : (tests : RefusalTests) → Ok tt ≡ first_refusal (those_of tests) → first_held (kind_tests tests) ≡ None
 tests-none [] h = refl
 tests-none (test ∷ tests) h =
@@ -114,7 +114,7 @@ tests-none (test ∷ tests) h =
 pub tests-error : (tests : RefusalTests) (fault : BuildFault) → Err fault ≡ first_refusal (those_of tests) → IsErrorOf (first_held (kind_tests tests)) (error_of_build fault)
 tests-error tests fault h = call-refused tests fault ⊥ (Unit {0}) (refused_answers (those_of tests) fault h)
 
--- a call that is refused changes nothing
+-- a call that is rejected changes nothing
 pub call-unchanged : (faults : List BuildFault) (fault : BuildFault) (P Q : Type 0) → Answers faults (Err fault) P Q → Q
 call-unchanged [] fault P Q answer = answer.1
 call-unchanged (first ∷ faults) fault P Q answer = answer.1

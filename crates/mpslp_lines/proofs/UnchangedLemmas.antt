@@ -1,4 +1,4 @@
--- What stands where a line has a fault.
+-- What holds after a line with an error.
 use Rattle.std.proofs.Common.{◌≡◌, sym, subst, ◌∙◌}
 use Rattle.std.specs.Prelude.{Option, Some, None, Ok, Err, IsErrAnd}
 use Rattle.mpslp_types.specs.declared.faults.FaultKind.{FaultKind}
@@ -8,12 +8,12 @@ use Rattle.mpslp_lines.specs.LineAnswer.{LineResult, IsErrorOf, AreDeclared, IfF
 use Rattle.mpslp_lines.specs.declared.errors.LineError.{LineError}
 use Rattle.mpslp_lines.specs.declared.errors.LineError.TheVariants.{Fault, OutOfMemory}
 
--- of a call that ends by this error
+-- of a call that ends with this error
 pub if_fault-ends : (answer : LineResult) (error : LineError) (Stands : Type 0) → IsErrAnd answer (λ e. e ≡ error) → IfFault (Err error) Stands → IfFault answer Stands
 if_fault-ends (Ok x) error Stands h k = absurd h
 if_fault-ends (Err e) error Stands h k = subst (λ (other : LineError). IfFault (Err other) Stands) (sym h) k
 
--- where there is no fault, there was no memory
+-- without an error of the line, an allocation failed
 pub if_fault-none : (first_fault : Option FaultKind) (error : LineError) (Stands : Type 0) → first_fault ≡ None → IsErrorOf first_fault error → IfFault (Err error) Stands
 if_fault-none first_fault (Fault kind) Stands none is = absurd (never kind (sym none ∙ is))
   where
@@ -21,7 +21,7 @@ if_fault-none first_fault (Fault kind) Stands none is = absurd (never kind (sym 
     never k e = cc
 if_fault-none first_fault OutOfMemory Stands none is = tt
 
--- declarations that have no fault are not refused
+-- declarations without an error are not rejected
 pub if_fault-declared : (earlier later : Draft) (ds : Declarations) (answer : LineResult) (Stands : Type 0) → declared_fault earlier ds ≡ None → AreDeclared earlier ds answer later
     → IfFault answer Stands
 if_fault-declared earlier later ds (Ok x) Stands none h = tt

@@ -1,4 +1,4 @@
--- The faults of what a line declares, and the first fault of a line.
+-- The errors of what a line declares, and the first error of a line.
 use Rattle.std.specs.Prelude.{Bool, true, false, List, ◌++◌, map, Option}
 use Rattle.mpslp_builder.specs.Declaration.{Declarations, Draft}
 use Rattle.mpslp_model_core.specs.Lists.{those_of}
@@ -10,8 +10,8 @@ use Rattle.mpslp_types.specs.declared.faults.FaultKind.{FaultKind}
 use Rattle.mpslp_types.specs.declared.faults.FaultKind.TheVariants as kinds
 use Rattle.mpslp_lines.specs.FaultTests.{FaultTests}
 
--- the kind of a refusal. No line of a good form declares a second sense or objective, and want of memory is no refusal:
--- what stands here for these three is of no account
+-- The kind of an error of the builder. No well-formed line declares a second sense or objective, and out of memory is not an
+-- error of the line: the kinds given here for these three do not matter.
 abbrev pub kind_of_build_fault : BuildFault → FaultKind
 kind_of_build_fault builds.DuplicateSense = kinds.DuplicateEntry
 kind_of_build_fault builds.SecondObjective = kinds.DuplicateEntry
@@ -27,19 +27,19 @@ kind_of_build_fault builds.SemiContinuous = kinds.SemiContinuous
 kind_of_build_fault builds.InfiniteValue = kinds.InfiniteValue
 kind_of_build_fault builds.OutOfMemory = kinds.DuplicateEntry
 
--- the refusal of a column that would be both integer and semi-continuous: its kind comes before those of a line's form
+-- the error of a column that would be both integer and semi-continuous: its kind comes before those of a line's form
 abbrev pub is_kind_clash : BuildFault → Bool
 is_kind_clash builds.SemiContinuous = true
 is_kind_clash _ = false
 
--- the faults of declarations, each after all before it, those of the same line too
+-- the errors of declarations, each after all before it, including those of the same line
 abbrev pub declaring_faults : Draft → Declarations → List FaultKind
 declaring_faults earlier declarations = map kind_of_build_fault (refusals_in_turn earlier declarations)
 
--- the first fault of declarations: the least of all, each judged as if those before it had been made
+-- the first error of declarations: the least of all, each checked as if those before it had been made
 abbrev pub declared_fault : Draft → Declarations → Option FaultKind
 declared_fault earlier declarations = least_kind (declaring_faults earlier declarations)
 
--- the first fault of a line: the least of those of its form, each by its test, and of what it declares
+-- the first error of a line: the least of those of its form and of what it declares
 abbrev pub first_fault : FaultTests → Draft → Declarations → Option FaultKind
 first_fault tests earlier declarations = least_kind (those_of tests ++ declaring_faults earlier declarations)

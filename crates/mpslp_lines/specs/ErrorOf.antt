@@ -1,4 +1,4 @@
--- Why a line is not read whose name, or whose declaration, is refused.
+-- Why a line with a rejected name or declaration is rejected.
 use Rattle.mpslp_types.specs.declared.names.NameFault.{NameFault}
 use Rattle.mpslp_types.specs.declared.names.NameFault.TheVariants as names
 use Rattle.mpslp_types.specs.declared.faults.BuildFault.{BuildFault}

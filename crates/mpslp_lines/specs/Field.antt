@@ -1,4 +1,4 @@
--- Names and number literals: their faults, and the value of a literal.
+-- Names and number literals: their errors, and the value of a literal.
 use Rattle.std.specs.Prelude.{ℕ, Bool, not, ◌==◌, List, [], ◌∷◌, filter_map, Option, Some, None, Result, Ok, Err}
 use Rattle.std.specs.List.{list_any, list_all}
 use Rattle.std.specs.Result.{result_unwrap_or}
@@ -23,7 +23,7 @@ name_tests name =
 
 -- ---- literals
 
--- the value of a literal; of what is none, which is a fault, 0
+-- the value of a literal; 0 for any other text, which is an error
 abbrev pub value_of : List ℕ → Number
 value_of literal = result_unwrap_or (number_of literal) zero_number
 
@@ -33,7 +33,7 @@ kind_of_number_fault numbers.LongNumber = kinds.LongNumber
 kind_of_number_fault numbers.TooManyDigits = kinds.TooManyDigits
 kind_of_number_fault numbers.ExponentRange = kinds.ExponentRange
 
--- the fault of a literal
+-- the error of a literal
 abbrev pub number_fault : List ℕ → Option FaultKind
 number_fault literal = fault (number_of literal)
   where
@@ -44,11 +44,11 @@ number_fault literal = fault (number_of literal)
 abbrev pub is_kind : FaultKind → FaultKind → Bool
 is_kind kind other = kind_rank kind == kind_rank other
 
--- one of the literals has a fault of this kind
+-- one of the literals has an error of this kind
 abbrev pub has_number_fault : List (List ℕ) → FaultKind → Bool
 has_number_fault literals kind = list_any (is_kind kind) (filter_map number_fault literals)
 
--- the literals of a line are judged together: the first kind that one of them has decides
+-- the literals of a line are tested together: the first kind that one of them has decides
 abbrev pub number_tests : List (List ℕ) → FaultTests
 number_tests literals =
     (has_number_fault literals kinds.BadNumber, kinds.BadNumber)

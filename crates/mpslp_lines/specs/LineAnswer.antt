@@ -1,4 +1,4 @@
--- What the code answers of a line and of its declarations, and how the fault of a line is told.
+-- What the code returns for a line and for its declarations, and how the error of a line is reported.
 use Rattle.std.specs.Prelude.{◌≡◌, ℕ, ◌-◌, ◌^◌, min, Option, Some, None, Result, Err, MatchResult}
 use Rattle.mpslp_builder.specs.Declaration.{Declarations, Draft, with_declarations}
 use Rattle.mpslp_types.specs.declared.faults.Fault.{Fault}
@@ -9,9 +9,9 @@ use Rattle.mpslp_lines.specs.Declaring.{declared_fault}
 use Rattle.mpslp_lines.specs.declared.errors.LineError.{LineError}
 use Rattle.mpslp_lines.specs.declared.errors.LineError.TheVariants as lines
 
--- ---- of a line
+-- ---- the result for a line
 
--- the error is the first fault, unless there was no memory
+-- the error is the first error, unless an allocation failed
 abbrev pub IsErrorOf : Option FaultKind → LineError → Type 0
 IsErrorOf first_fault (lines.Fault kind) = first_fault ≡ Some kind
 IsErrorOf first_fault lines.OutOfMemory = Unit {0}
@@ -19,29 +19,29 @@ IsErrorOf first_fault lines.OutOfMemory = Unit {0}
 abbrev pub LineResult : Type 0
 LineResult = Result (Unit {0}) LineError
 
--- what stands where the line has a fault; of want of memory nothing is said
+-- what holds if the line has an error; nothing is stated if an allocation failed
 abbrev pub IfFault : LineResult → Type 0 → Type 0
 IfFault (Err (lines.Fault kind)) Stands = Stands
 IfFault _ Stands = Unit {0}
 
--- Declarations are made where they have no fault.
+-- Declarations without an error are made.
 abbrev pub AreDeclared : Draft → Declarations → LineResult → Draft → Type 0
 AreDeclared earlier declarations answer later =
     let first_fault = declared_fault earlier declarations in
     MatchResult answer (λ _. (first_fault ≡ None) × (later ≡ with_declarations earlier declarations)) (IsErrorOf first_fault)
 
--- ---- of a text
+-- ---- the result for a text
 
--- lines are counted from 1 up to 2^64 - 1; a fault of a line has no name
+-- lines are counted from 1 to at most 2^64 - 1; the error of a line has no name
 abbrev pub fault_on_line : ℕ → FaultKind → Fault
 fault_on_line n kind = record { kind = kind; line = min n (2 ^ 64 - 1); name = None }
 
--- the error of a line is told as a fault on it
+-- the error of a line is reported as an error on this line
 abbrev pub IsFaultOn : ℕ → LineError → ReadFault → Type 0
 IsFaultOn n (lines.Fault kind) answer = answer ≡ reads.File (record { kind = kind; line = n; name = None })
 IsFaultOn n lines.OutOfMemory answer = answer ≡ reads.OutOfMemory
 
--- the fault of a text is the first fault, unless there was no memory
+-- the error of a text is its first error, unless an allocation failed
 abbrev pub IsFaultOf : Option Fault → ReadFault → Type 0
 IsFaultOf first_fault (reads.File fault) = first_fault ≡ Some fault
 IsFaultOf first_fault reads.Failed = ⊥

@@ -1,4 +1,4 @@
--- What a reader answers of lines that it reads behind others.
+-- What a reader returns for further lines.
 use Rattle.std.specs.Prelude.{ℕ, List, ◌++◌, Result, MatchResult}
 use Rattle.mpslp_types.specs.declared.faults.Fault.{Fault}
 use Rattle.mpslp_types.specs.declared.faults.ReadFault.{ReadFault}
@@ -9,13 +9,13 @@ pub record IsReader {L : Type 0} (has_read : L → List (List ℕ) → Type 0) (
   pub text : List (List ℕ)
   pub read : has_read reader text
 
--- One of these lines, read behind others, has the first fault; or there was no memory.
+-- One of these lines, read after others, has the first error; or an allocation failed.
 abbrev pub RefusesLines : {L : Type 0} → (L → List (List ℕ) → Type 0) → (List (List ℕ) → Fault → Type 0) → L → List (List ℕ) → ReadFault → Type 0
 RefusesLines has_read lines_fault old text (File fault) = (before : List (List ℕ)) → has_read old before → lines_fault (before ++ text) fault
 RefusesLines has_read lines_fault old text Failed = ⊥
 RefusesLines has_read lines_fault old text OutOfMemory = Unit {0}
 
--- These lines were read behind others, or why not.
+-- These lines were read after others, or an error is returned.
 abbrev pub ReadsOn : {L : Type 0} → (L → List (List ℕ) → Type 0) → (List (List ℕ) → Fault → Type 0) → L → List (List ℕ) → L → Result (Unit {0}) ReadFault → Type 0
 ReadsOn has_read lines_fault old text new answer =
     MatchResult answer (λ _. (before : List (List ℕ)) → has_read old before → has_read new (before ++ text)) (RefusesLines has_read lines_fault old text)

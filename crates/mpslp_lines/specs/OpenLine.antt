@@ -1,4 +1,4 @@
--- What is kept of a line of which the end has not come yet.
+-- What is kept of an incomplete line.
 use Rattle.std.specs.Prelude.{◌≡◌, ℕ, ◌+◌, nat_lt, Bool, List, [], length, if◌then◌else◌}
 use Rattle.mpslp_lines.specs.declared.legal_line.TheConstants.{MAX_LINE_LEN}
 
@@ -7,11 +7,11 @@ pub record KeptLine : Type 0 where
   pub bytes : List ℕ
   pub is_too_long : Bool
 
--- longer than a line may be, also where a carriage return at its end is none of it
+-- too long, even if a carriage return at its end does not belong to it
 abbrev pub is_beyond : List ℕ → Bool
 is_beyond line = nat_lt (MAX_LINE_LEN + 1) (length line)
 
--- This is kept of the bytes of the line that have come.
+-- This is kept of the bytes of the line so far.
 pub record Keeps (kept : KeptLine) (line : List ℕ) : Type 0 where
   pub too_long : kept.is_too_long ≡ is_beyond line
   pub bytes : kept.bytes ≡ (if is_beyond line then [] else line)

@@ -1,4 +1,4 @@
--- Lines as they are written: each is ended by a line feed.
+-- Lines as they are written: a line feed after each.
 use Rattle.std.specs.Prelude.{ℕ, List, [], ◌∷◌, ◌++◌}
 use Rattle.std.specs.List.{flat_map}
 

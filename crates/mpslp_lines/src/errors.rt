@@ -1,16 +1,16 @@
-//! Why a line is not read.
+//! Why a line is rejected.
 
 ghost use Rattle.mpslp_lines.specs.LineAnswer.{IsFaultOn};
 
 use mpslp_model::{BuildFault, Fault, FaultKind, NameFault, ReadFault};
 use std::alloc::AllocError;
 
-/// Why a line is not read.
+/// Why a line is rejected.
 #[derive(Clone, Copy, Debug, PartialEq, Eq)]
 pub enum LineError {
-    /// The line has this fault.
+    /// The line has this error.
     Fault(FaultKind),
-    /// There was no memory.
+    /// An allocation failed.
     OutOfMemory,
 }
 
@@ -63,7 +63,7 @@ impl From<BuildFault> for LineError {
             BuildFault::UnknownRow => LineError::Fault(FaultKind::UnknownRow),
             BuildFault::UnknownColumn => LineError::Fault(FaultKind::UnknownColumn),
             BuildFault::DuplicateRow => LineError::Fault(FaultKind::DuplicateRow),
-            // No line of a good form declares a second sense or a second objective.
+            // No well-formed line declares a second sense or a second objective.
             BuildFault::DuplicateEntry | BuildFault::DuplicateSense | BuildFault::SecondObjective =>
                 { LineError::Fault(FaultKind::DuplicateEntry) }
             BuildFault::DuplicateRhs => LineError::Fault(FaultKind::DuplicateRhs),
@@ -77,7 +77,7 @@ impl From<BuildFault> for LineError {
     }
 }
 
-/// Why text is not read that has this error on a line. The fault of a line has no name.
+/// The error of a text that has this error on a line. The error of a line has no name.
 pub fn read_fault(line: u64, error: LineError) -> ReadFault
     ensures { IsFaultOn line error result }
 {

@@ -4,24 +4,24 @@ ghost use Rattle.std.specs.Prelude.{◌≡◌};
 ghost use Rattle.std.specs.List.{list_all};
 ghost use Rattle.mpslp_lines.specs.LegalLine.{has_legal_length, is_legal_byte};
 
-/// The most bytes that a line has, comments included, without its line feed or carriage return and line feed.
+/// The most bytes of a line, including comments but not its LF or CRLF.
 pub const MAX_LINE_LEN: usize = 1_048_576;
 
-/// Whether the line has no more bytes than a line may have.
+/// Whether the line is not longer than [`MAX_LINE_LEN`].
 pub fn has_legal_length(line: &[u8]) -> bool
     ensures { result ≡ has_legal_length line.now }
 {
     line.len() <= MAX_LINE_LEN
 }
 
-/// Whether the byte may stand outside a comment.
+/// Whether the byte is legal outside a comment.
 fn is_legal_byte(byte: u8) -> bool
     ensures { result ≡ is_legal_byte byte }
 {
     (byte == b'\t') | ((32 <= byte) & (byte <= 126))
 }
 
-/// Whether each byte may stand outside a comment. All bytes are looked at, so that many are looked at at once.
+/// Whether each byte is legal outside a comment. The loop does not stop early, so that it can be vectorized.
 pub fn are_legal_bytes(text: &[u8]) -> bool
     ensures { result ≡ list_all is_legal_byte text.now }
 {

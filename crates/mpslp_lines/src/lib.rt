@@ -1,12 +1,13 @@
-//! What a reader of either text format shares: the limits of a line, the faults of names and number literals, the first
-//! fault of a line after the lines before it, why a line is not read, and texts that come in pieces.
+//! What the readers of both text formats share: the limits of a line, the errors of names and number literals, the first
+//! error of a line in its context, why a line is rejected, and texts that come in pieces.
 //!
 //! Each format has its own lines, tokens and grammar. The definitions are in `specs/`: tests in the order of the kinds of
-//! faults (`FaultTests`), lines of legal length and bytes (`LegalLine`), names and literals (`Field`), the faults of what is
-//! declared (`Declaring`), what is answered of a line (`LineAnswer`) and of lines behind others (`LinesRead`), what is kept of
-//! a line that is not complete (`OpenLine`), and what was read of a text in pieces (`Pieces`).
+//! errors (`FaultTests`), lines of legal length and bytes (`LegalLine`), names and literals (`Field`), the errors of what is
+//! declared (`Declaring`), the result of reading a line (`LineAnswer`) and further lines (`LinesRead`), what is kept of an
+//! incomplete line (`OpenLine`), and what was read of a text in pieces (`Pieces`).
 //!
-//! A format gives [`ReadLines`], what reads its lines one after another, and [`PieceReader`] cuts pieces into lines for it.
+//! A format implements [`ReadLines`], which reads its lines one after another, and [`PieceReader`] divides pieces into lines
+//! for it.
 #![tactic(auto)]
 
 mod errors;

@@ -1,4 +1,4 @@
-//! The ends of lines in a piece of a text.
+//! Line ends in a piece of a text.
 
 ghost use Rattle.std.specs.Prelude.{◌≡◌, ◌∷◌, ◌++◌, [], MatchOption};
 ghost use Rattle.std.specs.Str.Lines.{strip_carriage_return};
@@ -16,7 +16,7 @@ pub(crate) fn without_return(line: &[u8]) -> &[u8]
     }
 }
 
-/// What stands before the first line feed and what follows it, if there is one.
+/// The bytes before the first line feed and those after it, if there is one.
 pub(crate) fn split_at_first_feed(piece: &[u8]) -> Option<(&[u8], &[u8])>
     ensures { MatchOption result (HasNoFeed piece.now) (λ parts. HasNoFeed parts.0.now × ((parts.0.now ++ 10 ∷ []) ++ parts.1.now ≡ piece.now)) }
 {
@@ -26,7 +26,7 @@ pub(crate) fn split_at_first_feed(piece: &[u8]) -> Option<(&[u8], &[u8])>
     }
 }
 
-/// The lines up to the last line feed, with it, and what follows.
+/// The lines up to and including the last line feed, and the rest.
 pub(crate) fn split_behind_last_feed(piece: &[u8]) -> (&[u8], &[u8])
     ensures parts { result.0.now ++ result.1.now ≡ piece.now }
     ensures lines { open_tail result.0.now ≡ [] }

@@ -1,4 +1,4 @@
-//! Number literals: their faults and values.
+//! Number literals: their errors and values.
 
 ghost use Rattle.std.specs.Prelude.{◌≡◌, [], ◌∷◌, nat_lt, if◌then◌else◌, Some, None, MatchResult};
 ghost use Rattle.mpslp_types.specs.FaultOrder.{kind_rank};
@@ -8,7 +8,7 @@ ghost use Rattle.mpslp_lines.specs.Field.{kind_of_number_fault, number_tests, va
 use mpslp_decimal::{Decimal, NumberFault};
 use mpslp_model::FaultKind;
 
-/// The kind of a refusal of a literal.
+/// The error kind for a rejected literal.
 pub fn kind_of_number_fault(fault: NumberFault) -> FaultKind
     ensures { result ≡ kind_of_number_fault fault }
 {
@@ -20,7 +20,7 @@ pub fn kind_of_number_fault(fault: NumberFault) -> FaultKind
     }
 }
 
-/// The refusal of two whose kind comes first, where both are of literals of one line.
+/// The error that comes first, of the literals of one line.
 pub fn lesser_fault(first: NumberFault, second: NumberFault) -> NumberFault
     ensures { result ≡ (if nat_lt (kind_rank (kind_of_number_fault second)) (kind_rank (kind_of_number_fault first)) then second else first) }
 {
@@ -35,7 +35,7 @@ pub fn lesser_fault(first: NumberFault, second: NumberFault) -> NumberFault
 ///
 /// # Errors
 ///
-/// The kind of the literal's first fault: `BadNumber`, `LongNumber`, `TooManyDigits` or `ExponentRange`.
+/// The kind of the literal's first error: `BadNumber`, `LongNumber`, `TooManyDigits` or `ExponentRange`.
 pub fn value_of(literal: &[u8]) -> Result<Decimal, FaultKind>
     ensures { let first_fault = first_held (number_tests (literal.now ∷ [])) in
         MatchResult result (λ value. (first_fault ≡ None) × (value ≡ value_of literal.now)) (λ kind. first_fault ≡ Some kind) }

@@ -1,4 +1,4 @@
-//! A line of which the end has not come yet.
+//! An incomplete line, whose end has not been read yet.
 
 ghost use Rattle.std.specs.Prelude.{◌≡◌, ◌++◌, ◌≤◌, ◌<◌, ◌+◌, ◌↔◌, ℕ, List, [], length, IsTrue, OnOk, MatchOption};
 ghost use Rattle.mpslp_lines.specs.OpenLine.{Keeps};
@@ -7,10 +7,10 @@ use crate::legal_line::MAX_LINE_LEN;
 use std::alloc::{AllocError, Global};
 use std::marker::Model;
 
-/// The most bytes that are kept of a line: those of the longest line, and a carriage return that may be none of it.
+/// The most bytes that are kept of a line: those of the longest line, and a carriage return that may belong to its end.
 const MAX_OPEN_LEN: usize = MAX_LINE_LEN + 1;
 
-/// The bytes of a line of which the end has not come yet. Of a longer line than may be it keeps only that it is too long.
+/// The bytes of an incomplete line. Of a line that is too long it keeps only this fact.
 #[derive(Drop)]
 pub(crate) struct OpenLine {
     bytes: Vec<u8>,
@@ -27,7 +27,7 @@ impl Model for OpenLine {
 }
 
 impl OpenLine {
-    /// No bytes. No memory is taken.
+    /// No bytes. Does not allocate.
     pub(crate) fn new(alloc: Global) -> OpenLine
         ensures { Keeps result [] }
     {
@@ -54,7 +54,7 @@ impl OpenLine {
         Some(self.bytes.as_slice())
     }
 
-    /// Puts more bytes of the line behind those that are there.
+    /// Appends more bytes of the line.
     pub(crate) fn push(&mut self, piece: &[u8]) -> Result<(), AllocError>
         ensures { OnOk result ((line : List ℕ) → Keeps self.old line → Keeps self.new (line ++ piece.now)) }
     {
@@ -69,7 +69,7 @@ impl OpenLine {
         self.bytes.extend_from_slice(piece)
     }
 
-    /// Begins a line anew.
+    /// Starts a new line.
     pub(crate) fn clear(&mut self)
         ensures { Keeps self.new [] }
     {

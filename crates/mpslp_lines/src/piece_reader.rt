@@ -1,4 +1,4 @@
-//! A text that comes in pieces, cut into its lines.
+//! Divides a text that comes in pieces into lines.
 
 ghost use Rattle.std.specs.Prelude.{◌≡◌, ◌∷◌, ℕ, List, [], false, OnOk};
 ghost use Rattle.mpslp_model.specs.CompleteLines.{HasNoFeed};
@@ -12,10 +12,11 @@ use crate::read_lines::{ReadLines, read_lines};
 use mpslp_model::{Model, ReadFault};
 use std::alloc::Global;
 
-/// Reads a text that comes in pieces. Lines that are complete in a piece are read where they lie, and a line that crosses
-/// pieces is put together. After an error it is not to be used any more.
+/// Reads a text that comes in pieces. Lines that are complete within a piece are read in place, and a line that crosses
+/// pieces is put together. After an error the reader must not be used.
 ///
-/// Beside the reader of lines it keeps at most 1,048,577 bytes of the line that is not complete, none where the line that
+/// Besides the reader of lines it keeps at most 1,048,577 bytes of an incomplete line, and none after the line that ends the
+/// text was read. Pieces after that are accepted and ignored.
 /// ends the text was read. Then each piece is taken, and not looked at.
 #[derive(Drop)]
 pub struct PieceReader<L> {
@@ -24,7 +25,7 @@ pub struct PieceReader<L> {
 }
 
 impl<L: ReadLines> PieceReader<L> {
-    /// Nothing was fed. No memory is taken.
+    /// A reader that has read nothing. Does not allocate.
     pub fn new(alloc: Global) -> PieceReader<L>
         ensures { IsFed L.has_read L.at_end result [] }
     {
@@ -47,7 +48,7 @@ impl<L: ReadLines> PieceReader<L> {
         }
     }
 
-    /// Reads the line that is kept, whose line feed has come.
+    /// Reads the line that is kept, after its line feed.
     fn end_line(&mut self) -> Result<(), ReadFault>
         requires fed { WasFed L.has_read L.at_end self.old }
         requires unended { L.at_end self.old.lines ≡ false }
@@ -62,7 +63,7 @@ impl<L: ReadLines> PieceReader<L> {
         Ok(())
     }
 
-    /// Reads a piece that begins with a line.
+    /// Reads a piece that begins at the start of a line.
     fn feed_lines(&mut self, piece: &[u8]) -> Result<(), ReadFault>
         requires fed { WasFed L.has_read L.at_end self.old }
         requires unended { L.at_end self.old.lines ≡ false }
@@ -81,8 +82,8 @@ impl<L: ReadLines> PieceReader<L> {
     ///
     /// # Errors
     ///
-    /// `File` of the fault of the first line that has one, at the piece that completes it; `OutOfMemory` where a growth was
-    /// refused.
+    /// `File` with the error of the first line that has one, at the piece that completes that line; `OutOfMemory` if an
+    /// allocation fails.
     pub fn feed(&mut self, piece: &[u8]) -> Result<(), ReadFault>
         requires { WasFed L.has_read L.at_end self.old }
         ensures { Feeds L.has_read L.at_end L.lines_fault self.old piece.now self.new result }
@@ -104,7 +105,7 @@ impl<L: ReadLines> PieceReader<L> {
         self.feed_lines(rest)
     }
 
-    /// Reads the last line where no line feed ends it.
+    /// Reads the last line if it does not end with a line feed.
     fn end_text(&mut self) -> Result<(), ReadFault>
         requires { WasFed L.has_read L.at_end self.old }
         ensures { EndsText L.has_read L.at_end L.first_fault self.old self.new result }
@@ -121,11 +122,11 @@ impl<L: ReadLines> PieceReader<L> {
         }
     }
 
-    /// What all pieces together declare.
+    /// The model that all pieces together declare.
     ///
     /// # Errors
     ///
-    /// `File` of their first fault; `OutOfMemory` where a growth was refused.
+    /// `File` with their first error; `OutOfMemory` if an allocation fails.
     pub fn finish(mut self) -> Result<Model, ReadFault>
         requires { WasFed L.has_read L.at_end self }
         ensures { (bytes : List ℕ) → IsFed L.has_read L.at_end self bytes → IsAnswerTo L.declares L.first_fault bytes result }

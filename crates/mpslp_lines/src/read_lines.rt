@@ -1,4 +1,4 @@
-//! The lines of a text, read one after another.
+//! The trait of line readers.
 
 ghost use Rattle.std.specs.Prelude.{◌≡◌, ◌∷◌, ◌++◌, ℕ, List, [], Bool, true, false};
 ghost use Rattle.std.specs.Str.Lines.{lines};
@@ -12,25 +12,25 @@ use bstr::ByteSlice;
 use mpslp_model::{Model, ReadFault};
 use std::alloc::Global;
 
-/// Reads the lines of a text one after another, up to the one that ends it, and keeps none of them. After an error it is not
-/// to be used any more.
+/// Reads the lines of a text one after another, up to the one that ends it, and keeps none of them. After an error the
+/// reader must not be used.
 pub trait ReadLines: Drop {
-    /// These lines were read from the first on, up to the one that ends the text, and none of them has a fault.
+    /// These lines were read from the first on, up to the one that ends the text, and none of them has an error.
     ghost has_read: { Self → List (List ℕ) → Type 0 };
 
-    /// The line that ends the text was read. Those behind it are not looked at.
+    /// The line that ends the text was read. Lines after it are ignored.
     ghost at_end: { Self → Bool };
 
-    /// Where a text begins with these lines, one of them has its first fault.
+    /// If a text begins with these lines, its first error is on one of them.
     ghost lines_fault: { List (List ℕ) → Fault → Type 0 };
 
     /// The bytes declare the model.
     ghost declares: { List ℕ → LinearModel → Type 0 };
 
-    /// This is the first fault of the bytes.
+    /// This is the first error of the bytes.
     ghost first_fault: { List ℕ → Fault → Type 0 };
 
-    /// No line was read. No memory is taken.
+    /// A reader that has read nothing. Does not allocate.
     fn new(alloc: Global) -> Self
         ensures { has_read result [] };
 
@@ -38,7 +38,7 @@ pub trait ReadLines: Drop {
     fn is_at_end(&self) -> bool
         ensures { result ≡ at_end self.now };
 
-    /// Why the next line is not read, where it is longer than a line may be.
+    /// The error for the next line if it is too long.
     fn refuse_long(&self) -> ReadFault
         requires unended { at_end self.now ≡ false }
         ensures { (line : List ℕ) → has_legal_length line ≡ false → RefusesLines has_read lines_fault self.now (line ∷ []) result };
@@ -47,32 +47,32 @@ pub trait ReadLines: Drop {
     ///
     /// # Errors
     ///
-    /// `File` of the line's fault, and `OutOfMemory` where a growth was refused.
+    /// `File` with the error of the line; `OutOfMemory` if an allocation fails.
     fn read_line(&mut self, line: &[u8]) -> Result<(), ReadFault>
         requires reader { IsReader has_read self.old }
         requires unended { at_end self.old ≡ false }
         ensures { ReadsOn has_read lines_fault self.old (line.now ∷ []) self.new result };
 
-    /// What the text declares, of which all lines were read.
+    /// The model that the text declares, after all its lines were read.
     ///
     /// # Errors
     ///
-    /// `File` of the fault of the whole, and `OutOfMemory` where a growth was refused.
+    /// `File` with the error of the whole file; `OutOfMemory` if an allocation fails.
     fn finish(self) -> Result<Model, ReadFault>
         requires { IsReader has_read self }
         ensures { (bytes : List ℕ) → has_read self (lines bytes) → IsAnswerTo declares first_fault bytes result };
 
-    /// Lines behind the one that ends the text change nothing.
+    /// Lines after the one that ends the text change nothing.
     ghost behind_end: { (reader : Self) (text more : List (List ℕ)) → has_read reader text → at_end reader ≡ true → has_read reader (text ++ more) };
 
-    /// The fault of some lines is that of more lines.
+    /// The error of some lines is that of more lines.
     ghost fault_stays: { (text more : List (List ℕ)) (fault : Fault) → lines_fault text fault → lines_fault (text ++ more) fault };
 
-    /// The fault of the lines is the first one of the text.
+    /// The error of the lines is the first error of the text.
     ghost fault_is_first: { (bytes : List ℕ) (fault : Fault) → lines_fault (lines bytes) fault → first_fault bytes fault };
 }
 
-/// Reads the lines of the next part of a text, up to the one that ends it.
+/// Reads the lines of the next part of a text, up to the one that ends the text.
 pub(crate) fn read_lines<L: ReadLines>(reader: &mut L, part: &[u8]) -> Result<(), ReadFault>
     requires reader { IsReader L.has_read reader.old }
     requires unended { L.at_end reader.old ≡ false }

@@ -1,4 +1,4 @@
--- What calls of a builder answer for declarations, and how many rows there are after them.
+-- What calls of a builder return for declarations, and the number of rows after them.
 use Rattle.std.proofs.Common.{◌≡◌, refl, sym, ap, subst, ◌∙◌, ℕ, ◌+◌, List, [], ◌∷◌, ◌++◌, Bool, true, false, cond, length}
 use Rattle.std.specs.Prelude.{Option, Some, None, Ok, Err, is_some, not, ◌||◌}
 use Rattle.std.specs.Option.{option_map}
@@ -29,7 +29,7 @@ use Rattle.mpslp_decimal.specs.Decimal.{Number}
 use Rattle.mpslp_lp.specs.Objective.{term_declared}
 use Rattle.mpslp_lp.specs.Declares.{DeclaresUnless, Declares}
 
--- ---- a call that is refused
+-- ---- a call that is rejected
 
 error_told : (earlier later : Draft) (made : Declarations) (refusals : List BuildFault) (fault : BuildFault) → head_of refusals ≡ Some fault
     → DeclaresUnless refusals earlier made (Err (error_of_build fault)) later
@@ -50,7 +50,7 @@ error_told earlier later made refusals builds.InfiniteValue e = ap (option_map k
 same_fault : (a b : BuildFault) → ◌≡◌ {A = Answer} (Err a) (Err b) → a ≡ b
 same_fault a b e = cc
 
--- the refusals of a call stand first among all
+-- the errors of a call come first among all
 refused-first : (earlier later : Draft) (made : Declarations) (faults more : List BuildFault) (fault : BuildFault) (P Q : Type 0) → Answers faults (Err fault) P Q
     → DeclaresUnless (faults ++ more) earlier made (Err (error_of_build fault)) later
 refused-first earlier later made [] more fault P Q answer =
@@ -79,7 +79,7 @@ refused-unless faults earlier later made fault P Q answer told refused =
 
 -- ---- declarations one after another
 
--- a refusal among the first is the first of all
+-- an error of the first declarations is the first of all
 pub refused-here : (first more all : List BuildFault) (a b c d : Draft) (xs ys : Declarations) (error : LineError) → all ≡ first ++ more → DeclaresUnless first a xs (Err error) b
     → DeclaresUnless all c ys (Err error) d
 refused-here first more all a b c d xs ys error is h = subst (λ (faults : List BuildFault). DeclaresUnless faults c ys (Err error) d) (sym is) (by first error h)
@@ -105,19 +105,19 @@ declares-then earlier between later xs ys answer none made declared =
     by (Err (Fault kind)) h = h
     by (Err OutOfMemory) h = tt
 
--- ---- how many rows there are
+-- ---- the number of rows
 
 pub rows-kept : (faults : List BuildFault) (answer : Answer) (earlier made later : Draft) → made.rows ≡ earlier.rows → Answers faults answer (later ≡ made) (later ≡ earlier) → later.rows ≡ earlier.rows
 rows-kept (fault ∷ faults) answer earlier made later h a = ap (λ (d : Draft). d.rows) a.1
 rows-kept [] (Ok u) earlier made later h a = ap (λ (d : Draft). d.rows) a ∙ h
 rows-kept [] (Err fault) earlier made later h a = ap (λ (d : Draft). d.rows) a.1
 
--- a call that is refused
+-- a call that is rejected
 pub refused-rows : (faults : List BuildFault) (fault : BuildFault) (earlier later : Draft) (P : Type 0) → Answers faults (Err fault) P (later ≡ earlier) → later.rows ≡ earlier.rows
 refused-rows (first ∷ faults) fault earlier later P a = ap (λ (d : Draft). d.rows) a.1
 refused-rows [] fault earlier later P a = ap (λ (d : Draft). d.rows) a.1
 
--- a call that is not
+-- a call that is accepted
 pub declared-by : (faults : List BuildFault) (earlier later made : Draft) → Answers faults (Ok tt) (later ≡ made) (later ≡ earlier) → (faults ≡ []) × (later ≡ made)
 declared-by [] earlier later made a = (refl, a)
 declared-by (fault ∷ faults) earlier later made a = no-error a.0
@@ -139,7 +139,7 @@ new_name earlier name form h = by (is_objective earlier name) (has_name earlier.
     by false true d e = cc
     by false false d e = refl
 
--- a row with a new name makes one more
+-- a row with a new name adds one
 pub row-added : (earlier later : Draft) (name : List ℕ) (form : RowDefinition) → IsMade earlier → refusals earlier (declare_row name form) ≡ [] → later ≡ with_declaration earlier (declare_row name form)
     → length later.rows ≡ length earlier.rows + 1
 row-added earlier later name form made none added =
@@ -147,7 +147,7 @@ row-added earlier later name form made none added =
     ∙ length-put bytes_cmp nat_list_cmp_total name form earlier.rows (sorted-from_made earlier made).rows
     ∙ ap (λ (b : Bool). cond b (length earlier.rows) (length earlier.rows + 1)) (new_name earlier name form none)
 
--- ---- a coefficient that is declared before it is known whether its column is there
+-- ---- a coefficient that is declared before it is known whether its column exists
 
 no-error : {fault : BuildFault} → ◌≡◌ {A = Answer} (Ok tt) (Err fault) → ⊥
 no-error e = cc
@@ -170,12 +170,12 @@ in-turn earlier row column value =
     by true true false is = refl
     by true true true is = refl
 
--- a call that is refused changes nothing
+-- a call that is rejected changes nothing
 pub refused-same : (faults : List BuildFault) (fault : BuildFault) (P Q : Type 0) → Answers faults (Err fault) P Q → Q
 refused-same [] fault P Q a = a.1
 refused-same (first ∷ faults) fault P Q a = a.1
 
--- its column is there
+-- its column exists
 pub term-made : (earlier later : Draft) (row column : List ℕ) (value : Number) → IsMade earlier
     → Answers (refusals earlier (declare_coefficient (record { row = row; column = column }) value)) (Ok tt) (later ≡ with_declaration earlier (declare_coefficient (record { row = row; column = column }) value)) (later ≡ earlier)
     → Declares earlier (term_declared row (column, value)) (Ok tt) later
@@ -196,7 +196,7 @@ term-made earlier later row column value made answer =
     by true false e same a = absurd (no-error a.0)
     by false k e same a = absurd (no-error a.0)
 
--- it is refused, and not since its column is missing
+-- it is rejected, but not because its column is missing
 pub term-refused : (earlier later : Draft) (row column : List ℕ) (value : Number) (fault : BuildFault) → (fault ≡ builds.UnknownColumn → ⊥)
     → Answers (refusals earlier (declare_coefficient (record { row = row; column = column }) value)) (Err fault) (later ≡ with_declaration earlier (declare_coefficient (record { row = row; column = column }) value)) (later ≡ earlier)
     → Declares earlier (term_declared row (column, value)) (Err (error_of_build fault)) later

@@ -1,4 +1,4 @@
--- A line is its tokens, the blanks between them and its comment.
+-- A line is its tokens, the spaces and tabs between them and its comment.
 use Rattle.std.proofs.Common.{◌≡◌, ◌<◌, refl, ap, subst, ◌∙◌, ℕ, zero, suc, ◌+◌, ◌-◌, List, [], ◌∷◌, ◌++◌, Bool, true, false, map, take, drop, arith}
 use Rattle.std.specs.Prelude.{◌&&◌}
 use Rattle.std.specs.List.{list_all}
@@ -14,7 +14,7 @@ made-nothing = record { parts = []; last_blanks = []; comment = []; tokens_are =
 made-comment : (byte : ℕ) (bytes : List ℕ) → begins_comment byte ≡ true → IsMadeOf [] (byte ∷ bytes)
 made-comment byte bytes h = record { parts = []; last_blanks = []; comment = byte ∷ bytes; tokens_are = refl; blank = refl; last_blank = refl; comment_is = h; bytes_are = refl }
 
--- ---- a blank more
+-- ---- one more space
 
 blank-before : (byte : ℕ) → is_blank byte ≡ true → (blanks : List ℕ) → are_blank blanks ≡ true → are_blank (byte ∷ blanks) ≡ true
 blank-before byte is blanks h = both_so (is_blank byte) (are_blank blanks) is h
@@ -27,7 +27,7 @@ first-blank spaced more h = by (are_blank spaced.blanks) (list_all (λ (s : Spac
     by true b e = (refl, e)
     by false b e = cc
 
--- it stands before the first token, or before what is left where there is no token
+-- it comes before the first token, or before the rest if there is no token
 made-blank : (found : List Token) (byte : ℕ) (bytes : List ℕ) → is_blank byte ≡ true → IsMadeOf found bytes → IsMadeOf found (byte ∷ bytes)
 made-blank found byte bytes is h = by h.parts h.tokens_are h.blank h.bytes_are
   where
@@ -56,7 +56,7 @@ made-blank found byte bytes is h = by h.parts h.tokens_are h.blank h.bytes_are
           bytes_are = ap (λ (rest : List ℕ). byte ∷ rest) e;
         }
 
--- ---- a token more
+-- ---- one more token
 
 made-token : (token : Token) (found : List Token) (bytes rest : List ℕ) → token.text ++ rest ≡ bytes → IsMadeOf found rest → IsMadeOf (token ∷ found) bytes
 made-token token found bytes rest e h =
@@ -71,7 +71,7 @@ made-token token found bytes rest e h =
       bytes_are = ap (λ (more : List ℕ). token.text ++ more) h.bytes_are ∙ e;
     }
 
--- the first bytes, of which there is one at least, and the rest
+-- the first bytes, at least one, and the rest
 first-and-rest : (size : ℕ) (byte : ℕ) (bytes : List ℕ) → 0 < size → take size (byte ∷ bytes) ++ drop (size - 1) bytes ≡ byte ∷ bytes
 first-and-rest zero byte bytes some = absurd (omega (arith, some))
 first-and-rest (suc size) byte bytes some =

@@ -1,4 +1,4 @@
--- The bytes of a line are legal exactly where each of its tokens is known.
+-- The bytes of a line are legal if and only if none of its tokens is unknown.
 use Rattle.std.proofs.Common.{◌≡◌, refl, sym, ap, subst, ◌∙◌, List, [], ◌∷◌, length, take, ℕ, zero, suc, Bool, true, false, cond, arith, ◌<◌, ◌≤◌, ◌+◌, ◌-◌}
 use Rattle.std.specs.Prelude.{Option, Some, None, is_some, ◌&&◌, ◌||◌, not, ◌==◌, codes}
 use Rattle.std.specs.List.{list_all, list_any, find}
@@ -21,7 +21,7 @@ use Rattle.mpslp_lp.proofs.NumberRun.Class.{IsDigit, IsPoint, IsMark, IsSign, Is
 use Rattle.mpslp_lp.specs.declared.tokens.TokenKind.{TokenKind}
 use Rattle.mpslp_lp.specs.declared.tokens.TokenKind.TheVariants as kinds
 
--- a legal byte that begins no comment
+-- a legal byte that does not begin a comment
 abbrev plain : ℕ → Bool
 plain b = is_legal_byte b && not (begins_comment b)
 
@@ -182,7 +182,7 @@ none-shorter (suc most) bytes h n some w = by (kind_of (take (suc most) bytes)) 
         last true f = ap (λ (m : ℕ). kind_of (take m bytes)) (eqb-true n (suc most) f) ∙ e
         last false f = let less = not_same n (suc most) f w in later k n some (omega (arith, less))
 
--- each legal byte is a token by itself, but a blank, a tab and a backslash
+-- each legal byte other than a space, a tab and a backslash is a token by itself
 abbrev all_below : ℕ → (ℕ → Bool) → Bool
 all_below zero p = true
 all_below (suc n) p = p n && all_below n p

@@ -1,4 +1,4 @@
--- What a reader of lines answers of the next one, and at the end.
+-- What a reader of lines returns for the next line, and at the end.
 use Rattle.std.proofs.Common.{◌≡◌, refl, sym, ap, subst, ◌∙◌, ℕ, ◌+◌, ◌-◌, ◌^◌, min, List, [], ◌∷◌, ◌++◌, Bool, true, false, append-nil, append_assoc, arith}
 use Rattle.std.specs.Prelude.{not, Option, Some, None, is_some, Result, Err}
 use Rattle.std.specs.List.{enumerate_from, list_all}
@@ -56,7 +56,7 @@ led-line text context after state next number following line led unended goes fo
       ∙ ap (λ (n : ℕ). read_from after next (enumerate_from n more)) (sym following_is);
 }
 
--- its fault
+-- its error
 led-refused : (reader : LineReader) (text : List (List ℕ)) (line : List ℕ) (kind : FaultKind) → HasRead reader text → is_at_end reader.state ≡ false
     → take_line reader.context reader.state line ≡ Refuses kind → IsFaultOfLines (text ++ line ∷ []) (record { kind = kind; line = reader.number; name = None })
 led-refused reader text line kind led unended refused = λ more.
@@ -93,7 +93,7 @@ module _ (text : List (List ℕ)) (reader : LineReader) (led : HasRead reader te
   pub led-ended : is_at_end reader.state ≡ true → lines_outcome text ≡ Finished reader.context.earlier
   led-ended ended = all_read ∙ ended-reads reader.context reader.state [] ended
 
-  -- behind the line of `end` the objective has a name
+  -- after the line of `end` the objective has a name
   pub led-named : is_at_end reader.state ≡ true → is_some reader.context.earlier.objective ≡ true
   led-named ended = named-at_end (enumerate_from 1 text) reader.context.earlier (led-ended ended)
 
@@ -107,7 +107,7 @@ pub ends-text : (bytes : List ℕ) (reader : LineReader) (answer : Result Linear
     → Finishes reader.context.earlier answer → ReadsLp bytes answer
 ends-text bytes reader answer led ended = finished-reads bytes reader.context.earlier answer (led-ended (lines bytes) reader led ended)
 
--- ---- a fault of some lines
+-- ---- an error of some lines
 
 pub faults-stay : FaultsOfLinesStay
 faults-stay text fault h = λ more.

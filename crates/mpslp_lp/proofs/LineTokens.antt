@@ -1,4 +1,4 @@
--- Tokens of a line, taken one after another, with the least of the faults that they have wherever they stand.
+-- Tokens of a line, taken one after another, with the least of their lexical errors.
 use Rattle.std.proofs.Common.{◌≡◌, refl, sym, ap, ◌∙◌, List, [], ◌∷◌, map}
 use Rattle.std.specs.Prelude.{Option, Some, None, Err}
 use Rattle.std.specs.List.{cons_option}
@@ -17,9 +17,9 @@ use Rattle.mpslp_lp.specs.TokenStep.{take}
 use Rattle.mpslp_lp.specs.LineByLine.{take_all, token_faults, take_tokens}
 use Rattle.mpslp_lp.specs.Declares.{TakesToken, error_before, lesser_of, IsLeastError}
 
--- ---- the least of faults, from the left
+-- ---- the least error, from the left
 
--- of two kinds in front, the lesser decides
+-- of the first two kinds, the lesser decides
 pub least-two : (a b : FaultKind) (more : List FaultKind) → least_kind (a ∷ b ∷ more) ≡ least_kind (lesser_of (Some a) b ∷ more)
 least-two a b more = least-append (a ∷ b ∷ []) more ∙ sym (least-append (lesser_of (Some a) b ∷ []) more)
 
@@ -27,12 +27,12 @@ pub least-next : (o : Option FaultKind) (b : FaultKind) (more : List FaultKind) 
 least-next None b more = refl
 least-next (Some a) b more = least-two a b more
 
--- ---- a token more
+-- ---- one more token
 
 faults-next : (token : Token) (more : List Token) (o : Option FaultKind) → token_fault token.kind token.text ≡ o → token_faults (token ∷ more) ≡ cons_option o (token_faults more)
 faults-next token more o h = ap (λ (x : Option FaultKind). cons_option x (token_faults more)) h
 
--- a token without such a fault, which is taken
+-- a token without a lexical error that is accepted
 pub tokens-next : (context after : Context) (state next : State) (token : Token) (more : List Token) → token_fault token.kind token.text ≡ None → take context state (as_terminal token) ≡ Goes after next
     → take_tokens context state (token ∷ more) ≡ take_tokens after next more
 tokens-next context after state next token more none goes =
@@ -42,7 +42,7 @@ tokens-next context after state next token more none goes =
       | None ↦ elim taken as (λ _. AfterToken) [ Goes b s ↦ take_all b s (map as_terminal more) | Refuses kind ↦ Refuses kind ]
     ]) goes
 
--- a token with such a fault
+-- a token with a lexical error
 pub tokens-own : (context after : Context) (state : State) (token : Token) (more : List Token) (kind : FaultKind) (error : LineError) → token_fault token.kind token.text ≡ Some kind
     → IsLeastError (kind ∷ token_faults more) error → TakesToken (take_tokens context state (token ∷ more)) (Err error) after
 tokens-own context after state token more kind (Fault least) own is =
@@ -50,7 +50,7 @@ tokens-own context after state token more kind (Fault least) own is =
     (ap least_kind (faults-next token more (Some kind) own) ∙ is)
 tokens-own context after state token more kind OutOfMemory own is = tt
 
--- a token without such a fault that makes another
+-- a token without a lexical error that causes another error
 pub tokens-refused : (context after : Context) (state : State) (token : Token) (more : List Token) (error : LineError) → token_fault token.kind token.text ≡ None
     → TakesToken (take context state (as_terminal token)) (Err error) after → TakesToken (take_tokens context state (token ∷ more)) (Err (error_before (token_faults more) error)) after
 tokens-refused context after state token more (Fault kind) none refused =

@@ -1,4 +1,4 @@
--- Lines read one after another: what is left to be read decides.
+-- Lines read one after another: the outcome depends on the lines that are left.
 use Rattle.std.proofs.Common.{◌≡◌, ◌≤◌, refl, ap, ◌∙◌, ℕ, ◌+◌, ◌-◌, ◌^◌, min, List, [], ◌∷◌, ◌++◌, Bool, true, false, arith}
 use Rattle.std.specs.Prelude.{None}
 use Rattle.std.specs.List.{enumerate_from}
@@ -18,7 +18,7 @@ use Rattle.mpslp_lp.specs.FedLaws.{never_refused}
 abbrev pub last_number : ℕ
 last_number = 2 ^ 64 - 1
 
--- what a line makes, and then those behind it
+-- the effect of a line, and then the lines after it
 abbrev after_line : ℕ → AfterToken → List (ℕ × List ℕ) → Outcome Fault Draft
 after_line n taken more = elim taken as (λ _. Outcome Fault Draft) [ Goes after next ↦ read_from after next more | Refuses kind ↦ Refused (fault_on_line n kind) ]
 
@@ -27,7 +27,7 @@ line-read : (n : ℕ) (context : Context) (state : State) (line : List ℕ) (mor
 line-read n context state line more unended =
     ap (λ (b : Bool). elim b as (λ _. Outcome Fault Draft) [ true ↦ Finished context.earlier | false ↦ after_line n (take_line context state line) (enumerate_from (n + 1) more) ]) unended
 
--- numbers that are shown alike count the later lines alike
+-- line numbers that are reported the same stay the same for later lines
 counted-alike : (ls : List (List ℕ)) (n m : ℕ) (context : Context) (state : State) → min n last_number ≡ min m last_number
     → read_from context state (enumerate_from n ls) ≡ read_from context state (enumerate_from m ls)
 counted-alike [] n m context state h = refl
@@ -49,7 +49,7 @@ line-next n context after state next line more unended goes =
     line-read n context state line more unended ∙ ap (λ (taken : AfterToken). after_line n taken (enumerate_from (n + 1) more)) goes
     ∙ counted-alike more (n + 1) (min (n + 1) last_number) after next same
 
--- a line with a fault
+-- a line with an error
 pub line-refused : (n : ℕ) (context : Context) (state : State) (line : List ℕ) (more : List (List ℕ)) (kind : FaultKind) → is_at_end state ≡ false → n ≤ last_number
     → take_line context state line ≡ Refuses kind → read_from context state (enumerate_from n (line ∷ more)) ≡ Refused (record { kind = kind; line = n; name = None })
 line-refused n context state line more kind unended counted refused =
@@ -62,7 +62,7 @@ pub none-left : (n : ℕ) (context : Context) (state : State) → is_at_end stat
 none-left n context AfterEnd unended = cc
 none-left n context _ unended = refl
 
--- what is refused of some lines is refused of more
+-- an error of some lines stays if more lines follow
 pub refused-stays : (ls more : List (List ℕ)) (n : ℕ) (context : Context) (state : State) (fault : Fault) → read_from context state (enumerate_from n ls) ≡ Refused fault
     → read_from context state (enumerate_from n (ls ++ more)) ≡ Refused fault
 refused-stays [] more n context state fault h = absurd (never_refused context state fault h)

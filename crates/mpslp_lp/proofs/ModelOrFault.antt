@@ -1,4 +1,4 @@
--- Bytes declare a model or have a first fault, and not both.
+-- Bytes declare a model or have a first error, and not both.
 use Rattle.std.proofs.Common.{◌≡◌, refl, sym, ap, subst, ◌∙◌, ℕ, List, [], ◌∷◌, true}
 use Rattle.std.specs.Prelude.{Option, Some, None, is_some}
 use Rattle.mpslp_model_core.specs.Model.{LinearModel}
@@ -30,11 +30,11 @@ use Rattle.mpslp_lp.proofs.PhraseFacts.{is_lp_legal, legal-from_lp}
 pub whole-fine : (bytes : List ℕ) → IsFineText empty_draft (declarations_of bytes) (text_says (sound_terminals (numbered_lines bytes)))
 whole-fine bytes = text-fine (sound_terminals (numbered_lines bytes)) 0 start (text-sound (numbered_lines bytes)) refl
 
--- what is declared is legal, and its names are those of LP
+-- what is declared is legal, and its names are LP names
 pub whole-legal : (bytes : List ℕ) → list_all is_legal (declarations_of bytes) ≡ true
 whole-legal bytes = imp_all is_lp_legal is_legal (declarations_of bytes) legal-from_lp (whole-fine bytes).legal
 
--- no line that has a fault by itself makes text whole
+-- a line with an error on its own does not complete the text
 never_whole : (numbered : List (ℕ × List ℕ)) (all : Draft) → first_own_fault numbered ≡ Finished all → ⊥
 never_whole [] all h = cc
 never_whole (line ∷ more) all h = by (lexical_fault line.1) h (never_whole more all)
@@ -44,7 +44,7 @@ never_whole (line ∷ more) all h = by (lexical_fault line.1) h (never_whole mor
     by (Some kind) e later = cc
     by None e later = later e
 
--- so the tokens make it whole
+-- so the tokens complete it
 whole-by_tokens : (numbered : List (ℕ × List ℕ)) (all : Draft) → lines_say numbered ≡ Finished all → text_says (sound_terminals numbered) ≡ Finished all
 whole-by_tokens numbered all h = by (text_says (sound_terminals numbered)) h
   where
@@ -53,7 +53,7 @@ whole-by_tokens numbered all h = by (text_says (sound_terminals numbered)) h
     by (Refused fault) e = e
     by Open e = absurd (never_whole numbered all e)
 
--- lines that come to `end` name the objective
+-- lines that reach `end` name the objective
 pub named-at_end : (numbered : List (ℕ × List ℕ)) (all : Draft) → lines_say numbered ≡ Finished all → is_some all.objective ≡ true
 named-at_end numbered all h =
     (subst (IsDraftAtEnd empty_draft (text_declares (sound_terminals numbered))) (whole-by_tokens numbered all h)
@@ -63,13 +63,13 @@ pub record IsWhole (bytes : List ℕ) (all : Draft) : Type 0 where
   pub draft : all ≡ draft_of (declarations_of bytes)
   pub named : is_some all.objective ≡ true
 
--- the draft that whole text ends with is that of its declarations
+-- the draft at the end of a complete text is that of its declarations
 pub whole-draft : (bytes : List ℕ) (all : Draft) → outcome bytes ≡ Finished all → IsWhole bytes all
 whole-draft bytes all h =
     let end = subst (IsDraftAtEnd empty_draft (declarations_of bytes)) (whole-by_tokens (numbered_lines bytes) all h) (whole-fine bytes).draft in
     record { draft = end.0; named = end.1 }
 
--- ---- bytes without a fault
+-- ---- bytes without an error
 
 pub declares-from_whole : (bytes : List ℕ) (all : Draft) → outcome bytes ≡ Finished all → file_fault all ≡ None → DeclaresLp bytes (model_of (draft_of (declarations_of bytes)))
 declares-from_whole bytes all h fault =

@@ -1,4 +1,4 @@
--- The names on a line without a fault of its own are LP names.
+-- The names on a line without an error of its own are LP names.
 use Rattle.std.proofs.Common.{◌≡◌, refl, sym, ap, ◌∙◌, ℕ, zero, suc, ◌+◌, ◌-◌, List, [], ◌∷◌, Bool, true, false, not, cond, length, take, arith, map}
 use Rattle.std.specs.Prelude.{Option, Some, None, ◌&&◌, ◌||◌, ◌==◌, codes}
 use Rattle.std.specs.List.{find, list_all, list_any}
@@ -175,7 +175,7 @@ name-not_reserved word h = by (is_reserved word) refl
         let other : not (is_name_meaning (class_of word)) ≡ true = reserved-word_class word_classes (map lower_byte word) refl e in
         ap (λ (m : WordClass). not (is_name_meaning m)) (sym h) ∙ other
 
--- ---- what a name without a fault is
+-- ---- what a name without an error is
 
 pub record HasNoFault (name : List ℕ) : Type 0 where
   pub legal : is_mps_name name ≡ true
@@ -192,7 +192,7 @@ name-without_fault name h = by (has_name_length name) (list_all is_visible name)
     by true false c d p q r e h = cc
     by false b c d p q r e h = cc
 
--- A word that is a name and has no fault is a name in LP.
+-- A word that is a name and has no error is an LP name.
 pub lp-name : (text : List ℕ) → is_word text ≡ true → class_of text ≡ meanings.Name → name_fault text ≡ None → is_lp_name text ≡ true
 lp-name text word word_class none =
     let fault = name-without_fault text none in

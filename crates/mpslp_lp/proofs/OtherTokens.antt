@@ -1,4 +1,4 @@
--- What other tokens make than those that a case of its own takes.
+-- The effect of tokens that have no case of their own.
 use Rattle.std.proofs.Common.{◌≡◌, refl, ℕ, List, Bool, true, false}
 use Rattle.std.specs.Prelude.{None}
 use Rattle.mpslp_decimal.specs.Decimal.{Number as Decimal}

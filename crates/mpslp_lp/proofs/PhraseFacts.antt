@@ -1,4 +1,4 @@
--- What each phrase declares: legal declarations, of which none is refused after those before it.
+-- What each phrase declares: legal declarations, none of which is rejected after those before it.
 use Rattle.std.proofs.Common.{◌⊎◌, inl, inr, ◌≡◌, ◌≤◌, ◌<◌, refl, sym, ap, subst, ◌∙◌, ℕ, suc, ◌+◌, ◌-◌, ◌^◌, List, [], ◌∷◌, ◌++◌, Bool, true, false, not, length, arith, pos, negsuc, zero}
 use Rattle.std.specs.Prelude.{Option, Some, None, is_some, unwrap_or, ◌&&◌, ◌||◌, ◌==◌, if◌then◌else◌, min, nat_le}
 use Rattle.std.specs.List.{list_all, list_any, flat_map}
@@ -61,7 +61,7 @@ use Rattle.mpslp_lp.specs.declared.words.SectionWord.TheVariants as words
 use Rattle.mpslp_lp.proofs.SoundTokens.{AreSound, IsSoundTerminal}
 use Rattle.mpslp_lp.proofs.RuleFacts.{Holds, Gives, passed, then-gives, IsSoundToken, next-gives, ahead-gives}
 
--- ---- legal declarations, with names of LP
+-- ---- legal declarations, with LP names
 
 abbrev pub is_lp_legal : Declaration → Bool
 is_lp_legal (declare_sense _) = true
@@ -94,7 +94,7 @@ legal-from_lp (declare_integer column) h = refl
 legal-from_lp (declare_binary column) h = refl
 legal-from_lp (declare_semi column) h = refl
 
--- ---- sound values
+-- ---- well-formed values
 
 decimal-negated : (m e : _) → is_decimal (record { mantissa = m; exponent = e }) ≡ true → is_decimal (negated (record { mantissa = m; exponent = e })) ≡ true
 decimal-negated (pos zero) e h = h
@@ -138,12 +138,12 @@ abbrev IsSoundItem : Item → Type 0
 IsSoundItem (Term value column token) = (is_decimal value ≡ true) × (is_lp_name column ≡ true)
 IsSoundItem (Lone value token) = is_decimal value ≡ true
 
--- ---- sound points
+-- ---- well-formed points
 
 abbrev pub IsNamed : Context → Type 0
 IsNamed context = (is_some context.earlier.objective ≡ true) × (context.sections_seen.objective ≡ true)
 
--- before anything was read there is nothing; later the objective has its name
+-- at the start nothing is declared; later the objective has its name
 abbrev pub IsSoundPoint : Point → Type 0
 IsSoundPoint point = at point.place
   where
@@ -170,7 +170,7 @@ IsFine earlier (Ends all) = (all ≡ earlier) × (is_some earlier.objective ≡ 
 
 -- ---- what follows a phrase
 
--- a place that asks nothing of what stands before but the objective's name
+-- a place that requires only that the objective has a name
 abbrev IsPlain : Place → Type 0
 IsPlain place = (context : Context) → IsNamed context → IsSoundPoint (record { place = place; context = context })
 
@@ -461,7 +461,7 @@ sides-legal column (Some l) None h k = both_so (is_given l) true h refl
 sides-legal column None (Some u) h k = both_so (is_given u) true k refl
 sides-legal column (Some l) (Some u) h k = both_so (is_given l) (is_given u && true) h (both_so (is_given u) true k refl)
 
--- declarations that are not refused come before, and the place asks nothing
+-- declarations that are not rejected come before, and the place has no further requirement
 bounded-fine : (context : Context) (front : Declarations) (column : List ℕ) (limits : Limits) (last : TerminalAt) (place : Place) → IsNamed context → IsPlain place
     → refusals_in_turn context.earlier front ≡ [] → list_all is_lp_legal front ≡ true → AreGiven limits → Gives (IsFine context.earlier) (bound_sides context front column limits last place)
 bounded-fine context front column limits last place named plain unrefused legal given =
@@ -593,7 +593,7 @@ semi-fine context token named = by token.line token.terminal
         (λ dash d. next_word-fine context Continuous named)
     by line _ = nothing-fine context InSemis named (λ b n. n)
 
--- a word of a section after the objective
+-- a section word after the objective
 abbrev IsLater : SectionWord → Type 0
 IsLater words.Minimize = ⊥
 IsLater words.Maximize = ⊥
@@ -636,12 +636,12 @@ section-fine context token words.Semi named = later-fine context token words.Sem
 section-fine context token words.Semis named = later-fine context token words.Semis tt named
 section-fine context token words.End named = later-fine context token words.End tt named
 
--- ---- the objective, before which there is nothing
+-- ---- the objective; nothing is declared before it
 
 abbrev opening : Context
 opening = record { sections_seen = with_section start.context.sections_seen Objective; earlier = empty_draft }
 
--- declarations that name it
+-- declarations that name the objective
 opens-declared : (token : TerminalAt) (place : Place) (made : Declarations) → ((context : Context) → IsNamed context → IsSoundPoint (record { place = place; context = context }))
     → is_some (draft_of made).objective ≡ true → list_all is_lp_legal made ≡ true → Gives (IsFine empty_draft) (declares opening token place made)
 opens-declared token place made plain named legal = by (refusals_in_turn empty_draft made) refl

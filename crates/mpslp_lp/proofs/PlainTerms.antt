@@ -1,4 +1,4 @@
--- A sign, a number and a name that are taken as a whole are taken as they are one after another, and so without a number.
+-- Taking a sign, an optional number and a name as a whole is the same as taking them one after another.
 use Rattle.std.proofs.Common.{◌≡◌, refl, sym, ap, subst, ◌∙◌, ℕ, List, [], ◌∷◌, ◌++◌, Bool, inl, inr}
 use Rattle.std.specs.Prelude.{Option, Some, None, Result, Ok, Err, if◌then◌else◌, codes}
 use Rattle.std.specs.Result.{result_unwrap_or}
@@ -31,13 +31,13 @@ use Rattle.mpslp_lp.specs.declared.states.State.TheVariants.{Between, Signs, Ite
 use Rattle.mpslp_lp.proofs.LineTokens.{tokens-next, tokens-own, tokens-refused}
 use Rattle.mpslp_lp.proofs.TokenAnswers.{one-parsed}
 
--- a terminal that goes on
+-- a terminal that is accepted
 step : (context after : Context) (state next : State) (found more : List Token) (terminal : Terminal) → Begins found terminal more → take context state terminal ≡ Goes after next
     → take_tokens context state found ≡ take_tokens after next more
 step context after state next found more terminal b goes =
     ap (take_tokens context state) b.tokens ∙ tokens-next context after state next b.token more b.sound (ap (take context state) b.is ∙ goes)
 
--- a number without a fault is a terminal
+-- a number without an error is a terminal
 as-begins : (found more : List Token) (literal : List ℕ) → BeginsWithNumber found literal more → number_fault literal ≡ None → Begins found (Number (value_of literal)) more
 as-begins found more literal b none = record {
   token = b.token;
@@ -53,7 +53,7 @@ one-sound : None ≡ number_fault (codes "1")
 unfolding trailing_zeros
 one-sound = refl
 
--- the state before a term's name, which takes the name as the state behind the number does
+-- the state before the name of a term, which takes the name as the state after the number does
 record BeforeName (context : Context) (row : PartialRow) (found behind : List Token) (minus : Bool) (literal column : List ℕ) : Type 0 where
   state : State
   comes : take_tokens context (Between (InRow row)) found ≡ take_tokens context state behind
@@ -95,7 +95,7 @@ module _ (context : Context) (row : PartialRow) (found more : List Token) (minus
       ∙ step context context named.state next p.term.behind_number more (Name column) p.term.name
       (named.takes ∙ ap (λ (b : Bool). if b then refuse context (Name column) DuplicateEntry else Goes (with_made context []) next) adds.0))
 
-  -- a column that has a term in the row
+  -- a column that already has a term in the row
   pub plain-refused : (error : LineError) → number_fault literal ≡ None → AddsTerm row column (apply_sign minus (value_of literal)) (Err error)
       → TakesToken (take_tokens context (Between (InRow row)) found) (Err (error_before (token_faults more) error)) context
   plain-refused OutOfMemory none adds = tt
@@ -109,7 +109,7 @@ module _ (context : Context) (row : PartialRow) (found more : List Token) (minus
       subst (λ (taken : AfterToken). TakesToken taken (Err (error_before (token_faults more) (Fault kind))) context) (sym (named.comes ∙ ap (take_tokens context named.state) name.tokens))
       (tokens-refused context context named.state name.token more (Fault kind) name.sound told)
 
-  -- a number with a fault
+  -- a number with an error
   pub plain-number : (kind : FaultKind) (error : LineError) → number_fault literal ≡ Some kind → IsLeastError (kind ∷ token_faults more) error
       → TakesToken (take_tokens context (Between (InRow row)) found) (Err error) context
   plain-number kind error some least = elim p.term.number [

@@ -1,4 +1,4 @@
--- Reading line by line says what all tokens together say.
+-- Reading line by line has the same outcome as all tokens together.
 use Rattle.std.proofs.Common.{◌≡◌, ◌<◌, refl, ap, ◌∙◌, ℕ, ◌+◌, List, [], ◌∷◌, ◌++◌, Bool, true, false, arith, map}
 use Rattle.std.specs.Prelude.{Option, Some, None, ◌==◌, if◌then◌else◌}
 use Rattle.std.specs.List.{enumerate_from}
@@ -52,7 +52,7 @@ all-say n (token ∷ found) context state more =
 
 -- ---- lines after that of the end
 
--- the line of the last token is of account after the end alone
+-- the line of the last token matters only after the end
 line-says : (line n : ℕ) (context : Context) (state : State) (tokens : List TerminalAt) → is_at_end state ≡ false → says line context state tokens ≡ says n context state tokens
 line-says line n context AfterEnd tokens h = cc
 line-says line n context _ tokens h = refl
@@ -103,11 +103,11 @@ not_at_end line context state h = nothing-says line context state ∙ by state h
     by AfterEnd e = cc
     by _ e = refl
 
--- what the lines from line n on say, where the last token before them stands on an earlier line
+-- the outcome of the lines from line n on, if the last token before them is on an earlier line
 abbrev lines_from : (line n : ℕ) → Context → State → List (List ℕ) → Outcome Fault Draft
 lines_from line n context state ls = or_else (says line context state (sound_terminals (enumerate_from n ls))) (first_own_fault (enumerate_from n ls))
 
--- what a line makes, and then those behind it
+-- the effect of a line, and then of the lines after it
 line-read : (ls : List (List ℕ)) (n : ℕ) (taken : AfterToken)
     → ((after : Context) (next : State) → lines_from n (n + 1) after next ls ≡ read_from after next (enumerate_from (n + 1) ls))
     → or_else (says_after n taken (sound_terminals (enumerate_from (n + 1) ls))) (first_own_fault (enumerate_from (n + 1) ls))
@@ -156,6 +156,6 @@ lines-read (l ∷ ls) line n context state h = at (is_at_end state) refl (λ aft
             (line-says line n context state _ e ∙ all-say n (tokens l) context state (sound_terminals (enumerate_from (n + 1) ls)))
             ∙ line-read ls n (take_all context state (terminals l)) later
 
--- What a text says is what its lines say, read one after another.
+-- The outcome of a text is that of its lines, read one after another.
 pub outcome-read : (bytes : List ℕ) → outcome bytes ≡ read_from start.context (Between AtStart) (numbered_lines bytes)
 outcome-read bytes = lines-read (lines bytes) 0 1 start.context (Between AtStart) (omega arith)

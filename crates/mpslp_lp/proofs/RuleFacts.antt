@@ -1,4 +1,4 @@
--- What holds of the values that rules read from sound tokens.
+-- Properties of the values that rules read from well-formed tokens.
 use Rattle.std.proofs.Common.{ℕ, List, [], ◌∷◌, drop}
 use Rattle.mpslp_types.specs.declared.faults.Fault.{Fault}
 use Rattle.mpslp_lp.specs.Rules.{Parsed, and_then, ◌>>=◌, after_taking, next, ahead}
@@ -12,7 +12,7 @@ Holds P (Reads value taken) = P value
 Holds P (Refuses fault) = Unit {0}
 Holds P Unfinished = Unit {0}
 
--- the values of a rule have the property, where the tokens are sound
+-- the values of a rule have the property if the tokens are well-formed
 abbrev pub Gives : {A : Type 0} → (A → Type 0) → PhraseRule A → Type 0
 Gives P rule = (tokens : List TerminalAt) → AreSound tokens → Holds P (rule tokens)
 

@@ -38,7 +38,7 @@ found-word_class p (entry ∷ entries) = by (p entry.0.now) (found-word_class p 
 
 -- ---- numbers
 
--- the tests of one literal tell its fault
+-- the tests of one literal give its error
 pub tested-number : (literal : List ℕ) → first_held (number_tests (literal ∷ [])) ≡ number_fault literal
 tested-number literal = by (number_fault literal) refl
   where

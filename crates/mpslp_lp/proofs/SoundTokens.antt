@@ -1,4 +1,4 @@
--- The tokens of a line without a fault of its own hold legal names and decimals.
+-- The tokens of a line without an error of its own have legal names and decimals.
 use Rattle.std.proofs.Common.{◌≡◌, refl, ℕ, List, [], ◌∷◌, ◌++◌, true, drop, zero, suc, map}
 use Rattle.std.specs.Prelude.{Option, Some, None, filter_map}
 use Rattle.std.specs.List.{cons_option}
@@ -53,7 +53,7 @@ token-sound _ text word h = tt
 
 -- ---- a line
 
--- the faults of its tokens
+-- the errors of its tokens
 abbrev token_faults : List ℕ → List FaultKind
 token_faults line = filter_map (λ (token : Token). token_fault token.kind token.text) (tokens line)
 

@@ -1,4 +1,4 @@
--- What the tokens to come say is what the first of them makes, and then what those behind it say.
+-- The outcome of tokens is the effect of the first one, and then the outcome of those after it.
 use Rattle.std.proofs.Common.{◌≡◌, refl, sym, ap, ◌∙◌, ℕ, List, [], ◌∷◌, Bool, true, false}
 use Rattle.std.specs.Prelude.{Option, Some, None, ◌==◌, if◌then◌else◌}
 use Rattle.std.specs.List.{list_any}
@@ -217,7 +217,7 @@ lone-says context (OfRow row) value line _ tokens = refl
 
 -- ---- sides
 
--- a limit that is read gives its side to what follows
+-- a limit that is read is the side of what follows
 limit-says : (context : Context) (following : Side → PhraseRule Follows) (goes : Limit → AfterToken) (minus : Bool) (line : ℕ) (terminal : Terminal) (tokens : Tokens)
     → ((limit : Limit) → resume phrase_at (following (record { limit = limit; last = at line terminal })) tokens ≡ says_after line (goes limit) tokens)
     → resume phrase_at (unsigned_side context minus (at line terminal) >>= following) tokens ≡ says_after line (take_limit goes context minus terminal) tokens
@@ -227,7 +227,7 @@ limit-says context following goes minus line Infinity tokens h =
     resume-gives phrase_at (record { limit = infinity minus; last = at line Infinity }) following tokens ∙ h (infinity minus)
 limit-says context following goes minus line _ tokens h = refl
 
--- what follows a side right of a row or a column
+-- what follows a right-hand side of a row or a column
 abbrev sided_read : Context → SideOwner → Side → PhraseRule Follows
 sided_read context (SideOfRow row relation) = row_whole context row relation
 sided_read context (SideOfBound is_new column relation) = bound_right context (new_column is_new column) column relation
@@ -245,7 +245,7 @@ sided-says : (context : Context) (sided : SideOwner) (limit : Limit) (line : ℕ
 sided-says context (SideOfRow row relation) limit line terminal tokens = completed-says context line terminal _ BetweenRows _ tokens
 sided-says context (SideOfBound is_new column relation) limit line terminal tokens = completed-says context line terminal _ (InBounds None) _ tokens
 
--- a side that begins with a token
+-- a side that begins with this token
 begun_side-says : (context : Context) (sided : SideOwner) (line : ℕ) (terminal : Terminal) (tokens : Tokens)
     → resume phrase_at (side_from context (at line terminal) >>= sided_read context sided) tokens ≡ says_after line (take context (AtSide sided) terminal) tokens
 begun_side-says context sided line (Sign minus) tokens = ap (λ (rule : PhraseRule Follows). resume phrase_at rule tokens) (sym (signed_side_read-is context sided minus))
@@ -257,9 +257,9 @@ begun_side-says context sided line Infinity tokens =
     (λ limit. sided-says context sided limit line Infinity tokens)
 begun_side-says context sided line _ tokens = refl
 
--- ---- senses
+-- ---- relations
 
--- a sense that is read
+-- a relation that is read
 sense-says : (context : Context) (following : Relation → PhraseRule Follows) (goes : Relation → AfterToken) (line : ℕ) (terminal : Terminal) (tokens : Tokens)
     → ((relation : Relation) → resume phrase_at (following relation) tokens ≡ says_after line (goes relation) tokens)
     → resume phrase_at (next_relation context >>= following) (at line terminal ∷ tokens)
@@ -283,7 +283,7 @@ objective-says context goal line Infinity tokens = begun_after-says context (obj
 objective-says context goal line Free tokens = begun_after-says context (objective_declared goal default_objective) (BeforeItems default_objective) line Free tokens
 objective-says context goal line Other tokens = begun_after-says context (objective_declared goal default_objective) (BeforeItems default_objective) line Other tokens
 
--- after a name there
+-- after a name in the objective
 objective_name-says : (context : Context) (goal : Sense) (name : List ℕ) (line : ℕ) (terminal : Terminal) (tokens : Tokens)
     → resume phrase_at (objective_named context goal name (at line terminal)) (at line terminal ∷ tokens) ≡ says_after line (take context (ObjectiveName goal name) terminal) tokens
 objective_name-says context goal name line Colon tokens =
@@ -298,7 +298,7 @@ objective_name-says context goal name line Infinity tokens = begun_after-says co
 objective_name-says context goal name line Free tokens = begun_after-says context (first_item_declared goal name) (InObjective default_objective) line Free tokens
 objective_name-says context goal name line Other tokens = begun_after-says context (first_item_declared goal name) (InObjective default_objective) line Other tokens
 
--- a token that is a colon, or is none and is taken where the name before it was no label
+-- a colon, or another token, which is taken as if the name before it was not a label
 colon-says : (following : Bool → PhraseRule Follows) (labelled unlabelled : AfterToken) (line : ℕ) (terminal : Terminal) (tokens : Tokens)
     → resume phrase_at (following true) tokens ≡ says_after line labelled tokens
     → resume phrase_at (following false) (at line terminal ∷ tokens) ≡ says_after line unlabelled tokens
@@ -331,7 +331,7 @@ semi-says context line Infinity tokens = begun-says InSemis (with_made context [
 semi-says context line Free tokens = begun-says InSemis (with_made context []) line Free tokens
 semi-says context line Other tokens = begun-says InSemis (with_made context []) line Other tokens
 
--- after a number: a name, or the token after a lone number
+-- after a number: a name, or the token after a number without a name
 number-says : (context : Context) (following : Item → PhraseRule Follows) (minus : Bool) (value : Decimal) (named : List ℕ → AfterToken) (lone : AfterToken) (line : ℕ) (terminal : Terminal) (tokens : Tokens)
     → ((column : List ℕ) → terminal ≡ Name column → resume phrase_at (following (Term (apply_sign minus value) column (at line (Name column)))) tokens ≡ says_after line (named column) tokens)
     → resume phrase_at (following (Lone (apply_sign minus value) (at line terminal))) (at line terminal ∷ tokens) ≡ says_after line lone tokens
@@ -347,7 +347,7 @@ number-says context following minus value named lone line Infinity tokens h k = 
 number-says context following minus value named lone line Free tokens h k = follow-passing_none phrase_at (following (Lone _ (at line Free)) (at line Free ∷ tokens)) (at line Free ∷ tokens) ∙ k
 number-says context following minus value named lone line Other tokens h k = follow-passing_none phrase_at (following (Lone _ (at line Other)) (at line Other ∷ tokens)) (at line Other ∷ tokens) ∙ k
 
--- a number after which the phrase is an item's
+-- a number of an item
 item_number-says : (context : Context) (owner : ItemOwner) (minus : Bool) (value : Decimal) (line : ℕ) (terminal : Terminal) (tokens : Tokens)
     → resume phrase_at (number_item minus value >>= item_read context owner) (at line terminal ∷ tokens) ≡ says_after line (take context (ItemNumber owner minus value) terminal) tokens
 item_number-says context owner minus value line terminal tokens =
@@ -368,7 +368,7 @@ row_number-says context name minus value line (Compares relation) tokens =
     (λ r. Goes context (RowLeftRelation (without_terms name (Some (limit_of (apply_sign minus value), r))))) line (Compares relation) tokens (λ r. refl)
 row_number-says context name minus value line _ tokens = refl
 
--- the token after a row's first sign
+-- the token after the first sign of a row
 row_sign-says : (context : Context) (name : List ℕ) (minus : Bool) (line : ℕ) (terminal : Terminal) (tokens : Tokens)
     → resume phrase_at (row_signed context name minus (at line terminal)) (at line terminal ∷ tokens) ≡ says_after line (take context (RowSign name minus) terminal) tokens
 row_sign-says context name minus line Infinity tokens = resume-next phrase_at (λ word. row_after_left context name (infinity minus)) (at line Infinity) tokens
@@ -439,7 +439,7 @@ take-says context (SideSign sided minus) line terminal tokens =
     (λ limit. sided-says context sided limit line terminal tokens)
 take-says context AfterEnd line terminal tokens = end-says context line terminal tokens
 
--- where no token is left, the text is whole after its `end` alone
+-- without more tokens, the text is complete only after its `end`
 pub nothing-says : (line : ℕ) (context : Context) (state : State) → says line context state [] ≡ at_end context state
 nothing-says line context (Between place) = refl
 nothing-says line context (AtObjective goal) = refl

@@ -1,4 +1,4 @@
--- What a whole text declares: legal declarations, none of them refused, and at its end the draft of all.
+-- What a whole text declares: legal declarations, none of which is rejected, and at its end the draft of all.
 use Rattle.std.proofs.Common.{◌≡◌, refl, sym, ap, subst, ◌∙◌, ℕ, zero, suc, List, [], ◌∷◌, ◌++◌, true}
 use Rattle.std.specs.Prelude.{is_some}
 use Rattle.std.specs.List.{list_all}
@@ -40,7 +40,7 @@ draft-later earlier made more (Finished all) h = (h.0 ∙ sym (with_declarations
 draft-later earlier made more (Refused fault) h = tt
 draft-later earlier made more Open h = tt
 
--- a phrase, and the text behind it
+-- a phrase, and the text after it
 joined-fine : (earlier next : Draft) (made more : Declarations) (outcome : Outcome Fault Draft) → next ≡ with_declarations earlier made → refusals_in_turn earlier made ≡ [] → list_all is_lp_legal made ≡ true
     → IsFineText next more outcome → IsFineText earlier (made ++ more) outcome
 joined-fine earlier next made more outcome is unrefused legal later =

@@ -1,4 +1,4 @@
--- What a token makes that completes declarations, and terms of a row.
+-- The effect of tokens that complete declarations, and of terms of a row.
 use Rattle.std.proofs.Common.{◌≡◌, refl, sym, ap, subst, ◌∙◌, ℕ, List, [], ◌∷◌, Bool, true, false, cond}
 use Rattle.std.specs.Prelude.{Option, Some, None, Ok, Err, is_some, ◌||◌, unwrap_or}
 use Rattle.std.specs.List.{list_any}

@@ -1,4 +1,4 @@
--- The words that mean something are the reserved ones.
+-- The words with a meaning are the reserved ones.
 use Rattle.std.proofs.Common.{◌≡◌, refl, sym, ap, subst, ◌∙◌, ℕ, ◌<◌, ◌≤◌, arith, List, [], ◌∷◌, Bool, true, false, cond, map, length}
 use Rattle.std.specs.Prelude.{Option, Some, None, ◌||◌, ◌&&◌, nat_eq, nat_le}
 use Rattle.std.specs.List.{find, list_all, list_any}
@@ -56,9 +56,9 @@ none-long (w ∷ words) most word h longer = by (leb (length w) most) refl h (λ
 word_class-long : (word : List ℕ) → 8 < length word → class_of word ≡ Name
 word_class-long word longer = word_class-name word (none-long reserved_words 8 (map lower_byte word) refl (subst (λ (n : ℕ). 8 < n) (sym (length-map word lower_byte)) longer))
 
--- ---- words that begin with other letters than reserved ones
+-- ---- words whose first letters are not those of a reserved word
 
--- the word has two letters, and begins with one of these beginnings
+-- the word has two letters or more, and begins with one of these pairs
 abbrev begins_with : List (List ℕ) → List ℕ → Bool
 begins_with beginnings (first ∷ second ∷ _) = list_any (same_bytes (first ∷ second ∷ [])) beginnings
 begins_with beginnings _ = false
@@ -101,7 +101,7 @@ none-single ((letter ∷ next ∷ word) ∷ words) first h = by (nat_eq first le
     by false true all later = later all
     by b false all later = cc
 
--- a word that is too long for a reserved one, or begins with other letters, is a name
+-- a word that is longer than any reserved one, or begins with other letters, is a name
 pub word_class-other : (word : List ℕ) → may_be_reserved word ≡ false → class_of word ≡ Name
 word_class-other [] h = refl
 word_class-other (first ∷ []) h = word_class-name (first ∷ []) (none-single reserved_words (lower_byte first) refl)

@@ -1,4 +1,4 @@
--- The tokens of worked lines, and the first faults of worked files, by computation.
+-- The tokens of worked lines, and the first errors of worked files, by computation.
 use Rattle.std.proofs.Common.{◌≡◌, refl}
 use Rattle.std.specs.Prelude.{ℕ, Option, Some, None, List, ◌∷◌, [], ◌++◌, codes}
 use Rattle.std.specs.Fmt.{digits}
@@ -72,7 +72,7 @@ pub binary_lower : first_lp_fault (binary_lines (codes "x >= 2")) ≡ of_name Bo
 unfolding digits trailing_zeros
 binary_lower = refl
 
--- ---- lines in place of a row
+-- ---- other lines instead of a row
 
 abbrev with_row : List ℕ → List ℕ
 with_row line = text (codes "min x" ∷ codes "st" ∷ line ∷ codes "end" ∷ [])

@@ -1,4 +1,4 @@
--- Worked files: each declares a model, which is written out, by computation.
+-- Worked files: each declares the model that is written out, by computation.
 use Rattle.std.proofs.Common.{◌≡◌, refl}
 use Rattle.std.specs.Prelude.{ℕ, ℤ, pos, negsuc, None, List, ◌∷◌, [], ◌++◌, true, codes}
 use Rattle.std.specs.List.{list_all, flat_map}
@@ -20,7 +20,7 @@ use Rattle.mpslp_types.specs.declared.kinds.Limit.TheVariants.{MinusInf, Finite,
 use Rattle.mpslp_builder.proofs.Acceptance.{means-from_none}
 use Rattle.mpslp_lp.specs.LpText.{is_lp_text, declarations_of, DeclaresLp}
 
--- lines, each ended by a line feed
+-- lines, each followed by a line feed
 abbrev pub text : List (List ℕ) → List ℕ
 text lines = flat_map (λ line. line ++ 10 ∷ []) lines
 
@@ -89,7 +89,7 @@ pub small_passes : Passes small small_model
 unfolding digits trailing_zeros
 small_passes = record { is_text = refl; objective = refl; legal = refl; unrefused = refl; no_fault = refl; model = refl }
 
--- ---- a row between two sides, one of infinite size
+-- ---- a ranged row with one infinite limit
 
 abbrev pub infinite_side : List ℕ
 infinite_side = four_lines (codes "1 <= x + y <= 1e20")
@@ -140,7 +140,7 @@ pub unlabelled_passes : Passes unlabelled (model Minimize (codes "obj") zero_num
 unfolding digits trailing_zeros
 unlabelled_passes = record { is_text = refl; objective = refl; legal = refl; unrefused = refl; no_fault = refl; model = refl }
 
--- ---- a binary column that is fixed, and an integer one that stands nowhere else
+-- ---- a binary column that is fixed, and an integer column that is used nowhere else
 
 abbrev pub binary_lines : List ℕ → List ℕ
 binary_lines bound = text (codes "min x + y" ∷ codes "bounds" ∷ bound ∷ codes "binaries" ∷ codes "x" ∷ codes "generals" ∷ codes "z" ∷ codes "end" ∷ [])
@@ -182,7 +182,7 @@ pub maximized_passes : Passes maximized maximized_model
 unfolding digits trailing_zeros
 maximized_passes = record { is_text = refl; objective = refl; legal = refl; unrefused = refl; no_fault = refl; model = refl }
 
--- ---- semi-continuous columns, whose section stands before another one
+-- ---- semi-continuous columns, whose section is before another one
 
 abbrev pub semi_lines : List ℕ → List ℕ
 semi_lines bound = text (codes "min x + y" ∷ codes "bounds" ∷ bound ∷ codes "SEMI-" ∷ codes "continuous" ∷ codes "x" ∷ codes "gen" ∷ codes "y" ∷ codes "end" ∷ [])
@@ -193,7 +193,7 @@ pub semi_passes : Passes (semi_lines (codes "1 <= x <= 4")) (model Minimize (cod
 unfolding digits trailing_zeros
 semi_passes = record { is_text = refl; objective = refl; legal = refl; unrefused = refl; no_fault = refl; model = refl }
 
--- without the dash the word opens the section, and a column has the name that follows it
+-- without the dash, the word opens the section, and the name after it is that of a column
 abbrev pub semi_without_dash : List ℕ
 semi_without_dash = text (codes "min x semi continuous bounds continuous <= 2 end" ∷ [])
 

@@ -1,4 +1,4 @@
--- What one token makes: what a token completes, and the tokens of items and sides.
+-- What one token does: the declarations that it completes, and the tokens of items and sides.
 use Rattle.std.specs.Prelude.{ℕ, Bool, false, if◌then◌else◌, List, [], ◌∷◌, ◌++◌, None, unwrap_or}
 use Rattle.std.specs.List.{list_any}
 use Rattle.mpslp_decimal.specs.Decimal.{Number as Decimal}
@@ -29,19 +29,19 @@ use Rattle.mpslp_lp.specs.TokenByToken.{new_column}
 use Rattle.mpslp_lp.specs.declared.states.State.TheVariants.{Between, Signs, ItemNumber}
 
 pub data AfterToken : Type 0 where
-  -- the token is taken, and then this stands before, and so far a phrase has come
+  -- the token is accepted, with the context and the state after it
   Goes : Context → State → AfterToken
-  -- it makes this fault
+  -- the token causes this error
   Refuses : FaultKind → AfterToken
 
--- a section's word that may not stand here makes its own fault, before all others
+-- a section word in the wrong place causes its own error, before any other
 abbrev pub refuse : Context → Terminal → FaultKind → AfterToken
 refuse context terminal kind = Refuses (unwrap_or (terminal_fault context terminal) kind)
 
 abbrev pub with_made : Context → Declarations → Context
 with_made context made = record context { earlier = with_declarations context.earlier made }
 
--- declarations that the token completes, with their refusals
+-- declarations that the token completes, with the errors of the builder for them
 abbrev pub declare_unless_refused : Context → Terminal → List BuildFault → Place → Declarations → AfterToken
 declare_unless_refused context terminal [] place made = Goes (with_made context made) (Between place)
 declare_unless_refused context terminal (refusal ∷ more) place made = refuse context terminal (kind_of_build_fault refusal)
@@ -49,7 +49,7 @@ declare_unless_refused context terminal (refusal ∷ more) place made = refuse c
 abbrev pub declare_at : Context → Terminal → Place → Declarations → AfterToken
 declare_at context terminal place made = declare_unless_refused context terminal (refusals_in_turn context.earlier made) place made
 
--- declarations that what stood before the token completes, with their refusals; the token is taken at the place that follows
+-- declarations that the token before this one completes, with their errors; this token is taken at the place that follows
 abbrev pub take_after_declarations : Context → Terminal → List BuildFault → Declarations → AfterToken → AfterToken
 take_after_declarations context terminal [] made next = next
 take_after_declarations context terminal (refusal ∷ more) made next = refuse context terminal (kind_of_build_fault refusal)
@@ -62,7 +62,7 @@ take_term context (OfRow row) column value terminal =
     if list_any (λ term. same_bytes column term.0) row.terms then refuse context terminal DuplicateEntry
     else Goes (with_made context []) (Between (InRow (record row { terms = row.terms ++ (column, value) ∷ [] })))
 
--- an item's token after its first sign
+-- a token of an item after its first sign
 abbrev pub take_after_signs : Context → ItemOwner → Bool → Terminal → AfterToken
 take_after_signs context owner minus terminal = elim terminal as (λ _. AfterToken) [
   | Terminal.Sign more ↦ Goes context (Signs owner (product minus more))
@@ -71,7 +71,7 @@ take_after_signs context owner minus terminal = elim terminal as (λ _. AfterTok
   | _ ↦ refuse context terminal BadToken
 ]
 
--- an item's first token, where the run of signs may be empty
+-- the first token of an item that may have no sign
 abbrev pub begin_item : Context → ItemOwner → Terminal → AfterToken
 begin_item context owner terminal = elim terminal as (λ _. AfterToken) [
   | Terminal.Sign minus ↦ Goes context (Signs owner minus)
@@ -92,7 +92,7 @@ take_side context (SideOfRow row relation) limit terminal = declare_at context t
 take_side context (SideOfBound is_new column relation) limit terminal =
     take_bound context (new_column is_new column) column (limits_by relation limit) terminal (InBounds None)
 
--- a number or infinity, after signs
+-- a number or infinity, after the sign
 abbrev pub take_limit : (Limit → AfterToken) → Context → Bool → Terminal → AfterToken
 take_limit goes context minus terminal = elim terminal as (λ _. AfterToken) [
   | Terminal.Number value ↦ goes (limit_of (apply_sign minus value))

@@ -1,4 +1,4 @@
--- What the code answers of declarations that a token completes, and of a token.
+-- What the code returns for declarations that a token completes, and for a token.
 use Rattle.std.specs.Prelude.{◌≡◌, nat_lt, if◌then◌else◌, ℕ, List, [], ◌∷◌, ◌++◌, true, false, Option, Some, Result, Ok, Err, None}
 use Rattle.std.specs.Option.{option_map}
 use Rattle.mpslp_builder.specs.Declaration.{Declarations, Draft, with_declarations, bounds_declared}
@@ -26,7 +26,7 @@ use Rattle.mpslp_lp.specs.AfterToken.AfterToken.{Goes, Refuses}
 
 -- ---- declarations
 
--- Declarations that have these refusals are made where they have none, or the first refusal is told, or there was no memory.
+-- The declarations are made if they have no errors. Otherwise their first error is returned, or the allocation failed.
 abbrev pub DeclaresUnless : List BuildFault → Draft → Declarations → LineResult → Draft → Type 0
 DeclaresUnless refusals earlier made (Ok _) later = (refusals ≡ []) × (later ≡ with_declarations earlier made)
 DeclaresUnless refusals earlier made (Err (Fault kind)) later = option_map kind_of_build_fault (head_of refusals) ≡ Some kind
@@ -36,19 +36,19 @@ DeclaresUnless refusals earlier made (Err OutOfMemory) later = Unit {0}
 abbrev pub Declares : Draft → Declarations → LineResult → Draft → Type 0
 Declares earlier made answer later = DeclaresUnless (refusals_in_turn earlier made) earlier made answer later
 
--- the sides of a column, judged together
+-- the bounds of a column, checked together
 abbrev pub DeclaresBounds : Draft → List ℕ → Option Limit → Option Limit → LineResult → Draft → Type 0
 DeclaresBounds earlier column lower upper answer later =
     DeclaresUnless (bounds_refusals earlier column lower upper) earlier (bounds_declared column lower upper) answer later
 
--- the sides of a column, after other declarations of it
+-- the bounds of a column, after other declarations of it
 abbrev pub DeclaresSides : Draft → Declarations → List ℕ → Option Limit → Option Limit → LineResult → Draft → Type 0
 DeclaresSides earlier front column lower upper answer later =
     DeclaresUnless (bounds_refusals (with_declarations earlier front) column lower upper) earlier (front ++ bounds_declared column lower upper) answer later
 
 -- ---- terms of a row
 
--- A column that has no term in the row gets one; or it has one; or there was no memory.
+-- The row gets a term of this column. It is an error if the row has one already, and an allocation may fail.
 abbrev pub AddsTerm : PartialRow → List ℕ → Number → Result PartialRow LineError → Type 0
 AddsTerm row column value (Ok more) =
     (list_any (λ term. same_bytes column term.0) row.terms ≡ false) × (more ≡ record row { terms = row.terms ++ (column, value) ∷ [] })
@@ -60,31 +60,31 @@ AddsTerm row column value (Err OutOfMemory) = Unit {0}
 abbrev pub TokenResult : Type 0
 TokenResult = Result State LineError
 
--- The token makes what it makes, and then this stands before; or it makes the fault; or there was no memory.
+-- The token is accepted and the context is as stated, or it causes the error, or an allocation failed.
 abbrev pub TakesToken : AfterToken → TokenResult → Context → Type 0
 TakesToken taken (Ok state) after = taken ≡ Goes after state
 TakesToken taken (Err (Fault kind)) after = taken ≡ Refuses kind
 TakesToken taken (Err OutOfMemory) after = Unit {0}
 
--- a phrase begins where declarations were made
+-- a phrase begins at the place if the declarations were made
 abbrev pub answer_at : Place → LineResult → TokenResult
 answer_at place (Ok _) = Ok (Between place)
 answer_at place (Err error) = Err error
 
 -- ---- a line
 
--- the error of a line before tokens that have these faults wherever they stand: the least of them is told before it. Want of
--- memory is told at once
+-- The error of a line before tokens with these lexical errors: the least of them is reported instead. Out of memory is
+-- reported at once.
 abbrev pub error_before : List FaultKind → LineError → LineError
 error_before faults (Fault kind) = elim (least_kind faults) [ Some own ↦ Fault own | None ↦ Fault kind ]
 error_before faults OutOfMemory = OutOfMemory
 
--- the lesser of two kinds, of which the first may be missing
+-- the lesser of two kinds, of which the first is optional
 abbrev pub lesser_of : Option FaultKind → FaultKind → FaultKind
 lesser_of None second = second
 lesser_of (Some first) second = if nat_lt (kind_rank second) (kind_rank first) then second else first
 
--- The error is the least of these faults.
+-- The error is the least of these errors.
 abbrev pub IsLeastError : List FaultKind → LineError → Type 0
 IsLeastError faults (Fault kind) = least_kind faults ≡ Some kind
 IsLeastError faults OutOfMemory = ⊥

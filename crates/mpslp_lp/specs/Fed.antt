@@ -1,4 +1,4 @@
--- What is known of LP text that is fed in pieces.
+-- What is known of LP text that is read in pieces.
 use Rattle.std.specs.Prelude.{◌≡◌, ℕ, ◌-◌, ◌^◌, ◌≤◌, Bool, List, ◌++◌, Option, None, Some}
 use Rattle.std.specs.List.{enumerate_from}
 use Rattle.mpslp_builder.specs.Declaration.{Draft}
@@ -14,20 +14,20 @@ use Rattle.mpslp_lp.specs.declared.context.Context.{Context}
 use Rattle.mpslp_lp.specs.declared.line_reader.LineReader.{LineReader}
 use Rattle.mpslp_lp.specs.declared.states.State.{State}
 
--- what a text of these lines says
+-- the outcome of a text of these lines
 abbrev pub lines_outcome : List (List ℕ) → Outcome Fault Draft
 lines_outcome text = lines_say (enumerate_from 1 text)
 
--- A text that begins with these lines has this fault on one of them, whatever lines follow.
+-- A text that begins with these lines has this error on one of them, whatever lines follow.
 abbrev pub IsFaultOfLines : List (List ℕ) → Fault → Type 0
 IsFaultOfLines text fault = (more : List (List ℕ)) → lines_outcome (text ++ more) ≡ Refused fault
 
--- This is the fault of the first complete line that has one.
+-- This is the error of the first complete line that has one.
 abbrev pub IsFaultOfComplete : List ℕ → Fault → Type 0
 IsFaultOfComplete bytes fault = IsFaultOfLines (complete_lines bytes) fault
 
--- Lines were read from the first on, and none has a fault: whatever lines follow, they decide from what stands before them,
--- the state that the lines led to, and the number of the next line.
+-- The lines of the text were read and have no error. Whatever lines follow, their outcome depends only on this context, this
+-- state and the number of the next line.
 pub record LedTo (text : List (List ℕ)) (context : Context) (state : State) (number : ℕ) : Type 0 where
   pub counted : number ≤ 2 ^ 64 - 1
   pub decides : (more : List (List ℕ)) → lines_outcome (text ++ more) ≡ read_from context state (enumerate_from number more)
@@ -39,7 +39,7 @@ HasRead reader text = LedTo text reader.context reader.state reader.number
 abbrev pub is_ended : LineReader → Bool
 is_ended reader = is_at_end reader.state
 
--- These bytes were fed, and none of them was refused.
+-- These bytes were read, and none was rejected.
 abbrev pub IsFedAll : Option (PieceReader LineReader) → List ℕ → Type 0
 IsFedAll None bytes = ⊥
 IsFedAll (Some reader) bytes = IsFed HasRead is_ended reader bytes

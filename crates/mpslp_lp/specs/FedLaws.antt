@@ -1,4 +1,4 @@
--- Laws of a reader that is fed LP text in pieces. They stand here since its `impl` cites them.
+-- Laws of a reader of LP text in pieces. They are in `specs/` because its `impl` cites them.
 use Rattle.std.proofs.Common.{◌≡◌, sym, refl, ap, ◌∙◌, ℕ, List, [], ◌∷◌, ◌++◌, true, false, append-nil, append_assoc}
 use Rattle.std.specs.Prelude.{not, is_some, Option, Some, None}
 use Rattle.std.specs.List.{enumerate_from}
@@ -17,9 +17,9 @@ use Rattle.mpslp_lp.specs.declared.line_reader.LineReader.{LineReader}
 use Rattle.mpslp_lp.specs.declared.states.State.{State}
 use Rattle.mpslp_lp.specs.declared.states.State.TheVariants.{AfterEnd}
 
--- ---- lines behind that of `end`
+-- ---- lines after that of `end`
 
--- they are not looked at
+-- they are ignored
 pub ended-reads : (context : Context) (state : State) (more : List (ℕ × List ℕ)) → is_at_end state ≡ true → read_from context state more ≡ Finished context.earlier
 ended-reads context AfterEnd [] h = refl
 ended-reads context AfterEnd (line ∷ more) h = refl
@@ -34,33 +34,33 @@ read-behind_end reader text more led ended = record {
       ∙ sym (ended-reads reader.context reader.state (enumerate_from reader.number rest) ended);
 }
 
--- ---- the first fault
+-- ---- the first error
 
--- The fault of some lines is that of more lines.
+-- The error of some lines is also that of more lines.
 pub lines_fault-stays : (text more : List (List ℕ)) (fault : Fault) → IsFaultOfLines text fault → IsFaultOfLines (text ++ more) fault
 lines_fault-stays text more fault h = λ rest. ap lines_outcome (append_assoc text more rest) ∙ h (more ++ rest)
 
--- Where it is that of all lines, it is that of the text.
+-- If it is that of all lines, it is that of the text.
 pub lines_fault-is_first : (bytes : List ℕ) (fault : Fault) → IsFaultOfLines (lines bytes) fault → IsFirstLpFault bytes fault
 lines_fault-is_first bytes fault h = ap fault_of (ap lines_outcome (sym (append-nil (lines bytes))) ∙ h [])
 
--- The first fault of the lines that are complete is that of the whole text, whatever follows.
+-- The first error of the complete lines is that of the whole text, whatever follows.
 pub complete-is_first : (bytes more : List ℕ) (fault : Fault) → IsFaultOfComplete bytes fault → IsFirstLpFault (bytes ++ more) fault
 complete-is_first bytes more fault h = ap fault_of (ap lines_outcome (lines-more bytes more) ∙ h (lines (open_tail bytes ++ more)))
 
 -- ---- a reader
 
--- A reader that was fed bytes still reads.
+-- A reader that has read bytes still reads.
 pub fed-works : (reader : Option (PieceReader LineReader)) (bytes : List ℕ) → IsFedAll reader bytes → not (is_some reader) ≡ false
 fed-works None bytes h = absurd h
 fed-works (Some reader) bytes h = refl
 
--- lines that were read have no fault
+-- lines that were read have no error
 pub never_refused : (context : Context) (state : State) (fault : Fault) → at_end context state ≡ Refused fault → ⊥
 never_refused context AfterEnd fault h = cc
 never_refused context _ fault h = cc
 
--- No line that is complete in the bytes that it was fed has a fault.
+-- No complete line of the bytes that were read has an error.
 pub fed-is_clean : (reader : Option (PieceReader LineReader)) (bytes : List ℕ) (fault : Fault) → IsFedAll reader bytes → IsFaultOfComplete bytes fault → ⊥
 fed-is_clean None bytes fault h found = h
 fed-is_clean (Some reader) bytes fault h found =

@@ -1,4 +1,4 @@
--- The first fault of LP text.
+-- The first error of LP text.
 use Rattle.std.specs.Prelude.{◌≡◌, ℕ, List, Option, Some, None}
 use Rattle.mpslp_builder.specs.Declaration.{Draft}
 use Rattle.mpslp_builder.specs.Meaning.{whole_fault, file_fault}
@@ -8,7 +8,7 @@ use Rattle.mpslp_lp.specs.Rules.{Outcome}
 use Rattle.mpslp_lp.specs.Rules.Outcome.{Finished, Refused, Open}
 use Rattle.mpslp_lp.specs.LpText.{outcome}
 
--- what is told of an outcome; of text that is whole, what is wrong with all that it declares
+-- the error that is reported for an outcome; for complete text, the error of the whole file
 abbrev pub fault_of : Outcome Fault Draft → Option Fault
 fault_of (Finished all) = file_fault all
 fault_of (Refused fault) = Some fault
@@ -17,6 +17,6 @@ fault_of Open = Some (whole_fault MissingEnd None)
 abbrev pub first_lp_fault : List ℕ → Option Fault
 first_lp_fault bytes = fault_of (outcome bytes)
 
--- The fault is the first one of the bytes.
+-- This is the first error of the bytes.
 abbrev pub IsFirstLpFault : List ℕ → Fault → Type 0
 IsFirstLpFault bytes fault = first_lp_fault bytes ≡ Some fault

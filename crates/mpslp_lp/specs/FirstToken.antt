@@ -1,4 +1,4 @@
--- What the first token of a phrase makes.
+-- What the first token of a phrase does.
 use Rattle.std.specs.Prelude.{ℕ, false, if◌then◌else◌, List, [], ◌∷◌, Option, Some, None}
 use Rattle.mpslp_builder.specs.Declaration.{declare_column, declare_integer, declare_binary, declare_semi, Declaration}
 use Rattle.mpslp_types.specs.declared.kinds.Limit.TheVariants.{PlusInf}

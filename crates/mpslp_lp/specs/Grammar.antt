@@ -1,4 +1,4 @@
--- The grammar of LP text: which phrase begins with a token at a place, and what the tokens of a text say.
+-- The grammar of LP text: which phrase begins with a token at a place, and the outcome of a whole text.
 use Rattle.std.specs.Prelude.{ℕ, Bool, true, false, ◌==◌, if◌then◌else◌, List, [], ◌∷◌, map, codes, Some, None}
 use Rattle.mpslp_types.specs.Name.{same_bytes, lower_byte}
 use Rattle.mpslp_builder.specs.Declaration.{Declaration, declare_column, declare_integer, declare_binary, declare_semi, Declarations, Draft}
@@ -27,12 +27,12 @@ use Rattle.mpslp_lp.specs.declared.words.SectionWord.TheVariants.{Minimize, Maxi
 
 -- ---- sections
 
--- `end` is the last token of its line
+-- `end` must be the last token of its line
 abbrev pub line_end : Context → ℕ → PhraseRule Follows
 line_end context line [] = Reads (Ends context.earlier) 0
 line_end context line (token ∷ tokens) = if token.line == line then refuses context token BadToken tokens else Reads (Ends context.earlier) 0
 
--- the last word of a section's opening, and where it leads
+-- the last word of a section heading of several words, and the place where it leads
 abbrev pub last_word_text : LastWord → List ℕ
 last_word_text To = codes "to"
 last_word_text That = codes "that"
@@ -43,7 +43,7 @@ opened_by To = BetweenRows
 opened_by That = BetweenRows
 opened_by Continuous = InSemis
 
--- in upper case, lower case or both
+-- ignoring case
 abbrev pub is_last_word : LastWord → List ℕ → Bool
 is_last_word wanted word = same_bytes (map lower_byte word) (last_word_text wanted)
 
@@ -53,7 +53,7 @@ last_word context wanted token = elim token.terminal [
   | _ ↦ refuses context token BadToken
 ]
 
--- after `semi`: perhaps `- continuous`
+-- after `semi`: optionally `- continuous`
 abbrev pub semi_from : Context → TerminalAt → PhraseRule Follows
 semi_from context token = elim token.terminal [
   | Sign minus ↦ if minus then (next >>= λ dash. next >>= last_word context Continuous) else goes_to context InSemis []
@@ -73,14 +73,14 @@ section_start context token Semi = ahead >>= semi_from context
 section_start context token Semis = goes_to context InSemis []
 section_start context token End = line_end context token.line
 
--- a section's word, where a section may begin
+-- a section word, if a section may begin here
 abbrev pub section_from : Context → TerminalAt → SectionWord → PhraseRule Follows
 section_from context token word = elim (section_fault context.sections_seen (section_of word)) [
   | Some kind ↦ fails token kind
   | None ↦ section_start (record context { sections_seen = with_section context.sections_seen (section_of word) }) token word
 ]
 
--- a section begins anywhere but within a row
+-- a section begins anywhere but inside a row
 abbrev pub may_begin_section : Place → Bool
 may_begin_section (InRow _) = false
 may_begin_section _ = true
@@ -95,7 +95,7 @@ name_in_section place kind_declared context token = elim token.terminal [
 
 -- ---- the text
 
--- the phrase that begins with a token which opens no section. Nothing but a section begins at the start
+-- the phrase that begins with a token that opens no section; at the start only a section may begin
 abbrev pub phrase : Place → Context → TerminalAt → PhraseRule Follows
 phrase AtStart context token = refuses context token BadToken
 phrase (BeforeItems name) context token = item_from context token >>= objective_item context name
@@ -123,7 +123,7 @@ phrase_at point token = elim token.terminal [
   | _ ↦ phrase point.place point.context token
 ]
 
--- what the tokens of a text say: they come to `end`, or the first of them that makes a fault, or neither
+-- the outcome of the tokens of a text: `end`, the first token that causes an error, or neither
 abbrev pub text_says : List TerminalAt → Outcome Fault Draft
 text_says tokens = phrases phrase_at start 0 tokens
 

@@ -13,17 +13,17 @@ use Rattle.mpslp_lp.specs.Sides.{apply_sign}
 pub data Item : Type 0 where
   -- a coefficient, a column, and the token of its name
   Term : Decimal → List ℕ → TerminalAt → Item
-  -- a number that no name follows, and the token after it, which is left
+  -- a number that no name follows, and the token after it, which is not taken
   Lone : Decimal → TerminalAt → Item
 
 abbrev pub one : Decimal
 one = record { mantissa = pos 1; exponent = pos 0 }
 
--- the sign of two, of which each may be a minus
+-- the product of two signs; true is a minus
 abbrev pub product : Bool → Bool → Bool
 product minus more = if minus then not more else more
 
--- after signs and a number: perhaps a name
+-- after signs and a number: optionally a name
 abbrev pub number_item : (minus : Bool) → Decimal → PhraseRule Item
 number_item minus value [] = Unfinished
 number_item minus value (token ∷ tokens) = elim token.terminal [
@@ -31,7 +31,7 @@ number_item minus value (token ∷ tokens) = elim token.terminal [
   | _ ↦ Reads (Lone (apply_sign minus value) token) 0
 ]
 
--- after signs, of which minus is the product: more signs, a name, or a number and perhaps a name
+-- after signs with this product: more signs, a name, or a number and optionally a name
 abbrev pub signed_item : Context → (minus : Bool) → PhraseRule Item
 signed_item context minus [] = Unfinished
 signed_item context minus (token ∷ tokens) = elim token.terminal [
@@ -41,7 +41,7 @@ signed_item context minus (token ∷ tokens) = elim token.terminal [
   | _ ↦ refuses context token BadToken tokens
 ]
 
--- an item that begins with a token, its run of signs perhaps empty
+-- an item that begins with this token and may have no sign
 abbrev pub item_from : Context → TerminalAt → PhraseRule Item
 item_from context token = elim token.terminal [
   | Sign minus ↦ signed_item context minus
@@ -50,7 +50,7 @@ item_from context token = elim token.terminal [
   | _ ↦ refuses context token BadToken
 ]
 
--- perhaps a colon, which makes the name before it a label
+-- optionally a colon, which makes the name before it a label
 abbrev pub colon : PhraseRule Bool
 colon [] = Unfinished
 colon (token ∷ tokens) = elim token.terminal [

@@ -13,8 +13,8 @@ use Rattle.mpslp_lp.specs.FirstFault.{IsFirstLpFault}
 use Rattle.mpslp_lp.specs.Rules.Outcome.{Refused}
 use Rattle.mpslp_lp.specs.Fed.{lines_outcome, IsFaultOfLines}
 
--- From a place of a line on, each text is the slice of the line at its start and has a byte at least, and no token begins
--- before the one before it ends.
+-- From a position of a line on, each token is the slice of the line at its start and has at least one byte, and no token
+-- begins before the one before it ends.
 abbrev pub AreSlices : List ℕ → ℕ → List Token → Type 0
 AreSlices line place [] = Unit {0}
 AreSlices line place (token ∷ more) =
@@ -30,7 +30,7 @@ pub record SpacedToken : Type 0 where
   pub blanks : List ℕ
   pub token : Token
 
--- these in order, and what is left
+-- the spaced tokens in order, and then the rest
 abbrev pub joined : List SpacedToken → List ℕ → List ℕ
 joined [] rest = rest
 joined (spaced ∷ more) rest = spaced.blanks ++ (spaced.token.text ++ joined more rest)
@@ -38,12 +38,12 @@ joined (spaced ∷ more) rest = spaced.blanks ++ (spaced.token.text ++ joined mo
 abbrev pub are_blank : List ℕ → Bool
 are_blank bytes = list_all is_blank bytes
 
--- nothing, or a backslash and what follows it
+-- nothing, or a backslash and any bytes
 abbrev pub is_comment : List ℕ → Bool
 is_comment [] = true
 is_comment (byte ∷ bytes) = begins_comment byte
 
--- The bytes are these tokens, with nothing but spaces and tabs between them, and then perhaps a comment.
+-- The bytes are these tokens, with only spaces and tabs between them, and optionally a comment at the end.
 pub record IsMadeOf (found : List Token) (bytes : List ℕ) : Type 0 where
   pub parts : List SpacedToken
   pub last_blanks : List ℕ
@@ -58,7 +58,7 @@ pub record IsMadeOf (found : List Token) (bytes : List ℕ) : Type 0 where
 abbrev pub LinesAreTokens : Type 0
 LinesAreTokens = (line : List ℕ) → IsMadeOf (tokens line) line
 
--- what a declaration gives a name, it gives an LP name
+-- a name that a declaration declares is an LP name
 abbrev pub has_lp_name : Declaration → Bool
 has_lp_name (declare_objective name) = is_lp_name name
 has_lp_name (declare_row name form) = is_lp_name name
@@ -69,26 +69,26 @@ has_lp_name _ = true
 abbrev pub DeclareLpNames : Type 0
 DeclareLpNames = (bytes : List ℕ) → IsTrue (list_all has_lp_name (declarations_of bytes))
 
--- Two models that the same bytes declare are one.
+-- Two models that the same bytes declare are equal.
 abbrev pub DeclareOneModel : Type 0
 DeclareOneModel = (bytes : List ℕ) (m n : LinearModel) → DeclaresLp bytes m → DeclaresLp bytes n → m ≡ n
 
--- Two first faults of the same bytes are one.
+-- Two first errors of the same bytes are equal.
 abbrev pub HaveOneFirstFault : Type 0
 HaveOneFirstFault = (bytes : List ℕ) (a b : Fault) → IsFirstLpFault bytes a → IsFirstLpFault bytes b → a ≡ b
 
--- No bytes both declare a model and have a first fault.
+-- No bytes both declare a model and have a first error.
 abbrev pub DeclareOrFail : Type 0
 DeclareOrFail = (bytes : List ℕ) (m : LinearModel) (fault : Fault) → DeclaresLp bytes m → IsFirstLpFault bytes fault → ⊥
 
--- Bytes that have no first fault declare a model.
+-- Bytes without a first error declare a model.
 abbrev pub DeclareUnlessFaulty : Type 0
 DeclareUnlessFaulty = (bytes : List ℕ) → ((fault : Fault) → IsFirstLpFault bytes fault → ⊥) → (m : LinearModel) × DeclaresLp bytes m
 
--- The bytes of a line are legal exactly where each of its tokens is known.
+-- The bytes of a line are legal if and only if none of its tokens is unknown.
 abbrev pub UnknownAreIllegal : Type 0
 UnknownAreIllegal = (line : List ℕ) → has_legal_bytes line ≡ list_all (λ (token : Token). is_known token.kind) (tokens line)
 
--- A fault of a text of these lines is that of every text that begins with them.
+-- The error of a text of some lines is that of every text that begins with these lines.
 abbrev pub FaultsOfLinesStay : Type 0
 FaultsOfLinesStay = (text : List (List ℕ)) (fault : Fault) → lines_outcome text ≡ Refused fault → IsFaultOfLines text fault

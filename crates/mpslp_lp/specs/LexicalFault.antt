@@ -1,4 +1,4 @@
--- The faults of a line by itself, whatever stands before it.
+-- The errors of a line on its own, whatever comes before it.
 use Rattle.std.specs.Prelude.{ℕ, List, [], ◌∷◌, ◌++◌, filter_map, Option, Some, None}
 use Rattle.mpslp_types.specs.Name.{is_like_exponent}
 use Rattle.mpslp_types.specs.FaultOrder.{least_kind}
@@ -15,7 +15,7 @@ use Rattle.mpslp_lp.specs.declared.tokens.TokenKind.TheVariants.{Word, Number, D
 use Rattle.mpslp_lp.specs.declared.words.WordClass.{WordClass}
 use Rattle.mpslp_lp.specs.declared.words.WordClass.TheVariants.{Sos, Name}
 
--- a name is one of MPS, and is not like an exponent; no word has a byte that no name has
+-- a name is legal in MPS and is not like an exponent; each byte of a word is legal in a name
 abbrev pub name_fault : List ℕ → Option FaultKind
 name_fault name = first_held (name_tests name ++ (is_like_exponent name, kinds.NameLikeExponent) ∷ [])
 
@@ -24,7 +24,7 @@ word_fault text Sos = Some kinds.Sos
 word_fault text Name = name_fault text
 word_fault text _ = None
 
--- the first fault of a token wherever it stands
+-- the first error of a token, whatever its position
 abbrev pub token_fault : TokenKind → List ℕ → Option FaultKind
 token_fault Word text = word_fault text (class_of text)
 token_fault Number text = number_fault text
@@ -36,7 +36,7 @@ token_fault DoubleColon text = Some kinds.Sos
 token_fault Arrow text = Some kinds.Indicator
 token_fault _ text = None
 
--- the least of all its tokens; length and bytes come before them
+-- the least over all tokens; the length and the bytes of the line are checked first
 abbrev pub lexical_fault : List ℕ → Option FaultKind
 lexical_fault line = elim (first_held (legal_tests line (outside_comment line))) [
   | Some kind ↦ Some kind

@@ -1,4 +1,4 @@
--- Lines read one after another, in place of all their tokens.
+-- Lines read one after another, instead of all tokens at once.
 use Rattle.std.specs.Prelude.{ℕ, Bool, true, false, List, [], ◌∷◌, map, filter_map, Some, None}
 use Rattle.mpslp_types.specs.FaultOrder.{least_kind}
 use Rattle.mpslp_types.specs.declared.faults.FaultKind.{FaultKind}
@@ -16,7 +16,7 @@ use Rattle.mpslp_lp.specs.AfterToken.{AfterToken, Goes, Refuses}
 use Rattle.mpslp_lp.specs.TokenStep.{take, at_end}
 use Rattle.mpslp_lp.specs.LexicalFault.{token_fault, lexical_fault}
 
--- tokens one after another, up to one that makes a fault
+-- tokens one after another, up to one that causes an error
 abbrev pub take_all : Context → State → List Terminal → AfterToken
 take_all context state [] = Goes context state
 take_all context state (terminal ∷ terminals) = elim (take context state terminal) [
@@ -24,18 +24,18 @@ take_all context state (terminal ∷ terminals) = elim (take context state termi
   | Refuses kind ↦ Refuses kind
 ]
 
--- the faults that tokens have wherever they stand
+-- the lexical errors of tokens
 abbrev pub token_faults : List Token → List FaultKind
 token_faults found = filter_map (λ (token : Token). token_fault token.kind token.text) found
 
--- tokens of which none has such a fault, or the least of these
+-- tokens without a lexical error, or the least of these errors
 abbrev pub take_tokens : Context → State → List Token → AfterToken
 take_tokens context state found = elim (least_kind (token_faults found)) [
   | Some kind ↦ Refuses kind
   | None ↦ take_all context state (map as_terminal found)
 ]
 
--- a line: the fault that it has by itself, or what its tokens make
+-- a line: its own error, or the effect of its tokens
 abbrev pub take_line : Context → State → List ℕ → AfterToken
 take_line context state line = elim (lexical_fault line) [
   | Some kind ↦ Refuses kind

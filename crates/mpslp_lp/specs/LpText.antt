@@ -1,4 +1,4 @@
--- What LP text says and declares.
+-- The outcome of LP text, and what it declares.
 use Rattle.std.specs.Prelude.{ℕ, Bool, true, false, IsTrue, List, [], ◌∷◌, ◌++◌, Some, None}
 use Rattle.std.specs.List.{enumerate_from}
 use Rattle.std.specs.Str.Lines.{lines}
@@ -13,11 +13,11 @@ use Rattle.mpslp_lines.specs.LineAnswer.{fault_on_line}
 use Rattle.mpslp_lp.specs.Grammar.{text_says, text_declares}
 use Rattle.mpslp_lp.specs.LexicalFault.{lexical_fault}
 
--- the lines with their numbers, from 1. They end by a line feed, or a carriage return and a line feed
+-- the lines with their numbers, from 1; a line ends with LF or CRLF
 abbrev pub numbered_lines : List ℕ → List (ℕ × List ℕ)
 numbered_lines bytes = enumerate_from 1 (lines bytes)
 
--- the terminals of the lines before the first one that has a fault by itself
+-- the terminals of the lines before the first one that has an error on its own
 abbrev pub sound_terminals : List (ℕ × List ℕ) → List TerminalAt
 sound_terminals [] = []
 sound_terminals (line ∷ more) = elim (lexical_fault line.1) [
@@ -25,7 +25,7 @@ sound_terminals (line ∷ more) = elim (lexical_fault line.1) [
   | None ↦ line_terminals line ++ sound_terminals more
 ]
 
--- the first line that has a fault by itself
+-- the first line that has an error on its own
 abbrev pub first_own_fault : List (ℕ × List ℕ) → Outcome Fault Draft
 first_own_fault [] = Open
 first_own_fault (line ∷ more) = elim (lexical_fault line.1) [
@@ -33,14 +33,14 @@ first_own_fault (line ∷ more) = elim (lexical_fault line.1) [
   | None ↦ first_own_fault more
 ]
 
--- where the text is not whole, this decides
+-- the first outcome, or the second if the text is incomplete
 abbrev pub or_else : Outcome Fault Draft → Outcome Fault Draft → Outcome Fault Draft
 or_else Open other = other
 or_else (Finished all) other = Finished all
 or_else (Refused fault) other = Refused fault
 
--- Where the lines before the first faulty one neither come to `end` nor make a fault, that one decides. So the lines
--- after that of `end` are not looked at.
+-- If the lines before the first one with an error on its own neither reach `end` nor have an error, that line decides. So
+-- the lines after `end` are ignored.
 abbrev pub lines_say : List (ℕ × List ℕ) → Outcome Fault Draft
 lines_say numbered = or_else (text_says (sound_terminals numbered)) (first_own_fault numbered)
 
@@ -51,8 +51,8 @@ abbrev pub is_finished : Outcome Fault Draft → Bool
 is_finished (Finished all) = true
 is_finished _ = false
 
--- the text comes to `end`, and neither a line before nor a token makes a fault. So each line that is read, each name
--- and each number keeps its limits
+-- The text reaches `end`, and no line and no token before it has an error. So each line, name and number that is read is
+-- within its limits.
 abbrev pub is_lp_text : List ℕ → Bool
 is_lp_text bytes = is_finished (outcome bytes)
 

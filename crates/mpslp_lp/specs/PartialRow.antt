@@ -1,4 +1,4 @@
--- A row whose last token is still to come.
+-- An incomplete row.
 use Rattle.std.specs.Prelude.{ℕ, List, Option}
 use Rattle.mpslp_decimal.specs.Decimal.{Number}
 use Rattle.mpslp_types.specs.declared.kinds.Limit.{Limit}
@@ -6,6 +6,6 @@ use Rattle.mpslp_lp.specs.declared.relations.Relation.{Relation}
 
 pub record PartialRow : Type 0 where
   pub name : List ℕ
-  -- the left side and the sense after it, where there is one
+  -- the left-hand side and the relation after it, if the row has them
   pub left : Option (Limit × Relation)
   pub terms : List (List ℕ × Number)

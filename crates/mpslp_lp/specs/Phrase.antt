@@ -1,4 +1,4 @@
--- What the rules of the grammar answer: the fault of a token, or what follows a phrase.
+-- The results of the rules of the grammar: the error of a token, or what follows a phrase.
 use Rattle.std.specs.Prelude.{List, [], ◌∷◌, Option, None, unwrap_or}
 use Rattle.mpslp_builder.specs.Declaration.{Declaration, Declarations, Draft, with_declarations}
 use Rattle.mpslp_builder.specs.Refusal.{refusals_in_turn}
@@ -20,24 +20,24 @@ use Rattle.mpslp_lp.specs.declared.states.Place.{Place}
 abbrev pub PhraseRule : Type 0 → Type 0
 PhraseRule A = TokenRule TerminalAt Fault A
 
--- ---- faults
+-- ---- errors
 
--- this fault at a token
+-- this error at a token
 abbrev pub fails : {A : Type 0} → TerminalAt → FaultKind → PhraseRule A
 fails token kind tokens = Refuses (fault_on_line token.line kind)
 
--- a section's word that may not stand here, wherever the grammar is
+-- the error of a section word in the wrong place, in any state
 abbrev pub terminal_fault : Context → Terminal → Option FaultKind
 terminal_fault context (Opens word) = section_fault context.sections_seen (section_of word)
 terminal_fault context _ = None
 
--- a fault at a token, unless the token is such a word: that fault comes before all others of its token
+-- an error at a token; that of a section word in the wrong place comes before all others of its token
 abbrev pub refuses : {A : Type 0} → Context → TerminalAt → FaultKind → PhraseRule A
 refuses context token kind = fails token (unwrap_or (terminal_fault context token.terminal) kind)
 
 -- ---- what follows a phrase
 
--- the end of the text says what all of it declares
+-- the end of the text returns all that was declared
 abbrev pub Follows : Type 0
 Follows = AfterPhrase Point Declaration Draft
 
@@ -46,7 +46,7 @@ abbrev pub goes_to : Context → Place → Declarations → PhraseRule Follows
 goes_to context place made =
     gives (Goes (record { place = place; context = record context { earlier = with_declarations context.earlier made } }) made)
 
--- a token completes declarations, of which these are the refusals: the first one is told
+-- a token completes declarations with these errors, of which the first is reported
 abbrev pub unless_refused : Context → TerminalAt → List BuildFault → Place → Declarations → PhraseRule Follows
 unless_refused context token [] place made = goes_to context place made
 unless_refused context token (refusal ∷ more) place made = refuses context token (kind_of_build_fault refusal)

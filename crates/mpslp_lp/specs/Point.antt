@@ -1,4 +1,4 @@
--- Where in the text a phrase begins, and what stands before it.
+-- Where in the text a phrase begins, and its context.
 use Rattle.std.specs.Prelude.{Bool, true, false, ◌||◌, not, Option, Some, None, if◌then◌else◌}
 use Rattle.mpslp_builder.specs.Declaration.{empty_draft}
 use Rattle.mpslp_types.specs.declared.faults.FaultKind.{FaultKind}
@@ -33,7 +33,8 @@ with_section sections_seen Binaries = record sections_seen { binaries = true }
 with_section sections_seen SemiContinuous = record sections_seen { semis = true }
 with_section sections_seen End = record sections_seen { end = true }
 
--- the objective stands first; bounds, generals, binaries and semi-continuous columns stand in any order, after the rows; the end is last
+-- The objective is first. Bounds, Generals, Binaries and the semi-continuous section come after the rows, in any order.
+-- `end` is last.
 abbrev pub is_out_of_order : SectionsSeen → Section → Bool
 is_out_of_order sections_seen Objective = false
 is_out_of_order sections_seen Rows = not sections_seen.objective || (sections_seen.bounds || (sections_seen.generals || (sections_seen.binaries || (sections_seen.semis || sections_seen.end))))

@@ -31,7 +31,7 @@ unsigned_side context minus token = elim token.terminal [
   | _ ↦ refuses context token BadToken
 ]
 
--- a side that begins with a token
+-- a side that begins with this token
 abbrev pub side_from : Context → TerminalAt → PhraseRule Side
 side_from context token = elim token.terminal [
   | Sign minus ↦ next >>= λ second. unsigned_side context minus second
@@ -41,7 +41,7 @@ side_from context token = elim token.terminal [
 abbrev pub side : Context → PhraseRule Side
 side context = next >>= side_from context
 
--- ---- senses
+-- ---- relations
 
 abbrev pub next_relation : Context → PhraseRule Relation
 next_relation context = next >>= λ token. elim token.terminal [
@@ -49,7 +49,7 @@ next_relation context = next >>= λ token. elim token.terminal [
   | _ ↦ refuses context token BadToken
 ]
 
--- of two senses, both are `<` or both are `>`
+-- both relations are `<`, or both are `>`
 abbrev pub fits_second : Relation → Relation → Bool
 fits_second AtMost AtMost = true
 fits_second AtLeast AtLeast = true
@@ -61,13 +61,13 @@ pub record Limits : Type 0 where
   pub lower : Option Limit
   pub upper : Option Limit
 
--- a side that stands right of what it limits
+-- the limits that a relation and a right-hand side give
 abbrev pub limits_by : Relation → Limit → Limits
 limits_by AtMost limit = record { lower = None; upper = Some limit }
 limits_by AtLeast limit = record { lower = Some limit; upper = None }
 limits_by EqualTo limit = record { lower = Some limit; upper = Some limit }
 
--- the sense by which the column lies to a side left of it
+-- the relation as seen from the column, if the value is on its left
 abbrev pub flip : Relation → Relation
 flip AtMost = AtLeast
 flip AtLeast = AtMost

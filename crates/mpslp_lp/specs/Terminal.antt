@@ -21,7 +21,7 @@ pub data Terminal : Type 0 where
   Colon : Terminal
   Infinity : Terminal
   Free : Terminal
-  -- no rule takes it
+  -- no rule accepts it
   Other : Terminal
 
 abbrev pub word_terminal : List ℕ → WordClass → Terminal
@@ -45,7 +45,7 @@ terminal_of _ text = Other
 abbrev pub as_terminal : Token → Terminal
 as_terminal token = terminal_of token.kind token.text
 
--- those of a line
+-- the terminals of a line
 abbrev pub terminals : List ℕ → List Terminal
 terminals line = map as_terminal (tokens line)
 
@@ -54,6 +54,6 @@ pub record TerminalAt : Type 0 where
   pub line : ℕ
   pub terminal : Terminal
 
--- those of a line of this number
+-- the terminals of a line, with its number
 abbrev pub line_terminals : ℕ × List ℕ → List TerminalAt
 line_terminals line = map (λ (token : Token). record { line = line.0; terminal = terminal_of token.kind token.text }) (tokens line.1)

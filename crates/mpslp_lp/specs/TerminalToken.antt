@@ -1,4 +1,4 @@
--- What the code sees of a token: a terminal, or the fault that the token has wherever it stands.
+-- What the code sees of a token: a terminal, or the lexical error of the token.
 use Rattle.std.specs.Prelude.{◌≡◌, ℕ, Bool, List, Option, None, Some, Result, MatchResult}
 use Rattle.mpslp_types.specs.Name.{IsMpsName}
 use Rattle.mpslp_types.specs.Limit.{limit_of}
@@ -14,7 +14,7 @@ use Rattle.mpslp_lp.specs.declared.terminals.TerminalKind.{TerminalKind}
 use Rattle.mpslp_lp.specs.declared.terminals.TerminalKind.TheVariants.{Opens, Name, Number, Sign, Compares, Colon, Infinity, Free, Other}
 use Rattle.mpslp_lp.specs.declared.tokens.TokenKind.{TokenKind}
 
--- the terminal, where a name has this text
+-- the terminal; a name has this text
 abbrev pub terminal_with_text : TerminalKind → List ℕ → Terminal
 terminal_with_text (Opens word) text = Terminal.Opens word
 terminal_with_text Name text = Terminal.Name text
@@ -29,7 +29,7 @@ terminal_with_text Other text = Terminal.Other
 abbrev pub terminal_of_token : TerminalToken → Terminal
 terminal_of_token token = terminal_with_text token.kind token.text.now
 
--- a name that was seen is one
+-- a token that is seen as a name is a legal name
 abbrev pub HasLegalNameKind : TerminalKind → List ℕ → Type 0
 HasLegalNameKind Name text = IsMpsName text
 HasLegalNameKind _ text = Unit {0}
@@ -37,7 +37,7 @@ HasLegalNameKind _ text = Unit {0}
 abbrev pub HasLegalName : TerminalToken → Type 0
 HasLegalName token = HasLegalNameKind token.kind token.text.now
 
--- the limit that a number or an infinity gives after signs
+-- the limit that a number or an infinity gives after the signs
 abbrev pub limit_of_terminal : (minus : Bool) → Terminal → Option Limit
 limit_of_terminal minus (Terminal.Number value) = Some (limit_of (apply_sign minus value))
 limit_of_terminal minus Terminal.Infinity = Some (infinity minus)

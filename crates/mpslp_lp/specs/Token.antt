@@ -8,7 +8,7 @@ use Rattle.mpslp_lp.specs.Line.{is_blank, begins_comment, begins_word, continues
 use Rattle.mpslp_lp.specs.declared.tokens.TokenKind.{TokenKind}
 use Rattle.mpslp_lp.specs.declared.tokens.TokenKind.TheVariants.{Word, Number, Less, Greater, Equal, DoubleColon, Colon, Arrow, Plus, Minus, OpenBracket, CloseBracket, Caret, Star, Period, Unknown}
 
--- ---- what a whole text is
+-- ---- the kind of a whole text
 
 abbrev pub is_word : List ℕ → Bool
 is_word [] = false
@@ -18,12 +18,12 @@ is_word (byte ∷ bytes) = begins_word byte && list_all continues_word bytes
 abbrev pub is_number : List ℕ → Bool
 is_number text = elim (begins_a_number text) [ true ↦ is_literal text | false ↦ false ]
 
--- operators of one byte; a period is one where it begins no number, and no rule takes it
+-- operators of one byte; a period is one if it begins no number, and no rule accepts it
 abbrev pub one_byte_operators : List (ℕ × TokenKind)
 one_byte_operators = zip (codes "<>=:+-[]^*.")
     (Less ∷ Greater ∷ Equal ∷ Colon ∷ Plus ∷ Minus ∷ OpenBracket ∷ CloseBracket ∷ Caret ∷ Star ∷ Period ∷ [])
 
--- and of two
+-- operators of two bytes
 abbrev pub two_byte_operators : List (List ℕ × TokenKind)
 two_byte_operators =
     (codes "<=", Less) ∷ (codes "=<", Less) ∷ (codes ">=", Greater) ∷ (codes "=>", Greater)
@@ -42,14 +42,14 @@ kind_of text = elim (is_word text) [
   | false ↦ elim (is_number text) [ true ↦ Some Number | false ↦ operator_kind text ]
 ]
 
--- ---- the longest token at a place
+-- ---- the longest token at a position
 
--- a front of the bytes that is a token: its kind and its length
+-- a prefix of the bytes that is a token: its kind and its length
 pub record Front : Type 0 where
   pub kind : TokenKind
   pub size : ℕ
 
--- the longest front of at most this size that is a token
+-- the longest prefix of at most this size that is a token
 abbrev pub longest_within : ℕ → List ℕ → Option Front
 longest_within zero bytes = None
 longest_within (suc size) bytes = elim (kind_of (take (suc size) bytes)) [
@@ -60,7 +60,7 @@ longest_within (suc size) bytes = elim (kind_of (take (suc size) bytes)) [
 abbrev pub longest_token : List ℕ → Option Front
 longest_token bytes = longest_within (length bytes) bytes
 
--- where no token begins, one byte stands for itself
+-- if no token begins here, one byte is an unknown token
 abbrev pub token_at : List ℕ → Front
 token_at bytes = elim (longest_token bytes) [ Some front ↦ front | None ↦ record { kind = Unknown; size = 1 } ]
 
@@ -71,8 +71,8 @@ pub record Token : Type 0 where
   pub start : ℕ
   pub text : List ℕ
 
--- From a place on, after the first bytes, which a token has taken: blanks and tabs stand between tokens, a backslash
--- begins the comment, and each token is the longest at its place.
+-- From a position on, after bytes that a token has taken: spaces and tabs separate tokens, a backslash begins the comment,
+-- and each token is the longest at its position.
 abbrev pub tokens_from : ℕ → ℕ → List ℕ → List Token
 tokens_from place taken [] = []
 tokens_from place (suc taken) (byte ∷ bytes) = tokens_from (place + 1) taken bytes

@@ -1,4 +1,4 @@
--- What a reader keeps in place of the tokens that it has taken: what stands before, and how far a phrase has come.
+-- What a reader keeps instead of the tokens that it has taken: the context and the state.
 use Rattle.std.specs.Prelude.{ℕ, Bool, if◌then◌else◌, List, [], ◌∷◌}
 use Rattle.mpslp_builder.specs.Declaration.{declare_column, Declarations, Draft}
 use Rattle.mpslp_types.specs.declared.faults.Fault.{Fault}
@@ -35,7 +35,7 @@ signed_side_read context (SideOfRow row relation) minus = (next >>= unsigned_sid
 signed_side_read context (SideOfBound is_new column relation) minus =
     (next >>= unsigned_side context minus) >>= bound_right context (new_column is_new column) column relation
 
--- what the tokens to come say, where the last one before them stood on this line
+-- the outcome of the tokens that follow, if the last one before them is on this line
 abbrev pub says : (line : ℕ) → Context → State → List TerminalAt → Outcome Fault Draft
 says line context (Between place) tokens = phrases phrase_at (record { place = place; context = context }) 0 tokens
 says line context (AtObjective sense) tokens = resume phrase_at (objective context sense) tokens

@@ -1,4 +1,4 @@
--- What a reader makes of one token.
+-- What a reader does with one token.
 use Rattle.std.specs.Prelude.{ℕ, true, false, if◌then◌else◌, List, [], ◌∷◌, Some, None}
 use Rattle.mpslp_decimal.specs.Decimal.{Number as Decimal}
 use Rattle.mpslp_types.specs.Limit.{limit_of}
@@ -30,14 +30,14 @@ use Rattle.mpslp_lp.specs.declared.states.State.TheVariants.{Between, AtObjectiv
 use Rattle.mpslp_lp.specs.AfterToken.{AfterToken, refuse, with_made, take_term, take_after_signs, begin_item, take_bound, take_side, take_limit, take_after_declarations, declare_at, Goes, Refuses}
 use Rattle.mpslp_lp.specs.FirstToken.{begin_row, begin}
 
--- ---- a token that ends what was before it, and is taken at the place that follows
+-- ---- a token that completes what is before it, and is taken at the place that follows
 
--- after declarations that what stood before completes
+-- after declarations that the token completes
 abbrev pub begin_after : Context → Declarations → Place → Terminal → AfterToken
 begin_after context made place terminal =
     take_after_declarations context terminal (refusals_in_turn context.earlier made) made (begin place (with_made context made) terminal)
 
--- a number of a row that no name follows
+-- a number in a row that no name follows
 abbrev pub refuse_constant : Context → Terminal → AfterToken
 refuse_constant context terminal = elim terminal as (λ _. AfterToken) [
   | Terminal.Sign minus ↦ refuse context terminal ConstantInRow
@@ -116,15 +116,15 @@ take context (AtSide sided) terminal = elim terminal as (λ _. AfterToken) [
   | _ ↦ take_limit (λ limit. take_side context sided limit terminal) context false terminal
 ]
 take context (SideSign sided minus) terminal = take_limit (λ limit. take_side context sided limit terminal) context minus terminal
--- `end` is the last token of its line
+-- `end` must be the last token of its line
 take context AfterEnd terminal = refuse context terminal BadToken
 
--- what the tokens behind one on this line say
+-- the outcome of the tokens after one on this line
 abbrev pub says_after : (line : ℕ) → AfterToken → List TerminalAt → Outcome Fault Draft
 says_after line (Goes context state) tokens = says line context state tokens
 says_after line (Refuses kind) tokens = Refused (fault_on_line line kind)
 
--- what no token says
+-- the outcome at the end of the tokens
 abbrev pub at_end : Context → State → Outcome Fault Draft
 at_end context AfterEnd = Finished context.earlier
 at_end context _ = Open

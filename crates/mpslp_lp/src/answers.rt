@@ -1,4 +1,4 @@
-//! What is answered of a token.
+//! The result of taking a token.
 
 ghost use Rattle.std.specs.Prelude.{◌≡◌, unwrap_or, Err};
 ghost use Rattle.mpslp_lines.specs.declared.errors.LineError.{LineError};
@@ -13,7 +13,7 @@ use crate::terminals::TerminalToken;
 use mpslp_lines::LineError;
 use mpslp_model::FaultKind;
 
-/// The state where a phrase begins at a place, if declarations were made.
+/// Starts a phrase at a place, if the declarations before it succeeded.
 pub(crate) fn at_place(answer: Result<(), LineError>, place: Place) -> Result<State, LineError>
     ensures { result ≡ answer_at place answer }
 {
@@ -23,7 +23,7 @@ pub(crate) fn at_place(answer: Result<(), LineError>, place: Place) -> Result<St
     }
 }
 
-/// A token that the grammar cannot take for this reason.
+/// Rejects a token with an error of the grammar.
 pub(crate) fn refuse(
     context: &Context,
     token: &TerminalToken<'_>,

@@ -47,7 +47,7 @@ pub(crate) fn begin_bound(
     }
 }
 
-/// Takes a sense after a bound, which may have a left side alone.
+/// Takes a relation after a bound, which is legal only if the bound has just a left-hand side, as in `1 <= x`.
 pub(crate) fn take_second_relation(
     context: &mut Context,
     left: Option<(Name, Relation)>,
@@ -68,7 +68,7 @@ pub(crate) fn take_second_relation(
     }
 }
 
-/// Takes a token that gives a bound a side right of its column.
+/// Takes a token that completes the right-hand side of a bound, and declares the bound.
 pub(crate) fn take_bound(
     context: &mut Context,
     is_new: bool,
@@ -105,7 +105,7 @@ pub(crate) fn take_free(context: &mut Context, column: Name) -> Result<State, Li
     )
 }
 
-/// Takes the column of a bound after its left side.
+/// Takes the column of a bound after its left-hand side.
 pub(crate) fn take_bound_column(
     context: &mut Context,
     limit: &GivenLimit,
@@ -124,7 +124,7 @@ pub(crate) fn take_bound_column(
     )
 }
 
-/// Takes the right side of a row or a bound.
+/// Takes a token that completes the right-hand side of a row or a bound.
 pub(crate) fn take_side(
     context: &mut Context,
     sided: SideOwner,
@@ -142,7 +142,7 @@ pub(crate) fn take_side(
     }
 }
 
-/// Takes a token of a right side, after signs.
+/// Takes a token of a right-hand side, after its sign if it has one.
 pub(crate) fn take_limit(
     context: &mut Context,
     sided: SideOwner,

@@ -1,4 +1,4 @@
-//! What stands before a phrase.
+//! The context of a phrase: what earlier tokens mean for it.
 
 ghost use Rattle.std.specs.Prelude.{◌≡◌, unwrap_or};
 ghost use Rattle.mpslp_lines.specs.declared.errors.LineError.{LineError};
@@ -14,7 +14,7 @@ use crate::words::{Section, SectionWord};
 use mpslp_lines::LineError;
 use mpslp_model::FaultKind;
 
-/// What stands before a phrase.
+/// The context of a phrase: what earlier tokens mean for it.
 #[derive(Drop)]
 pub struct Context {
     /// The sections that were opened.
@@ -41,7 +41,7 @@ impl SectionWord {
 }
 
 impl SectionsSeen {
-    /// Whether the section was opened.
+    /// Whether the section was opened before.
     fn has(&self, section: Section) -> bool
         ensures { result ≡ has_seen self.now section }
     {
@@ -56,7 +56,7 @@ impl SectionsSeen {
         }
     }
 
-    /// Whether the order of sections forbids that the section is opened now.
+    /// Whether the section may not be opened now, because of the order of sections.
     fn forbids(&self, section: Section) -> bool
         ensures { result ≡ is_out_of_order self.now section }
     {
@@ -73,7 +73,7 @@ impl SectionsSeen {
         }
     }
 
-    /// The fault of a word that would open the section now.
+    /// The error, if any, of a word that opens the section now.
     pub(crate) fn section_fault(&self, section: Section) -> Option<FaultKind>
         ensures { result ≡ section_fault self.now section }
     {
@@ -86,7 +86,7 @@ impl SectionsSeen {
         }
     }
 
-    /// The sections with one more.
+    /// The sections seen, with this one added.
     pub(crate) fn with(self, section: Section) -> SectionsSeen
         ensures { result ≡ with_section self section }
     {
@@ -118,8 +118,8 @@ impl SectionsSeen {
 }
 
 impl Context {
-    /// The fault of a token that the grammar cannot take for this reason. A section's word that may not stand here has its own
-    /// fault, which comes before.
+    /// The error of a token that the grammar rejects with `kind`. If the token is a section word in the wrong place, the
+    /// error of the section is reported instead.
     pub(crate) fn refused(&self, token: &TerminalToken<'_>, kind: FaultKind) -> LineError
         ensures { result ≡ LineError.Fault (unwrap_or (terminal_fault self.now (terminal_of_token token.now)) kind) }
     {

@@ -58,7 +58,7 @@ fn open_section(context: &mut Context, word: SectionWord) -> Result<State, LineE
     }
 }
 
-/// Whether a section may begin at the place: anywhere but within a row.
+/// Whether a section may begin at the place: anywhere but inside a row.
 fn may_begin_section(place: &Place) -> bool
     ensures { result ≡ may_begin_section place.now }
 {
@@ -68,7 +68,7 @@ fn may_begin_section(place: &Place) -> bool
     }
 }
 
-/// Takes the first token of an item of the objective that is not the first one.
+/// Takes the first token of an item of the objective other than the first item.
 fn begin_later_item(
     context: &mut Context,
     objective: Name,
@@ -118,7 +118,7 @@ fn go_on_in_row(
     }
 }
 
-/// Takes a name of Generals.
+/// Takes a name in the Generals section.
 fn take_general(context: &mut Context, token: &TerminalToken<'_>) -> Result<State, LineError>
     requires { HasLegalName token.now }
     ensures { TakesToken (begin_phrase Place.InGenerals context.old (terminal_of_token token.now)) result context.new }
@@ -132,7 +132,7 @@ fn take_general(context: &mut Context, token: &TerminalToken<'_>) -> Result<Stat
     }
 }
 
-/// Takes a name of Binaries.
+/// Takes a name in the Binaries section.
 fn take_binary(context: &mut Context, token: &TerminalToken<'_>) -> Result<State, LineError>
     requires { HasLegalName token.now }
     ensures { TakesToken (begin_phrase Place.InBinaries context.old (terminal_of_token token.now)) result context.new }
@@ -146,7 +146,7 @@ fn take_binary(context: &mut Context, token: &TerminalToken<'_>) -> Result<State
     }
 }
 
-/// Takes a name of a semi-continuous column.
+/// Takes a name in the semi-continuous section.
 fn take_semi(context: &mut Context, token: &TerminalToken<'_>) -> Result<State, LineError>
     requires { HasLegalName token.now }
     ensures { TakesToken (begin_phrase Place.InSemis context.old (terminal_of_token token.now)) result context.new }
@@ -157,7 +157,7 @@ fn take_semi(context: &mut Context, token: &TerminalToken<'_>) -> Result<State, 
     }
 }
 
-/// Takes a token where a bound may begin, or its second side.
+/// Takes a token in the Bounds section, where a bound may begin, or the last one may continue with a right-hand side.
 fn begin_in_bounds(
     context: &mut Context,
     left: Option<(Name, Relation)>,
@@ -172,7 +172,7 @@ fn begin_in_bounds(
     }
 }
 
-/// Takes the first token of a phrase, which opens no section.
+/// Takes the first token of a phrase, if it opens no section.
 fn begin_phrase(
     context: &mut Context,
     place: Place,
@@ -215,7 +215,7 @@ pub(crate) fn begin(
     }
 }
 
-/// Takes the first token of a phrase behind declarations that what stood before the token completes.
+/// Takes the first token of a phrase after the declarations of the phrase before it, which this token completes.
 pub(crate) fn begin_after(
     context: &mut Context,
     answer: Result<(), LineError>,

@@ -1,4 +1,4 @@
-//! The sides of rows and bounds, as they are given.
+//! Limits of rows and bounds of columns, as an LP file gives them.
 
 ghost use Rattle.std.specs.Prelude.{◌≡◌, IsTrue};
 ghost use Rattle.mpslp_types.specs.Limit.{is_given, limit_of};
@@ -8,7 +8,7 @@ use mpslp_decimal::Decimal;
 use mpslp_model::Limit;
 use std::marker::Model;
 
-/// A limit that a text gives: a finite one is of size below 10^20. Contracts see the limit.
+/// A limit that an LP file gives: a finite value with magnitude below 1e20, or an infinity. Contracts see it as a `Limit`.
 #[derive(Drop)]
 pub(crate) struct GivenLimit {
     limit: Limit,
@@ -27,7 +27,7 @@ impl Model for GivenLimit {
 }
 
 impl GivenLimit {
-    /// The limit that a value gives.
+    /// The limit that a number gives.
     pub(crate) fn of(value: Decimal) -> GivenLimit
         ensures { result ≡ limit_of value }
     {
@@ -49,7 +49,7 @@ impl GivenLimit {
         }
     }
 
-    /// The limit.
+    /// The limit itself.
     pub(crate) fn limit(&self) -> Limit
         ensures value { result ≡ self.now }
         ensures given { IsTrue (is_given result) }

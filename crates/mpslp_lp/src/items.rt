@@ -19,7 +19,7 @@ use mpslp_decimal::Decimal;
 use mpslp_lines::LineError;
 use mpslp_model::{FaultKind, Name};
 
-/// The coefficient of a name without a number.
+/// The coefficient of a term without a number.
 pub(crate) fn one() -> Decimal
     ensures { result ≡ one }
 {
@@ -29,7 +29,7 @@ pub(crate) fn one() -> Decimal
     }
 }
 
-/// The value with the sign of a run of signs.
+/// The value, negated if the signs before it multiply to a minus.
 pub(crate) fn apply_sign(minus: bool, value: Decimal) -> Decimal
     ensures { result ≡ apply_sign minus value }
 {
@@ -37,7 +37,7 @@ pub(crate) fn apply_sign(minus: bool, value: Decimal) -> Decimal
 }
 
 impl PartialRow {
-    /// The row with one more term, of a column that has none in it.
+    /// Adds a term to the row. Returns an error if the row already has a term with this column.
     pub(crate) fn with_term(self, column: TermName, value: Decimal) -> Result<PartialRow, LineError>
         ensures { AddsTerm self column value result }
     {
@@ -117,7 +117,7 @@ pub(crate) fn take_after_signs(
     }
 }
 
-/// Takes the first token of an item, where the run of signs may be empty.
+/// Takes the first token of an item that may have no sign.
 pub(crate) fn begin_item(
     context: &mut Context,
     owner: ItemOwner,

@@ -1,13 +1,15 @@
-//! LP text: what it declares, and the first fault of text that declares no model.
+//! LP text: what it declares, and the first error of text that declares no model.
 //!
-//! The format is that of the CPLEX file format reference. The definitions are in `specs/`: the bytes of lines (`Line`),
-//! their tokens (`Token`), reserved words (`Words`), what the grammar sees of a token (`Terminal`), the faults of a line by
-//! itself (`OwnFault`), the grammar by its rules (`Rules`, `Point`, `Phrase`, `Sides`, `Items`, `Objective`, `Rows`,
-//! `Bounds`, `Grammar`), and the whole text (`LpText`, `FirstFault`). The same one token after another, by what a reader
-//! keeps: `Reading`, `AfterToken`, `Begun`, `Taking`, `ReadingLines`; and what was read of text that comes in pieces: `Fed`.
+//! The format follows the CPLEX file format reference. The definitions are in `specs/`: the bytes of lines (`Line`), their
+//! tokens (`Token`), reserved words (`Words`), what the grammar sees of a token (`Terminal`), the errors of a line on its
+//! own (`LexicalFault`), the grammar by its rules (`Rules`, `Point`, `Phrase`, `Sides`, `Items`, `Objective`, `Rows`,
+//! `Bounds`, `Grammar`), and the whole text (`LpText`, `FirstFault`). The same is defined token by token, in terms of what a
+//! reader keeps: `TokenByToken`, `AfterToken`, `FirstToken`, `TokenStep`, `LineByLine`. `Fed` states what was read of a text
+//! that comes in pieces.
 //!
-//! [`LpReader`] reads a text that comes in pieces: it takes the tokens of each line (`lines`, `taking`) from a state to the next
-//! (`states`), and tells the builder what they declare (`declared`). [`read_lp`] reads a whole text. [`tokens_of`] cuts a line.
+//! [`LpReader`] reads text in pieces: it takes the tokens of each line (`read_line`, `token_step`), going from state to
+//! state (`states`), and passes what they declare to the builder (`lp_builder`). [`read_lp`] reads a whole text.
+//! [`tokens_of`] divides a line into tokens.
 #![tactic(auto)]
 
 mod answers;

@@ -1,4 +1,4 @@
-//! The lines of LP text, read one after another.
+//! Reads LP text line by line.
 
 ghost use Rattle.std.specs.Prelude.{◌≡◌};
 ghost use Rattle.mpslp_lp.specs.Point.{start};
@@ -15,7 +15,7 @@ use std::alloc::Global;
 use std::mem::replace;
 
 impl Context {
-    /// What stands before a text.
+    /// The context at the start of a text.
     fn start(alloc: Global) -> Context
         ensures { result ≡ start.context }
     {
@@ -46,7 +46,7 @@ impl State {
     }
 }
 
-/// Reads the lines of LP text one after another.
+/// Reads LP text line by line.
 #[derive(Drop)]
 pub(crate) struct LineReader {
     context: Context,

@@ -1,4 +1,4 @@
-//! What a text has declared, and the declarations that a token completes.
+//! What a text has declared, and the declarations that tokens complete.
 
 ghost use Rattle.std.specs.Prelude.{◌≡◌, ◌+◌, ◌-◌, ◌^◌, ◌∷◌, [], IsTrue, length, min, MatchResult};
 ghost use Rattle.std.specs.Option.{ForSome};
@@ -30,17 +30,17 @@ use mpslp_model::{BuildFault, Builder, Limit, Name, Sense};
 use std::alloc::Global;
 use std::marker::Model;
 
-/// For how many terms a row has room from its beginning: as many as four groups of a table's places take.
+/// The number of terms for which a new row has room: as many as fit in four groups of the hash table.
 const USUAL_TERMS: usize = 36;
 
-/// What a text has declared. Contracts see the draft of it.
+/// What a text has declared. Contracts see it as a draft.
 #[derive(Drop)]
 pub(crate) struct LpBuilder {
     alloc: Global,
     builder: Builder,
-    /// How many rows there are; it stays at 2^64 - 1.
+    /// The number of rows, at most 2^64 - 1.
     rows: u64,
-    /// The memory of a row that has ended, for the next one.
+    /// The memory of a completed row, reused by the next one.
     spare: Option<Box<PartialParts>>,
 }
 
@@ -55,7 +55,7 @@ impl Model for LpBuilder {
     ghost invariant = { λ d. d.rows ≡ min (length d.builder.rows) (2 ^ 64 - 1) };
 }
 
-/// The name of a row without a label, by its position among all rows.
+/// The name of a row without a label: `c` and its position among all rows.
 fn numbered_row(alloc: Global, position: u64) -> Result<Name, LineError>
     ensures { MatchResult result (λ name. name ≡ numbered_row position) (λ error. error ≡ LineError.OutOfMemory) }
 {
@@ -66,7 +66,7 @@ fn numbered_row(alloc: Global, position: u64) -> Result<Name, LineError>
     }
 }
 
-/// A row of which no term was taken, in memory of its own.
+/// A row without terms, in newly allocated memory.
 fn new_row(
     alloc: Global,
     name: Name,
@@ -81,7 +81,7 @@ fn new_row(
     }
 }
 
-/// A row of which no term was taken, in the memory of these parts.
+/// A row without terms, in the memory of a completed row.
 fn emptied(parts: Box<PartialParts>, name: Name, left: Option<(GivenLimit, Relation)>) -> PartialRow
     ensures { result ≡ without_terms name left }
 {
@@ -93,7 +93,7 @@ fn emptied(parts: Box<PartialParts>, name: Name, left: Option<(GivenLimit, Relat
 }
 
 impl LpBuilder {
-    /// Where nothing is declared.
+    /// A builder to which nothing has been declared.
     pub(crate) fn new(alloc: Global) -> LpBuilder
         ensures { result ≡ empty_draft }
     {
@@ -105,14 +105,14 @@ impl LpBuilder {
         }
     }
 
-    /// The builder that it was declared to.
+    /// The builder that holds the declarations.
     pub(crate) fn into_builder(self) -> Builder
         ensures { result ≡ self }
     {
         self.builder
     }
 
-    /// Where memory comes from.
+    /// The allocator.
     pub(crate) fn alloc(&self) -> Global {
         self.alloc
     }
@@ -128,14 +128,14 @@ impl LpBuilder {
         }
     }
 
-    /// The name of the next row, if it has no label.
+    /// The name of the next row if it has no label.
     pub(crate) fn next_row(&self) -> Result<Name, LineError>
         ensures { MatchResult result (λ name. name ≡ numbered_row (min (length self.now.rows + 1) (2 ^ 64 - 1))) (λ error. error ≡ LineError.OutOfMemory) }
     {
         numbered_row(self.alloc, self.rows.saturating_add(1))
     }
 
-    /// A row of which no term was taken, in the memory of one that has ended if there is such.
+    /// A row without terms, in the memory of a completed row if there is one.
     pub(crate) fn row_without_terms(
         &mut self,
         name: Name,
@@ -150,7 +150,7 @@ impl LpBuilder {
         }
     }
 
-    /// Keeps the memory of a row that has ended for the next one, unless it had more terms than most.
+    /// Keeps the memory of a completed row for the next one, unless it has grown beyond `USUAL_TERMS`.
     pub(crate) fn keep_parts(&mut self, row: PartialRow)
         ensures { self.new ≡ self.old }
     {
@@ -166,7 +166,7 @@ impl LpBuilder {
         self.copied(b"obj".as_slice())
     }
 
-    /// Declares the sense.
+    /// Declares the sense of the objective.
     fn declare_sense(&mut self, sense: Sense) -> Result<(), LineError>
         ensures { Declares self.old (declare_sense sense ∷ []) result self.new }
     {
@@ -174,7 +174,7 @@ impl LpBuilder {
         Ok(())
     }
 
-    /// Names the objective.
+    /// Declares the name of the objective.
     fn declare_name(&mut self, name: Name) -> Result<(), LineError>
         ensures { Declares self.old (declare_objective name ∷ []) result self.new }
     {
@@ -182,7 +182,7 @@ impl LpBuilder {
         Ok(())
     }
 
-    /// Declares the objective.
+    /// Declares the sense and the name of the objective.
     pub(crate) fn declare_objective(&mut self, sense: Sense, name: Name) -> Result<(), LineError>
         ensures { Declares self.old (objective_declared sense name) result self.new }
     {
@@ -198,7 +198,7 @@ impl LpBuilder {
         Ok(())
     }
 
-    /// Declares a column, which may be there.
+    /// Declares a column, copying its name, even if it already exists.
     fn declare_new_column(&mut self, column: &[u8]) -> Result<(), LineError>
         requires { IsMpsName column.now }
         ensures { Declares self.old (declare_column column.now ∷ []) result self.new }
@@ -208,7 +208,7 @@ impl LpBuilder {
         Ok(())
     }
 
-    /// Declares a column. The name of one that is there is not copied.
+    /// Declares a column. The name is copied only if the column is new.
     fn declare_column(&mut self, column: &[u8]) -> Result<(), LineError>
         requires { IsMpsName column.now }
         ensures { Declares self.old (declare_column column.now ∷ []) result self.new }
@@ -233,7 +233,7 @@ impl LpBuilder {
         Ok(())
     }
 
-    /// Declares a coefficient, and before it its column, which is new.
+    /// Declares a new column and a coefficient in it.
     fn declare_with_column(
         &mut self,
         row: &[u8],
@@ -247,7 +247,7 @@ impl LpBuilder {
         self.declare_coefficient(row, column, value)
     }
 
-    /// Declares a coefficient of a column that is there, or tells the first refusal.
+    /// Declares a coefficient in an existing column, or returns the first error of the builder.
     fn declare_in_column(
         &mut self,
         row: &[u8],
@@ -261,7 +261,7 @@ impl LpBuilder {
         self.builder.coefficient(row, column, value)
     }
 
-    /// Declares a coefficient, and its column. Most columns are there, so the coefficient is tried first.
+    /// Declares a coefficient, and its column if that is new. Most columns exist already, so the coefficient comes first.
     pub(crate) fn declare_term(
         &mut self,
         row: &[u8],
@@ -280,7 +280,7 @@ impl LpBuilder {
         }
     }
 
-    /// Declares that a column takes whole numbers alone, after the column.
+    /// Declares a column and that it is integer.
     pub(crate) fn declare_integer(&mut self, column: &[u8]) -> Result<(), LineError>
         requires { IsMpsName column.now }
         ensures { Declares self.old (declare_column column.now ∷ declare_integer column.now ∷ []) result self.new }
@@ -289,7 +289,7 @@ impl LpBuilder {
         self.make_integer(column)
     }
 
-    /// Declares that a column is 0 or 1, after the column.
+    /// Declares a column and that it is binary.
     pub(crate) fn declare_binary(&mut self, column: &[u8]) -> Result<(), LineError>
         requires { IsMpsName column.now }
         ensures { Declares self.old (declare_column column.now ∷ declare_binary column.now ∷ []) result self.new }
@@ -298,7 +298,7 @@ impl LpBuilder {
         self.make_binary(column)
     }
 
-    /// Declares that a column is semi-continuous, after the column.
+    /// Declares a column and that it is semi-continuous.
     pub(crate) fn declare_semi(&mut self, column: &[u8]) -> Result<(), LineError>
         requires { IsMpsName column.now }
         ensures { Declares self.old (declare_column column.now ∷ declare_semi column.now ∷ []) result self.new }
@@ -307,7 +307,7 @@ impl LpBuilder {
         self.make_semi(column)
     }
 
-    /// Declares that a column takes whole numbers alone.
+    /// Declares that an existing column is integer.
     fn make_integer(&mut self, column: &[u8]) -> Result<(), LineError>
         ensures { Declares self.old (declare_integer column.now ∷ []) result self.new }
     {
@@ -315,7 +315,7 @@ impl LpBuilder {
         Ok(())
     }
 
-    /// Declares that a column is 0 or 1.
+    /// Declares that an existing column is binary.
     fn make_binary(&mut self, column: &[u8]) -> Result<(), LineError>
         ensures { Declares self.old (declare_binary column.now ∷ []) result self.new }
     {
@@ -323,7 +323,7 @@ impl LpBuilder {
         Ok(())
     }
 
-    /// Declares that a column is semi-continuous.
+    /// Declares that an existing column is semi-continuous.
     fn make_semi(&mut self, column: &[u8]) -> Result<(), LineError>
         ensures { Declares self.old (declare_semi column.now ∷ []) result self.new }
     {
@@ -331,7 +331,7 @@ impl LpBuilder {
         Ok(())
     }
 
-    /// Declares the sides of a column that are given.
+    /// Declares the bounds of a column that are given.
     pub(crate) fn declare_bounds_given(
         &mut self,
         column: &[u8],
@@ -358,7 +358,7 @@ impl LpBuilder {
         Ok(())
     }
 
-    /// Declares the sides of a column that are given, after the column where it is new.
+    /// Declares the bounds of a column that are given, and first the column if it is new.
     pub(crate) fn declare_bound(
         &mut self,
         is_new: bool,
@@ -377,7 +377,7 @@ impl LpBuilder {
         self.declare_bounds_given(column, lower, upper)
     }
 
-    /// Declares a bound by a side right of its column, after the column where it is new.
+    /// Declares the bounds that a relation and its right-hand side give a column, and first the column if it is new.
     pub(crate) fn declare_bound_by(
         &mut self,
         is_new: bool,
@@ -397,7 +397,7 @@ impl LpBuilder {
         }
     }
 
-    /// Declares the terms of a row, one after another.
+    /// Declares the terms of a row in order.
     fn declare_terms(
         &mut self,
         row: &[u8],
@@ -411,7 +411,7 @@ impl LpBuilder {
         Ok(())
     }
 
-    /// Declares a row by its limits, with its terms.
+    /// Declares a row by its limits, and then its terms.
     pub(crate) fn declare_partial(
         &mut self,
         row: &PartialRow,
@@ -429,7 +429,7 @@ impl LpBuilder {
         self.declare_terms(parts.name.as_bytes(), &parts.terms)
     }
 
-    /// Declares the objective without a label, and its first term, which is a name alone.
+    /// Declares the objective without a label, and its first term, which is a name without a number.
     pub(crate) fn declare_first_item(
         &mut self,
         sense: Sense,

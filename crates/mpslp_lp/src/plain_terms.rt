@@ -1,5 +1,5 @@
-//! Terms of rows that are taken as a whole, and not token by token: one sign, a number if there is one, and a name, as most
-//! are.
+//! Plain terms of rows: one sign, an optional number and a name. Most terms are plain, so they are taken as a whole and not
+//! token by token.
 
 ghost use Rattle.std.specs.Prelude.{◌≡◌, ◌≤◌, List, Err, IfSome, MatchResult, length};
 ghost use Rattle.mpslp_types.specs.Name.{IsMpsName};
@@ -20,7 +20,7 @@ use crate::terminals::{TerminalKind, classify};
 use crate::tokens::{TokenKind, Tokens};
 use mpslp_lines::{LineError, value_of};
 
-/// A sign, the text of a number, which is 1 where there is none, and the name of a column.
+/// A sign, the text of a number (`1` if the term has none), and the name of a column.
 #[derive(Clone, Copy)]
 pub(crate) struct PlainTerm<'a> {
     minus: bool,
@@ -28,7 +28,7 @@ pub(crate) struct PlainTerm<'a> {
     column: &'a [u8],
 }
 
-/// The sign that stands next.
+/// The next token, if it is a sign.
 #[inline(always)]
 fn next_sign(tokens: &mut Tokens<'_>) -> Option<bool>
     ensures { IfSome result (λ minus. Begins tokens.old (Terminal.Sign minus) tokens.new) }
@@ -40,7 +40,7 @@ fn next_sign(tokens: &mut Tokens<'_>) -> Option<bool>
     }
 }
 
-/// The name that stands next.
+/// The next token, if it is a name.
 #[inline(always)]
 fn next_name<'a>(tokens: &mut Tokens<'a>) -> Option<&'a [u8]>
     ensures next { IfSome result (λ name. Begins tokens.old (Terminal.Name name.now) tokens.new) }
@@ -53,7 +53,7 @@ fn next_name<'a>(tokens: &mut Tokens<'a>) -> Option<&'a [u8]>
     }
 }
 
-/// The text of the number, which is 1 where there is none, and the name that stand next.
+/// The text of the number (`1` if the term has none) and the name that come next.
 #[inline(always)]
 fn unsigned_term<'a>(tokens: &mut Tokens<'a>) -> Option<(&'a [u8], &'a [u8])>
     ensures { IfSome result (λ term. IsUnsignedTerm tokens.old term.0.now term.1.now tokens.new) }
@@ -71,7 +71,7 @@ fn unsigned_term<'a>(tokens: &mut Tokens<'a>) -> Option<(&'a [u8], &'a [u8])>
     }
 }
 
-/// The sign, the number if there is one, and the name that stand next.
+/// The sign, the optional number and the name that come next.
 #[inline(always)]
 fn plain_term<'a>(tokens: &mut Tokens<'a>) -> Option<PlainTerm<'a>>
     ensures { IfSome result (λ term. IsPlainTerm tokens.old term.minus term.literal.now term.column.now tokens.new) }
@@ -85,7 +85,8 @@ fn plain_term<'a>(tokens: &mut Tokens<'a>) -> Option<PlainTerm<'a>>
     })
 }
 
-/// Takes a term of a row, behind which these tokens are left on its line.
+/// Takes a term of a row. `left` are the tokens after it on its line: their lexical errors are reported before the error of
+/// the term.
 fn take_plain_term(
     context: &Context,
     row: PartialRow,
@@ -106,7 +107,7 @@ fn take_plain_term(
     }
 }
 
-/// Takes the terms of a row that stand next and are plain.
+/// Takes the plain terms of a row that come next.
 fn take_plain_terms<'a>(
     context: &Context,
     row: PartialRow,
@@ -128,7 +129,7 @@ fn take_plain_terms<'a>(
     }
 }
 
-/// Takes the plain terms that stand next, where a row goes on.
+/// Takes the plain terms that come next, if the state is inside a row.
 #[inline(always)]
 pub(crate) fn take_terms<'a>(
     context: &Context,

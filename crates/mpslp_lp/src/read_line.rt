@@ -1,4 +1,4 @@
-//! Lines, read one by one.
+//! Reads a line.
 
 ghost use Rattle.std.specs.Prelude.{◌≡◌, ◌≤◌, ◌∷◌, length, not};
 ghost use Rattle.std.specs.List.{prefix_len};
@@ -18,7 +18,7 @@ use bstr::ByteSlice;
 use mpslp_lines::{LineError, are_legal_bytes, has_legal_length, lesser_kind};
 use mpslp_model::FaultKind;
 
-/// The lesser of the kinds of two faults, of which the first may be missing.
+/// The lesser of the kinds of two errors, of which the first is optional.
 fn lesser_of(first: Option<FaultKind>, second: FaultKind) -> FaultKind
     ensures { result ≡ lesser_of first second }
 {
@@ -28,7 +28,7 @@ fn lesser_of(first: Option<FaultKind>, second: FaultKind) -> FaultKind
     }
 }
 
-/// The least of the faults that tokens have wherever they stand.
+/// The least of the lexical errors of tokens: those that a token has wherever it is.
 fn lexical_fault_of(tokens: Tokens<'_>) -> Option<FaultKind>
     ensures { result ≡ least_kind (token_faults tokens.entry) }
 {
@@ -41,7 +41,7 @@ fn lexical_fault_of(tokens: Tokens<'_>) -> Option<FaultKind>
     least
 }
 
-/// The error of a line before these tokens: a fault that one of them has wherever it stands is told before it.
+/// The error of a line, given an error found before these tokens: a lexical error of one of them is reported instead.
 pub(crate) fn error_before(error: LineError, tokens: Tokens<'_>) -> LineError
     ensures { result ≡ error_before (token_faults tokens.entry) error }
 {
@@ -54,7 +54,7 @@ pub(crate) fn error_before(error: LineError, tokens: Tokens<'_>) -> LineError
     }
 }
 
-/// The error of a line whose token has this fault wherever it stands, before these tokens.
+/// The error of a line, given a lexical error of the token before these tokens.
 pub(crate) fn least_error(kind: FaultKind, tokens: Tokens<'_>) -> LineError
     ensures { IsLeastError (kind ∷ token_faults tokens.entry) result }
 {
@@ -64,8 +64,8 @@ pub(crate) fn least_error(kind: FaultKind, tokens: Tokens<'_>) -> LineError
     }
 }
 
-/// Takes the tokens of a line of legal length and bytes. Each is looked at once, but where a plain term could begin and does
-/// not; those behind one that makes a fault are looked at for their own faults alone.
+/// Takes the tokens of a line of legal length and bytes. Each token is classified once, except where a plain term could
+/// begin but does not. After a token with an error, only the lexical errors of the others matter.
 fn take_tokens(context: &mut Context, state: State, line: &[u8]) -> Result<State, LineError>
     ensures { TakesToken (take_tokens context.old state (tokens line.now)) result context.new }
 {
@@ -90,7 +90,7 @@ fn take_tokens(context: &mut Context, state: State, line: &[u8]) -> Result<State
     Ok(state)
 }
 
-/// How many bytes the line has before a comment.
+/// The number of bytes of the line before its comment.
 fn outside_len(line: &[u8]) -> usize
     ensures count { result ≡ prefix_len (λ byte. not (begins_comment byte)) line.now }
     ensures within { result ≤ length line.now }
@@ -101,14 +101,14 @@ fn outside_len(line: &[u8]) -> usize
     }
 }
 
-/// What of the line stands before a comment.
+/// The line without its comment.
 fn outside_comment(line: &[u8]) -> &[u8]
     ensures { result.now ≡ outside_comment line.now }
 {
     &line[..outside_len(line)]
 }
 
-/// Reads a line: the state after it, or its fault.
+/// Reads a line. Returns the state after it, or its error.
 pub(crate) fn read_line(
     context: &mut Context,
     state: State,

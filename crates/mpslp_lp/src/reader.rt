@@ -6,16 +6,16 @@ use mpslp_model::{ModelReader, ReadFault};
 use std::alloc::Global;
 use std::marker::Model;
 
-/// A reader of LP text that comes in pieces of any length. What the pieces were does not matter: it answers of all of them
-/// together what [`read_lp`](crate::read_lp) answers of the whole text.
+/// A reader of LP text that comes in pieces of any length. It does not matter where the text is cut: the result is what
+/// [`read_lp`](crate::read_lp) returns for the whole text.
 ///
-/// It keeps what is declared, the row that is not complete, the memory of one that is, and of the text only the line that is
-/// not complete: at most 1,048,577 bytes of it, none where the line of `end` is complete. A line is completed by its line feed, the last one perhaps
-/// by the end of the text. Lines that are complete in a piece are not copied. After the line of `end` each piece is taken, and
-/// not looked at.
+/// The reader keeps what is declared, the incomplete row, the memory of one completed row, and of the text only the
+/// incomplete line: at most 1,048,577 bytes, and none after the line of `end`. A line is complete at its line feed; the end
+/// of the text also completes the last one. Lines that are complete within a piece are not copied. Pieces after the line of
+/// `end` are accepted and ignored.
 #[derive(Drop)]
 pub struct LpReader {
-    /// There is none after a piece was refused.
+    /// `None` after a piece was rejected.
     pieces: Option<PieceReader<LineReader>>,
 }
 

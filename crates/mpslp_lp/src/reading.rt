@@ -1,4 +1,4 @@
-//! Reading LP text as a whole.
+//! Reads LP text as a whole.
 
 ghost use Rattle.mpslp_lp.specs.ReadAnswer.{ReadsLp};
 
@@ -6,18 +6,18 @@ use crate::reader::LpReader;
 use mpslp_model::{Model, ReadFault, read_whole};
 use std::alloc::Global;
 
-/// The model that a text declares in LP, or its first fault.
+/// Reads the model that an LP text declares.
 ///
-/// Any bytes may come. Lines are read up to that of `end`, and what follows it is not looked at. Limits: a line has at most
-/// [`MAX_LINE_LEN`](crate::MAX_LINE_LEN) bytes, comments included, a name at most 255, a number at most 255, and a decimal
-/// has at most 36 digits; the text may be of any length. Tokens may stand on any lines, and none goes on on the next one.
+/// The text may be any bytes of any length. Lines are read up to that of `end`; the text after it is ignored. A line has at
+/// most [`MAX_LINE_LEN`](crate::MAX_LINE_LEN) bytes, comments included, a name or a number at most 255 bytes, and a decimal
+/// at most 36 digits. A statement may span lines, but a token may not.
 ///
 /// # Errors
 ///
-/// `File` of the first fault: that of the first line that has one, without a name. On a line the faults that lines and
-/// tokens have wherever they stand come first, the least in the order of [`FaultKind`]; then the first token that makes a
-/// fault decides. Where no line has one, `MissingEnd`, or what [`Builder::finish`] tells of the whole, on line 0.
-/// `OutOfMemory` where a growth was refused. Never `Failed`.
+/// `File` with the first error of the text: that of the first line that has one, without a name. On a line, the errors that
+/// lines and tokens have wherever they are come first, the least in the order of [`FaultKind`]; then the first token that
+/// causes an error decides. If no line has an error, the error is `MissingEnd`, or that of [`Builder::finish`] for the whole
+/// file, on line 0. `OutOfMemory` if an allocation fails. Never `Failed`.
 pub fn read_lp(alloc: Global, text: &[u8]) -> Result<Model, ReadFault>
     ensures { ReadsLp text.now result }
 {

@@ -23,7 +23,7 @@ use crate::terminals::{TerminalKind, TerminalToken};
 use mpslp_lines::LineError;
 use mpslp_model::{FaultKind, Limit, Name};
 
-/// Whether two senses, of a left side and of the right one, are both `<` or both `>`.
+/// Whether the relations on both sides of a row or column agree: both are `<` or both are `>`.
 pub(crate) fn fits_second(first: Relation, second: Relation) -> bool
     ensures { result ≡ fits_second first second }
 {
@@ -34,7 +34,7 @@ pub(crate) fn fits_second(first: Relation, second: Relation) -> bool
     }
 }
 
-/// Whether the sense goes with that of the row's left side, where there is one.
+/// Whether the relation agrees with that of the row's left-hand side, if it has one.
 pub(crate) fn fits_left(row: &PartialRow, relation: Relation) -> bool
     ensures { result ≡ fits_left row.now.left relation }
 {
@@ -44,7 +44,7 @@ pub(crate) fn fits_left(row: &PartialRow, relation: Relation) -> bool
     }
 }
 
-/// Takes the first token of a row, or the first behind its label.
+/// Takes the first token of a row after its label, or of a row without one.
 pub(crate) fn begin_row(
     context: &mut Context,
     name: Name,
@@ -65,7 +65,7 @@ pub(crate) fn begin_row(
     }
 }
 
-/// The lower limit of a row with this right side.
+/// The lower limit of a row with this relation and right-hand side.
 fn lower_limit(row: &PartialRow, relation: Relation, right: &GivenLimit) -> Limit
     ensures value { result ≡ unwrap_or (row_limits row.now.left relation right.now).lower Limit.MinusInf }
     ensures given { IsTrue (is_given result) }
@@ -82,7 +82,7 @@ fn lower_limit(row: &PartialRow, relation: Relation, right: &GivenLimit) -> Limi
     }
 }
 
-/// The upper limit of a row with this right side.
+/// The upper limit of a row with this relation and right-hand side.
 fn upper_limit(row: &PartialRow, relation: Relation, right: &GivenLimit) -> Limit
     ensures value { result ≡ unwrap_or (row_limits row.now.left relation right.now).upper Limit.PlusInf }
     ensures given { IsTrue (is_given result) }
@@ -99,7 +99,7 @@ fn upper_limit(row: &PartialRow, relation: Relation, right: &GivenLimit) -> Limi
     }
 }
 
-/// Takes the right side of a row, which declares it.
+/// Completes a row with its right-hand side, and declares it.
 pub(crate) fn end_row(
     context: &mut Context,
     row: PartialRow,

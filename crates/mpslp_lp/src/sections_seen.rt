@@ -1,6 +1,6 @@
-//! The sections that were opened.
+//! The sections opened so far.
 
-/// Which sections were opened before a phrase.
+/// The sections opened before a phrase.
 #[derive(Clone, Copy)]
 pub struct SectionsSeen {
     pub(crate) objective: bool,

@@ -1,4 +1,4 @@
-//! Right and left sides of rows and bounds, token by token.
+//! The left-hand and right-hand sides of rows and bounds, token by token.
 
 ghost use Rattle.std.specs.Prelude.{◌≡◌};
 ghost use Rattle.mpslp_lp.specs.Sides.{Limits, limits_by, flip};
@@ -11,7 +11,7 @@ use crate::relations::Relation;
 use crate::terminals::{TerminalKind, TerminalToken};
 use mpslp_model::Limit;
 
-/// The limit that a number or an infinity gives after signs; `None` of any other token.
+/// The limit that a number or an infinity gives after the signs before it; `None` for any other token.
 pub(crate) fn limit_of_terminal(minus: bool, token: &TerminalToken<'_>) -> Option<GivenLimit>
     ensures { result ≡ limit_of_terminal minus (terminal_of_token token.now) }
 {
@@ -22,7 +22,7 @@ pub(crate) fn limit_of_terminal(minus: bool, token: &TerminalToken<'_>) -> Optio
     }
 }
 
-/// The sense by which a column lies to a side left of it.
+/// The relation as seen from the column, if the value is on its left.
 pub(crate) fn flip(relation: Relation) -> Relation
     ensures { result ≡ flip relation }
 {

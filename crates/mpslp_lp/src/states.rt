@@ -1,4 +1,4 @@
-//! How far a phrase has come: all that a reader keeps of the tokens that it has taken, beside what is declared.
+//! The states between tokens: what a reader keeps of an incomplete phrase, besides what is declared.
 
 use crate::given_limit::GivenLimit;
 use crate::relations::Relation;
@@ -8,19 +8,19 @@ use mpslp_decimal::Decimal;
 use mpslp_model::{Name, Sense};
 use std::marker::Model;
 
-/// A row whose last token is still to come. What is known of it stands in a box, since a state is moved with each token.
+/// An incomplete row. It is in a box because a state is moved with each token.
 #[derive(Drop)]
 pub struct PartialRow {
     pub(crate) parts: Box<PartialParts>,
 }
 
-/// What is known of a row whose last token is still to come.
+/// What is known of an incomplete row.
 #[derive(Drop)]
 pub struct PartialParts {
     pub(crate) name: Name,
-    /// The left side and the sense after it, where there is one.
+    /// The left-hand side and the relation after it, if the row has them.
     pub(crate) left: Option<(GivenLimit, Relation)>,
-    /// By their columns, in the order in which they came.
+    /// The terms by their columns, in the order of the text.
     pub(crate) terms: IndexMap<TermName, Decimal>,
 }
 
@@ -35,96 +35,96 @@ impl Model for PartialRow {
 /// Where in the text a phrase begins.
 #[derive(Drop)]
 pub enum Place {
-    /// Before the word of the objective.
+    /// At the start, before the word `minimize` or `maximize`.
     AtStart,
-    /// Before the first item of the objective of this name.
+    /// Before the first item of the objective with this name.
     BeforeItems(Name),
-    /// After an item of the objective of this name.
+    /// After an item of the objective with this name.
     InObjective(Name),
     /// Where a row may begin.
     BetweenRows,
     /// After a term of a row.
     InRow(PartialRow),
-    /// Where a bound may begin; after one that has a left side alone, with its column and the sense before it.
+    /// Where a bound may begin. After a bound with only a left-hand side: its column and the relation before it.
     InBounds(Option<(Name, Relation)>),
-    /// Among the names of Generals.
+    /// In the Generals section.
     InGenerals,
-    /// Among the names of Binaries.
+    /// In the Binaries section.
     InBinaries,
-    /// Among the names of semi-continuous columns.
+    /// In the semi-continuous section.
     InSemis,
 }
 
-/// Whose item it is.
+/// To what an item belongs.
 #[derive(Drop)]
 pub enum ItemOwner {
-    /// The objective's, of this name.
+    /// The objective with this name.
     OfObjective(Name),
-    /// A row's.
+    /// A row.
     OfRow(PartialRow),
 }
 
-/// What stands before a sense that a right side follows.
+/// What comes before a relation that a right-hand side follows.
 #[derive(Drop)]
 pub enum SideOwner {
     /// The terms of a row.
     SideOfRow(PartialRow, Relation),
-    /// A column; and whether no side of this bound was declared before, and so not its column.
+    /// A column, and whether the bound has no left-hand side, so that the column is still to be declared.
     SideOfBound(bool, Name, Relation),
 }
 
-/// The last word of a section's opening that has several.
+/// The last word of a section heading of several words.
 #[derive(Clone, Copy)]
 pub enum LastWord {
-    /// Of `subject to`.
+    /// `to` in `subject to`.
     To,
-    /// Of `such that`.
+    /// `that` in `such that`.
     That,
-    /// Of `semi-continuous`.
+    /// `continuous` in `semi-continuous`.
     Continuous,
 }
 
-/// How far a phrase has come.
+/// The state between two tokens.
 #[derive(Drop)]
 pub enum State {
-    /// A phrase begins.
+    /// Before the first token of a phrase.
     Between(Place),
-    /// After the word of the objective.
+    /// After `minimize` or `maximize`.
     AtObjective(Sense),
-    /// After a name behind that word, which may be a label.
+    /// After a name that follows `minimize` or `maximize` and may be a label.
     ObjectiveName(Sense, Name),
-    /// Before the last word of a section's opening.
+    /// Before the last word of a section heading.
     AtLastWord(LastWord),
     /// After `semi`.
     AtSemi,
-    /// After the signs of an item; whether their product is a minus.
+    /// After the signs of an item, and whether they multiply to a minus.
     Signs(ItemOwner, bool),
     /// After the number of an item.
     ItemNumber(ItemOwner, bool, Decimal),
-    /// After a name at the beginning of a row, which may be a label.
+    /// After a name at the start of a row, which may be a label.
     RowName(Name),
     /// After the label of a row.
     RowLabel(Name),
     /// After the first sign of a row.
     RowSign(Name, bool),
-    /// After the first number of a row, with at most one sign before it.
+    /// After the first number of a row, and whether a minus is before it. At most one sign is before it.
     RowNumber(Name, bool, Decimal),
-    /// After the left side of a row.
+    /// After the left-hand side of a row.
     RowLeft(Name, GivenLimit),
-    /// After the sense behind the left side of a row.
+    /// After the relation that follows the left-hand side of a row.
     RowLeftRelation(PartialRow),
     /// After the column of a bound.
     BoundName(Name),
-    /// After the sign of a bound's left side.
+    /// After the sign of a bound's left-hand side.
     BoundSign(bool),
-    /// After the left side of a bound.
+    /// After the left-hand side of a bound.
     BoundLeft(GivenLimit),
-    /// After the sense behind the left side of a bound.
+    /// After the relation that follows the left-hand side of a bound.
     BoundLeftRelation(GivenLimit, Relation),
-    /// Before a right side.
+    /// Before a right-hand side.
     AtSide(SideOwner),
-    /// After the sign of a right side.
+    /// After the sign of a right-hand side.
     SideSign(SideOwner, bool),
-    /// After `end`, on its line.
+    /// After `end`, on the same line.
     AfterEnd,
 }

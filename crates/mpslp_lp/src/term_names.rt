@@ -1,4 +1,4 @@
-//! Names of columns in an unfinished row.
+//! Names of columns in an incomplete row.
 
 ghost use Rattle.std.specs.Prelude.{◌≡◌, ◌∷◌, [], MatchResult};
 ghost use Rattle.std.proofs.Common.{rules};
@@ -15,10 +15,10 @@ use std::alloc::Global;
 use std::hash::{Hash, Hasher};
 use std::marker::Model;
 
-/// The most bytes of a name that takes no memory of its own.
+/// The longest name that is stored without an allocation, in bytes.
 const SHORT: usize = 24;
 
-/// The name of the column of a term. A row keeps one for each term until it ends, so most take no memory of their own.
+/// The name of the column of a term. A row keeps one for each term until it is complete, so short names are stored inline.
 #[derive(Drop)]
 pub struct TermName {
     bytes: SmallVec<u8, SHORT>,
@@ -49,7 +49,7 @@ impl Eq for TermName {
     ghost laws = { nat_list_eq_equiv };
 }
 
-/// The bytes are one write, where a slice of them would be a write for each.
+/// Writes the bytes at once: the hash of a slice would write each byte separately.
 impl Hash for TermName {
     ghost hash_input = { λ name. name ∷ [] };
 

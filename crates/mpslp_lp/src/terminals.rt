@@ -13,7 +13,7 @@ use mpslp_decimal::Decimal;
 use mpslp_lines::value_of;
 use mpslp_model::{FaultKind, Name, NameFault};
 
-/// What the grammar sees of a token, without the text of a name.
+/// What the grammar sees of a token; the text of a name is separate.
 #[derive(Clone, Copy)]
 pub(crate) enum TerminalKind {
     /// It opens a section.
@@ -22,9 +22,9 @@ pub(crate) enum TerminalKind {
     Name,
     /// A number.
     Number(Decimal),
-    /// A sign; whether it is a minus.
+    /// A sign, and whether it is a minus.
     Sign(bool),
-    /// A sense.
+    /// A relation.
     Compares(Relation),
     /// A colon.
     Colon,
@@ -32,18 +32,18 @@ pub(crate) enum TerminalKind {
     Infinity,
     /// `free`.
     Free,
-    /// No rule takes it.
+    /// A token that no rule accepts.
     Other,
 }
 
-/// What the grammar sees of a token.
+/// A token as the grammar sees it, with its text.
 #[derive(Clone, Copy)]
 pub(crate) struct TerminalToken<'a> {
     pub(crate) kind: TerminalKind,
     pub(crate) text: &'a [u8],
 }
 
-/// Whether a number that stands before the name would take its front as its exponent.
+/// Whether a number directly before the name would continue into it, as in `2e1`.
 fn is_like_exponent(name: &[u8]) -> bool
     ensures { result ≡ is_like_exponent name.now }
 {
@@ -54,7 +54,7 @@ fn is_like_exponent(name: &[u8]) -> bool
     }
 }
 
-/// The first fault of a name.
+/// The first error of a name.
 fn name_fault(name: &[u8]) -> Option<FaultKind>
     ensures { result ≡ name_fault name.now }
 {
@@ -66,14 +66,14 @@ fn name_fault(name: &[u8]) -> Option<FaultKind>
                 None
             }
         }
-        // Nothing is allocated, so memory is never wanted.
+        // `check` does not allocate.
         Err(NameFault::NameLength | NameFault::OutOfMemory) => Some(FaultKind::NameLength),
         Err(NameFault::NameByte) => Some(FaultKind::NameByte),
         Err(NameFault::NameMarker) => Some(FaultKind::NameMarker),
     }
 }
 
-/// What is seen of a word, or its fault wherever it stands.
+/// What the grammar sees of a word, or its lexical error.
 #[inline(always)]
 fn classify_word(text: &[u8]) -> Result<TerminalKind, FaultKind>
     ensures { IsTerminalOfWord text.now result }
@@ -90,7 +90,7 @@ fn classify_word(text: &[u8]) -> Result<TerminalKind, FaultKind>
     }
 }
 
-/// What is seen of a number, or its fault.
+/// What the grammar sees of a number, or its error.
 #[inline(always)]
 fn classify_number(literal: &[u8]) -> Result<TerminalKind, FaultKind>
     ensures { IsTerminalOfNumber literal.now result }
@@ -101,7 +101,7 @@ fn classify_number(literal: &[u8]) -> Result<TerminalKind, FaultKind>
     }
 }
 
-/// What is seen of a token, or its fault wherever it stands.
+/// What the grammar sees of a token, or its lexical error.
 #[inline(always)]
 pub(crate) fn classify(kind: TokenKind, text: &[u8]) -> Result<TerminalKind, FaultKind>
     ensures { IsTerminalOf kind text.now result }

@@ -1,4 +1,4 @@
-//! The tokens of a text, taken one after another.
+//! The step from one state to the next by a token.
 
 ghost use Rattle.std.specs.Prelude.{◌≡◌, Some, None};
 ghost use Rattle.mpslp_lp.specs.Grammar.{last_word_text, opened_by};
@@ -39,7 +39,7 @@ impl LastWord {
         }
     }
 
-    /// Where it leads.
+    /// The place where it leads.
     fn opens(self) -> Place
         ensures { result ≡ opened_by self }
     {
@@ -50,7 +50,7 @@ impl LastWord {
     }
 }
 
-/// Takes a token after the word of the objective.
+/// Takes the token after `minimize` or `maximize`.
 fn take_at_objective(
     context: &mut Context,
     sense: Sense,
@@ -70,7 +70,7 @@ fn take_at_objective(
     }
 }
 
-/// Takes the colon after the objective's label.
+/// Takes the colon after the label of the objective.
 fn take_objective_label(context: &mut Context, sense: Sense, name: Name) -> Result<State, LineError>
     ensures { TakesToken (take context.old (State.ObjectiveName sense name) Terminal.Colon) result context.new }
 {
@@ -82,7 +82,7 @@ fn take_objective_label(context: &mut Context, sense: Sense, name: Name) -> Resu
     )
 }
 
-/// Takes a token after a name behind the word of the objective, which may be a label.
+/// Takes the token after a name that follows `minimize` or `maximize` and may be a label.
 fn take_after_objective_name(
     context: &mut Context,
     sense: Sense,
@@ -103,7 +103,7 @@ fn take_after_objective_name(
     }
 }
 
-/// Takes the last word of a section's opening.
+/// Takes the last word of a section heading.
 fn take_last_word(
     context: &mut Context,
     wanted: LastWord,
@@ -123,7 +123,7 @@ fn take_last_word(
     }
 }
 
-/// Takes a token after `semi`.
+/// Takes the token after `semi`.
 fn take_after_semi(context: &mut Context, token: &TerminalToken<'_>) -> Result<State, LineError>
     requires { HasLegalName token.now }
     ensures { TakesToken (take context.old State.AtSemi (terminal_of_token token.now)) result context.new }
@@ -134,7 +134,7 @@ fn take_after_semi(context: &mut Context, token: &TerminalToken<'_>) -> Result<S
     }
 }
 
-/// Takes the token after a number of the objective that no name follows.
+/// Takes the token after a number in the objective that no name follows: the constant.
 fn take_constant(
     context: &mut Context,
     objective: Name,
@@ -153,7 +153,7 @@ fn take_constant(
     }
 }
 
-/// Takes the token after a number of a row that no name follows.
+/// Takes the token after a number in a row that no name follows, which is an error.
 fn refuse_constant(context: &Context, token: &TerminalToken<'_>) -> Result<State, LineError>
     ensures { TakesToken (refuse_constant context.now (terminal_of_token token.now)) result context.now }
 {
@@ -200,7 +200,7 @@ fn take_after_number(
     }
 }
 
-/// Takes a token after a name at the beginning of a row, which may be a label.
+/// Takes the token after a name at the start of a row, which may be a label.
 fn take_after_row_name(
     context: &mut Context,
     name: Name,
@@ -273,7 +273,7 @@ fn take_after_row_number(
     }
 }
 
-/// Takes the token after the left side of a row.
+/// Takes the token after the left-hand side of a row.
 fn take_row_relation(
     context: &mut Context,
     name: Name,
@@ -308,7 +308,7 @@ fn take_after_bound_name(
     }
 }
 
-/// Takes the token after the sign of a bound's left side.
+/// Takes the token after the sign of a bound's left-hand side.
 fn take_after_bound_sign(
     context: &mut Context,
     minus: bool,
@@ -322,7 +322,7 @@ fn take_after_bound_sign(
     }
 }
 
-/// Takes the token after the left side of a bound.
+/// Takes the token after the left-hand side of a bound.
 fn take_bound_relation(
     context: &mut Context,
     limit: GivenLimit,
@@ -336,7 +336,7 @@ fn take_bound_relation(
     }
 }
 
-/// Takes the token after the sense behind the left side of a bound.
+/// Takes the token after the relation that follows the left-hand side of a bound.
 fn take_after_bound_relation(
     context: &mut Context,
     limit: GivenLimit,
@@ -352,7 +352,7 @@ fn take_after_bound_relation(
     }
 }
 
-/// Takes the first token of a right side.
+/// Takes the first token of a right-hand side.
 fn take_at_side(
     context: &mut Context,
     sided: SideOwner,
@@ -366,7 +366,7 @@ fn take_at_side(
     }
 }
 
-/// Takes a token.
+/// Takes a token in a state. Returns the next state, or the error of the token.
 #[inline(always)]
 pub(crate) fn take(
     context: &mut Context,

@@ -7,10 +7,10 @@ ghost use Rattle.mpslp_types.specs.Name.{lower_byte, same_bytes};
 ghost use Rattle.mpslp_lp.specs.declared.words.WordClass.{WordClass};
 ghost use Rattle.mpslp_lp.specs.Words.{begins_reserved, may_be_reserved, class_of};
 
-/// A section of an LP file. They stand in this order, but those from Bounds to SemiContinuous in any order.
+/// A section of an LP file. Sections come in this order, but those from Bounds to SemiContinuous may come in any order.
 #[derive(Clone, Copy, Debug, PartialEq, Eq)]
 pub enum Section {
-    /// The objective, after a word that says whether it is minimized or maximized.
+    /// The objective, opened by `minimize` or `maximize`.
     Objective,
     /// The rows.
     Rows,
@@ -18,11 +18,11 @@ pub enum Section {
     Bounds,
     /// The names of integer columns.
     Generals,
-    /// The names of columns that are 0 or 1.
+    /// The names of binary columns.
     Binaries,
     /// The names of semi-continuous columns.
     SemiContinuous,
-    /// The end; nothing after its line is looked at.
+    /// The end. Lines after it are ignored.
     End,
 }
 
@@ -35,9 +35,9 @@ pub enum SectionWord {
     Maximize,
     /// `st`, `s.t.` or `st.`.
     Rows,
-    /// `subject`, which `to` follows.
+    /// `subject`, which must be followed by `to`.
     Subject,
-    /// `such`, which `that` follows.
+    /// `such`, which must be followed by `that`.
     Such,
     /// `bound` or `bounds`.
     Bounds,
@@ -53,7 +53,7 @@ pub enum SectionWord {
     End,
 }
 
-/// What a word means.
+/// The meaning of a word.
 #[derive(Clone, Copy, Debug, PartialEq, Eq)]
 pub enum WordClass {
     /// It opens a section.
@@ -64,11 +64,11 @@ pub enum WordClass {
     Free,
     /// `sos`, `sos1` or `sos2`.
     Sos,
-    /// It is not reserved: a name.
+    /// A name: the word is not reserved.
     Name,
 }
 
-/// The reserved words in lower case, each with its meaning.
+/// The reserved words in lower case, with their meanings.
 const WORDS: [(&'static [u8], WordClass); 31] = [
     (b"min", WordClass::Opens(SectionWord::Minimize)),
     (b"minimize", WordClass::Opens(SectionWord::Minimize)),
@@ -114,7 +114,7 @@ fn lower_byte(byte: u8) -> u8
     }
 }
 
-/// Whether the text, in lower case, is the word.
+/// Whether the text is the word, ignoring case. The word is in lower case.
 pub(crate) fn is_word(text: &[u8], word: &[u8]) -> bool
     ensures { result ≡ same_bytes (map lower_byte text.now) word.now }
 {
@@ -127,7 +127,7 @@ pub(crate) fn is_word(text: &[u8], word: &[u8]) -> bool
     }
 }
 
-/// The first of the words that the text is, in upper case, lower case or both, with its meaning.
+/// The first of the words that the text is, ignoring case, with its meaning.
 fn word_among(
     words: &[(&'static [u8], WordClass)],
     text: &[u8],
@@ -137,7 +137,7 @@ fn word_among(
     words.iter().copied().find(|entry| is_word(text, entry.0))
 }
 
-/// What a text means among words with their meanings.
+/// The meaning of a text, looked up among these words.
 fn class_among(words: &[(&'static [u8], WordClass)], text: &[u8]) -> WordClass
     ensures { result ≡ option_map_or (λ (entry : List ℕ × WordClass). entry.1) (find (λ entry. same_bytes (map lower_byte text.now) entry.0) (map (λ entry. (entry.0.now, entry.1)) words.now)) WordClass.Name }
 {
@@ -147,10 +147,10 @@ fn class_among(words: &[(&'static [u8], WordClass)], text: &[u8]) -> WordClass
     }
 }
 
-/// The length of the longest reserved words.
+/// The length of the longest reserved word.
 const LONGEST_WORD: usize = 8;
 
-/// Whether reserved words begin with these letters, in upper or lower case.
+/// Whether a reserved word begins with these two letters, ignoring case.
 fn begins_reserved(first: u8, second: u8) -> bool
     ensures { result ≡ begins_reserved first second }
 {
@@ -165,7 +165,7 @@ fn begins_reserved(first: u8, second: u8) -> bool
     }
 }
 
-/// Whether the text may be a reserved word, by its length and its first letters. Most names are told from them by these.
+/// Whether the text may be a reserved word, by its length and its first two letters. This excludes most names quickly.
 fn may_be_reserved(text: &[u8]) -> bool
     ensures { result ≡ may_be_reserved text.now }
 {
@@ -175,7 +175,7 @@ fn may_be_reserved(text: &[u8]) -> bool
     }
 }
 
-/// What a word means, in upper case, lower case or both.
+/// The meaning of a word, ignoring case.
 pub(crate) fn class_of(text: &[u8]) -> WordClass
     ensures { result ≡ class_of text.now }
 {

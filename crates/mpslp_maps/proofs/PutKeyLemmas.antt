@@ -1,4 +1,4 @@
--- A vector of entries in the order of their keys: to insert before the first key that is not below is to put.
+-- A vector of entries in the order of their keys: inserting before the first key that is not less is `put`.
 use Rattle.std.proofs.Common.{◌≡◌, refl, sym, ap, ◌∙◌, ℕ, suc, ◌+◌, List, [], ◌∷◌, cond, not, arith}
 use Rattle.std.specs.Prelude.{Some, None, insert}
 use Rattle.std.specs.List.{position_or_len}

@@ -1,4 +1,4 @@
--- Entries in the order of their keys, searched by halves: those below a key stand before those that are not.
+-- Binary search in entries in the order of their keys: those less than a key come before those that are not.
 use Rattle.std.proofs.Common.{◌≡◌, refl, sym, ap, ◌∙◌, ℕ, suc, zero, ◌+◌, ◌<◌, ◌≤◌, List, [], ◌∷◌, Bool, true, false, cond, not, length, arith, get_or}
 use Rattle.std.specs.Prelude.{◌-◌, Option, Some, None, slice_get, position, nat_lt}
 use Rattle.std.specs.Option.{option_map_or}
@@ -15,7 +15,7 @@ use Rattle.std.proofs.lemmas.Bool.{lt-ltb, le-ltb}
 use Rattle.std.proofs.lemmas.Option.{slice_get_read, slice_get_past}
 use Rattle.mpslp_types.proofs.BoolLemmas.{true_from, T_from}
 
--- ---- answers of a comparison
+-- ---- results of a comparison
 
 pub less_from : (r : Ordering) → is_lt r ≡ true → r ≡ Less
 less_from Less h = refl
@@ -45,7 +45,7 @@ not_tied Greater h = refl
 pub suc_of : (n : ℕ) → 1 + n ≡ suc n
 suc_of n = omega arith
 
--- an entry that does not have the place is below the key
+-- an entry before the place of the key is less than the key
 above_first : (r : Ordering) (n m : ℕ) → suc m ≡ cond (not (is_le r)) (1 + n) 0 → is_gt r ≡ true
 above_first Less n m h = cc
 above_first Equal n m h = cc
@@ -60,7 +60,7 @@ module _ {K : Type 0} (R : K → K → Ordering) (o : IsTotalOrder R) where
   greater : (x y : K) → R x y ≡ Less → R y x ≡ Greater
   greater x y h = o.antisymm y x ∙ ap ordering_reverse h
 
-  -- what is below something that is below the key is below the key
+  -- what is less than something less than the key is less than the key
   below_too : (k x y : K) → R x y ≡ Less → is_gt (R k y) ≡ true → is_gt (R k x) ≡ true
   below_too k x y h above = ap is_gt (greater x k (o.trans x y k h (reversed k y (greater_from (R k y) above))))
 
@@ -70,14 +70,14 @@ module _ {K X : Type 0} (R : K → K → Ordering) where
   value_if k None = None
   value_if k (Some e) = cond (is_eq (R k e.0)) (Some e.1) None
 
-  -- each entry after the first of these is above it
+  -- each entry after the first of these is greater than it
   below_each : (x : K) (es : List (K × X)) (i : ℕ) (d : K × X) → below_all R x es ≡ true → i < length es → R x (get_or es i d).0 ≡ Less
   below_each x [] i d h in' = absurd (omega arith)
   below_each x (e ∷ es) zero d h in' = less_from (R x e.0) (first_so (is_lt (R x e.0)) (below_all R x es) h)
   below_each x (e ∷ es) (suc i) d h in' = below_each x es i d (second_so (is_lt (R x e.0)) (below_all R x es) h) (omega arith)
 
   module _ (o : IsTotalOrder R) where
-    -- entries that are below the key stand before those that are not
+    -- entries that are less than the key come before those that are not
     pub parted : (k : K) (es : List (K × X)) → is_sorted R es ≡ true → IsPartitionedBy (λ e. is_gt (R k e.0)) es
     parted k [] sorted i j d le in' above = absurd (omega arith)
     parted k (e ∷ es) sorted zero zero d le in' above = above
@@ -86,7 +86,7 @@ module _ {K X : Type 0} (R : K → K → Ordering) where
     parted k (e ∷ es) sorted (suc i) zero d le in' above = absurd (omega arith)
     parted k (e ∷ es) sorted (suc i) (suc j) d le in' above = parted k es (second_so (below_all R e.0 es) (is_sorted R es) sorted) i j d (omega arith) (omega arith) above
 
-    -- a key that is below the first entry is not found
+    -- a key that is less than the first entry is not found
     none_below : (k x : K) (es : List (K × X)) → R k x ≡ Less → below_all R x es ≡ true → find R k es ≡ None
     none_below k x [] h below = refl
     none_below k x (e ∷ es) h below =
@@ -110,11 +110,11 @@ module _ {K X : Type 0} (R : K → K → Ordering) where
     found_here k es i e sorted at inside here =
         find_at_key k es sorted ∙ ap (λ (j : ℕ). value_if k (slice_get es j)) (sym at) ∙ ap (value_if k) (slice_get_read es (length es) i e refl inside here)
 
-    -- where the place of the key is the end, it is not found
+    -- if the place of the key is the end, it is not found
     pub found_nowhere : (k : K) (es : List (K × X)) (i : ℕ) → is_sorted R es ≡ true → i ≡ position_or_len (λ x. is_le (R k x.0)) es → length es ≤ i → find R k es ≡ None
     found_nowhere k es i sorted at past = find_at_key k es sorted ∙ ap (λ (j : ℕ). value_if k (slice_get es j)) (sym at) ∙ ap (value_if k) (slice_get_past es i past)
 
-    -- a key above the last of these has its place behind all
+    -- the place of a key greater than the last of these is after all
     behind_last : (k : K) (e : K × X) (es : List (K × X)) → is_sorted R (e ∷ es) ≡ true → option_map_or (λ last. is_gt (R k last.0)) (slice_get (e ∷ es) (length es)) true ≡ true
         → suc (length es) ≡ position_or_len (λ x. is_le (R k x.0)) (e ∷ es)
     behind_last k e [] sorted above = ap (λ (b : Bool). cond (not b) 1 0) (sym (not_le (R k e.0) above))
@@ -125,7 +125,7 @@ module _ {K X : Type 0} (R : K → K → Ordering) where
         let first_above = below_too R o k e.0 f.0 first_below (above_first (R k f.0) (position_or_len (λ (x : K × X). is_le (R k x.0)) es) (length es) next) in
         ap suc next ∙ sym (suc_of n) ∙ ap (λ (b : Bool). cond (not b) (1 + n) 0) (sym (not_le (R k e.0) first_above))
 
-    -- a key above the last entry has its place behind all
+    -- the place of a key greater than the last entry is after all
     pub place_behind : (k : K) (es : List (K × X)) → is_sorted R es ≡ true → option_map_or (λ last. is_gt (R k last.0)) (slice_get es (length es - 1)) true ≡ true
         → length es ≡ position_or_len (λ e. is_le (R k e.0)) es
     place_behind k [] sorted above = refl
@@ -158,7 +158,7 @@ module _ {K X : Type 0} (R : K → K → Ordering) where
       let n : position_or_len (λ x. is_eq (R k x.0)) es ≡ length es = none_tied k es h in
       ap (λ (j : ℕ). cond (nat_lt j (length es)) (Some j) None) n ∙ ap (λ (b : Bool). cond b (Some (length es)) None) (le-ltb (length es) (length es) (omega arith))
 
-  -- where the entries below the key end is the place of the key
+  -- the place of the key is where the entries less than it end
   pub place_from_point : (k : K) (es : List (K × X)) (i : ℕ) → i ≤ length es → IsPartitionPoint (λ e. is_gt (R k e.0) ≡ true) (λ e. is_gt (R k e.0) ≡ false) es i
       → i ≡ position_or_len (λ e. is_le (R k e.0)) es
   place_from_point k [] i le point = omega arith
@@ -166,6 +166,6 @@ module _ {K X : Type 0} (R : K → K → Ordering) where
       sym (position_or_len_is (λ (x : K × X). is_le (R k x.0)) (e ∷ es) i e le (λ j below. not_le (R k (get_or (e ∷ es) j e).0) (point.0 j e (omega arith) below))
       (λ inside. le_from (R k (get_or (e ∷ es) i e).0) (point.1 i e (omega arith) inside)))
 
--- to put keeps the order
+-- `put` keeps the order
 pub sorted-put : {K X : Type 0} (R : K → K → Ordering) (o : IsTotalOrder R) (k : K) (v : X) (es : List (K × X)) → is_sorted R es ≡ true → is_sorted R (put R k v es) ≡ true
 sorted-put R o k v es h = true_from (is_sorted R (put R k v es)) (is_sorted-put R o k v es (T_from (is_sorted R es) h))

@@ -1,7 +1,7 @@
-//! Maps that are kept as vectors, in the order of their keys.
+//! Maps that are stored as vectors, in the order of their keys.
 //!
-//! A map is searched by halves, and an entry that does not come in order moves those behind it. What is looked for
-//! need not own a key: a [`Query`] tells how it stands to one.
+//! Look-up is a binary search, and inserting an entry out of order moves the entries after it. What is looked up need not be
+//! a key: a [`Query`] is anything that can be compared with keys.
 #![tactic(auto)]
 
 mod sorted_map;

@@ -1,4 +1,4 @@
-//! Maps, each kept as a vector of its entries in the order of their keys.
+//! Maps, each stored as a vector of its entries in the order of their keys.
 
 ghost use Rattle.std.specs.Prelude.{◌≡◌, ◌<◌, ◌-◌, ◌↔◌, [], None, IsOk, IsTrue, OnOk, OnErr, Some, length, is_some, true, position, slice_get, vec_len, vec_capacity};
 ghost use Rattle.std.specs.Option.{option_copied, option_map_or};
@@ -19,18 +19,18 @@ use std::marker::Model;
 pub trait Key {
     ghost cmp: { Self → Self → Ordering };
 
-    /// How this key stands to another one.
+    /// The order of this key relative to another one.
     fn compare_keys(&self, other: &Self) -> Ordering
         ensures { result ≡ cmp self.now other.now };
 
     ghost total: { IsTotalOrder cmp };
 }
 
-/// What is looked for among keys: a key, or what a key is compared with and need not own.
+/// What is looked up among keys: a key, or a value that is compared with keys and need not own one.
 pub trait Query<K: Key> {
     ghost key: { Self → K };
 
-    /// How the key that is looked for stands to another one.
+    /// The order of the query relative to a key.
     fn compare(&self, other: &K) -> Ordering
         ensures { result ≡ K.cmp (key self.now) other.now };
 }
@@ -71,7 +71,7 @@ impl Key for u32 {
     }
 }
 
-/// The entry at index `i`, which is below how many entries there are.
+/// The entry at index `i`, which must be less than the number of entries.
 pub fn entry_at<K, V>(entries: &[(K, V)], i: usize) -> &(K, V)
     requires { i < length entries.now }
     ensures { slice_get entries.now i ≡ Some result.now }
@@ -79,7 +79,7 @@ pub fn entry_at<K, V>(entries: &[(K, V)], i: usize) -> &(K, V)
     &entries[i]
 }
 
-/// Whether the key lies above that of the last entry. It does where there is no entry.
+/// Whether the query is greater than the last key, or there are no entries.
 fn ends_below<K: Key, V, Q: Query<K>>(entries: &[(K, V)], query: &Q) -> bool
     ensures { result ≡ option_map_or (λ last. is_gt (K.cmp (Q.key query.now) last.0)) (slice_get entries.now (length entries.now - 1)) true }
 {
@@ -89,8 +89,8 @@ fn ends_below<K: Key, V, Q: Query<K>>(entries: &[(K, V)], query: &Q) -> bool
     }
 }
 
-/// The index of the first entry that is not below the key, or else how many entries there are. Keys often come in their order,
-/// so the last entry is looked at first.
+/// The index of the first entry whose key is not less than the query, or the number of entries. Keys often come in order, so
+/// the last entry is compared first.
 fn index_of_key<K: Key, V, Q: Query<K>>(entries: &[(K, V)], query: &Q) -> usize
     requires { IsTrue (is_sorted K.cmp entries.now) }
     ensures { result ≡ position_or_len (λ entry. is_le (K.cmp (Q.key query.now) entry.0)) entries.now }
@@ -101,7 +101,7 @@ fn index_of_key<K: Key, V, Q: Query<K>>(entries: &[(K, V)], query: &Q) -> usize
     entries.partition_point(|entry| query.compare(&entry.0).is_gt())
 }
 
-/// The index of the entry at a key in entries that stand in the order of their keys, if there is one. A search by halves.
+/// The index of the entry with a key, if there is one, found by binary search. The entries are in the order of their keys.
 pub fn index_of_entry<K: Key, V, Q: Query<K>>(entries: &[(K, V)], query: &Q) -> Option<usize>
     requires { IsTrue (is_sorted K.cmp entries.now) }
     ensures { result ≡ position (λ entry. is_eq (K.cmp (Q.key query.now) entry.0)) entries.now }
@@ -116,7 +116,7 @@ pub fn index_of_entry<K: Key, V, Q: Query<K>>(entries: &[(K, V)], query: &Q) -> 
     None
 }
 
-/// The value at a key in entries that stand in the order of their keys, if it has one. A search by halves.
+/// The value of a key, if there is one, found by binary search. The entries are in the order of their keys.
 pub fn find_entry<'a, K: Key, V, Q: Query<K>>(entries: &'a [(K, V)], query: &Q) -> Option<&'a V>
     requires { IsTrue (is_sorted K.cmp entries.now) }
     ensures { option_copied result ≡ find K.cmp (Q.key query.now) entries.now }
@@ -131,7 +131,7 @@ pub fn find_entry<'a, K: Key, V, Q: Query<K>>(entries: &'a [(K, V)], query: &Q) 
     None
 }
 
-/// Puts an entry where its key belongs. No entry at its key is there. It takes memory only where the vector is full.
+/// Inserts an entry at the place of its key, which must be new. Allocates only if the vector is full.
 fn put_entry<K: Key + Drop, V: Drop>(
     entries: &mut Vec<(K, V)>,
     key: K,
@@ -149,7 +149,7 @@ fn put_entry<K: Key + Drop, V: Drop>(
     Ok(())
 }
 
-/// A map, kept as a vector of its entries in the order of their keys. Contracts see the list of its entries.
+/// A map, stored as a vector of its entries in the order of their keys. Contracts see it as the list of its entries.
 #[derive(Debug, Drop)]
 pub struct SortedMap<K: Key, V> {
     entries: Vec<(K, V)>,
@@ -167,7 +167,7 @@ impl<K: Key, V> Model for SortedMap<K, V> {
 }
 
 impl<K: Key, V> SortedMap<K, V> {
-    /// A map with no entry. It takes no memory.
+    /// A map without entries. Does not allocate.
     pub fn new(alloc: Global) -> SortedMap<K, V>
         ensures { result ≡ [] }
     {
@@ -183,42 +183,42 @@ impl<K: Key, V> SortedMap<K, V> {
         &self.entries
     }
 
-    /// The entries in the order of their keys, taken out of the map.
+    /// The entries in the order of their keys, moved out of the map.
     pub fn into_entries(self) -> Vec<(K, V)>
         ensures { result.items ≡ self }
     {
         self.entries
     }
 
-    /// How many entries there are.
+    /// The number of entries.
     pub fn len(&self) -> usize
         ensures { result ≡ length self.now }
     {
         self.as_slice().len()
     }
 
-    /// Whether the key lies above that of the last entry. It does where there is no entry.
+    /// Whether the query is greater than the last key, or there are no entries.
     pub fn ends_below<Q: Query<K>>(&self, query: &Q) -> bool
         ensures { result ≡ option_map_or (λ last. is_gt (K.cmp (Q.key query.now) last.0)) (slice_get self.now (length self.now - 1)) true }
     {
         ends_below(self.as_slice(), query)
     }
 
-    /// Whether there is no entry.
+    /// Whether there are no entries.
     pub fn is_empty(&self) -> bool
         ensures { IsTrue result ↔ self.now ≡ [] }
     {
         self.entries.is_empty()
     }
 
-    /// The value at a key, if it has one.
+    /// The value of a key, if there is one.
     pub fn find<Q: Query<K>>(&self, query: &Q) -> Option<&V>
         ensures { option_copied result ≡ find K.cmp (Q.key query.now) self.now }
     {
         find_entry(&self.entries, query)
     }
 
-    /// Whether there is an entry at a key.
+    /// Whether there is an entry with this key.
     pub fn has<Q: Query<K>>(&self, query: &Q) -> bool
         ensures { result ≡ is_some (find K.cmp (Q.key query.now) self.now) }
     {
@@ -227,11 +227,11 @@ impl<K: Key, V> SortedMap<K, V> {
 }
 
 impl<K: Key + Drop, V: Drop> SortedMap<K, V> {
-    /// Makes room for so many more entries, and for no further ones where it takes memory.
+    /// Reserves room for exactly this number of additional entries.
     ///
     /// # Errors
     ///
-    /// [`AllocError`] where there is no memory for them. The map is as it was in any case.
+    /// [`AllocError`] if an allocation fails. The map is unchanged in any case.
     pub fn reserve_exact(&mut self, additional: usize) -> Result<(), AllocError>
         ensures { self.new ≡ self.old }
     {
@@ -239,11 +239,11 @@ impl<K: Key + Drop, V: Drop> SortedMap<K, V> {
         entries.reserve_exact(additional)
     }
 
-    /// Puts an entry where its key belongs. There is none at its key; those behind it are moved.
+    /// Inserts an entry at the place of its key, and moves the entries after it. The key must be new.
     ///
     /// # Errors
     ///
-    /// [`AllocError`] where there is no memory for the entry. The map is as it was then.
+    /// [`AllocError`] if an allocation fails. Then the map is unchanged.
     pub fn put(&mut self, key: K, value: V) -> Result<(), AllocError>
         requires { find K.cmp key self.old ≡ None }
         ensures ok { OnOk result (self.new ≡ put K.cmp key value self.old) }

@@ -1,4 +1,4 @@
--- A model as it is written: each of its maps as the list of its entries, in byte order.
+-- The listing of a model: each of its maps as the list of its entries, in byte order.
 use Rattle.std.specs.Prelude.{ℕ, List}
 use Rattle.std.specs.FinMap.{entries}
 use Rattle.mpslp_decimal.specs.Decimal.{Number}

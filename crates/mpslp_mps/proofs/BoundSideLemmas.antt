@@ -1,4 +1,4 @@
--- The first fault of a bound, whose sides are declared by one call.
+-- The first error of a bound, whose lower and upper bound are declared by one call.
 use Rattle.std.proofs.Common.{◌≡◌, refl, sym, ap, subst, ◌∙◌, ℕ, List, [], ◌∷◌, ◌++◌, Bool, true, false, not, cond, map}
 use Rattle.std.specs.Prelude.{◌&&◌, ◌||◌, Option, Some, None, is_some, Ok, Err}
 use Rattle.std.specs.Option.{option_map, option_map_or}
@@ -34,7 +34,8 @@ use Rattle.mpslp_builder.proofs.MadeDrafts.{with_declarations-append}
 use Rattle.mpslp_lines.proofs.LeastLemmas.{earlier_of}
 use Rattle.mpslp_lines.proofs.RefusedLemmas.{kind_tests, declared-one, declared-append, call-refused, tests-none, tests-error}
 
--- the kind of the fault, by whether the column is there, a side is declared already, and one is of the wrong infinity
+-- the kind of the error, by whether the column exists, a bound is declared already, and one is infinite in the wrong
+-- direction
 abbrev side_kind : Bool → Bool → Bool → Option FaultKind
 side_kind there sided infinite =
     cond (not there) (Some kinds.UnknownColumn) (cond sided (Some kinds.DuplicateBound) (cond infinite (Some kinds.InfiniteValue) None))
@@ -65,7 +66,7 @@ both_sides true false false true e = refl
 both_sides true false false false true = refl
 both_sides true false false false false = refl
 
--- over the sides that are given, of which there is one at least
+-- over the bounds that are given, at least one
 sides_fault : (all : Draft) (column : List ℕ) (lower upper : Option Limit) → (is_some lower || is_some upper) ≡ true
     → declared_fault all (bounds_declared column lower upper) ≡ first_held (kind_tests (bounds_tests all column lower upper))
 sides_fault all column None None h = cc
@@ -83,7 +84,7 @@ sides-refused all column lower upper fault P Q h answer =
     subst (λ (o : Option FaultKind). IsErrorOf o (error_of_build fault)) (sym (sides_fault all column lower upper h))
     (call-refused (bounds_tests all column lower upper) fault P Q answer)
 
--- sides that are asked for
+-- bounds that are checked
 pub sides-none : (all : Draft) (column : List ℕ) (lower upper : Option Limit) → (is_some lower || is_some upper) ≡ true → Ok tt ≡ first_refusal (bounds_refusals all column lower upper)
     → declared_fault all (bounds_declared column lower upper) ≡ None
 sides-none all column lower upper h told = sides_fault all column lower upper h ∙ tests-none (bounds_tests all column lower upper) told
@@ -93,12 +94,12 @@ pub sides-error : (all : Draft) (column : List ℕ) (lower upper : Option Limit)
 sides-error all column lower upper fault h told =
     subst (λ (o : Option FaultKind). IsErrorOf o (error_of_build fault)) (sym (sides_fault all column lower upper h)) (tests-error (bounds_tests all column lower upper) fault told)
 
--- ---- after that the column is integer or semi-continuous
+-- ---- after the column is declared integer or semi-continuous
 
 abbrev one_kind : Draft → List ℕ → Bool → List (Bool × BuildFault)
 one_kind all column other = (not (has_column all column), UnknownColumn) ∷ (other, SemiContinuous) ∷ []
 
--- where the column is of no other kind
+-- if the column is not of the other type
 kind_told : (all : Draft) (d : Declaration) (column : List ℕ) (other : Bool) → refusals all d ≡ those_of (one_kind all column other) → other ≡ false
     → declared_fault all (d ∷ []) ≡ cond (not (has_column all column)) (Some kinds.UnknownColumn) None
 kind_told all d column other is apart =
@@ -109,7 +110,7 @@ kind_told all d column other is apart =
     by true = refl
     by false = refl
 
--- the one refusal that is left is the call's
+-- the only error that is left is that of the call
 kind_error : (all : Draft) (d : Declaration) (column : List ℕ) (other : Bool) (fault : BuildFault) (P Q : Type 0) → refusals all d ≡ those_of (one_kind all column other) → other ≡ false
     → Answers (refusals all d) (Err fault) P Q → IsErrorOf (declared_fault all (d ∷ [])) (error_of_build fault)
 kind_error all d column other fault P Q is apart answer =
@@ -129,7 +130,7 @@ pub semi-error : (all : Draft) (column : List ℕ) (fault : BuildFault) (P Q : T
     → IsErrorOf (declared_fault all (declare_semi column ∷ [])) (error_of_build fault)
 semi-error all column fault P Q apart answer = kind_error all (declare_semi column) column (is_integer all column) fault P Q refl apart answer
 
--- nothing is refused
+-- nothing is rejected
 pub integer-none : (all : Draft) (column : List ℕ) → refusals all (declare_integer column) ≡ [] → declared_fault all (declare_integer column ∷ []) ≡ None
 integer-none all column none = ap (λ (faults : List BuildFault). least_kind (map kind_of_build_fault faults)) (append-nil (refusals all (declare_integer column)) ∙ none)
 
@@ -156,7 +157,7 @@ semi-kind type column h k = λ i. when (h i) (declare_integer column) ++ when (k
 pub no-kind : (type : BoundType) (column : List ℕ) → is_integer_type type ≡ false → is_semi_type type ≡ false → kind_declared type column ≡ []
 no-kind type column h k = λ i. when (h i) (declare_integer column) ++ when (k i) (declare_semi column)
 
--- a side is given
+-- at least one bound is given
 pub some-side : (type : BoundType) (value : Limit) → (is_some (lower_given type value) || is_some (upper_given type value)) ≡ true
 some-side bounds.Lower value = refl
 some-side bounds.Upper value = refl
@@ -169,7 +170,7 @@ some-side bounds.IntegerLower value = refl
 some-side bounds.IntegerUpper value = refl
 some-side bounds.SemiUpper value = refl
 
--- the sides' own fault is that of all: where there is no column, it is that fault too
+-- the first error of the bounds is the first of all, also if the column does not exist
 kind_sides : (all : Draft) (d : Declaration) (column : List ℕ) (lower upper : Option Limit) → bounds_tests (with_declaration all d) column lower upper ≡ bounds_tests all column lower upper
     → declared_fault all (d ∷ []) ≡ cond (not (has_column all column)) (Some kinds.UnknownColumn) None → (is_some lower || is_some upper) ≡ true
     → declared_fault all (d ∷ bounds_declared column lower upper) ≡ declared_fault (with_declaration all d) (bounds_declared column lower upper)
@@ -190,7 +191,7 @@ integer_sides : (all : Draft) (column : List ℕ) (lower upper : Option Limit) �
 integer_sides all column lower upper apart some =
     kind_sides all (declare_integer column) column lower upper refl (kind_told all (declare_integer column) column (is_semi all column) refl apart) some
 
--- that there is no column is told of the sides too
+-- a missing column is also an error of the bounds
 column_missing : (all : Draft) (d : Declaration) (column : List ℕ) (lower upper : Option Limit) (kind : FaultKind) → bounds_tests (with_declaration all d) column lower upper ≡ bounds_tests all column lower upper
     → declared_fault all (d ∷ []) ≡ cond (not (has_column all column)) (Some kinds.UnknownColumn) None → (is_some lower || is_some upper) ≡ true
     → declared_fault all (d ∷ []) ≡ Some kind → declared_fault all (d ∷ bounds_declared column lower upper) ≡ Some kind
@@ -208,7 +209,7 @@ integer_missing : (all : Draft) (column : List ℕ) (lower upper : Option Limit)
 integer_missing all column lower upper kind apart some is =
     column_missing all (declare_integer column) column lower upper kind refl (kind_told all (declare_integer column) column (is_semi all column) refl apart) some is
 
--- whatever kind is declared, where none clashes
+-- whatever type is declared, if there is no clash
 pub bound-told : (all : Draft) (type : BoundType) (column : List ℕ) (value : Limit) → type_clash all type column ≡ false
     → declared_fault all (bound_declared type column value)
     ≡ declared_fault (with_declarations all (kind_declared type column)) (bounds_declared column (lower_given type value) (upper_given type value))
@@ -224,7 +225,7 @@ bound-told all bounds.IntegerUpper column value apart = integer_sides all column
 bound-told all bounds.SemiUpper column value apart =
     kind_sides all (declare_semi column) column None (Some value) refl (kind_told all (declare_semi column) column (is_integer all column) refl apart) refl
 
--- the kind that is declared changes nothing for the sides
+-- the type that is declared does not matter for the bounds
 same_sides : (all : Draft) (type : BoundType) (column : List ℕ) (lower upper : Option Limit)
     → bounds_tests (with_declarations all (kind_declared type column)) column lower upper ≡ bounds_tests all column lower upper
 same_sides all bounds.Lower column lower upper = refl
@@ -238,7 +239,7 @@ same_sides all bounds.IntegerLower column lower upper = refl
 same_sides all bounds.IntegerUpper column lower upper = refl
 same_sides all bounds.SemiUpper column lower upper = refl
 
--- so they tell the fault of all before the kind is declared
+-- so their check returns the first error of all before the type is declared
 pub bound-asked : (all : Draft) (type : BoundType) (column : List ℕ) (value : Limit) (lower upper : Option Limit) → type_clash all type column ≡ false
     → lower ≡ lower_given type value → upper ≡ upper_given type value → declared_fault all (bounds_declared column lower upper) ≡ declared_fault all (bound_declared type column value)
 bound-asked all type column value lower upper apart l u =
@@ -251,7 +252,7 @@ bound-asked all type column value lower upper apart l u =
     ∙ sym (sides_fault (with_declarations all (kind_declared type column)) column below above given)
     ∙ sym (bound-told all type column value apart)
 
--- the kind, and then the sides
+-- the type, and then the bounds
 pub bound-declares : (all mid later : Draft) (type : BoundType) (column : List ℕ) (value : Limit) (lower upper : Option Limit) (answer : LineResult) → type_clash all type column ≡ false
     → mid ≡ with_declarations all (kind_declared type column) → lower ≡ lower_given type value → upper ≡ upper_given type value
     → AreDeclared mid (bounds_declared column lower upper) answer later → AreDeclared all (bound_declared type column value) answer later
@@ -269,7 +270,7 @@ bound-declares all mid later type column value lower upper answer apart m l u de
     by (Ok x) h = (fault_is ∙ h.0, h.1 ∙ made)
     by (Err error) h = subst (λ (o : Option FaultKind). IsErrorOf o error) (sym fault_is) h
 
--- a fault of the kind is one of all
+-- an error of the type is one of all
 pub kind-refused : (all : Draft) (type : BoundType) (column : List ℕ) (value : Limit) (error : LineError) → type_clash all type column ≡ false
     → IsErrorOf (declared_fault all (kind_declared type column)) error → IsErrorOf (declared_fault all (bound_declared type column value)) error
 kind-refused all type column value OutOfMemory apart fault_is = tt
@@ -290,7 +291,7 @@ kind-refused all bounds.SemiUpper column value (Fault kind) apart fault_is =
 
 -- ---- what a bound declares
 
--- the value of a line, where its literal has one
+-- the value of a line, if it has a literal
 value-is : (o : Option (List ℕ)) (value : Option Number) → value ≡ option_map value_of o
     → option_map_or (λ literal. limit_of (value_of literal)) o zero_limit ≡ option_map_or limit_of value zero_limit
 value-is None value h = ap (λ (v : Option Number). option_map_or limit_of v zero_limit) (sym h)

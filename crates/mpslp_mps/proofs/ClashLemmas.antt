@@ -1,5 +1,4 @@
--- Lines that would make a column both integer and semi-continuous: that is told before all else of their form, and of no
--- other line.
+-- Lines that would make a column both integer and semi-continuous: the first error of their form, and of no other line.
 use Rattle.std.proofs.Common.{◌≡◌, refl, sym, ap, ◌∙◌, ℕ, List, [], ◌∷◌, ◌++◌, Bool, true, false, not, cond}
 use Rattle.std.specs.Prelude.{◌||◌, ◌&&◌, Option, Some, None, Ok, Err, is_none, codes}
 use Rattle.std.specs.List.{list_any, list_all, flat_map}
@@ -32,9 +31,9 @@ use Rattle.mpslp_mps.specs.declared.sections.Section.{Section}
 use Rattle.mpslp_mps.specs.declared.sections.Section.TheVariants.{Name, ObjSense, ObjName, Rows, Columns, Rhs, Ranges, Bounds, EndData}
 use Rattle.mpslp_mps.proofs.OrderLemmas.{each-declared, each-flat, sense-passes, sides-passes, ranges-passes}
 
--- ---- what a builder is asked
+-- ---- checks by the builder
 
--- whether the answer is that a column is of the other kind. It is so where it is, since the column is there then
+-- whether the result is that the column is of the other type; it is if and only if the column is, because then it exists
 abbrev pub is_clash_answer : Answer → Bool
 is_clash_answer (Ok x) = false
 is_clash_answer (Err fault) = is_kind_clash fault
@@ -54,7 +53,7 @@ semi-answered all c answer made is = ap is_clash_answer is ∙ told_so (has_colu
 
 -- ---- what a line declares
 
--- one declaration of a column's kind clashes where the column is of the other kind
+-- declaring the type of a column clashes if the column is of the other type
 kind_clash : (unknown other : Bool) → list_any is_kind_clash (those_of ((unknown, builds.UnknownColumn) ∷ (other, builds.SemiContinuous) ∷ [])) ≡ other
 kind_clash true true = refl
 kind_clash true false = refl
@@ -151,7 +150,7 @@ bound-apart earlier letters more type line t l apart =
     ∙ ap (λ (o : Option BoundType). option_map_or (λ type. option_map_or (λ (line : BoundLine). type_clash earlier type line.column) (bound_shape type more) false) o false) (sym t)
     ∙ apart
 
--- of the other sections nothing clashes
+-- in the other sections nothing clashes
 pub sense-apart : (context : Context) (earlier : Draft) (fields : Fields) → has_kind_clash earlier (data_declared context earlier fields (Some ObjSense)) ≡ false
 sense-apart context earlier fields = no-clash (data_declared context earlier fields (Some ObjSense)) earlier (sense-passes says_no_kind (λ s. refl) fields)
 

@@ -1,5 +1,4 @@
--- The first fault of a line of a column: that of its form, or else a row that is not declared, a column that is
--- split, or a coefficient that is there twice.
+-- The first error of a line of a column: of its form, or an unknown row, a split column, or a repeated coefficient.
 use Rattle.std.proofs.Common.{◌≡◌, refl, sym, ap, ◌∙◌, ℕ, List, [], ◌∷◌, ◌++◌, Bool, true, false, cond, map, arith}
 use Rattle.std.specs.Prelude.{◌&&◌, not, nat_le, Option, Some, None, is_some}
 use Rattle.std.specs.List.{list_all, flat_map, cons_option}
@@ -42,7 +41,7 @@ use Rattle.mpslp_mps.proofs.ColumnTaking.{are_rows, front-none, front-there, fro
 
 -- ---- the form
 
--- the tests of names and numbers, before that for whether the column's lines stand together
+-- the tests of names and numbers, which come before the test whether the lines of the column are contiguous
 abbrev pub field_tests : ValuesLine → FaultTests
 field_tests line = name_tests line.name ++ number_tests (literals_of line.pairs)
 
@@ -53,7 +52,7 @@ plain-tests : (context : Context) (earlier : Draft) (fields : Fields) → is_mar
     → data_tests context earlier fields (Some Columns) ≡ judged_by (column_tests context earlier) (column_shape fields)
 plain-tests context earlier fields h = ap (λ (b : Bool). cond b (marker_tests context fields) (judged_by (column_tests context earlier) (column_shape fields))) h
 
--- a fault of the fields is the line's first fault
+-- an error of the fields is the first error of the line
 held_fields : (context : Context) (earlier : Draft) (parts : Option ValuesLine) (kind : FaultKind) → first_held (judged_by field_tests parts) ≡ Some kind
     → first_held (judged_by (column_tests context earlier) parts) ≡ Some kind
 held_fields context earlier None kind h = h
@@ -85,7 +84,7 @@ pub column-judged : (context : Context) (earlier : Draft) (fields : Fields) (err
 column-judged context earlier fields (errors.Fault kind) here plain apart held = column-form context earlier fields kind here plain apart held
 column-judged context earlier fields errors.OutOfMemory here plain apart held = tt
 
--- a column that would be of both kinds, which is told before all that is asked of the fields
+-- a clash of column types, which is reported before all errors of the fields
 behind_fields : (context : Context) (earlier : Draft) (parts : Option ValuesLine) → list_all (λ test. is_behind_clash test.1) (judged_by (column_tests context earlier) parts) ≡ true
 behind_fields context earlier None = refl
 behind_fields context earlier (Some line) = refl
@@ -99,7 +98,7 @@ column-clash-told context earlier fields here plain clash =
 
 -- ---- the form and what is declared
 
--- where the fields are in order, the form tells of a split alone
+-- if the fields are well-formed, the only other error of the form is a split column
 held_split : (context : Context) (earlier : Draft) (parts : Option ValuesLine) (column : List ℕ) (values : List (List ℕ × Number))
     → first_held (judged_by field_tests parts) ≡ None → option_map named_values parts ≡ Some (column, values)
     → first_held (judged_by (column_tests context earlier) parts) ≡ first_held (split_test context earlier column)
@@ -127,7 +126,7 @@ pub column-declares : (context : Context) (earlier : Draft) (fields : Fields) (c
 column-declares context earlier fields column values plain is =
     ap (λ (b : Bool). cond b [] (declared_if_some (column_declared context) (column_shape fields))) plain ∙ line_declared context (column_shape fields) column values is
 
--- the draft in which the column stands
+-- the draft after the column is declared
 abbrev pub with_column : Context → Draft → List ℕ → Draft
 with_column context earlier column = with_declarations earlier (front_declared context.in_integer_part column)
 
@@ -150,7 +149,7 @@ column-fault context earlier fields column values here plain apart held is =
     (ap (declared_fault earlier) (column-declares context earlier fields column values plain is)
     ∙ declared-after earlier front coefficients (front-none earlier context.in_integer_part column (column-apart context earlier fields column values is apart)))
 
--- ---- the place
+-- ---- rows and column
 
 -- that the rows are declared, and that the column is not split
 abbrev pub place_tests : Context → Draft → List ℕ → List (List ℕ × Number) → FaultTests
@@ -190,7 +189,7 @@ place-fault context earlier fields column values kind here plain apart held is p
     by true e true h = ap (λ (k : FaultKind). Some k) (stays-least kinds.ColumnSplit coefficients (late_enough coefficients (values-late values draft column there (rows ∙ e)))) ∙ h
     by true e false h = cc
 
--- where the place is in order, the coefficients decide
+-- if these tests pass, the coefficients decide
 pub placed : (context : Context) (earlier : Draft) (column : List ℕ) (values : List (List ℕ × Number)) → first_held (place_tests context earlier column values) ≡ None
     → (are_rows earlier values ≡ true) × (is_split context earlier column ≡ false)
 placed context earlier column values h = by (are_rows earlier values) (is_split context earlier column) h
@@ -209,7 +208,7 @@ placed-fault context earlier fields column values here plain apart held is in_or
     column-fault context earlier fields column values here plain apart held is
     ∙ ap (λ (b : Bool). earlier_of (cond b (Some kinds.ColumnSplit) None) coefficients) (placed context earlier column values in_order).1
 
--- and so they do before the column is declared
+-- and they also do before the column is declared
 pub double-fault : (context : Context) (earlier : Draft) (fields : Fields) (column : List ℕ) (values : List (List ℕ × Number)) → context.section ≡ Some Columns
     → is_marker_line fields ≡ false → column_clash context earlier fields ≡ false → first_held (judged_by field_tests (column_shape fields)) ≡ None
     → option_map named_values (column_shape fields) ≡ Some (column, values) → first_held (place_tests context earlier column values) ≡ None
@@ -221,7 +220,7 @@ double-fault context earlier fields column values here plain apart held is in_or
     (front-rows earlier marked column values ∙ (placed context earlier column values in_order).0)
     ∙ ap (λ (b : Bool). cond b (Some kinds.DuplicateEntry) None) (front-double earlier marked column values)
 
--- ---- one value, whose column goes on
+-- ---- one value of the column of the line before
 
 pub only-first : (first : List ℕ × Number) (second : Option (List ℕ × Number)) (values : List (List ℕ × Number)) → first ∷ cons_option second [] ≡ values → is_some second ≡ false → values ≡ first ∷ []
 only-first first None values h none = sym h
@@ -237,7 +236,7 @@ next-line-fault context earlier fields column values first here plain apart held
     ∙ ap (λ (vs : List (List ℕ × Number)). declared_fault (with_column context earlier column) (flat_map (value_declared column) vs)) one
     ∙ next-fault earlier context.in_integer_part column first there
 
--- ---- the column's name
+-- ---- the name of the column
 
 pub column-named : (parts : Option ValuesLine) (column : List ℕ) (values : List (List ℕ × Number)) → first_held (judged_by field_tests parts) ≡ None
     → option_map named_values parts ≡ Some (column, values) → is_mps_name column ≡ true

@@ -1,4 +1,4 @@
--- Lines of COLUMNS: the first fault of their form and of what they declare together.
+-- Lines of COLUMNS: the first error of their form and of what they declare together.
 use Rattle.std.proofs.Common.{◌≡◌, refl, sym, ap, subst, ◌∙◌, ℕ, List, [], ◌∷◌, ◌++◌, Bool, true, false, cond, map}
 use Rattle.std.specs.Prelude.{◌||◌, ◌&&◌, not, Ok, Err, Option, Some, None, is_some}
 use Rattle.std.specs.List.{list_all, flat_map}
@@ -55,12 +55,12 @@ marker-declares context earlier fields h = ap (λ (b : Bool). cond b [] (declare
 
 -- ---- what a line of a column declares
 
--- once a column is declared, it is there
+-- a declared column exists
 pub column-there : (earlier : Draft) (column : List ℕ) → has_column (with_declaration earlier (declare_column column)) column ≡ true
 column-there earlier column =
     has-put column column tt earlier.columns ∙ ap (λ (b : Bool). b || has_column earlier column) (itself_named column)
 
--- the column has no fault, since it may be declared again, unless it is marked and semi-continuous
+-- the column has no error, because it may be declared again, unless it is marked and semi-continuous
 pub front-none : (earlier : Draft) (marked : Bool) (column : List ℕ) → (marked && is_semi earlier column) ≡ false → declared_fault earlier (front_declared marked column) ≡ None
 front-none earlier false column apart = refl
 front-none earlier true column apart = λ i.
@@ -78,7 +78,7 @@ pub front-rows : (earlier : Draft) (marked : Bool) (column : List ℕ) (values :
 front-rows earlier true column values = refl
 front-rows earlier false column values = refl
 
--- of one value in a column that is there
+-- one value in a column that exists
 pub value-fault : (earlier : Draft) (column : List ℕ) (value : List ℕ × Number) → has_column earlier column ≡ true
     → declared_fault earlier (value_declared column value)
     ≡ cond (not (has_row earlier value.0)) (Some kinds.UnknownRow) (cond (has_coefficient earlier (record { row = value.0; column = column })) (Some kinds.DuplicateEntry) None)
@@ -98,7 +98,7 @@ value-late earlier column value there row =
     (value-fault earlier column value there ∙ ap (λ (b : Bool). cond (not b) (Some kinds.UnknownRow) (cond double (Some kinds.DuplicateEntry) None)) row)
     ∙ entry-late double
 
--- where the rows are declared, a coefficient may be there twice, and there is no other fault
+-- if the rows are declared, a repeated coefficient is the only possible error
 pub values-late : (values : List (List ℕ × Number)) (earlier : Draft) (column : List ℕ) → has_column earlier column ≡ true → are_rows earlier values ≡ true
     → are_from kinds.DuplicateEntry (declared_fault earlier (flat_map (value_declared column) values)) ≡ true
 values-late [] earlier column there rows = refl
@@ -110,7 +110,7 @@ values-late (value ∷ values) earlier column there rows =
     ∙ from-earlier kinds.DuplicateEntry first later (value-late earlier column value there (first_so (has_row earlier value.0) (are_rows earlier values) rows))
     (values-late values next column there (second_so (has_row earlier value.0) (are_rows earlier values) rows))
 
--- that fault, by whether a coefficient is there twice
+-- that error, by whether a coefficient is repeated
 pub values-double : (values : List (List ℕ × Number)) (earlier : Draft) (column : List ℕ) → has_column earlier column ≡ true → are_rows earlier values ≡ true
     → declared_fault earlier (flat_map (value_declared column) values) ≡ cond (has_duplicate earlier column values) (Some kinds.DuplicateEntry) None
 values-double [] earlier column there rows = refl
@@ -129,7 +129,7 @@ values-double (value ∷ values) earlier column there rows =
     by true false = refl
     by false b = refl
 
--- which the coefficients alone decide
+-- this depends only on the coefficients
 same_double : (values : List (List ℕ × Number)) (before after : Draft) (column : List ℕ) → before.coefficients ≡ after.coefficients
     → has_duplicate before column values ≡ has_duplicate after column values
 same_double [] before after column same = refl
@@ -143,7 +143,7 @@ pub front-double : (earlier : Draft) (marked : Bool) (column : List ℕ) (values
 front-double earlier true column values = same_double values (with_declarations earlier (front_declared true column)) earlier column refl
 front-double earlier false column values = same_double values (with_declarations earlier (front_declared false column)) earlier column refl
 
--- of two values: the second one is of the first one's row, or its coefficient is declared
+-- two values: the second is for the same row, or its coefficient is declared
 pub two-double : (earlier : Draft) (column : List ℕ) (value other : List ℕ × Number)
     → (has_coefficient earlier (record { row = value.0; column = column }) || (same_bytes other.0 value.0 || has_coefficient earlier (record { row = other.0; column = column })))
     ≡ has_duplicate earlier column (value ∷ other ∷ [])
@@ -163,7 +163,7 @@ pub one-double : (b : Bool) → b ≡ (b || false)
 one-double true = refl
 one-double false = refl
 
--- the first value is refused
+-- the first value is rejected
 pub values-refused : (earlier : Draft) (column : List ℕ) (value : List ℕ × Number) (values : List (List ℕ × Number)) (error : LineError)
     → has_column earlier column ≡ true → are_rows earlier (value ∷ values) ≡ true → IsErrorOf (declared_fault earlier (value_declared column value)) error
     → IsErrorOf (declared_fault earlier (flat_map (value_declared column) (value ∷ values))) error
@@ -186,7 +186,7 @@ values-refused earlier column value values (Fault kind) there rows fault_is =
     entry_kind true k e = cc
     entry_kind false k e = cc
 
--- the second one is
+-- the second is rejected
 pub second-refused : (earlier next : Draft) (column : List ℕ) (value other : List ℕ × Number) (error : LineError)
     → declared_fault earlier (value_declared column value) ≡ None → next ≡ with_declarations earlier (value_declared column value)
     → IsErrorOf (declared_fault next (value_declared column other)) error
@@ -195,7 +195,7 @@ second-refused earlier next column value other error none is fault_is =
     subst (λ (o : Option FaultKind). IsErrorOf o error)
     (ap (λ (d : Draft). declared_fault d (value_declared column other)) is ∙ sym (declared-after earlier (value_declared column value) (value_declared column other) none)) fault_is
 
--- a row that is not declared comes first
+-- an unknown row comes first
 pub values-unknown : (values : List (List ℕ × Number)) (earlier : Draft) (column : List ℕ) → has_column earlier column ≡ true → are_rows earlier values ≡ false
     → declared_fault earlier (flat_map (value_declared column) values) ≡ Some kinds.UnknownRow
 values-unknown [] earlier column there rows = cc
@@ -225,9 +225,9 @@ values-unknown (value ∷ values) earlier column there rows =
     by true true h rest = ap (λ (o : Option FaultKind). Some (lesser kinds.DuplicateEntry o)) (rest h)
     by true false h rest = rest h
 
--- ---- a line of one value, whose column goes on
+-- ---- a line of one value of the column of the line before
 
--- the column is there, so declaring it again changes nothing; and whether it is marked does not depend on the coefficient
+-- the column exists, so declaring it again changes nothing; whether it is marked does not depend on the coefficient
 pub next-declared : (earlier : Draft) (marked : Bool) (column : List ℕ) (value : List ℕ × Number) → put bytes_cmp column tt earlier.columns ≡ earlier.columns
     → with_declarations (with_declaration earlier (declare_coefficient (record { row = value.0; column = column }) value.1)) (when marked (declare_marked column))
     ≡ with_declarations (with_declarations earlier (front_declared marked column)) (value_declared column value)
@@ -236,12 +236,12 @@ next-declared earlier true column value same =
 next-declared earlier false column value same =
     ap (λ (columns : List (List ℕ × Unit {0})). with_declaration (record earlier { columns = columns }) (declare_coefficient (record { row = value.0; column = column }) value.1)) (sym same)
 
--- a call that succeeded had no refusal
+-- a call that succeeded had no error
 pub call-made : (faults : List BuildFault) (P Q : Type 0) → Answers faults (Ok tt) P Q → (faults ≡ []) × P
 call-made [] P Q answer = (refl, answer)
 call-made (fault ∷ faults) P Q answer = absurd (let no : Ok tt ≡ Err fault = answer.0 in cc)
 
--- so the coefficient's fault is that before the column is declared again
+-- so the error of the coefficient is the same as before the column is declared again
 pub next-fault : (earlier : Draft) (marked : Bool) (column : List ℕ) (value : List ℕ × Number) → has_column earlier column ≡ true
     → declared_fault (with_declarations earlier (front_declared marked column)) (flat_map (value_declared column) (value ∷ [])) ≡ declared_fault earlier (value_declared column value)
 next-fault earlier true column value there = value-fault (with_declarations earlier (front_declared true column)) column value (front-there earlier true column) ∙ sym (value-fault earlier column value there)

@@ -1,4 +1,4 @@
--- A column that a draft has is that of an earlier line of COLUMNS, so one whose lines stand together is not split.
+-- A column of a draft is that of an earlier line of COLUMNS, so a column with contiguous lines is not split.
 use Rattle.std.proofs.Common.{◌≡◌, refl, sym, ap, ◌∙◌, subst, List, [], ◌∷◌, ◌++◌, ℕ, Bool, true, false, cond, map}
 use Rattle.std.specs.Prelude.{Option, Some, None, not, ◌&&◌, ◌||◌}
 use Rattle.std.specs.List.{list_any, flat_map}
@@ -26,7 +26,7 @@ use Rattle.mpslp_mps.proofs.WordsOfColumns.{Column, last_of, comes_again, column
 
 -- ---- the columns of a draft
 
--- each column that is there has a line
+-- each column that exists has a line
 abbrev pub HaveLines : List LineContent → Draft → Type 0
 HaveLines before earlier = (name : List ℕ) → has_column earlier name ≡ true → list_any (same_column (Some name)) (columns_of before) ≡ true
 

@@ -1,4 +1,4 @@
--- One line more changes the context as `next_context` says.
+-- One more line changes the context as `next_context` defines.
 use Rattle.std.proofs.Common.{◌≡◌, refl, ap, ◌∙◌, ℕ, List, [], ◌∷◌, ◌++◌, Bool, true, false, cond}
 use Rattle.std.specs.Prelude.{Option, Some, None, filter, filter_map}
 use Rattle.std.specs.List.{last_or, cons_option}

@@ -1,4 +1,4 @@
--- Lines that follow others: what they declare, and that they have a good form.
+-- Lines after other lines: what they declare, and that they are well-formed.
 use Rattle.std.proofs.Common.{◌≡◌, refl, ap, ◌∙◌, ℕ, List, [], ◌∷◌, ◌++◌, Bool, true, map}
 use Rattle.std.specs.Prelude.{◌&&◌, not}
 use Rattle.std.specs.List.{flat_map, list_all}
@@ -17,11 +17,11 @@ use Rattle.mpslp_mps.specs.LineDeclarations.{line_declares}
 use Rattle.mpslp_mps.specs.LineFault.{item_tests, line_tests}
 use Rattle.mpslp_mps.specs.MpsText.{declared_at, is_well_formed, lines_in_context_after}
 
--- the faults of the form of what is read of a line
+-- the errors of the form of the content of a line
 abbrev pub form_faults : Context → Draft → LineContent → List FaultKind
 form_faults context earlier item = those_of (item_tests context earlier item)
 
--- what items declare after these, which declared `earlier`; and whether they have a good form there
+-- what items declare after these, which declared `earlier`; and whether they are well-formed there
 abbrev pub declared_items : List LineContent → Draft → List LineContent → Declarations
 declared_items before earlier [] = []
 declared_items before earlier (item ∷ items) =
@@ -36,7 +36,7 @@ pub no_faults : (faults : List FaultKind) → not (is_nonempty faults) ≡ true 
 no_faults [] h = refl
 no_faults (fault ∷ faults) h = cc
 
--- ---- lines, and what is read of them
+-- ---- lines and their contents
 
 pub lines-declare : (before : List LineContent) (earlier : Draft) (lines : List (List ℕ)) → flat_map declared_at (lines_in_context_after before earlier lines) ≡ declared_items before earlier (map content_of lines)
 lines-declare before earlier [] = refl
@@ -53,7 +53,7 @@ item-form context earlier line h =
     let bytes = not (list_all is_legal_byte (outside_comment line)) in
     later_tests bytes BadByte tests (later_tests (not (has_legal_length line)) LineTooLong ((bytes, BadByte) ∷ tests) h)
 
--- where lines have a good form, so has what is read of them
+-- if lines are well-formed, so are their contents
 pub items-good : (before : List LineContent) (earlier : Draft) (lines : List (List ℕ)) → are_good before earlier lines ≡ true → are_well_formed before earlier (map content_of lines) ≡ true
 items-good before earlier [] h = refl
 items-good before earlier (line ∷ lines) h =
@@ -65,7 +65,7 @@ items-good before earlier (line ∷ lines) h =
     (ap (λ (faults : List FaultKind). not (is_nonempty faults)) (item-form (context_of before) earlier line (no_faults forms (first_so (not (is_nonempty forms)) more h))))
     (items-good (before ++ item ∷ []) next lines (second_so (not (is_nonempty forms)) more h))
 
--- and conversely, where the lines have legal lengths and bytes
+-- and conversely, if the lines have legal lengths and bytes
 pub lines-good : (before : List LineContent) (earlier : Draft) (lines : List (List ℕ)) → list_all is_legal_line lines ≡ true → are_well_formed before earlier (map content_of lines) ≡ true → are_good before earlier lines ≡ true
 lines-good before earlier [] legal h = refl
 lines-good before earlier (line ∷ lines) legal h =

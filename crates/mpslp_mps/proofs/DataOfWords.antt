@@ -1,4 +1,4 @@
--- Where the lines of each section are good together, each data line has a good form after those before it.
+-- If the lines of each section are good together, each data line is well-formed after those before it.
 use Rattle.std.proofs.Common.{◌≡◌, refl, sym, ap, ◌∙◌, subst, List, [], ◌∷◌, ◌++◌, ℕ, Bool, true, false, cond, map}
 use Rattle.std.specs.Prelude.{Option, Some, None, is_some, is_none, not, filter_map}
 use Rattle.std.specs.List.{list_all, cons_option}
@@ -29,7 +29,7 @@ use Rattle.mpslp_mps.proofs.ColumnsOfWords.{HaveLines, not-split}
 
 -- ---- data lines
 
--- what the sections of the whole are together, as its data lines are judged by it
+-- what the sections of the whole are together, as needed for their data lines
 pub record AreGoodLines (items : List LineContent) : Type 0 where
   pub strays : not (is_nonempty (stray_lines items)) ≡ true
   pub sense : has_word_at_most is_sense (words_in ObjSense items) ≡ true
@@ -66,7 +66,7 @@ data-good before earlier fields rest sense name have h = by (current_section bef
     later : Section → List Fields
     later section = said_after (fields_under section) (current_section before) rest
 
-    -- the data lines of the section that goes on
+    -- the data lines of the current section
     stands : (section : Section) → is_section section (current_section before) ≡ true → data_lines section full ≡ data_lines section before ++ fields ∷ later section
     stands section e = data-stands section before fields rest e
 

@@ -22,7 +22,7 @@ up_to_end-last = to_end-last
 pub up_to_end-more : (line : List ℕ) (more : List (List ℕ)) → is_end line ≡ false → up_to_end (line ∷ more) ≡ line ∷ up_to_end more
 up_to_end-more = to_end-more
 
--- a context that does not stand at the end stands there after the line of ENDATA alone
+-- a context before the end is at the end only after the line of ENDATA
 pub at_end-after : (c : Context) (item : LineContent) → is_section EndData c.section ≡ false → is_section EndData (next_context c item).section ≡ begins EndData item
 at_end-after c item h = of (section_of_header item)
   where

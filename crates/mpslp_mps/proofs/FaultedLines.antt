@@ -1,4 +1,4 @@
--- The line of a text's first fault: the lines before it have none, and it is one of its tests that tells the kind, or a refusal of what it declares.
+-- The first line of a text with an error: its kind is that of one of its tests, or of a rejected declaration.
 use Rattle.std.proofs.Common.{◌≡◌, refl, sym, ap, ◌∙◌, subst, List, [], ◌∷◌, ◌++◌, append_assoc, ℕ, suc, ◌+◌, ◌-◌, ◌^◌, Bool, true, false, cond, map, arith}
 use Rattle.std.specs.Prelude.{Option, Some, None, ◌||◌, ◌&&◌, ◌==◌, nat_le, nat_lt, not, filter_map, min, length, if◌then◌else◌}
 use Rattle.std.specs.List.{list_any, list_all, cons_option}
@@ -43,7 +43,7 @@ abbrev pub holds_of : FaultKind → FaultTests → Bool
 holds_of kind [] = false
 holds_of kind (test ∷ more) = if is_kind kind test.1 then (test.0 || holds_of kind more) else holds_of kind more
 
--- one of the refusals that are told by this kind
+-- one of the errors of declarations has this kind
 abbrev pub refused_as : FaultKind → List (Bool × BuildFault) → Bool
 refused_as kind [] = false
 refused_as kind (test ∷ more) = if is_kind kind (kind_of_build_fault test.1) then (test.0 || refused_as kind more) else refused_as kind more
@@ -103,14 +103,14 @@ any-declaring kind earlier (d ∷ ds) =
     ∙ (ap (λ (b : Bool). b || list_any (is_kind kind) (declaring_faults (with_declaration earlier d) ds)) (any-refused kind (refusal_tests earlier d))
     ∙ ap (λ (b : Bool). refused_as kind (refusal_tests earlier d) || b) (any-declaring kind (with_declaration earlier d) ds)))
 
--- the kind of a line's first fault is that of a test that holds, or of a refusal
+-- the kind of the first error of a line is that of a failing test, or of a rejected declaration
 told-by : (tests : FaultTests) (earlier : Draft) (ds : Declarations) (kind : FaultKind) → first_fault tests earlier ds ≡ Some kind → (holds_of kind tests || refuses kind earlier ds) ≡ true
 told-by tests earlier ds kind h =
     sym (list_any-append (is_kind kind) (those_of tests) (declaring_faults earlier ds)
     ∙ (ap (λ (b : Bool). b || list_any (is_kind kind) (declaring_faults earlier ds)) (any-held kind tests) ∙ ap (λ (b : Bool). holds_of kind tests || b) (any-declaring kind earlier ds)))
     ∙ among-least (those_of tests ++ declaring_faults earlier ds) kind h
 
--- ---- kinds that come after those of a line's form
+-- ---- kinds that come after those of the form of a line
 
 abbrev pub is_below : FaultKind → FaultKind → Bool
 is_below kind other = nat_lt (kind_rank other) (kind_rank kind)
@@ -141,7 +141,7 @@ not-below kind other h e = irreflexive (kind_rank kind) (sym (ap (λ (k : FaultK
     irreflexive : (n : ℕ) → nat_lt n n ≡ true → ⊥
     irreflexive n k = grind (arith, nat_tests)
 
--- where the first fault is of such a kind, no test of the form holds
+-- if the first error is of such a kind, no test of the form fails
 pub form-holds : (tests : FaultTests) (earlier : Draft) (ds : Declarations) (kind : FaultKind) → list_all (λ test. is_below kind test.1) tests ≡ true → first_fault tests earlier ds ≡ Some kind → those_of tests ≡ []
 form-holds tests earlier ds kind below h =
     by (least_kind (those_of tests)) refl (least-passes (is_below kind) (those_of tests) (those-below kind tests below)) (sym (least-append (those_of tests) (declaring_faults earlier ds)) ∙ h)
@@ -228,7 +228,7 @@ find-line (line ∷ ls) before earlier n fault known h = by (λ good e. find-lin
               (e ∙ ap (λ (f : Fault). Some f.kind) same);
         }
 
--- ---- a fault of the whole has a kind of its own
+-- ---- an error of the whole file has a kind of its own
 
 abbrev is_of_whole : FaultKind → Bool
 is_of_whole kind = nat_le (kind_rank MissingEnd) (kind_rank kind)
@@ -267,16 +267,17 @@ of-whole bytes fault h = by (has_end bytes) h
 
 -- ---- the law of a kind
 
--- the tests of a line's length and bytes are of other kinds
+-- the tests of the length and the bytes of a line are of other kinds
 passed : (kind : FaultKind) (first second : Bool) (tests : FaultTests) → is_kind kind LineTooLong ≡ false → is_kind kind BadByte ≡ false → holds_of kind ((first, LineTooLong) ∷ (second, BadByte) ∷ tests) ≡ holds_of kind tests
 passed kind first second tests short legal = rw (short, legal) refl
 
--- The kind is that of a test of the line's form that holds, or of a refusal of what it declares; the latter alone where it comes after all kinds of its form.
+-- The kind is that of a failing test of the line's form, or of a rejected declaration; only the latter if it comes after all
+-- kinds of its form.
 pub record IsFirst (kind : FaultKind) (before : List LineContent) (earlier : Draft) (item : LineContent) : Type 0 where
   pub told : (holds_of kind (item_tests (context_of before) earlier item) || refuses kind earlier (line_declares (context_of before) earlier item)) ≡ true
   pub late : is_below kind LineTooLong ≡ true → is_below kind BadByte ≡ true → list_all (λ test. is_below kind test.1) (item_tests (context_of before) earlier item) ≡ true → IsGood before earlier item
 
--- Where each line whose first fault is of this kind is such a line, so says the law of the kind.
+-- If each line whose first error is of this kind is such a line, the law of the kind holds.
 pub in-words : (kind : FaultKind) (is_such : List LineContent → LineContent → Bool) → is_of_whole kind ≡ false → is_kind kind LineTooLong ≡ false → is_kind kind BadByte ≡ false
     → ((before : List LineContent) (earlier : Draft) (item : LineContent) → Told before earlier → IsFirst kind before earlier item → is_such before item ≡ true)
     → IsInWords kind is_such

@@ -1,4 +1,4 @@
--- Rows and columns that a line names and no line before it has are unknown in the words of the format.
+-- Rows and columns that a line names and the draft does not have are unknown in the sense of `FaultsInWords`.
 use Rattle.std.proofs.Common.{◌≡◌, refl, ap, ◌∙◌, List, [], ◌∷◌, ◌++◌, ℕ, Bool, true, false, cond, map}
 use Rattle.std.specs.Prelude.{Option, Some, None, is_none, is_some, not, filter_map, nat_lt, nat_le, ◌||◌, ◌&&◌, codes}
 use Rattle.std.specs.List.{list_any, list_all, last_or, flat_map}
@@ -44,9 +44,9 @@ use Rattle.mpslp_mps.proofs.NamesOfWords.{Told}
 use Rattle.mpslp_mps.proofs.FaultedLines.{holds_of, refused_as, refuses, is_below, IsFirst, in-words}
 use Rattle.mpslp_mps.proofs.KindsOfLines.{is_among, none-holds, left_alone, right_alone, header_kinds, kinds_in, same-rank, unknown_kinds, unknown-among, data-among, header-among}
 
--- ---- declarations that are not refused by a kind
+-- ---- declarations that are not rejected with a kind
 
--- a refusal of this kind is among those of such declarations
+-- an error of this kind may reject such declarations
 abbrev pub may_refuse : FaultKind → Declaration → Bool
 may_refuse kind d = list_any (λ test. is_kind kind (kind_of_build_fault test.1)) (refusal_tests empty_draft d)
 
@@ -59,7 +59,7 @@ none-so kind ((held, fault) ∷ more) h = by (is_kind kind (kind_of_build_fault 
     by true e rest = cc
     by false e rest = rest e
 
--- the kinds of a declaration's tests are those after any draft
+-- the kinds of the tests of a declaration do not depend on the draft
 not-refused : (kind : FaultKind) (all : Draft) (d : Declaration) → not (may_refuse kind d) ≡ true → refused_as kind (refusal_tests all d) ≡ false
 not-refused kind all (declare_sense s) h = none-so kind (refusal_tests all (declare_sense s)) (not_so (may_refuse kind (declare_sense s)) h)
 not-refused kind all (declare_objective n) h = none-so kind (refusal_tests all (declare_objective n)) (not_so (may_refuse kind (declare_objective n)) h)
@@ -85,7 +85,7 @@ none-refuse kind (d ∷ ds) all h =
 pub no-one : {X : Type 0} (kind : FaultKind) (ds : Declarations) (all : Draft) → list_all (λ d. not (may_refuse kind d)) ds ≡ true → refuses kind all ds ≡ true → X
 no-one kind ds all h k = absurd (never (refuses kind all ds) k (none-refuse kind ds all h))
 
--- of a kind that comes after those of all forms
+-- if the kind comes after those of all forms
 pub form-good : (kind : FaultKind) (before : List LineContent) (earlier : Draft) (item : LineContent) → is_below kind kinds.LineTooLong ≡ true → is_below kind kinds.BadByte ≡ true
     → list_all (is_below kind) header_kinds ≡ true → ((o : Option Section) → list_all (is_below kind) (kinds_in o) ≡ true) → IsFirst kind before earlier item → IsGood before earlier item
 form-good kind before earlier item long byte heads lines first = first.late long byte (by item)
@@ -119,7 +119,7 @@ some p q (x ∷ xs) h k = by (λ e. some p q xs h e) (p x) refl k
     by rest true e l = or_left (q x) (list_any q xs) (h x e)
     by rest false e l = or_right (q x) (list_any q xs) (rest l)
 
--- what is not there is not named
+-- what does not exist is not named
 unnamed : (a b : Bool) → (a ≡ true → b ≡ true) → not b ≡ true → not a ≡ true
 unnamed true b h k = absurd (never b (h refl) (not_so b k))
 unnamed false b h k = refl
@@ -153,7 +153,7 @@ bounds-unknown type column value all h = by type h
     by bounds.IntegerUpper e = two (not (has_column all column)) e
     by bounds.SemiUpper e = two (not (has_column all column)) e
 
--- a column's own line declares it first
+-- the line of a column declares it first
 cells-known : (column : List ℕ) (pairs : List Pair) (all : Draft) → has_column all column ≡ true → refuses kinds.UnknownColumn all (flat_map (coefficient_declared column) pairs) ≡ false
 cells-known column [] all h = refl
 cells-known column (pair ∷ pairs) all h =
@@ -262,7 +262,7 @@ unknown-columns = in-words kinds.UnknownColumn names_unknown_column refl refl re
 
 -- ---- UnknownRow
 
--- a row by the words is there
+-- a row of `TextInWords` exists
 row-there : (before : List LineContent) (earlier : Draft) (name : List ℕ) → Told before earlier → has_section before Columns ≡ true → is_row before name ≡ true → has_row earlier name ≡ true
 row-there before earlier name told begun h = by (names_row before name) refl h
   where
@@ -272,7 +272,7 @@ row-there before earlier name told begun h = by (names_row before name) refl h
         ap (has_row earlier) (same_name name (codes "obj") (second_so (has_default_objective before) (same_bytes name (codes "obj")) k))
         ∙ told.default_there begun (first_so (has_default_objective before) (same_bytes name (codes "obj")) k)
 
--- rows that are not there are not named
+-- rows that do not exist are not named
 rows-unnamed : (before : List LineContent) (earlier : Draft) (pairs : List Pair) → Told before earlier → has_section before Columns ≡ true → list_any (λ pair. not (has_row earlier pair.row)) pairs ≡ true → list_any (λ pair. not (is_row before pair.row)) pairs ≡ true
 rows-unnamed before earlier pairs told begun =
     some (λ pair. not (has_row earlier pair.row)) (λ pair. not (is_row before pair.row)) pairs
@@ -306,7 +306,7 @@ ranges-unknown (pair ∷ pairs) all h =
     let next = with_declaration all (declare_range pair.row (value_of pair.literal)) in
     either-pair (not (has_row all pair.row)) (refuses kinds.UnknownRow next (map (λ (pair : Pair). declare_range pair.row (value_of pair.literal)) pairs)) (list_any (λ p. not (has_row all p.row)) pairs) (ranges-unknown pairs next) h
 
--- the word of OBJNAME is the name of no row of type N
+-- the word of OBJNAME is not the name of an N row
 word-unnamed : (test : List ℕ → Bool) (words : List Fields) (told : List ℕ) → head_of (filter_map word_shape words) ≡ Some told → test told ≡ false → list_all test (flat_map (λ fields. fields) words) ≡ false
 word-unnamed test [] told h k = cc
 word-unnamed test ([] ∷ more) told h k = word-unnamed test more told h k

@@ -1,4 +1,4 @@
--- Each fault that looks beyond its line is what its kind says in the words of the format.
+-- Each error that depends on other lines is as `FaultsInWords` defines its kind.
 use Rattle.std.proofs.Common.{◌≡◌, refl, sym, ap, ◌∙◌, List, [], ◌∷◌, ◌++◌, ℕ, Bool, true, false, cond, map}
 use Rattle.std.specs.Prelude.{Option, Some, None, is_none, is_some, not, filter_map, nat_lt, ◌||◌, ◌&&◌, codes}
 use Rattle.std.specs.List.{list_any, last_or, flat_map}
@@ -156,7 +156,7 @@ column-split = in-words kinds.ColumnSplit splits_column refl refl refl (by-form 
 
 -- ---- SecondSet
 
--- another name than the first one's
+-- a name other than the first one
 other-first : (sets : List (List ℕ)) (set : List ℕ) → option_map_or (λ name. not (same_bytes name set)) (head_of sets) false ≡ true → differs_from sets set ≡ true
 other-first [] set h = cc
 other-first (first ∷ sets) set h = or_left (not (same_bytes first set)) (differs_from sets set) h
@@ -208,14 +208,14 @@ second-set = in-words kinds.SecondSet is_of_second_set refl refl refl (by-form k
 
 -- ---- SectionOrder
 
--- a word is wanted: the section that goes on has none
+-- a word is missing: the current section has none
 without-word : (section : Section) (test : List ℕ → Bool) (before : List LineContent) → takes_word section ≡ true → IsUnderway section test before → current_section before ≡ Some section → is_section section (Some section) ≡ true
     → is_some (word_due before) ≡ true → is_without_word before section ≡ true
 without-word section test before takes (missing, (a, b, c)) here own w = absurd (never (is_section section (current_section before)) (ap (is_section section) here ∙ own) c)
 without-word section test before takes (without_word, (a, b, c, d)) here own w = both_so (takes_word section) (not (has_its_word before section)) takes (ap (λ (words : List Fields). not (is_nonempty (flat_map (λ fields. fields) words))) a)
 without-word section test before takes (with_word, (a, b, c)) here own w = absurd (never (is_some (word_due before)) w (c (ap (is_section section) here ∙ own)))
 
--- none is wanted: it has its word
+-- no word is missing: the section has it
 with-its_word : (section : Section) (test : List ℕ → Bool) (before : List LineContent) → takes_word section ≡ true → IsUnderway section test before → current_section before ≡ Some section → is_section section (Some section) ≡ true
     → is_some (word_due before) ≡ false → (takes_word section && has_its_word before section) ≡ true
 with-its_word section test before takes (missing, (a, b, c)) here own w = absurd (never (is_section section (current_section before)) (ap (is_section section) here ∙ own) c)

@@ -1,4 +1,4 @@
--- Lines that are read one after another, and what is left of a text that comes in pieces.
+-- Lines that are read one after another, and the rest of a text that comes in pieces.
 use Rattle.std.proofs.Common.{◌≡◌, refl, sym, ap, subst, ◌∙◌, ℕ, ◌+◌, ◌-◌, ◌^◌, min, List, [], ◌∷◌, ◌++◌, length, Bool, true, false, append-nil, arith}
 use Rattle.std.specs.Prelude.{◌||◌, Option, Some, None, is_some, if◌then◌else◌}
 use Rattle.std.specs.List.{list_any}
@@ -26,7 +26,7 @@ use Rattle.mpslp_mps.proofs.LoopLemmas.{sides-next}
 use Rattle.mpslp_mps.proofs.NamedLemmas.{named-lines_to_end}
 use Rattle.mpslp_mps.proofs.ReadingLemmas.{fault_from-is}
 
--- ---- lines behind others
+-- ---- lines after others
 
 or-behind : (a b c : Option Fault) → option_or (option_or a b) c ≡ option_or a (option_or b c)
 or-behind None b c = refl
@@ -63,7 +63,7 @@ rest_none : (a b : Bool) → (a || b) ≡ false → b ≡ false
 rest_none true b h = cc
 rest_none false b h = h
 
--- of lines without one all are read, and so are those behind
+-- without a line of ENDATA all lines are read, and so are those after them
 unended-more : (xs ys : List (List ℕ)) → list_any is_end xs ≡ false → lines_to_end (xs ++ ys) ≡ xs ++ lines_to_end ys
 unended-more [] ys h = refl
 unended-more (line ∷ xs) ys h =
@@ -80,7 +80,7 @@ one-read line =
       | false ↦ λ e. to_end-more line [] e
     ] refl
 
--- ---- one line more
+-- ---- one more line
 
 pub lines_fault-is : (text : List (List ℕ)) → lines_fault text ≡ fault_from 1 (context_of []) empty_draft (lines_to_end text)
 lines_fault-is text = fault_from-is (lines_to_end text) 1 [] empty_draft
@@ -104,7 +104,7 @@ sides-from (line ∷ text) n context earlier sides h =
     later_none None rest h = h
     later_none (Some kind) rest h = cc
 
--- ---- names are dropped at the end, where no line is compared with them
+-- ---- names are dropped at the end, when no line is compared with them
 
 kept-section : (c : Context) → (kept_context c).section ≡ c.section
 kept-section c = elim (is_section EndData c.section) as (λ b. (if b then without_names c else c).section ≡ c.section) [ true ↦ refl | false ↦ refl ]
@@ -138,7 +138,7 @@ module _ (text : List (List ℕ)) (context : Context) (earlier : Draft) (number 
     clean_here : fault_from 1 (context_of []) empty_draft text ≡ None
     clean_here = ap (fault_from 1 (context_of []) empty_draft) (sym all_read) ∙ sym (lines_fault-is text) ∙ led.clean
 
-    -- its fault is the first one
+    -- its error is the first one
     fault_next : (line : List ℕ) → lines_fault (text ++ line ∷ []) ≡ fault_from (1 + length text) context earlier (line ∷ [])
     fault_next line =
         lines_fault-is (text ++ line ∷ []) ∙ ap (fault_from 1 (context_of []) empty_draft) (read_on line)
@@ -175,11 +175,11 @@ module _ (text : List (List ℕ)) (context : Context) (earlier : Draft) (number 
 
   -- ---- what is known of a reader
 
-  -- right sides are as lines declare them
+  -- right-hand sides are as lines declare them
   pub led-sides : HasMpsSides earlier
   led-sides = subst HasMpsSides (sym led.draft) (sides-from (lines_to_end text) 1 (context_of []) empty_draft sides-none (sym (lines_fault-is text) ∙ led.clean))
 
-  -- behind the line of ENDATA the objective has a name
+  -- after the line of ENDATA the objective has a name
   pub led-named : is_section EndData context.section ≡ true → is_some earlier.objective ≡ true
   led-named at_end =
       ap (λ (d : Draft). is_some d.objective) led.draft

@@ -1,4 +1,4 @@
--- A text is cut into fields from its front.
+-- A text is divided into fields from its start.
 use Rattle.std.proofs.Common.{◌≡◌, refl, sym, ap, subst, ◌∙◌, ℕ, suc, ◌+◌, ◌-◌, ◌<◌, ◌≤◌, List, [], ◌∷◌, ◌++◌, map, length, take, drop, Bool, true, false, arith, append_assoc, Bor}
 use Rattle.std.specs.Prelude.{filter, nat_lt, not, ◌||◌, ◌==◌, codes, slice_index}
 use Rattle.std.specs.List.{slice_split, position_or_len}
@@ -35,7 +35,7 @@ front (b ∷ w) = by (is_blank b) refl (front w)
     by false h f =
         (f.0, rw (h, f.1) (ap (λ (run : List ℕ). run ∷ f.0) (sym (take-next (position_or_len is_blank w) b w))), rw h (f.2 ∙ ap fields (sym (drop-next (position_or_len is_blank w) b w))))
 
--- nothing, or a byte that is no blank
+-- nothing, or a byte other than a space or tab
 abbrev pub BeginsSolid : List ℕ → Type 0
 BeginsSolid [] = Unit {0}
 BeginsSolid (b ∷ _) = is_blank b ≡ false
@@ -62,7 +62,7 @@ keep run more h = let e : has_bytes run ≡ true = lt-ltb 0 (length run) h in rw
 some-byte : (b : ℕ) (w : List ℕ) → is_blank b ≡ false → 0 < length (take (position_or_len is_blank (b ∷ w)) (b ∷ w))
 some-byte b w h = rw (h, take-next (position_or_len is_blank w) b w) (omega arith)
 
--- a text that begins with a field is that field and what follows it
+-- a text that begins with a field is that field and the rest
 pub fields-cut : (w : List ℕ) → BeginsSolid w → (w ≡ [] → ⊥) → fields w ≡ take (position_or_len is_blank w) w ∷ fields (drop (position_or_len is_blank w) w)
 fields-cut [] h some = absurd (some refl)
 fields-cut (b ∷ w) h some =
@@ -124,7 +124,7 @@ next-field w from field after e some front back =
     sym (fields-after_blanks w) ∙ ap fields (sym e) ∙ fields-cut from (subst BeginsSolid (sym e) (solid-after_blanks w)) (λ none. some (ap length none))
     ∙ (λ i. sym front i ∷ fields (sym back i))
 
--- one field more
+-- one more field
 pub front-more : (n : ℕ) (all : Fields) (before now : List (Bor (List ℕ))) (field : Bor (List ℕ)) (rest after : Fields) → n < 6
     → now ≡ before ++ field ∷ [] → rest ≡ field.now ∷ after → map (λ f. f.now) before ++ take (6 - n) rest ≡ all → map (λ f. f.now) now ++ take (6 - (n + 1)) after ≡ all
 front-more n all before now field rest after h p q e =

@@ -1,4 +1,4 @@
--- A data line that has the fields that its section asks for has a good form, where its marker, its column and its set fit.
+-- A data line with the fields that its section requires is well-formed, if its marker, its column and its set fit.
 use Rattle.std.proofs.Common.{◌≡◌, refl, ap, ◌∙◌, List, [], ◌∷◌, ◌++◌, ℕ, Bool, true, false, cond}
 use Rattle.std.specs.Prelude.{Option, Some, None, is_some, is_none, is_ok, not, ◌&&◌, Result, Ok, Err, filter_map, codes}
 use Rattle.std.specs.List.{list_all, list_any, cons_option}
@@ -57,7 +57,7 @@ name-passes name more h = by (has_name_length name) (list_all is_visible name) (
     by true false c k = cc
     by false b c k = cc
 
--- a test that does not hold
+-- a test that passes
 passes : (b : Bool) (kind : FaultKind) (more : FaultTests) → b ≡ false → those_of ((b, kind) ∷ more) ≡ those_of more
 passes true kind more h = cc
 passes false kind more h = refl
@@ -77,7 +77,7 @@ row-good fields h = by (row_shape fields) h
         passes (is_none (row_type line.letter)) kinds.BadType (name_tests line.name) (there line (row_type line.letter) (first_so (is_some (row_type line.letter)) (is_mps_name line.name) k))
         ∙ name-passes line.name [] (second_so (is_some (row_type line.letter)) (is_mps_name line.name) k)
 
--- the word of a marker line that opens or closes is that of no special ordered set
+-- the word that opens or closes an integer block is not that of a special ordered set
 no-sos : (fields : Fields) (b : Bool) (word : List ℕ) → marker_shape fields ≡ Some word → same_bytes word (cond b closing_word opening_word) ≡ true → is_sos_marker fields ≡ false
 no-sos [] b word e h = cc
 no-sos (first ∷ []) b word e h = cc

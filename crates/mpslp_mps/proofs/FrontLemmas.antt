@@ -1,4 +1,4 @@
--- The first six fields of a line show all that is asked of it: no data line of a known shape has so many.
+-- The first six fields of a line determine all that is checked of it: no data line of a known shape has so many.
 use Rattle.std.proofs.Common.{◌≡◌, refl, ℕ, List, [], ◌∷◌, take}
 use Rattle.std.specs.Prelude.{Option, Some, None}
 use Rattle.mpslp_builder.specs.Declaration.{Draft}
@@ -11,7 +11,7 @@ use Rattle.mpslp_mps.specs.DataFault.{data_tests}
 use Rattle.mpslp_mps.specs.declared.sections.Section.{Section}
 use Rattle.mpslp_mps.specs.declared.sections.Section.TheVariants.{Name, ObjSense, ObjName, Rows, Columns, Rhs, Ranges, Bounds, EndData}
 
--- what is the same of seven fields or more as of the first six of them
+-- what is the same for seven or more fields as for the first six
 by-front : {X : Type 0} (g : Fields → X)
     → ((a b c d e x y : List ℕ) (more : Fields) → g (a ∷ b ∷ c ∷ d ∷ e ∷ x ∷ []) ≡ g (a ∷ b ∷ c ∷ d ∷ e ∷ x ∷ y ∷ more))
     → (fields : Fields) → g (take 6 fields) ≡ g fields

@@ -1,4 +1,4 @@
--- A line is taken as its first six fields are.
+-- A line is read as its first six fields are.
 use Rattle.std.proofs.Common.{◌≡◌, refl, sym, ap, subst, ◌∙◌, ℕ, List, [], ◌∷◌, ◌++◌, take, Bool, true, false, cond}
 use Rattle.std.specs.Prelude.{Option, Ok, Err}
 use Rattle.mpslp_builder.specs.Declaration.{Draft, with_declarations}
@@ -16,7 +16,7 @@ use Rattle.mpslp_lines.specs.LineAnswer.{LineResult, IsErrorOf}
 use Rattle.mpslp_mps.specs.LineAnswer.{ReadsContent}
 use Rattle.mpslp_mps.proofs.FrontLemmas.{data_tests-front, data_declared-front, next_context-front, header_tests-front, header_declared-front}
 
--- items that are judged alike, declare alike and leave the same context are taken alike
+-- contents with the same errors, declarations and next context have the same result
 taken_as : (context : Context) (earlier : Draft) (item other : LineContent) (answer : LineResult) (next : Context) (later : Draft)
     → item_tests context earlier item ≡ item_tests context earlier other → line_declares context earlier item ≡ line_declares context earlier other
     → next_context context item ≡ next_context context other → ReadsContent context earlier item answer next later → ReadsContent context earlier other answer next later
@@ -43,7 +43,7 @@ header-front context earlier (keyword ∷ more) answer next later taken =
     taken_as context earlier (header keyword (take 5 more)) (header keyword more) answer next later (header_tests-front context earlier keyword (section_named keyword) more)
     (header_declared-front context earlier (section_named keyword) more) (next_header context keyword more) taken
 
--- ---- which item a line is
+-- ---- the content of a line
 
 pub data-item : (line : List ℕ) → is_skipped line ≡ false → is_data line ≡ true → content_of line ≡ data_line (fields line)
 data-item line unread is =

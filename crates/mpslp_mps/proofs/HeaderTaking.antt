@@ -1,4 +1,4 @@
--- The first fault of a header: that of its form, or else that of what it declares.
+-- The first error of a header: that of its form, or else that of what it declares.
 use Rattle.std.proofs.Common.{◌≡◌, refl, ap, ◌∙◌, ℕ, List, [], ◌∷◌, Bool, true, false, cond}
 use Rattle.std.specs.Prelude.{Option, Some, None, codes}
 use Rattle.std.specs.List.{list_all}

@@ -1,4 +1,4 @@
--- Headers in the order of the format have a good form.
+-- Headers in the order of the format are well-formed.
 use Rattle.std.proofs.Common.{◌≡◌, refl, sym, ap, ◌∙◌, List, [], ◌∷◌, ◌++◌, ℕ, Bool, true, false}
 use Rattle.std.specs.Prelude.{Some, None, is_some, is_none, not, ◌||◌, nat_le}
 use Rattle.std.specs.List.{list_all, list_any, last_or}
@@ -33,7 +33,7 @@ none-behind : (q : Section → Bool) (xs : List Section) (x : Section) (more : L
 none-behind q [] x more h = nor (q x) (list_any q more) h
 none-behind q (y ∷ xs) x more h = none-behind q xs x more (nor (q y) (list_any q (xs ++ x ∷ more)) h).1
 
--- those before it have no later place, those behind it no earlier one
+-- those before it do not have a later place, those after it not an earlier one
 pub order-around : (sections_seen : List Section) (section : Section) (later : List Section) → in_order (sections_seen ++ section ∷ later) ≡ true
     → (list_all (λ (y : Section). nat_le (section_rank y) (section_rank section)) sections_seen ≡ true) × (list_all (λ (y : Section). nat_le (section_rank section) (section_rank y)) later ≡ true)
 order-around [] section later h = (refl, first_so (list_all (λ (y : Section). nat_le (section_rank section) (section_rank y)) later) (in_order later) h)
@@ -105,7 +105,7 @@ nothing-first (x ∷ sections_seen) h k = by x (first_so (nat_le (section_rank x
     by Bounds e f = cc
     by EndData e f = cc
 
--- a section that stands in the whole, and is neither this one nor behind it, stands before it
+-- a section of the text that is neither this one nor after it is before it
 stands-before : (p : Section → Bool) (sections_seen : List Section) (section : Section) (later : List Section) → list_any p (sections_seen ++ section ∷ later) ≡ true → p section ≡ false → list_any p later ≡ false
     → list_any p sections_seen ≡ true
 stands-before p sections_seen section later h here behind = by (list_any p sections_seen) refl (sym (list_any-append p sections_seen (section ∷ later)) ∙ h)

@@ -1,4 +1,4 @@
--- Where headers are good together, each has a good form after the lines before it.
+-- If headers are good together, each is well-formed after the lines before it.
 use Rattle.std.proofs.Common.{◌≡◌, refl, sym, ap, ◌∙◌, subst, List, [], ◌∷◌, ◌++◌, ℕ, Bool, true, false}
 use Rattle.std.specs.Prelude.{Option, Some, None, is_some, is_none, not, ◌&&◌, ◌||◌}
 use Rattle.std.specs.List.{list_all, list_any, cons_option}
@@ -28,7 +28,7 @@ use Rattle.mpslp_mps.proofs.HeadersOfWords.{distinct-before, begins-so, header-g
 use Rattle.mpslp_mps.proofs.OneWordOfWords.{IsWantedThere, header-fits, no-more-words, not-left}
 use Rattle.mpslp_mps.proofs.ObjNameOfWords.{IsDeclared, no-more-lines}
 
--- none behind a section is one of those before it
+-- no section after this one is one of those before it
 distinct-behind : (s : Section) (sections_seen : List Section) (t : Section) (later : List Section) → has sections_seen s ≡ true → are_distinct same_section (sections_seen ++ t ∷ later) ≡ true → has later s ≡ false
 distinct-behind s [] t later h k = cc
 distinct-behind s (x ∷ sections_seen) t later h k =
@@ -69,7 +69,7 @@ distinct-behind s (x ∷ sections_seen) t later h k =
     by true e g f rest = none e later (behind sections_seen f)
     by false e g f rest = rest g
 
--- what the headers of the whole are together, as each is judged by it
+-- what the headers of the text are together, as needed for each of them
 pub record AreGoodHeaders (items : List LineContent) : Type 0 where
   pub each : list_all is_good_header items ≡ true
   pub sections : are_good_sections (seen_sections items) ≡ true
@@ -168,7 +168,7 @@ keyword-good before earlier keyword more rest sense name there told h = by (sect
     follows Bounds e k = k
     follows EndData e k = k
 
-    -- the N row that has the name stands before COLUMNS
+    -- the N row with the name is before COLUMNS
     complete : section_named keyword ≡ Some Columns → lacks_objective (context_of before) earlier ≡ false
     complete e = of (objname before) refl
       where

@@ -1,4 +1,4 @@
--- The kinds of faults that the tests of each line have, so that a test of a kind is found where it stands.
+-- The kinds of errors for which each line is tested, so that a kind determines the tests.
 use Rattle.std.proofs.Common.{◌≡◌, refl, sym, ap, ◌∙◌, List, [], ◌∷◌, ◌++◌, ℕ, Bool, true, false, cond}
 use Rattle.std.specs.Prelude.{Option, Some, None, ◌||◌, ◌&&◌, ◌==◌, codes}
 use Rattle.std.specs.List.{list_any, list_all}
@@ -43,7 +43,7 @@ same-rank kind other h = (Decides-eqb (kind_rank kind) (kind_rank other)).0 h
 alike : (kinds : List FaultKind) (kind other : FaultKind) → is_kind kind other ≡ true → is_among kinds other ≡ is_among kinds kind
 alike kinds kind other h = ap (λ (n : ℕ). list_any (λ (k : FaultKind). n == kind_rank k) kinds) (sym (same-rank kind other h))
 
--- of tests whose kinds are among these, none is of another kind
+-- if the kinds of the tests are among these, none is of another kind
 pub none-holds : (ks : List FaultKind) (kind : FaultKind) (tests : FaultTests) → list_all (λ test. is_among ks test.1) tests ≡ true → is_among ks kind ≡ false → holds_of kind tests ≡ false
 none-holds ks kind [] h k = refl
 none-holds ks kind ((held, other) ∷ more) h k = by (none-holds ks kind more (second_so (is_among ks other) (list_all (λ test. is_among ks test.1) more) h) k) (is_kind kind other) refl
@@ -78,7 +78,7 @@ none-refused kind ((held, other) ∷ more) k = by (none-refused kind more k) (is
     by rest true e = absurd (never (is_among refusal_kinds (kind_of_build_fault other)) (refusal-among other) (alike refusal_kinds kind (kind_of_build_fault other) e ∙ k))
     by rest false e = rest
 
--- a kind of a line's form alone
+-- a kind that only the form of a line has
 form-alone : (kind : FaultKind) → is_among refusal_kinds kind ≡ false → (ds : Declarations) (earlier : Draft) → refuses kind earlier ds ≡ false
 form-alone kind k [] earlier = refl
 form-alone kind k (d ∷ ds) earlier = ap (λ (b : Bool). b || refuses kind (with_declaration earlier d) ds) (none-refused kind (refusal_tests earlier d) k) ∙ form-alone kind k ds (with_declaration earlier d)
@@ -201,7 +201,7 @@ header-among context earlier keyword more (Some Ranges) = refl
 header-among context earlier keyword more (Some Bounds) = refl
 header-among context earlier keyword more (Some EndData) = refl
 
--- a kind of none of them
+-- a kind that no data line has
 pub no-data : {X : Type 0} (kind : FaultKind) (context : Context) (earlier : Draft) (fields : Fields) (o : Option Section) → is_among (kinds_in o) kind ≡ false → holds_of kind (data_tests context earlier fields o) ≡ true → X
 no-data kind context earlier fields o k h = absurd (never (holds_of kind (data_tests context earlier fields o)) h (none-holds (kinds_in o) kind (data_tests context earlier fields o) (data-among context earlier fields o) k))
 
@@ -210,7 +210,7 @@ pub no-header : {X : Type 0} (kind : FaultKind) (context : Context) (earlier : D
 no-header kind context earlier keyword more o k h =
     absurd (never (holds_of kind (header_tests context earlier keyword more o)) h (none-holds header_kinds kind (header_tests context earlier keyword more o) (header-among context earlier keyword more o) k))
 
--- what is left of a line's tests, where no declaration is refused by the kind
+-- what is left of the tests of a line, if the kind is not one of a rejected declaration
 pub by-form : (kind : FaultKind) (is_such : List LineContent → LineContent → Bool) → is_among refusal_kinds kind ≡ false
     → ((before : List LineContent) (earlier : Draft) (item : LineContent) → Told before earlier → holds_of kind (item_tests (context_of before) earlier item) ≡ true → is_such before item ≡ true)
     → (before : List LineContent) (earlier : Draft) (item : LineContent) → Told before earlier → IsFirst kind before earlier item → is_such before item ≡ true

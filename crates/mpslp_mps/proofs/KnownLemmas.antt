@@ -1,4 +1,4 @@
--- In lines of a good form each row and column is declared before it is named.
+-- In well-formed lines each row and column is declared before it is used.
 use Rattle.std.proofs.Common.{◌≡◌, refl, sym, subst, ◌∙◌, List, [], ◌∷◌, ◌++◌, ℕ, Bool, true, false, cond}
 use Rattle.std.specs.Prelude.{Option, Some, None, is_none, ◌&&◌, not, codes}
 use Rattle.std.specs.List.{list_all, flat_map}
@@ -33,7 +33,7 @@ use Rattle.mpslp_builder.proofs.MadeDrafts.{with_declarations-append}
 use Rattle.mpslp_mps.proofs.SectionLemmas.{has_section-push}
 use Rattle.mpslp_mps.proofs.OrderLemmas.{header-fresh, Past, past-rows, past-columns, never, IsGood, is_late, Ordered, ordered-push, declares_row, declares_column, no_rows, no_columns, rows-kept, columns-kept, each-declared, sense-passes, sides-passes, ranges-passes, bounds-passes, columns-line-no-rows, passes-no_rows, passes-no_columns}
 
--- ---- once ROWS is past no rows are declared, once COLUMNS is past no columns
+-- ---- no rows are declared after ROWS, and no columns after COLUMNS
 
 no-rows-header : (context : Context) (earlier : Draft) (keyword : List ℕ) (more : Fields) (o : Option Section) → those_of (header_tests context earlier keyword more o) ≡ [] → has context.sections_seen Columns ≡ true
     → no_rows (header_declared context earlier more o) ≡ true
@@ -103,7 +103,7 @@ no-columns-line before earlier skipped past = refl
 no-columns-line before earlier (header keyword more) past = no-columns-header (context_of before) earlier more (section_named keyword)
 no-columns-line before earlier (data_line fields) past = no-columns-data (context_of before) earlier fields (current_section before) past.left
 
--- the first of lines of a good form, and the rest
+-- the first of some well-formed lines, and the rest
 pub good-first : (before : List LineContent) (earlier : Draft) (item : LineContent) (items : List LineContent) → are_well_formed before earlier (item ∷ items) ≡ true → IsGood before earlier item
 good-first before earlier item items h =
     no_faults (form_faults (context_of before) earlier item)
@@ -137,9 +137,9 @@ no-columns-later (item ∷ items) before earlier h past =
     (no-columns-line before earlier item past)
     (no-columns-later items (before ++ item ∷ []) (with_declarations earlier here) (good-rest before earlier item items h) (past-columns before earlier item good past))
 
--- ---- what a line names, of a later draft's rows and columns, is there before
+-- ---- what a line names, among the rows and columns of a later draft, is declared before
 
--- the rows and the columns of the later draft that are there before
+-- the rows and the columns of the later draft are declared before
 abbrev HasRowsOf : Draft → Draft → Type 0
 HasRowsOf final before = (r : List ℕ) → has_row final r ≡ true → has_row before r ≡ true
 
@@ -243,7 +243,7 @@ is_rowed (Some Rhs) = true
 is_rowed (Some Ranges) = true
 is_rowed _ = false
 
--- a sense, an objective and a row name nothing that is to be there
+-- a sense, an objective and a row refer to no other name
 sense-known : (before : Draft) (fields : Fields) → are_known_in_turn before (declared_if_some sense_declared (word_shape fields)) ≡ true
 sense-known before fields = worded (word_shape fields)
   where
@@ -310,7 +310,7 @@ known-append before (d ∷ ds) ys h k =
     both_so (is_known before d) (are_known_in_turn (with_declaration before d) (ds ++ ys)) (first_so (is_known before d) (are_known_in_turn (with_declaration before d) ds) h)
     (known-append (with_declaration before d) ds ys (second_so (is_known before d) (are_known_in_turn (with_declaration before d) ds) h) k)
 
--- what is declared from a line on leaves rows and columns as they are, once their sections are past
+-- what is declared from a line on leaves rows and columns unchanged, after their sections
 same-rows : (before : List LineContent) (earlier : Draft) (items : List LineContent) → are_well_formed before earlier items ≡ true → Past Rows before → has_section before Columns ≡ true
     → HasRowsOf (with_declarations earlier (declared_items before earlier items)) earlier
 same-rows before earlier items h past columns r known = sym (rows-kept (declared_items before earlier items) earlier r (no-rows-later items before earlier h past columns)) ∙ known

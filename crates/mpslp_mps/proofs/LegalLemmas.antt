@@ -1,4 +1,4 @@
--- What lines of a good form declare has legal names and decimals.
+-- What well-formed lines declare has legal names and decimals.
 use Rattle.std.proofs.Common.{◌≡◌, refl, ◌∙◌, List, [], ◌∷◌, ◌++◌, ℕ, Bool, true, false, cond}
 use Rattle.std.specs.Prelude.{◌&&◌, Option, Some, None, is_none, codes}
 use Rattle.std.specs.List.{list_all, flat_map}

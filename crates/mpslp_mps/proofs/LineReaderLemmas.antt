@@ -1,4 +1,4 @@
--- What a reader of lines answers of the next one, and at the end.
+-- What a reader of lines returns for the next line, and at the end.
 use Rattle.std.proofs.Common.{◌≡◌, sym, ap, subst, ◌∙◌, ℕ, List, [], ◌∷◌, true, false}
 use Rattle.std.specs.Prelude.{Some, None, Result}
 use Rattle.std.specs.Str.Lines.{lines}
@@ -22,7 +22,7 @@ use Rattle.mpslp_mps.proofs.FedLemmas.{lines_fault-is, led-fault}
 use Rattle.mpslp_mps.proofs.TextLemmas.{fault_of_lines, first_fault-whole, draft-whole}
 use Rattle.mpslp_mps.proofs.ReadLemmas.{finished-reads}
 
--- the next line is not read
+-- the next line is rejected
 pub refuses-line : (reader : LineReader) (line : List ℕ) (error : LineError) (answer : ReadFault) → is_section EndData reader.context.section ≡ false
     → IsErrorOf (line_fault (placed_in reader.context reader.builder line)) error → IsFaultOn reader.number error answer → RefusesLines HasRead IsFaultOfLines reader (line ∷ []) answer
 refuses-line reader line (errors.Fault kind) answer unended fault_is answer_is =

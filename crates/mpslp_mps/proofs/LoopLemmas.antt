@@ -1,4 +1,4 @@
--- A line after those before it: its fault by its length, its bytes and what is read of it, and what it keeps where it has none.
+-- A line after those before it: its error by its length, its bytes and its content, and what holds after it if it has none.
 use Rattle.std.proofs.Common.{◌≡◌, sym, subst, ℕ, List, true, false}
 use Rattle.std.specs.Prelude.{Some, None}
 use Rattle.std.specs.List.{list_all}
@@ -42,7 +42,7 @@ pub line-legal : (context : Context) (earlier : Draft) (line : List ℕ) → has
     → line_fault (placed_in context earlier line) ≡ item_fault context earlier (content_of line)
 line-legal context earlier line = legal-first line (outside_comment line) (item_tests context earlier (content_of line)) earlier (line_declares context earlier (content_of line))
 
--- ---- what every line keeps
+-- ---- what holds after every line
 
 pub sides-next : (line : List ℕ) (context : Context) (earlier later : Draft) → HasMpsSides earlier → line_fault (placed_in context earlier line) ≡ None
     → later ≡ draft_after context earlier line → HasMpsSides later

@@ -1,4 +1,4 @@
--- Bytes that have no first fault declare a model.
+-- Bytes without a first error declare a model.
 use Rattle.std.proofs.Common.{◌≡◌, refl, sym, ap, subst, ◌∙◌, List, [], ◌∷◌, ◌++◌, ℕ, suc, ◌+◌, Bool, true, false, cond, map, arith, take}
 use Rattle.std.specs.Prelude.{Option, Some, None, is_some, ◌||◌, not}
 use Rattle.std.specs.List.{list_all, list_any, flat_map, position_or_len}
@@ -29,7 +29,7 @@ use Rattle.mpslp_mps.proofs.ContextLineLemmas.{lines-declare, items-good}
 use Rattle.mpslp_mps.proofs.LegalLemmas.{lines-legal}
 use Rattle.mpslp_mps.proofs.ObjectiveLemmas.{named-lines}
 
--- ---- lines without a fault
+-- ---- lines without an error
 
 or-none : {X : Type 0} (o p : Option X) → option_or o p ≡ None → (o ≡ None) × (p ≡ None)
 or-none None p h = (refl, h)
@@ -61,7 +61,7 @@ lines-faultless n (line ∷ lines) before earlier h =
 
 -- ---- the whole
 
--- the lines that are read hold the ENDATA that there is
+-- if there is an ENDATA, it is among the lines that are read
 end-read : (ls : List (List ℕ)) → list_any is_end ls ≡ true → list_any is_end (take (suc (position_or_len is_end ls)) ls) ≡ true
 end-read [] h = cc
 end-read (l ∷ ls) h =
@@ -84,7 +84,7 @@ whole-faultless bytes h = by (has_end bytes) refl h
     by true e k = record { ends = e; file = k }
     by false e k = cc
 
--- Bytes without a first fault declare the model of what their lines declare.
+-- Bytes without a first error declare the model of what their lines declare.
 pub declares-from_no_fault : (bytes : List ℕ) → first_mps_fault bytes ≡ None → DeclaresMps bytes (model_of (draft_of (declarations_of bytes)))
 declares-from_no_fault bytes h =
     let items = map content_of (read_lines bytes) in

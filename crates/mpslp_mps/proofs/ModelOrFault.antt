@@ -1,4 +1,4 @@
--- Bytes that declare a model have no first fault.
+-- Bytes that declare a model have no first error.
 use Rattle.std.proofs.Common.{◌≡◌, refl, sym, ap, subst, ◌∙◌, List, [], ◌∷◌, ◌++◌, ℕ, ◌+◌, true, map}
 use Rattle.std.specs.Prelude.{Option, None}
 use Rattle.std.specs.List.{list_all, flat_map}
@@ -26,7 +26,7 @@ use Rattle.mpslp_mps.proofs.OrderLemmas.{ordered-nil}
 use Rattle.mpslp_mps.proofs.KnownLemmas.{known-lines}
 use Rattle.mpslp_mps.proofs.LegalLemmas.{lines-legal}
 
--- lines of a good form, none of whose declarations is refused
+-- well-formed lines, none of whose declarations is rejected
 lines-no_fault : (n : ℕ) (lines : List (List ℕ)) (before : List LineContent) (earlier : Draft) → list_all is_well_formed (lines_in_context_after before earlier lines) ≡ true
     → refusals_in_turn earlier (flat_map declared_at (lines_in_context_after before earlier lines)) ≡ [] → first_line_fault n (lines_in_context_after before earlier lines) ≡ None
 lines-no_fault n [] before earlier good none = refl

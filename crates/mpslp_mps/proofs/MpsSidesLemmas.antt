@@ -1,4 +1,4 @@
--- Lines of MPS text without a fault declare right sides of rows that are there and not of type N.
+-- Lines of MPS text without an error declare right-hand sides only of declared rows that are not of type N.
 use Rattle.std.proofs.Common.{◌≡◌, refl, sym, ap, subst, ◌∙◌, ℕ, List, [], ◌∷◌, ◌++◌, Bool, true, false, cond}
 use Rattle.std.specs.Prelude.{◌&&◌, ◌||◌, Option, Some, None, is_none, codes}
 use Rattle.std.specs.List.{list_all, flat_map}
@@ -43,7 +43,7 @@ both_none : (o p : Option FaultKind) → earlier_of o p ≡ None → (o ≡ None
 both_none None p h = (refl, h)
 both_none (Some kind) p h = cc
 
--- ---- declarations that say nothing of rows, right sides, the objective and the constant
+-- ---- declarations that do not concern rows, right-hand sides, the objective and the constant
 
 abbrev stays : Declaration → Bool
 stays (declare_objective name) = false
@@ -116,7 +116,7 @@ bounds-stay (letters ∷ more) =
 
 -- ---- the objective and rows
 
--- an objective where there is none
+-- an objective, if there is none yet
 objective-kept : (all : Draft) (name : List ℕ) → all.objective ≡ None → HasMpsSides all → HasMpsSides (with_declaration all (declare_objective name))
 objective-kept all name none sides = record { known = known; limited = sides.limited; constant = sides.constant }
   where
@@ -194,13 +194,13 @@ default-kept context all sides = by (is_none all.objective && is_none context.ob
     by true none = objective-kept all (codes "obj") (none_so all.objective (first_so (is_none all.objective) (is_none context.objname) none)) sides
     by false there = sides
 
--- ---- right sides
+-- ---- right-hand sides
 
 there_so : (there sided : Bool) → side_kind there sided ≡ None → there ≡ true
 there_so true sided h = refl
 there_so false sided h = cc
 
--- by the rows before the line, which are those after each of its right sides
+-- in terms of the rows before the line, which are those after each of its right-hand sides
 pairs-kept : (pairs : List Pair) (earlier all : Draft) → ((row : List ℕ) → is_free_row all row ≡ is_free_row earlier row) → HasMpsSides all
     → declared_fault all (flat_map (λ (pair : Pair). rhs_declared earlier pair.row (value_of pair.literal)) pairs) ≡ None
     → HasMpsSides (with_declarations all (flat_map (λ (pair : Pair). rhs_declared earlier pair.row (value_of pair.literal)) pairs))
@@ -252,7 +252,7 @@ data-kept context earlier fields (Some Ranges) fault_is sides = stays-kept (decl
 data-kept context earlier fields (Some Bounds) fault_is sides = stays-kept (bound_line_declared fields) earlier (bounds-stay fields) sides
 data-kept context earlier fields (Some EndData) fault_is sides = sides
 
--- after a line that has no fault
+-- after a line without an error
 pub sides-kept : (context : Context) (earlier : Draft) (item : LineContent) → item_fault context earlier item ≡ None → HasMpsSides earlier
     → HasMpsSides (with_declarations earlier (line_declares context earlier item))
 sides-kept context earlier skipped fault_is sides = sides

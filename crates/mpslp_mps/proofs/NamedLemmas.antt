@@ -1,4 +1,4 @@
--- After lines without a fault, the last of which is that of ENDATA, the objective has its name.
+-- After lines without an error, the last of which is that of ENDATA, the objective has a name.
 use Rattle.std.proofs.Common.{◌≡◌, refl, sym, ap, ◌∙◌, ℕ, ◌+◌, List, [], ◌∷◌, ◌++◌, Bool, true, false}
 use Rattle.std.specs.Prelude.{◌||◌, Option, Some, None, is_some}
 use Rattle.std.specs.List.{list_any}
@@ -29,11 +29,11 @@ use Rattle.mpslp_lines.proofs.ObjectiveLemmas.{named-after}
 use Rattle.mpslp_mps.proofs.EndLemmas.{up_to_end-last, up_to_end-more}
 use Rattle.mpslp_mps.proofs.LoopLemmas.{no-item}
 
--- once COLUMNS has begun, the objective is there
+-- once COLUMNS has begun, the objective exists
 abbrev pub HasName : Context → Draft → Type 0
 HasName context earlier = has context.sections_seen Columns ≡ true → is_some earlier.objective ≡ true
 
--- a header without a fault has a good form
+-- a header without an error is well-formed
 header_good : (context : Context) (earlier : Draft) (keyword : List ℕ) (more : Fields) → item_fault context earlier (header keyword more) ≡ None
     → those_of (header_tests context earlier keyword more (section_named keyword)) ≡ []
 header_good context earlier keyword more none =
@@ -56,7 +56,7 @@ named_next context earlier item none named h = by (has context.sections_seen Col
     by true e k = named-after (line_declares context earlier item) earlier (named e)
     by false e k = named_begun context earlier item none k
 
--- ENDATA stands after COLUMNS
+-- ENDATA comes after COLUMNS
 ended_columns : (context : Context) (earlier : Draft) (item : LineContent) → item_fault context earlier item ≡ None → begins EndData item ≡ true
     → has context.sections_seen Columns ≡ true
 ended_columns context earlier skipped none h = cc

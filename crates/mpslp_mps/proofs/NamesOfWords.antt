@@ -1,4 +1,4 @@
--- What a draft has, the lines before have in the words of the format: rows, coefficients and the sense; and each row that they name is there.
+-- A draft has the rows, coefficients and sense of the lines before by `TextInWords`; each row that they name exists.
 use Rattle.std.proofs.Common.{◌≡◌, refl, sym, ap, ◌∙◌, subst, List, [], ◌∷◌, ◌++◌, ℕ, Bool, true, false, cond}
 use Rattle.std.specs.Prelude.{Option, Some, None, is_none, is_some, not, filter_map, ◌||◌, ◌&&◌, codes}
 use Rattle.std.specs.List.{list_any, list_all, flat_map, cons_option}
@@ -44,12 +44,12 @@ names_row-push before item name =
     ∙ (ap (is_named name) (filter_map-append row_name (data_lines Rows before) (fields_under Rows (current_section before) item))
     ∙ list_any-append (same_bytes name) (filter_map row_name (data_lines Rows before)) (filter_map row_name (fields_under Rows (current_section before) item)))
 
--- ---- each row that a line of ROWS names is there
+-- ---- each row that a line of ROWS names exists
 
 abbrev pub AreRowsThere : List LineContent → Draft → Type 0
 AreRowsThere before earlier = (name : List ℕ) → names_row before name ≡ true → has_row earlier name ≡ true
 
--- a new objective takes no row's name away, where there was none
+-- a new objective keeps the other rows, if there was none
 new-objective : (all : Draft) (name other : List ℕ) → is_none all.objective ≡ true → has_row all name ≡ true → has_row (with_declaration all (declare_objective other)) name ≡ true
 new-objective all name other none h = or_right (same_bytes name other) (has_name all.rows name) (by all.objective none h)
   where
@@ -111,7 +111,7 @@ rows-stay context earlier (data_line fields) name h = by context.section (is_sec
     by o true e = subst (λ s. has_row (with_declarations earlier (data_declared context earlier fields s)) name ≡ true) (sym (section-is Rows o e)) (row (row_shape fields))
     by o false e = rows-kept (data_declared context earlier fields o) earlier name (no-rows-data context earlier fields o e) ∙ h
 
--- what a row line declares is there
+-- what a row line declares exists
 line-there : (context : Context) (earlier : Draft) (line : RowLine) (type : RowType) (name : List ℕ) → same_bytes name line.name ≡ true → has_row (with_declarations earlier (row_of_type context earlier line.name type)) name ≡ true
 line-there context earlier line type name same = by type
   where
@@ -162,7 +162,7 @@ rows_there-kept before earlier item good there name h = by (names_row before nam
     by true e x g k = rows-stay (context_of before) earlier x name (there name e)
     by false e x g k = new x g k
 
--- ---- each row that is there has a line, up to the header of COLUMNS, where the objective may be `obj`
+-- ---- each row that exists has a line, up to the header of COLUMNS, when the objective may be `obj`
 
 abbrev pub HaveRowLines : List LineContent → Draft → Type 0
 HaveRowLines before earlier = (name : List ℕ) → has_row earlier name ≡ true → (names_row before name || has_section before Columns) ≡ true
@@ -240,7 +240,7 @@ row_lines-kept before earlier item have name h =
             (row (row_shape fields) (subst (λ o. has_row (with_declarations earlier (data_declared (context_of before) earlier fields o)) name ≡ true) (section-is Rows (current_section before) e) k))
         under false e = old false false (have name (none false e refl))
 
--- ---- each coefficient that is there has a line
+-- ---- each coefficient that exists has a line
 
 abbrev pub declares_entry : Declaration → Bool
 declares_entry (declare_coefficient _ _) = true
@@ -305,7 +305,7 @@ no-entries-data context earlier fields (Some Ranges) h = ranges-passes (λ d. no
 no-entries-data context earlier fields (Some Bounds) h = bounds-passes (λ d. not (declares_entry d)) passes-entries fields
 no-entries-data context earlier fields (Some EndData) h = refl
 
--- a coefficient that is there after those of a column, is one of them or was there before
+-- a coefficient that exists after those of a column is one of them or existed before
 own-entries : (column : List ℕ) (pairs : List Pair) (all : Draft) (key : CoefficientKey) → has_coefficient (with_declarations all (flat_map (coefficient_declared column) pairs)) key ≡ true
     → ((same_bytes key.column column && list_any (λ pair. same_bytes key.row pair.row) pairs) || has_coefficient all key) ≡ true
 own-entries column [] all key h = or_right (same_bytes key.column column && false) (has_coefficient all key) h
@@ -371,7 +371,7 @@ entry_lines-kept before earlier item have key h =
             old false
             (sym (entries-kept (data_declared (context_of before) earlier fields (current_section before)) earlier key (no-entries-data (context_of before) earlier fields (current_section before) e)) ∙ k)
 
--- ---- a sense that is there is a word of OBJSENSE
+-- ---- a sense that exists is a word of OBJSENSE
 
 abbrev pub HasSenseWord : List LineContent → Draft → Type 0
 HasSenseWord before earlier = is_some earlier.sense ≡ true → has_its_word before ObjSense ≡ true
@@ -493,7 +493,7 @@ sense_word-kept before earlier item have h =
             left words []
             (have (sym (ap is_some (senses-kept (data_declared (context_of before) earlier fields (current_section before)) earlier (no-senses-data (context_of before) earlier fields (current_section before) e))) ∙ k))
 
--- ---- the objective: a row of type N, or `obj` from the header of COLUMNS on
+-- ---- the objective: an N row, or `obj` from the header of COLUMNS on
 
 abbrev has_free_line : List LineContent → Bool
 has_free_line before = list_any is_free_row_line (data_lines Rows before)
@@ -512,7 +512,7 @@ word-push section before item h =
     left [] ys k = cc
     left (x ∷ xs) ys k = refl
 
--- an objective that is there is a row of type N, or COLUMNS has begun
+-- an objective that exists is an N row, or COLUMNS has begun
 abbrev pub IsFreeLine : List LineContent → Draft → Type 0
 IsFreeLine before earlier = is_some earlier.objective ≡ true → (has_free_line before || has_section before Columns) ≡ true
 
@@ -560,7 +560,7 @@ free_line-kept before earlier item have h =
         under true e = row (row_shape fields) (subst (λ o. is_some (with_declarations earlier (data_declared (context_of before) earlier fields o)).objective ≡ true) (section-is Rows (current_section before) e) k)
         under false e = old false false (same (data_declared (context_of before) earlier fields (current_section before)) (data-unnamed (context_of before) earlier fields (current_section before) e) k)
 
--- a row of type N is the objective, or OBJNAME tells another name
+-- an N row is the objective, or OBJNAME gives another name
 abbrev pub IsFreeNamed : List LineContent → Draft → Type 0
 IsFreeNamed before earlier = has_free_line before ≡ true → (is_some earlier.objective || is_some (objname before)) ≡ true
 
@@ -583,7 +583,7 @@ free_named-kept before earlier item have h = by item (sym (free_line-push before
     old : (x : LineContent) → has_free_line before ≡ true → (is_some (with_declarations earlier (line_declares (context_of before) earlier x)).objective || is_some (objname (before ++ x ∷ []))) ≡ true
     old x e = stays x (is_some earlier.objective) (is_some (objname before)) refl refl (have e)
 
-    -- not new: there is an objective, or a name that it should have
+    -- not new: there is an objective, or OBJNAME gives another name
     kept_back : (name : List ℕ) (o n : Option (List ℕ)) → (is_none o && option_map_or (same_bytes name) n true) ≡ false → (is_some o || is_some n) ≡ true
     kept_back name (Some x) n e = refl
     kept_back name None (Some y) e = refl
@@ -633,7 +633,7 @@ free_named-kept before earlier item have h = by item (sym (free_line-push before
         under true e f = row (row_shape fields) f (ap (data_declared (context_of before) earlier fields) (section-is Rows (current_section before) e))
         under false e f = cc
 
--- where there is none, and OBJNAME has no word, `obj` is there from the header of COLUMNS on
+-- if there is none, and OBJNAME has no word, `obj` exists from the header of COLUMNS on
 abbrev pub IsDefaultThere : List LineContent → Draft → Type 0
 IsDefaultThere before earlier = has_section before Columns ≡ true → has_default_objective before ≡ true → has_row earlier (codes "obj") ≡ true
 

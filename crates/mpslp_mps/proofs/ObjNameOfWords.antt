@@ -1,4 +1,4 @@
--- Where an N row of ROWS has the name that OBJNAME tells, the header of COLUMNS finds the objective declared.
+-- If an N row has the name that OBJNAME gives, the header of COLUMNS finds the objective declared.
 use Rattle.std.proofs.Common.{◌≡◌, refl, sym, ap, ◌∙◌, subst, List, [], ◌∷◌, ◌++◌, ℕ, Bool, true, false, cond}
 use Rattle.std.specs.Prelude.{Option, Some, None, is_some, is_none, ◌&&◌, ◌||◌}
 use Rattle.std.specs.List.{list_any, cons_option}
@@ -24,7 +24,7 @@ use Rattle.mpslp_mps.proofs.SectionLemmas.{data_lines-push}
 use Rattle.mpslp_mps.proofs.WordsOfFields.{section-is}
 use Rattle.mpslp_mps.proofs.WordsOfObjName.{IsWantedEarly, same-name, section-begun}
 
--- a section that has not begun, or is left for good, has no lines
+-- a section that has not begun, or is complete, has no more lines
 pub no-more-lines : (section : Section) (current : Option Section) (items : List LineContent) → is_section section current ≡ false → has_section items section ≡ false → data_lines_after section current items ≡ []
 no-more-lines section current [] h k = refl
 no-more-lines section current (item ∷ items) h k = by item k (λ c e f. no-more-lines section c items e f)
@@ -44,7 +44,7 @@ no-more-lines section current (item ∷ items) h k = by item k (λ c e f. no-mor
     by (header keyword more) e rest = of (section_named keyword) e rest
     by (data_line fields) e rest = ap (λ (b : Bool). when b fields ++ data_lines_after section current items) h ∙ rest current h e
 
--- an N row of the name that was told is the objective
+-- an N row with the name of OBJNAME is the objective
 abbrev pub IsDeclared : List LineContent → Draft → Type 0
 IsDeclared before earlier = (told : List ℕ) → objname before ≡ Some told → has_free_row before told ≡ true → is_some earlier.objective ≡ true
 
@@ -73,7 +73,7 @@ declared-kept before earlier item good early there told name row = by item good 
     only true e = refl
     only false e = e
 
-    -- the first one that is told so is declared here, if none was before
+    -- the first row with this name is declared here, if none was before
     new_row : (line : RowLine) (o : Option (List ℕ)) → earlier.objective ≡ o → objname before ≡ Some told → row_type line.letter ≡ Some Free → same_bytes line.name told ≡ true
         → is_some (with_declarations earlier (row_declared (context_of before) earlier line)).objective ≡ true
     new_row line (Some other) e n t s = named-after (row_declared (context_of before) earlier line) earlier (ap (λ (o : Option (List ℕ)). is_some o) e)

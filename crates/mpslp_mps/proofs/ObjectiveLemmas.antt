@@ -1,4 +1,4 @@
--- By ENDATA the objective is declared: by a row of type N, or by the header of COLUMNS.
+-- By ENDATA the objective is declared: by an N row, or by the header of COLUMNS.
 use Rattle.std.proofs.Common.{◌≡◌, refl, sym, ap, ◌∙◌, List, [], ◌∷◌, ◌++◌, ℕ, Bool, true, false, cond, map}
 use Rattle.std.specs.Prelude.{Option, Some, None, is_some, is_none, ◌&&◌, ◌||◌, codes}
 use Rattle.std.specs.List.{list_any}
@@ -19,7 +19,7 @@ use Rattle.mpslp_mps.proofs.ContextLineLemmas.{declared_items, are_well_formed}
 use Rattle.mpslp_mps.proofs.OrderLemmas.{header-begins, header-complete, IsGood}
 use Rattle.mpslp_mps.proofs.KnownLemmas.{good-first, good-rest}
 
--- once COLUMNS has begun the objective is there
+-- once COLUMNS has begun, the objective exists
 abbrev pub IsNamed : List LineContent → Draft → Type 0
 IsNamed before earlier = has_section before Columns ≡ true → is_some earlier.objective ≡ true
 
@@ -58,7 +58,7 @@ named-push before earlier item good named begun = by (has_section before Columns
     by true e k = named-after (line_declares (context_of before) earlier item) earlier (named e)
     by false e k = new item good k
 
--- ENDATA stands after COLUMNS
+-- ENDATA comes after COLUMNS
 pub end-after : (context : Context) (earlier : Draft) (keyword : List ℕ) (more : Fields) (o : Option Section) → those_of (header_tests context earlier keyword more o) ≡ [] → is_section EndData o ≡ true → has context.sections_seen Columns ≡ true
 end-after context earlier keyword more None h e = cc
 end-after context earlier keyword more (Some Name) h e = cc
@@ -71,7 +71,7 @@ end-after context earlier keyword more (Some Ranges) h e = cc
 end-after context earlier keyword more (Some Bounds) h e = cc
 end-after context earlier keyword more (Some EndData) h e = header-begins context earlier keyword more EndData h
 
--- lines of a good form, one of which is ENDATA
+-- well-formed lines, one of which is that of ENDATA
 pub named-lines : (lines : List (List ℕ)) (before : List LineContent) (earlier : Draft) → list_any is_end lines ≡ true → are_well_formed before earlier (map content_of lines) ≡ true → IsNamed before earlier
     → is_some (with_declarations earlier (declared_items before earlier (map content_of lines))).objective ≡ true
 named-lines [] before earlier h g named = cc

@@ -1,4 +1,4 @@
--- Where OBJSENSE and OBJNAME each have one word, their headers and data lines have a good form.
+-- If OBJSENSE and OBJNAME each have one word, their headers and data lines are well-formed.
 use Rattle.std.proofs.Common.{◌≡◌, refl, sym, ap, ◌∙◌, List, [], ◌∷◌, ◌++◌, ℕ, Bool, true, false, cond}
 use Rattle.std.specs.Prelude.{Option, Some, None, is_some, ◌||◌}
 use Rattle.std.specs.List.{cons_option}
@@ -17,7 +17,7 @@ use Rattle.mpslp_mps.proofs.ContextLemmas.{word_due-push}
 use Rattle.mpslp_mps.proofs.WordsOfOneWord.{fits_word, is_single, missing, without_word, with_word, IsUnderway}
 use Rattle.mpslp_mps.proofs.WordsOfObjName.{none-word_due}
 
--- ---- a word is wanted under OBJSENSE or OBJNAME alone
+-- ---- a word is required only under OBJSENSE or OBJNAME
 
 abbrev pub IsWantedThere : List LineContent → Type 0
 IsWantedThere before = is_some (word_due before) ≡ true → (is_section ObjSense (current_section before) || is_section ObjName (current_section before)) ≡ true
@@ -49,7 +49,7 @@ wanted_there-kept before item there h =
     by (header keyword more) k = of more (section_named keyword) k
     by (data_line fields) k = cc
 
--- ---- what the whole tells of one line
+-- ---- what the whole text implies for one line
 
 too-many : (test : List ℕ → Bool) (words : List Fields) (fields : Fields) (more : List Fields) → is_one_word test words ≡ true → has_word_at_most test (words ++ fields ∷ more) ≡ true → ⊥
 too-many test [] fields more h k = cc
@@ -62,7 +62,7 @@ too-many test ([] ∷ (word ∷ other ∷ others) ∷ rest) fields more h k = cc
 too-many test ((word ∷ []) ∷ next ∷ rest) fields more h k = cc
 too-many test ((word ∷ other ∷ others) ∷ rest) fields more h k = cc
 
--- a data line of the section holds its word, which was wanted
+-- a data line of the section has its word, which was missing
 pub line-single : (section : Section) (test : List ℕ → Bool) (before : List LineContent) (fields : Fields) (more : List Fields) → IsUnderway section test before → is_section section (current_section before) ≡ true
     → has_word_at_most test (words_in section before ++ fields ∷ more) ≡ true → (is_some (word_due before) ≡ true) × (is_single test fields ≡ true)
 line-single section test before fields more (missing, (a, b, c)) here h = absurd (never (is_section section (current_section before)) here c)
@@ -75,7 +75,7 @@ line-single section test before fields more (without_word, (a, b, c, d)) here h 
     by (word ∷ []) (next ∷ rest) k = cc
     by (word ∷ other ∷ others) rest k = cc
 
--- its header holds its word, or nothing
+-- its header has its word, or nothing
 pub header-fits : (section : Section) (test : List ℕ → Bool) (before : List LineContent) (fields : Fields) (more : List Fields) → IsUnderway section test before → has_section before section ≡ false
     → has_word_at_most test (words_in section before ++ fields ∷ more) ≡ true → fits_word test fields ≡ true
 header-fits section test before fields more (without_word, (a, b, c, d)) fresh h = absurd (never (has_section before section) b fresh)
@@ -88,7 +88,7 @@ header-fits section test before fields more (missing, (a, b, c)) fresh h = by fi
     by (word ∷ []) (next ∷ rest) k = cc
     by (word ∷ other ∷ others) rest k = cc
 
--- a section that has begun, and is left, has no words more
+-- a section that is complete has no more words
 pub no-more-words : (section : Section) (current : Option Section) (items : List LineContent) → is_section section current ≡ false → has_section items section ≡ false → said_after (word_fields section) current items ≡ []
 no-more-words section current [] h k = refl
 no-more-words section current (item ∷ items) h k = by item k (λ c e f. no-more-words section c items e f)
@@ -108,7 +108,7 @@ no-more-words section current (item ∷ items) h k = by item k (λ c e f. no-mor
     by (header keyword more) e rest = of (section_named keyword) more e rest
     by (data_line fields) e rest = ap (λ (b : Bool). when b fields ++ said_after (word_fields section) current items) h ∙ rest current h e
 
--- a section that wants its word is left by no header
+-- no header comes before the missing word of a section
 pub not-left : (section : Section) (test : List ℕ → Bool) (before : List LineContent) → IsUnderway section test before → is_section section (current_section before) ≡ true → is_some (word_due before) ≡ true
     → has_word_at_most test (words_in section before) ≡ true → ⊥
 not-left section test before (missing, (a, b, c)) here there h = never (is_section section (current_section before)) here c

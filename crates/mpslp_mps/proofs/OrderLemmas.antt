@@ -1,4 +1,4 @@
--- Where sections stand in lines of a good form, and so where rows and columns are declared.
+-- The order of sections in well-formed lines, and so the lines in which rows and columns are declared.
 use Rattle.std.proofs.Common.{◌≡◌, refl, sym, ap, ◌∙◌, List, [], ◌∷◌, ◌++◌, ℕ, Bool, true, false, cond, map}
 use Rattle.std.specs.Prelude.{Option, Some, None, is_some, ◌||◌, not}
 use Rattle.std.specs.List.{list_all, flat_map}
@@ -29,7 +29,7 @@ use Rattle.mpslp_mps.specs.declared.bound_types.BoundType.{BoundType}
 use Rattle.mpslp_mps.specs.declared.bound_types.BoundType.TheVariants as bounds
 use Rattle.mpslp_mps.proofs.SectionLemmas.{current_section-push, has_section-push}
 
--- ---- headers of a good form
+-- ---- well-formed headers
 
 abbrev tests_of_fields : Context → Draft → Fields → Section → FaultTests
 tests_of_fields context earlier more section = (not (may_follow section more), kinds.FieldCount) ∷ section_tests context earlier section more
@@ -58,7 +58,7 @@ header-begins context earlier keyword more section h =
     by false true e f = refl
     by false false e f = cc
 
--- COLUMNS has a row for the name that OBJNAME gave the objective
+-- at COLUMNS there is a row with the name that OBJNAME gives
 pub header-complete : (context : Context) (earlier : Draft) (keyword : List ℕ) (more : Fields) → those_of (header_tests context earlier keyword more (Some Columns)) ≡ []
     → lacks_objective context earlier ≡ false
 header-complete context earlier keyword more h =
@@ -67,9 +67,9 @@ header-complete context earlier keyword more h =
     (later_tests (has context.sections_seen Columns) kinds.SectionRepeated (tests_of_fields context earlier more Columns)
     (later_tests (is_out_of_order context Columns) kinds.SectionOrder (tests_after_order context earlier more Columns) h)))
 
--- ---- a section that is past
+-- ---- a section that is complete
 
--- it has begun, and another one goes on
+-- it has begun, and another one is current
 pub record Past (section : Section) (before : List LineContent) : Type 0 where
   pub begun : has_section before section ≡ true
   pub left : is_section section (current_section before) ≡ false
@@ -139,7 +139,7 @@ past-columns before earlier item h past =
 
 -- ---- the order of sections
 
--- a section that stands after ROWS
+-- a section after ROWS
 abbrev pub is_late : Option Section → Bool
 is_late (Some Columns) = true
 is_late (Some Rhs) = true
@@ -262,7 +262,7 @@ columns-kept (d ∷ ds) all c h =
 
 -- ---- which lines declare none
 
--- a test that what is declared of anything passes
+-- the test passes for whatever an optional value declares
 pub each-declared : {X : Type 0} (p : Declaration → Bool) (f : X → Declarations) (o : Option X) → ((x : X) → list_all p (f x) ≡ true) → list_all p (declared_if_some f o) ≡ true
 each-declared p f None h = refl
 each-declared p f (Some x) h = h x
@@ -275,7 +275,7 @@ pub each-mapped : {X : Type 0} (p : Declaration → Bool) (f : X → Declaration
 each-mapped p f [] h = refl
 each-mapped p f (x ∷ xs) h = both_so (p (f x)) (list_all p (map f xs)) (h x) (each-mapped p f xs h)
 
--- a test that what BOUNDS declares passes
+-- the test passes for whatever BOUNDS declares
 pub record Passes (p : Declaration → Bool) : Type 0 where
   pub lower : (c : List ℕ) (l : Limit) → p (declare_lower c l) ≡ true
   pub upper : (c : List ℕ) (l : Limit) → p (declare_upper c l) ≡ true
@@ -288,7 +288,7 @@ sense-passes p h fields =
     each-declared p sense_declared (word_shape fields)
     (λ word. each-declared p (λ sense. declare_sense sense ∷ []) (sense_of word) (λ s. both_so (p (declare_sense s)) true (h s) refl))
 
--- right sides and ranges that are declared
+-- right-hand sides and ranges that are declared
 pub sides-passes : (p : Declaration → Bool) → ((r : List ℕ) (v : Number) → p (declare_rhs r v) ≡ true) → (earlier : Draft) (fields : Fields)
     → list_all p (declared_if_some (rhs_line_declared earlier) (vector_shape fields)) ≡ true
 sides-passes p h earlier fields =

@@ -1,4 +1,4 @@
--- The first fault of the ranges of a line.
+-- The first error of the ranges of a line.
 use Rattle.std.proofs.Common.{◌≡◌, refl, sym, ap, subst, ◌∙◌, ℕ, List, [], ◌∷◌, Bool, true, false, not, cond}
 use Rattle.std.specs.Prelude.{◌||◌, Option, Some, None, MatchResult}
 use Rattle.mpslp_decimal.specs.Decimal.{Number, is_infinite_size}
@@ -12,7 +12,7 @@ use Rattle.mpslp_lines.specs.LineAnswer.{LineResult, IsErrorOf}
 use Rattle.mpslp_lines.proofs.LeastLemmas.{earlier_of}
 use Rattle.mpslp_lines.proofs.RefusedLemmas.{declared-one, declared-append}
 
--- the kind of the fault, by whether the row is there, has a range, can have none, and by whether the value is infinite
+-- the kind of the error, by whether the row exists, has a range, cannot have one, and whether the value is infinite
 abbrev range_kind : Bool → Bool → Bool → Bool → Option FaultKind
 range_kind there ranged sideless infinite =
     cond (not there) (Some kinds.UnknownRow) (cond ranged (Some kinds.DuplicateRange) (cond sideless (Some kinds.RangeOnFree) (cond infinite (Some kinds.InfiniteValue) None)))
@@ -28,7 +28,7 @@ range_fault : (all : Draft) (row : List ℕ) (value : Number)
 range_fault all row value =
     declared-one all (declare_range row value) refl
 
--- of another row a range says nothing
+-- a range does not matter for another row
 range-apart : (all : Draft) (row : List ℕ) (value : Number) (other : List ℕ) (second : Number) → same_bytes other row ≡ false
     → declared_fault (with_declaration all (declare_range row value)) (declare_range other second ∷ []) ≡ declared_fault all (declare_range other second ∷ [])
 range-apart all row value other second apart =
@@ -44,7 +44,7 @@ ranges-apart all row value other second apart =
     declared-append (declare_range row value ∷ []) (declare_range other second ∷ []) all
     ∙ ap (earlier_of (declared_fault all (declare_range row value ∷ []))) (range-apart all row value other second apart)
 
--- where the first one has no fault, the second one's is that of both
+-- if the first range has no error, that of the second is that of both
 pub second-range : (all : Draft) (row : List ℕ) (value : Number) (other : List ℕ) (second : Number) (answer : LineResult) → same_bytes other row ≡ false
     → declared_fault all (declare_range row value ∷ []) ≡ None
     → MatchResult answer (λ _. declared_fault all (declare_range other second ∷ []) ≡ None) (IsErrorOf (declared_fault all (declare_range other second ∷ [])))
@@ -54,7 +54,7 @@ second-range all row value other second answer apart none h =
     subst (λ (o : Option FaultKind). MatchResult answer (λ _. o ≡ None) (IsErrorOf o))
     (sym (ranges-apart all row value other second apart ∙ ap (λ (o : Option FaultKind). earlier_of o (declared_fault all (declare_range other second ∷ []))) none)) h
 
--- two ranges of one row
+-- two ranges of the same row
 pub ranges-of_one : (all : Draft) (row : List ℕ) (value : Number) (other : List ℕ) (second : Number) → same_bytes other row ≡ true
     → declared_fault all (declare_range row value ∷ declare_range other second ∷ []) ≡ Some (cond (has_row all row) kinds.DuplicateRange kinds.UnknownRow)
 ranges-of_one all row value other second same =

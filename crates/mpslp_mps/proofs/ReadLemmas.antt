@@ -1,4 +1,4 @@
--- The end of a text: what its builder answers is what the bytes have.
+-- The end of a text: what its builder returns is the result for the bytes.
 use Rattle.std.proofs.Common.{◌≡◌, sym, subst, ℕ, List}
 use Rattle.std.specs.Prelude.{Result}
 use Rattle.mpslp_model_core.specs.Model.{LinearModel}

@@ -1,4 +1,4 @@
--- A context and a draft say of the lines to come what all the lines before say.
+-- A context and a draft determine for later lines what all the lines before determine.
 use Rattle.std.proofs.Common.{◌≡◌, refl, ap, ◌∙◌, ℕ, ◌+◌, List, [], ◌∷◌, ◌++◌}
 use Rattle.std.specs.Prelude.{Option}
 use Rattle.std.specs.List.{flat_map}
@@ -34,7 +34,7 @@ draft_from-is (line ∷ lines) before earlier =
     ∙ draft_from-is lines (before ++ content_of line ∷ []) next
     ∙ ap (λ (context : Context). draft_from context next lines) (context-push before (content_of line))
 
--- of all the lines that are read, from the context of none
+-- all the lines that are read, from the empty context
 pub first_fault-is : (bytes : List ℕ) → first_mps_fault bytes ≡ option_or (fault_from 1 (context_of []) empty_draft (read_lines bytes)) (whole_mps_fault bytes)
 first_fault-is bytes = ap (λ (o : Option Fault). option_or o (whole_mps_fault bytes)) (fault_from-is (read_lines bytes) 1 [] empty_draft)
 

@@ -1,4 +1,4 @@
--- Rows and coefficients that a line names again are repeated in the words of the format.
+-- Rows and coefficients that a line names again are repeated in the sense of `FaultsInWords`.
 use Rattle.std.proofs.Common.{◌≡◌, refl, sym, ap, ◌∙◌, List, [], ◌∷◌, ◌++◌, ℕ, Bool, true, false, cond, arith}
 use Rattle.std.specs.Prelude.{Option, Some, None, is_none, is_some, not, filter_map, nat_le, ◌||◌, ◌&&◌, codes}
 use Rattle.std.specs.List.{list_any, list_all, last_or, flat_map}
@@ -40,11 +40,11 @@ use Rattle.mpslp_mps.proofs.FaultsOfNames.{may_refuse, no-one, form-good, some}
 
 -- ---- DuplicateRow
 
--- up to the header of COLUMNS a line of ROWS has the name of each row that is there
+-- up to the header of COLUMNS, each row that exists has a line of ROWS
 row-named : (before : List LineContent) (earlier : Draft) (name : List ℕ) → Told before earlier → has_section before Columns ≡ false → has_row earlier name ≡ true → names_row before name ≡ true
 row-named before earlier name told out h = left_alone (names_row before name) (has_section before Columns) out (told.row_lines name h)
 
--- in ROWS the header of COLUMNS has not come
+-- in ROWS the header of COLUMNS has not come yet
 last-place : (sections_seen : List Section) (s : Section) → in_order sections_seen ≡ true → last_or None sections_seen ≡ Some s → list_all (λ (x : Section). nat_le (section_rank x) (section_rank s)) sections_seen ≡ true
 last-place [] s h k = refl
 last-place (x ∷ []) s h k = let same : x ≡ s = cc in both_so (nat_le (section_rank x) (section_rank s)) true (ap (λ (y : Section). nat_le (section_rank y) (section_rank s)) same ∙ itself (section_rank s)) refl
@@ -91,7 +91,7 @@ below-all kind none rows columns numbers (Some Ranges) = numbers
 below-all kind none rows columns numbers (Some Bounds) = numbers
 below-all kind none rows columns numbers (Some EndData) = none
 
--- no test of a good form holds
+-- no test of a well-formed line fails
 good-none : (kind : FaultKind) (tests : FaultTests) → those_of tests ≡ [] → holds_of kind tests ≡ false
 good-none kind [] h = refl
 good-none kind ((held, other) ∷ more) h = by held h (λ e. good-none kind more e)
@@ -104,12 +104,12 @@ good-none kind ((held, other) ∷ more) h = by held h (λ e. good-none kind more
         either true = rest e
         either false = rest e
 
--- so one of its declarations is refused
+-- so one of its declarations is rejected
 good-refused : (kind : FaultKind) (before : List LineContent) (earlier : Draft) (item : LineContent) → IsGood before earlier item → IsFirst kind before earlier item → refuses kind earlier (line_declares (context_of before) earlier item) ≡ true
 good-refused kind before earlier item good first =
     right_alone (holds_of kind (item_tests (context_of before) earlier item)) (refuses kind earlier (line_declares (context_of before) earlier item)) (good-none kind (item_tests (context_of before) earlier item) good) first.told
 
--- where there is no objective, and OBJNAME tells no name, no row is of type N, and OBJNAME has no word
+-- if there is no objective, and OBJNAME gives no name, no row is of type N, and OBJNAME has no word
 default-in_words : (before : List LineContent) (earlier : Draft) → Told before earlier → is_none earlier.objective ≡ true → is_none (objname before) ≡ true → has_default_objective before ≡ true
 default-in_words before earlier told none untold =
     both_so (not (list_any is_free_row_line (data_lines Rows before))) (not (has_its_word before ObjName))
@@ -236,7 +236,7 @@ repeated-rows = in-words kinds.DuplicateRow repeats_row refl refl refl repeated-
 
 -- ---- DuplicateEntry
 
--- each of two tests on some entry
+-- one of two tests holds for some entry
 some-either : {X : Type 0} (p q : X → Bool) (xs : List X) → list_any (λ x. p x || q x) xs ≡ (list_any p xs || list_any q xs)
 some-either p q [] = refl
 some-either p q (x ∷ xs) = ap (λ (b : Bool). (p x || q x) || b) (some-either p q xs) ∙ mix (p x) (q x) (list_any p xs) (list_any q xs)
@@ -285,7 +285,7 @@ cells-repeat column (pair ∷ pairs) all h = by (has_coefficient all (key pair))
         gather (has_row_twice pairs) (list_any (λ other. same_bytes other.row pair.row && same_bytes column column) pairs) (list_any (λ p. has_coefficient all (record { row = p.row; column = column })) pairs) refl
         (sym (ap (λ (b : Bool). has_row_twice pairs || b) now) ∙ rest k)
 
--- a line of a good form does not declare a second sense: OBJSENSE has not begun, or has no word yet
+-- a well-formed line does not declare a second sense: OBJSENSE has not begun, or has no word yet
 fresh-sense : (before : List LineContent) (earlier : Draft) → Told before earlier → is_nonempty (flat_map (λ fields. fields) (words_in ObjSense before)) ≡ false → is_some earlier.sense ≡ false
 fresh-sense before earlier told none = by (is_some earlier.sense) refl
   where
@@ -375,7 +375,7 @@ repeated-entry before earlier item told first =
         of None e = e
         of (Some type) e = row line.name type e
 
-    -- each coefficient that is there has a line
+    -- each coefficient that exists has a line
     lines : (line : ValuesLine) (all : Draft) → ((key : CoefficientKey) → has_coefficient all key ≡ has_coefficient earlier key) → refuses kinds.DuplicateEntry all (flat_map (coefficient_declared line.name) line.pairs) ≡ true → repeats_entry_of before line ≡ true
     lines line all same k = of (has_row_twice line.pairs) (cells-repeat line.name line.pairs all k)
       where

@@ -1,4 +1,4 @@
--- The first fault of the right sides of a line.
+-- The first error of the right-hand sides of a line.
 use Rattle.std.proofs.Common.{◌≡◌, refl, sym, ap, subst, ◌∙◌, ℕ, List, [], ◌∷◌, ◌++◌, Bool, true, false, not, cond}
 use Rattle.std.specs.Prelude.{◌&&◌, ◌||◌, Option, Some, None, is_some, MatchResult}
 use Rattle.std.specs.Option.{option_map_or}
@@ -18,13 +18,13 @@ use Rattle.mpslp_lines.specs.declared.errors.LineError.TheVariants.{Fault, OutOf
 use Rattle.mpslp_lines.proofs.LeastLemmas.{earlier_of}
 use Rattle.mpslp_lines.proofs.RefusedLemmas.{declared-one, declared-append}
 
--- ---- one right side
+-- ---- one right-hand side
 
--- a right side of this row is declared
+-- a right-hand side of this row is declared
 abbrev is_sided : Draft → List ℕ → Bool
 is_sided all row = has_name all.rhs_values row || (is_row_by_limits all row || (is_objective all row && is_some all.constant))
 
--- the kind of the fault, by whether the row is there and has a right side
+-- the kind of the error, by whether the row exists and has a right-hand side
 abbrev pub side_kind : Bool → Bool → Option FaultKind
 side_kind there sided = cond (not there) (Some kinds.UnknownRow) (cond sided (Some kinds.DuplicateRhs) None)
 
@@ -44,7 +44,7 @@ none_so : (b : Bool) (o : Option Number) → o ≡ None → (b && is_some o) ≡
 none_so true o h = ap is_some h
 none_so false o h = refl
 
--- rows of type N have no right sides
+-- N rows have no right-hand sides
 abbrev pub AreLimited : Draft → Type 0
 AreLimited all = (row : List ℕ) → is_free_row all row ≡ true → is_sided all row ≡ false
 
@@ -58,7 +58,7 @@ limited-from all limited constant row h =
 pub limited : (all : Draft) → HasMpsSides all → AreLimited all
 limited all sides = limited-from all sides.limited sides.constant
 
--- of one right side
+-- one right-hand side
 pub side_fault : (all : Draft) (row : List ℕ) (value : Number) → AreLimited all
     → declared_fault all (rhs_declared all row value) ≡ side_kind (has_row all row) (is_sided all row)
 side_fault all row value free_unsided =
@@ -69,12 +69,12 @@ side_fault all row value free_unsided =
           declared-one all (declare_rhs row value) refl
     ] refl
 
--- ---- after a right side
+-- ---- after a right-hand side
 
 abbrev pub after_side : Draft → List ℕ → Number → Draft
 after_side all row value = with_declarations all (rhs_declared all row value)
 
--- right sides leave the rows as they are
+-- right-hand sides leave the rows unchanged
 same_row : (all : Draft) (row : List ℕ) (value : Number) (other : List ℕ) → has_row (after_side all row value) other ≡ has_row all other
 same_row all row value other =
     elim (is_free_row all row) as (λ b. has_row (with_declarations all (cond b [] (declare_rhs row value ∷ []))) other ≡ has_row all other) [ true ↦ refl | false ↦ refl ]
@@ -117,7 +117,7 @@ sides-after all row value sides there =
       | false ↦ λ limited. record { known = side_known all row value sides there; limited = side_limited all row value sides limited; constant = sides.constant }
     ] refl
 
--- ---- two right sides
+-- ---- two right-hand sides
 
 abbrev both : Draft → List ℕ → Number → List ℕ → Number → Option FaultKind
 both all row value other second = declared_fault all (rhs_declared all row value ++ rhs_declared all other second)
@@ -159,9 +159,9 @@ first-refused all row value other second error sides h fault_is =
     by false b c d (Fault kind) k given = cc
     by true b false d (Fault kind) k given = cc
 
--- ---- right sides that are asked for before they are declared
+-- ---- right-hand sides that are checked before they are declared
 
--- the second right side is one more of the row, which is not of type N
+-- the second right-hand side repeats that of the row, which is not of type N
 abbrev is_again : Draft → List ℕ → List ℕ → Bool
 is_again all row other = same_bytes other row && not (is_free_row all row)
 
@@ -189,7 +189,7 @@ both_after all row value other second sides none =
     ∙ (λ i. earlier_of (side_kind (has_row all row) (is_sided all row)) (side_kind (has_row all other) (sided_after all row value other i)))
     ∙ ap (λ (o : Option FaultKind). earlier_of o (side_kind (has_row all other) (is_again all row other || is_sided all other))) (sym (side_fault all row value (limited all sides)) ∙ none)
 
--- where the first one has no fault
+-- if the first one has no error
 pub given-again : (all : Draft) (row : List ℕ) (value : Number) (other : List ℕ) (second : Number) → HasMpsSides all → (has_row all row && has_row all other) ≡ true
     → declared_fault all (rhs_declared all row value) ≡ None → (same_bytes other row && not (is_free_row all row)) ≡ true → both all row value other second ≡ Some kinds.DuplicateRhs
 given-again all row value other second sides rows none again =

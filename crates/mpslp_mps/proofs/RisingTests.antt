@@ -1,4 +1,4 @@
--- The tests of a line stand in the order of kinds.
+-- The tests of a line are in the order of kinds.
 use Rattle.std.proofs.Common.{◌≡◌, refl, ℕ, List, [], ◌∷◌, ◌++◌, Bool, true, false, cond}
 use Rattle.std.specs.Prelude.{not, is_some, Option, Some, None, codes}
 use Rattle.mpslp_types.specs.Name.{is_one_of}
@@ -23,11 +23,11 @@ use Rattle.mpslp_mps.specs.declared.sections.Section.{Section}
 use Rattle.mpslp_mps.specs.declared.sections.Section.TheVariants.{Name, ObjSense, ObjName, Rows, Columns, Rhs, Ranges, Bounds, EndData}
 use Rattle.mpslp_lines.proofs.LeastLemmas.{is_from, are_rising}
 
--- tests that stand in the order of kinds, behind those of a line's length and bytes
+-- tests in the order of kinds, after those of the length and the bytes of a line
 abbrev pub AreRising : FaultTests → Type 0
 AreRising tests = are_rising ((false, kinds.LineTooLong) ∷ (false, kinds.BadByte) ∷ tests) ≡ true
 
--- and so by themselves
+-- and so are these tests without the latter
 pub rising-alone : (tests : FaultTests) → AreRising tests → are_rising tests ≡ true
 rising-alone tests h =
     second_so (list_all (λ later. is_from kinds.BadByte later.1) tests) (are_rising tests)
@@ -81,7 +81,7 @@ data-behind context earlier [] (Some Bounds) = refl
 data-behind context earlier (letters ∷ more) (Some Bounds) = typed-rising context more (bound_type letters)
 data-behind context earlier fields (Some EndData) = refl
 
--- all kinds of sections that are not known
+-- all kinds of unknown sections
 unknown-behind : (quadratic sos indicator : Bool)
     → AreRising ((true, cond quadratic kinds.Quadratic (cond sos kinds.Sos (cond indicator kinds.Indicator kinds.UnknownSection))) ∷ [])
 unknown-behind true sos indicator = refl

@@ -1,4 +1,4 @@
--- How the readings of the lines before change by one line more.
+-- How one more line changes what is known of the lines before.
 use Rattle.std.proofs.Common.{◌≡◌, refl, sym, ap, ◌∙◌, List, [], ◌∷◌, ◌++◌, append_assoc, Bool, true, false}
 use Rattle.std.specs.Prelude.{Option, Some, None, ◌||◌, filter_map}
 use Rattle.std.specs.List.{last_or, cons_option}
@@ -19,7 +19,7 @@ last-one : (o c : Option Section) → last_or c (cons_option o []) ≡ option_or
 last-one None c = refl
 last-one (Some s) c = refl
 
--- the section after a line: that which it begins, or the one before
+-- the section after a line: the one that it begins, or the one before
 pub current_section-push : (before : List LineContent) (item : LineContent) → current_section (before ++ item ∷ []) ≡ option_or (section_of_header item) (current_section before)
 current_section-push before item =
     ap (last_or None) (filter_map-append section_of_header before (item ∷ [])) ∙ last_or-append None (filter_map section_of_header before) (cons_option (section_of_header item) [])
@@ -29,7 +29,7 @@ or_false : (b : Bool) → (b || false) ≡ b
 or_false true = refl
 or_false false = refl
 
--- sections, and perhaps one more
+-- sections, and optionally one more
 pub has-more : (section : Section) (begun : List Section) (o : Option Section) → has (begun ++ cons_option o []) section ≡ (has begun section || is_section section o)
 has-more section begun o =
     list_any-append (λ other. is_section section (Some other)) begun (cons_option o []) ∙ ap (λ (b : Bool). has begun section || b) (by o)
@@ -38,7 +38,7 @@ has-more section begun o =
     by None = refl
     by (Some s) = or_false (is_section section (Some s))
 
--- a section has begun once its header has been passed
+-- a section has begun after its header
 pub has_section-push : (section : Section) (before : List LineContent) (item : LineContent) → has_section (before ++ item ∷ []) section ≡ (has_section before section || begins section item)
 has_section-push section before item =
     ap (λ (begun : List Section). has begun section) (filter_map-append section_of_header before (item ∷ []))
@@ -63,7 +63,7 @@ section_after-cons current x before = by (section_of_header x)
     by None = refl
     by (Some s) = refl
 
--- what lines say where they stand: this one too
+-- what lines give where they are, including this one
 pub said_after-push : {X : Type 0} (says : Option Section → LineContent → List X) (current : Option Section) (before : List LineContent) (item : LineContent)
     → said_after says current (before ++ item ∷ []) ≡ said_after says current before ++ says (section_after current before) item
 said_after-push says current [] item = append-nil (says current item)
@@ -73,7 +73,7 @@ said_after-push {X} says current (x ∷ before) item =
     (said_after-push says next before item ∙ ap (λ (c : Option Section). said_after says next before ++ says c item) (sym (section_after-cons current x before)))
     ∙ sym (append_assoc (says current x) (said_after says next before) _)
 
--- the data lines of a section: this one too, where it stands in it
+-- the data lines of a section, including this one if it is in the section
 pub data_lines-push : (section : Section) (before : List LineContent) (item : LineContent)
     → data_lines section (before ++ item ∷ []) ≡ data_lines section before ++ fields_under section (current_section before) item
 data_lines-push section before item = said_after-push (fields_under section) None before item

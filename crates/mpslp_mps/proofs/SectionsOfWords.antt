@@ -1,4 +1,4 @@
--- What the data lines of a section are together tells each of them: its fields, its set, its marker, and that its column goes on.
+-- What the data lines of a section are together implies their fields, set names and markers, and that columns continue.
 use Rattle.std.proofs.Common.{◌≡◌, refl, sym, ap, ◌∙◌, List, [], ◌∷◌, ◌++◌, append_assoc, ℕ, Bool, true, false, cond}
 use Rattle.std.specs.Prelude.{Option, Some, None, not, ◌&&◌, ◌||◌}
 use Rattle.std.specs.List.{list_all, list_any, last_or, cons_option}
@@ -18,7 +18,7 @@ use Rattle.mpslp_mps.proofs.WordsOfFields.{is_other_set}
 use Rattle.mpslp_mps.proofs.WordsOfSections.{next_word, opens, opens-next}
 use Rattle.mpslp_mps.proofs.WordsOfColumns.{Column, last_of, comes_again, one_column, turned}
 
--- ---- lines, and those behind them
+-- ---- lines, and those after them
 
 pub section_after-more : (current : Option Section) (item : LineContent) (items : List LineContent) → section_after current (item ∷ items) ≡ section_after (option_or (section_of_header item) current) items
 section_after-more current item items = by (section_of_header item)
@@ -36,14 +36,14 @@ said_after-append {X} says current (item ∷ before) items =
     (said_after-append says next before items ∙ ap (λ (c : Option Section). said_after says next before ++ said_after says c items) (sym (section_after-more current item before)))
     ∙ sym (append_assoc (says current item) (said_after says next before) _)
 
--- a data line of the section stands between those before it and those behind
+-- a data line of the section is between those before it and those after it
 pub data-stands : (section : Section) (before : List LineContent) (fields : Fields) (rest : List LineContent) → is_section section (current_section before) ≡ true
     → data_lines section (before ++ data_line fields ∷ rest) ≡ data_lines section before ++ fields ∷ said_after (fields_under section) (current_section before) rest
 data-stands section before fields rest h =
     said_after-append (fields_under section) None before (data_line fields ∷ rest)
     ∙ ap (λ (b : Bool). data_lines section before ++ (when b fields ++ said_after (fields_under section) (current_section before) rest)) h
 
--- ---- what the whole tells of one line
+-- ---- what the whole text implies for one line
 
 pub passes-all : {X : Type 0} (test : X → Bool) (xs : List X) (x : X) (more : List X) → list_all test (xs ++ x ∷ more) ≡ true → test x ≡ true
 passes-all test xs x more h = first_so (test x) (list_all test more) (second_so (list_all test xs) (list_all test (x ∷ more)) (sym (list_all-append test xs (x ∷ more)) ∙ h))
@@ -62,7 +62,7 @@ marker-follows (first ∷ words) last word more false e h =
     let here = first_so (same_bytes first opening_word) (alternate closing_word opening_word (words ++ word ∷ more)) h in
     marker-follows words (Some first) word more true (opens-next false first here) (second_so (same_bytes first opening_word) (alternate closing_word opening_word (words ++ word ∷ more)) h)
 
--- a column that ended, and of which a line comes later
+-- a column that has ended and has a later line
 found-later : (c x d : Column) (columns more : List Column) → same_column c x ≡ true → list_any (same_column c) (d ∷ (columns ++ x ∷ more)) ≡ true
 found-later c x d columns more h =
     list_any-append (same_column c) (d ∷ columns) (x ∷ more)

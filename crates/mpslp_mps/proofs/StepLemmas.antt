@@ -1,4 +1,4 @@
--- What a line of a known shape makes of the context, as `next_context` says.
+-- What a line of a known shape does to the context, as `next_context` defines.
 use Rattle.std.proofs.Common.{◌≡◌, refl, ap, ◌∙◌, ℕ, List, [], ◌∷◌, ◌++◌, Bool, true, false, cond}
 use Rattle.std.specs.Prelude.{Option, Some, None}
 use Rattle.std.specs.List.{cons_option}
@@ -18,7 +18,7 @@ use Rattle.mpslp_mps.specs.declared.bound_types.BoundType.{BoundType}
 use Rattle.mpslp_mps.specs.declared.sections.Section.{Section}
 use Rattle.mpslp_mps.specs.declared.sections.Section.TheVariants.{ObjSense, ObjName, Rows, Columns, Rhs, Ranges, Bounds}
 
--- what is known stays, where a line tells nothing of it
+-- a line that gives nothing leaves what is known unchanged
 same-option : {X : Type 0} (o : Option X) → option_or o None ≡ o
 same-option None = refl
 same-option (Some x) = refl

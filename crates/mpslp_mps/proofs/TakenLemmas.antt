@@ -1,4 +1,4 @@
--- The first fault of a data line, by its section.
+-- The first error of a data line, by its section.
 use Rattle.std.proofs.Common.{◌≡◌, refl, ap, ◌∙◌, ℕ, List, [], ◌∷◌, ◌++◌, true, false, map}
 use Rattle.std.specs.Prelude.{Option, Some, None}
 use Rattle.std.specs.List.{list_all, flat_map}
@@ -37,7 +37,7 @@ are_early tests = list_all (λ test. is_from test.1 kinds.UnknownRow) tests ≡ 
 abbrev pub data_fault : Context → Draft → Fields → Option FaultKind
 data_fault context earlier fields = item_fault context earlier (data_line fields)
 
--- a fault of the line's form, in a section whose lines have no late one, where no kinds of a column clash
+-- an error of the form of a line, if it comes before those of what is declared, and no types of a column clash
 pub data_fault-form : (context : Context) (earlier : Draft) (fields : Fields) (section : Option Section) (kind : FaultKind) → context.section ≡ section
     → are_early (data_tests context earlier fields section) → has_kind_clash earlier (data_declared context earlier fields section) ≡ false
     → first_held (data_tests context earlier fields section) ≡ Some kind → data_fault context earlier fields ≡ Some kind
@@ -47,7 +47,7 @@ data_fault-form context earlier fields section kind h early apart held =
     (held-among (λ k. is_from k kinds.UnknownRow) (data_tests context earlier fields section) kind early held)
     (ap (λ (s : Option Section). has_kind_clash earlier (data_declared context earlier fields s)) h ∙ apart)
 
--- kinds of a column that clash are told before all that is asked of the line's form behind that
+-- a clash of the types of a column is reported before all later tests of the form of the line
 pub clash-told : (context : Context) (earlier : Draft) (fields : Fields) (section : Option Section) → context.section ≡ section
     → list_all (λ test. is_behind_clash test.1) (data_tests context earlier fields section) ≡ true → has_kind_clash earlier (data_declared context earlier fields section) ≡ true
     → data_fault context earlier fields ≡ Some kinds.SemiContinuous
@@ -55,7 +55,7 @@ clash-told context earlier fields section h behind clash =
     ap (λ (s : Option Section). least_kind (those_of (data_tests context earlier fields s) ++ declaring_faults earlier (data_declared context earlier fields s))) h
     ∙ clash-first (data_tests context earlier fields section) earlier (data_declared context earlier fields section) (data-rising context earlier fields section) behind clash
 
--- no fault of the line's form
+-- no error of the form of the line
 pub data_fault-declared : (context : Context) (earlier : Draft) (fields : Fields) (section : Option Section) (declarations : Declarations) → context.section ≡ section
     → first_held (data_tests context earlier fields section) ≡ None → data_declared context earlier fields section ≡ declarations
     → data_fault context earlier fields ≡ declared_fault earlier declarations
@@ -116,7 +116,7 @@ bounds-early context letters more = typed (bound_type letters)
     typed None = refl
     typed (Some type) = lined (bound_shape type more)
 
--- all that is asked of a line of BOUNDS stands behind a clash of kinds
+-- all tests of a line of BOUNDS come after that for a clash of types
 pub bounds-behind : (context : Context) (letters : List ℕ) (more : Fields) → list_all (λ test. is_behind_clash test.1) (bound_line_tests context (letters ∷ more)) ≡ true
 bounds-behind context letters more = typed (bound_type letters)
   where

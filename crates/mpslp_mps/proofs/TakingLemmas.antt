@@ -1,4 +1,4 @@
--- Data lines that are taken, and those that are not.
+-- Data lines that are accepted, and those that are not.
 use Rattle.std.proofs.Common.{◌≡◌, sym, ap, ◌∙◌, Bool, true, false}
 use Rattle.std.specs.Prelude.{Some, None, Ok}
 use Rattle.std.specs.List.{list_all}
@@ -21,18 +21,18 @@ use Rattle.mpslp_lines.proofs.LeastLemmas.{is_from}
 use Rattle.mpslp_lines.proofs.ClashLemmas.{has_kind_clash}
 use Rattle.mpslp_mps.proofs.TakenLemmas.{data_fault, data_fault-form, data_fault-declared, declared-is}
 
--- a kind before all of what is declared
+-- a kind that comes before all those of what is declared
 abbrev pub is_early : Bool × FaultKind → Bool
 is_early test = is_from test.1 kinds.UnknownRow
 
--- where the form is judged, a fault of it is the line's first fault
+-- after the form is checked, an error of it is the first error of the line
 pub data-judged : (context : Context) (earlier : Draft) (fields : Fields) (section : Section) (error : LineError) → context.section ≡ Some section
     → list_all is_early (data_tests context earlier fields (Some section)) ≡ true → has_kind_clash earlier (data_declared context earlier fields (Some section)) ≡ false → IsErrorOf (first_held (data_tests context earlier fields (Some section))) error
     → IsErrorOf (data_fault context earlier fields) error
 data-judged context earlier fields section (Fault kind) here early apart held = data_fault-form context earlier fields (Some section) kind here early apart held
 data-judged context earlier fields section OutOfMemory here early apart held = tt
 
--- a data line that is taken
+-- a data line that is accepted
 pub data-taken : (context : Context) (earlier : Draft) (fields : Fields) (section : Section) (ds : Declarations) (next : Context) (later : Draft)
     → context.section ≡ Some section → first_held (data_tests context earlier fields (Some section)) ≡ None → data_declared context earlier fields (Some section) ≡ ds
     → declared_fault earlier ds ≡ None → next ≡ next_context context (data_line fields) → later ≡ with_declarations earlier ds

@@ -1,4 +1,4 @@
--- What the lines of a text say of the whole.
+-- What the lines of a text determine together.
 use Rattle.std.proofs.Common.{◌≡◌, sym, ap, ◌∙◌, ℕ, List, [], Bool, cond}
 use Rattle.std.specs.Prelude.{Option, Some, None}
 use Rattle.std.specs.Option.{option_or}
@@ -14,11 +14,11 @@ use Rattle.mpslp_mps.specs.LineByLine.{fault_from, draft_from}
 use Rattle.mpslp_mps.specs.ReadAnswer.{lines_to_end}
 use Rattle.mpslp_mps.proofs.ReadingLemmas.{first_fault-is, draft-is}
 
--- the fault of the first line that has one
+-- the error of the first line that has one
 abbrev pub fault_of_lines : List ℕ → Option Fault
 fault_of_lines bytes = fault_from 1 (context_of []) empty_draft (lines_to_end (lines bytes))
 
--- and the draft after all of them
+-- and the draft after all lines
 abbrev pub draft_lines : List ℕ → Draft
 draft_lines bytes = draft_from (context_of []) empty_draft (lines_to_end (lines bytes))
 

@@ -1,4 +1,4 @@
--- Text in the words of the format is MPS text.
+-- Text in the sense of `TextInWords` is MPS text.
 use Rattle.std.proofs.Common.{◌≡◌, refl, sym, ap, subst, List, [], ◌∷◌, ◌++◌, append_assoc, ℕ, Bool, true, false, map}
 use Rattle.std.specs.Prelude.{not, ◌&&◌}
 use Rattle.std.specs.List.{list_all}
@@ -24,7 +24,7 @@ both : (a b : Bool) → (a && b) ≡ true → (a ≡ true) × (b ≡ true)
 both true b h = (refl, h)
 both false b h = absurd cc
 
--- what the lines before tell of the next one
+-- what the lines before imply for the next one
 pub record Known (before : List LineContent) (earlier : Draft) : Type 0 where
   pub words : AreInWords before earlier
   pub lines : HaveLines before earlier

@@ -1,4 +1,4 @@
--- Where each line of COLUMNS has a good form, all lines of a column stand together.
+-- If each line of COLUMNS is well-formed, the lines of each column are contiguous.
 use Rattle.std.proofs.Common.{◌≡◌, refl, sym, ap, ◌∙◌, subst, List, [], ◌∷◌, ◌++◌, ℕ, Bool, true, false, cond, map}
 use Rattle.std.specs.Prelude.{Option, Some, None, not, ◌&&◌, ◌||◌}
 use Rattle.std.specs.List.{list_any, last_or, flat_map}
@@ -29,7 +29,7 @@ use Rattle.mpslp_mps.proofs.WordsOfSections.{section-kept}
 abbrev pub Column : Type 0
 Column = Option (List ℕ)
 
--- ---- columns that are alike
+-- ---- columns that are the same
 
 pub one_column : (a b : Column) → same_column a b ≡ true → a ≡ b
 one_column None b h = cc
@@ -41,9 +41,9 @@ turned a b h =
     let e = one_column a b h in
     sym (ap (λ (z : Column). same_column z a) e) ∙ (ap (same_column a) e ∙ h)
 
--- ---- one line more
+-- ---- one more line
 
--- the last column, or the one before all
+-- the last column, or none at the start
 abbrev pub last_of : Column → List Column → Column
 last_of last [] = last
 last_of last (column ∷ columns) = last_of column columns
@@ -74,7 +74,7 @@ none-last c d (next ∷ columns) h k = none-last c next columns (more (same_colu
     more true e = cc
     more false e = e
 
--- where none of a column stands behind its first lines, and the last line is its, all lines are
+-- if no line of a column comes after its first lines, and the last line is one of them, all lines are
 nothing-behind : (c d : Column) (columns : List Column) → list_any (same_column c) (entries_after c columns) ≡ false → same_column c (last_of d columns) ≡ true → is_nonempty (entries_after c columns) ≡ false
 nothing-behind c d [] h k = refl
 nothing-behind c d (next ∷ columns) h k = by (λ e. nothing-behind c next columns e k) (same_column c next) h
@@ -84,7 +84,7 @@ nothing-behind c d (next ∷ columns) h k = by (λ e. nothing-behind c next colu
     by rest true e = rest e
     by rest false e = sym (none-last c next columns e k)
 
--- the column had lines before, and the last line is none of its
+-- the column has earlier lines, but the last line is not one of them
 abbrev pub comes_again : Column → List Column → Bool
 comes_again column columns = list_any (same_column column) columns && not (same_column column (last_of None columns))
 
@@ -127,7 +127,7 @@ together-more x (c ∷ columns) h k =
         nowhere true = refl
         nowhere false = refl
 
--- ---- the columns that a draft has
+-- ---- the columns of a draft
 
 stays-there : (all : Draft) (d : Declaration) (name : List ℕ) → has_column all name ≡ true → has_column (with_declaration all d) name ≡ true
 stays-there all (declare_objective n) name h = h
@@ -153,7 +153,7 @@ column-after (d ∷ ds) all name h = column-after ds (with_declaration all d) na
 abbrev pub columns_of : List LineContent → List Column
 columns_of before = map line_column (data_lines Columns before)
 
--- each of them is there
+-- each of them exists
 abbrev pub AreThere : List LineContent → Draft → Type 0
 AreThere before earlier = (name : List ℕ) → list_any (same_column (Some name)) (columns_of before) ≡ true → has_column earlier name ≡ true
 

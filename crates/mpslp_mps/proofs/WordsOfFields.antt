@@ -1,4 +1,4 @@
--- A data line of a good form has the fields that its section asks for.
+-- A well-formed data line has the fields that its section requires.
 use Rattle.std.proofs.Common.{◌≡◌, refl, sym, ap, ◌∙◌, List, [], ◌∷◌, ◌++◌, ℕ, Bool, true, false, cond}
 use Rattle.std.specs.Prelude.{Option, Some, None, is_some, is_none, is_ok, not, ◌&&◌, ◌||◌, Result, Ok, Err}
 use Rattle.std.specs.List.{list_all}
@@ -31,7 +31,7 @@ use Rattle.mpslp_mps.specs.declared.sections.Section.{Section}
 use Rattle.mpslp_mps.specs.declared.sections.Section.TheVariants.{Name, ObjSense, ObjName, Rows, Columns, Rhs, Ranges, Bounds, EndData}
 use Rattle.mpslp_mps.specs.declared.bound_types.BoundType.{BoundType}
 
--- ---- a section is known by its keyword
+-- ---- a section is determined by its keyword
 
 named-itself : (section : Section) → section_named (keyword_of section) ≡ Some section
 named-itself Name = refl
@@ -134,7 +134,7 @@ row-fields fields h = by (row_shape fields) h
 pub numbers-of : (pairs : List Pair) (more : FaultTests) → those_of (number_tests (literals_of pairs) ++ more) ≡ [] → have_numbers pairs ≡ true
 numbers-of pairs more h = sym (pairs-fine pairs) ∙ numbers-fine (literals_of pairs) (behind-numbers (literals_of pairs) more h).0
 
--- the tests of a column's line behind its name and its numbers
+-- the tests of a line of a column after those of its name and its numbers
 column-parts : (context : Context) (earlier : Draft) (line : ValuesLine) → those_of (column_tests context earlier line) ≡ []
     → (is_mps_name line.name ≡ true) × (have_numbers line.pairs ≡ true) × (is_split context earlier line.name ≡ false)
 column-parts context earlier line h =
@@ -162,7 +162,7 @@ columns-fields context earlier fields h = by (is_marker_line fields) h
     by true k = marker_of (marker_shape fields) (later_tests (is_sos_marker fields) kinds.Sos (judged_by (marker_word_tests context) (marker_shape fields)) k)
     by false k = line_of (column_shape fields) k
 
--- a marker line closes the part that is open, and opens one elsewhere
+-- a marker line closes the block that is open, or opens one
 pub marker-fits : (context : Context) (earlier : Draft) (fields : Fields) → those_of (columns_line_tests context earlier fields) ≡ [] → (word : List ℕ) → marker_word fields ≡ Some word
     → same_bytes word (cond context.in_integer_part closing_word opening_word) ≡ true
 marker-fits context earlier fields h word = by (is_marker_line fields) h
@@ -179,7 +179,7 @@ marker-fits context earlier fields h word = by (is_marker_line fields) h
     by true k e = fits (marker_shape fields) (later_tests (is_sos_marker fields) kinds.Sos (judged_by (marker_word_tests context) (marker_shape fields)) k) e
     by false k e = cc
 
--- a column goes on where it stood last, or begins
+-- a column continues that of the line before, or begins
 pub column-continues_column : (context : Context) (earlier : Draft) (fields : Fields) → those_of (columns_line_tests context earlier fields) ≡ [] → (name : List ℕ) → line_column fields ≡ Some name
     → is_split context earlier name ≡ false
 column-continues_column context earlier fields h name = by (is_marker_line fields) h
@@ -195,7 +195,7 @@ column-continues_column context earlier fields h name = by (is_marker_line field
 
 -- ---- RHS, RANGES and BOUNDS, and their sets
 
--- no other set than the first
+-- a set other than the first
 abbrev pub is_other_set : Option (List ℕ) → List ℕ → Bool
 is_other_set first set = option_map_or (λ (name : List ℕ). not (same_bytes name set)) first false
 

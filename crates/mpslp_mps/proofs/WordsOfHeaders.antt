@@ -1,4 +1,4 @@
--- Headers of a good form stand in the order of the format, no two of one section; and no data line stands outside a section that takes data.
+-- Well-formed headers are in the order of the format, each at most once; data lines are only in sections that take data.
 use Rattle.std.proofs.Common.{◌≡◌, refl, sym, ap, ◌∙◌, subst, List, [], ◌∷◌, ◌++◌, ℕ, Bool, true, false}
 use Rattle.std.specs.Prelude.{Option, Some, None, is_none, not, ◌&&◌, ◌||◌, nat_le}
 use Rattle.std.specs.List.{list_all, list_any, last_or, cons_option}
@@ -141,7 +141,7 @@ end-place EndData h = refl
 
 -- ---- the sections that have begun
 
--- in order, no two alike; a later one than ROWS stands behind ROWS, a later one than COLUMNS behind COLUMNS
+-- in order, each at most once; a later one than ROWS comes after ROWS, a later one than COLUMNS after COLUMNS
 pub record AreOrdered (sections_seen : List Section) : Type 0 where
   pub order : in_order sections_seen ≡ true
   pub distinct : are_distinct same_section sections_seen ≡ true
@@ -280,7 +280,7 @@ headers-kept before earlier item good h = list_all-append is_good_header before 
     by (header keyword more) g = of keyword more (section_named keyword) g
     by (data_line fields) g = refl
 
--- ---- no data line strays
+-- ---- no data line outside its sections
 
 pub strays-kept : (before : List LineContent) (earlier : Draft) (item : LineContent) → IsGood before earlier item → stray_lines before ≡ [] → stray_lines (before ++ item ∷ []) ≡ []
 strays-kept before earlier item good h = said_after-push strays None before item ∙ ap (λ (lines : List Fields). lines ++ strays (current_section before) item) h ∙ by item good

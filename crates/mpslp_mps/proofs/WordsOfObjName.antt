@@ -1,4 +1,4 @@
--- Where lines of a good form hold COLUMNS, and OBJNAME tells a name, an N row of ROWS has it.
+-- If well-formed lines have COLUMNS, and OBJNAME gives a name, an N row has it.
 use Rattle.std.proofs.Common.{◌≡◌, refl, sym, ap, ◌∙◌, subst, List, [], ◌∷◌, ◌++◌, ℕ, Bool, true, false, cond}
 use Rattle.std.specs.Prelude.{Option, Some, None, is_some, is_none, not, ◌&&◌, ◌||◌, filter_map}
 use Rattle.std.specs.List.{list_all, list_any, last_or, cons_option, flat_map}
@@ -99,7 +99,7 @@ header-unnamed context earlier more (Some EndData) h = refl
 
 -- ---- OBJNAME has its word before ROWS begins
 
--- while a word is wanted, ROWS has not begun
+-- while a word is missing, ROWS has not begun
 abbrev pub IsWantedEarly : List LineContent → Type 0
 IsWantedEarly before = is_some (word_due before) ≡ true → has_section before Rows ≡ false
 
@@ -162,7 +162,7 @@ no-later-name before earlier item good early begun = by item good
     by (header keyword more) g = of keyword more (section_named keyword) g
     by (data_line fields) g = under fields g (is_section ObjName (current_section before)) refl
 
--- ---- the name that is told is that of an N row
+-- ---- the name that OBJNAME gives is that of an N row
 
 abbrev pub has_named_row : List LineContent → Bool
 has_named_row before = option_map_or (has_free_row before) (objname before) true
@@ -189,7 +189,7 @@ row-kept before earlier item good early begun h =
     by None k = refl
     by (Some name) k = free_row-kept before item name k
 
--- no objective before ROWS; one that is there has the name that was told; and COLUMNS begins with such a row
+-- no objective before ROWS; an objective has the name that OBJNAME gives; and COLUMNS begins with such a row
 pub record IsNamedSo (before : List LineContent) (earlier : Draft) : Type 0 where
   pub none : has_section before Rows ≡ false → is_some earlier.objective ≡ false
   pub named : is_some earlier.objective ≡ true → has_named_row before ≡ true
@@ -239,7 +239,7 @@ named-kept before earlier item good ordered early n = record {
         by true e = absurd (never (has_section before Rows) (rows_begun e) h)
         by false e = unnamed (data_line fields) (data-unnamed (context_of before) earlier fields (current_section before) e) ∙ n.none h
 
-    -- an objective that is there was declared in ROWS
+    -- an objective that exists was declared in ROWS
     begun : is_some earlier.objective ≡ true → has_section before Rows ≡ true
     begun h = by (has_section before Rows) refl
       where
@@ -331,7 +331,7 @@ named-kept before earlier item good ordered early n = record {
     whole true e k = row-kept before earlier item good early (rows-there (seen_sections before) ordered e) (n.complete e)
     whole false e k = begins_columns item good k
 
--- ---- the name, in the words of the section
+-- ---- the name, in terms of the section
 
 pub told-words : (current : Option Section) (items : List LineContent)
     → filter_map word_shape (said_after (word_fields ObjName) current items) ≡ said_after (λ (c : Option Section) (item : LineContent). cons_option (objname_word c item) []) current items

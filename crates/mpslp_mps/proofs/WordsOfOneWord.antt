@@ -1,4 +1,4 @@
--- In lines of a good form OBJSENSE and OBJNAME each have one word: on the header, or on the one data line behind it.
+-- In well-formed lines OBJSENSE and OBJNAME each have one word: on the header, or on the one data line after it.
 use Rattle.std.proofs.Common.{◌≡◌, refl, sym, ap, ◌∙◌, subst, List, [], ◌∷◌, ◌++◌, ℕ, Bool, true, false, cond}
 use Rattle.std.specs.Prelude.{Option, Some, None, is_some, is_none, not, ◌||◌}
 use Rattle.std.specs.Option.{option_map_or, option_or}
@@ -98,14 +98,14 @@ name-word = record {
         of (word ∷ []) k = refl
         of (word ∷ other ∷ more) k = cc
 
--- ---- how far the section is
+-- ---- the stage of the section
 
 pub data Stage : Type 0 where
   missing : Stage
   without_word : Stage
   with_word : Stage
 
--- what the lines say of the section: its words, whether it has begun, which one goes on, and whose word is to come
+-- what the lines give for the section: its words, whether it has begun, the current section, and whose word is missing
 abbrev pub IsAt : Section → (List ℕ → Bool) → Stage → List Fields → Bool → Option Section → Option Section → Type 0
 IsAt section test missing words begun current awaited = (words ≡ []) × (begun ≡ false) × (is_section section current ≡ false)
 IsAt section test without_word words begun current awaited = (words ≡ [] ∷ []) × (begun ≡ true) × (is_section section current ≡ true) × (is_some awaited ≡ true)
@@ -118,7 +118,7 @@ IsSome section test words begun current awaited = (stage : Stage) × IsAt sectio
 abbrev pub IsUnderway : Section → (List ℕ → Bool) → List LineContent → Type 0
 IsUnderway section test before = IsSome section test (words_in section before) (has_section before section) (current_section before) (word_due before)
 
--- the parts in place of equal ones
+-- replaces parts by equal ones
 carried : (section : Section) (test : List ℕ → Bool) (words words2 : List Fields) (begun begun2 : Bool) (current current2 awaited wanted2 : Option Section)
     → words2 ≡ words → begun2 ≡ begun → current2 ≡ current → wanted2 ≡ awaited → IsSome section test words begun current awaited → IsSome section test words2 begun2 current2 wanted2
 carried section test words words2 begun begun2 current current2 awaited wanted2 p q r s h =
@@ -127,13 +127,13 @@ carried section test words words2 begun begun2 current current2 awaited wanted2 
     (subst (λ b. IsSome section test words2 b current awaited) (sym q)
     (subst (λ w. IsSome section test w begun current awaited) (sym p) h)))
 
--- ---- one line more
+-- ---- one more line
 
 or_false : (b : Bool) → (b || false) ≡ b
 or_false true = refl
 or_false false = refl
 
--- a line that says nothing of the section, and stands where over word is to come
+-- a line that does not concern the section, and does not come before a missing word of it
 passed : (section : Section) (test : List ℕ → Bool) (words : List Fields) (begun : Bool) (current awaited next later : Option Section) → IsSome section test words begun current awaited
     → is_some awaited ≡ false → is_section section next ≡ false → IsSome section test (words ++ []) (begun || false) next later
 passed section test words begun current awaited next later (missing, (a, b, c)) over out = (missing, (ap (λ (w : List Fields). w ++ []) a, ap (λ (x : Bool). x || false) b, out))
@@ -222,7 +222,7 @@ word-kept section test one before earlier item good h =
 
 -- ---- at the end
 
--- where the section does not go on, it is missing or has its word
+-- if the section is not current, it is missing or has its word
 pub word-at_end : (section : Section) (test : List ℕ → Bool) (before : List LineContent) → IsUnderway section test before → is_section section (current_section before) ≡ false
     → has_word_at_most test (words_in section before) ≡ true
 word-at_end section test before (missing, (a, b, c)) out = ap (has_word_at_most test) a

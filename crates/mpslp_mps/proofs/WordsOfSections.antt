@@ -1,4 +1,4 @@
--- What the data lines of a section are together, where each of them has a good form: their fields, their sets, their markers.
+-- What the data lines of a section are together, if each of them is well-formed: their fields, their sets, their markers.
 use Rattle.std.proofs.Common.{◌≡◌, refl, sym, ap, ◌∙◌, subst, List, [], ◌∷◌, ◌++◌, ℕ, Bool, true, false, cond}
 use Rattle.std.specs.Prelude.{Option, Some, None, not, ◌&&◌, filter_map}
 use Rattle.std.specs.List.{list_all, last_or, cons_option}
@@ -23,11 +23,11 @@ use Rattle.mpslp_mps.proofs.OrderLemmas.{IsGood}
 use Rattle.mpslp_mps.proofs.SectionLemmas.{data_lines-push}
 use Rattle.mpslp_mps.proofs.WordsOfFields.{section-is, is_other_set}
 
--- the fields have a good form under the section, after these lines
+-- the fields are well-formed in the section, after these lines
 abbrev pub IsGoodUnder : Section → List LineContent → Draft → Fields → Type 0
 IsGoodUnder section before earlier fields = those_of (data_tests (context_of before) earlier fields (Some section)) ≡ []
 
--- a test of the data lines of a section holds after one line more, where a data line of a good form keeps it
+-- a test of the data lines of a section still holds after one more line, if each well-formed data line keeps it
 pub section-kept : (section : Section) (test : List Fields → Bool) (before : List LineContent) (earlier : Draft) (item : LineContent)
     → ((fields : Fields) → IsGoodUnder section before earlier fields → test (data_lines section before ++ fields ∷ []) ≡ true)
     → IsGood before earlier item → test (data_lines section before) ≡ true → test (data_lines section (before ++ item ∷ [])) ≡ true
@@ -85,7 +85,7 @@ set-kept section set_of before earlier item fits good h =
 
 -- ---- markers
 
--- the word of the next marker line, where a part is open or none
+-- the word of the next marker line, by whether a block is open
 abbrev pub next_word : Bool → List ℕ
 next_word is_open = cond is_open closing_word opening_word
 

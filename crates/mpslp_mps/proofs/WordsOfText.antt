@@ -1,4 +1,4 @@
--- MPS text is text in the words of the format.
+-- MPS text is text in the sense of `TextInWords`.
 use Rattle.std.proofs.Common.{◌≡◌, refl, sym, ap, ◌∙◌, subst, List, [], ◌∷◌, ◌++◌, append_assoc, ℕ, Bool, true, false, map}
 use Rattle.std.specs.Prelude.{Option, Some, None, not, ◌&&◌, ◌||◌, filter_map}
 use Rattle.std.specs.List.{list_all, list_any, last_or, cons_option}
@@ -34,9 +34,9 @@ use Rattle.mpslp_mps.proofs.WordsOfHeaders.{AreOrdered, rows-there, columns-ther
 use Rattle.mpslp_mps.proofs.WordsOfOneWord.{IsUnderway, missing, sense-word, name-word, word-kept, word-at_end}
 use Rattle.mpslp_mps.proofs.WordsOfObjName.{IsWantedEarly, wanted_early-kept, IsNamedSo, named-kept, section-begun, named-in_words}
 
--- ---- what lines of a good form are together
+-- ---- what well-formed lines are together
 
--- so far: a section of one word may still want it
+-- so far: a section of one word may still lack it
 pub record AreInWords (before : List LineContent) (earlier : Draft) : Type 0 where
   pub headers : list_all is_good_header before ≡ true
   pub ordered : AreOrdered (seen_sections before)
@@ -152,7 +152,7 @@ legal-lines (line ∷ ls) before earlier h =
     fine true e = refl
     fine false e = sym e
 
--- items that stand at ENDATA
+-- items that end at ENDATA
 together-at_end : (items : List LineContent) (all : Draft) → AreInWords items all → is_section EndData (current_section items) ≡ true → are_good_together items ≡ true
 together-at_end items all h ends =
     both_so (has_good_headers items) _ headers

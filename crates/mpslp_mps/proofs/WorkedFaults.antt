@@ -1,4 +1,4 @@
--- The first faults of changed files, by computation.
+-- The first errors of changed files, by computation.
 use Rattle.std.proofs.Common.{◌≡◌, refl}
 use Rattle.std.specs.Prelude.{ℕ, ◌-◌, Option, Some, None, List, ◌∷◌, [], ◌++◌, take, drop, codes}
 use Rattle.std.specs.List.{flat_map}
@@ -10,7 +10,7 @@ use Rattle.mpslp_types.specs.declared.faults.FaultKind.TheVariants.{BadMarker, B
 use Rattle.mpslp_lines.specs.LineAnswer.{fault_on_line}
 use Rattle.mpslp_mps.specs.FirstFault.{first_mps_fault}
 
--- lines, each ended by a line feed
+-- lines, each followed by a line feed
 abbrev text : List (List ℕ) → List ℕ
 text lines = flat_map (λ line. line ++ 10 ∷ []) lines
 
@@ -29,11 +29,11 @@ abbrev base : List (List ℕ)
 base = codes "NAME" ∷ codes "ROWS" ∷ codes " N  C" ∷ codes " L  R" ∷ codes "COLUMNS" ∷ codes "    X  C  1" ∷ codes "    X  R  1"
     ∷ codes "    Y  C  1" ∷ codes "RHS" ∷ codes "    A  R  1" ∷ codes "BOUNDS" ∷ codes " UP  B  X  4" ∷ codes "ENDATA" ∷ []
 
--- the line of this number, counted from 1, is another
+-- the line with this number, counted from 1, is replaced
 abbrev with_line : ℕ → List ℕ → List ℕ
 with_line n line = text (take (n - 1) base ++ line ∷ drop n base)
 
--- a line more after that of this number
+-- one more line after the one with this number
 abbrev with_line_after : ℕ → List ℕ → List ℕ
 with_line_after n line = text (take n base ++ line ∷ drop n base)
 
@@ -125,7 +125,7 @@ pub semi_continuous_then_binary : first_mps_fault (text (take 11 base ++ codes "
 unfolding trailing_zeros
 semi_continuous_then_binary = refl
 
--- a clash of kinds is told before what is wrong with the line's number
+-- a clash of types is reported before an error of the line's number
 pub integer_then_semi_continuous : first_mps_fault (text (take 11 base ++ codes " LI  B  X  1" ∷ codes " SC  B  X  4x" ∷ codes "ENDATA" ∷ [])) ≡ on_line 13 SemiContinuous
 unfolding trailing_zeros
 integer_then_semi_continuous = refl
@@ -217,7 +217,7 @@ pub semi_continuous_with_upper : first_mps_fault (with_bounds (codes " SC B X 4"
 unfolding trailing_zeros
 semi_continuous_with_upper = refl
 
--- ---- infinite right sides and large ranges
+-- ---- infinite right-hand sides and large ranges
 
 abbrev with_sides : List (List ℕ) → List ℕ
 with_sides sides = text (codes "NAME          SMALL" ∷ codes "ROWS" ∷ codes " N  COST" ∷ codes " L  LIM1" ∷ codes " G  MYG" ∷ codes "COLUMNS"
@@ -235,7 +235,7 @@ pub range_to_a_large_limit : first_mps_fault (with_sides (codes "    RHS  LIM1  
 unfolding trailing_zeros
 range_to_a_large_limit = refl
 
--- ---- an objective that OBJNAME names
+-- ---- an objective named by OBJNAME
 
 abbrev objective_lines : List (List ℕ) → List ℕ
 objective_lines names = text (codes "NAME" ∷ (names ++ codes "ROWS" ∷ codes " N  C" ∷ codes " L  R" ∷ codes " N  S" ∷ codes "COLUMNS"

@@ -11,11 +11,11 @@ use Rattle.mpslp_builder.specs.Meaning.{model_of, file_fault}
 use Rattle.mpslp_builder.proofs.Acceptance.{means-from_none}
 use Rattle.mpslp_mps.specs.MpsText.{is_mps_text, declarations_of, DeclaresMps}
 
--- lines, each ended by a line feed
+-- lines, each followed by a line feed
 abbrev pub text : List (List ℕ) → List ℕ
 text lines = flat_map (λ line. line ++ 10 ∷ []) lines
 
--- lines, each ended by a carriage return and a line feed
+-- lines, each followed by a carriage return and a line feed
 abbrev pub text_with_returns : List (List ℕ) → List ℕ
 text_with_returns lines = flat_map (λ line. line ++ 13 ∷ 10 ∷ []) lines
 
@@ -93,7 +93,7 @@ pub small_maximized_passes : Passes small_maximized
 unfolding trailing_zeros
 small_maximized_passes = record { is_text = refl; objective = refl; legal = refl; unrefused = refl; no_fault = refl }
 
--- ---- ranges of both signs, before the right sides
+-- ---- ranges of both signs, before the right-hand sides
 
 abbrev pub ranges_lines : List (List ℕ)
 ranges_lines =
@@ -139,7 +139,7 @@ pub integer_without_upper_passes : Passes integer_without_upper
 unfolding trailing_zeros
 integer_without_upper_passes = record { is_text = refl; objective = refl; legal = refl; unrefused = refl; no_fault = refl }
 
--- ---- a right side of the objective, and bounds
+-- ---- a right-hand side of the objective, and bounds
 
 abbrev one_column : List (List ℕ)
 one_column = codes "ROWS" ∷ codes " N C" ∷ codes "COLUMNS" ∷ codes " X C 1" ∷ []
@@ -172,7 +172,7 @@ pub infinite_bounds_passes : Passes infinite_bounds
 unfolding trailing_zeros
 infinite_bounds_passes = record { is_text = refl; objective = refl; legal = refl; unrefused = refl; no_fault = refl }
 
--- ---- columns with no coefficient but 0, a further row of type N
+-- ---- columns whose only coefficient is 0, and another N row
 
 abbrev pub empty_column_lines : List (List ℕ)
 empty_column_lines =
@@ -202,7 +202,7 @@ pub integer_bounds_passes : Passes integer_bounds
 unfolding trailing_zeros
 integer_bounds_passes = record { is_text = refl; objective = refl; legal = refl; unrefused = refl; no_fault = refl }
 
--- ---- semi-continuous columns, of which one has a lower bound
+-- ---- semi-continuous columns, one of which has a lower bound
 
 abbrev pub semi_columns_lines : List (List ℕ)
 semi_columns_lines =
@@ -251,7 +251,7 @@ pub maximized_by_long_word_passes : Passes maximized_by_long_word
 unfolding trailing_zeros
 maximized_by_long_word_passes = record { is_text = refl; objective = refl; legal = refl; unrefused = refl; no_fault = refl }
 
--- a tab for each blank between fields
+-- a tab for each space between fields
 abbrev tabbed : List ℕ → List ℕ
 tabbed line = map (λ byte. if byte == 32 then 9 else byte) line
 
@@ -269,7 +269,7 @@ pub not_maximized_passes : Passes not_maximized
 unfolding trailing_zeros
 not_maximized_passes = record { is_text = refl; objective = refl; legal = refl; unrefused = refl; no_fault = refl }
 
--- ---- the layout of the usual tools
+-- ---- the layout of common tools
 
 abbrev pub usual_layout_lines : List (List ℕ)
 usual_layout_lines =
@@ -289,7 +289,7 @@ pub usual_layout_passes : Passes usual_layout
 unfolding trailing_zeros
 usual_layout_passes = record { is_text = refl; objective = refl; legal = refl; unrefused = refl; no_fault = refl }
 
--- ---- an objective that OBJNAME names among the rows of type N
+-- ---- an objective named by OBJNAME among the N rows
 
 abbrev objective_tail : List (List ℕ)
 objective_tail =

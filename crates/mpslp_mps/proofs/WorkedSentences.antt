@@ -1,4 +1,4 @@
--- What faults are in words, on worked lines, by computation: each sentence holds of a line that is such, and none of any line of a file without a fault.
+-- `FaultsInWords` on worked lines, by computation: each definition holds for lines with its error, and for no correct line.
 use Rattle.std.proofs.Common.{◌≡◌, refl}
 use Rattle.std.specs.Prelude.{ℕ, Bool, true, false, ◌||◌, List, [], ◌∷◌, ◌++◌, map, codes}
 use Rattle.mpslp_mps.specs.Line.{LineContent, content_of}
@@ -13,7 +13,7 @@ lines_before = map content_of
 abbrev sides_before : List LineContent
 sides_before = lines_before ++ map content_of (codes "RHS" ∷ codes "    A  R  1" ∷ [])
 
--- ---- lines that are such
+-- ---- lines with an error
 
 abbrev is_it : (List LineContent → LineContent → Bool) → List LineContent → List ℕ → Bool
 is_it is_such before line = is_such before (content_of line)
@@ -69,7 +69,7 @@ entry_again = refl
 pub entry_twice : is_it repeats_entry lines_before (codes "    Z  R  1  R  2") ≡ true
 entry_twice = refl
 
--- ---- a file without a fault has no such line
+-- ---- a file without an error has no such line
 
 abbrev is_any : List LineContent → LineContent → Bool
 is_any before item =

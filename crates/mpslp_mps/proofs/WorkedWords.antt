@@ -1,4 +1,4 @@
--- Worked files in the words of the format, by computation: each that declares a model is text in words, and no changed file is whose form is at fault.
+-- Worked files satisfy `TextInWords` if they declare a model, and not if they have an error of form, by computation.
 use Rattle.std.proofs.Common.{◌≡◌, refl}
 use Rattle.std.specs.Prelude.{ℕ, ◌-◌, true, false, List, ◌∷◌, [], ◌++◌, take, drop, codes}
 use Rattle.mpslp_decimal.specs.Decimal.{trailing_zeros}
@@ -31,11 +31,11 @@ abbrev base : List (List ℕ)
 base = codes "NAME" ∷ codes "ROWS" ∷ codes " N  C" ∷ codes " L  R" ∷ codes "COLUMNS" ∷ codes "    X  C  1" ∷ codes "    X  R  1"
     ∷ codes "    Y  C  1" ∷ codes "RHS" ∷ codes "    A  R  1" ∷ codes "BOUNDS" ∷ codes " UP  B  X  4" ∷ codes "ENDATA" ∷ []
 
--- the line of this number, counted from 1, is another
+-- the line with this number, counted from 1, is replaced
 abbrev with_line : ℕ → List ℕ → List ℕ
 with_line n line = text (take (n - 1) base ++ line ∷ drop n base)
 
--- a line more after that of this number
+-- one more line after the one with this number
 abbrev with_line_after : ℕ → List ℕ → List ℕ
 with_line_after n line = text (take n base ++ line ∷ drop n base)
 

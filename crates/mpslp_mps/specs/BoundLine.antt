@@ -1,4 +1,4 @@
--- The lines of BOUNDS: a type, perhaps a set name, a column, and a value where the type takes one.
+-- The lines of BOUNDS: a type, an optional set name, a column, and a value if the type takes one.
 use Rattle.std.specs.Prelude.{ℕ, Bool, true, false, List, [], ◌∷◌, Option, Some, None, if◌then◌else◌, codes}
 use Rattle.std.specs.List.{find}
 use Rattle.mpslp_types.specs.Name.{same_bytes}
@@ -36,7 +36,7 @@ takes_value IntegerLower = true
 takes_value IntegerUpper = true
 takes_value SemiUpper = true
 
--- an absent set name counts as the empty name; where the type takes no value there is no literal
+-- an absent set name counts as the empty name; if the type takes no value, there is no literal
 pub record BoundLine : Type 0 where
   pub set : List ℕ
   pub column : List ℕ
@@ -48,7 +48,7 @@ line_with_value (column ∷ value ∷ []) = Some (record { set = []; column = co
 line_with_value (set ∷ column ∷ value ∷ []) = Some (record { set = set; column = column; literal = Some value })
 line_with_value _ = None
 
--- the fields after a type that takes none; a fourth field of the line is not judged
+-- the fields after a type that takes no value; a fourth field of the line is ignored
 abbrev pub line_without_value : Fields → Option BoundLine
 line_without_value (column ∷ []) = Some (record { set = []; column = column; literal = None })
 line_without_value (set ∷ column ∷ []) = Some (record { set = set; column = column; literal = None })

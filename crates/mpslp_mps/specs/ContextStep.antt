@@ -1,4 +1,4 @@
--- What a line of a known shape makes of the context.
+-- What a line of a known shape does to the context.
 use Rattle.std.specs.Prelude.{ℕ, Bool, List, [], ◌∷◌, ◌++◌, Option, Some, None, if◌then◌else◌}
 use Rattle.std.specs.Option.{option_or}
 use Rattle.mpslp_mps.specs.Line.{Fields}
@@ -8,15 +8,15 @@ use Rattle.mpslp_mps.specs.Context.{Context}
 use Rattle.mpslp_mps.specs.declared.sections.Section.{Section}
 use Rattle.mpslp_mps.specs.declared.sections.Section.TheVariants.{ObjName}
 
--- the name of the objective that follows the keyword OBJNAME
+-- the name of the objective after the keyword OBJNAME
 abbrev pub header_objname : Section → Fields → Option (List ℕ)
 header_objname section more = if is_section ObjName (Some section) then word_shape more else None
 
--- a name of the objective is told; the first one counts
+-- OBJNAME names the objective; only the first name counts
 abbrev pub with_objname : Context → List ℕ → Context
 with_objname c name = record c { objname = option_or c.objname (Some name) }
 
--- after the header of a section, whose word may be to come, or name the objective
+-- after the header of a section, which may lack its word, or name the objective
 abbrev pub after_header : Context → Section → Option Section → Option (List ℕ) → Context
 after_header c section word_due objective =
     record c { section = Some section; sections_seen = c.sections_seen ++ section ∷ []; word_due = word_due; objname = option_or c.objname objective }
@@ -25,7 +25,7 @@ after_header c section word_due objective =
 abbrev pub after_objname : Context → List ℕ → Context
 after_objname c name = with_objname (record c { word_due = None }) name
 
--- after a data line that later lines ask nothing of
+-- after a data line that does not matter for later lines
 abbrev pub after_data : Context → Context
 after_data c = record c { word_due = None }
 
@@ -37,7 +37,7 @@ after_marker c opens = record c { word_due = None; in_integer_part = opens; last
 abbrev pub after_column : Context → List ℕ → Context
 after_column c column = record c { word_due = None; last_column = Some column }
 
--- after a line of RHS, RANGES and BOUNDS, of which the first one tells the set
+-- after a line of RHS, RANGES or BOUNDS; the first one of a section gives the set name
 abbrev pub after_rhs : Context → List ℕ → Context
 after_rhs c set = record c { word_due = None; rhs_set = option_or c.rhs_set (Some set) }
 

@@ -1,4 +1,4 @@
--- The faults of a data line's form, after the lines before it.
+-- The errors of the form of a data line, after the lines before it.
 use Rattle.std.specs.Prelude.{ℕ, Bool, true, false, ◌&&◌, not, List, [], ◌∷◌, ◌++◌, Option, Some, None, is_some, is_none, if◌then◌else◌, codes}
 use Rattle.std.specs.Option.{option_map_or}
 use Rattle.mpslp_types.specs.Name.{same_bytes, is_one_of}
@@ -19,18 +19,18 @@ use Rattle.mpslp_mps.specs.declared.bound_types.BoundType.{BoundType}
 abbrev pub row_line_tests : RowLine → FaultTests
 row_line_tests line = (is_none (row_type line.letter), kinds.BadType) ∷ name_tests line.name
 
--- a special ordered set, also where the line has a wrong number of fields
+-- a special ordered set, even if the line has a wrong number of fields
 abbrev pub is_sos_marker : Fields → Bool
 is_sos_marker fields = option_map_or (is_one_of (codes "'SOSORG'" ∷ codes "'SOSEND'" ∷ [])) (third_field fields) false
 
--- a marker line closes the integer part where it is open, and opens it elsewhere
+-- a marker line closes the integer block if one is open, and opens one elsewhere
 abbrev pub marker_word_tests : Context → List ℕ → FaultTests
 marker_word_tests context word = (not (same_bytes word (if context.in_integer_part then closing_word else opening_word)), kinds.BadMarker) ∷ []
 
 abbrev pub marker_tests : Context → Fields → FaultTests
 marker_tests context fields = (is_sos_marker fields, kinds.Sos) ∷ judged_by (marker_word_tests context) (marker_shape fields)
 
--- the column had lines before, and the last line is none of its: the lines of a column stand together
+-- the column has earlier lines, but the last line is not one of them: the lines of a column must be contiguous
 abbrev pub is_split : Context → Draft → List ℕ → Bool
 is_split context earlier column = has_column earlier column && not (option_map_or (same_bytes column) context.last_column false)
 
@@ -48,7 +48,7 @@ vector_tests first line = number_tests (literals_of line.pairs) ++ set_tests fir
 abbrev pub bound_tests : Context → BoundLine → FaultTests
 bound_tests context line = option_map_or (λ literal. number_tests (literal ∷ [])) line.literal [] ++ set_tests context.bounds_set line.set
 
--- a type that is not known says nothing of the number of fields
+-- for an unknown type the number of fields is not checked
 abbrev pub typed_bound_tests : Context → Fields → Option BoundType → FaultTests
 typed_bound_tests context more None = (true, kinds.BadType) ∷ []
 typed_bound_tests context more (Some type) = judged_by (bound_tests context) (bound_shape type more)
@@ -57,8 +57,8 @@ abbrev pub bound_line_tests : Context → Fields → FaultTests
 bound_line_tests context [] = []
 bound_line_tests context (letters ∷ more) = typed_bound_tests context more (bound_type letters)
 
--- a data line under NAME, before any header, or under an OBJSENSE or OBJNAME that has its word. The word of OBJNAME is not
--- judged
+-- a data line under NAME, before any header, or under an OBJSENSE or OBJNAME that has its word; the word of OBJNAME is not
+-- checked
 abbrev pub data_tests : Context → Draft → Fields → Option Section → FaultTests
 data_tests context earlier fields (Some ObjSense) = (not (is_some context.word_due), kinds.SectionOrder) ∷ judged_by word_tests (word_shape fields)
 data_tests context earlier fields (Some ObjName) = (not (is_some context.word_due), kinds.SectionOrder) ∷ judged_by (λ _. []) (word_shape fields)

@@ -52,7 +52,7 @@ pub record Pair : Type 0 where
 abbrev pub pair : List ℕ → List ℕ → Pair
 pair row literal = record { row = row; literal = literal }
 
--- the column, or the name of the set, and the pairs
+-- the column or the set name, and the pairs
 pub record ValuesLine : Type 0 where
   pub name : List ℕ
   pub pairs : List Pair
@@ -71,7 +71,7 @@ abbrev pub third_field : Fields → Option (List ℕ)
 third_field (_ ∷ _ ∷ third ∷ _) = Some third
 third_field _ = None
 
--- the word of a line of three fields: of a marker line, what it opens or closes
+-- the word of a line of three fields; in a marker line it opens or closes an integer block
 abbrev pub marker_shape : Fields → Option (List ℕ)
 marker_shape (_ ∷ _ ∷ word ∷ []) = Some word
 marker_shape _ = None

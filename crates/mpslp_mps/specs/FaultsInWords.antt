@@ -1,4 +1,4 @@
--- Faults of MPS text that look beyond their line, in the words of the format: what such a line is beside the lines before it. Nothing here goes from line to line.
+-- Errors of MPS text that depend on other lines, each defined by the line and all lines before it.
 use Rattle.std.specs.Prelude.{◌≡◌, ℕ, ◌+◌, ◌-◌, ◌^◌, min, nat_lt, Bool, true, false, ◌&&◌, ◌||◌, not, List, [], ◌∷◌, ◌++◌, length, map, filter_map, Option, Some, None, if◌then◌else◌, codes}
 use Rattle.std.specs.List.{list_any, flat_map}
 use Rattle.std.specs.Option.{option_map, option_map_or}
@@ -17,15 +17,15 @@ use Rattle.mpslp_mps.specs.TextInWords.{section_rank, takes_data, words_in, has_
 use Rattle.mpslp_mps.specs.declared.sections.Section.{Section}
 use Rattle.mpslp_mps.specs.declared.sections.Section.TheVariants.{Rows, Columns, Rhs, Ranges, Bounds, EndData, ObjName}
 
--- ---- SectionRepeated: a header whose section has a header before it
+-- ---- SectionRepeated: a header whose section already has a header
 
 abbrev pub repeats_section : List LineContent → LineContent → Bool
 repeats_section before (header keyword more) = option_map_or (has_section before) (section_named keyword) false
 repeats_section before _ = false
 
--- ---- SectionOrder: a header or a data line where it may not stand
+-- ---- SectionOrder: a header or a data line where it is not allowed
 
--- a section that has to stand before this one is missing
+-- a section that must come before this one is missing
 abbrev pub comes_early : List LineContent → Section → Bool
 comes_early before Columns = not (has_section before Rows)
 comes_early before Rhs = not (has_section before Columns)
@@ -34,7 +34,7 @@ comes_early before Bounds = not (has_section before Columns)
 comes_early before EndData = not (has_section before Columns)
 comes_early before _ = false
 
--- a section that has to stand behind this one has begun
+-- a section that must come after this one has begun
 abbrev pub comes_late : List LineContent → Section → Bool
 comes_late before section = list_any (λ other. nat_lt (section_rank section) (section_rank other)) (seen_sections before)
 
@@ -42,15 +42,15 @@ comes_late before section = list_any (λ other. nat_lt (section_rank section) (s
 abbrev pub has_its_word : List LineContent → Section → Bool
 has_its_word before section = is_nonempty (flat_map (λ fields. fields) (words_in section before))
 
--- the last header is that of OBJSENSE or OBJNAME, and the word has not come
+-- the last header is that of OBJSENSE or OBJNAME, and its word is still missing
 abbrev pub is_without_word : List LineContent → Section → Bool
 is_without_word before section = takes_word section && not (has_its_word before section)
 
--- under NAME, or under OBJSENSE or OBJNAME that has its word, no data line may stand
+-- under NAME, or under an OBJSENSE or OBJNAME that has its word, no data line is allowed
 abbrev pub is_closed : List LineContent → Section → Bool
 is_closed before section = not (takes_data section) || (takes_word section && has_its_word before section)
 
--- a data line before the first header may not stand either
+-- nor is a data line before the first header
 abbrev pub stands_out_of_order : List LineContent → LineContent → Bool
 stands_out_of_order before (header keyword more) =
     option_map_or (is_without_word before) (current_section before) false
@@ -67,7 +67,7 @@ abbrev pub is_wrong_marker : List LineContent → LineContent → Bool
 is_wrong_marker before (data_line fields) = is_section Columns (current_section before) && breaks_turn before fields
 is_wrong_marker before _ = false
 
--- ---- SecondSet: a line of RHS, RANGES or BOUNDS with another set name than a line before it in its section
+-- ---- SecondSet: a line of RHS, RANGES or BOUNDS whose set name differs from that of an earlier line in its section
 
 abbrev pub differs_from : List (List ℕ) → List ℕ → Bool
 differs_from sets set = list_any (λ other. not (same_bytes other set)) sets
@@ -85,13 +85,13 @@ abbrev pub is_of_second_set : List LineContent → LineContent → Bool
 is_of_second_set before (data_line fields) = has_second_set before fields (current_section before)
 is_of_second_set before _ = false
 
--- ---- ColumnSplit: a line of COLUMNS with which the lines of a column do not stand together
+-- ---- ColumnSplit: a line of COLUMNS with which the lines of a column are not contiguous
 
 abbrev pub splits_column : List LineContent → LineContent → Bool
 splits_column before (data_line fields) = is_section Columns (current_section before) && not (stand_together (map line_column (data_lines Columns before) ++ line_column fields ∷ []))
 splits_column before _ = false
 
--- ---- rows: those that lines of ROWS name, and `obj` where none is of type N and OBJNAME has no word
+-- ---- rows: those of ROWS, and `obj` if none is of type N and OBJNAME has no word
 
 abbrev pub row_name : Fields → Option (List ℕ)
 row_name fields = option_map (λ line. line.name) (row_shape fields)
@@ -111,17 +111,17 @@ has_default_objective before = not (list_any is_free_row_line (data_lines Rows b
 abbrev pub is_row : List LineContent → List ℕ → Bool
 is_row before name = names_row before name || (has_default_objective before && same_bytes name (codes "obj"))
 
--- ---- DuplicateRow: a line of ROWS whose name a line of ROWS before it has
+-- ---- DuplicateRow: a line of ROWS with the name of an earlier line of ROWS
 
--- or the header of COLUMNS, where the objective is `obj`, and a line of ROWS has this name
+-- or the header of COLUMNS, if the objective is `obj` and a line of ROWS has this name
 abbrev pub repeats_row : List LineContent → LineContent → Bool
 repeats_row before (header keyword more) = is_section Columns (section_named keyword) && (has_default_objective before && names_row before (codes "obj"))
 repeats_row before (data_line fields) = is_section Rows (current_section before) && option_map_or (names_row before) (row_name fields) false
 repeats_row before skipped = false
 
--- ---- UnknownRow: a line of COLUMNS, RHS or RANGES with a row that is none of these
+-- ---- UnknownRow: a line of COLUMNS, RHS or RANGES with an unknown row
 
--- a line of a column, and no marker line
+-- a line of a column, not a marker line
 abbrev pub column_line : Fields → Option ValuesLine
 column_line fields = if is_marker_line fields then None else column_shape fields
 
@@ -131,13 +131,13 @@ pairs_in (Some Rhs) fields = option_map_or (λ line. line.pairs) (vector_shape f
 pairs_in (Some Ranges) fields = option_map_or (λ line. line.pairs) (vector_shape fields) []
 pairs_in _ fields = []
 
--- or the header of COLUMNS, where the word of OBJNAME is the name of no row of type N
+-- or the header of COLUMNS, if no N row has the name that OBJNAME gives
 abbrev pub names_unknown_row : List LineContent → LineContent → Bool
 names_unknown_row before (header keyword more) = is_section Columns (section_named keyword) && not (has_named_objective before)
 names_unknown_row before (data_line fields) = list_any (λ pair. not (is_row before pair.row)) (pairs_in (current_section before) fields)
 names_unknown_row before skipped = false
 
--- ---- UnknownColumn: a line of BOUNDS with a column that no line of COLUMNS has
+-- ---- UnknownColumn: a line of BOUNDS with a column that is not in COLUMNS
 
 abbrev pub bound_column : Fields → Option (List ℕ)
 bound_column [] = None
@@ -150,7 +150,7 @@ abbrev pub names_unknown_column : List LineContent → LineContent → Bool
 names_unknown_column before (data_line fields) = is_section Bounds (current_section before) && option_map_or (λ name. not (names_column before name)) (bound_column fields) false
 names_unknown_column before _ = false
 
--- ---- DuplicateEntry: a line of COLUMNS with a row that it has twice, or that a line before it has with the same column
+-- ---- DuplicateEntry: a line of COLUMNS with a row twice, or with a row that an earlier line of the same column has
 
 abbrev pub has_row_twice : List Pair → Bool
 has_row_twice [] = false
@@ -169,7 +169,7 @@ repeats_entry before _ = false
 
 -- ---- the laws
 
--- The fault stands on a line of the text that is such a line beside those before it.
+-- The error is on a line of the text for which this holds, in terms of the lines before it.
 pub record StandsOn (is_such : List LineContent → LineContent → Bool) (bytes : List ℕ) (fault : Fault) : Type 0 where
   pub before : List (List ℕ)
   pub line : List ℕ
@@ -178,6 +178,6 @@ pub record StandsOn (is_such : List LineContent → LineContent → Bool) (bytes
   pub number : fault.line ≡ min (length before + 1) (2 ^ 64 - 1)
   pub such : is_such (map content_of before) (content_of line) ≡ true
 
--- A first fault of this kind stands on such a line.
+-- A first error of this kind is on such a line.
 abbrev pub IsInWords : FaultKind → (List LineContent → LineContent → Bool) → Type 0
 IsInWords kind is_such = (bytes : List ℕ) (fault : Fault) → IsFirstMpsFault bytes fault → fault.kind ≡ kind → StandsOn is_such bytes fault

@@ -1,4 +1,4 @@
--- What is known of a text that is fed in pieces, and what a reader keeps of it.
+-- What is known of a text that is read in pieces, and what a reader keeps of it.
 use Rattle.std.specs.Prelude.{◌≡◌, ℕ, ◌+◌, ◌-◌, ◌^◌, min, Bool, false, List, [], length, Option, None, Some}
 use Rattle.std.specs.List.{list_any}
 use Rattle.mpslp_builder.specs.Declaration.{Draft, empty_draft}
@@ -16,22 +16,22 @@ use Rattle.mpslp_mps.specs.ReadAnswer.{lines_to_end}
 use Rattle.mpslp_mps.specs.declared.line_reader.LineReader.{LineReader}
 use Rattle.mpslp_mps.specs.declared.sections.Section.TheVariants.{EndData}
 
--- ---- the lines that are complete
+-- ---- complete lines
 
--- the fault of the first of these lines, up to that of ENDATA, that has one
+-- the error of the first of these lines that has one, up to that of ENDATA
 abbrev pub lines_fault : List (List ℕ) → Option Fault
 lines_fault text = first_line_fault 1 (lines_in_context_after [] empty_draft (lines_to_end text))
 
--- This is the fault of the first of these lines that has one.
+-- This is the error of the first of these lines that has one.
 abbrev pub IsFaultOfLines : List (List ℕ) → Fault → Type 0
 IsFaultOfLines text fault = lines_fault text ≡ Some fault
 
--- This is the fault of the first complete line that has one.
+-- This is the error of the first complete line that has one.
 abbrev pub IsFaultOfComplete : List ℕ → Fault → Type 0
 IsFaultOfComplete bytes fault = IsFaultOfLines (complete_lines bytes) fault
 
--- Lines were read from the first on, up to that of ENDATA, and none of these has a fault: they led to this draft and to this
--- context, of which no name is kept after ENDATA, and to the number of the next line.
+-- The lines from the first on, up to that of ENDATA, were read, and none has an error. They led to this draft, to this
+-- context (without its names after ENDATA), and to the number of the next line.
 pub record LedTo (text : List (List ℕ)) (context : Context) (earlier : Draft) (number : ℕ) : Type 0 where
   pub clean : lines_fault text ≡ None
   pub context_is : context ≡ kept_context (context_from (context_of []) (lines_to_end text))
@@ -46,7 +46,7 @@ HasRead reader text = LedTo text reader.context reader.builder reader.number
 abbrev pub is_ended : LineReader → Bool
 is_ended reader = is_section EndData reader.context.section
 
--- These bytes were fed, and none of them was refused.
+-- These bytes were read, and none was rejected.
 abbrev pub IsFedAll : Option (PieceReader LineReader) → List ℕ → Type 0
 IsFedAll None bytes = ⊥
 IsFedAll (Some reader) bytes = IsFed HasRead is_ended reader bytes

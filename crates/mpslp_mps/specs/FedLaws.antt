@@ -1,4 +1,4 @@
--- Laws of a reader that is fed MPS text in pieces. They stand here since its `impl` cites them.
+-- Laws of a reader of MPS text in pieces. They are in `specs/` because its `impl` cites them.
 use Rattle.std.proofs.Common.{◌≡◌, refl, sym, ap, ◌∙◌, ℕ, ◌+◌, suc, List, [], ◌∷◌, ◌++◌, take, Bool, true, false, cond, arith}
 use Rattle.std.specs.Prelude.{◌||◌, not, is_some, Option, Some, None}
 use Rattle.std.specs.List.{position_or_len, list_any}
@@ -32,9 +32,9 @@ to_end-more line more h =
     ap (λ (b : Bool). take (suc (cond (not b) (1 + position_or_len is_end more) 0)) (line ∷ more)) h
     ∙ ap (λ (n : ℕ). take (suc n) (line ∷ more)) e
 
--- ---- the first fault
+-- ---- the first error
 
--- of a line, or of those behind it
+-- of a line, or of those after it
 stays-behind : (own : Option Fault) (rest later : Option Fault) (fault : Fault) → (rest ≡ Some fault → later ≡ Some fault)
     → option_or own rest ≡ Some fault → option_or own later ≡ Some fault
 stays-behind None rest later fault on h = on h
@@ -71,23 +71,23 @@ first_fault-stays (line ∷ text) more n before earlier fault h =
     of_more : List (List ℕ) → Option Fault
     of_more read = first_line_fault (n + 1) (lines_in_context_after (before ++ content_of line ∷ []) next read)
 
--- The first fault of some lines is that of more lines.
+-- The first error of some lines is that of more lines.
 pub lines_fault-stays : (text more : List (List ℕ)) (fault : Fault) → lines_fault text ≡ Some fault → lines_fault (text ++ more) ≡ Some fault
 lines_fault-stays text more fault h = first_fault-stays text more 1 [] empty_draft fault h
 
--- Where it is that of all lines, it is that of the text.
+-- If it is that of all lines, it is that of the text.
 pub lines_fault-is_first : (bytes : List ℕ) (fault : Fault) → IsFaultOfLines (lines bytes) fault → IsFirstMpsFault bytes fault
 lines_fault-is_first bytes fault h = ap (λ (o : Option Fault). option_or o (whole_mps_fault bytes)) h
 
--- The first fault of the lines that are complete is that of the whole text, whatever follows.
+-- The first error of the complete lines is that of the whole text, whatever follows.
 pub complete-is_first : (bytes more : List ℕ) (fault : Fault) → IsFaultOfComplete bytes fault → IsFirstMpsFault (bytes ++ more) fault
 complete-is_first bytes more fault h =
     ap (λ (o : Option Fault). option_or o (whole_mps_fault (bytes ++ more)))
     (ap lines_fault (lines-more bytes more) ∙ lines_fault-stays (complete_lines bytes) (lines (open_tail bytes ++ more)) fault h)
 
--- ---- lines behind that of ENDATA
+-- ---- lines after that of ENDATA
 
--- of lines with one none behind them is read
+-- if one of the lines is that of ENDATA, no line after them is read
 ended-more : (xs ys : List (List ℕ)) → list_any is_end xs ≡ true → lines_to_end (xs ++ ys) ≡ lines_to_end xs
 ended-more [] ys h = cc
 ended-more (line ∷ xs) ys h =
@@ -111,12 +111,12 @@ read-behind_end reader text more led at_end =
 
 -- ---- a reader
 
--- A reader that was fed bytes still reads.
+-- A reader that has read bytes still reads.
 pub fed-works : (reader : Option (PieceReader LineReader)) (bytes : List ℕ) → IsFedAll reader bytes → not (is_some reader) ≡ false
 fed-works None bytes h = absurd h
 fed-works (Some reader) bytes h = refl
 
--- No line that is complete in the bytes that it was fed has a fault.
+-- No complete line of the bytes that were read has an error.
 pub fed-is_clean : (reader : Option (PieceReader LineReader)) (bytes : List ℕ) (fault : Fault) → IsFedAll reader bytes → IsFaultOfComplete bytes fault → ⊥
 fed-is_clean None bytes fault h found = h
 fed-is_clean (Some reader) bytes fault h found = let both : None ≡ Some fault = sym h.complete.clean ∙ found in cc

@@ -1,4 +1,4 @@
--- The faults of pairs and set names.
+-- The errors of pairs and set names.
 use Rattle.std.specs.Prelude.{ℕ, false, not, List, [], ◌∷◌, map, Option}
 use Rattle.std.specs.Option.{option_map_or}
 use Rattle.mpslp_types.specs.Name.{same_bytes}

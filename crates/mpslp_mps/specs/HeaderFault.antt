@@ -1,4 +1,4 @@
--- The faults of a header, after the lines before it.
+-- The errors of a header, after the lines before it.
 use Rattle.std.specs.Prelude.{ℕ, Bool, true, ◌||◌, ◌&&◌, not, List, [], ◌∷◌, Option, Some, None, is_some, is_none, if◌then◌else◌, codes}
 use Rattle.mpslp_types.specs.Name.{is_one_of}
 use Rattle.mpslp_builder.specs.Declaration.{Draft}
@@ -13,7 +13,7 @@ use Rattle.mpslp_lines.specs.FaultTests.{FaultTests}
 use Rattle.mpslp_mps.specs.declared.sections.Section.{Section}
 use Rattle.mpslp_mps.specs.declared.sections.Section.TheVariants.{Name, ObjSense, ObjName, Rows, Columns}
 
--- a header that begins no section of this profile
+-- a header that is not a section of this profile
 abbrev pub unknown_section : List ℕ → FaultKind
 unknown_section keyword =
     if is_one_of (codes "QSECTION" ∷ codes "QMATRIX" ∷ codes "QUADOBJ" ∷ codes "QCMATRIX" ∷ codes "CSECTION" ∷ []) keyword then kinds.Quadratic
@@ -29,7 +29,7 @@ may_begin context Rows = true
 may_begin context Columns = has context.sections_seen Rows
 may_begin context _ = has context.sections_seen Columns
 
--- a header while a word is wanted, and a section out of order
+-- a header before a missing word, and a section out of order
 abbrev pub is_out_of_order : Context → Section → Bool
 is_out_of_order context section = is_some context.word_due || not (has context.sections_seen section || may_begin context section)
 
@@ -45,11 +45,11 @@ may_follow _ more = not (is_nonempty more)
 abbrev pub word_tests : List ℕ → FaultTests
 word_tests word = (is_none (sense_of word), kinds.BadType) ∷ []
 
--- OBJNAME tells the name of the objective, and no row of type N before has it
+-- OBJNAME names the objective, but no N row before has that name
 abbrev pub lacks_objective : Context → Draft → Bool
 lacks_objective context earlier = is_none earlier.objective && is_some context.objname
 
--- the word of OBJSENSE, and the objective that OBJNAME names, which ROWS has to have
+-- the word of OBJSENSE, and the objective that OBJNAME names, which must be in ROWS
 abbrev pub section_tests : Context → Draft → Section → Fields → FaultTests
 section_tests context earlier ObjSense (word ∷ _) = word_tests word
 section_tests context earlier Columns more = (lacks_objective context earlier, kinds.UnknownRow) ∷ []

@@ -9,11 +9,11 @@ use Rattle.mpslp_mps.specs.Context.{Context}
 use Rattle.mpslp_mps.specs.LineDeclarations.{is_integer_type, is_semi_type}
 use Rattle.mpslp_mps.specs.declared.bound_types.BoundType.{BoundType}
 
--- a line of a column that is semi-continuous, in an integer part
+-- a line of a semi-continuous column in an integer block
 abbrev pub column_clash : Context → Draft → Fields → Bool
 column_clash context earlier fields = context.in_integer_part && option_map_or (λ line. is_semi earlier line.name) (column_shape fields) false
 
--- a bound that makes its column integer or semi-continuous, where the column is of the other kind
+-- a bound that makes a semi-continuous column integer, or an integer column semi-continuous
 abbrev pub type_clash : Draft → BoundType → List ℕ → Bool
 type_clash earlier type column = (is_integer_type type && is_semi earlier column) || (is_semi_type type && is_integer earlier column)
 

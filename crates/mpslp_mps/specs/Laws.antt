@@ -6,22 +6,22 @@ use Rattle.mpslp_mps.specs.MpsText.{is_mps_text, DeclaresMps}
 use Rattle.mpslp_mps.specs.TextInWords.{is_text_in_words}
 use Rattle.mpslp_mps.specs.FirstFault.{IsFirstMpsFault}
 
--- Two models that the same bytes declare are one.
+-- Two models that the same bytes declare are equal.
 abbrev pub DeclareOneModel : Type 0
 DeclareOneModel = (bytes : List ℕ) (m n : LinearModel) → DeclaresMps bytes m → DeclaresMps bytes n → m ≡ n
 
--- Two first faults of the same bytes are one.
+-- Two first errors of the same bytes are equal.
 abbrev pub HaveOneFirstFault : Type 0
 HaveOneFirstFault = (bytes : List ℕ) (a b : Fault) → IsFirstMpsFault bytes a → IsFirstMpsFault bytes b → a ≡ b
 
--- No bytes both declare a model and have a first fault.
+-- No bytes both declare a model and have a first error.
 abbrev pub DeclareOrFail : Type 0
 DeclareOrFail = (bytes : List ℕ) (m : LinearModel) (fault : Fault) → DeclaresMps bytes m → IsFirstMpsFault bytes fault → ⊥
 
--- Bytes that have no first fault declare a model.
+-- Bytes without a first error declare a model.
 abbrev pub DeclareUnlessFaulty : Type 0
 DeclareUnlessFaulty = (bytes : List ℕ) → ((fault : Fault) → IsFirstMpsFault bytes fault → ⊥) → (m : LinearModel) × DeclaresMps bytes m
 
--- MPS text, and nothing else, is text in the words of the format.
+-- Bytes are MPS text if and only if they are MPS text in the sense of `TextInWords`.
 abbrev pub TextIsInWords : Type 0
 TextIsInWords = (bytes : List ℕ) → is_mps_text bytes ≡ is_text_in_words bytes

@@ -7,11 +7,11 @@ use Rattle.mpslp_lines.specs.LegalLine.{has_legal_length, is_legal_byte}
 abbrev pub Fields : Type 0
 Fields = List (List ℕ)
 
--- a blank or a tab
+-- a space or a tab
 abbrev pub is_blank : ℕ → Bool
 is_blank byte = byte == 32 || byte == 9
 
--- what stands between runs of blanks and tabs
+-- the parts between runs of spaces and tabs
 abbrev pub fields : List ℕ → Fields
 fields line = filter (λ run. nat_lt 0 (length run)) (slice_split is_blank line)
 
@@ -23,24 +23,24 @@ begins_with test (byte ∷ _) = test byte
 abbrev pub is_comment : List ℕ → Bool
 is_comment line = begins_with (λ byte. byte == 42) line
 
--- a comment, or nothing but blanks and tabs
+-- a comment, or only spaces and tabs
 abbrev pub is_skipped : List ℕ → Bool
 is_skipped line = is_comment line || list_all is_blank line
 
--- a data line begins with a blank or tab; any other line that is not skipped is a header
+-- a data line begins with a space or tab; any other line that is not skipped is a header
 abbrev pub is_data : List ℕ → Bool
 is_data line = begins_with is_blank line
 
--- what of a line stands outside comments: a comment may hold any bytes
+-- the part of a line outside comments; a comment may contain any bytes
 abbrev pub outside_comment : List ℕ → List ℕ
 outside_comment line = if is_comment line then [] else line
 
 abbrev pub is_legal_line : List ℕ → Bool
 is_legal_line line = has_legal_length line && list_all is_legal_byte (outside_comment line)
 
--- ---- what is read of a line
+-- ---- the content of a line
 
--- a header is its keyword and what follows
+-- a header is its keyword and the fields after it
 pub data LineContent : Type 0 where
   skipped : LineContent
   header : List ℕ → Fields → LineContent

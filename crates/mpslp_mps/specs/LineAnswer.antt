@@ -1,4 +1,4 @@
--- What the code answers of what is read of a line.
+-- What the code returns for the content of a line.
 use Rattle.std.specs.Prelude.{◌≡◌, Option, None, MatchResult}
 use Rattle.mpslp_builder.specs.Declaration.{Draft, with_declarations}
 use Rattle.mpslp_types.specs.declared.faults.FaultKind.{FaultKind}
@@ -10,11 +10,11 @@ use Rattle.mpslp_mps.specs.NextContext.{next_context}
 use Rattle.mpslp_mps.specs.LineDeclarations.{line_declares}
 use Rattle.mpslp_mps.specs.LineFault.{item_tests}
 
--- the fault of a line of legal bytes, of which the item is read
+-- the error of a line of legal bytes with this content
 abbrev pub item_fault : Context → Draft → LineContent → Option FaultKind
 item_fault context earlier item = first_fault (item_tests context earlier item) earlier (line_declares context earlier item)
 
--- An item is read where it has no fault, and then context and draft are those after it.
+-- A line without an error is read, and then context and draft are those after it.
 abbrev pub ReadsContent : Context → Draft → LineContent → LineResult → Context → Draft → Type 0
 ReadsContent context earlier item answer next later =
     MatchResult answer (λ _. (item_fault context earlier item ≡ None) × (next ≡ next_context context item) × (later ≡ with_declarations earlier (line_declares context earlier item)))

@@ -22,7 +22,7 @@ use Rattle.mpslp_mps.specs.declared.sections.Section.TheVariants.{ObjSense, Rows
 use Rattle.mpslp_mps.specs.declared.bound_types.BoundType.{BoundType}
 use Rattle.mpslp_mps.specs.declared.bound_types.BoundType.TheVariants as bounds
 
--- what is declared of what is there
+-- what an optional value declares, if it is present
 abbrev pub declared_if_some : {X : Type 0} → (X → Declarations) → Option X → Declarations
 declared_if_some declares found = option_map_or declares found []
 
@@ -33,11 +33,11 @@ sense_declared word = declared_if_some (λ sense. declare_sense sense ∷ []) (s
 
 -- ---- ROWS
 
--- the first row of type N is the objective; where OBJNAME tells a name, the first one of that name
+-- the first N row is the objective; if OBJNAME gives a name, the first N row of that name
 abbrev pub is_new_objective : Context → Draft → List ℕ → Bool
 is_new_objective context earlier name = is_none earlier.objective && option_map_or (same_bytes name) context.objname true
 
--- each other row of type N is a row without limits
+-- each other N row is a row without limits
 abbrev pub row_of_type : Context → Draft → List ℕ → RowType → Declarations
 row_of_type context earlier name Free = if is_new_objective context earlier name then declare_objective name ∷ [] else declare_row name (by_type Free) ∷ []
 row_of_type context earlier name type = declare_row name (by_type type) ∷ []
@@ -45,7 +45,7 @@ row_of_type context earlier name type = declare_row name (by_type type) ∷ []
 abbrev pub row_declared : Context → Draft → RowLine → Declarations
 row_declared context earlier line = declared_if_some (row_of_type context earlier line.name) (row_type line.letter)
 
--- where no row of type N was declared, and OBJNAME named none, the objective is `obj`
+-- if no N row was declared, and OBJNAME has named none, the objective is `obj`
 abbrev pub default_objective : Context → Draft → Declarations
 default_objective context earlier = if is_none earlier.objective && is_none context.objname then declare_objective (codes "obj") ∷ [] else []
 
@@ -54,7 +54,7 @@ default_objective context earlier = if is_none earlier.objective && is_none cont
 abbrev pub coefficient_declared : List ℕ → Pair → Declarations
 coefficient_declared column pair = declare_coefficient (record { row = pair.row; column = column }) (value_of pair.literal) ∷ []
 
--- a column whose lines stand in an integer part is marked
+-- a column with lines in an integer block is marked
 abbrev pub column_declared : Context → ValuesLine → Declarations
 column_declared context line =
     declare_column line.name
@@ -66,7 +66,7 @@ columns_line_declared context fields = if is_marker_line fields then [] else dec
 
 -- ---- RHS and RANGES
 
--- of the objective, the negative of its constant; of another row of type N, nothing
+-- for the objective, the negative of its constant; for another N row, nothing
 abbrev pub rhs_line_declared : Draft → ValuesLine → Declarations
 rhs_line_declared earlier line = flat_map (λ pair. rhs_declared earlier pair.row (value_of pair.literal)) line.pairs
 
@@ -75,7 +75,7 @@ ranges_declared line = map (λ pair. declare_range pair.row (value_of pair.liter
 
 -- ---- BOUNDS
 
--- the lower and the upper side that a bound of this type gives a column, at a value where it takes one
+-- the lower and the upper bound that a line of this type declares, with its value if the type takes one
 abbrev pub lower_given : BoundType → Limit → Option Limit
 lower_given bounds.Lower value = Some value
 lower_given bounds.Upper value = None
@@ -100,7 +100,7 @@ upper_given bounds.IntegerLower value = None
 upper_given bounds.IntegerUpper value = Some value
 upper_given bounds.SemiUpper value = Some value
 
--- and whether its column is integer, or semi-continuous
+-- whether the type declares the column integer, or semi-continuous
 abbrev pub is_integer_type : BoundType → Bool
 is_integer_type bounds.Binary = true
 is_integer_type bounds.IntegerLower = true
@@ -114,11 +114,11 @@ is_semi_type _ = false
 abbrev pub kind_declared : BoundType → List ℕ → Declarations
 kind_declared type column = when (is_integer_type type) (declare_integer column) ++ when (is_semi_type type) (declare_semi column)
 
--- what a bound of this type declares of a column: that it is integer or semi-continuous, then its sides
+-- what a bound of this type declares of a column: that it is integer or semi-continuous, then its bounds
 abbrev pub bound_declared : BoundType → List ℕ → Limit → Declarations
 bound_declared type column value = kind_declared type column ++ bounds_declared column (lower_given type value) (upper_given type value)
 
--- a value of size 10^20 or more is infinite
+-- a value with magnitude 1e20 or more is infinite
 abbrev pub bound_value : BoundLine → Limit
 bound_value line = option_map_or (λ literal. limit_of (value_of literal)) line.literal zero_limit
 
@@ -138,13 +138,13 @@ data_declared context earlier fields (Some Ranges) = declared_if_some ranges_dec
 data_declared context earlier fields (Some Bounds) = bound_line_declared fields
 data_declared context earlier fields _ = []
 
--- the rest of a header's line is the sense under OBJSENSE, and nothing elsewhere
+-- the rest of a header line is the sense under OBJSENSE, and declares nothing elsewhere
 abbrev pub header_declared : Context → Draft → Fields → Option Section → Declarations
 header_declared context earlier more (Some ObjSense) = declared_if_some sense_declared (word_shape more)
 header_declared context earlier more (Some Columns) = default_objective context earlier
 header_declared context earlier more _ = []
 
--- what a line declares, where the lines before it say `context` and declare `earlier`
+-- what a line declares in this context, after the draft `earlier`
 abbrev pub line_declares : Context → Draft → LineContent → Declarations
 line_declares context earlier skipped = []
 line_declares context earlier (header keyword more) = header_declared context earlier more (section_named keyword)

@@ -1,4 +1,4 @@
--- What a line of COLUMNS, RHS or RANGES says where it has no fault: its name, and its rows with their values.
+-- What a line of COLUMNS, RHS or RANGES without an error gives: its name, and its rows with their values.
 use Rattle.std.specs.Prelude.{ℕ, map, List}
 use Rattle.mpslp_decimal.specs.Decimal.{Number}
 use Rattle.mpslp_lines.specs.Field.{value_of}

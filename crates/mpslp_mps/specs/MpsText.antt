@@ -19,7 +19,7 @@ use Rattle.mpslp_mps.specs.declared.sections.Section.TheVariants.{EndData}
 abbrev pub is_end : List ℕ → Bool
 is_end line = begins EndData (content_of line)
 
--- the lines up to that of ENDATA, which end by a line feed, or a carriage return and a line feed
+-- the lines up to that of ENDATA; a line ends with LF or CRLF
 abbrev pub read_lines : List ℕ → List (List ℕ)
 read_lines bytes = take (suc (position_or_len is_end (lines bytes))) (lines bytes)
 
@@ -28,7 +28,7 @@ has_end bytes = list_any is_end (lines bytes)
 
 -- ---- each line after those before it
 
--- a line, with what the lines before it say and declare
+-- a line, with its context and what the lines before it declare
 pub record LineInContext : Type 0 where
   pub context : Context
   pub earlier : Draft
@@ -44,7 +44,7 @@ tests_at placed = line_tests placed.context placed.earlier placed.line
 abbrev pub is_well_formed : LineInContext → Bool
 is_well_formed placed = not (is_nonempty (those_of (tests_at placed)))
 
--- lines that follow these, which declared `earlier`
+-- lines after these, which declared `earlier`
 abbrev pub lines_in_context_after : List LineContent → Draft → List (List ℕ) → List LineInContext
 lines_in_context_after before earlier [] = []
 lines_in_context_after before earlier (line ∷ more) =
@@ -59,7 +59,7 @@ lines_in_context bytes = lines_in_context_after [] empty_draft (read_lines bytes
 abbrev pub declarations_of : List ℕ → Declarations
 declarations_of bytes = flat_map declared_at (lines_in_context bytes)
 
--- there is an ENDATA, and each line has a good form where it stands
+-- there is an ENDATA, and each line is well-formed after the lines before it
 abbrev pub is_mps_text : List ℕ → Bool
 is_mps_text bytes = has_end bytes && list_all is_well_formed (lines_in_context bytes)
 

@@ -1,4 +1,4 @@
--- The context after one line more, from the context before it: what a reader keeps in place of the lines.
+-- The context after one more line, from the context before it: what a reader keeps instead of the lines.
 use Rattle.std.specs.Prelude.{ℕ, Bool, List, [], ◌++◌, Option, None, if◌then◌else◌}
 use Rattle.std.specs.List.{cons_option}
 use Rattle.std.specs.Option.{option_map_or, option_or}
@@ -10,16 +10,16 @@ use Rattle.mpslp_mps.specs.Context.{is_read, word_due_after, objname_word, marke
 use Rattle.mpslp_mps.specs.declared.sections.Section.{Section}
 use Rattle.mpslp_mps.specs.declared.sections.Section.TheVariants.{Columns, Rhs, Ranges, Bounds, EndData}
 
--- what a data line of the section changes a reading to
+-- how a data line of the section changes a part of the context
 abbrev pub changed_under : {X : Type 0} → Section → Option Section → (Fields → X → X) → LineContent → X → X
 changed_under section current change (data_line fields) old = if is_section section current then change fields old else old
 changed_under section current change _ old = old
 
--- a marker line opens or closes the integer part
+-- a marker line opens or closes an integer block
 abbrev pub next_part : Fields → Bool → Bool
 next_part fields old = option_map_or (same_bytes opening_word) (marker_word fields) old
 
--- the first line of a section tells its set name
+-- the first line of a section gives its set name
 abbrev pub next_set : (Fields → Option (List ℕ)) → Fields → Option (List ℕ) → Option (List ℕ)
 next_set set_of fields old = option_or old (set_of fields)
 
@@ -36,7 +36,7 @@ next_context c item = record {
   bounds_set = changed_under Bounds c.section (next_set bound_set) item c.bounds_set;
 }
 
--- no name that a later line is compared with
+-- without the names with which later lines are compared
 abbrev pub without_names : Context → Context
 without_names c = record c { objname = None; last_column = None; rhs_set = None; ranges_set = None; bounds_set = None }
 

@@ -6,7 +6,7 @@ use Rattle.mpslp_mps.specs.Line.{LineContent, header}
 use Rattle.mpslp_mps.specs.declared.sections.Section.{Section}
 use Rattle.mpslp_mps.specs.declared.sections.Section.TheVariants.{Name, ObjSense, ObjName, Rows, Columns, Rhs, Ranges, Bounds, EndData}
 
--- upper case alone
+-- only upper case
 abbrev pub keyword_of : Section → List ℕ
 keyword_of Name = codes "NAME"
 keyword_of ObjSense = codes "OBJSENSE"

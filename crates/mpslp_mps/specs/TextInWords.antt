@@ -1,4 +1,4 @@
--- MPS text in the words of the format: which headers there are, and what the lines of each section are together. Nothing here judges a line after those before it.
+-- MPS text defined as a whole: which headers there are, and what the lines of each section are together.
 use Rattle.std.specs.Prelude.{ℕ, Bool, true, false, ◌&&◌, ◌||◌, not, List, [], ◌∷◌, map, filter_map, nat_le, Option, Some, None, is_some, is_ok, if◌then◌else◌}
 use Rattle.std.specs.List.{list_any, list_all, flat_map}
 use Rattle.std.specs.Option.{option_map_or}
@@ -36,7 +36,7 @@ in_order (section ∷ later) = list_all (λ other. nat_le (section_rank section)
 abbrev pub same_section : Section → Section → Bool
 same_section a b = is_section a (Some b)
 
--- no section stands twice
+-- no section appears twice
 abbrev pub are_good_sections : List Section → Bool
 are_good_sections sections = in_order sections && are_distinct same_section sections
 
@@ -46,16 +46,16 @@ may_have_more ObjSense = true
 may_have_more ObjName = true
 may_have_more _ = false
 
--- each header is one of a section; those of NAME, OBJSENSE and OBJNAME alone may have more than their keyword
+-- each header is that of a section; only those of NAME, OBJSENSE and OBJNAME may have more than their keyword
 abbrev pub is_good_header : LineContent → Bool
 is_good_header (header keyword more) = option_map_or (λ section. may_have_more section || not (is_nonempty more)) (section_named keyword) false
 is_good_header _ = true
 
--- ROWS and COLUMNS must stand
+-- ROWS and COLUMNS are required
 abbrev pub has_good_headers : List LineContent → Bool
 has_good_headers items = list_all is_good_header items && (are_good_sections (seen_sections items) && (has_section items Rows && has_section items Columns))
 
--- ---- no data line stands before the first header, nor under NAME
+-- ---- no data line comes before the first header or under NAME
 
 abbrev pub takes_data : Section → Bool
 takes_data Name = false
@@ -71,7 +71,7 @@ stray_lines items = said_after strays None items
 
 -- ---- OBJSENSE and OBJNAME: one word, on the header or on its one data line
 
--- the fields behind the keyword, and those of each data line of the section
+-- the fields after the keyword, and those of each data line of the section
 abbrev pub word_fields : Section → Option Section → LineContent → List Fields
 word_fields section current (header keyword more) = when (is_section section (section_named keyword)) more
 word_fields section current (data_line fields) = when (is_section section current) fields
@@ -129,7 +129,7 @@ is_columns_line fields =
 abbrev pub is_vector_line : Fields → Bool
 is_vector_line fields = option_map_or (λ line. have_numbers line.pairs) (vector_shape fields) false
 
--- a data line has fields, so the first case is none
+-- a data line has at least one field, so the first case does not occur
 abbrev pub is_bound_line : Fields → Bool
 is_bound_line [] = true
 is_bound_line (letters ∷ more) =
@@ -142,7 +142,7 @@ have_good_fields items =
     && (list_all is_vector_line (data_lines Rhs items)
     && (list_all is_vector_line (data_lines Ranges items) && list_all is_bound_line (data_lines Bounds items))))
 
--- ---- markers: the first opens an integer part, the second closes it, and so on
+-- ---- markers: the first opens an integer block, the second closes it, and so on
 
 abbrev pub alternate : List ℕ → List ℕ → List (List ℕ) → Bool
 alternate word other [] = true
@@ -151,14 +151,14 @@ alternate word other (first ∷ more) = same_bytes first word && alternate other
 abbrev pub has_good_markers : List LineContent → Bool
 has_good_markers items = alternate opening_word closing_word (filter_map marker_word (data_lines Columns items))
 
--- ---- all lines of a column stand together, and no marker line between them
+-- ---- all lines of a column are contiguous, without a marker line between them
 
--- a marker line is of no column
+-- a marker line has no column
 abbrev pub same_column : Option (List ℕ) → Option (List ℕ) → Bool
 same_column (Some a) (Some b) = same_bytes a b
 same_column _ _ = false
 
--- what is left behind the lines of the column that come first
+-- the rest after the first lines, which are those of the column
 abbrev pub entries_after : Option (List ℕ) → List (Option (List ℕ)) → List (Option (List ℕ))
 entries_after column [] = []
 entries_after column (next ∷ more) = if same_column column next then entries_after column more else next ∷ more
@@ -170,7 +170,7 @@ stand_together (column ∷ more) = not (list_any (same_column column) (entries_a
 abbrev pub has_whole_columns : List LineContent → Bool
 has_whole_columns items = stand_together (map line_column (data_lines Columns items))
 
--- ---- one set a section
+-- ---- one set name for each section
 
 abbrev pub is_one_set : List (List ℕ) → Bool
 is_one_set [] = true

@@ -1,17 +1,17 @@
--- What lines of RHS and RANGES declare, by their rows and values.
+-- What lines of RHS and RANGES declare, in terms of their rows and values.
 use Rattle.std.specs.Prelude.{◌≡◌, ℕ, true, false, List, map, None}
 use Rattle.std.specs.List.{flat_map}
 use Rattle.mpslp_decimal.specs.Decimal.{Number}
 use Rattle.mpslp_builder.specs.Declaration.{declare_range, Declarations, Draft, has_name, has_row, is_free_row, rhs_declared}
 
--- the right sides of rows with values, and their ranges
+-- the right-hand sides of rows, and their ranges
 abbrev pub rhs_values_declared : Draft → List (List ℕ × Number) → Declarations
 rhs_values_declared earlier values = flat_map (λ value. rhs_declared earlier value.0 value.1) values
 
 abbrev pub ranges_of : List (List ℕ × Number) → Declarations
 ranges_of values = map (λ value. declare_range value.0 value.1) values
 
--- Right sides as lines of MPS text declare them: of rows that are there and not of type N. Constants are not declared.
+-- Right-hand sides as MPS text declares them: only of declared rows that are not of type N. Constants are not declared.
 pub record HasMpsSides (all : Draft) : Type 0 where
   pub known : (row : List ℕ) → has_name all.rhs_values row ≡ true → has_row all row ≡ true
   pub limited : (row : List ℕ) → is_free_row all row ≡ true → has_name all.rhs_values row ≡ false

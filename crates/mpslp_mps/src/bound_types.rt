@@ -1,6 +1,6 @@
 //! The types of bounds.
 
-/// The type of a line of BOUNDS, which says what the line declares of its column.
+/// The type of a line of BOUNDS: what the line declares of its column.
 #[derive(Clone, Copy, Debug, PartialEq, Eq)]
 pub enum BoundType {
     /// `LO`: the lower bound.
@@ -9,11 +9,11 @@ pub enum BoundType {
     Upper,
     /// `FX`: both bounds, the same value.
     Fixed,
-    /// `FR`: no bound on either side.
+    /// `FR`: no bounds.
     Free,
-    /// `MI`: no lower bound; the upper one is left alone.
+    /// `MI`: no lower bound; the upper bound is unchanged.
     NoLower,
-    /// `PL`: no upper bound.
+    /// `PL`: no upper bound; the lower bound is unchanged.
     NoUpper,
     /// `BV`: an integer column from 0 to 1.
     Binary,
@@ -21,6 +21,6 @@ pub enum BoundType {
     IntegerLower,
     /// `UI`: an integer column, and its upper bound.
     IntegerUpper,
-    /// `SC`: a semi-continuous column, which is 0 or lies within its bounds, and its upper bound.
+    /// `SC`: a semi-continuous column, which is 0 or within its bounds, and its upper bound.
     SemiUpper,
 }

@@ -21,14 +21,14 @@ use mpslp_decimal::Decimal;
 use mpslp_lines::LineError;
 use mpslp_model::{Builder, FaultKind, Limit};
 
-/// The side of 0.
+/// A bound of 0.
 fn zero_limit() -> Limit
     ensures { result ≡ zero_limit }
 {
     Limit::Finite(Decimal::zero())
 }
 
-/// The side of 1.
+/// A bound of 1.
 fn one_limit() -> Limit
     ensures { result ≡ one_limit }
 {
@@ -38,7 +38,7 @@ fn one_limit() -> Limit
     }
 }
 
-/// The side that a bound's value stands for; 0 where the bound has no value.
+/// The bound that a value gives, 0 if the line has no value.
 fn bound_value_or_zero(value: Option<Decimal>) -> Limit
     ensures value { result ≡ option_map_or limit_of value zero_limit }
     ensures given { IsTrue (is_given result) }
@@ -49,7 +49,7 @@ fn bound_value_or_zero(value: Option<Decimal>) -> Limit
     }
 }
 
-/// The lower and the upper side that a bound of this type declares.
+/// The lower and the upper bound that a line of this type declares.
 fn bounds_of_type(bound_type: BoundType, value: &Limit) -> (Option<Limit>, Option<Limit>)
     requires { IsTrue (is_given value.now) }
     ensures lower { result.0 ≡ lower_given bound_type value.now }
@@ -68,7 +68,7 @@ fn bounds_of_type(bound_type: BoundType, value: &Limit) -> (Option<Limit>, Optio
     }
 }
 
-/// The fault that the sides of a column that are given, of which there is one at least, would have now, if they have one.
+/// The error, if any, of declaring these bounds of a column. At least one is given.
 fn check_bounds_given(
     builder: &Builder,
     column: &[u8],
@@ -83,7 +83,7 @@ fn check_bounds_given(
     Ok(())
 }
 
-/// Declares the sides of a column that are given, of which there is one at least.
+/// Declares the bounds of a column that are given, at least one.
 fn declare_bounds_given(
     builder: &mut Builder,
     column: &[u8],
@@ -99,7 +99,7 @@ fn declare_bounds_given(
     Ok(())
 }
 
-/// Whether a bound of this type declares that its column is integer.
+/// Whether a line of this type declares its column integer.
 fn is_integer_type(bound_type: BoundType) -> bool
     ensures { result ≡ is_integer_type bound_type }
 {
@@ -109,7 +109,7 @@ fn is_integer_type(bound_type: BoundType) -> bool
     }
 }
 
-/// Whether a bound of this type declares that its column is semi-continuous.
+/// Whether a line of this type declares its column semi-continuous.
 fn is_semi_type(bound_type: BoundType) -> bool
     ensures { result ≡ is_semi_type bound_type }
 {
@@ -119,7 +119,7 @@ fn is_semi_type(bound_type: BoundType) -> bool
     }
 }
 
-/// Declares that a column is integer, which is not semi-continuous.
+/// Declares a column integer. It must not be semi-continuous.
 fn declare_integer(builder: &mut Builder, column: &[u8]) -> Result<(), LineError>
     requires apart { is_semi builder.old column.now ≡ false }
     ensures { AreDeclared builder.old (declare_integer column.now ∷ []) result builder.new }
@@ -128,7 +128,7 @@ fn declare_integer(builder: &mut Builder, column: &[u8]) -> Result<(), LineError
     Ok(())
 }
 
-/// Declares that a column is semi-continuous, which is not integer.
+/// Declares a column semi-continuous. It must not be integer.
 fn declare_semi(builder: &mut Builder, column: &[u8]) -> Result<(), LineError>
     requires apart { is_integer builder.old column.now ≡ false }
     ensures { AreDeclared builder.old (declare_semi column.now ∷ []) result builder.new }
@@ -137,7 +137,7 @@ fn declare_semi(builder: &mut Builder, column: &[u8]) -> Result<(), LineError>
     Ok(())
 }
 
-/// Declares that a column is integer or semi-continuous, if a bound of this type says so.
+/// Declares a column integer or semi-continuous, if the type says so.
 fn declare_kind(
     builder: &mut Builder,
     bound_type: BoundType,
@@ -155,7 +155,7 @@ fn declare_kind(
     Ok(())
 }
 
-/// Declares what a bound says of its column. The sides are asked for before the kind is declared.
+/// Declares what a line of BOUNDS says of its column. The bounds are checked before the type of the column is declared.
 fn declare_bound(
     builder: &mut Builder,
     bound_type: BoundType,
@@ -173,7 +173,7 @@ fn declare_bound(
     declare_bounds_given(builder, column, lower, upper)
 }
 
-/// Reads a line of BOUNDS that has these fields after its type.
+/// Reads a line of BOUNDS with these fields after its type.
 fn read_typed_bound(
     context: &mut LineContext,
     builder: &mut Builder,

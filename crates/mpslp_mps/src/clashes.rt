@@ -1,6 +1,6 @@
 //! Lines that would make a column both integer and semi-continuous.
 //!
-//! That is told of a line before what is wrong with its name or its numbers, so it is asked before these are read.
+//! This error is reported before an error in a name or a number of the line, so it is checked before these are read.
 
 ghost use Rattle.std.specs.Prelude.{◌≡◌, ◌∷◌, map, false};
 ghost use Rattle.std.specs.Option.{option_map_or};
@@ -17,7 +17,7 @@ use crate::words::bound_type;
 use mpslp_model::laws::each_builder_is_made;
 use mpslp_model::{BuildFault, Builder};
 
-/// Whether the refusal is that of a column of the other kind.
+/// Whether the error is that of a column of the other type.
 fn is_kind_clash(fault: BuildFault) -> bool
     ensures { result ≡ is_kind_clash fault }
 {
@@ -27,7 +27,7 @@ fn is_kind_clash(fault: BuildFault) -> bool
     }
 }
 
-/// Whether the column is declared to be semi-continuous.
+/// Whether the column is semi-continuous.
 fn is_semi(builder: &Builder, column: &[u8]) -> bool
     ensures { result ≡ is_semi builder.now column.now }
 {
@@ -38,7 +38,7 @@ fn is_semi(builder: &Builder, column: &[u8]) -> bool
     }
 }
 
-/// Whether the column is declared to be integer, or marked.
+/// Whether the column is integer or marked.
 fn is_integer(builder: &Builder, column: &[u8]) -> bool
     ensures { result ≡ is_integer builder.now column.now }
 {
@@ -49,7 +49,7 @@ fn is_integer(builder: &Builder, column: &[u8]) -> bool
     }
 }
 
-/// Whether the column of a line of COLUMNS is semi-continuous.
+/// Whether the column of this line of COLUMNS is semi-continuous.
 fn has_semi_column(builder: &Builder, fields: &[&[u8]]) -> bool
     ensures { result ≡ option_map_or (λ line. is_semi builder.now line.name) (column_shape (map (λ field. field.now) fields.now)) false }
 {
@@ -59,14 +59,14 @@ fn has_semi_column(builder: &Builder, fields: &[&[u8]]) -> bool
     }
 }
 
-/// Whether a line of COLUMNS that is no marker line stands in an integer part and is one of a semi-continuous column.
+/// Whether this line of COLUMNS, which is not a marker line, is in an integer block and its column is semi-continuous.
 pub(crate) fn has_column_clash(context: &LineContext, builder: &Builder, fields: &[&[u8]]) -> bool
     ensures { result ≡ column_clash context.now builder.now (map (λ field. field.now) fields.now) }
 {
     context.in_integer_part() && has_semi_column(builder, fields)
 }
 
-/// Whether a bound of this type makes the column integer where it is semi-continuous, or semi-continuous where it is integer.
+/// Whether a bound of this type makes a semi-continuous column integer, or an integer column semi-continuous.
 fn has_type_clash(builder: &Builder, bound_type: BoundType, column: &[u8]) -> bool
     ensures { result ≡ type_clash builder.now bound_type column.now }
 {
@@ -79,7 +79,7 @@ fn has_type_clash(builder: &Builder, bound_type: BoundType, column: &[u8]) -> bo
     }
 }
 
-/// Whether a bound of this type has such fields that it makes its column of both kinds.
+/// Whether a bound of this type, with these fields after it, makes its column both integer and semi-continuous.
 fn has_line_clash(builder: &Builder, bound_type: BoundType, more: &[&[u8]]) -> bool
     ensures { result ≡ option_map_or (λ line. type_clash builder.now bound_type line.column) (bound_shape bound_type (map (λ field. field.now) more.now)) false }
 {
@@ -89,7 +89,7 @@ fn has_line_clash(builder: &Builder, bound_type: BoundType, more: &[&[u8]]) -> b
     }
 }
 
-/// Whether a line of BOUNDS makes its column of both kinds.
+/// Whether a line of BOUNDS makes its column both integer and semi-continuous.
 pub(crate) fn has_bound_clash(builder: &Builder, letters: &[u8], more: &[&[u8]]) -> bool
     ensures { result ≡ bound_clash builder.now (letters.now ∷ map (λ field. field.now) more.now) }
 {

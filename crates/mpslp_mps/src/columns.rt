@@ -50,14 +50,14 @@ fn has_rows(builder: &Builder, values: &RowValues<'_>) -> bool
     }
 }
 
-/// Whether the column has lines before, and the last line is none of its.
+/// Whether the column has earlier lines, but the last line is not one of them.
 fn is_split(context: &LineContext, builder: &Builder, column: &[u8]) -> bool
     ensures { result ≡ is_split context.now builder.now column.now }
 {
     !context.is_last_column(column) && builder.has_column(column)
 }
 
-/// Whether the rows are declared, and the column's lines stand together.
+/// Checks that the rows are declared, and that the lines of the column are contiguous.
 fn check_rows_and_column(
     context: &LineContext,
     builder: &Builder,
@@ -76,7 +76,7 @@ fn check_rows_and_column(
     Ok(())
 }
 
-/// Whether a coefficient of the column is declared already, or both values are of one row.
+/// Whether a coefficient of the column is declared already, or both values are for the same row.
 fn has_duplicate(builder: &Builder, column: &[u8], values: &RowValues<'_>) -> bool
     ensures { result ≡ has_duplicate builder.now column.now values.now }
 {
@@ -104,7 +104,7 @@ fn declare_name(builder: &mut Builder, alloc: Global, column: &[u8]) -> Result<(
     Ok(())
 }
 
-/// Declares that the column stands in an integer part, if it does.
+/// Declares the column marked, if it is in an integer block.
 fn declare_mark(builder: &mut Builder, column: &[u8], is_marked: bool) -> Result<(), LineError>
     requires column { has_column builder.old column.now ≡ true }
     requires apart { (is_marked && is_semi builder.old column.now) ≡ false }
@@ -116,7 +116,7 @@ fn declare_mark(builder: &mut Builder, column: &[u8], is_marked: bool) -> Result
     Ok(())
 }
 
-/// Declares the column of a line, and that it is marked where the line stands in an integer part.
+/// Declares the column of a line, and that it is marked if the line is in an integer block.
 fn declare_column(
     builder: &mut Builder,
     alloc: Global,
@@ -160,15 +160,15 @@ fn declare_values(
     Ok(())
 }
 
-/// Whether the line before was of the column, which is declared.
+/// Whether the line before was of this column, which is declared.
 fn continues_column(context: &LineContext, builder: &Builder, column: &[u8]) -> bool
     ensures { result ≡ true → (is_split context.now builder.now column.now ≡ false) × (has_column builder.now column.now ≡ true) }
 {
     context.is_last_column(column) && builder.has_column(column)
 }
 
-/// Declares a coefficient of a column that goes on, and that the column is marked where it is. The coefficient may be
-/// refused, so it comes first; its row is looked up this once.
+/// Declares a coefficient of the column of the line before, and that the column is marked if it is. The coefficient may be
+/// rejected, so it comes first; this way its row is looked up only once.
 fn declare_in_last_column(
     builder: &mut Builder,
     column: &[u8],
@@ -187,7 +187,7 @@ fn declare_in_last_column(
     Ok(())
 }
 
-/// Reads a line of a column: it is asked for each fault before anything is declared.
+/// Reads a line of a column. Each error is checked before anything is declared.
 fn read_values(
     context: &mut LineContext,
     builder: &mut Builder,

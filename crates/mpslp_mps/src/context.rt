@@ -1,4 +1,4 @@
-//! What the lines before one say of it.
+//! The context of a line: what the lines before it mean for it.
 
 ghost use Rattle.std.specs.Prelude.{◌≡◌, [], true, false, is_some, OnOk};
 ghost use Rattle.std.specs.Option.{option_map, option_map_or};
@@ -14,9 +14,9 @@ use crate::sections::Section;
 use std::alloc::{AllocError, Global};
 use std::marker::Model;
 
-/// What the lines before one say of it. Contracts see it as a `Context`.
+/// The context of a line: what the lines before it mean for it. Contracts see it as a `Context`.
 ///
-/// A call that finds no memory leaves a context that is not to be used any more.
+/// After a call that ran out of memory the context must not be used.
 #[derive(Debug, Drop)]
 pub(crate) struct LineContext {
     alloc: Global,
@@ -50,7 +50,7 @@ impl Model for LineContext {
     } };
 }
 
-/// Whether there is such a name and it has these bytes.
+/// Whether there is a name and it has these bytes.
 fn is_name(name: &Option<Vec<u8>>, bytes: &[u8]) -> bool
     ensures { result ≡ option_map_or (λ known. same_bytes bytes.now known.items) name.now false }
 {
@@ -71,7 +71,7 @@ fn bytes_of(name: &Option<Vec<u8>>) -> Option<&[u8]>
 }
 
 impl LineContext {
-    /// What no lines say.
+    /// The context at the start of a text.
     pub(crate) fn new(alloc: Global) -> LineContext
         ensures { result ≡ context_of [] }
     {
@@ -89,14 +89,14 @@ impl LineContext {
         }
     }
 
-    /// The section that the line stands in.
+    /// The section of the line.
     pub(crate) fn section(&self) -> Option<Section>
         ensures { result ≡ self.now.section }
     {
         self.section
     }
 
-    /// Whether the line of ENDATA has been passed.
+    /// Whether the line of ENDATA has been read.
     pub(crate) fn is_at_end(&self) -> bool
         ensures { result ≡ is_section Section.EndData self.now.section }
     {
@@ -106,7 +106,7 @@ impl LineContext {
         }
     }
 
-    /// Whether the word of a header is to come.
+    /// Whether the word of a bare OBJSENSE or OBJNAME header is still missing.
     pub(crate) fn is_word_due(&self) -> bool
         ensures { result ≡ is_some self.now.word_due }
     {
@@ -120,7 +120,7 @@ impl LineContext {
         self.objname.is_some()
     }
 
-    /// Whether a row of type N of this name may be the objective: it has the name of OBJNAME, or none was told.
+    /// Whether an N row of this name may be the objective: it has the name of OBJNAME, or there is no OBJNAME.
     pub(crate) fn may_name_objective(&self, name: &[u8]) -> bool
         ensures { result ≡ option_map_or (same_bytes name.now) self.now.objname true }
     {
@@ -130,14 +130,14 @@ impl LineContext {
         }
     }
 
-    /// Whether the integer part is open.
+    /// Whether an integer block is open.
     pub(crate) fn in_integer_part(&self) -> bool
         ensures { result ≡ self.now.in_integer_part }
     {
         self.in_integer_part
     }
 
-    /// Whether the last line is one of this column.
+    /// Whether the last line is of this column.
     pub(crate) fn is_last_column(&self, column: &[u8]) -> bool
         ensures { result ≡ option_map_or (same_bytes column.now) self.now.last_column false }
     {
@@ -151,7 +151,7 @@ impl LineContext {
         self.sections_seen.contains(&section)
     }
 
-    /// Whether the section, if it has not begun, may begin here.
+    /// Whether the section, if it has not begun yet, may begin here.
     fn may_begin(&self, section: Section) -> bool
         ensures { result ≡ may_begin self.now section }
     {
@@ -166,7 +166,7 @@ impl LineContext {
         }
     }
 
-    /// Whether the section's header may not stand here, though it has not begun before.
+    /// Whether the header of a section that has not begun yet is out of order here.
     pub(crate) fn is_out_of_order(&self, section: Section) -> bool
         ensures { result ≡ is_out_of_order self.now section }
     {
@@ -194,7 +194,7 @@ impl LineContext {
         bytes_of(&self.bounds_set)
     }
 
-    /// Drops the names that a later line would be compared with.
+    /// Drops the names with which later lines are compared.
     fn drop_names(&mut self)
         ensures { self.new ≡ without_names self.old }
     {
@@ -205,7 +205,7 @@ impl LineContext {
         self.bounds_set = None;
     }
 
-    /// Drops the names that a later line would be compared with, if the line of ENDATA has been passed.
+    /// Drops the names with which later lines are compared, if the line of ENDATA has been read.
     pub(crate) fn drop_names_at_end(&mut self)
         ensures { self.new ≡ kept_context self.old }
     {
@@ -214,8 +214,8 @@ impl LineContext {
         }
     }
 
-    /// Goes past the header of a section; `word_due` is the section whose word is to come then, and `objective` the name
-    /// that the header tells.
+    /// Updates the context after a header. `word_due` is the section whose word is still missing, and `objective` the name
+    /// that an OBJNAME header gives.
     pub(crate) fn pass_header(
         &mut self,
         section: Section,
@@ -233,7 +233,7 @@ impl LineContext {
         Ok(())
     }
 
-    /// Keeps the name of the objective, unless one was told before.
+    /// Keeps the name of the objective, unless there is one already.
     fn keep_objname(&mut self, name: &[u8]) -> Result<(), AllocError>
         ensures { OnOk result (self.new ≡ with_objname self.old name.now) }
     {
@@ -243,7 +243,7 @@ impl LineContext {
         Ok(())
     }
 
-    /// Goes past a data line of OBJNAME, which has this word.
+    /// Updates the context after a data line of OBJNAME with this word.
     pub(crate) fn pass_objname(&mut self, name: &[u8]) -> Result<(), AllocError>
         ensures { OnOk result (self.new ≡ after_objname self.old name.now) }
     {
@@ -251,14 +251,14 @@ impl LineContext {
         self.keep_objname(name)
     }
 
-    /// Goes past a data line of OBJSENSE or ROWS.
+    /// Updates the context after a data line of OBJSENSE or ROWS.
     pub(crate) fn pass_data(&mut self)
         ensures { self.new ≡ after_data self.old }
     {
         self.word_due = None;
     }
 
-    /// Goes past a marker line that opens or closes the integer part.
+    /// Updates the context after a marker line that opens or closes an integer block.
     pub(crate) fn pass_marker(&mut self, opens: bool)
         ensures { self.new ≡ after_marker self.old opens }
     {
@@ -267,7 +267,7 @@ impl LineContext {
         self.last_column = None;
     }
 
-    /// Goes past a line of a column. Memory is taken only where the last line is none of it.
+    /// Updates the context after a line of a column. Allocates only if the last line is of another column.
     pub(crate) fn pass_column(&mut self, column: &[u8]) -> Result<(), AllocError>
         ensures { OnOk result (self.new ≡ after_column self.old column.now) }
     {
@@ -278,7 +278,7 @@ impl LineContext {
         Ok(())
     }
 
-    /// Goes past a line of RHS with this set name.
+    /// Updates the context after a line of RHS with this set name.
     pub(crate) fn pass_rhs(&mut self, set: &[u8]) -> Result<(), AllocError>
         ensures { OnOk result (self.new ≡ after_rhs self.old set.now) }
     {
@@ -289,7 +289,7 @@ impl LineContext {
         Ok(())
     }
 
-    /// Goes past a line of RANGES with this set name.
+    /// Updates the context after a line of RANGES with this set name.
     pub(crate) fn pass_range(&mut self, set: &[u8]) -> Result<(), AllocError>
         ensures { OnOk result (self.new ≡ after_range self.old set.now) }
     {
@@ -300,7 +300,7 @@ impl LineContext {
         Ok(())
     }
 
-    /// Goes past a line of BOUNDS with this set name.
+    /// Updates the context after a line of BOUNDS with this set name.
     pub(crate) fn pass_bound(&mut self, set: &[u8]) -> Result<(), AllocError>
         ensures { OnOk result (self.new ≡ after_bound self.old set.now) }
     {

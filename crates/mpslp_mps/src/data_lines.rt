@@ -1,4 +1,4 @@
-//! Data lines: the faults of their form, and what they say.
+//! Data lines: the errors of their form, and their parts.
 
 ghost use Rattle.std.specs.Prelude.{◌≡◌, [], ◌∷◌, ◌++◌, map, not, Some, None, is_some, MatchResult};
 ghost use Rattle.std.specs.Option.{option_map, option_map_or};
@@ -68,7 +68,7 @@ pub(crate) fn check_objname<'a>(
     }
 }
 
-/// The type and name of a line of ROWS.
+/// The type and the name in a line of ROWS.
 pub(crate) fn check_row(alloc: Global, fields: &[&[u8]]) -> Result<(RowType, Name), LineError>
     ensures { let parts = row_shape (map (λ field. field.now) fields.now) in
         let first_fault = first_held (judged_by row_line_tests parts) in
@@ -84,7 +84,7 @@ pub(crate) fn check_row(alloc: Global, fields: &[&[u8]]) -> Result<(RowType, Nam
     Ok((row_type, name))
 }
 
-/// Whether a marker line of COLUMNS opens the integer part.
+/// Whether a marker line of COLUMNS opens an integer block.
 pub(crate) fn check_marker(context: &LineContext, fields: &[&[u8]]) -> Result<bool, FaultKind>
     ensures { let names = map (λ field. field.now) fields.now in
         let first_fault = first_held (marker_tests context.now names) in
@@ -104,7 +104,7 @@ pub(crate) fn check_marker(context: &LineContext, fields: &[&[u8]]) -> Result<bo
     Ok(is_opening_word(word))
 }
 
-/// The set name and the values of a line of RHS or RANGES; `first` is the set name of the section's first line.
+/// The set name and the values of a line of RHS or RANGES. `first` is the set name of the first line of the section.
 pub(crate) fn check_vector<'a>(
     first: Option<&[u8]>,
     fields: &[&'a [u8]],
@@ -124,7 +124,7 @@ pub(crate) fn check_vector<'a>(
     Ok((set, values))
 }
 
-/// What is wrong with the name of a column. That of the column of the line before was judged there.
+/// Checks the name of a column, unless the line before has the same name.
 fn check_column_name(
     context: &LineContext,
     builder: &Builder,
@@ -139,8 +139,8 @@ fn check_column_name(
     Name::check(column)
 }
 
-/// The column and the values of a line of COLUMNS that is no marker line, but for whether the column's lines stand
-/// together.
+/// The column and the values of a line of COLUMNS that is not a marker line. It is not checked here whether the lines of the
+/// column are contiguous.
 pub(crate) fn check_column<'a>(
     context: &LineContext,
     builder: &Builder,
@@ -162,7 +162,7 @@ pub(crate) fn check_column<'a>(
     Ok((column, values))
 }
 
-/// The value of a bound that has one; `first` is the set name of the section's first line.
+/// The value of a bound whose type takes one. `first` is the set name of the first line of the section.
 fn check_bound_value(first: Option<&[u8]>, set: &[u8], literal: &[u8]) -> Result<Decimal, FaultKind>
     ensures { let first_fault = first_held (number_tests (literal.now ∷ []) ++ set_tests (option_map (λ bytes. bytes.now) first.entry) set.now) in
         MatchResult result (λ value. (first_fault ≡ None) × (value ≡ value_of literal.now)) (λ kind. first_fault ≡ Some kind) }
@@ -174,7 +174,7 @@ fn check_bound_value(first: Option<&[u8]>, set: &[u8], literal: &[u8]) -> Result
     }
 }
 
-/// The value of a bound, where it has one.
+/// The value of a bound, if its type takes one.
 fn check_bound_parts(
     first: Option<&[u8]>,
     set: &[u8],
@@ -198,7 +198,7 @@ fn check_bound_parts(
     }
 }
 
-/// The parts of a line of BOUNDS after its type, and its value where the type takes one.
+/// The parts of a line of BOUNDS after its type, and its value if the type takes one.
 fn check_bound_of_type<'a>(
     context: &LineContext,
     bound_type: BoundType,
@@ -215,7 +215,7 @@ fn check_bound_of_type<'a>(
     Ok((line, value))
 }
 
-/// The type of a line of BOUNDS, its parts and its value, where the type takes one.
+/// The type of a line of BOUNDS, its parts, and its value if the type takes one.
 pub(crate) fn check_bound<'a>(
     context: &LineContext,
     letters: &[u8],

@@ -7,10 +7,10 @@ ghost use Rattle.mpslp_mps.specs.Line.{is_blank, fields};
 use arrayvec::ArrayVec;
 use bstr::ByteSlice;
 
-/// One field more than a data line of any shape has.
+/// One more field than any data line has.
 pub(crate) const FRONT_LEN: usize = 6;
 
-/// How many blanks and tabs a text begins with.
+/// The number of spaces and tabs with which a text begins.
 fn blanks_len(text: &[u8]) -> usize
     ensures len { result ≡ position_or_len (λ byte. not (is_blank byte)) text.now }
     ensures within { result ≤ length text.now }
@@ -21,7 +21,7 @@ fn blanks_len(text: &[u8]) -> usize
     }
 }
 
-/// How many bytes other than blanks and tabs a text begins with.
+/// The length of the field with which a text begins.
 fn field_len(text: &[u8]) -> usize
     ensures len { result ≡ position_or_len is_blank text.now }
     ensures within { result ≤ length text.now }
@@ -32,14 +32,14 @@ fn field_len(text: &[u8]) -> usize
     }
 }
 
-/// A text from its first field on.
+/// The text from its first field on.
 fn from_field(text: &[u8]) -> &[u8]
     ensures { result.now ≡ drop (position_or_len (λ byte. not (is_blank byte)) text.now) text.now }
 {
     &text[blanks_len(text)..]
 }
 
-/// The first field of a text and what follows it; `None` where the text has no field.
+/// The first field of a text and the rest after it; `None` if the text has no field.
 fn next_field<'a>(text: &'a [u8]) -> Option<(&'a [u8], &'a [u8])>
     ensures { MatchOption result (fields text.now ≡ []) (λ found. fields text.now ≡ found.0.now ∷ fields found.1.now) }
 {
@@ -50,7 +50,7 @@ fn next_field<'a>(text: &'a [u8]) -> Option<(&'a [u8], &'a [u8])>
     Some(text.split_at(field_len(text)))
 }
 
-/// The first fields of a line, at most [`FRONT_LEN`]: they show its shape.
+/// The first fields of a line, at most [`FRONT_LEN`]: enough to determine its shape.
 pub(crate) fn front_fields<'a>(line: &'a [u8]) -> ArrayVec<&'a [u8], FRONT_LEN>
     ensures { map (λ field. field.now) result.items ≡ take FRONT_LEN (fields line.now) }
 {

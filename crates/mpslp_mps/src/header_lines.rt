@@ -1,4 +1,4 @@
-//! Headers, read one by one.
+//! Reads headers.
 
 ghost use Rattle.std.specs.Prelude.{◌≡◌, [], ◌∷◌, map, Some};
 ghost use Rattle.std.specs.Option.{option_map_or};
@@ -18,7 +18,7 @@ use mpslp_lines::LineError;
 use mpslp_model::{Builder, Name, Sense};
 use std::alloc::Global;
 
-/// The sense that follows the keyword OBJSENSE.
+/// The sense after the keyword OBJSENSE.
 fn header_sense(more: &[&[u8]]) -> Option<Sense>
     ensures { option_map_or (λ sense. declare_sense sense ∷ []) result [] ≡ declared_if_some sense_declared (word_shape (map (λ field. field.now) more.now)) }
 {
@@ -28,7 +28,7 @@ fn header_sense(more: &[&[u8]]) -> Option<Sense>
     }
 }
 
-/// Declares the sense that follows the keyword OBJSENSE, if one does.
+/// Declares the sense after the keyword OBJSENSE, if there is one.
 fn declare_sense(builder: &mut Builder, more: &[&[u8]]) -> Result<(), LineError>
     ensures answers { AreDeclared builder.old (declared_if_some sense_declared (word_shape (map (λ field. field.now) more.now))) result builder.new }
     ensures unchanged { IfFault result (builder.new ≡ builder.old) }
@@ -39,7 +39,7 @@ fn declare_sense(builder: &mut Builder, more: &[&[u8]]) -> Result<(), LineError>
     Ok(())
 }
 
-/// Names the objective `obj`, where no row of type N and no OBJNAME has named it.
+/// Names the objective `obj`, if no N row and no OBJNAME has named it.
 fn declare_objective(
     context: &LineContext,
     builder: &mut Builder,
@@ -55,7 +55,7 @@ fn declare_objective(
     Ok(())
 }
 
-/// Declares what the header of a section does.
+/// Declares what the header of a section declares.
 fn declare_header(
     context: &LineContext,
     builder: &mut Builder,

@@ -1,4 +1,4 @@
-//! Headers.
+//! The form of headers, and its errors.
 
 ghost use Rattle.std.specs.Prelude.{◌≡◌, Some, None, map, MatchResult};
 ghost use Rattle.mpslp_mps.specs.Section.{section_named};
@@ -25,14 +25,14 @@ fn may_follow(section: Section, more: &[&[u8]]) -> bool
     }
 }
 
-/// Whether OBJNAME names the objective, and no row of type N before has that name.
+/// Whether OBJNAME names the objective, but no N row has that name.
 fn lacks_objective(context: &LineContext, builder: &Builder) -> bool
     ensures { result ≡ lacks_objective context.now builder.now }
 {
     !builder.has_objective() && context.has_objname()
 }
 
-/// The fault of a header by its section: a word of OBJSENSE that is not known, or an objective that ROWS has not.
+/// The error of a header that depends on its section: an unknown word of OBJSENSE, or an objective that ROWS does not have.
 fn check_section(
     context: &LineContext,
     builder: &Builder,
@@ -49,7 +49,7 @@ fn check_section(
     }
 }
 
-/// The section of a header, or the fault of its line after those that say `context` and declare what `builder` has.
+/// The section of a header, or the error of its line in this context, with what the builder has.
 pub(crate) fn check_header(
     context: &LineContext,
     builder: &Builder,
@@ -75,7 +75,7 @@ pub(crate) fn check_header(
     Ok(section)
 }
 
-/// The section of a header whose word is to come on a line of its own: an OBJSENSE or OBJNAME without one.
+/// The section, if it is OBJSENSE or OBJNAME and its header has no word: the word must follow on a line of its own.
 pub(crate) fn section_of_word_due(section: Section, more: &[&[u8]]) -> Option<Section>
     ensures { result ≡ section_of_word_due section (map (λ field. field.now) more.now) }
 {
@@ -85,7 +85,7 @@ pub(crate) fn section_of_word_due(section: Section, more: &[&[u8]]) -> Option<Se
     }
 }
 
-/// The name of the objective that follows the keyword OBJNAME.
+/// The name of the objective after the keyword OBJNAME.
 pub(crate) fn header_objname<'a>(section: Section, more: &[&'a [u8]]) -> Option<&'a [u8]>
     ensures { option_map (λ name. name.now) result ≡ header_objname section (map (λ field. field.now) more.now) }
 {

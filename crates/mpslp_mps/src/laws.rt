@@ -1,5 +1,4 @@
-//! Laws of MPS text. Each is the contract of a function that does nothing: to call it is to cite the
-//! law.
+//! Laws of MPS text. Each is the contract of a function that does nothing: to cite the law, call the function.
 
 ghost use Rattle.mpslp_types.specs.declared.faults.FaultKind.{FaultKind};
 ghost use Rattle.mpslp_mps.specs.FaultsInWords.{IsInWords, repeats_section, stands_out_of_order, is_wrong_marker, is_of_second_set, splits_column, names_unknown_row, names_unknown_column, repeats_row, repeats_entry};
@@ -10,29 +9,29 @@ pub fn one_model()
     ensures { DeclareOneModel }
 {}
 
-/// No bytes have two first faults.
+/// No bytes have two first errors.
 pub fn one_fault()
     ensures { HaveOneFirstFault }
 {}
 
-/// No bytes both declare a model and have a first fault.
+/// No bytes both declare a model and have a first error.
 pub fn model_or_fault()
     ensures { DeclareOrFail }
 {}
 
-/// Bytes that have no first fault declare a model.
+/// Bytes without a first error declare a model.
 pub fn model_without_fault()
     ensures { DeclareUnlessFaulty }
 {}
 
-/// MPS text, which is said by tests that go from line to line, is text in the words of the format:
-/// what the headers are, and what the lines of each section are together; and nothing else is.
+/// MPS text is defined by tests that go from line to line. It is also the text that `TextInWords` describes as a whole: by
+/// its headers, and by the lines of each section together.
 pub fn text_is_in_words()
     ensures { TextIsInWords }
 {}
 
-/// A first fault of each of these kinds stands on a line that is, beside the lines before it, what the
-/// kind says in the words of the format.
+/// A first error of one of these kinds is on a line that `FaultsInWords` describes for the kind, in terms of the lines
+/// before it.
 pub fn faults_are_in_words()
     ensures section_repeated { IsInWords FaultKind.SectionRepeated repeats_section }
     ensures section_order { IsInWords FaultKind.SectionOrder stands_out_of_order }

@@ -1,9 +1,9 @@
-//! MPS text: what it declares, and the first fault of text that declares no model.
+//! MPS text: what it declares, and the first error of text that declares no model.
 //!
-//! The format is that of the CPLEX file format reference, read by fields between blanks and tabs. The
-//! definitions are in `specs/`: lines and their fields (`Line`), headers (`Section`), the shapes of data
-//! lines (`DataLine`), what the lines before one say (`Context`), what a line declares (`LineMeaning`), its
-//! faults (`LineFault`), and the whole text (`MpsText`, `FirstFault`).
+//! The format follows the CPLEX file format reference, with fields separated by spaces and tabs. The definitions are in
+//! `specs/`: lines and their fields (`Line`), headers (`Section`), the shapes of data lines (`DataLine`), what the lines
+//! before one mean for it (`Context`), what a line declares (`LineDeclarations`), its errors (`LineFault`), and the whole
+//! text (`MpsText`, `FirstFault`).
 #![tactic(auto)]
 
 mod bound_types;

@@ -7,7 +7,7 @@ ghost use Rattle.mpslp_lines.specs.LegalLine.{is_legal_byte};
 
 use mpslp_lines::are_legal_bytes;
 
-/// Whether the byte is a blank or a tab.
+/// Whether the byte is a space or a tab.
 pub(crate) fn is_blank(byte: u8) -> bool
     ensures { result ≡ is_blank byte }
 {
@@ -24,28 +24,28 @@ fn is_comment(line: &[u8]) -> bool
     }
 }
 
-/// Whether the line has no byte that it may not have. A comment may have any.
+/// Whether all bytes of the line are legal. A comment may have any bytes.
 pub(crate) fn has_legal_bytes(line: &[u8]) -> bool
     ensures { result ≡ list_all is_legal_byte (outside_comment line.now) }
 {
     is_comment(line) || are_legal_bytes(line)
 }
 
-/// Whether the line has blanks and tabs alone.
+/// Whether the line has only spaces and tabs.
 fn is_blank_line(line: &[u8]) -> bool
     ensures { result ≡ list_all is_blank line.now }
 {
     line.iter().all(|byte| is_blank(*byte))
 }
 
-/// Whether nothing is read of the line: it is a comment, or has blanks and tabs alone.
+/// Whether the line is skipped: it is a comment, or has only spaces and tabs.
 pub(crate) fn is_skipped(line: &[u8]) -> bool
     ensures { result ≡ is_skipped line.now }
 {
     is_comment(line) || is_blank_line(line)
 }
 
-/// Whether the line is a data line, unless nothing is read of it.
+/// Whether the line is a data line, if it is not skipped.
 pub(crate) fn is_data(line: &[u8]) -> bool
     ensures { result ≡ is_data line.now }
 {

@@ -1,4 +1,4 @@
-//! The lines of MPS text, read one after another.
+//! Reads MPS text line by line.
 
 ghost use Rattle.std.specs.Prelude.{◌≡◌};
 
@@ -8,7 +8,7 @@ use mpslp_lines::{LineError, ReadLines, read_fault};
 use mpslp_model::{Builder, Fault, FaultKind, Model, ReadFault};
 use std::alloc::Global;
 
-/// Reads the lines of MPS text one after another.
+/// Reads MPS text line by line.
 #[derive(Drop)]
 pub(crate) struct LineReader {
     alloc: Global,

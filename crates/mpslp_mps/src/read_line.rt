@@ -1,4 +1,4 @@
-//! Lines, read one by one: each is checked, and what it declares is declared to the builder.
+//! Reads lines: each is checked, and then its declarations are passed to the builder.
 
 ghost use Rattle.std.specs.Prelude.{◌≡◌, Some, map};
 ghost use Rattle.mpslp_builder.specs.Declaration.{Draft};
@@ -50,7 +50,7 @@ pub(crate) fn read_objname(context: &mut LineContext, fields: &[&[u8]]) -> Resul
     Ok(())
 }
 
-/// Whether a row of type N of this name is the objective: the first one, or the first one of the name that OBJNAME tells.
+/// Whether an N row of this name is the objective: the first N row, or the first one with the name of OBJNAME.
 fn is_new_objective(context: &LineContext, builder: &Builder, name: &Name) -> bool
     ensures { result ≡ is_new_objective context.now builder.now name.now }
 {
@@ -117,7 +117,7 @@ fn read_data(
     }
 }
 
-/// Reads a line that begins with no blank or tab and is not skipped.
+/// Reads a line that does not begin with a space or tab and is not skipped.
 fn read_keyword(
     context: &mut LineContext,
     builder: &mut Builder,

@@ -6,17 +6,16 @@ use mpslp_model::{ModelReader, ReadFault};
 use std::alloc::Global;
 use std::marker::Model;
 
-/// A reader of MPS text that comes in pieces of any length. What the pieces were does not matter: it answers of all of them
-/// together what [`read_mps`](crate::read_mps) answers of the whole text.
+/// A reader of MPS text that comes in pieces of any length. It does not matter where the text is cut: the result is what
+/// [`read_mps`](crate::read_mps) returns for the whole text.
 ///
-/// It keeps the model as far as it is declared, and of the text at most 1,048,577 bytes of the line that is not complete,
-/// beside the names that a later line is compared with: the word of OBJNAME, the last column, and one set name of each
-/// section. After the line of ENDATA it keeps neither. A line is completed by its line feed, the last one perhaps by the end
-/// of the text. Lines that are complete in a piece are not copied. After the line of ENDATA each piece is taken, and not
-/// looked at.
+/// The reader keeps what is declared, at most 1,048,577 bytes of an incomplete line, and the names with which later lines
+/// are compared: the word of OBJNAME, the last column, and a set name for each section. After the line of ENDATA it keeps no
+/// line and none of these names. A line is complete at its line feed; the end of the text also completes the last one. Lines
+/// that are complete within a piece are not copied. Pieces after the line of ENDATA are accepted and ignored.
 #[derive(Drop)]
 pub struct MpsReader {
-    /// There is none after a piece was refused.
+    /// `None` after a piece was rejected.
     pieces: Option<PieceReader<LineReader>>,
 }
 

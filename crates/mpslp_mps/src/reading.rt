@@ -6,19 +6,19 @@ use crate::reader::MpsReader;
 use mpslp_model::{Model, ReadFault, read_whole};
 use std::alloc::Global;
 
-/// The model that a text declares in MPS, or its first fault.
+/// Reads the model that an MPS text declares.
 ///
-/// Any bytes may come. Lines are read up to that of ENDATA, and what follows it is not looked at. Limits: a line has at
-/// most [`MAX_LINE_LEN`](crate::MAX_LINE_LEN) bytes, a name at most 255, a number literal at most 255, and a decimal has at
-/// most 36 digits; the text may be of any length. Every line that is legal in the CPLEX file format reference and in this
-/// profile is read as the reference says; `docs/FORMATS.md` has each rule.
+/// The text may be any bytes of any length. Lines are read up to that of ENDATA; the text after it is ignored. A line has at
+/// most [`MAX_LINE_LEN`](crate::MAX_LINE_LEN) bytes, a name or a number at most 255 bytes, and a decimal at most 36 digits.
+/// Every line that is legal in the CPLEX file format reference and in this profile is read as the reference says;
+/// `docs/FORMATS.md` has each rule.
 ///
 /// # Errors
 ///
-/// `File` of the first fault: that of the first line that has one, and of several on one line the kind that comes first in
-/// [`FaultKind`](mpslp_model::FaultKind), without a name. Where no line has one, `MissingEnd`, or what
-/// [`Builder::finish`](mpslp_model::Builder::finish) tells of the whole, on
-/// line 0. `OutOfMemory` where a growth was refused. Never `Failed`.
+/// `File` with the first error of the text: that of the first line that has one, without a name. Of several errors of one
+/// line, the one whose kind comes first in [`FaultKind`](mpslp_model::FaultKind) is reported. If no line has an error, the
+/// error is `MissingEnd`, or that of [`Builder::finish`](mpslp_model::Builder::finish) for the whole file, on line 0.
+/// `OutOfMemory` if an allocation fails. Never `Failed`.
 pub fn read_mps(alloc: Global, text: &[u8]) -> Result<Model, ReadFault>
     ensures { ReadsMps text.now result }
 {

@@ -1,25 +1,25 @@
 //! The sections of an MPS file.
 
-/// A section of an MPS file, begun by a header line. They are listed in the order in which they stand,
-/// except that OBJSENSE and OBJNAME, and RHS, RANGES and BOUNDS, may stand in any order.
+/// A section of an MPS file, begun by a header line. Sections come in this order, except that OBJSENSE and OBJNAME, and RHS,
+/// RANGES and BOUNDS, may come in any order.
 #[derive(Clone, Copy, Debug, PartialEq, Eq)]
 pub enum Section {
-    /// `NAME`: what follows on its line is ignored.
+    /// `NAME`: the rest of its line is ignored.
     Name,
     /// `OBJSENSE`: whether the objective is minimized or maximized.
     ObjSense,
-    /// `OBJNAME`: which row of type N is the objective.
+    /// `OBJNAME`: which N row is the objective.
     ObjName,
     /// `ROWS`: the objective and the rows, with their types.
     Rows,
     /// `COLUMNS`: the columns with their coefficients, and marker lines around integer columns.
     Columns,
-    /// `RHS`: the right sides of rows, and of the objective the negative of its constant.
+    /// `RHS`: the right-hand sides of rows. An entry of the objective is the negative of its constant.
     Rhs,
-    /// `RANGES`: how far the two limits of a row lie apart.
+    /// `RANGES`: how far apart the two limits of a row are.
     Ranges,
     /// `BOUNDS`: the bounds of columns.
     Bounds,
-    /// `ENDATA`: the end; nothing after its line is looked at.
+    /// `ENDATA`: the end. Lines after it are ignored.
     EndData,
 }

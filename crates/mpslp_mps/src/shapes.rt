@@ -9,7 +9,7 @@ use crate::bound_types::BoundType;
 use crate::words::is_marker;
 use std::marker::Model;
 
-/// A row's letter and its name.
+/// The letter and the name of a row.
 #[derive(Drop)]
 pub(crate) struct RowLine<'a> {
     pub(crate) letter: &'a [u8],
@@ -24,7 +24,7 @@ impl<'a> Model for RowLine<'a> {
     ghost view = { λ l. record { letter = l.letter.now; name = l.name.now } };
 }
 
-/// A row and the literal of a value.
+/// A row and a number literal.
 #[derive(Drop)]
 pub(crate) struct Pair<'a> {
     pub(crate) row: &'a [u8],
@@ -79,8 +79,8 @@ fn two_pairs<'a>(row: &'a [u8], literal: &'a [u8], other: &'a [u8], second: &'a 
     }
 }
 
-/// The column of a line of COLUMNS, or the set name of one of RHS or RANGES, empty where it is absent; and one or two
-/// pairs of row and value.
+/// The column of a line of COLUMNS, or the set name of a line of RHS or RANGES (empty if absent), and one or two pairs of
+/// row and value.
 #[derive(Drop)]
 pub(crate) struct ValuesLine<'a> {
     pub(crate) name: &'a [u8],
@@ -95,7 +95,7 @@ impl<'a> Model for ValuesLine<'a> {
     ghost view = { λ l. record { name = l.name.now; pairs = l.pairs } };
 }
 
-/// A set name, empty where it is absent, a column, and the literal of a value where the type takes one.
+/// A set name (empty if absent), a column, and a number literal if the type takes a value.
 #[derive(Drop)]
 pub(crate) struct BoundLine<'a> {
     pub(crate) set: &'a [u8],
@@ -135,7 +135,7 @@ pub(crate) fn row_shape<'a>(fields: &[&'a [u8]]) -> Option<RowLine<'a>>
     }
 }
 
-/// The parts of a line of COLUMNS that is no marker line.
+/// The parts of a line of COLUMNS that is not a marker line.
 pub(crate) fn column_shape<'a>(fields: &[&'a [u8]]) -> Option<ValuesLine<'a>>
     ensures { result ≡ column_shape (map (λ field. field.now) fields.now) }
 {

@@ -47,7 +47,7 @@ impl<'a> Model for RowValues<'a> {
     ghost view = { λ v. v.first ∷ cons_option v.second [] };
 }
 
-/// The value of one pair, or its fault.
+/// The value of one pair, or its error.
 fn value_of_one<'a>(pair: Pair<'a>) -> Result<RowValues<'a>, FaultKind>
     ensures { let first_fault = first_held (number_tests (pair.entry.literal ∷ [])) in MatchResult result (λ values. (first_fault ≡ None) × (values ≡ row_value pair.entry ∷ [])) (λ kind. first_fault ≡ Some kind) }
 {
@@ -63,7 +63,7 @@ fn value_of_one<'a>(pair: Pair<'a>) -> Result<RowValues<'a>, FaultKind>
     }
 }
 
-/// The values of two pairs, or the fault of both that comes first.
+/// The values of two pairs, or the first of their errors in the order of kinds.
 fn values_of_both<'a>(pair: Pair<'a>, other: Pair<'a>) -> Result<RowValues<'a>, FaultKind>
     ensures { let first_fault = first_held (number_tests (pair.entry.literal ∷ other.entry.literal ∷ [])) in MatchResult result (λ values. (first_fault ≡ None) × (values ≡ row_value pair.entry ∷ row_value other.entry ∷ [])) (λ kind. first_fault ≡ Some kind) }
 {
@@ -84,7 +84,7 @@ fn values_of_both<'a>(pair: Pair<'a>, other: Pair<'a>) -> Result<RowValues<'a>, 
     }
 }
 
-/// The values of the pairs of a line, or the fault of all literals together.
+/// The values of the pairs of a line, or the first of their errors in the order of kinds.
 pub(crate) fn values_of<'a>(pairs: Pairs<'a>) -> Result<RowValues<'a>, FaultKind>
     ensures { let first_fault = first_held (number_tests (literals_of pairs.entry)) in MatchResult result (λ values. (first_fault ≡ None) × (values ≡ map row_value pairs.entry)) (λ kind. first_fault ≡ Some kind) }
 {
@@ -95,7 +95,7 @@ pub(crate) fn values_of<'a>(pairs: Pairs<'a>) -> Result<RowValues<'a>, FaultKind
     }
 }
 
-/// Whether a set name is another one than that of the section's first line.
+/// Whether a set name differs from that of the first line of the section.
 pub(crate) fn is_second_set(first: Option<&[u8]>, set: &[u8]) -> bool
     ensures { result ≡ option_map_or (λ name. not (same_bytes name set.now)) (option_map (λ name. name.now) first.entry) false }
 {
@@ -105,7 +105,7 @@ pub(crate) fn is_second_set(first: Option<&[u8]>, set: &[u8]) -> bool
     }
 }
 
-/// Whether both values are of one row.
+/// Whether both values are for the same row.
 pub(crate) fn is_same_row(first: &RowValue, second: &RowValue) -> bool
     ensures { result ≡ same_bytes second.now.0 first.now.0 }
 {

@@ -17,14 +17,14 @@ use crate::values::{RowValue, RowValues, is_same_row};
 use mpslp_lines::{LineError, lesser_kind};
 use mpslp_model::{Builder, FaultKind};
 
-/// Whether both rows are declared; the objective counts.
+/// Whether both rows are declared. The objective counts as a row.
 fn are_rows(builder: &Builder, first: &RowValue, second: &RowValue) -> bool
     ensures { result ≡ (has_row builder.now first.now.0 && has_row builder.now second.now.0) }
 {
     builder.has_row(first.row) && builder.has_row(second.row)
 }
 
-/// Declares the right side of a row.
+/// Declares the right-hand side of a row.
 fn declare_rhs<'a>(builder: &mut Builder, side: RowValue<'a>) -> Result<(), LineError>
     requires { HasMpsSides builder.old }
     ensures answers { AreDeclared builder.old (rhs_declared builder.old side.entry.0 side.entry.1) result builder.new }
@@ -34,7 +34,7 @@ fn declare_rhs<'a>(builder: &mut Builder, side: RowValue<'a>) -> Result<(), Line
     Ok(())
 }
 
-/// The fault that a right side would have now, if it has one.
+/// The error, if any, of declaring this right-hand side.
 fn check_rhs_value(builder: &Builder, side: &RowValue) -> Result<(), LineError>
     requires { HasMpsSides builder.now }
     ensures { MatchResult result (λ _. declared_fault builder.now (rhs_declared builder.now side.now.0 side.now.1) ≡ None) (IsErrorOf (declared_fault builder.now (rhs_declared builder.now side.now.0 side.now.1))) }
@@ -43,14 +43,14 @@ fn check_rhs_value(builder: &Builder, side: &RowValue) -> Result<(), LineError>
     Ok(())
 }
 
-/// Whether the second right side is one more of the first one's row, which takes one alone: it is not of type N.
+/// Whether the second right-hand side repeats that of the first one's row. An N row may have several, which declare nothing.
 fn is_second_rhs(builder: &Builder, first: &RowValue, second: &RowValue) -> bool
     ensures { result ≡ (same_bytes second.now.0 first.now.0 && not (is_free_row builder.now first.now.0)) }
 {
     is_same_row(first, second) && !builder.is_free_row(first.row)
 }
 
-/// The fault that the right sides of two rows that are declared would have now, if they have one.
+/// The error, if any, of declaring the right-hand sides of two declared rows.
 fn check_rhs_pair(builder: &Builder, first: &RowValue, second: &RowValue) -> Result<(), LineError>
     requires sides { HasMpsSides builder.now }
     requires rows { (has_row builder.now first.now.0 && has_row builder.now second.now.0) ≡ true }
@@ -64,8 +64,8 @@ fn check_rhs_pair(builder: &Builder, first: &RowValue, second: &RowValue) -> Res
     check_rhs_value(builder, second)
 }
 
-/// Declares the right sides of two rows. A row that is not declared comes before a right side that is declared already.
-/// Both are asked for before the first is declared.
+/// Declares the right-hand sides of two rows. An unknown row is reported before a repeated right-hand side. Both are checked
+/// before the first is declared.
 fn declare_rhs_pair<'a>(
     builder: &mut Builder,
     first: RowValue<'a>,
@@ -83,7 +83,7 @@ fn declare_rhs_pair<'a>(
     declare_rhs(builder, second)
 }
 
-/// Declares the right sides of the rows of a line.
+/// Declares the right-hand sides of a line.
 fn declare_rhs_values<'a>(builder: &mut Builder, sides: RowValues<'a>) -> Result<(), LineError>
     requires { HasMpsSides builder.old }
     ensures answers { AreDeclared builder.old (rhs_values_declared builder.old sides.entry) result builder.new }
@@ -113,7 +113,7 @@ pub(crate) fn read_rhs(
     Ok(())
 }
 
-/// Declares the range of a row. Where it is refused, the builder stays as it was.
+/// Declares the range of a row. If it is rejected, the builder is unchanged.
 fn declare_range<'a>(builder: &mut Builder, row: RowValue<'a>) -> Result<(), LineError>
     ensures answers { AreDeclared builder.old (declare_range row.entry.0 row.entry.1 ∷ []) result builder.new }
     ensures unchanged { IfErr result (λ _. builder.new ≡ builder.old) }
@@ -122,7 +122,7 @@ fn declare_range<'a>(builder: &mut Builder, row: RowValue<'a>) -> Result<(), Lin
     Ok(())
 }
 
-/// The fault that a range would have now, if it has one.
+/// The error, if any, of declaring this range.
 fn check_range(builder: &Builder, row: &RowValue) -> Result<(), LineError>
     ensures { MatchResult result (λ _. declared_fault builder.now (declare_range row.now.0 row.now.1 ∷ []) ≡ None) (IsErrorOf (declared_fault builder.now (declare_range row.now.0 row.now.1 ∷ []))) }
 {
@@ -130,7 +130,7 @@ fn check_range(builder: &Builder, row: &RowValue) -> Result<(), LineError>
     Ok(())
 }
 
-/// Why a line is not read whose first range has a fault of this kind: the fault of the second one may come before it.
+/// The error of a line whose first range has this error: that of the second range may come first in the order of kinds.
 fn error_of_both(builder: &Builder, kind: FaultKind, second: &RowValue) -> LineError
     ensures { IsErrorOf (least_kind (kind ∷ declaring_faults builder.now (declare_range second.now.0 second.now.1 ∷ []))) result }
 {
@@ -141,7 +141,7 @@ fn error_of_both(builder: &Builder, kind: FaultKind, second: &RowValue) -> LineE
     }
 }
 
-/// The fault that the ranges of two rows that are not the same one would have now, if they have one.
+/// The error, if any, of declaring the ranges of two different rows.
 fn check_ranges_apart(
     builder: &Builder,
     first: &RowValue,
@@ -158,7 +158,7 @@ fn check_ranges_apart(
     }
 }
 
-/// Declares the ranges of two rows that are not the same one. Both are asked for before the first is declared.
+/// Declares the ranges of two different rows. Both are checked before the first is declared.
 fn declare_ranges_apart<'a>(
     builder: &mut Builder,
     first: RowValue<'a>,
@@ -173,7 +173,8 @@ fn declare_ranges_apart<'a>(
     declare_range(builder, second)
 }
 
-/// Declares the ranges of two rows. Of one row the second range is a duplicate, whatever the first one's fault is.
+/// Declares the ranges of two rows. If both are the same row, the second range is a duplicate, whatever the error of the
+/// first.
 fn declare_both_ranges<'a>(
     builder: &mut Builder,
     first: RowValue<'a>,
@@ -191,7 +192,7 @@ fn declare_both_ranges<'a>(
     Err(LineError::Fault(FaultKind::UnknownRow))
 }
 
-/// Declares the ranges of the rows of a line.
+/// Declares the ranges of a line.
 fn declare_ranges<'a>(builder: &mut Builder, ranges: RowValues<'a>) -> Result<(), LineError>
     ensures answers { AreDeclared builder.old (ranges_of ranges.entry) result builder.new }
     ensures unchanged { IfFault result (builder.new ≡ builder.old) }

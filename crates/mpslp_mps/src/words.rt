@@ -33,7 +33,7 @@ const SECTIONS: [Section; 9] = [
 ];
 
 impl Section {
-    /// The word that begins the section's header.
+    /// The keyword of the section's header.
     fn keyword(self) -> &'static [u8]
         ensures { result.now ≡ keyword_of self }
     {
@@ -51,7 +51,7 @@ impl Section {
     }
 }
 
-/// The section of a keyword.
+/// The section with a keyword.
 pub(crate) fn section_named(keyword: &[u8]) -> Option<Section>
     ensures { result ≡ section_named keyword.now }
 {
@@ -61,7 +61,7 @@ pub(crate) fn section_named(keyword: &[u8]) -> Option<Section>
         .find(|section| keyword == section.keyword())
 }
 
-/// The fault of a header that begins no section of this profile.
+/// The error of a header that is not a section of this profile.
 pub(crate) fn unknown_section(keyword: &[u8]) -> FaultKind
     ensures { result ≡ unknown_section keyword.now }
 {
@@ -84,7 +84,7 @@ pub(crate) fn unknown_section(keyword: &[u8]) -> FaultKind
     }
 }
 
-/// The sense of a word of OBJSENSE.
+/// The sense that a word of OBJSENSE means.
 pub(crate) fn sense_of(word: &[u8]) -> Option<Sense>
     ensures { result ≡ sense_of word.now }
 {
@@ -97,7 +97,7 @@ pub(crate) fn sense_of(word: &[u8]) -> Option<Sense>
     }
 }
 
-/// The type of a letter of ROWS.
+/// The row type of a letter.
 pub(crate) fn row_type(letter: &[u8]) -> Option<RowType>
     ensures { result ≡ row_type letter.now }
 {
@@ -110,7 +110,7 @@ pub(crate) fn row_type(letter: &[u8]) -> Option<RowType>
     }
 }
 
-/// The type of the letters of a bound.
+/// The bound type of its letters.
 pub(crate) fn bound_type(letters: &[u8]) -> Option<BoundType>
     ensures { result ≡ bound_type letters.now }
 {
@@ -160,15 +160,15 @@ pub(crate) fn is_sos_word(word: &[u8]) -> bool
     is_one_of(&[b"'SOSORG'".as_slice(), b"'SOSEND'".as_slice()], word)
 }
 
-/// Whether the word opens the integer part.
+/// Whether the word opens an integer block.
 pub(crate) fn is_opening_word(word: &[u8]) -> bool
     ensures { result ≡ same_bytes opening_word word.now }
 {
     b"'INTORG'".as_slice() == word
 }
 
-/// Whether the word of a marker line is the one that is due: it closes the integer part where that is open, and
-/// opens it elsewhere.
+/// Whether the word of a marker line fits: inside an integer block the word that closes it, elsewhere the one that opens
+/// one.
 pub(crate) fn is_due_word(word: &[u8], in_integer_part: bool) -> bool
     ensures { result ≡ same_bytes word.now (if in_integer_part then closing_word else opening_word) }
 {

@@ -1,4 +1,4 @@
--- The cells of a column are its coefficient in the objective, if it has one, and then its coefficients in rows as a model numbers them.
+-- The cells of a column: its coefficient in the objective, if any, and then those in rows as a model numbers them.
 use Rattle.std.proofs.Common.{◌≡◌, refl, sym, ap, subst, ◌∙◌, ℕ, Bool, true, false, not, cond, List, [], ◌∷◌, map}
 use Rattle.std.specs.Prelude.{Option, Some, None, filter, filter_map, ◌&&◌, ◌||◌}
 use Rattle.std.specs.List.{cons_option}
@@ -27,7 +27,7 @@ use Rattle.mpslp_canonical_mps.proofs.CoefficientMap.{place_at}
 use Rattle.mpslp_canonical_mps.proofs.DraftMaps.{is_sound_entry, IsSoundListing}
 use Rattle.mpslp_canonical_mps.proofs.ListingFacts.{sound-listing}
 
--- ---- two places of one column compare as their rows do, whichever of both comes first in the order of places
+-- ---- two keys of one column compare as their rows do, whichever comes first in the order of keys
 
 then-equal : (r : Ordering) → ordering_then r Equal ≡ r
 then-equal Less = refl
@@ -125,7 +125,7 @@ module _ (coefficients : List (CoefficientKey × Number)) (column : List ℕ) wh
       by false is None there more = more
       by false is (Some v) there more = ap (λ (b : Bool). cond b (Some v) (find bytes_cmp row (cells names))) (tie false is) ∙ more
 
--- ---- both are the same
+-- ---- both are equal
 
 abbrev is_of : List ℕ → List ℕ → CoefficientKey → Bool
 is_of objective column key = not (same_bytes objective key.row) && same_bytes column key.column

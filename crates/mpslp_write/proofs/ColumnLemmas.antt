@@ -1,4 +1,4 @@
--- The lines of columns, as they are put one after another.
+-- The lines of columns, printed one after another.
 use Rattle.std.proofs.Common.{◌≡◌, refl, sym, ap, ◌∙◌, ℕ, ◌<◌, ◌≤◌, Bool, true, false, not, cond, List, [], ◌∷◌, ◌++◌, length, map, arith}
 use Rattle.std.specs.Prelude.{Option, Some, None, slice_get, slice_index_or, unwrap_or}
 use Rattle.std.specs.List.{flat_map, cons_option}
@@ -30,7 +30,7 @@ use Rattle.mpslp_canonical_mps.proofs.DraftMaps.{is_sound_entry}
 use Rattle.mpslp_canonical_mps.proofs.ListingFacts.{sound-listing}
 use Rattle.mpslp_write.proofs.CellLemmas.{by_row, column-cells}
 
--- ---- the column of a number
+-- ---- the column with a number
 
 abbrev Columns : Type 0
 Columns = List (List ℕ × Column)
@@ -38,7 +38,7 @@ Columns = List (List ℕ × Column)
 no_bool : (b : Bool) → ◌≡◌ {A = Option Bool} None (Some b) → ⊥
 no_bool b e = cc
 
--- whether the column of a number is integer, as a view tells it
+-- whether the column with a number is integer, as an accessor returns it
 at-kind : (es : Columns) (j : ℕ) (b : Bool) → option_map views.is_integer_column (slice_get (map (λ e. e.1) es) j) ≡ Some b
     → (e : List ℕ × Column) × (slice_get es j ≡ Some e) × (is_integer_column e ≡ b)
 at-kind es j b is = by (slice_get es j) refl (ap (option_map views.is_integer_column) (sym (slice_get-map (λ (e : List ℕ × Column). e.1) es j)) ∙ is)
@@ -48,7 +48,7 @@ at-kind es j b is = by (slice_get es j) refl (ap (option_map views.is_integer_co
     by None at h = absurd (no_bool b h)
     by (Some e) at h = let told : views.is_integer_column e.1 ≡ b = cc in (e, at, told)
 
--- the lines of the column of a number, if it stands in the part
+-- the lines of the column with a number, if it is in the part
 pub part-lines : (part : Part) (f : List ℕ × Column → Lines) (es : Columns) (j : ℕ) (b : Bool)
     → option_map views.is_integer_column (slice_get (map (λ e. e.1) es) j) ≡ Some b → cond (is_wanted part b) (lines_at f es j) [] ≡ lines_at (of_part part f) es j
 part-lines part f es j b is =
@@ -57,7 +57,7 @@ part-lines part f es j b is =
 
 -- ---- the lines of one column
 
--- what is printed by the name of an entry
+-- what is printed for the name of an entry
 pub named-lines : {X L : Type 0} (g : List ℕ → List L) (es : List (List ℕ × X)) (j : ℕ) → j < length (map (λ e. e.0) es) → g (slice_index_or (map (λ e. e.0) es) j []) ≡ lines_at (λ e. g e.0) es j
 named-lines {X} g es j h = by (slice_get es j) (sym (slice_get-map (λ (e : List ℕ × X). e.0) es j) ∙ slice_get-get_or (map (λ (e : List ℕ × X). e.0) es) j [] h)
   where
@@ -102,7 +102,7 @@ module _ (m : LinearModel) (sound : IsSound m) (column : List ℕ) where
       ∙ joined here (column_elements m column) (coefficient-not_zero m sound m.objective column)
       ∙ ap (λ (cells : List (List ℕ × Number)). map (coefficient_line column) (printed_coefficients m.objective cells)) (sym (column-cells m sound column))
 
--- ---- the objective's line, and that of an element
+-- ---- the line of the objective, and that of a coefficient of a row
 
 pub cell-needed : (objective column : List ℕ) (value : Number) (es : List (CoefficientKey × Number)) → is_zero value ≡ false
     → coefficient_line column (objective, value) ∷ [] ≡ objective_line_at objective column value es
@@ -113,7 +113,7 @@ pub cell-alone : (objective column : List ℕ) (value : Number) (es : List (Coef
 cell-alone objective column value [] h = refl
 cell-alone objective column value (e ∷ es) h = absurd (omega arith)
 
--- an element as the views number it
+-- a coefficient as the accessors number it
 pub element-seen : (m : LinearModel) (es : List (CoefficientKey × Number)) (k i : ℕ) (value : Number)
     → ◌≡◌ {A = Option (Option ℕ × Number)} (slice_get (map (λ e. (views.row_index m e.0.row, e.1)) es) k) (Some (Some i, value))
     → (e : CoefficientKey × Number) × (slice_get es k ≡ Some e) × (views.row_index m e.0.row ≡ Some i) × (e.1 ≡ value)
@@ -141,7 +141,7 @@ row-named m row name i is named =
     let at = get_or_from_slice_get (views.row_names m) i name [] named in
     sym (same_name row name (sym (ap (same_bytes row) at) ∙ passes))
 
--- ---- the bounds of the column of a number, by the views
+-- ---- the bounds of the column with a number, by the accessors
 
 bounds-seen : (es : Columns) (j : ℕ) (kind : Kind) (lower upper : Limit)
     → option_map (λ column. column.kind) (slice_get (map (λ e. e.1) es) j) ≡ Some kind

@@ -1,4 +1,4 @@
--- A difference is 0 exactly where both numbers have one value.
+-- A difference is 0 if and only if both numbers have the same value.
 use Rattle.std.proofs.Common.{◌≡◌, refl, sym, ap, ◌∙◌, ℕ, zero, suc, ◌*◌, ◌^◌, ◌<◌, Bool, true, false, arith}
 use Rattle.std.specs.Prelude.{Some, ℤ, pos, negsuc, ◌+ℤ◌, ◌*ℤ◌, neg_ℤ, unsigned_abs, ◌==◌}
 use Rattle.std.specs.Ordering.{is_eq, int_cmp}

@@ -1,4 +1,4 @@
--- The first place of a list that passes a test, found by looking at one after another.
+-- The first element of a list that passes a test, found by checking one after another.
 use Rattle.std.proofs.Common.{◌≡◌, sym, ap, ◌∙◌, ℕ, zero, suc, ◌+◌, ◌≤◌, Bool, true, false, not, cond, List, [], ◌∷◌, length, arith}
 use Rattle.std.specs.Prelude.{Option, Some, None, slice_get, position}
 use Rattle.std.specs.List.{position_or_len}
@@ -12,7 +12,7 @@ module _ {X : Type 0} (p : X → Bool) where
   the_same : (x y : X) → ◌≡◌ {A = Option X} (Some x) (Some y) → x ≡ y
   the_same x y e = cc
 
-  -- the first lies behind a place that does not pass
+  -- the first is after an element that does not pass
   pub first-behind : (xs : List X) (i : ℕ) (x : X) → i ≤ position_or_len p xs → slice_get xs i ≡ Some x → p x ≡ false → i + 1 ≤ position_or_len p xs
   first-behind [] i x h at fails = absurd (nothing_at x at)
   first-behind (y ∷ ys) zero x h at fails =
@@ -26,7 +26,7 @@ module _ {X : Type 0} (p : X → Bool) where
       by true h more = absurd (omega arith)
       by false h more = let next = more (omega arith) in omega arith
 
-  -- and no later than one that does
+  -- and not after one that does
   first-before : (xs : List X) (i : ℕ) (x : X) → slice_get xs i ≡ Some x → p x ≡ true → position_or_len p xs ≤ i
   first-before [] i x at passes = absurd (nothing_at x at)
   first-before (y ∷ ys) zero x at passes =

@@ -1,4 +1,4 @@
--- The integer columns between marker lines: the first waits as a header, and the last is put where there are lines below that.
+-- The integer columns between marker lines: the first marker waits as a header, and the last is put if there are lines.
 use Rattle.std.proofs.Common.{◌≡◌, refl, sym, ap, ◌∙◌, ℕ, Bool, true, false, not, List, [], ◌∷◌, ◌++◌, length, suc, append_assoc, arith}
 use Rattle.std.specs.Prelude.{◌&&◌, ◌==◌}
 use Rattle.std.proofs.lemmas.Bool.{eqb-true}
@@ -16,7 +16,7 @@ first_marker = text_of (marker_line opening_word ∷ [])
 abbrev last_marker : List ℕ
 last_marker = text_of (marker_line closing_word ∷ [])
 
--- no header waits, as the end of a section tells
+-- no header waits, as `close_section` returns at the end of a section
 abbrev has_lines : BufferState → Bool
 has_lines buffer = not buffer.has_failed && (length buffer.header == 0)
 

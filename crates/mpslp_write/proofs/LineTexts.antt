@@ -1,11 +1,11 @@
--- The pieces of a line, one after another, are its text; and a text has bytes.
+-- The pieces of a line, one after another, are its text; and a text is not empty.
 use Rattle.std.proofs.Common.{◌≡◌, ◌<◌, sym, ap, ◌∙◌, ℕ, List, [], ◌∷◌, ◌++◌, length, append_assoc, append-nil, arith}
 use Rattle.std.specs.Prelude.{codes}
 use Rattle.mpslp_model_core.specs.Model.{LinearModel}
 use Rattle.mpslp_canonical_mps.specs.CanonicalMps.{canonical_mps}
 use Rattle.mpslp_canonical_mps.specs.Printed.{short_line, long_line, text_of}
 
--- what stands before a field
+-- the spaces before a field
 abbrev gap : List ℕ
 gap = codes "  "
 

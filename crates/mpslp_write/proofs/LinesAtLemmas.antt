@@ -1,4 +1,4 @@
--- Lines of one entry after another, and of an entry as it is seen through a model's views.
+-- Lines of one entry after another, and of an entry as the accessors of a model return it.
 use Rattle.std.proofs.Common.{◌≡◌, refl, sym, ap, ◌∙◌, ℕ, zero, suc, ◌≤◌, ◌+◌, add-one, Bool, true, false, cond, List, [], ◌∷◌, ◌++◌, length, map, take, drop, append_assoc, append-nil, arith}
 use Rattle.std.specs.Prelude.{Option, Some, None, slice_get, filter}
 use Rattle.std.specs.List.{All, flat_map, range_with_len}
@@ -9,7 +9,7 @@ use Rattle.std.proofs.lemmas.Option.{slice_get-map}
 use Rattle.mpslp_model_core.proofs.ByRowLemmas.{range_more}
 use Rattle.mpslp_write.specs.LinesAt.{lines_at}
 
--- ---- one entry more
+-- ---- one more entry
 
 pub flat_map-more : {X L : Type 0} (f : X → List L) (xs : List X) (i : ℕ) → flat_map f (take (suc i) xs) ≡ flat_map f (take i xs) ++ lines_at f xs i
 flat_map-more f [] zero = refl
@@ -41,7 +41,7 @@ flat_map-filter {X} f p (x ∷ xs) =
       | false ↦ flat_map-filter f p xs
     ]
 
--- where what does not pass has no lines
+-- if elements that do not pass have no lines
 pub flat_map-kept : {X L : Type 0} (p : X → Bool) (f : X → List L) (xs : List X) → All (λ (x : X). p x ≡ false → f x ≡ []) xs → flat_map f (filter p xs) ≡ flat_map f xs
 flat_map-kept p f [] none = refl
 flat_map-kept {X} {L} p f (x ∷ xs) none =
@@ -62,9 +62,9 @@ flat_map-numbers {X} {L} f xs (suc n) =
     ∙ (λ i. flat_map-numbers f xs n i ++ append-nil (lines_at f xs n) i)
     ∙ sym (flat_map-more f xs n)
 
--- ---- an entry by its views
+-- ---- an entry by its accessors
 
--- what two views tell of an entry, taken together
+-- what two accessors return of an entry, taken together
 pub both_seen : {X A B C : Type 0} (f : X → A) (g : X → B) (h : A → B → C) (o : Option X) (a : A) (b : B) → option_map f o ≡ Some a → option_map g o ≡ Some b
     → option_map (λ x. h (f x) (g x)) o ≡ Some (h a b)
 both_seen f g h None a b p q = absurd cc
@@ -73,7 +73,7 @@ both_seen {X} {A} {B} {C} f g h (Some x) a b p q =
     let right : g x ≡ b = cc in
     λ i. Some (h (left i) (right i))
 
--- the lines of an entry, by its name and what a view tells of it
+-- the lines of an entry, by its name and what an accessor returns of it
 pub lines_seen : {X Y L : Type 0} (es : List (List ℕ × X)) (i : ℕ) (f : X → Y) (h : List ℕ → Y → List L) (name : List ℕ) (seen : Y) → slice_get (map (λ e. e.0) es) i ≡ Some name
     → option_map f (slice_get (map (λ e. e.1) es) i) ≡ Some seen → h name seen ≡ lines_at (λ e. h e.0 (f e.1)) es i
 lines_seen {X} {Y} es i f h name seen named is =
@@ -90,7 +90,7 @@ lines_seen {X} {Y} es i f h name seen named is =
         let b : f e.1 ≡ seen = cc in
         λ i. h (sym a i) (sym b i)
 
--- ---- one entry more, where the number goes on by 1
+-- ---- one more entry, when the number increases by 1
 
 pub flat_map-next : {X L : Type 0} (f : X → List L) (xs : List X) (i : ℕ) → flat_map f (take i xs) ++ lines_at f xs i ≡ flat_map f (take (i + 1) xs)
 flat_map-next f xs i = sym (ap (λ (n : ℕ). flat_map f (take n xs)) (add-one i) ∙ flat_map-more f xs i)
@@ -99,7 +99,7 @@ flat_map-next f xs i = sym (ap (λ (n : ℕ). flat_map f (take n xs)) (add-one i
 pub all-taken : {X L : Type 0} (f : List ℕ × X → List L) (es : List (List ℕ × X)) (n : ℕ) → length (map (λ e. e.0) es) ≤ n → flat_map f (take n es) ≡ flat_map f es
 all-taken {X} f es n h = let named = length-map es (λ (e : List ℕ × X). e.0) in flat_map-all f es n (omega (arith, named, h))
 
--- an entry of whose name nothing is printed
+-- an entry whose name is not printed
 pub nothing_seen : {X Y L : Type 0} (es : List (List ℕ × X)) (i : ℕ) (f : X → Y) (h : List ℕ → Y → List L) (seen : Y)
     → option_map f (slice_get (map (λ e. e.1) es) i) ≡ Some seen → ((name : List ℕ) → h name seen ≡ []) → [] ≡ lines_at (λ e. h e.0 (f e.1)) es i
 nothing_seen {X} {Y} es i f h seen is none = by (slice_get es i) (ap (option_map f) (sym (slice_get-map (λ (e : List ℕ × X). e.1) es i)) ∙ is)

@@ -15,7 +15,7 @@ use Rattle.mpslp_write.specs.TextBuffer.{text_by, text_under}
 
 -- ---- one line
 
--- pieces behind another one, and the end of the line
+-- pieces after another one, and the end of the line
 abbrev behind : List Lexeme → List ℕ
 behind [] = 10 ∷ []
 behind (piece ∷ lexemes) = codes " " ++ (lexeme_text piece ++ behind lexemes)
@@ -39,12 +39,12 @@ line-text indent piece lexemes =
 pub label-text : (name : List ℕ) → codes " " ++ (name ++ codes ":\n") ≡ text_by line_text (label_line name ∷ [])
 label-text name = ap (λ (l : List ℕ). codes " " ++ l) (sym (append_assoc name (codes ":") (10 ∷ []))) ∙ line-text 1 (label name) []
 
--- a sign behind two blanks and before one, and what follows
+-- a sign with two spaces before it and one after it, and what follows
 signed : (minus : Bool) (size rest : List ℕ) → ((codes "  " ++ (sign_bytes minus ++ codes " ")) ++ size) ++ rest ≡ codes "  " ++ (sign_bytes minus ++ (codes " " ++ (size ++ rest)))
 signed true size rest = refl
 signed false size rest = refl
 
--- the sign of a number, and its size
+-- the sign of a number, and its absolute value
 abbrev pub signed_text : Number → List ℕ
 signed_text value = (codes "  " ++ (sign_bytes (is_negative value) ++ codes " ")) ++ number_text (size_of value)
 
@@ -61,7 +61,7 @@ pub unlimited-text : codes "  >= -1e20\n" ≡ text_by line_text (right_line AtLe
 unfolding digits trailing_zeros
 unlimited-text = refl
 
--- ---- lines under a heading
+-- ---- lines below a heading
 
 pub under-heading : (section header : List ℕ) (lines : Lines) → header ≡ line_text (heading (section ∷ [])) ++ 10 ∷ []
     → text_under line_text header lines ≡ text_by line_text (under_heading section lines)
@@ -73,7 +73,7 @@ pub under-semi-heading : (header : List ℕ) (lines : Lines) → header ≡ line
 under-semi-heading header [] is = refl
 under-semi-heading header (line ∷ lines) is = ap (λ (l : List ℕ). l ++ text_by line_text (line ∷ lines)) is
 
--- ---- the whole
+-- ---- the whole text
 
 pub canonical_lp-some : (m : LinearModel) → 0 < length (canonical_lp m)
 canonical_lp-some m = by m.sense

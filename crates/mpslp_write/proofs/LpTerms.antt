@@ -1,4 +1,4 @@
--- Terms of the objective and of rows, as the views of a model tell them.
+-- Terms of the objective and of rows, as the accessors of a model return them.
 use Rattle.std.proofs.Common.{◌≡◌, refl, sym, ap, subst, ◌∙◌, ℕ, ◌+◌, ◌<◌, ◌≤◌, Bool, true, false, not, cond, List, [], ◌∷◌, ◌++◌, length, map, get_or, arith}
 use Rattle.std.specs.Prelude.{Option, Some, None, is_some, unwrap_or, filter, filter_map, slice_get, ◌&&◌, ◌||◌, if◌then◌else◌}
 use Rattle.std.specs.List.{All, flat_map, list_any, cons_option, range_with_len}
@@ -74,7 +74,7 @@ element-in objective column (e ∷ es) some = by (is_row_entry objective column 
         (nat_list_eq_equiv.symm e.0.column column ∙ second_so (not (same_bytes objective e.0.row)) (same_bytes column e.0.column) passes)
     by false passes h more = or_right (is_in column e) (list_any (is_in column) es) (more h)
 
--- neither of the objective nor of a row: not at all
+-- a column without a coefficient in the objective or a row has no coefficients
 none-in : (objective column : List ℕ) (es : Coefficients) → find key_cmp (place_at objective column) es ≡ None
     → length (filter (is_row_entry objective column) es) ≤ 0 → list_any (is_in column) es ≡ false
 none-in objective column [] is few = refl
@@ -194,7 +194,7 @@ module _ (m : LinearModel) (row : List ℕ) where
       let same : get_or (row_columns m row) k j ≡ j = get_or_from_slice_get (row_columns m row) k j j at in
       row-listed m row (column_name m j) (ap in_row (sym same) ∙ passes) ∙ named-lines lines_of (entries m.columns) j below
 
-  -- the others have none
+  -- the other columns have none
   none-unlisted : All (λ (j : ℕ). in_row j ≡ false → numbered_term_lines m row j ≡ []) numbers
   none-unlisted k d below none =
       let within : k < num_columns m = subst (λ (n : ℕ). k < n) (length-range_with_len 0 (num_columns m)) below in

@@ -1,4 +1,4 @@
--- How what was put grows piece by piece, and by what is handed to the sink.
+-- How the text that was put grows piece by piece, and how it is sent to the sink.
 use Rattle.std.proofs.Common.{◌≡◌, refl, sym, ap, subst, ◌∙◌, ℕ, ◌+◌, ◌-◌, ◌^◌, ◌<◌, ◌≤◌, min, Bool, true, false, inl, inr, List, [], ◌∷◌, ◌++◌, length, take, append_assoc, append-nil, arith}
 use Rattle.std.specs.Prelude.{Option, Some, None, Result, Ok, Err, IsOk}
 use Rattle.mpslp_model_core.specs.Model.{LinearModel}
@@ -58,7 +58,7 @@ under-text section header [] is = refl
 under-text section header (line ∷ lines) is = ap (λ (l : List ℕ). l ++ text_of (line ∷ lines)) is
 
 module _ {S : Type 0} (holds : S → List ℕ → Type 0) (failed : S → Bool) (count : S → ℕ) where
-  -- what a sink took first is a first part of any longer text
+  -- a prefix that a sink accepted is a prefix of any longer text
   TookFirst-more : (first now : S) (text more : List ℕ) (told : ℕ) → TookFirst holds first now text told → TookFirst holds first now (text ++ more) told
   TookFirst-more first now text more told took =
       let len = length-append text more in
@@ -95,7 +95,7 @@ module _ {S : Type 0} (holds : S → List ℕ → Type 0) (failed : S → Bool) 
     cut_off = λ fails. let was = h.cut_off fails in record { fails = was.fails; took = was.took; calls = was.calls };
   }
 
-  -- the sink took all that waited
+  -- the sink accepted all that waited
   pub HasPut-sent : (first old new : S) (text header piece : List ℕ) (taken later : ℕ)
       → (waits : List ℕ) → HasPut holds failed count first old (buffer_state waits piece taken false) text header → Grows holds old new piece
       → later ≡ min (taken + length piece) (2 ^ 64 - 1) → count new ≤ count old + length piece → (failed old ≡ true → failed new ≡ true)
@@ -125,7 +125,7 @@ module _ {S : Type 0} (holds : S → List ℕ → Type 0) (failed : S → Bool) 
     cut_off = λ fails. absurd (not_both fails refl);
   }
 
-  -- the sink failed over what waited
+  -- the sink failed on what waited
   pub HasPut-failed : (first old new : S) (text header piece : List ℕ) (taken later : ℕ)
       → (waits : List ℕ) → HasPut holds failed count first old (buffer_state waits piece taken false) text header → TookMore holds old new piece taken later
       → count new ≤ count old + length piece → failed new ≡ true
@@ -153,7 +153,7 @@ module _ {S : Type 0} (holds : S → List ℕ → Type 0) (failed : S → Bool) 
         };
   }
 
-  -- a sink that has failed is handed nothing more, whatever is put and whatever header waits
+  -- nothing more is sent to a sink that has failed, whatever is put and whatever header waits
   pub HasPut-cut : (first now : S) (buffer : BufferState) (text more before header : List ℕ) → buffer.has_failed ≡ true → HasPut holds failed count first now buffer text before
       → HasPut holds failed count first now buffer (text ++ more) header
   HasPut-cut first now buffer text more before header fails h = record {
@@ -167,7 +167,7 @@ module _ {S : Type 0} (holds : S → List ℕ → Type 0) (failed : S → Bool) 
 -- ---- pieces one after another
 
 module _ {S : Type 0} {holds : S → List ℕ → Type 0} {failed : S → Bool} {count : S → ℕ} where
-  -- what was put, and the header that waits, by other words
+  -- the same text and waiting header, written differently
   pub put_same : {first now : S} {buffer : BufferState} {text other header more : List ℕ} → text ≡ other → header ≡ more → HasPut holds failed count first now buffer text header
       → HasPut holds failed count first now buffer other more
   put_same {first} {now} {buffer} {text} {other} {header} {more} same waits h =
@@ -185,7 +185,7 @@ module _ {S : Type 0} {holds : S → List ℕ → Type 0} {failed : S → Bool} 
   pub emits_nothing : (s : S) (buffer : BufferState) → Emits holds failed count s s buffer buffer []
   emits_nothing s buffer = record { puts = λ first text header h. put_same (sym (append-nil text)) refl h }
 
-  -- what is put of a sink that has failed need not be looked at
+  -- after the sink has failed, what is put does not matter
   pub emits_cut : {a b : S} {x y : BufferState} {front : List ℕ} (back : List ℕ) → y.has_failed ≡ true → Emits holds failed count a b x y front
       → Emits holds failed count a b x y (front ++ back)
   emits_cut {b = b} {y = y} back fails h =
@@ -222,7 +222,7 @@ module _ {S L : Type 0} {line_text : L → List ℕ} {holds : S → List ℕ →
         put_same (append_assoc text header (text_by line_text (line ∷ []))) refl ((emits_same same emits).puts first (text ++ header) [] (opens.puts first text header h));
   }
 
-  -- so the entries after it need not be looked at
+  -- so the entries after it do not matter
   pub prints_cut : {X : Type 0} {a b : S} {x y : BufferState} (f : X → List L) (xs : List X) (i : ℕ) → y.has_failed ≡ true
       → Prints line_text holds failed count a b x y (flat_map f (take i xs)) → Prints line_text holds failed count a b x y (flat_map f xs)
   prints_cut {b = b} {y = y} f xs i fails h =
@@ -266,7 +266,7 @@ module _ {S L : Type 0} {line_text : L → List ℕ} {holds : S → List ℕ →
     puts = λ first text g. closed_put closes (ap (λ (l : List ℕ). text ++ l) same) (opened_put opens h g);
   }
 
--- ---- what a caller is told
+-- ---- the result for the caller
 
 pub taken-written : {S : Type 0} (holds : S → List ℕ → Type 0) (failed : S → Bool) (unfit : LinearModel → Option NameAt) (text : LinearModel → List ℕ) (m : LinearModel) (first now : S)
     (r : Result (Unit {0}) WriteFault) → unfit m ≡ None → IsTaken holds failed first now (text m) r → IsWritten unfit text holds failed m first now r
@@ -280,7 +280,7 @@ taken-succeeds holds failed first now text (Ok _) h works = refl
 taken-succeeds holds failed first now text (Err (Write written)) h works = absurd (not_both h.0 works)
 taken-succeeds holds failed first now text (Err (NotLp place)) h works = absurd h
 
--- where each answer with a place was taken, none is left
+-- if each result with a place was handled, none is left
 pub none-left : {X : Type 0} (o : Option X) → ((x : X) → o ≡ Some x → ⊥) → o ≡ None
 none-left None never = refl
 none-left (Some x) never = absurd (never x refl)

@@ -1,4 +1,4 @@
--- The lines of the right side and of the range of a row, by the views of a model.
+-- The lines of the right-hand side and of the range of a row, by the accessors of a model.
 use Rattle.std.proofs.Common.{◌≡◌, refl, sym, ap, ◌∙◌, ℕ, zero, suc, Bool, true, false, cond, List, [], ◌∷◌, map}
 use Rattle.std.specs.Prelude.{Option, Some, None, unwrap_or, slice_get, ◌&&◌, codes, if◌then◌else◌}
 use Rattle.std.specs.List.{list_all}
@@ -44,7 +44,7 @@ letter-told (Finite a) (Finite b) h = by (have_same_value a b)
 letter-told (Finite a) PlusInf h = refl
 letter-told PlusInf upper h = absurd cc
 
--- by the view
+-- by the accessor
 abbrev row_told : List ℕ → ℕ → Lines
 row_told row sense = short_line ((printed_letter sense ∷ []) ∷ row ∷ []) ∷ []
 
@@ -61,9 +61,9 @@ pub row-put : (m : LinearModel) → IsSound m → (i : ℕ) (name : List ℕ) (s
     → option_map row_sense (slice_get (map (λ e. e.1) (entries m.rows)) i) ≡ Some sense → row_told name sense ≡ lines_at (λ row. row_line row ∷ []) (entries m.rows) i
 row-put m sound i name sense named is = lines_seen (entries m.rows) i row_sense row_told name sense named is ∙ rows-told (entries m.rows) i sound.rows
 
--- ---- the right side
+-- ---- the right-hand side
 
--- by the lower limit and the view
+-- by the lower limit and the accessor
 abbrev side_by : Limit → Number → Number
 side_by (Finite lower) side = lower
 side_by _ side = side
@@ -95,7 +95,7 @@ pub side-left : (rows : List Row) (i : ℕ) (lower : Limit) (side : Number) → 
     → option_map (λ row. printed_rhs row.lower row.upper) (slice_get rows i) ≡ Some side
 side-left rows i lower side never p q = side-put rows i lower side p q ∙ ap Some (side-else lower side never)
 
--- where the lower limit is finite, the view need not be asked
+-- if the lower limit is finite, the accessor does not matter
 pub side-finite : (rows : List Row) (i : ℕ) (lower : Number) → option_map (λ row. row.lower) (slice_get rows i) ≡ Some (Finite lower)
     → option_map (λ row. printed_rhs row.lower row.upper) (slice_get rows i) ≡ Some lower
 side-finite rows i lower p = by (slice_get rows i) p
@@ -109,7 +109,7 @@ side-finite rows i lower p = by (slice_get rows i) p
 
 -- ---- the range
 
--- by the view, which is 0 where there is no range
+-- by the accessor, which returns 0 if there is no range
 abbrev range_told : List ℕ → Number → Lines
 range_told row range = if is_zero range then [] else vector_line (codes "RNG") row range ∷ []
 

@@ -1,4 +1,4 @@
--- Lines that are printed of one entry after another.
+-- Lines that are printed for one entry after another.
 use Rattle.std.specs.Prelude.{ℕ, Bool, true, false, not, List, [], ◌∷◌, slice_get, Option, Some, None, ◌==◌, if◌then◌else◌}
 use Rattle.std.specs.Option.{option_map_or}
 use Rattle.mpslp_decimal.specs.Decimal.{Number, is_zero}
@@ -12,20 +12,20 @@ use Rattle.mpslp_canonical_mps.specs.CanonicalMps.{Lines, is_integer_column, coe
 use Rattle.mpslp_write.specs.declared.mps.columns.Part.{Part}
 use Rattle.mpslp_write.specs.declared.mps.columns.Part.TheVariants.{Plain, Integers}
 
--- the lines of the entry of this number, if there is one
+-- the lines of the entry with this number, if there is one
 abbrev pub lines_at : {X L : Type 0} → (X → List L) → List X → ℕ → List L
 lines_at lines_of entries i = option_map_or lines_of (slice_get entries i) []
 
--- the letter of a row by its sense: R, where two limits differ, is printed as G
+-- the letter of a row by its sense; R, a ranged row, is printed as G
 abbrev pub printed_letter : ℕ → ℕ
 printed_letter sense = if sense == 82 then 71 else sense
 
--- whether a column that is integer, or not, stands in the part of COLUMNS
+-- whether a column, which is integer or not, is in the part of COLUMNS
 abbrev pub is_wanted : Part → Bool → Bool
 is_wanted Integers is_integer = is_integer
 is_wanted Plain is_integer = not is_integer
 
--- the lines of a column that stands in the part
+-- the lines of a column if it is in the part
 abbrev pub of_part : Part → (List ℕ × Column → Lines) → List ℕ × Column → Lines
 of_part part lines_of column = if is_wanted part (is_integer_column column) then lines_of column else []
 
@@ -33,7 +33,7 @@ of_part part lines_of column = if is_wanted part (is_integer_column column) then
 abbrev pub element_lines : List ℕ → CoefficientKey × Number → Lines
 element_lines column element = coefficient_line column (element.0.row, element.1) ∷ []
 
--- The line of the objective, with its value there: a column has it where that is not 0, or where it has no other coefficients.
+-- The line of the objective, with its value there: a column has it if that is not 0, or if it has no other coefficients.
 abbrev pub objective_line_at : List ℕ → List ℕ → Number → List (CoefficientKey × Number) → Lines
 objective_line_at objective column value [] = coefficient_line column (objective, value) ∷ []
 objective_line_at objective column value (element ∷ elements) = if is_zero value then [] else coefficient_line column (objective, value) ∷ []
@@ -41,7 +41,7 @@ objective_line_at objective column value (element ∷ elements) = if is_zero val
 abbrev pub objective_lines : LinearModel → List ℕ → Lines
 objective_lines m column = objective_line_at m.objective column (coefficient_at m m.objective column) (column_elements m column)
 
--- the value of a column whose bounds are told together, as they are finite and have the same value
+-- the value of a column whose bounds are printed in one line, because they are finite and have the same value
 abbrev pub fixed_value : Kind → Limit → Limit → Option Number
 fixed_value kind (Finite lower) (Finite upper) = if is_fixed kind lower upper then Some upper else None
 fixed_value kind _ _ = None

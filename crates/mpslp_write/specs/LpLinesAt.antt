@@ -1,4 +1,4 @@
--- Lines of canonical LP that are printed of one entry after another.
+-- Lines of canonical LP that are printed for one entry after another.
 use Rattle.std.specs.Prelude.{ℕ, Bool, true, false, List, [], ◌∷◌, Option, Some, None, if◌then◌else◌}
 use Rattle.std.specs.FinMap.{entries}
 use Rattle.mpslp_model_core.specs.Model.{LinearModel, Column}
@@ -29,7 +29,7 @@ objective_term_lines m column = term_lines (objective_term m column)
 abbrev pub row_term_lines : Listing → List ℕ → List ℕ × Column → Lines
 row_term_lines m row column = term_lines (term_in m row column)
 
--- of the column of a number in the row of this name
+-- of the column with this number in the row of this name
 abbrev pub numbered_term_lines : LinearModel → List ℕ → ℕ → Lines
 numbered_term_lines m row j = lines_at (row_term_lines (listing_of m) row) (entries m.columns) j
 
@@ -44,22 +44,22 @@ sense_lines wanted = heading (sense_word wanted ∷ []) ∷ []
 
 -- ---- two finite limits or bounds
 
--- what stands before the terms of a row
+-- what comes before the terms of a row
 abbrev pub left_between : Number → Number → Lines
 left_between lower upper = if have_same_value lower upper then [] else long_line (number lower ∷ sense AtMost ∷ []) ∷ []
 
--- what stands behind them
+-- what comes after them
 abbrev pub last_between : Number → Number → Lines
 last_between lower upper = (if have_same_value lower upper then right_line EqualTo upper else right_line AtMost upper) ∷ []
 
 abbrev pub lines_between : List ℕ → Number → Number → Lines
 lines_between column lower upper = line_of_some (bound_lexemes column (Finite lower) (Finite upper))
 
--- a lower bound alone
+-- only a lower bound
 abbrev pub lines_from : List ℕ → Number → Lines
 lines_from column lower = line_of_some (bound_lexemes column (Finite lower) PlusInf)
 
--- ---- sections that name the columns of a kind
+-- ---- sections that list the columns of a type
 
 abbrev pub is_of_section : KindSection → Kind → Bool
 is_of_section Generals kind = is_integer_kind kind

@@ -1,4 +1,4 @@
--- What a writer has put so far: a sink took the first bytes of the text, and the others wait in a buffer.
+-- The text that a writer has put so far: a sink accepted a prefix of it, and the rest waits in a buffer.
 use Rattle.std.specs.Prelude.{◌≡◌, ℕ, ◌+◌, ◌-◌, ◌^◌, ◌<◌, ◌≤◌, min, Bool, true, false, List, [], ◌∷◌, ◌++◌, length, map, refl, Result, Ok, Err, if◌then◌else◌}
 use Rattle.std.specs.Coded.{Coded, code_by, coded×, coded_list, coded_ℕ, coded_bool}
 use Rattle.mpslp_io.specs.Devices.{Grows}
@@ -7,8 +7,8 @@ use Rattle.mpslp_model.specs.Formats.{TookFirst}
 use Rattle.mpslp_types.specs.declared.faults.WriteFault.{WriteFault}
 use Rattle.mpslp_types.specs.declared.faults.WriteFault.TheVariants.{Write}
 
--- The bytes that wait, how many bytes the sink took, a number that stays at 2^64 - 1, whether the sink failed, and the header that waits for the first line of its section,
--- [] where none does.
+-- The bytes that wait; how many bytes the sink accepted, at most 2^64 - 1; whether the sink failed; and the header that
+-- waits for the first line of its section, [] if none waits.
 pub record BufferState : Type 0 where
   pub waiting : List ℕ
   pub taken : ℕ
@@ -32,7 +32,7 @@ with_waiting bytes buffer = buffer_state buffer.header bytes buffer.taken buffer
 abbrev pub with_header : List ℕ → BufferState → BufferState
 with_header header buffer = buffer_state header buffer.waiting buffer.taken buffer.has_failed
 
--- Since the sink was `first` it took the text but for what waits, and this header waits for a line.
+-- From the state `first` on, the sink accepted the text except for the bytes that wait, and this header waits for a line.
 pub record IsUnderWay {S : Type 0} (holds : S → List ℕ → Type 0) (failed : S → Bool) (count : S → ℕ) (first now : S) (buffer : BufferState) (text header : List ℕ)
     : Type 0 where
   pub header_is : buffer.header ≡ header
@@ -44,61 +44,62 @@ pub record IsUnderWay {S : Type 0} (holds : S → List ℕ → Type 0) (failed :
   pub stays : failed first ≡ true → failed now ≡ true
   pub works : 0 < length sent → failed now ≡ false
 
--- It took the first bytes of the text, and then failed.
+-- The sink accepted a prefix of the text, and then failed.
 pub record IsCutOff {S : Type 0} (holds : S → List ℕ → Type 0) (failed : S → Bool) (count : S → ℕ) (first now : S) (buffer : BufferState) (text : List ℕ)
     : Type 0 where
   pub fails : failed now ≡ true
   pub took : TookFirst holds first now text buffer.taken
   pub calls : count now ≤ count first + length text
 
--- The text was put since the sink was `first`, and this header waits for a line. Of a sink that failed no header is told.
+-- The text was put since the sink was `first`, and this header waits for a line. After a failure nothing is stated of a
+-- header.
 pub record HasPut {S : Type 0} (holds : S → List ℕ → Type 0) (failed : S → Bool) (count : S → ℕ) (first now : S) (buffer : BufferState) (text header : List ℕ)
     : Type 0 where
   pub under_way : buffer.has_failed ≡ false → IsUnderWay holds failed count first now buffer text header
   pub cut_off : buffer.has_failed ≡ true → IsCutOff holds failed count first now buffer text
 
--- Whatever was put, it was put still: bytes that waited were handed to the sink.
+-- Whatever was put is still put: waiting bytes were sent to the sink.
 abbrev pub KeepsPut : {S : Type 0} → (S → List ℕ → Type 0) → (S → Bool) → (S → ℕ) → S → S → BufferState → BufferState → Type 0
 KeepsPut {S} holds failed count old new before after =
     (first : S) (text header : List ℕ) → HasPut holds failed count first old before text header → HasPut holds failed count first new after text header
 
--- Whatever was put, it was put with the piece behind it.
+-- The piece was appended to whatever was put.
 pub record Emits {S : Type 0} (holds : S → List ℕ → Type 0) (failed : S → Bool) (count : S → ℕ) (old new : S) (before after : BufferState) (piece : List ℕ)
     : Type 0 where
   pub puts : (first : S) (text header : List ℕ) → HasPut holds failed count first old before text header → HasPut holds failed count first new after (text ++ piece) header
 
--- Whatever was put, it was put with the header that waited behind it, and none waits any more.
+-- The header that waited was appended to whatever was put, and none waits any more.
 pub record PutsHeader {S : Type 0} (holds : S → List ℕ → Type 0) (failed : S → Bool) (count : S → ℕ) (old new : S) (before after : BufferState) : Type 0 where
   pub puts : (first : S) (text header : List ℕ) → HasPut holds failed count first old before text header → HasPut holds failed count first new after (text ++ header) []
 
 -- ---- lines of any kind, by how one is printed
 
--- their text, each line ended by a line feed
+-- their text, with a line feed after each line
 abbrev pub text_by : {L : Type 0} → (L → List ℕ) → List L → List ℕ
 text_by line_text lines = with_line_feeds (map line_text lines)
 
--- the text of lines and of the header that waits: it goes before the first of them
+-- the text of lines and of the header that waits, which is put before the first of them
 abbrev pub text_under : {L : Type 0} → (L → List ℕ) → List ℕ → List L → List ℕ
 text_under line_text header [] = []
 text_under line_text header (line ∷ lines) = header ++ text_by line_text (line ∷ lines)
 
--- the header that waits behind them: it still does where there are none
+-- the header that waits after them: the same one if there are no lines
 abbrev pub header_behind : {L : Type 0} → List ℕ → List L → List ℕ
 header_behind header [] = header
 header_behind header (line ∷ lines) = []
 
--- Whatever was put, and whatever header waited, it was put with the lines behind it, below the header.
+-- The lines were appended to whatever was put, after the header that waited.
 pub record Prints {S L : Type 0} (line_text : L → List ℕ) (holds : S → List ℕ → Type 0) (failed : S → Bool) (count : S → ℕ) (old new : S) (before after : BufferState)
     (lines : List L) : Type 0 where
   pub puts : (first : S) (text header : List ℕ) → HasPut holds failed count first old before text header
       → HasPut holds failed count first new after (text ++ text_under line_text header lines) (header_behind header lines)
 
--- Whatever was put while no header waited, it was put with the lines behind it, their headers among them, and none waits.
+-- If no header waited, the lines were appended to whatever was put, including their headers, and no header waits.
 pub record PrintsSection {S L : Type 0} (line_text : L → List ℕ) (holds : S → List ℕ → Type 0) (failed : S → Bool) (count : S → ℕ) (old new : S) (before after : BufferState)
     (lines : List L) : Type 0 where
   pub puts : (first : S) (text : List ℕ) → HasPut holds failed count first old before text []
       → HasPut holds failed count first new after (text ++ text_by line_text lines) []
 
--- what is told of a sink that took all that it was handed, or failed
+-- the result for a sink that accepted all that it was sent, or failed
 abbrev pub answer_of : BufferState → Result (Unit {0}) WriteFault
 answer_of buffer = if buffer.has_failed then Err (Write buffer.taken) else Ok tt

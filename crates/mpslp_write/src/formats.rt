@@ -18,13 +18,12 @@ use mpslp_model::{Format, Model, ReadFault, Sink, WriteFault};
 use mpslp_mps::{MpsReader, read_mps};
 use std::alloc::Global;
 
-/// MPS, as the CPLEX file format reference has it, in this profile (`docs/FORMATS.md`). It can tell
-/// every model.
+/// MPS as in the CPLEX file format reference, in the profile of `docs/FORMATS.md`. It can express every model.
 #[derive(Clone, Copy, Debug)]
 pub struct Mps;
 
-/// Bytes declare models by `DeclaresMps` and have first faults by `IsFirstMpsFault`, and the text of a
-/// model is `canonical_mps`.
+/// The bytes of a file declare a model by `DeclaresMps` and have a first error by `IsFirstMpsFault`. The text of a model is
+/// `canonical_mps`.
 impl Format for Mps {
     ghost declares = { DeclaresMps };
 
@@ -64,13 +63,13 @@ impl Format for Mps {
     ghost reader_faults = { λ bytes fault first. first };
 }
 
-/// LP, as the CPLEX file format reference has it, in this profile (`docs/FORMATS.md`). It can tell each
-/// model whose names are all LP names.
+/// LP as in the CPLEX file format reference, in the profile of `docs/FORMATS.md`. It can express every model whose names are
+/// all LP names.
 #[derive(Clone, Copy, Debug)]
 pub struct Lp;
 
-/// Bytes declare models by `DeclaresLp` and have first faults by `IsFirstLpFault`, and the text of a
-/// model is `canonical_lp`. The first name that is no LP name is what LP cannot tell (`unfit`).
+/// The bytes of a file declare a model by `DeclaresLp` and have a first error by `IsFirstLpFault`. The text of a model is
+/// `canonical_lp`. `unfit` is the first name that is not an LP name.
 impl Format for Lp {
     ghost declares = { DeclaresLp };
 

@@ -1,10 +1,9 @@
 //! The writers of canonical texts, and the formats of model files.
 //!
-//! [`write_mps`] writes the canonical MPS text of a model, which mpslp_canonical_mps defines, to a sink, and
-//! [`write_lp`] its canonical LP text, which mpslp_canonical_lp defines; [`first_unfit_name`] tells where
-//! a model first has a name that LP cannot tell.
-//! [`Mps`] and [`Lp`] are the formats: reader, writer, and the laws that hold the two together.
-//! A text that is no canonical one is put piece by piece through a [`Buffer`] too.
+//! [`write_mps`] writes the canonical MPS text of a model, which mpslp_canonical_mps defines, to a sink, and [`write_lp`]
+//! its canonical LP text, which mpslp_canonical_lp defines. [`first_unfit_name`] finds the first name of a model that is not
+//! legal in LP. [`Mps`] and [`Lp`] are the formats: reader, writer, and the laws that relate them. Other texts are printed
+//! through a [`Buffer`], too.
 #![tactic(auto)]
 
 mod formats;

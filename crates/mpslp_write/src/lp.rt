@@ -1,4 +1,4 @@
-//! The canonical LP text of a model, written to a sink.
+//! Writes the canonical LP text of a model to a sink.
 
 mod bounds;
 mod fit;
@@ -24,7 +24,7 @@ use crate::lp::rows::put_rows_section;
 use crate::text_buffer::Buffer;
 use mpslp_model::{Model, Sink, WriteFault};
 
-/// Puts the canonical lines of a model.
+/// Prints the canonical lines of a model.
 fn put_lines<W: Sink>(model: &Model, sink: &mut W, buffer: &mut Buffer)
     ensures { PrintsSection line_text W.holds W.failed W.count sink.old sink.new buffer.old buffer.new (canonical_lines model.now) }
 {
@@ -36,17 +36,17 @@ fn put_lines<W: Sink>(model: &Model, sink: &mut W, buffer: &mut Buffer)
     buffer.put(sink, b"End\n");
 }
 
-/// Writes the canonical LP text of a model to a sink, in as many calls as it has bytes at most, and does
-/// not flush. The text waits in a buffer of 65,536 bytes between calls; no memory is taken.
+/// Writes the canonical LP text of a model to a sink, in at most as many calls as it has bytes, and does not flush. The text
+/// is collected in a buffer of 65,536 bytes between calls. Does not allocate.
 ///
-/// The columns of a row are those that the model lists, and each coefficient is found by a search by halves in its column.
+/// The columns of a row are those that the model lists, and each coefficient is found by binary search in its column.
 ///
 /// # Errors
 ///
-/// [`NotLp`](WriteFault::NotLp) exactly where a name of the model is no LP name, with the place of the
-/// first: the sink is not called. [`Write`](WriteFault::Write) exactly where all are, and the sink has
-/// failed when the call ends: it has taken that many first bytes of the text, a number that stays at
-/// 2^64 - 1, and nothing else, and it is not called again.
+/// [`NotLp`](WriteFault::NotLp) if and only if a name of the model is not an LP name, with the place of the first such name;
+/// then the sink is not called. [`Write`](WriteFault::Write) if and only if all names are LP names and the sink has failed
+/// when the call ends. It contains the number of bytes that the sink accepted, at most 2^64 - 1: the sink accepted this prefix
+/// of the text and nothing else, and is not called again.
 pub fn write_lp<W: Sink>(model: &Model, sink: &mut W) -> Result<(), WriteFault>
     ensures answer { IsWritten unfit canonical_lp W.holds W.failed model.now sink.old sink.new result }
     ensures refuses { (place : NameAt) → unfit model.now ≡ Some place → (result ≡ Err (NotLp place)) × (sink.new ≡ sink.old) }

@@ -1,4 +1,4 @@
-//! The canonical MPS text of a model, written to a sink.
+//! Writes the canonical MPS text of a model to a sink.
 
 pub(crate) mod bounds;
 mod columns;
@@ -17,7 +17,7 @@ use crate::mps::rows::{put_ranges_section, put_rhs_section, put_rows_section};
 use crate::text_buffer::Buffer;
 use mpslp_model::{Model, Sense, Sink, WriteFault};
 
-/// Puts the section OBJSENSE, where the objective is maximized.
+/// Prints the section OBJSENSE, if the objective is maximized.
 fn put_sense<W: Sink>(sense: Sense, sink: &mut W, buffer: &mut Buffer)
     ensures { PrintsSection line_text W.holds W.failed W.count sink.old sink.new buffer.old buffer.new (sense_lines sense) }
 {
@@ -27,7 +27,7 @@ fn put_sense<W: Sink>(sense: Sense, sink: &mut W, buffer: &mut Buffer)
     }
 }
 
-/// Puts the canonical lines of a model.
+/// Prints the canonical lines of a model.
 fn put_lines<W: Sink>(model: &Model, sink: &mut W, buffer: &mut Buffer)
     ensures { PrintsSection line_text W.holds W.failed W.count sink.old sink.new buffer.old buffer.new (canonical_lines model.now) }
 {
@@ -41,14 +41,14 @@ fn put_lines<W: Sink>(model: &Model, sink: &mut W, buffer: &mut Buffer)
     buffer.put(sink, b"ENDATA\n");
 }
 
-/// Writes the canonical MPS text of a model to a sink, in as many calls as it has bytes at most, and
-/// does not flush. The text waits in a buffer of 65,536 bytes between calls; no memory is taken.
+/// Writes the canonical MPS text of a model to a sink, in at most as many calls as it has bytes, and does not flush. The
+/// text is collected in a buffer of 65,536 bytes between calls. Does not allocate.
 ///
 /// # Errors
 ///
-/// [`Write`](WriteFault::Write) exactly where the sink has failed when the call ends: it has taken that
-/// many first bytes of the text, a number that stays at 2^64 - 1, and nothing else, and it is not called
-/// again. [`NotLp`](WriteFault::NotLp) is never answered.
+/// [`Write`](WriteFault::Write) if and only if the sink has failed when the call ends. It contains the number of bytes that
+/// the sink accepted, at most 2^64 - 1: the sink accepted this prefix of the text and nothing else, and is not called again.
+/// Never [`NotLp`](WriteFault::NotLp).
 pub fn write_mps<W: Sink>(model: &Model, sink: &mut W) -> Result<(), WriteFault>
     ensures answer { IsWritten (λ _. None) canonical_mps W.holds W.failed model.now sink.old sink.new result }
     ensures succeeds { W.failed sink.new ≡ false → IsOk result }

@@ -1,4 +1,4 @@
-//! The text on its way to a sink: gathered in a buffer, and handed over when that is full.
+//! A buffer between a text and a sink.
 
 ghost use Rattle.std.specs.Prelude.{◌≡◌, ◌+◌, ◌<◌, ◌≤◌, List, [], ◌++◌, ℕ, true, false, not, ◌&&◌, ◌==◌, length, IsOk};
 ghost use Rattle.mpslp_write.specs.TextBuffer.{BufferState, buffer_state, empty_buffer, with_waiting, with_header, HasPut, KeepsPut, Emits, PutsHeader, answer_of};
@@ -8,11 +8,11 @@ use arrayvec::ArrayVec;
 use mpslp_model::{Sink, WriteFault, put_all};
 use std::marker::Model;
 
-/// How many bytes wait for the sink at most.
+/// The most bytes that wait for the sink.
 const CAPACITY: usize = 65536;
 
-/// What a sink took: how many bytes, a number that stays at 2^64 - 1, and whether it failed. One that
-/// failed is not called again.
+/// What was sent to a sink: how many bytes it accepted, at most 2^64 - 1, and whether it failed. A sink that has failed is
+/// not called again.
 #[derive(Clone, Copy)]
 struct Sent {
     taken: u64,
@@ -20,7 +20,7 @@ struct Sent {
 }
 
 impl Sent {
-    /// Hands a piece to the sink.
+    /// Sends a piece to the sink.
     fn send<W: Sink>(&mut self, sink: &mut W, piece: &[u8])
         ensures { (header : List ℕ) → KeepsPut W.holds W.failed W.count sink.old sink.new (buffer_state header piece.now self.old.taken self.old.has_failed) (buffer_state header [] self.new.taken self.new.has_failed) }
     {
@@ -34,16 +34,16 @@ impl Sent {
     }
 }
 
-/// Bytes that wait for a sink, so that it is called once for many pieces. After the sink has failed
-/// nothing more is handed to it, so that pieces can be put one after another without a test after each;
-/// [`finish`](Buffer::finish) tells the failure. No memory is taken.
+/// A buffer for a sink, so that the sink is called once for many pieces. After the sink has failed, it is not called again;
+/// so pieces can be put one after another without a check after each, and [`finish`](Buffer::finish) returns the failure.
+/// Does not allocate.
 ///
-/// The header of a section that may have no line waits here too, and is put with the first line.
+/// The header of a section that may be empty also waits here, and is put with the first line.
 #[derive(Drop)]
 pub struct Buffer {
     bytes: ArrayVec<u8, CAPACITY>,
     sent: Sent,
-    /// The header that waits for the first line of its section. Empty: none does.
+    /// The header that waits for the first line of its section; empty if none waits.
     header: &'static [u8],
 }
 
@@ -58,7 +58,7 @@ impl Model for Buffer {
 }
 
 impl Buffer {
-    /// A buffer in which nothing waits, for a sink that took nothing yet.
+    /// An empty buffer, for a sink that has accepted nothing yet.
     pub fn new() -> Buffer
         ensures { result ≡ empty_buffer }
     {
@@ -72,7 +72,7 @@ impl Buffer {
         }
     }
 
-    /// Puts a piece behind what was put before.
+    /// Appends a piece to the text.
     pub fn put<W: Sink>(&mut self, sink: &mut W, piece: &[u8])
         ensures { Emits W.holds W.failed W.count sink.old sink.new self.old self.new piece.now }
     {
@@ -88,14 +88,14 @@ impl Buffer {
         }
     }
 
-    /// Begins a section: its header waits for the first line.
+    /// Begins a section. Its header waits for the first line.
     pub(crate) fn open_section(&mut self, header: &'static [u8])
         ensures { self.new ≡ with_header header.now self.old }
     {
         self.header = header;
     }
 
-    /// Puts the header that waits, if one does: what a line begins with.
+    /// Puts the header that waits, if there is one, before the first line of its section.
     pub(crate) fn put_header<W: Sink>(&mut self, sink: &mut W)
         ensures { PutsHeader W.holds W.failed W.count sink.old sink.new self.old self.new }
     {
@@ -107,8 +107,8 @@ impl Buffer {
         self.put(sink, header);
     }
 
-    /// Ends a section: where it has no line, its header is not put. Tells whether it has any; where the
-    /// sink has failed, that it has none.
+    /// Ends a section, without its header if it has no lines. Returns whether it has lines, and false if the sink has
+    /// failed.
     pub(crate) fn close_section(&mut self) -> bool
         ensures closed { self.new ≡ with_header [] self.old }
         ensures has_lines { result ≡ (not self.old.has_failed && (length self.old.header == 0)) }
@@ -118,16 +118,15 @@ impl Buffer {
         has_lines
     }
 
-    /// Whether the sink has failed, so that nothing more need be put.
+    /// Whether the sink has failed, so that nothing more needs to be put.
     pub fn has_failed(&self) -> bool
         ensures { result ≡ self.now.has_failed }
     {
         self.sent.has_failed
     }
 
-    /// Hands what waits to the sink, and tells whether that took the whole text. A sink that has failed
-    /// is answered by [`Write`](WriteFault::Write), with the number of first bytes of the text that it
-    /// has taken.
+    /// Sends the waiting bytes to the sink. If the sink has failed, now or before, returns [`Write`](WriteFault::Write) with
+    /// the number of bytes of the text that it accepted.
     pub fn finish<W: Sink>(&mut self, sink: &mut W) -> Result<(), WriteFault>
         ensures answer { (first : W) (text header : List ℕ) → HasPut W.holds W.failed W.count first sink.old self.old text header → IsTaken W.holds W.failed first sink.new text result }
         ensures calls { (first : W) (text header : List ℕ) → HasPut W.holds W.failed W.count first sink.old self.old text header → W.count sink.new ≤ W.count first + length text }
@@ -138,7 +137,7 @@ impl Buffer {
         self.answer()
     }
 
-    /// How many bytes wait.
+    /// The number of bytes that wait.
     fn len(&self) -> usize
         ensures is { result ≡ length self.now.waiting }
         ensures fits { result ≤ CAPACITY }
@@ -146,7 +145,7 @@ impl Buffer {
         self.bytes.len()
     }
 
-    /// Lets a piece wait behind what waits.
+    /// Appends a piece to the waiting bytes.
     fn append(&mut self, piece: &[u8])
         requires { length self.old.waiting + length piece.now ≤ CAPACITY }
         ensures { self.new ≡ with_waiting (self.old.waiting ++ piece.now) self.old }
@@ -155,7 +154,7 @@ impl Buffer {
         prove!(!is_full);
     }
 
-    /// Hands what waits to the sink.
+    /// Sends the waiting bytes to the sink.
     fn hand_over<W: Sink>(&mut self, sink: &mut W)
         ensures put { KeepsPut W.holds W.failed W.count sink.old sink.new self.old self.new }
         ensures emptied { self.new.waiting ≡ [] }
@@ -164,7 +163,7 @@ impl Buffer {
         self.bytes.clear();
     }
 
-    /// Hands a piece to the sink, where nothing waits.
+    /// Sends a piece to the sink, if no bytes wait.
     fn send<W: Sink>(&mut self, sink: &mut W, piece: &[u8])
         requires { self.old.waiting ≡ [] }
         ensures { KeepsPut W.holds W.failed W.count sink.old sink.new (with_waiting piece.now self.old) self.new }
@@ -172,7 +171,7 @@ impl Buffer {
         self.sent.send(sink, piece);
     }
 
-    /// What is told of the sink.
+    /// The result for the text that was sent so far.
     fn answer(&self) -> Result<(), WriteFault>
         ensures { result ≡ answer_of self.now }
     {

@@ -35,7 +35,7 @@ impl PartialOrd for Decimal {
     }
 }
 
-/// Compares two decimals at the smaller one of their exponents.
+/// Compares two decimals at the smaller of their exponents.
 fn compare(left: Decimal, right: Decimal) -> Ordering
     ensures { result ≡ order_of left right }
 {
@@ -47,7 +47,7 @@ fn compare(left: Decimal, right: Decimal) -> Ordering
     }
 }
 
-/// Compares a mantissa with so many zeros behind it with another one.
+/// Compares a mantissa with zeros appended with another mantissa.
 fn compare_shifted(mantissa: i128, places: u32, other: i128) -> Ordering
     requires { unsigned_abs other < 10 ^ MAX_DIGITS }
     ensures { result ≡ int_cmp (mantissa *ℤ pos (10 ^ places)) other }
@@ -58,7 +58,7 @@ fn compare_shifted(mantissa: i128, places: u32, other: i128) -> Ordering
     }
 }
 
-/// A mantissa with so many zeros behind it; `None` where that has more digits than two mantissas together.
+/// A mantissa with zeros appended; `None` if it has more digits than the sum of two mantissas can have.
 pub(crate) fn shifted(mantissa: i128, places: u32) -> Option<i128>
     ensures { MatchOption result (10 ^ (MAX_DIGITS + 1) ≤ unsigned_abs mantissa * 10 ^ places) (λ shifted. shifted ≡ mantissa *ℤ pos (10 ^ places)) }
 {

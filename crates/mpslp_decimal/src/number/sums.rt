@@ -9,12 +9,12 @@ use crate::literal::in_range;
 use crate::number::order::shifted;
 use crate::number::{Decimal, MAX_DIGITS};
 
-/// Ten to the `MAX_DIGITS`, the first mantissa that has too many digits. The proofs compare the two.
+/// Ten to the `MAX_DIGITS`, the first mantissa with too many digits. The proofs compare the two.
 const MANTISSA_LIMIT: u128 = 1_000_000_000_000_000_000_000_000_000_000_000_000;
 
 impl Decimal {
-    /// The exact sum, or `None` where it is no decimal: it needs more than [`MAX_DIGITS`] digits, or its
-    /// exponent is out of range.
+    /// The exact sum, or `None` if it is not a decimal: it needs more than [`MAX_DIGITS`] digits, or its exponent is out of
+    /// range.
     pub fn checked_add(self, other: Decimal) -> Option<Decimal>
         ensures { result ≡ sum_of self other }
     {
@@ -25,7 +25,7 @@ impl Decimal {
         }
     }
 
-    /// The exact difference, or `None` where it is no decimal, as in [`Decimal::checked_add`].
+    /// The exact difference, or `None` if it is not a decimal, as in [`Decimal::checked_add`].
     pub fn checked_sub(self, other: Decimal) -> Option<Decimal>
         ensures { result ≡ difference_of self other }
     {
@@ -33,7 +33,7 @@ impl Decimal {
     }
 }
 
-/// The sum, counted at the smaller exponent, which is the second one's.
+/// The sum, computed at the smaller exponent, which is that of `low`.
 fn sum_at(high: Decimal, low: Decimal) -> Option<Decimal>
     requires { low.exponent ≤ℤ high.exponent }
     ensures { result ≡ sum_of high low }
@@ -45,8 +45,8 @@ fn sum_at(high: Decimal, low: Decimal) -> Option<Decimal>
         return Some(high);
     }
     let places = high.exponent().abs_diff(low.exponent());
-    // Where zeros are put behind one number, the sum ends in the last digit of the other one, which is not 0:
-    // so no zeros can be cut off a sum that is too long.
+    // If zeros were appended to one mantissa, the last digit of the sum is that of the other one, which is not 0: so a sum
+    // that is too long cannot lose trailing zeros.
     let sum = shifted_sum(high.mantissa(), places, low.mantissa())?;
     if sum == 0 {
         return Some(Decimal::zero());
@@ -54,8 +54,8 @@ fn sum_at(high: Decimal, low: Decimal) -> Option<Decimal>
     decimal_of(sum < 0, sum.unsigned_abs(), low.exponent())
 }
 
-/// A mantissa with so many zeros behind it, and another one added; `None` where that is further from 0 than
-/// any two mantissas together.
+/// A mantissa with zeros appended, plus another one; `None` if the magnitude is larger than that of any sum of two
+/// mantissas.
 fn shifted_sum(mantissa: i128, places: u32, other: i128) -> Option<i128>
     requires { unsigned_abs other < 10 ^ MAX_DIGITS }
     ensures { let sum = (mantissa *ℤ pos (10 ^ places)) +ℤ other in MatchOption result (2 * 10 ^ MAX_DIGITS ≤ unsigned_abs sum) (λ s. s ≡ sum) }
@@ -63,7 +63,7 @@ fn shifted_sum(mantissa: i128, places: u32, other: i128) -> Option<i128>
     shifted(mantissa, places)?.checked_add(other)
 }
 
-/// The decimal of a mantissa, perhaps with zeros at its end, and an exponent.
+/// The decimal of a mantissa, which may have trailing zeros, and an exponent.
 fn decimal_of(is_negative: bool, size: u128, exponent: i32) -> Option<Decimal>
     requires some { 0 < size }
     requires small { size < 10 ^ 39 }
@@ -77,7 +77,7 @@ fn decimal_of(is_negative: bool, size: u128, exponent: i32) -> Option<Decimal>
     in_range(is_negative, digits, exponent + zeros as i32).ok()
 }
 
-/// A number without the zeros at its end, and how many zeros these are.
+/// A number without its trailing zeros, and their number.
 fn stripped(number: u128) -> (u128, u32)
     requires some { 0 < number }
     requires small { number < 10 ^ 39 }

@@ -1,4 +1,4 @@
-//! The bounds of columns in canonical LP.
+//! The Bounds section of canonical LP.
 
 ghost use Rattle.std.specs.Prelude.{◌≡◌, ◌<◌};
 ghost use Rattle.std.specs.List.{flat_map};
@@ -21,7 +21,7 @@ use crate::text_buffer::Buffer;
 use mpslp_decimal::Decimal;
 use mpslp_model::{Limit, Model, Sink};
 
-/// Puts the line of two finite bounds.
+/// Prints the line of two finite bounds.
 fn put_between<W: Sink>(
     sink: &mut W,
     buffer: &mut Buffer,
@@ -38,7 +38,7 @@ fn put_between<W: Sink>(
     }
 }
 
-/// Puts the line of a lower bound alone, unless it is 0.
+/// Prints the line of a column with only a lower bound, unless it is 0.
 fn put_from<W: Sink>(sink: &mut W, buffer: &mut Buffer, column: &[u8], lower: Decimal)
     ensures { Prints line_text W.holds W.failed W.count sink.old sink.new buffer.old buffer.new (lines_from column.now lower) }
 {
@@ -47,7 +47,7 @@ fn put_from<W: Sink>(sink: &mut W, buffer: &mut Buffer, column: &[u8], lower: De
     }
 }
 
-/// Puts the line of the bounds of a column, unless they are 0 and plus infinity.
+/// Prints the line of the bounds of a column, unless they are 0 and plus infinity.
 fn put_bounds_of<W: Sink>(
     sink: &mut W,
     buffer: &mut Buffer,
@@ -70,7 +70,7 @@ fn put_bounds_of<W: Sink>(
     }
 }
 
-/// Puts the line of the bounds of the column of number `j`.
+/// Prints the line of the bounds of column `j`.
 fn put_bounds<W: Sink>(model: &Model, j: usize, sink: &mut W, buffer: &mut Buffer)
     requires { j < num_columns model.now }
     ensures { Prints line_text W.holds W.failed W.count sink.old sink.new buffer.old buffer.new (lines_at bound_lines (entries model.now.columns) j) }
@@ -81,7 +81,7 @@ fn put_bounds<W: Sink>(model: &Model, j: usize, sink: &mut W, buffer: &mut Buffe
     put_bounds_of(sink, buffer, column, &lower, &upper);
 }
 
-/// Puts the lines of the bounds of all columns.
+/// Prints the lines of the bounds of all columns.
 fn put_all_bounds<W: Sink>(model: &Model, sink: &mut W, buffer: &mut Buffer)
     ensures { Prints line_text W.holds W.failed W.count sink.old sink.new buffer.old buffer.new (flat_map bound_lines (entries model.now.columns)) }
 {
@@ -93,7 +93,7 @@ fn put_all_bounds<W: Sink>(model: &Model, sink: &mut W, buffer: &mut Buffer)
     }
 }
 
-/// Puts the section of bounds, or nothing where all are 0 and plus infinity.
+/// Prints the Bounds section, or nothing if all bounds are 0 and plus infinity.
 pub(crate) fn put_bounds_section<W: Sink>(model: &Model, sink: &mut W, buffer: &mut Buffer)
     ensures { PrintsSection line_text W.holds W.failed W.count sink.old sink.new buffer.old buffer.new (bounds_section (listing_of model.now)) }
 {

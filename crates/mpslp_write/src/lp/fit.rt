@@ -1,4 +1,4 @@
-//! Which models LP can tell: those whose names are LP names.
+//! Which models LP can express: those whose names are all LP names.
 
 ghost use Rattle.std.specs.Prelude.{◌≡◌};
 ghost use Rattle.mpslp_model_core.specs.Views.{row_names, column_names};
@@ -6,7 +6,7 @@ ghost use Rattle.mpslp_canonical_lp.specs.Unfit.{first_unfit, unfit};
 
 use mpslp_model::{Model, NameAt};
 
-/// The number of the first row whose name is no LP name.
+/// The index of the first row whose name is not an LP name.
 fn first_unfit_row(model: &Model) -> Option<usize>
     ensures { result ≡ first_unfit (row_names model.now) }
 {
@@ -18,7 +18,7 @@ fn first_unfit_row(model: &Model) -> Option<usize>
     None
 }
 
-/// The number of the first column whose name is no LP name.
+/// The index of the first column whose name is not an LP name.
 fn first_unfit_column(model: &Model) -> Option<usize>
     ensures { result ≡ first_unfit (column_names model.now) }
 {
@@ -30,9 +30,8 @@ fn first_unfit_column(model: &Model) -> Option<usize>
     None
 }
 
-/// Where a model first has a name that LP cannot tell, if it has one: the objective, or else the least
-/// row, or else the least column whose name is no LP name. It looks at each name once at most and takes
-/// no memory.
+/// The place of the first name of a model that is not an LP name, if there is one: the objective, or else the first such
+/// row, or else the first such column. Each name is checked at most once. Does not allocate.
 pub fn first_unfit_name(model: &Model) -> Option<NameAt>
     ensures { result ≡ unfit model.now }
 {

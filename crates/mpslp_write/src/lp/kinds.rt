@@ -1,4 +1,4 @@
-//! The sections of canonical LP that name the columns of a kind.
+//! The sections of canonical LP that list the columns of a type.
 
 ghost use Rattle.std.specs.Prelude.{◌≡◌, ◌<◌};
 ghost use Rattle.std.specs.List.{flat_map};
@@ -15,7 +15,7 @@ use crate::lp::lines::put_name_line;
 use crate::text_buffer::Buffer;
 use mpslp_model::{Kind, Model, Sink};
 
-/// A section that names the columns of a kind.
+/// A section that lists the columns of a type.
 #[derive(Clone, Copy)]
 enum KindSection {
     /// The integer columns.
@@ -24,7 +24,7 @@ enum KindSection {
     SemiContinuous,
 }
 
-/// Whether columns of the kind are named in the section.
+/// Whether the section lists columns of this type.
 fn is_of_section(section: KindSection, kind: Kind) -> bool
     ensures { result ≡ is_of_section section kind }
 {
@@ -40,7 +40,7 @@ fn is_of_section(section: KindSection, kind: Kind) -> bool
     }
 }
 
-/// Puts the name of the column of number `j`, if the section names it.
+/// Prints the name of column `j`, if the section lists it.
 fn put_name<W: Sink>(
     model: &Model,
     j: usize,
@@ -56,7 +56,7 @@ fn put_name<W: Sink>(
     }
 }
 
-/// Puts the names of the columns that the section names.
+/// Prints the names of the columns that the section lists.
 fn put_names<W: Sink>(model: &Model, section: KindSection, sink: &mut W, buffer: &mut Buffer)
     ensures { Prints line_text W.holds W.failed W.count sink.old sink.new buffer.old buffer.new (flat_map (name_lines section) (entries model.now.columns)) }
 {
@@ -68,7 +68,7 @@ fn put_names<W: Sink>(model: &Model, section: KindSection, sink: &mut W, buffer:
     }
 }
 
-/// Puts the section of integer columns, or nothing where there are none.
+/// Prints the section of integer columns, or nothing if there are none.
 pub(crate) fn put_generals_section<W: Sink>(model: &Model, sink: &mut W, buffer: &mut Buffer)
     ensures { PrintsSection line_text W.holds W.failed W.count sink.old sink.new buffer.old buffer.new (generals_section (listing_of model.now)) }
 {
@@ -77,7 +77,7 @@ pub(crate) fn put_generals_section<W: Sink>(model: &Model, sink: &mut W, buffer:
     buffer.close_section();
 }
 
-/// Puts the section of semi-continuous columns, or nothing where there are none.
+/// Prints the section of semi-continuous columns, or nothing if there are none.
 pub(crate) fn put_semis_section<W: Sink>(model: &Model, sink: &mut W, buffer: &mut Buffer)
     ensures { PrintsSection line_text W.holds W.failed W.count sink.old sink.new buffer.old buffer.new (semis_section (listing_of model.now)) }
 {

@@ -1,4 +1,4 @@
-//! Lines of canonical LP, piece by piece.
+//! Prints lines of canonical LP, piece by piece.
 
 ghost use Rattle.std.specs.Prelude.{◌≡◌, [], ◌∷◌, ◌++◌, codes};
 ghost use Rattle.mpslp_decimal.specs.Decimal.{is_negative, size_of};
@@ -12,7 +12,7 @@ use crate::text_buffer::Buffer;
 use mpslp_decimal::{Decimal, DecimalText};
 use mpslp_model::Sink;
 
-/// Puts a number.
+/// Prints a number.
 fn put_number<W: Sink>(sink: &mut W, buffer: &mut Buffer, value: Decimal)
     ensures { Emits W.holds W.failed W.count sink.old sink.new buffer.old buffer.new (number_text value) }
 {
@@ -20,7 +20,7 @@ fn put_number<W: Sink>(sink: &mut W, buffer: &mut Buffer, value: Decimal)
     buffer.put(sink, text.put(value));
 }
 
-/// A sign behind two blanks and before one.
+/// A sign, with two spaces before it and one after it.
 fn sign_text(minus: bool) -> &'static [u8]
     ensures { result.now ≡ codes "  " ++ (sign_bytes minus ++ codes " ") }
 {
@@ -31,7 +31,7 @@ fn sign_text(minus: bool) -> &'static [u8]
     }
 }
 
-/// Puts the sign of a number and its size behind two blanks.
+/// Prints the sign of a number and its absolute value, after two spaces.
 fn put_signed<W: Sink>(sink: &mut W, buffer: &mut Buffer, value: Decimal)
     ensures { Emits W.holds W.failed W.count sink.old sink.new buffer.old buffer.new ((codes "  " ++ (sign_bytes (is_negative value) ++ codes " ")) ++ number_text (size_of value)) }
 {
@@ -39,7 +39,7 @@ fn put_signed<W: Sink>(sink: &mut W, buffer: &mut Buffer, value: Decimal)
     put_number(sink, buffer, value.abs());
 }
 
-/// Puts the line of a name and a colon.
+/// Prints the line of a name and a colon.
 pub(crate) fn put_label_line<W: Sink>(sink: &mut W, buffer: &mut Buffer, name: &[u8])
     ensures { Prints line_text W.holds W.failed W.count sink.old sink.new buffer.old buffer.new (label_line name.now ∷ []) }
 {
@@ -49,7 +49,7 @@ pub(crate) fn put_label_line<W: Sink>(sink: &mut W, buffer: &mut Buffer, name: &
     buffer.put(sink, b":\n");
 }
 
-/// Puts the line of a column and its coefficient.
+/// Prints the line of a column and its coefficient.
 pub(crate) fn put_term_line<W: Sink>(
     sink: &mut W,
     buffer: &mut Buffer,
@@ -65,7 +65,7 @@ pub(crate) fn put_term_line<W: Sink>(
     buffer.put(sink, b"\n");
 }
 
-/// Puts the line of a constant.
+/// Prints the line of a constant.
 pub(crate) fn put_constant_line<W: Sink>(sink: &mut W, buffer: &mut Buffer, value: Decimal)
     ensures { Prints line_text W.holds W.failed W.count sink.old sink.new buffer.old buffer.new (long_line (signed_lexemes value) ∷ []) }
 {
@@ -74,7 +74,7 @@ pub(crate) fn put_constant_line<W: Sink>(sink: &mut W, buffer: &mut Buffer, valu
     buffer.put(sink, b"\n");
 }
 
-/// Puts the line of a lower limit that stands before the terms of a row.
+/// Prints the line of a lower limit before the terms of a row.
 pub(crate) fn put_left_line<W: Sink>(sink: &mut W, buffer: &mut Buffer, lower: Decimal)
     ensures { Prints line_text W.holds W.failed W.count sink.old sink.new buffer.old buffer.new (long_line (number lower ∷ sense relations.AtMost ∷ []) ∷ []) }
 {
@@ -84,7 +84,7 @@ pub(crate) fn put_left_line<W: Sink>(sink: &mut W, buffer: &mut Buffer, lower: D
     buffer.put(sink, b" <=\n");
 }
 
-/// Puts the line of a row's upper limit, behind its terms.
+/// Prints the line of the upper limit of a row, after its terms.
 pub(crate) fn put_at_most_line<W: Sink>(sink: &mut W, buffer: &mut Buffer, upper: Decimal)
     ensures { Prints line_text W.holds W.failed W.count sink.old sink.new buffer.old buffer.new (right_line relations.AtMost upper ∷ []) }
 {
@@ -94,7 +94,7 @@ pub(crate) fn put_at_most_line<W: Sink>(sink: &mut W, buffer: &mut Buffer, upper
     buffer.put(sink, b"\n");
 }
 
-/// Puts the line of a row's lower limit, behind its terms.
+/// Prints the line of the lower limit of a row, after its terms.
 pub(crate) fn put_at_least_line<W: Sink>(sink: &mut W, buffer: &mut Buffer, lower: Decimal)
     ensures { Prints line_text W.holds W.failed W.count sink.old sink.new buffer.old buffer.new (right_line relations.AtLeast lower ∷ []) }
 {
@@ -104,7 +104,7 @@ pub(crate) fn put_at_least_line<W: Sink>(sink: &mut W, buffer: &mut Buffer, lowe
     buffer.put(sink, b"\n");
 }
 
-/// Puts the line of both limits of a row, which are the same, behind its terms.
+/// Prints the line of the right-hand side of an equality row, after its terms.
 pub(crate) fn put_equal_line<W: Sink>(sink: &mut W, buffer: &mut Buffer, value: Decimal)
     ensures { Prints line_text W.holds W.failed W.count sink.old sink.new buffer.old buffer.new (right_line relations.EqualTo value ∷ []) }
 {
@@ -114,7 +114,7 @@ pub(crate) fn put_equal_line<W: Sink>(sink: &mut W, buffer: &mut Buffer, value: 
     buffer.put(sink, b"\n");
 }
 
-/// Puts the line of a row without limits, behind its terms.
+/// Prints the line of a row without limits, after its terms.
 pub(crate) fn put_free_row_line<W: Sink>(sink: &mut W, buffer: &mut Buffer)
     ensures { Prints line_text W.holds W.failed W.count sink.old sink.new buffer.old buffer.new (right_line relations.AtLeast minus_large ∷ []) }
 {
@@ -122,7 +122,7 @@ pub(crate) fn put_free_row_line<W: Sink>(sink: &mut W, buffer: &mut Buffer)
     buffer.put(sink, b"  >= -1e20\n");
 }
 
-/// Puts the line of a column's name alone.
+/// Prints a line with only the name of a column.
 pub(crate) fn put_name_line<W: Sink>(sink: &mut W, buffer: &mut Buffer, column: &[u8])
     ensures { Prints line_text W.holds W.failed W.count sink.old sink.new buffer.old buffer.new (short_line (word column.now ∷ []) ∷ []) }
 {
@@ -132,7 +132,7 @@ pub(crate) fn put_name_line<W: Sink>(sink: &mut W, buffer: &mut Buffer, column: 
     buffer.put(sink, b"\n");
 }
 
-/// Puts the line of a column without bounds.
+/// Prints the line of a column without bounds.
 pub(crate) fn put_free_column_line<W: Sink>(sink: &mut W, buffer: &mut Buffer, column: &[u8])
     ensures { Prints line_text W.holds W.failed W.count sink.old sink.new buffer.old buffer.new (short_line (word column.now ∷ word (codes "free") ∷ []) ∷ []) }
 {
@@ -142,7 +142,7 @@ pub(crate) fn put_free_column_line<W: Sink>(sink: &mut W, buffer: &mut Buffer, c
     buffer.put(sink, b" free\n");
 }
 
-/// Puts the line of a column with an upper bound alone.
+/// Prints the line of a column with only an upper bound.
 pub(crate) fn put_upper_bound_line<W: Sink>(
     sink: &mut W,
     buffer: &mut Buffer,
@@ -159,7 +159,7 @@ pub(crate) fn put_upper_bound_line<W: Sink>(
     buffer.put(sink, b"\n");
 }
 
-/// Puts the line of a column with a lower bound alone.
+/// Prints the line of a column with only a lower bound.
 pub(crate) fn put_lower_bound_line<W: Sink>(
     sink: &mut W,
     buffer: &mut Buffer,
@@ -176,7 +176,7 @@ pub(crate) fn put_lower_bound_line<W: Sink>(
     buffer.put(sink, b"\n");
 }
 
-/// Puts the line of a column whose bounds are the same.
+/// Prints the line of a column whose bounds are equal.
 pub(crate) fn put_fixed_line<W: Sink>(
     sink: &mut W,
     buffer: &mut Buffer,
@@ -193,7 +193,7 @@ pub(crate) fn put_fixed_line<W: Sink>(
     buffer.put(sink, b"\n");
 }
 
-/// Puts the line of a column between two bounds.
+/// Prints the line of a column between two bounds.
 pub(crate) fn put_between_line<W: Sink>(
     sink: &mut W,
     buffer: &mut Buffer,

@@ -17,7 +17,7 @@ use mpslp_decimal::Decimal;
 use mpslp_model::laws::each_model_is_sound;
 use mpslp_model::{Model, Sense, Sink};
 
-/// Puts the word that the text begins with.
+/// Prints the word with which the text begins.
 fn put_sense<W: Sink>(sense: Sense, sink: &mut W, buffer: &mut Buffer)
     ensures { PrintsSection line_text W.holds W.failed W.count sink.old sink.new buffer.old buffer.new (sense_lines sense) }
 {
@@ -27,8 +27,7 @@ fn put_sense<W: Sink>(sense: Sense, sink: &mut W, buffer: &mut Buffer)
     }
 }
 
-/// Puts the term of the column of number `j`, where it is not 0 or the column has no coefficient of a
-/// row.
+/// Prints the term of column `j` if it is not 0, or if the column has no coefficient in a row.
 fn put_objective_term<W: Sink>(model: &Model, j: usize, sink: &mut W, buffer: &mut Buffer)
     requires { j < num_columns model.now }
     ensures { Prints line_text W.holds W.failed W.count sink.old sink.new buffer.old buffer.new (lines_at (objective_term_lines (listing_of model.now)) (entries model.now.columns) j) }
@@ -41,7 +40,7 @@ fn put_objective_term<W: Sink>(model: &Model, j: usize, sink: &mut W, buffer: &m
     put_term_line(sink, buffer, model.column_name(j).as_bytes(), value);
 }
 
-/// Puts the terms of all columns.
+/// Prints the terms of all columns.
 fn put_objective_terms<W: Sink>(model: &Model, sink: &mut W, buffer: &mut Buffer)
     ensures { Prints line_text W.holds W.failed W.count sink.old sink.new buffer.old buffer.new (flat_map (objective_term_lines (listing_of model.now)) (entries model.now.columns)) }
 {
@@ -53,7 +52,7 @@ fn put_objective_terms<W: Sink>(model: &Model, sink: &mut W, buffer: &mut Buffer
     }
 }
 
-/// Puts the constant of the objective, unless it is 0.
+/// Prints the constant of the objective, unless it is 0.
 fn put_constant<W: Sink>(sink: &mut W, buffer: &mut Buffer, value: Decimal)
     ensures { Prints line_text W.holds W.failed W.count sink.old sink.new buffer.old buffer.new (constant_lines value) }
 {
@@ -62,7 +61,7 @@ fn put_constant<W: Sink>(sink: &mut W, buffer: &mut Buffer, value: Decimal)
     }
 }
 
-/// Puts the objective: its sense, its name, its terms and its constant.
+/// Prints the objective: its sense, its name, its terms and its constant.
 pub(crate) fn put_objective_section<W: Sink>(model: &Model, sink: &mut W, buffer: &mut Buffer)
     ensures { PrintsSection line_text W.holds W.failed W.count sink.old sink.new buffer.old buffer.new (objective_section (listing_of model.now)) }
 {

@@ -21,7 +21,7 @@ use mpslp_decimal::Decimal;
 use mpslp_model::laws::each_model_is_sound;
 use mpslp_model::{Limit, Model, Sink};
 
-/// Puts the term of number `k` of the row of number `i`.
+/// Prints term `k` of row `i`.
 fn put_term<W: Sink>(model: &Model, i: usize, k: usize, sink: &mut W, buffer: &mut Buffer)
     requires row { i < num_rows model.now }
     requires term { k < length (row_columns model.now (row_name model.now i)) }
@@ -31,7 +31,7 @@ fn put_term<W: Sink>(model: &Model, i: usize, k: usize, sink: &mut W, buffer: &m
     put_term_line(sink, buffer, model.column_name(j).as_bytes(), value);
 }
 
-/// Puts the terms of the row of number `i`.
+/// Prints the terms of row `i`.
 fn put_terms<W: Sink>(model: &Model, i: usize, sink: &mut W, buffer: &mut Buffer)
     requires { i < num_rows model.now }
     ensures { Prints line_text W.holds W.failed W.count sink.old sink.new buffer.old buffer.new (flat_map (numbered_term_lines model.now (row_name model.now i)) (row_columns model.now (row_name model.now i))) }
@@ -41,7 +41,7 @@ fn put_terms<W: Sink>(model: &Model, i: usize, sink: &mut W, buffer: &mut Buffer
     }
 }
 
-/// Puts the terms of the row of number `i`: one without any has the first column, with 0.
+/// Prints the terms of row `i`. A row without terms gets the first column with coefficient 0.
 fn put_row_terms<W: Sink>(model: &Model, i: usize, sink: &mut W, buffer: &mut Buffer)
     requires { i < num_rows model.now }
     ensures { Prints line_text W.holds W.failed W.count sink.old sink.new buffer.old buffer.new (map term_line (row_terms (listing_of model.now) (row_name model.now i))) }
@@ -54,7 +54,7 @@ fn put_row_terms<W: Sink>(model: &Model, i: usize, sink: &mut W, buffer: &mut Bu
     }
 }
 
-/// Puts the lower one of two limits that differ.
+/// Prints the lower limit of a ranged row. Prints nothing if both limits are equal.
 fn put_left_between<W: Sink>(sink: &mut W, buffer: &mut Buffer, lower: Decimal, upper: Decimal)
     ensures { Prints line_text W.holds W.failed W.count sink.old sink.new buffer.old buffer.new (left_between lower upper) }
 {
@@ -63,7 +63,7 @@ fn put_left_between<W: Sink>(sink: &mut W, buffer: &mut Buffer, lower: Decimal, 
     }
 }
 
-/// Puts what stands before the terms of a row: the lower one of two limits that differ.
+/// Prints what comes before the terms of a row: the lower limit of a ranged row.
 fn put_left_limit<W: Sink>(sink: &mut W, buffer: &mut Buffer, lower: &Limit, upper: &Limit)
     ensures { Prints line_text W.holds W.failed W.count sink.old sink.new buffer.old buffer.new (left_lines lower.now upper.now) }
 {
@@ -76,7 +76,7 @@ fn put_left_limit<W: Sink>(sink: &mut W, buffer: &mut Buffer, lower: &Limit, upp
     }
 }
 
-/// Puts the upper one of two limits, as the only one where both are the same.
+/// Prints the upper limit of a row, or the right-hand side if both limits are equal.
 fn put_last_between<W: Sink>(sink: &mut W, buffer: &mut Buffer, lower: Decimal, upper: Decimal)
     ensures { Prints line_text W.holds W.failed W.count sink.old sink.new buffer.old buffer.new (last_between lower upper) }
 {
@@ -87,8 +87,8 @@ fn put_last_between<W: Sink>(sink: &mut W, buffer: &mut Buffer, lower: Decimal, 
     }
 }
 
-/// Puts what stands behind the terms of a row: its upper limit, or else its lower one. One without
-/// limits is at least minus infinity.
+/// Prints what comes after the terms of a row: its upper limit, or else its lower limit. A row without limits is printed as
+/// at least -1e20.
 fn put_last_limit<W: Sink>(sink: &mut W, buffer: &mut Buffer, lower: &Limit, upper: &Limit)
     ensures { Prints line_text W.holds W.failed W.count sink.old sink.new buffer.old buffer.new (last_line lower.now upper.now ∷ []) }
 {
@@ -104,7 +104,7 @@ fn put_last_limit<W: Sink>(sink: &mut W, buffer: &mut Buffer, lower: &Limit, upp
     }
 }
 
-/// Puts the row of number `i`.
+/// Prints row `i`.
 fn put_row<W: Sink>(model: &Model, i: usize, sink: &mut W, buffer: &mut Buffer)
     requires { i < num_rows model.now }
     ensures { Prints line_text W.holds W.failed W.count sink.old sink.new buffer.old buffer.new (lines_at (row_lines (listing_of model.now)) (entries model.now.rows) i) }
@@ -117,7 +117,7 @@ fn put_row<W: Sink>(model: &Model, i: usize, sink: &mut W, buffer: &mut Buffer)
     put_last_limit(sink, buffer, &lower, &upper);
 }
 
-/// Puts all rows.
+/// Prints all rows.
 fn put_rows<W: Sink>(model: &Model, sink: &mut W, buffer: &mut Buffer)
     ensures { Prints line_text W.holds W.failed W.count sink.old sink.new buffer.old buffer.new (flat_map (row_lines (listing_of model.now)) (entries model.now.rows)) }
 {
@@ -129,7 +129,7 @@ fn put_rows<W: Sink>(model: &Model, sink: &mut W, buffer: &mut Buffer)
     }
 }
 
-/// Puts the rows under their heading.
+/// Prints the rows and their heading.
 pub(crate) fn put_rows_section<W: Sink>(model: &Model, sink: &mut W, buffer: &mut Buffer)
     ensures { PrintsSection line_text W.holds W.failed W.count sink.old sink.new buffer.old buffer.new (rows_section (listing_of model.now)) }
 {

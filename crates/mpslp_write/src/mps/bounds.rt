@@ -18,7 +18,7 @@ use mpslp_decimal::Decimal;
 use mpslp_decimal::laws::each_value_is_a_decimal;
 use mpslp_model::{Kind, Limit, Model, Sink};
 
-/// Puts the line of a lower bound, unless it is 0.
+/// Prints the line of a lower bound, unless it is 0.
 fn put_lower<W: Sink>(sink: &mut W, buffer: &mut Buffer, column: &[u8], lower: &Limit)
     ensures { Prints line_text W.holds W.failed W.count sink.old sink.new buffer.old buffer.new (map (bound_line column.now) (printed_lower lower.now)) }
 {
@@ -33,7 +33,7 @@ fn put_lower<W: Sink>(sink: &mut W, buffer: &mut Buffer, column: &[u8], lower: &
     }
 }
 
-/// Puts the line of a finite upper bound, which tells a semi-continuous column's kind too.
+/// Prints the line of a finite upper bound. The type `SC` also declares its column semi-continuous.
 fn put_finite_upper<W: Sink>(
     sink: &mut W,
     buffer: &mut Buffer,
@@ -49,8 +49,8 @@ fn put_finite_upper<W: Sink>(
     }
 }
 
-/// Puts the line of an upper bound. Plus infinity has one for an integer column alone, which would end
-/// at 1 without it.
+/// Prints the line of an upper bound. An infinite one is printed only for an integer column, whose upper bound would
+/// otherwise be 1.
 fn put_upper<W: Sink>(sink: &mut W, buffer: &mut Buffer, column: &[u8], kind: Kind, upper: &Limit)
     ensures { Prints line_text W.holds W.failed W.count sink.old sink.new buffer.old buffer.new (map (bound_line column.now) (printed_upper kind upper.now)) }
 {
@@ -64,7 +64,7 @@ fn put_upper<W: Sink>(sink: &mut W, buffer: &mut Buffer, column: &[u8], kind: Ki
     }
 }
 
-/// Puts the lines of a lower and an upper bound, one after the other.
+/// Prints the lines of a lower and an upper bound, one after the other.
 fn put_both<W: Sink>(
     sink: &mut W,
     buffer: &mut Buffer,
@@ -88,8 +88,8 @@ pub(crate) fn have_same_value(a: Decimal, b: Decimal) -> bool
     a.cmp(&b).is_eq()
 }
 
-/// Whether finite bounds are told together: they have the same value, and the column is not
-/// semi-continuous, since its upper bound tells its kind.
+/// Whether finite bounds are printed in one line: they have the same value, and the column is not semi-continuous. The upper
+/// bound of a semi-continuous column needs its own line, which gives the type of the column.
 fn is_fixed(kind: Kind, lower: Decimal, upper: Decimal) -> bool
     ensures { result ≡ is_fixed kind lower upper }
 {
@@ -99,7 +99,7 @@ fn is_fixed(kind: Kind, lower: Decimal, upper: Decimal) -> bool
     }
 }
 
-/// The value of a column whose bounds are told together, as they are finite and have the same value.
+/// The value of a column whose bounds are printed in one line, if they are.
 fn fixed_value(kind: Kind, lower: &Limit, upper: &Limit) -> Option<Decimal>
     ensures { result ≡ fixed_value kind lower.now upper.now }
 {
@@ -112,7 +112,7 @@ fn fixed_value(kind: Kind, lower: &Limit, upper: &Limit) -> Option<Decimal>
     }
 }
 
-/// The upper one of two bounds that are told together.
+/// The upper bound, if both bounds are printed in one line.
 fn value_if_fixed(kind: Kind, lower: Decimal, upper: Decimal) -> Option<Decimal>
     ensures { result ≡ (if is_fixed kind lower upper then Some upper else None) }
 {
@@ -136,7 +136,7 @@ fn are_free(lower: &Limit, upper: &Limit) -> bool
     }
 }
 
-/// Puts the lines of the bounds of a column.
+/// Prints the lines of the bounds of a column.
 fn put_bounds_of<W: Sink>(
     sink: &mut W,
     buffer: &mut Buffer,
@@ -157,7 +157,7 @@ fn put_bounds_of<W: Sink>(
     }
 }
 
-/// Puts the lines of the bounds of the column of number `j`.
+/// Prints the lines of the bounds of column `j`.
 fn put_bounds<W: Sink>(model: &Model, j: usize, sink: &mut W, buffer: &mut Buffer)
     requires { j < num_columns model.now }
     ensures { Prints line_text W.holds W.failed W.count sink.old sink.new buffer.old buffer.new (lines_at column_bound_lines (entries model.now.columns) j) }
@@ -175,7 +175,7 @@ fn put_bounds<W: Sink>(model: &Model, j: usize, sink: &mut W, buffer: &mut Buffe
     );
 }
 
-/// Puts the lines of the bounds of all columns.
+/// Prints the lines of the bounds of all columns.
 fn put_all_bounds<W: Sink>(model: &Model, sink: &mut W, buffer: &mut Buffer)
     ensures { Prints line_text W.holds W.failed W.count sink.old sink.new buffer.old buffer.new (flat_map column_bound_lines (entries model.now.columns)) }
 {
@@ -187,7 +187,7 @@ fn put_all_bounds<W: Sink>(model: &Model, sink: &mut W, buffer: &mut Buffer)
     }
 }
 
-/// Puts the section BOUNDS, or nothing where all bounds are those that a column has without a line.
+/// Prints the section BOUNDS, or nothing if every column has the bounds that it has by default.
 pub(crate) fn put_bounds_section<W: Sink>(model: &Model, sink: &mut W, buffer: &mut Buffer)
     ensures { PrintsSection line_text W.holds W.failed W.count sink.old sink.new buffer.old buffer.new (bounds_section (listing_of model.now)) }
 {

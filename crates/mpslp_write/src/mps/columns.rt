@@ -15,7 +15,7 @@ use crate::text_buffer::Buffer;
 use mpslp_model::laws::each_model_is_sound;
 use mpslp_model::{Model, Sink};
 
-/// The parts of COLUMNS, one after the other.
+/// The parts of COLUMNS, in this order.
 #[derive(Clone, Copy)]
 enum Part {
     /// The columns that are not integer.
@@ -24,7 +24,7 @@ enum Part {
     Integers,
 }
 
-/// Puts the line of the coefficient of number `k` among those of rows in the column of number `j`.
+/// Prints the line of coefficient `k` of column `j`, among its coefficients in rows.
 fn put_element<W: Sink>(model: &Model, j: usize, k: usize, sink: &mut W, buffer: &mut Buffer)
     requires column { j < num_columns model.now }
     requires element { k < length (column_elements model.now (column_name model.now j)) }
@@ -40,7 +40,7 @@ fn put_element<W: Sink>(model: &Model, j: usize, k: usize, sink: &mut W, buffer:
     );
 }
 
-/// Puts the lines of the coefficients of rows in the column of number `j`.
+/// Prints the lines of the coefficients of column `j` in rows.
 fn put_elements<W: Sink>(model: &Model, j: usize, sink: &mut W, buffer: &mut Buffer)
     requires { j < num_columns model.now }
     ensures { Prints line_text W.holds W.failed W.count sink.old sink.new buffer.old buffer.new (flat_map (element_lines (column_name model.now j)) (column_elements model.now (column_name model.now j))) }
@@ -50,8 +50,7 @@ fn put_elements<W: Sink>(model: &Model, j: usize, sink: &mut W, buffer: &mut Buf
     }
 }
 
-/// Puts the line of the objective in the column of number `j`, where it is not 0 or the column has no
-/// coefficient of a row.
+/// Prints the line of the objective in column `j` if it is not 0, or if the column has no coefficient in a row.
 fn put_objective_coefficient<W: Sink>(model: &Model, j: usize, sink: &mut W, buffer: &mut Buffer)
     requires { j < num_columns model.now }
     ensures { Prints line_text W.holds W.failed W.count sink.old sink.new buffer.old buffer.new (objective_lines model.now (column_name model.now j)) }
@@ -70,7 +69,7 @@ fn put_objective_coefficient<W: Sink>(model: &Model, j: usize, sink: &mut W, buf
     );
 }
 
-/// Puts the lines of the column of number `j`: the objective, and then the rows.
+/// Prints the lines of column `j`: the objective, and then the rows.
 fn put_column<W: Sink>(model: &Model, j: usize, sink: &mut W, buffer: &mut Buffer)
     requires { j < num_columns model.now }
     ensures { Prints line_text W.holds W.failed W.count sink.old sink.new buffer.old buffer.new (lines_at (column_lines (listing_of model.now)) (entries model.now.columns) j) }
@@ -80,7 +79,7 @@ fn put_column<W: Sink>(model: &Model, j: usize, sink: &mut W, buffer: &mut Buffe
     put_elements(model, j, sink, buffer);
 }
 
-/// Whether a column that is integer, or not, stands in the part.
+/// Whether the part contains the column, by whether the column is integer.
 fn is_wanted(part: Part, is_integer: bool) -> bool
     ensures { result ≡ is_wanted part is_integer }
 {
@@ -90,7 +89,7 @@ fn is_wanted(part: Part, is_integer: bool) -> bool
     }
 }
 
-/// Puts the lines of the column of number `j`, if it stands in the part.
+/// Prints the lines of column `j`, if it is in the part.
 fn put_column_of_part<W: Sink>(
     model: &Model,
     j: usize,
@@ -106,7 +105,7 @@ fn put_column_of_part<W: Sink>(
     }
 }
 
-/// Puts the lines of all columns of the part.
+/// Prints the lines of all columns of the part.
 fn put_columns<W: Sink>(model: &Model, part: Part, sink: &mut W, buffer: &mut Buffer)
     ensures { Prints line_text W.holds W.failed W.count sink.old sink.new buffer.old buffer.new (flat_map (of_part part (column_lines (listing_of model.now))) (entries model.now.columns)) }
 {
@@ -118,7 +117,7 @@ fn put_columns<W: Sink>(model: &Model, part: Part, sink: &mut W, buffer: &mut Bu
     }
 }
 
-/// Puts the lines of the integer columns between marker lines, or nothing where no column is integer.
+/// Prints the lines of the integer columns between marker lines, or nothing if no column is integer.
 fn put_integer_part<W: Sink>(model: &Model, sink: &mut W, buffer: &mut Buffer)
     ensures { PrintsSection line_text W.holds W.failed W.count sink.old sink.new buffer.old buffer.new (integer_part (flat_map (of_part Part.Integers (column_lines (listing_of model.now))) (entries model.now.columns))) }
 {
@@ -129,8 +128,7 @@ fn put_integer_part<W: Sink>(model: &Model, sink: &mut W, buffer: &mut Buffer)
     }
 }
 
-/// Puts the section COLUMNS: the columns that are not integer, and then the integer ones between marker
-/// lines.
+/// Prints the section COLUMNS: the columns that are not integer, and then the integer ones between marker lines.
 pub(crate) fn put_columns_section<W: Sink>(model: &Model, sink: &mut W, buffer: &mut Buffer)
     ensures { PrintsSection line_text W.holds W.failed W.count sink.old sink.new buffer.old buffer.new (columns_section (listing_of model.now)) }
 {

@@ -1,4 +1,4 @@
-//! Lines of canonical MPS, field by field.
+//! Prints lines of canonical MPS, field by field.
 
 ghost use Rattle.std.specs.Prelude.{[], ◌∷◌, ◌++◌, codes};
 ghost use Rattle.mpslp_decimal.specs.NumberText.{number_text};
@@ -9,7 +9,7 @@ use crate::text_buffer::Buffer;
 use mpslp_decimal::{Decimal, DecimalText};
 use mpslp_model::Sink;
 
-/// Puts a field behind another one.
+/// Prints a field after another one.
 fn put_field<W: Sink>(sink: &mut W, buffer: &mut Buffer, field: &[u8])
     ensures { Emits W.holds W.failed W.count sink.old sink.new buffer.old buffer.new (codes "  " ++ field.now) }
 {
@@ -17,7 +17,7 @@ fn put_field<W: Sink>(sink: &mut W, buffer: &mut Buffer, field: &[u8])
     buffer.put(sink, field);
 }
 
-/// Puts a number behind a field, and ends the line.
+/// Prints a number as the last field, and ends the line.
 fn put_last_number<W: Sink>(sink: &mut W, buffer: &mut Buffer, value: Decimal)
     ensures { Emits W.holds W.failed W.count sink.old sink.new buffer.old buffer.new ((codes "  " ++ number_text value) ++ 10 ∷ []) }
 {
@@ -26,7 +26,7 @@ fn put_last_number<W: Sink>(sink: &mut W, buffer: &mut Buffer, value: Decimal)
     buffer.put(sink, b"\n");
 }
 
-/// Puts the line of two fields behind one blank.
+/// Prints the line of two fields after one space.
 pub(crate) fn put_short_line<W: Sink>(
     sink: &mut W,
     buffer: &mut Buffer,
@@ -42,7 +42,7 @@ pub(crate) fn put_short_line<W: Sink>(
     buffer.put(sink, b"\n");
 }
 
-/// Puts the line of two names and a number behind four blanks.
+/// Prints the line of two names and a number after four spaces.
 pub(crate) fn put_value_line<W: Sink>(
     sink: &mut W,
     buffer: &mut Buffer,
@@ -59,7 +59,7 @@ pub(crate) fn put_value_line<W: Sink>(
     put_last_number(sink, buffer, value);
 }
 
-/// Puts the line of a bound without a value.
+/// Prints the line of a bound without a value.
 pub(crate) fn put_bare_bound<W: Sink>(
     sink: &mut W,
     buffer: &mut Buffer,
@@ -76,7 +76,7 @@ pub(crate) fn put_bare_bound<W: Sink>(
     buffer.put(sink, b"\n");
 }
 
-/// Puts the line of a bound with a value.
+/// Prints the line of a bound with a value.
 pub(crate) fn put_valued_bound<W: Sink>(
     sink: &mut W,
     buffer: &mut Buffer,

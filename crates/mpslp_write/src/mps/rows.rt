@@ -18,14 +18,14 @@ use mpslp_decimal::Decimal;
 use mpslp_model::laws::each_model_is_sound;
 use mpslp_model::{Limit, Model, Sink};
 
-/// The letter of a row in ROWS: where two limits differ it is G, and RANGES has the row.
+/// The letter of a row in ROWS. A ranged row is G, and has an entry in RANGES.
 fn printed_letter(sense: u8) -> u8
     ensures { result ≡ printed_letter sense }
 {
     if sense == b'R' { b'G' } else { sense }
 }
 
-/// Puts the line of the row of number `i` in ROWS.
+/// Prints the line of row `i` in ROWS.
 fn put_row<W: Sink>(model: &Model, i: usize, sink: &mut W, buffer: &mut Buffer)
     requires { i < num_rows model.now }
     ensures { Prints line_text W.holds W.failed W.count sink.old sink.new buffer.old buffer.new (lines_at (λ row. row_line row ∷ []) (entries model.now.rows) i) }
@@ -40,7 +40,7 @@ fn put_row<W: Sink>(model: &Model, i: usize, sink: &mut W, buffer: &mut Buffer)
     );
 }
 
-/// Puts the lines of all rows in ROWS.
+/// Prints the lines of all rows in ROWS.
 fn put_rows<W: Sink>(model: &Model, sink: &mut W, buffer: &mut Buffer)
     ensures { Prints line_text W.holds W.failed W.count sink.old sink.new buffer.old buffer.new (flat_map (λ row. row_line row ∷ []) (entries model.now.rows)) }
 {
@@ -52,7 +52,7 @@ fn put_rows<W: Sink>(model: &Model, sink: &mut W, buffer: &mut Buffer)
     }
 }
 
-/// Puts the section ROWS: the objective, and then the rows.
+/// Prints the section ROWS: the objective, and then the rows.
 pub(crate) fn put_rows_section<W: Sink>(model: &Model, sink: &mut W, buffer: &mut Buffer)
     ensures { PrintsSection line_text W.holds W.failed W.count sink.old sink.new buffer.old buffer.new (rows_section (listing_of model.now)) }
 {
@@ -61,7 +61,7 @@ pub(crate) fn put_rows_section<W: Sink>(model: &Model, sink: &mut W, buffer: &mu
     put_rows(model, sink, buffer);
 }
 
-/// The right side that is printed of the row of number `i`: the lower limit where that is finite.
+/// The right-hand side that is printed for row `i`: its lower limit if that is finite, or else its right-hand side.
 fn rhs_at(model: &Model, i: usize) -> Decimal
     requires { i < num_rows model.now }
     ensures { option_map (λ row. printed_rhs row.lower row.upper) (slice_get (rows_of model.now) i) ≡ Some result }
@@ -72,7 +72,7 @@ fn rhs_at(model: &Model, i: usize) -> Decimal
     }
 }
 
-/// Puts the line of a right side, unless it is 0.
+/// Prints the line of a right-hand side, unless it is 0.
 fn put_rhs<W: Sink>(sink: &mut W, buffer: &mut Buffer, row: &[u8], value: Decimal)
     ensures { Prints line_text W.holds W.failed W.count sink.old sink.new buffer.old buffer.new (rhs_lines row.now value) }
 {
@@ -81,7 +81,7 @@ fn put_rhs<W: Sink>(sink: &mut W, buffer: &mut Buffer, row: &[u8], value: Decima
     }
 }
 
-/// Puts the right side of the row of number `i`.
+/// Prints the right-hand side of row `i`.
 fn put_row_rhs<W: Sink>(model: &Model, i: usize, sink: &mut W, buffer: &mut Buffer)
     requires { i < num_rows model.now }
     ensures { Prints line_text W.holds W.failed W.count sink.old sink.new buffer.old buffer.new (lines_at row_rhs_lines (entries model.now.rows) i) }
@@ -90,7 +90,7 @@ fn put_row_rhs<W: Sink>(model: &Model, i: usize, sink: &mut W, buffer: &mut Buff
     put_rhs(sink, buffer, model.row_name(i).as_bytes(), side);
 }
 
-/// Puts the right sides of all rows.
+/// Prints the right-hand sides of all rows.
 fn put_all_rhs<W: Sink>(model: &Model, sink: &mut W, buffer: &mut Buffer)
     ensures { Prints line_text W.holds W.failed W.count sink.old sink.new buffer.old buffer.new (flat_map row_rhs_lines (entries model.now.rows)) }
 {
@@ -102,8 +102,8 @@ fn put_all_rhs<W: Sink>(model: &Model, sink: &mut W, buffer: &mut Buffer)
     }
 }
 
-/// Puts the section RHS: the negated constant of the objective, and then the right sides of the rows,
-/// without those that are 0. Where all are, nothing is put.
+/// Prints the section RHS: the negated constant of the objective, and then the right-hand sides of the rows, unless they are
+/// 0. If all are 0, prints nothing.
 pub(crate) fn put_rhs_section<W: Sink>(model: &Model, sink: &mut W, buffer: &mut Buffer)
     ensures { PrintsSection line_text W.holds W.failed W.count sink.old sink.new buffer.old buffer.new (rhs_section (listing_of model.now)) }
 {
@@ -114,7 +114,7 @@ pub(crate) fn put_rhs_section<W: Sink>(model: &Model, sink: &mut W, buffer: &mut
     buffer.close_section();
 }
 
-/// Puts the range of the row of number `i`, unless it is 0.
+/// Prints the range of row `i`, unless it is 0.
 fn put_range<W: Sink>(model: &Model, i: usize, sink: &mut W, buffer: &mut Buffer)
     requires { i < num_rows model.now }
     ensures { Prints line_text W.holds W.failed W.count sink.old sink.new buffer.old buffer.new (lines_at range_lines (entries model.now.rows) i) }
@@ -125,7 +125,7 @@ fn put_range<W: Sink>(model: &Model, i: usize, sink: &mut W, buffer: &mut Buffer
     }
 }
 
-/// Puts the ranges of all rows.
+/// Prints the ranges of all rows.
 fn put_ranges<W: Sink>(model: &Model, sink: &mut W, buffer: &mut Buffer)
     ensures { Prints line_text W.holds W.failed W.count sink.old sink.new buffer.old buffer.new (flat_map range_lines (entries model.now.rows)) }
 {
@@ -137,7 +137,7 @@ fn put_ranges<W: Sink>(model: &Model, sink: &mut W, buffer: &mut Buffer)
     }
 }
 
-/// Puts the section RANGES, or nothing where no row has a range.
+/// Prints the section RANGES, or nothing if no row has a range.
 pub(crate) fn put_ranges_section<W: Sink>(model: &Model, sink: &mut W, buffer: &mut Buffer)
     ensures { PrintsSection line_text W.holds W.failed W.count sink.old sink.new buffer.old buffer.new (ranges_section (listing_of model.now)) }
 {

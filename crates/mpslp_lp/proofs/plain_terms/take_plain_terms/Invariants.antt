@@ -4,7 +4,7 @@ use Rattle.mpslp_lp.specs.declared.states.Place.TheVariants.{InRow}
 use Rattle.mpslp_lp.specs.declared.states.State.TheVariants.{Between}
 use Rattle.mpslp_lp.proofs.plain_terms.take_plain_terms.Given as goal
 
--- what is left to be taken decides
+-- the result depends on the tokens that are left
 abbrev pub invariant-terms : goal.invariant-terms
 invariant-terms l = record {
   left : take_tokens l.context (Between (InRow l.row)) l.tokens ≡ take_tokens l.context (Between (InRow l.fn.row)) l.fn.tokens;

@@ -4,7 +4,7 @@ use Rattle.mpslp_types.specs.FaultOrder.{least_kind}
 use Rattle.mpslp_lp.specs.LineByLine.{token_faults}
 use Rattle.mpslp_lp.proofs.read_line.lexical_fault_of.Given as goal
 
--- the least so far, and what is left, decide
+-- the result depends on the least error so far and on the tokens that are left
 abbrev pub invariant-loop-raw_token : goal.invariant-loop-raw_token
 invariant-loop-raw_token l = record {
   next : (goal.iterator-loop-raw_token).can_next l.raw_token-iterator;

@@ -1,4 +1,4 @@
--- What stands before the first backslash.
+-- The bytes before the first backslash.
 use Rattle.std.proofs.Common.{◌≡◌, ℕ, ap, sym, true, false, not, length, slice_index, refl, arith}
 use Rattle.std.proofs.lemmas.List.Sums.{prefix_len_is}
 use Rattle.mpslp_lp.specs.Line.{begins_comment}

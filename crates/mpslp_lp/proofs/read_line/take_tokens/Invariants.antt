@@ -3,7 +3,7 @@ use Rattle.mpslp_lp.specs.Token.{tokens}
 use Rattle.mpslp_lp.specs.LineByLine.{take_tokens}
 use Rattle.mpslp_lp.proofs.read_line.take_tokens.Given as goal
 
--- what is left to be taken decides
+-- the result depends on the tokens that are left
 abbrev pub invariant-loop-raw_token : goal.invariant-loop-raw_token
 invariant-loop-raw_token l = record {
   left : take_tokens l.context l.state l.tokens ≡ take_tokens l.fn.context l.fn.state (tokens l.fn.line);

@@ -1,7 +1,7 @@
 use Rattle.std.proofs.Common.{◌≡◌, ◌*◌, ◌^◌, ◌<◌}
 use Rattle.mpslp_decimal.proofs.number.sums.stripped.Given as goal
 
--- the number, with so many zeros cut off
+-- the number without this number of trailing zeros
 abbrev pub invariant-loop-digits : goal.invariant-loop-digits
 invariant-loop-digits l = record {
   value : l.digits * 10 ^ l.zeros ≡ l.number;

@@ -5,7 +5,7 @@ use Rattle.mpslp_builder.specs.Refusal.{refusals_in_turn}
 use Rattle.mpslp_lp.specs.Objective.{term_declared}
 use Rattle.mpslp_lp.proofs.lp_builder.LpBuilder.declare_terms.Given as goal
 
--- what is left to be declared decides
+-- the result depends on the terms that are left
 abbrev pub invariant-loop-column : goal.invariant-loop-column
 invariant-loop-column l = record {
   next : (goal.iterator-loop-column).can_next l.column-iterator;

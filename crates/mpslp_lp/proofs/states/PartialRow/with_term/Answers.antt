@@ -9,7 +9,7 @@ use Rattle.mpslp_lp.specs.declared.states.PartialParts.{PartialParts}
 use Rattle.mpslp_lp.proofs.TokenAnswers.{looked-up}
 use Rattle.mpslp_lp.proofs.states.PartialRow.with_term.Goals as goal
 
--- what the parts in the box tell of a row
+-- the row that the parts in the box represent
 abbrev told : PartialParts → PartialRow
 told parts = record { name = parts.name; left = parts.left; terms = parts.terms.entries }
 

@@ -6,7 +6,7 @@ use Rattle.mpslp_canonical_mps.specs.Printed.{line_text}
 use Rattle.mpslp_write.specs.TextBuffer.{Prints}
 use Rattle.mpslp_write.proofs.mps.columns.put_elements.Given as goal
 
--- the lines of the elements so far were put
+-- the lines of the coefficients so far were put
 abbrev pub invariant-loop-k : goal.invariant-loop-k
 invariant-loop-k g l =
     let name = column_name l.model l.j in
