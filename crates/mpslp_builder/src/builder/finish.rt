@@ -36,7 +36,7 @@ fn entries_of<V: Drop>(
     map.into_iter().collect(alloc)
 }
 
-/// The entries in byte order of their names, after their former indices in that order.
+/// The former indices of the entries in byte order of their names, and the entries in that order.
 fn ordered<V: Drop>(
     alloc: Global,
     entries: Vec<(Vec<u8>, V)>,
