@@ -44,7 +44,7 @@ fn limit_in(side: &Option<PackedLimit>) -> Option<Limit>
     }
 }
 
-/// The bound as it is stored, if there is one.
+/// The stored form of the bound, if there is one.
 fn packed(side: Option<Limit>) -> Option<PackedLimit>
     ensures { result ≡ side }
 {
