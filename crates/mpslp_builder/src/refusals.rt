@@ -62,7 +62,7 @@ pub(crate) struct CoefficientTarget {
 }
 
 impl Tables {
-    /// Where this right-hand side may be put.
+    /// The place where this right-hand side may be stored.
     pub(crate) fn rhs_target(
         &self,
         row: &[u8],
@@ -126,7 +126,7 @@ impl Tables {
         self.has_cell(number, place.number())
     }
 
-    /// Where this coefficient may be put.
+    /// The place where this coefficient may be stored.
     pub(crate) fn coefficient_target(
         &self,
         row: &[u8],
