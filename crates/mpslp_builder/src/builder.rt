@@ -122,8 +122,8 @@ impl Builder {
         Ok(())
     }
 
-    /// Declares a row by its limits. A finite limit has a magnitude below 10^20. No right-hand side and no range can be declared
-    /// for this row.
+    /// Declares a row by its limits. A finite limit must have a magnitude below 10^20. No right-hand side and no range can be
+    /// declared for this row.
     ///
     /// # Errors
     ///
@@ -163,8 +163,8 @@ impl Builder {
         Ok(())
     }
 
-    /// Declares the range value of a row, which is the distance between the row's other limit and its right-hand side. The
-    /// row's type determines the limit and the direction; for type [`Equal`](RowType::Equal) the sign of the value does.
+    /// Declares the range value of a row. Its magnitude is the distance between the row's other limit and its right-hand side.
+    /// The row's type determines the direction; for type [`Equal`](RowType::Equal) the sign of the value does.
     ///
     /// # Errors
     ///
@@ -216,7 +216,7 @@ impl Builder {
         Ok(())
     }
 
-    /// Declares the given bounds of a column: both, one or none. A finite bound has a magnitude below 10^20.
+    /// Declares the given bounds of a column: both, one or none. A finite bound must have a magnitude below 10^20.
     ///
     /// Without a declaration the lower bound is 0. The upper bound is then plus infinity, except that it is 1 if the column is
     /// [marked](Self::marked) and has no declared bound at all.
