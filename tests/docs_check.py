@@ -22,7 +22,7 @@ is a command, and the lines up to the next one are what it prints.
 Links within the repository must lead to a file, and to a heading of it. Each pair of
 examples must have the same canonical text, which is the stated one if there is one,
 and canonical texts must be fixed points. prose_lint.py must find nothing in the
-documents.
+documents, the C header and the comments of the code.
 
 It needs git, make and gzip. Each difference is reported on one line; then they are
 counted. Exits with 1 if there is one.
@@ -288,7 +288,7 @@ def main():
             told += document.wrong
     with tempfile.TemporaryDirectory() as folder:
         tried += check_examples(Scratch(folder, program), told)
-    told += prose_lint.check()
+    told += prose_lint.check(code=True)
     for line in told:
         print(line)
     print(f"{tried} tried, {len(told)} differ")
