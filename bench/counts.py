@@ -1,12 +1,12 @@
 #!/usr/bin/env python3
-"""Compare the counts that mpslp and glpsol tell of the same MPS files.
+"""Compare the counts that mpslp and glpsol report for the same MPS files.
 
 Without paths: the files of examples/, and those that the package glpk-utils
 installs. glpsol counts the objective among rows and coefficients, mpslp does
-not. Exits with 1 where the counts of a file differ, or mpslp refuses a file
-that glpsol reads by fields between blanks. A file that glpsol reads by fixed
-columns alone, as one with blanks in names or with comments behind fields, is
-left out of the profile by name.
+not. Exits with 1 if the counts of a file differ, or mpslp rejects a file
+that glpsol reads as free MPS. A file that glpsol reads only as fixed MPS, such
+as one with spaces in names or with comments after fields, is outside the
+profile of mpslp.
 """
 
 import argparse
@@ -26,14 +26,14 @@ OURS = re.compile(r"^rows (\d+) columns (\d+) elements (\d+)$", re.MULTILINE)
 
 
 def counts_of_glpsol(path):
-    """Rows, columns and coefficients, the objective among them; None where it reads no such fields."""
+    """Rows, columns and coefficients, the objective among them; None if it does not read the file as free MPS."""
     output = subprocess.run(["glpsol", "--freemps", str(path), "--check"], capture_output=True, text=True).stdout
     found = COUNTS.search(output)
     return tuple(int(count) for count in found.groups()) if found else None
 
 
 def answer_of_mpslp(reader, path):
-    """Its counts without the objective, or the words of its refusal."""
+    """Its counts without the objective, or the line of its error."""
     with open(path, "rb") as source:
         output = subprocess.run([str(reader)], stdin=source, capture_output=True, text=True).stdout
     found = OURS.search(output)
@@ -41,7 +41,7 @@ def answer_of_mpslp(reader, path):
 
 
 def objective_entries(path):
-    """How many coefficients of the first row of type N are not 0."""
+    """The number of nonzero coefficients of the first row of type N."""
     objective, section, count = None, None, 0
     for line in path.read_text(encoding="latin-1").splitlines():
         if line.startswith("*") or not line.strip():

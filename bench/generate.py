@@ -2,7 +2,7 @@
 """Write a large, valid MPS or LP file to standard output.
 
 The same options and the same seed give the same file. With --shuffle the file
-declares the same model as without, its rows, columns and entries in another
+declares the same model as without, with its rows, columns and entries in another
 order. Sizes are in bytes and are met within a few percent; with --lp they are
 those of the MPS file of the same model.
 """
@@ -31,7 +31,7 @@ INFINITE_SIZE = Decimal(10) ** 20
 SAMPLE = 400
 # Only the start of the search for the right count; the file is measured then.
 GUESSED_BYTES_PER_COLUMN = 250
-# The longest names that are read have 255 bytes; comparing two of these means
+# The longest legal names have 255 bytes; comparing two of these means
 # reading nearly all of both.
 NAME_BYTES = 255
 LONG_FRONT = "a_name_that_is_the_same_as_all_others_but_for_its_number_" * 5
@@ -46,7 +46,7 @@ def size_in_bytes(text):
 
 
 def name_line():
-    # Without FREE, clp may take short fields for those of fixed columns.
+    # Without FREE, clp may misread short fields as fixed columns.
     return "NAME          BENCH  FREE\n"
 
 
@@ -55,7 +55,7 @@ def row_line(kind, name):
 
 
 def pair_lines(front, pairs, pairs_per_line):
-    """Lines of a front field and pairs of a row's name and a literal."""
+    """Lines of a first field and pairs of a row's name and a literal."""
     lines = []
     for start in range(0, len(pairs), pairs_per_line):
         fields = [f"    {front:<10}"]
@@ -74,7 +74,7 @@ def bound_line(kind, name, value):
 
 
 class Row:
-    """A row's type, name, right side and range; the last two may be missing."""
+    """A row's type, name, optional right-hand side and optional range."""
 
     def __init__(self, source, name, thin):
         self.kind = source.choice("LGE")
@@ -92,7 +92,7 @@ class Row:
 
 
 def fitting_range(kind, right_side, text):
-    """The range, or None where a limit that it gives has too many digits."""
+    """The range, or None if a limit that it gives has too many digits."""
     right = Decimal(right_side or "0")
     size = abs(Decimal(text))
     falls = kind == "L" or (kind == "E" and text.startswith("-"))
@@ -125,7 +125,7 @@ def drawn_pairs(source, row_count):
 
 
 def upper(source, value):
-    # An upper bound below 0 with no lower bound is refused: solvers differ on it.
+    # An upper bound below 0 with no lower bound is rejected: solvers disagree on it.
     return [("UP", value(source).lstrip("-"))]
 
 
@@ -202,8 +202,8 @@ def drawn_bounds(source, is_integer):
 class Model:
     """What a file declares, apart from its order.
 
-    Every row and every column is drawn from a seed of its own. So they can be
-    made in any order, without keeping a large file in memory.
+    Every row and every column is drawn from its own seed. So they can be made in
+    any order, without keeping a large file in memory.
     """
 
     def __init__(self, seed, thin, column_count):
@@ -229,7 +229,7 @@ class Model:
         return self.seeded("integer family", family).random() < INTEGER_FAMILY_SHARE
 
     def name(self, part, number):
-        # The number behind the last underscore makes every name its own.
+        # The number after the last underscore makes every name unique.
         return f"{self.family_word(part, number // FAMILY_SIZE)}_{number}"
 
     def is_integer(self, number):
@@ -293,7 +293,7 @@ def model_of_size(options):
 
 
 class Layout:
-    """The order in which a file says its model."""
+    """The order in which a file declares its model."""
 
     def __init__(self, options):
         self.source = random.Random(options.seed)
@@ -332,7 +332,7 @@ class Layout:
             self.ordered([number for number in numbers if not model.is_integer(number)]))
 
     def in_runs(self, integers, others):
-        """Both lists in turns: a marker at nearly every column would be no usual file."""
+        """Both lists in turns: a marker at nearly every column would be unusual."""
         order = []
         while integers or others:
             for numbers in (integers, others):
@@ -353,7 +353,7 @@ def write_rows(out, rows):
 
 
 def write_columns(out, model, layout):
-    """Writes the columns and answers the lines of their bounds."""
+    """Writes the columns and returns the lines of their bounds."""
     out.write("COLUMNS\n")
     bounds = []
     in_integers, markers = False, 0
@@ -463,7 +463,7 @@ def write_hostile(out, row_names, columns):
 
 
 def write_one_column(out, options, ordered):
-    """A reader that keeps a column in order, and puts each row in place, moves all rows each time."""
+    """A reader that inserts each row into a sorted column moves all later rows each time."""
     source = random.Random(options.seed)
     name = "row_{:08d}".format
     a_row = hostile_row_line(name(0)) + pair_lines("X", [(name(0), "-12.5")], 1)
@@ -497,7 +497,7 @@ def write_random(out, options):
 
 
 def write_tiny_columns(out, options):
-    """What is kept of each column weighs more than its coefficients."""
+    """The stored data of each column is larger than its coefficients."""
     source = random.Random(options.seed)
     name = "c{:07d}".format
     a_column = pair_lines(name(0), [("LIMIT", "1")], 1)
@@ -507,7 +507,7 @@ def write_tiny_columns(out, options):
 
 
 def write_many_names(out, options):
-    """A look-up or a sort that compares names reads their long fronts again and again."""
+    """A look-up or a sort that compares names reads their long common prefix each time."""
     source = random.Random(options.seed)
     name = (LONG_FRONT[:NAME_BYTES - NUMBER_BYTES] + "{:08d}").format
     a_column = hostile_row_line(name(0)) + pair_lines(name(0), [(name(0), "-12.5")] * 2, 1)

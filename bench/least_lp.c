@@ -1,8 +1,8 @@
 /* The least that a reader of LP files does: how fast a file of `generate.py --lp` could be read at best.
  *
  * It cuts tokens, turns the digits of a number into one integer, looks each column up by a hash of its name and appends the
- * coefficient to its column. It checks nothing, rounds long numbers, knows no faults and makes no model, so what it takes is
- * mostly memory that lies far away. Standard input has the text; the least of seven rounds is told.
+ * coefficient to its column. It checks nothing, rounds long numbers, detects no errors and makes no model, so most of its time
+ * is spent on cache misses. It reads the text from standard input and prints the shortest time of seven rounds.
  *
  *     cc -O2 -o least_lp bench/least_lp.c && ./least_lp < FILE
  */
@@ -13,7 +13,7 @@
 #include <string.h>
 #include <time.h>
 
-/* As wide as a coefficient of mpslp with its row: 24 bytes. */
+/* As large as a coefficient of mpslp with its row: 24 bytes. */
 typedef struct {
     uint32_t row;
     uint32_t digits[4];
@@ -30,7 +30,7 @@ typedef struct {
 typedef struct {
     Column *columns;
     size_t len, room;
-    uint32_t *places; /* by hash: 0, or the number of a column and 1 */
+    uint32_t *places; /* by hash: 0, or the number of a column plus 1 */
     size_t mask;
 } Table;
 
@@ -106,7 +106,7 @@ static bool is_in_word(char c) {
     return ('a' <= c && c <= 'z') || ('A' <= c && c <= 'Z') || is_digit(c) || c == '_' || c == '.';
 }
 
-/* How many coefficients the text has. It ends with a zero byte. */
+/* Returns the number of coefficients in the text, which ends with a zero byte. */
 static size_t read_text(Table *table, const char *text) {
     size_t terms = 0;
     uint32_t row = 0;

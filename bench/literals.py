@@ -28,12 +28,12 @@ def short_decimal(source):
 
 
 def padded_decimal(source):
-    """As a fixed number of places prints it, like 3.0000000000."""
+    """Printed with a fixed number of places, like 3.0000000000."""
     return f"{digits(source, source.randint(1, 4))}.{source.choice((0, 5, 25)):0<10}"
 
 
 def computed(source):
-    """As %g prints a computed value; the count of digits is that of common tools."""
+    """A computed value, printed by %g with the precisions of common tools."""
     precision = source.choice((7, 8, 10, 12, 12, 15, 15, 15))
     return f"{magnitude(source):.{precision}g}"
 
@@ -45,7 +45,7 @@ def exponent(source):
 
 
 def digits(source, count):
-    """A whole number of just so many digits."""
+    """A whole number of exactly so many digits."""
     return source.randrange(10 ** (count - 1), 10 ** count)
 
 

@@ -1,5 +1,5 @@
 #!/usr/bin/env python3
-"""Write number literals to standard output, one a line, in the mix of model files."""
+"""Write number literals to standard output, one per line, in the mix of model files."""
 
 import argparse
 import random

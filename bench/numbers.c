@@ -1,7 +1,7 @@
 /* How fast the C library reads and prints numbers.
  *
- * Usage: numbers FILE, with one number literal a line. All work is done on
- * numbers in memory, so that no time of reading the file or of writing is in it. */
+ * Usage: numbers FILE, with one number literal per line. All work is done in
+ * memory, so that reading the file and writing are not measured. */
 
 #define _POSIX_C_SOURCE 200809L
 
@@ -19,7 +19,7 @@ struct numbers {
     double *values;
 };
 
-/* What the loops add up is kept here, so that no compiler leaves them out. */
+/* The sums of the loops are stored here, so that no compiler removes the loops. */
 static volatile double kept;
 
 static void stop(const char *why)

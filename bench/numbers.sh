@@ -1,6 +1,6 @@
 #!/bin/sh
 # Compares the speed of reading and printing numbers: the C library's, and ours
-# where its program is there.
+# if its program is built.
 set -eu
 
 cd "$(dirname "$0")"

@@ -2,13 +2,13 @@
 """Compare mpslp with other programs that read and write MPS and LP files.
 
 Each program reads a generated file and writes the same model again, without
-solving it; with --read it only reads the file. Files are MPS, or LP where
---source or --target say so. The table has the least
-wall time of some runs, how many times as fast mpslp is as each other program,
-and the largest resident memory of any run, also by the size of the file. The
-runs of a file's programs take turns, so that what else the machine does falls on
-all. Below it stands for each file of several sizes whether the time of mpslp
-grows as the file does. Files are kept in bench/data/.
+solving it; with --read it only reads the file. Files are MPS, or LP if --source
+or --target say so. The table has the least wall time of some runs, how many
+times as fast mpslp is as each other program, and the largest resident memory of
+any run, also by the size of the file. The runs of a file's programs take turns,
+so that other load on the machine affects all of them. Below the table, for each
+file of several sizes, it says whether the time of mpslp grows as the file does.
+Files are kept in bench/data/.
 """
 
 import argparse
@@ -43,7 +43,7 @@ KINDS = {
 
 
 OURS = "mpslp"
-# The time of mpslp grows at most so many times as the file grows ten times: more misses the caches.
+# The time of mpslp grows at most so many times if the file grows ten times: more misses the caches.
 MOST_GROWTH = 14
 
 
@@ -52,7 +52,7 @@ def output_path():
 
 
 class Program:
-    """A program, and its words for reading the input and writing the output."""
+    """A program, and its arguments for reading the input and writing the output."""
 
     def __init__(self, name, path, words, by_streams=False):
         self.name = name
@@ -102,7 +102,7 @@ def readers(path_of_ours, source):
 
 
 def found(name):
-    """The program's whole path, or None where it is missing."""
+    """The program's whole path, or None if it is missing."""
     path = shutil.which(str(name))
     return os.path.abspath(path) if path else None
 
@@ -135,7 +135,7 @@ def failure_of(code):
         return f"stopped by signal {-code}"
     if code > 0:
         return f"failed with status {code}"
-    # clp answers 0 for a file that it refuses too, but then it writes none.
+    # clp also returns 0 for a file that it rejects, but then it writes none.
     output = output_path()
     if not output.exists() or output.stat().st_size == 0:
         return "wrote nothing"
@@ -162,16 +162,16 @@ def together(results):
 
 
 def generated(name, words):
-    """The cached file of this name, made anew where the generator has changed."""
+    """The cached file of this name, made anew if the generator has changed."""
     DATA.mkdir(exist_ok=True)
     path = DATA / name
     newest_source = max(source.stat().st_mtime for source in SOURCES)
     if path.exists() and path.stat().st_mtime > newest_source:
         return path
     print(f"generating {path.name}", file=sys.stderr)
-    # Under another name first, so that a stopped run leaves no half file. In
-    # another process, because the memory of this one would be counted into
-    # that of each program it starts.
+    # Under another name first, so that a stopped run leaves no half file. In another
+    # process, because otherwise the memory of this one would be counted as that of
+    # each program it starts.
     part = path.with_name(path.name + ".part")
     with open(part, "wb") as writer:
         subprocess.run([sys.executable, str(GENERATOR), *words], stdout=writer, check=True)
@@ -206,14 +206,14 @@ def ratio_text(result, ours):
 
 
 def memory_text(size):
-    """A program's peak counts that of this one, which starts it: less cannot be told."""
+    """A program's peak memory includes that of this one, which starts it, so smaller values cannot be measured."""
     own = resource.getrusage(resource.RUSAGE_SELF).ru_maxrss * 1024
     text = f"{size / 1e6:.0f}"
     return text if size > own else "at most " + text
 
 
 def compare(sources, candidates, runs, limit):
-    """Prints the table, and answers the seconds of mpslp by shape and size."""
+    """Prints the table, and returns the seconds of mpslp by shape and size."""
     print("| file | MB | program | seconds | MB/s | mpslp is faster by | peak memory, MB | by the file's size |")
     print("|---|---|---|---|---|---|---|---|")
     seconds = {}
@@ -248,7 +248,7 @@ def present(candidates):
 
 
 def wanted_files(options):
-    """Shapes and sizes of files, and the generator's words for them."""
+    """Shapes and sizes of files, and the generator's arguments for them."""
     if options.source == "lp":
         shapes = {"thin": ("--lp",)}
     elif options.hostile:

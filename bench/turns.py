@@ -3,10 +3,11 @@
 
     turns.py PROGRAM OTHER [--files KIND,..] [--sizes 10M,..] [--rounds N]
 
-Each file is read and written again by every program, one after another, in rounds whose order rotates, so that what else the
-machine does falls on all alike. The table has, for each file and program, the median over the rounds of the processor time of
-that program by that of PROGRAM in the same round (above 1: PROGRAM is faster), the same for wall time, PROGRAM's seconds, and
-the most memory of any run, by the size of the file. Times of runs in different rounds are never compared.
+Each file is read and written again by every program, one after another, in rounds whose order rotates, so that other load on
+the machine affects all alike. The table has, for each file and program, the median over the rounds of the processor time of
+that program divided by that of PROGRAM in the same round (above 1: PROGRAM is faster), the same for wall time, PROGRAM's
+seconds, and the largest memory of any run, divided by the size of the file. Times of runs in different rounds are never
+compared.
 
 A peer that rejects a file, or writes less than an eighth of it, has no time. Files are kept in bench/data/.
 """
@@ -40,7 +41,7 @@ GENERATED = {
     "lp": ("--lp",),
     "lp-shuffled": ("--lp", "--shuffle"),
 }
-# The canonical text of what a kind has.
+# The canonical text of a file of this kind.
 CANONICAL = {"canonical": "thin", "canonical-lp": "lp"}
 CANONICAL_SHAPES = {f"{shape}-lp": shape for shape in SHAPES}
 KINDS = (*GENERATED, *CANONICAL, *SHAPES, *CANONICAL_SHAPES, *SHORTEST)
@@ -51,7 +52,7 @@ LEAST_OUTPUT = 1 / 8
 
 @dataclass(frozen=True)
 class Program:
-    """A program, and its words for reading INPUT and writing OUTPUT; with no INPUT it reads and writes its streams."""
+    """A program, and its arguments for reading INPUT and writing OUTPUT; without INPUT it uses its standard streams."""
 
     name: str
     words: tuple[str, ...]

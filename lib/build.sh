@@ -1,9 +1,9 @@
 #!/bin/sh
-# lib/build.sh: puts libmpslp.a and libmpslp.so.0 into build/, of the proved crate mpslp_c, the kit's heap, and the inline calls
-# of the header.
+# lib/build.sh: makes build/libmpslp.a and build/libmpslp.so.0 from the proved crate mpslp_c, the kit's heap, and the inline
+# functions of the header.
 #
-# lib/build.sh gate: the same over the libraries that rt ci has proved in this checkout and left there, of which rt lib
-# takes none. The crate itself is proved once more: rattle builds no other.
+# lib/build.sh gate: the same with the libraries that rt ci has proved in this checkout and left there, none of which rt lib
+# accepts. The crate itself is proved once more: rattle builds no other.
 set -eu
 cd "$(dirname "$0")/.."
 kit=$(dirname "$(rt doc)")

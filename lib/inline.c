@@ -1,6 +1,6 @@
 /*
- * The inline calls of mpslp.h, for languages that read no header and for compilers that do not inline; and the version, which
- * lib/build.sh takes from the file VERSION.
+ * The inline functions of mpslp.h, for languages that read no header and for compilers that do not inline; and the version,
+ * which lib/build.sh takes from the file VERSION.
  */
 #include <mpslp.h>
 

@@ -1,8 +1,8 @@
 #!/bin/sh
-# release/check.sh: installs the archive and the Debian package of build/dist/ in an empty Debian, each in its turn, uses
-# them as use.sh says, removes them, and checks that nothing is left.
+# release/check.sh: installs the archive and the Debian package of build/dist/ in an empty Debian, one after the other, uses
+# them as use.sh does, removes them, and checks that nothing is left.
 #
-# It needs root, and debootstrap for the first run, which fetches Debian's base system and keeps it in build/roots/; later
+# It needs root, and debootstrap for the first run, which downloads Debian's base system and keeps it in build/roots/; later
 # runs need no network. SUITE and MIRROR name another Debian.
 set -eu
 cd "$(dirname "$0")/.."
@@ -17,7 +17,7 @@ archive=build/dist/$name.tar.gz
 package=build/dist/mpslp_${version}_amd64.deb
 base=build/roots/$suite.tar
 root=build/roots/try
-# What the trials use, within the root. Lists of what is there leave it out.
+# The files that the checks use, within the root. Listings leave them out.
 place=/tmp/mpslp
 
 die() {
@@ -45,7 +45,7 @@ make_base() {
     mv "$base.part" "$base"
 }
 
-# A root as the base system is, with what is used in it.
+# A root with the base system and the files that the checks use.
 fresh_root() {
     rm -rf $root
     mkdir -p $root
@@ -63,7 +63,7 @@ in_root() {
     chroot $root /usr/bin/env -i PATH=/usr/sbin:/usr/bin:/sbin:/bin HOME=/root LC_ALL=C.UTF-8 "$@"
 }
 
-# All that is in the root with its modes, owners and sums, but for the records of dpkg, ldconfig and man.
+# All files in the root with their modes, owners and checksums, except the records of dpkg, ldconfig and man.
 list() {
     (
         cd $root

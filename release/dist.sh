@@ -3,7 +3,7 @@
 # archive and as a Debian package, and writes a record of what they were built from. All three go to build/dist/, or to DIST.
 #
 # One commit gives the same bytes in every clone: times are those of the commit, names are sorted, owners and modes are
-# fixed, and compressed files carry neither name nor time.
+# fixed, and compressed files have neither name nor time.
 #
 # It needs git, binutils, dpkg-deb, and what python/build.sh needs.
 set -eu
@@ -34,7 +34,7 @@ rm -rf "$dist"
 mkdir -p "$dist/work"
 work=$(realpath "$dist/work")
 
-# The wheel is made of the commit's files, whose modes go into it, and without debug information, which has their paths.
+# The wheel is made of the commit's files, whose modes go into it, and without debug information, which contains their paths.
 build_wheel() {
     mkdir -p "$work/source/build"
     git -c tar.umask=0022 archive HEAD VERSION include python | tar -xf - -C "$work/source"
@@ -43,7 +43,7 @@ build_wheel() {
     test -f "$work/source/build/$wheel" || die "the wheel has another name than $wheel"
 }
 
-# The newest version of glibc that programs and libraries ask for.
+# The newest version of glibc that programs and libraries require.
 glibc_of() {
     objdump -T "$@" | sed -n 's/.*(GLIBC_\([0-9.]*\)).*/\1/p' | sort -uV | tail -n 1
 }
@@ -53,7 +53,7 @@ unpack_wheel() {
     "${PYTHON:-/usr/bin/python3}" -m zipfile -e "$work/source/build/$wheel" "$work/wheel"
 }
 
-# The sums of all files below a directory.
+# The checksums of all files below a directory.
 sums() {
     (cd "$1" && find . -type f -printf '%P\0' | sort -z | xargs -0 sha256sum)
 }
@@ -76,7 +76,7 @@ pack_archive() {
     tar --sort=name --owner=0 --group=0 --numeric-owner --mode=u=rwX,go=rX --format=gnu -C "$work" -cf - "$name" | gzip -9n > "$dist/$archive"
 }
 
-# Kilobytes, as Debian counts them: each file in whole ones.
+# Kilobytes as Debian counts them: the size of each file is rounded up.
 installed_size() {
     find "$1" -type f -printf '%s\n' | awk '{ sum += int(($1 + 1023) / 1024) } END { print sum }'
 }
@@ -124,7 +124,7 @@ pack_package() {
     dpkg-deb --root-owner-group -Zgzip -z9 --build "$work/debian" "$dist/$package" > /dev/null
 }
 
-# The first line of what a tool says of itself.
+# The first line of a tool's version text.
 tool() {
     "$@" 2>&1 | head -n 1
 }
@@ -135,7 +135,7 @@ import importlib.metadata, platform
 print("Python", platform.python_version(), *(f"{name} {importlib.metadata.version(name)}" for name in ("pip", "setuptools", "wheel")))'
 }
 
-# The kit's line. A program has in it the sum of the logic that it was proved with.
+# The kit's line. A program contains the checksum of the logic with which it was proved.
 kit() {
     grep -aqF "logic=$(rt version | sed 's/.* logic //')" "$program" || die "another kit built the program than $(rt version)"
     rt version

@@ -1,13 +1,13 @@
 #!/bin/sh
-# release/install.sh PART..: installs what is built, by parts, or takes it away again.
+# release/install.sh PART..: installs what is built, by parts, or removes it again.
 #
 #     program      the program, its man page and its completions
 #     library      the library for C, its header and its pkg-config file
 #     documents    the documents and the examples
-#     uninstall    removes what these three bring
+#     uninstall    removes everything that these three install
 #
-# PREFIX (/usr/local) and LIBDIR (lib in PREFIX) say where. A DESTDIR goes before both and appears in no file that is
-# installed. PC_PREFIX is the prefix in the pkg-config file if that is another one.
+# PREFIX (/usr/local) and LIBDIR (lib in PREFIX) say where. DESTDIR is prefixed to both and appears in no installed file.
+# PC_PREFIX is the prefix in the pkg-config file if that is another one.
 set -eu
 cd "$(dirname "$0")/.."
 
@@ -37,7 +37,7 @@ TABLE
 link=$libdir/libmpslp.so
 package=$libdir/pkgconfig/mpslp.pc
 
-# A text as sed takes it for a replacement.
+# A text, escaped as a replacement of sed.
 literally() {
     printf '%s' "$1" | sed 's/[&|\]/\\&/g'
 }

@@ -1,5 +1,5 @@
 #!/bin/sh
-# release/install_check.sh: tries make install, install-lib and uninstall in a scratch directory, with the program and the
+# release/install_check.sh: tests make install, install-lib and uninstall in a scratch directory, with the program and the
 # library that are built. It needs a C compiler and pkg-config.
 set -eu
 cd "$(dirname "$0")/.."
@@ -21,7 +21,7 @@ make_without_kit() {
     env -u MAKEFLAGS -u MAKELEVEL PATH="$scratch/path" make --no-print-directory "$@" > "$scratch/log" 2>&1 || die "make $*: $(cat "$scratch/log")"
 }
 
-# What pkg-config says of an installed library, and a program that uses each of its two forms.
+# What pkg-config prints for an installed library, and a program that uses each of its two forms.
 use() {
     mpslp=$1/bin/mpslp
     libdir=$2
@@ -61,7 +61,7 @@ for libdir in "$scratch/usr/lib/x86_64-linux-gnu" "$scratch/libraries"; do
     is_gone "$scratch/usr"
 done
 
-# A staging directory, whose path is in no file. What is installed beside mpslp stays.
+# A staging directory, whose path is in no file. Other installed files are kept.
 make_without_kit install install-lib DESTDIR="$scratch/stage" PREFIX=/usr LIBDIR=/usr/lib64
 ! grep -rlF "$scratch" "$scratch/stage" || die "a file has the path of the staging directory"
 grep -qx 'prefix=/usr' "$scratch/stage/usr/lib64/pkgconfig/mpslp.pc"
@@ -69,7 +69,7 @@ echo other > "$scratch/stage/usr/share/zsh/site-functions/_other"
 make_without_kit uninstall DESTDIR="$scratch/stage" PREFIX=/usr LIBDIR=/usr/lib64
 test "$(find "$scratch/stage" -type f)" = "$scratch/stage/usr/share/zsh/site-functions/_other" || die "uninstall takes away too much, or leaves $(find "$scratch/stage" -type f)"
 
-# Twice is as good as once, in both directions.
+# Repeating an install or an uninstall changes nothing.
 make_without_kit install install install-lib uninstall uninstall PREFIX="$scratch/twice"
 is_gone "$scratch/twice"
 rm -rf "$scratch"

@@ -1,6 +1,6 @@
 /*
- * Runs tests/c/program.c, compiled with -Dmain=run_words, in a thread whose stack has 256 KiB: what every call of the library
- * is promised to need at most.
+ * Runs tests/c/program.c, compiled with -Dmain=run_words, in a thread whose stack has 256 KiB: every call of the library is
+ * guaranteed to need no more.
  */
 #include <pthread.h>
 #include <stdio.h>

@@ -1,11 +1,11 @@
 #!/usr/bin/env python3
-"""Run mpslp on files with a stack of 256 KiB, which is promised to be enough.
+"""Run mpslp on files with a stack of 256 KiB, which is guaranteed to be enough.
 
-Each command has to answer there as it does with 8 MiB. The least stack in which
-all of them do is printed, to 4 KiB; the system puts the stack at a random place,
-so it differs by a few KiB from run to run.
+Each command must have the same result there as with 8 MiB. The smallest stack that
+is enough for all of them is printed, to 4 KiB; the system puts the stack at a random
+place, so it differs by a few KiB from run to run.
 
-Exits with 1 if an answer differs, and names the command.
+Exits with 1 if a result differs, and names the command.
 """
 
 import argparse
@@ -36,7 +36,7 @@ def is_enough(command, expected, kibibytes):
 
 
 def least(command, expected, too_little, enough):
-    """The least stack that is enough, between one that is not and one that is."""
+    """The smallest stack that is enough, between one that is not and one that is."""
     while enough - too_little > STEP:
         middle = (too_little + enough) // (2 * STEP) * STEP
         if is_enough(command, expected, middle):

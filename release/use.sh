@@ -1,6 +1,6 @@
 #!/bin/sh
-# release/use.sh VERSION WHEEL: uses mpslp as it is installed: the program, its man page, the library from C, the wheel from
-# Python. check.sh runs this within the root that it was installed in, in a directory with what is used here.
+# release/use.sh VERSION WHEEL: uses an installed mpslp: the program, its man page, the library from C, the wheel from Python.
+# check.sh runs this within the root in which it was installed, in a directory with the files that are used here.
 set -eu
 version=$1
 wheel=$2

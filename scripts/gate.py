@@ -1,10 +1,10 @@
 #!/usr/bin/env python3
 """The merge gate, quietly: scripts/gate.py
 
-First `rt ci`: it proves every crate and its tests, tries the must-fail edits, which are wrong versions that the prover has to
-refuse, and runs the tests and programs. Then what it built is tested by the scripts of TESTS, side by side. One line is printed
-for each crate, each folder of edits and each script; all of their output goes to build/log/. What passed is kept on this machine,
-so a second call, or a call after an interrupted one, proves only what is left or changed.
+First `rt ci`: it proves every crate and its tests, checks that the prover rejects the mutants of must-fail/, and runs the tests
+and programs. Then the scripts of TESTS test what it built, side by side. One line is printed for each crate, each directory of
+mutants and each script; all of their output goes to build/log/. Results are cached on this machine, so a second call, or a call
+after an interrupted one, proves only what is left or has changed.
 """
 
 import os
@@ -54,7 +54,7 @@ EDITS_BEGUN = re.compile(r"rt: (\w+): trying its must-fail edits \((\d+)\)")
 EDIT = re.compile(r"rt: must-fail (\w+)/\S+: (refused|BAD EDIT|NOT TRIED|NOT REFUSED)")
 FAILURE = re.compile(r"^fn \S+: (?:not proved|no proof)|NOT PROVED|NOT REFUSED|BAD EDIT|NOT TRIED|FAILED|\berror\b|^rt: .*(?:failed|refuse)")
 CLOSING = re.compile(r"(\d+) passed, (\d+) failed$")
-# With these words a script says what it left out for want of a tool.
+# A script that skips a test because a tool is missing reports it with this prefix.
 SKIPPED = "skipped: "
 
 
@@ -145,7 +145,7 @@ def test_all(report: Report) -> tuple[int, list[str]]:
 
 
 def mark_program() -> None:
-    """Keeps that the program of `rt ci` is the proved one of these sources, so that `make` and `make run` take it."""
+    """Records that the program of `rt ci` is the proved one of these sources, so that `make` and `make run` use it."""
     crates = below(crates_of_repository(), "mpslp")
     mark(crates[-1], sums_of(crates)["mpslp"])
 

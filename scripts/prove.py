@@ -1,12 +1,12 @@
 #!/usr/bin/env python3
-"""Proves a crate and all that it stands on, in parallel and quietly: scripts/prove.py CRATE
+"""Proves a crate and all crates below it, in parallel and quietly: scripts/prove.py CRATE
 
-Crates that do not need one another are proved side by side, and a crate that nothing else can be proved beside gets the idle
-processors. One line is printed for each crate; the prover's own output goes to build/log/. What was proved is kept: a second call
-proves what changed since, and a call after an interrupted one goes on where that was.
+Crates that do not depend on one another are proved side by side, and a crate that cannot be proved beside others gets the idle
+processors. One line is printed for each crate; the prover's own output goes to build/log/. Proofs are cached: a second call
+proves what has changed since, and a call after an interrupted one goes on where that was.
 
-The kit locks a checkout's crates while it proves one of them. So each lane has a copy of the sources in build/lanes/; the kit takes
-over there, and in the checkout itself, what it has proved of the same sources in another copy.
+The kit locks a checkout's crates while it proves one of them. So each lane has a copy of the sources in build/lanes/; there, and
+in the checkout itself, the kit reuses what it has proved of the same sources in another copy.
 """
 
 import argparse
@@ -27,10 +27,10 @@ from kit import ROOT, kit_sum, require_kit
 
 LOGS = ROOT / "build" / "log"
 LANES = ROOT / "build" / "lanes"
-# For each crate that is proved the checksum of all that its proof read.
+# For each proved crate the checksum of everything that its proof read.
 MARKS = ROOT / "build" / "proved"
 PARTS = ("src", "specs", "proofs")
-# What a check of a large crate takes at most, in bytes.
+# The maximum memory of a check of a large crate, in bytes.
 MEMORY_OF_A_LANE = 5_000_000_000
 
 
@@ -65,7 +65,7 @@ def crates_of_repository() -> dict[str, Crate]:
 
 
 def below(crates: dict[str, Crate], top: str) -> list[Crate]:
-    """The crate and all that it stands on, lowest first."""
+    """The crate and all crates below it, lowest first."""
     order: dict[str, Crate] = {}
 
     def visit(name: str) -> None:
@@ -79,7 +79,7 @@ def below(crates: dict[str, Crate], top: str) -> list[Crate]:
 
 
 def sums_of(crates: list[Crate]) -> dict[str, str]:
-    """A checksum for each crate of all that its proof reads: its sources, those below it, and the kit."""
+    """For each crate a checksum of everything that its proof reads: its sources, those below it, and the kit."""
     sums: dict[str, str] = {}
     for crate in crates:
         sum = hashlib.sha256(f"{kit_sum()} {crate.line}".encode())
@@ -98,7 +98,7 @@ def built(crate: Crate) -> Path:
 
 
 def mark(crate: Crate, sum: str) -> None:
-    """Keeps that the crate is proved as it is now."""
+    """Records that the crate is proved in its current state."""
     MARKS.mkdir(parents=True, exist_ok=True)
     (MARKS / crate.name).write_text(sum)
 
@@ -109,13 +109,13 @@ def is_marked(crate: Crate, sum: str) -> bool:
 
 
 def is_proved_and_built(crates: list[Crate]) -> bool:
-    """Whether the last of the crates is built, of the sources of all of them as they are now."""
+    """Whether the last of the crates is built from the current sources of all of them."""
     top = crates[-1]
     return built(top).exists() and is_marked(top, sums_of(crates)[top.name])
 
 
 class Estimate:
-    """How long the rest takes, by what each crate took when scripts/proof-seconds.tsv was written."""
+    """An estimate of the time left, from the time of each crate in scripts/proof-seconds.tsv."""
 
     def __init__(self, crates: list[Crate]):
         table = ROOT / "scripts" / "proof-seconds.tsv"
@@ -126,7 +126,7 @@ class Estimate:
         self.begun = time.monotonic()
 
     def chain(self, names: set[str]) -> float:
-        """What the longest chain of these crates takes."""
+        """The time of the longest chain of these crates."""
         ends: dict[str, float] = {}
         for name, crate in self.crates.items():
             first = max((ends[use] for use in crate.uses), default=0.0)
@@ -134,12 +134,12 @@ class Estimate:
         return max(ends.values(), default=0.0)
 
     def chain_from(self, name: str) -> float:
-        """What the crate and the longest chain of crates that wait for it take."""
+        """The time of the crate and the longest chain of crates that wait for it."""
         above = [self.chain_from(it.name) for it in self.crates.values() if name in it.uses]
         return self.seconds[name] + max(above, default=0.0)
 
     def left(self, all_names: set[str], left: set[str], lanes: int) -> float:
-        """Seconds left, by how the crates done so far compare with the table."""
+        """Seconds left, by comparing the crates done so far with the table."""
         planned = self.span(all_names, lanes) - self.span(left, lanes)
         pace = (time.monotonic() - self.begun) / planned if planned > 0 else 1.0
         return min(max(pace, 0.3), 5.0) * self.span(left, lanes)
@@ -166,7 +166,7 @@ class Lane:
             shutil.rmtree(self.folder / "crates" / old)
 
     def copy(self, crate: Crate) -> None:
-        """Brings the crate's sources up to date, and leaves alone those that are: the kit looks at what changed."""
+        """Brings the crate's sources up to date, and does not touch those that are: the kit looks at what changed."""
         to = self.folder / "crates" / crate.name
         wanted = {file.relative_to(crate.folder): file for file in crate.files()}
         for path, file in wanted.items():
@@ -185,7 +185,7 @@ class Interrupted(Exception):
 
 
 class Runner:
-    """Runs the kit's commands, and ends those that still run when this program is interrupted."""
+    """Runs the kit's commands, and ends those still running when this program is interrupted."""
 
     def __init__(self) -> None:
         self.running: set[subprocess.Popen[bytes]] = set()
@@ -277,7 +277,7 @@ class Proof:
         return not failed
 
     def begin(self, free: list[Lane], running: dict[Future[int], tuple[str, Lane, float]], pool: ThreadPoolExecutor) -> None:
-        """Begins what can be proved now, the longest chain first, and shares idle processors among these."""
+        """Starts what can be proved now, the longest chain first, and shares idle processors among these."""
         at_work = {name for name, _, _ in running.values()}
         ready = [
             name

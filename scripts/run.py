@@ -16,11 +16,11 @@ from kit import ROOT, require_kit
 from prove import below, built, crates_of_repository, is_proved_and_built
 
 FORMATS = ("mps", "lp")
-# What `rt try` gives a program: bytes of output, and seconds.
+# The limits of `rt try` for a program: bytes of output, and seconds.
 MOST_OUTPUT, MOST_SECONDS = "1 MiB", 60
-# What `rt try` says of the run itself, after what the program wrote to standard error.
+# What `rt try` writes about the run itself, after what the program wrote to standard error.
 OF_THE_RUN = re.compile(rb"^(?:checked: |(?:run|call)=\S+ ).*\n?", re.M)
-# The status with which `rt try` says that the program gave no result within these.
+# The status with which `rt try` reports that the program had no result within these limits.
 NO_RESULT = 6
 # The statuses of the program for a usage error, and for a file that cannot be opened or read.
 USAGE_ERROR, READ_ERROR = 3, 4

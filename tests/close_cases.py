@@ -1,4 +1,4 @@
-"""Small files at which a reader of docs/FORMATS.md could go either way, each with its answer: a model, or an error."""
+"""Small files that a reader of docs/FORMATS.md could read in two ways, each with its result: a model, or an error."""
 
 COLUMNS = "ROWS\n N  C\n L  K\nCOLUMNS\n    X  C  1\n"
 ONLY_K = "ROWS\n L  K\nCOLUMNS\n    X  obj  1\nRHS\n    obj  5\n"

@@ -1,7 +1,7 @@
 #!/usr/bin/env python3
-"""Checks `make`, `make run` and the check of the kit with a stand-in for `rt`, on a copy: tests/commands_check.py
+"""Test `make`, `make run` and the check of the kit with a stand-in for `rt`, on a copy: tests/commands_check.py
 
-It proves nothing: the stand-in keeps a list of what it was asked for.
+Nothing is proved: the stand-in records its calls.
 """
 
 import os

@@ -3,8 +3,8 @@
 
 tests/canonical-digests.tsv has a row for each accepted file of vectors/ and
 examples/: the SHA-256 digests of its canonical MPS and LP texts or, if a name is
-not legal in LP, the report of that. docs/VERSIONS.md promises that these digests
-stay as they are. Each accepted file needs a row, and each row a file.
+not legal in LP, the report of that. docs/VERSIONS.md guarantees that these digests
+do not change. Each accepted file needs a row, and each row a file.
 
 Exits with 1 if a digest differs, or a row or a file is missing, and names the file.
 """
@@ -32,7 +32,7 @@ def inputs():
 
 
 def answer(program, name, to):
-    """The digest of a canonical text, or why there is none."""
+    """The digest of a canonical text, or the report why there is none."""
     words = [program, "canon", name.rsplit(".", 1)[1], to, name]
     done = subprocess.run(words, cwd=ROOT, capture_output=True)
     if done.returncode == 0:
@@ -47,7 +47,7 @@ def is_digest(text):
 
 
 def answers(program):
-    """The answers of the program for each file that it accepts."""
+    """The results of the program for each file that it accepts."""
     found = {name: [answer(program, name, to) for to in FORMATS] for name in inputs()}
     return {name: texts for name, texts in found.items() if is_digest(texts[0])}
 
@@ -65,7 +65,7 @@ def frozen():
 
 
 def differences(kept, found):
-    """A line for each file whose row is not what the program answers."""
+    """A line for each file whose row differs from the program's results."""
     for name in sorted(kept.keys() | found.keys()):
         if name not in found:
             yield f"{name}: frozen, and the file is missing or rejected"

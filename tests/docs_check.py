@@ -13,19 +13,19 @@ not see, says how:
     <!-- table: FORM -->       each row is checked, in the way of docs_tables.py, which
                                also knows some tables by their heads, without a comment
     <!-- check: COMMAND -->    without a block: the command ends with status 0
-    <!-- needs: PROGRAM -->    if it is missing, what comes from here to the next
-                               paragraph in bold or heading is skipped, and it says so
+    <!-- needs: PROGRAM -->    if it is missing, the part from here to the next paragraph
+                               in bold or heading is skipped, and reported as skipped
 
 A block in the language console needs no comment: a line that begins with "$ "
 is a command, and the lines up to the next one are what it prints.
 
-Links within the repository have to lead to a file, and to a heading of it. Each
-pair of examples has to give one canonical text, the stated one if there is one, and
-canonical texts have to be fixed points. prose_lint.py has to find nothing in the
-documents.
+Links within the repository must lead to a file, and to a heading of it. Each pair of
+examples must have the same canonical text, which is the stated one if there is one,
+and canonical texts must be fixed points. prose_lint.py must find nothing in the
+documents, the C header and the comments of the code.
 
-It needs git, make and gzip. One line reports each thing that differs; then they are
-counted. Exits with 1 if one differs.
+It needs git, make and gzip. Each difference is reported on one line; then they are
+counted. Exits with 1 if there is one.
 """
 
 import argparse
@@ -98,7 +98,7 @@ class Scratch:
 
 
 def first_difference(printed, expected):
-    """The first line in which what was printed is not what the document says."""
+    """The first line in which the output differs from the document."""
     have, want = (text.decode("latin-1").split("\n") for text in (printed, expected))
     for number in range(max(len(have), len(want))):
         lines = [repr(text[number]) if number < len(text) else "no more" for text in (have, want)]
@@ -108,7 +108,7 @@ def first_difference(printed, expected):
 
 
 class Document:
-    """One page, and what of it was tried."""
+    """One page, and which parts of it were checked."""
 
     def __init__(self, path, scratch):
         self.path = path
@@ -170,7 +170,7 @@ class Document:
         return [line[indent:] for line in self.lines[at + 1:end]], end
 
     def table(self, at):
-        """The rows of a table with the lines they stand on, without its head, and its last line."""
+        """The rows of the table with their line numbers, without its head, and its last line."""
         end = at
         while end + 1 < len(self.lines) and self.lines[end + 1].startswith("|"):
             end += 1
@@ -217,13 +217,13 @@ class Document:
 
 
 def is_stored_as(path, text):
-    """A script that is also a file of its own is the same there."""
+    """A script that is also a file must be the same there."""
     if path.suffix == ".awk" and (not path.exists() or path.read_text() != text):
         raise Wrong(f"{path.relative_to(ROOT)} is not this block")
 
 
 def answers_of(check, cells):
-    """What a form answers of a row; a row that it cannot read differs, too."""
+    """The results of a form for a row; a row that it cannot read is a difference, too."""
     try:
         return list(check(cells) or ())
     except (LookupError, ValueError, AttributeError, RuntimeError) as error:
@@ -245,7 +245,7 @@ def headings(path):
 
 
 def check_examples(scratch, told):
-    """Each pair has one canonical text, and it is the stated one. Answers how many comparisons were made."""
+    """Each pair has one canonical text, which is the stated one. Returns the number of comparisons."""
     folder = ROOT / "examples"
     files = sorted(path for path in folder.iterdir() if path.suffix in (".mps", ".lp"))
     stems = sorted({path.stem for path in files if not path.stem.endswith(".canonical")})
@@ -288,7 +288,7 @@ def main():
             told += document.wrong
     with tempfile.TemporaryDirectory() as folder:
         tried += check_examples(Scratch(folder, program), told)
-    told += prose_lint.check()
+    told += prose_lint.check(code=True)
     for line in told:
         print(line)
     print(f"{tried} tried, {len(told)} differ")

@@ -1,7 +1,7 @@
 """The tables of the documents whose rows are checked, each form in its own way.
 
-A form is made with the scratch directory. Called with the cells of a row it yields, for
-each check, what differs, or None. at_end returns what the table as a whole lacks.
+A form gets the scratch directory. Called with the cells of a row, it yields for each
+check the difference, or None. at_end returns what is missing in the whole table.
 """
 
 import re
@@ -28,18 +28,18 @@ class Form:
         return ()
 
     def answer(self, words, text):
-        """What the program prints of a text; of a fault its line."""
+        """What the program prints for a text, or the line of its error."""
         return self.scratch.mpslp(words, text.encode())[1]
 
     def coefficient(self, literal):
-        """The number text of a literal as a coefficient in MPS, or the fault."""
+        """The number text of a literal as a coefficient in MPS, or the error."""
         answer = self.answer("canon mps mps", f"ROWS\n N  C\nCOLUMNS\n    X  C  {literal}\nENDATA\n")
         found = re.search(r"^    X  C  (.*)$", answer, flags=re.M)
         return found[1] if found else answer.strip()
 
 
 class Literals(Form):
-    """Literals, and their values or the kind of their fault."""
+    """Literals, and their values or the kind of their error."""
 
     def __call__(self, cells):
         literals, values = spans(cells[0]), cells[1].split(", ")
@@ -57,7 +57,7 @@ class Literals(Form):
 
 
 class NumberText(Form):
-    """Values, and the text that is printed of them."""
+    """Values, and the text that is printed for them."""
 
     def __call__(self, cells):
         for value, text in zip(cells[0].split(", "), spans(cells[1])):
@@ -67,7 +67,7 @@ class NumberText(Form):
 
 
 class Bounds(Form):
-    """Lines of BOUNDS of a column X, and its bounds or the kind of its fault."""
+    """Lines of BOUNDS of a column X, and its bounds or the kind of the error."""
 
     def __call__(self, cells):
         lines = spans(cells[0])
@@ -95,7 +95,7 @@ class Bounds(Form):
 
 
 class RowTypes(Form):
-    """Types of MPS rows and their ranges, and the limits of a row with right side 4."""
+    """Types of MPS rows and their ranges, and the limits of a row with right-hand side 4."""
 
     SIDE = 4
     RANGES = {"none": (None,), "none, or 0": (None, 0), "any": (0, 3, -3), "above 0": (3,), "below 0": (-3,)}
@@ -139,7 +139,7 @@ class LpForms(Form):
 
 
 class Changes(Form):
-    """Changes of the lines of an MPS file, and the faults that they make."""
+    """Changes of the lines of an MPS file, and the resulting errors."""
 
     def __init__(self, scratch, name):
         super().__init__(scratch)
@@ -177,10 +177,10 @@ class Changes(Form):
 
 
 class LpCases(Form):
-    """Texts within an LP file, and the kinds and places of their faults."""
+    """Texts within an LP file, and the kinds and places of their errors."""
 
     def whole(self, cell, text):
-        """What stands before the text and behind it."""
+        """The texts before and after the text."""
         if text.startswith("min"):
             return "", "" if "no more" in cell else "\nend\n"
         if cell.startswith("in bounds"):
@@ -211,7 +211,7 @@ class LpCases(Form):
 
 
 class Tokens(Form):
-    """Texts of LP, and their tokens: the text is answered as its tokens with blanks between them."""
+    """Texts of LP, and their tokens: the text has the same result as its tokens with spaces between them."""
 
     PLACES = ("min {}\nend\n", "min x\nst\n{}\nend\n", "min x\nst\n{} <= 7\nend\n", "min x\nst\nx >= 1\nbounds\n{}\nend\n")
 
@@ -226,7 +226,7 @@ class Tokens(Form):
 
 
 class Reserved(Form):
-    """Reserved words of LP, each tried in three cases of its letters."""
+    """Reserved words of LP, each checked in three spellings of upper and lower case."""
 
     MEANINGS = (
         ("minimise", "{} x\nend\n", "Minimize"),
@@ -258,7 +258,7 @@ class Reserved(Form):
 
 
 class Keywords(Form):
-    """MPS headers, and the kind that refuses them."""
+    """MPS headers, and the kind with which they are rejected."""
 
     def __call__(self, cells):
         for word in spans(cells[0]) or ["WORD", "rows"]:
@@ -267,7 +267,7 @@ class Keywords(Form):
 
 
 class Files(Form):
-    """The files of the folder of examples, with the bytes that some have."""
+    """The files of examples/, with the sizes that some rows state."""
 
     def __init__(self, scratch):
         super().__init__(scratch)
@@ -288,7 +288,7 @@ class Files(Form):
 
 
 class Statuses(Form):
-    """Exit statuses, with runs that end so; where memory is refused is tested by tests/refused.py."""
+    """Exit statuses, with runs that end so; tests/refused.py tests the one for out of memory."""
 
     RUNS = {
         "0": (("canon mps mps examples/small.mps", None), ("same mps examples/small.mps lp examples/small.lp", "same")),

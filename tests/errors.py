@@ -79,7 +79,7 @@ def table():
 
 
 def plain(text):
-    """A text for the manual page: without marks of code, and with the file instead of a link."""
+    """A text for the manual page: without code marks, and with the file instead of a link."""
     return re.sub(r"\[[^\]]*\]\(([^)#]*)[^)]*\)", r"\1", text).replace("`", "")
 
 
@@ -104,14 +104,14 @@ def manual():
 
 
 def put(text, made, start, end):
-    """The text with what is between two patterns replaced."""
+    """The text with the part between two patterns replaced."""
     first = re.search(start, text)
     last = re.compile(end, re.M).search(text, first.end())
     return text[:first.start()] + made + text[last.start():]
 
 
 def pages():
-    """Each page as it has to be."""
+    """The required text of each page."""
     return {PAGE: put(PAGE.read_text(), TABLE_HEAD + table(), re.escape(TABLE_HEAD), r"^(?!\|)"),
             MANUAL: put(MANUAL.read_text(), manual(), r"\.SH DIAGNOSTICS\n", r"^\.SH ")}
 

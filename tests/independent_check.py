@@ -2,16 +2,16 @@
 """Compare the built program with the reader of independent_reader.py.
 
 That reader was written from docs/FORMATS.md and the order of errors in docs/ERRORS.md,
-and from nothing else of this repository. For each file both have to give the same
+and from nothing else of this repository. For each file both must produce the same
 canonical text, the same text of show, or the same error, to the byte.
 
 First every file of examples/ and vectors/ is compared, and every text that the tables of
 vectors/ describe, with each command. Then come random files, one command for each:
 models in many spellings, and broken files. The same seed makes the same files.
 
-The last line says how many files of which kinds were compared. Exits with 1 where the
-answers differ, and keeps the first such file as failed.mps or failed.lp; and where there
-is an error that no file had, if there were enough files for it.
+The last line says how many files of which kinds were compared. Exits with 1 if a result
+differs, and keeps the first such file as failed.mps or failed.lp; or if there is an error
+that no file had, although there were enough files for it.
 """
 
 import argparse
@@ -38,7 +38,7 @@ COMMANDS = ("canon mps", "canon lp", "show")
 BATCH = 100
 # So many random files have every kind of error.
 ENOUGH = 20_000
-# TooLong takes 1 GiB, and NameByte is of names that a program makes.
+# TooLong needs 1 GiB, and NameByte concerns names that a program makes.
 NEVER = {"NameByte"}
 
 
@@ -49,17 +49,17 @@ class File(NamedTuple):
 
 
 class Differs(Exception):
-    """The answers to a command differ for a file."""
+    """The results of a command differ for a file."""
 
     def __init__(self, file, command, expected, found):
         super().__init__(file, command, expected, found)
         self.file, self.command, self.expected, self.found = file, command, expected, found
 
 
-# ---- the two answers
+# ---- the two results
 
 def expected(model, command):
-    """What the reader makes of a command: exit status, standard output and standard error."""
+    """The reader's result of a command: exit status, standard output and standard error."""
     answer = model
     if not isinstance(model, reader.Fault):
         answer = reader.show(model) if command == "show" else reader.canonical(model, command.removeprefix("canon "))
@@ -67,7 +67,7 @@ def expected(model, command):
 
 
 def found(program, file, command):
-    """What the program makes of it."""
+    """The program's result."""
     word, *to = command.split()
     run = subprocess.run([program, word, file.form, *to, "-"], input=file.text, capture_output=True)
     return run.returncode, run.stdout, run.stderr
@@ -88,7 +88,7 @@ def compare(program, file, commands=COMMANDS):
 # ---- the files
 
 def described_texts():
-    """Format and text of what each table of vectors/ describes."""
+    """Format and text of each input that the tables of vectors/ describe."""
     for _, name, number, _, *lines in vectors.rows("changed-lines.tsv"):
         yield vectors.form_of(name), vectors.with_changed_line(name, number, lines)
     for name, least, greatest, _ in vectors.rows("cuts.tsv"):
@@ -102,7 +102,7 @@ def described_texts():
 
 
 def given_files():
-    """Files of the repository, what the tables of vectors/ describe, close cases, and files with each usual cause of an error."""
+    """Files of the repository, inputs that the tables of vectors/ describe, close cases, and files with each usual error."""
     for folder in ("examples", "vectors"):
         for path in sorted((ROOT / folder).iterdir()):
             if path.suffix in (".mps", ".lp"):
@@ -132,7 +132,7 @@ def random_file(seed, number):
 # ---- comparing them
 
 def tallied(compared):
-    """How many files of which sort, format and kind; or what differs."""
+    """The number of files by sort, format and kind; or the difference."""
     tally = Counter()
     try:
         for file, kind in compared:
@@ -143,7 +143,7 @@ def tallied(compared):
 
 
 def check_close_cases():
-    """The close cases have the answers that are written beside them."""
+    """The close cases have the results that are stated with them."""
     for form, text, answer in CASES:
         model = reader.read(text.encode("latin-1"), form)
         read = str(model) if isinstance(model, reader.Fault) else "model"

@@ -240,7 +240,7 @@ def pairs_of(fields: list[str]) -> list[tuple[str, str]]:
 
 
 class MpsReader:
-    """[MPS files], [Within an MPS line]: judges one line after the other, and declares what it says.
+    """[MPS files], [Within an MPS line]: checks one line after the other, and declares what it says.
 
     Each method returns the kinds of its line. It may leave out a kind if it has one of less rank.
     After a line with an error the state is never used again, so it need not be undone.
@@ -839,12 +839,12 @@ class LpReader:
     # The next token
 
     def kind_ahead(self, places: int) -> str | None:
-        """The kind of a token ahead, which is not judged."""
+        """The kind of a token ahead, which is not checked."""
         place = self.at + places
         return self.tokens[place].kind if place < len(self.tokens) else None
 
     def next(self) -> Token:
-        """The next token, which is not taken. A section's word is judged wherever it is."""
+        """The next token, which is not taken. A section's word is checked wherever it is."""
         if self.at == len(self.tokens):
             raise OutOfTokens
         token = self.tokens[self.at]

@@ -1,12 +1,12 @@
 #!/usr/bin/env python3
 """Check the built program on a file of some megabytes that has everything.
 
-The file and its canonical text are put together apart, each by the rules of the
+The file and its canonical text are made separately, each by the rules of the
 format: names, set names and literals have up to 255 bytes, and no number is
-longer than one digit where it is written shortest. Then the same for rows and
-columns that come in rising and in falling order.
+longer than one digit in its shortest text. Then the same for rows and columns in
+ascending and in descending order.
 
-Exits with 1 where an answer is another one.
+Exits with 1 if a result differs.
 """
 
 import argparse
@@ -18,7 +18,7 @@ from pathlib import Path
 ROOT = Path(__file__).resolve().parent.parent
 PROGRAM = ROOT / "crates" / "mpslp" / "out" / "mpslp"
 
-# Rows beside the objective, and columns; the columns from the first marked one on stand between the marker lines.
+# Rows without the objective, and columns; the columns from the first marked one on are between the marker lines.
 COUNT = 2000
 FIRST_MARKED = 1000
 
@@ -123,7 +123,7 @@ def canonical_text():
 
 
 def ordered_file(falling):
-    """A file whose rows, columns, and rows within columns all come in rising or all in falling byte order."""
+    """A file whose rows, columns, and rows within columns are all in ascending or all in descending byte order."""
     numbers = range(COUNT - 1, -1, -1) if falling else range(COUNT)
     yield from ("ROWS", " N  cost")
     yield from (f" G  {row(i)}" for i in numbers)

@@ -1,6 +1,6 @@
-"""Random models, and their canonical texts as docs/FORMATS.md says them.
+"""Random models, and their canonical texts by docs/FORMATS.md.
 
-Nothing here is taken from the program: the texts are what a reader of the
+Nothing here is taken from the program: the texts are those that a reader of the
 document would write.
 """
 
@@ -76,7 +76,7 @@ ONE = Number(1, 0)
 
 @dataclass
 class Row:
-    """Limits; None is the infinite one."""
+    """Limits; None is an infinite one."""
 
     lower: Number | None
     upper: Number | None
@@ -243,7 +243,7 @@ def lp_bounds(name, column):
 
 
 def canonical_lp(model):
-    """The text, or the line that tells the first name that LP cannot tell."""
+    """The text, or the line that reports the first name that is not legal in LP."""
     if not is_lp_name(model.objective):
         return "objective: NotLp\n"
     for kind, names in (("row", model.rows), ("column", model.columns)):
@@ -275,7 +275,7 @@ def drawn_name(source, is_lp):
             name = "".join(source.choices(MPS_BYTES, k=length))
         if name == "'MARKER'" or (is_lp and not is_lp_name(name)):
             continue
-        # A NAME line, a comment and a header are told by their first bytes; names stand behind blanks.
+        # NAME lines, comments and headers are recognised by their first bytes; names come after a space or a tab.
         return name
 
 
@@ -293,7 +293,7 @@ def drawn_number(source):
 
 
 def drawn_limit(source):
-    """A number below 10^20 in size, so that it is a finite limit."""
+    """A number with a magnitude below 10^20, so that it is a finite limit."""
     while True:
         number = drawn_number(source)
         if not number.is_large():

@@ -1,6 +1,6 @@
 """Random files of both formats, most of them with an error: mutated ones, and ones assembled from pieces.
 
-The pieces are chosen so that every kind of error of docs/ERRORS.md is met within a few thousand files.
+The pieces are chosen so that every kind of error of docs/ERRORS.md occurs within a few thousand files.
 """
 
 import re
@@ -65,7 +65,7 @@ def long_line(source, text):
 
 
 def exchanged(source, items, others):
-    """A list with an item left out, repeated, swapped, or replaced by or put behind another."""
+    """A list with an item left out, repeated, swapped, or replaced by or put after another."""
     items = list(items)
     if not items:
         return [source.choice(others)]
@@ -89,7 +89,7 @@ def exchanged(source, items, others):
 # ---- MPS
 
 def mps_line(source, names):
-    """A line that may come in some section, of these names."""
+    """A line that may occur in some section, with these names."""
     name = lambda: source.choice(names)
     number = lambda: source.choice(NUMBERS)
     front = source.choice(("", "S  ", "T  "))
@@ -113,7 +113,7 @@ def mps_line(source, names):
 
 
 def changed_fields(source, text):
-    """A field of a line changed, or a line put in that some section has."""
+    """A field of a line changed, or a line of some section inserted."""
     lines = text.split(b"\n")
     names = [field.decode("latin-1") for field in set(text.split()) if field.isascii()] or ["X"]
     at = source.randrange(len(lines))
@@ -182,7 +182,7 @@ def lp_tokens(source, names):
 
 
 def changed_tokens(source, text):
-    """A token changed, or some put in."""
+    """A token changed, or some inserted."""
     tokens = LP_TOKEN.findall(text)
     names = [token.decode("latin-1") for token in set(tokens) if token[:1].isalpha() and token.isascii()] or ["x"]
     if source.random() < 0.4:

@@ -1,14 +1,14 @@
 #!/usr/bin/env python3
 """Check the built program on random model files.
 
-Each model is spelled in many ways, as MPS and, where its names allow, as LP. For
-every spelling the program has to write the canonical texts that models.py makes
-of the model by docs/FORMATS.md; these are fixed points, and a conversion there
-and back gives them again. Then the files are broken at random, and the program has
-to give the same canonical texts or the same first error as independent_reader.py.
+Each model is spelled in many ways, as MPS and, if its names are legal, as LP. For every
+spelling the program must write the canonical texts that models.py makes of the model by
+docs/FORMATS.md; these are fixed points, and a conversion there and back gives them again.
+Then the files are broken at random, and the program must have the same canonical texts or
+the same first error as independent_reader.py.
 
-The same seed makes the same files. Exits with 1 at the first file that is not
-answered so, and keeps it as failed.mps or failed.lp.
+The same seed makes the same files. Exits with 1 at the first file with another result, and
+keeps it as failed.mps or failed.lp.
 """
 
 import argparse
@@ -74,7 +74,7 @@ def check_model(checker, source):
 
 
 def check_broken(checker, form, text):
-    """The answers are those of the independent reader; canonical texts are fixed points and come back from the other format."""
+    """The results are those of the independent reader; canonical texts are fixed points and come back from the other format."""
     model = independent_reader.read(text, form)
     if isinstance(model, independent_reader.Fault):
         for to in ("mps", "lp"):

@@ -1,15 +1,15 @@
-/* Loaded before a program (LD_PRELOAD), this refuses a growth of memory.
+/* Loaded before a program (LD_PRELOAD), this makes an allocation fail.
 
-   A growth is a request for memory and, where that one is refused, the next request if it is for the same block and no larger, and
-   nothing was freed in between. A collection asks so that is filled from an iterator: first for all that may come, and then for
-   less. Both are refused.
+   An allocation is a request for memory and, if it fails, the next request if that is for the same block and no larger, and
+   nothing was freed in between. A collection that is filled from an iterator makes two such requests: first for all items that
+   may come, then for fewer. Both fail.
 
-   Growths are counted from where the program asks for 2^60 + n bytes, which no machine has, and the one of number n is refused;
-   from where it asks for 2^60 bytes none is counted. For a program that does not ask, the variable REFUSE has a number: growths
-   are counted from the start, and the one of that number is refused.
+   When the program requests 2^60 + n bytes, which no machine has, counting starts, and allocation number n fails; when it
+   requests 2^60 bytes, counting ends. For a program that makes no such request, the variable REFUSE has a number: allocations
+   are counted from the start, and the one with that number fails.
 
-   Where counting ends, a line is added to the file that REFUSE_LOG names: how many growths were counted, and how many requests
-   were refused. Requests are those of malloc, calloc, realloc, posix_memalign and aligned_alloc. */
+   When counting ends, a line is added to the file that REFUSE_LOG names: how many allocations were counted, and how many requests
+   were made to fail. Requests are those of malloc, calloc, realloc, posix_memalign and aligned_alloc. */
 
 #define _GNU_SOURCE
 #include <errno.h>
@@ -30,12 +30,12 @@ extern void __libc_free(void *);
 
 static struct {
     int is_counting;
-    unsigned long number;  /* of the growth to be refused */
+    unsigned long number;  /* of the allocation that fails */
     unsigned long growths; /* counted so far */
-    unsigned long refused; /* requests refused so far */
+    unsigned long refused; /* requests that failed so far */
 } counted;
 
-/* The request that was refused last, where nothing was asked for or freed since. */
+/* The last request that failed, if nothing was requested or freed after it. */
 static struct {
     int is_there;
     const void *block;
@@ -79,7 +79,7 @@ static void follow(size_t order) {
     else count_from((unsigned long)(order - ORDER));
 }
 
-/* Whether a request is the second one of the growth that is refused. */
+/* Whether a request is the second one of the failing allocation. */
 static int is_repeated(const void *block, size_t size) {
     return last.is_there && block == last.block && size <= last.size;
 }

@@ -1,17 +1,17 @@
 #!/usr/bin/env python3
-"""Refuse each growth of memory in turn.
+"""Make each allocation fail in turn.
 
-`try_refused` makes each call of the library that takes memory with its first growth
-refused, then with its second one, and so on until none is refused: names, words, jobs,
-the calls of a builder, and readers, conversions, comparisons, runs and jobs on each
-file of vectors/. The same is done of the program, on some files. Where a growth is
-refused, the answer has to be that there is no memory, and nothing else; where none is,
-the one that vectors/ has, or the crate's file of what it prints. A builder's call that
-is refused is made again, and then all that follows has to be as if nothing was refused.
+`try_refused` makes each call of the library that allocates with its first allocation
+failing, then with its second one, and so on until none fails: names, words, jobs, the
+calls of a builder, and readers, conversions, comparisons, runs and jobs on each file of
+vectors/. The same is done with the program, on some files. If an allocation fails, the
+result must be out of memory, and nothing else; otherwise the result that vectors/ has,
+or the file with the crate's output. A builder's call that ran out of memory is repeated,
+and then all that follows must be as if no allocation had failed.
 
-refuse.c says what a growth is. This wants the programs that `rt ci` builds, and glibc;
-without a C compiler it tries nothing and says so. Exits with 1 where an answer is
-another one, and names the call.
+refuse.c says what counts as an allocation. This needs the programs that `rt ci` builds,
+and glibc; without a C compiler it reports that and tests nothing. Exits with 1 if a
+result differs, and names the call.
 """
 
 import argparse
@@ -38,22 +38,22 @@ SOURCE = HERE / "refuse.c"
 
 OUT_OF_MEMORY = b"out of memory\n"
 
-# What each file is compared with: one model in both formats.
+# What each file is compared with: the same model in both formats.
 OTHER = "small.lp"
 OTHER_OF_ITSELF = "small.mps"
 
-# What the program is run on: files of vectors/, and words that ask for no job, with its exit status.
+# What the program is run on: files of vectors/, and arguments that are not a job, with their exit status.
 PROGRAM_FILES = ("small.lp", "production.lp", "ranges-before-right-sides.mps", "upper-below-0.mps", "columns-of-each-kind.mps")
 PROGRAM_WORDS = {"--help": 0, "canon mps": 3, "canon mps xml -": 3, "same mps - lp -": 3}
 
 Entry = namedtuple("Entry", "topic input answer mps lp show")
 
-# How many growths were counted, and how many requests were refused.
+# How many allocations were counted, and how many of them were made to fail.
 Counted = namedtuple("Counted", "growths refused")
 
 
 class Refusing:
-    """Runs programs with the library that refuses."""
+    """Runs programs with the library that makes allocations fail."""
 
     def __init__(self, folder, compiler):
         self.folder = Path(folder)
@@ -61,7 +61,7 @@ class Refusing:
         subprocess.run([compiler, "-O2", "-shared", "-fPIC", "-o", self.library, SOURCE], check=True)
 
     def run(self, command, growth=None):
-        """How a command ends, and what was counted. A growth that is given is refused, counted from the command's start."""
+        """How a command ends, and the counts. If an allocation is given, it fails, counted from the start of the command."""
         with tempfile.NamedTemporaryFile(dir=self.folder) as log:
             variables = dict(os.environ, LD_PRELOAD=str(self.library), REFUSE_LOG=log.name)
             if growth is not None:
@@ -71,7 +71,7 @@ class Refusing:
             return (ended.returncode, ended.stdout, ended.stderr), counts
 
     def runs(self, command):
-        """How a command ends with each growth refused in turn, and at last with none; and what was counted."""
+        """How a command ends with each allocation failing in turn, and finally with none; and the counts."""
         answers, counts = [], []
         for growth in count(1):
             answer, (counted,) = self.run(command, growth)
@@ -82,7 +82,7 @@ class Refusing:
 
 
 class Tally:
-    """What was tried of a program, and what was answered in another way."""
+    """The number of runs of a program, and the unexpected results."""
 
     def __init__(self, name):
         self.name = name
@@ -90,7 +90,7 @@ class Tally:
         self.wrong = []
 
     def take(self, place, answers, counts, is_refused, is_whole):
-        """Takes the answers of a call: with each growth refused in turn, and at last with none."""
+        """Takes the results of a call with each allocation failing in turn, and finally with none."""
         self.calls += 1
         self.growths += len(counts) - 1
         self.repeated += sum(counted.refused > 1 for counted in counts)
@@ -121,7 +121,7 @@ def entries():
 
 
 def calls_of(output):
-    """The calls that `try_refused` prints, each with its answers."""
+    """The calls that `try_refused` prints, each with its results."""
     calls = {}
     while output:
         line, _, output = output.partition(b"\n")
@@ -135,12 +135,12 @@ def calls_of(output):
 
 
 def ended(status, out=b"", err=b""):
-    """What `try_refused` prints of a job."""
+    """What `try_refused` prints for a job."""
     return out + b"status %d\n" % status + err
 
 
 def is_made_again(whole, answer):
-    """Whether one call of a builder was refused and then made again, or the end of the builder was refused."""
+    """Whether one call of a builder ran out of memory and was repeated, or `finish` ran out of memory."""
     again, refusals = re.subn(rb"(?m)^(.*): out of memory\n(?=\1: )", b"", answer)
     if refusals:
         return refusals == 1 and again == whole
@@ -149,19 +149,19 @@ def is_made_again(whole, answer):
 
 
 def is_shown(answer):
-    """Whether a model is shown, where no file has the text."""
+    """Whether a model is shown, if no file has the text."""
     return answer.startswith(b"sense ")
 
 
 def refusal_of(name, whole):
-    """The test of an answer of which a growth was refused."""
+    """The test of a result with a failed allocation."""
     if name.startswith("builder"):
         return partial(is_made_again, whole)
     return (ended(5, err=OUT_OF_MEMORY) if name.startswith("perform") else OUT_OF_MEMORY).__eq__
 
 
 def take_calls(tally, place, run, whole):
-    """Takes what `try_refused` printed. `whole` has the answers where nothing is refused, or None where a model is shown."""
+    """Takes the output of `try_refused`. `whole` has the results if no allocation fails, or None for a model that is shown."""
     (status, output, told), counts = run
     calls = calls_of(output)
     if (status, told, calls.keys(), sum(map(len, calls.values()))) != (0, b"", whole.keys(), len(counts)):
@@ -207,7 +207,7 @@ def answers_of_model(entry, text, is_same):
 
 
 def answers_of(entry, other):
-    """What is to be answered of a file that is compared with another one, call by call."""
+    """The expected results for a file and another one, call by call."""
     text = content(entry.input)
     if entry.answer == "model":
         return answers_of_model(entry, text, entry.mps == other.mps)
@@ -228,7 +228,7 @@ def check_calls(workers, refusing, program):
 
 
 def jobs_on(entry):
-    """Jobs of the program on a file, and what they are named among the calls."""
+    """Jobs of the program on a file, and their names among the calls."""
     form = form_of(entry.input)
     yield f"canon {form} mps {entry.input}", "perform canon mps"
     yield f"canon {form} lp {entry.input}", "perform canon lp"
@@ -241,7 +241,7 @@ def has_ended(whole, answer):
 
 
 def check_program(workers, refusing, program):
-    """The program, whose growths are counted from its start."""
+    """The program, whose allocations are counted from its start."""
     tally = Tally("mpslp")
     by_name = {entry.input: entry for entry in entries()}
     tests = {words: lambda answer, status=status: answer[0] == status for words, status in PROGRAM_WORDS.items()}

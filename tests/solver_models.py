@@ -1,7 +1,7 @@
 """Small models with one feature each, and their optima.
 
-Each optimum is another one where a solver passes over the feature. Names are long
-where they are not the feature, since some solvers take short ones for a fixed layout.
+The optimum differs if a solver ignores the feature. Names are long unless they are the
+feature, because some solvers misread short ones as fixed columns.
 """
 
 LONG = "quantity" + "x" * 247

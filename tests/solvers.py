@@ -44,7 +44,7 @@ CLOSE = 1e-6
 
 @dataclass
 class Solver:
-    """A program, its package in Debian, its commands, and how it tells an optimum."""
+    """A program, its package in Debian, its commands, and how it prints an optimum."""
 
     package: str
     commands: dict
@@ -90,7 +90,7 @@ def cells_of(rows):
 
 
 def canonical(program, form, to, text):
-    """The canonical text, or None where LP cannot tell the model."""
+    """The canonical text, or None if a name of the model is not legal in LP."""
     done = subprocess.run([program, "canon", form, to, "-"], input=text.encode(), capture_output=True)
     if done.returncode == 0:
         return done.stdout.decode()
@@ -108,7 +108,7 @@ def models(program):
 
 
 def answer(solver, form, command, text, files):
-    """The optimum that a command tells of a text, or None."""
+    """The optimum that a command prints for a text, or None."""
     with tempfile.TemporaryDirectory() as folder:
         for name, content in {**files, f"model.{form}": text}.items():
             (Path(folder) / name).write_text(content)
@@ -129,7 +129,7 @@ def verdict(found, optimum):
 
 
 def cell(name, form, model, page):
-    """What is to stand in a table, and whether the recipe spoils what was right without it."""
+    """The required content of a table's cell, and whether the recipe spoils what was right without it."""
     solver, text = SOLVERS[name], model.texts[form]
     plain = verdict(answer(solver, form, solver.commands[form], text, {}), model.optimum)
     recipe = page.recipes.get((name, form))
@@ -142,7 +142,7 @@ def cell(name, form, model, page):
 
 
 def measured(form, names, chosen, page):
-    """Each model with its cells, and what is wrong with recipes."""
+    """Each model with its cells, and the errors of recipes."""
     rows, told = [], []
     for model in chosen:
         if model.texts[form] is None:
@@ -192,7 +192,7 @@ def exported(program, command, text, files):
 
 
 def export_differences(program, chosen, page, tables):
-    """The rows of the table of exports that differ, and how many were measured."""
+    """The rows of the table of exports that differ, and the number of those measured."""
     head, _, *rows = page.exports
     tried, told = 0, []
     for row in rows:
@@ -220,7 +220,7 @@ def print_table(form, names, rows):
 
 
 def differences(form, rows, stated):
-    """The cells that differ from the page's table, and the rows that are in one of both alone."""
+    """The cells that differ from the page's table, and the rows that only one of both has."""
     for name, cells in rows:
         for solver, found in cells.items():
             want = stated.get((name, solver), "nothing")

@@ -36,7 +36,7 @@ def spelled(source, number):
 # ---- MPS
 
 class MpsText:
-    """Lines of MPS text, with blanks and comments between them."""
+    """Lines of MPS text, with spaces and comments between them."""
 
     def __init__(self, source):
         self.source = source
@@ -63,7 +63,7 @@ class MpsText:
 
 
 def mps_rows(source, model):
-    """Each row's letter, right side and range, of which the last two may be missing."""
+    """Each row's letter, optional right-hand side and optional range."""
     forms = {}
     for name, row in model.rows.items():
         lower, upper = row.lower, row.upper
@@ -102,12 +102,12 @@ def mps_column_lines(source, out, model, name):
 
 
 def in_marker_part(source, column):
-    """Whether an integer column stands between markers: it has to where no bound can say that it is integer."""
+    """Whether an integer column is between markers; it must be if it has no bound whose type could make it integer."""
     return (column.lower is None and column.upper is None) or source.random() < 0.6
 
 
 def mps_bound_forms(source, column, is_marked):
-    """Types and values of the bounds of a column, which declare its sides and what its part does not."""
+    """Types and values of the bounds of a column, which declare its bounds and what its place in COLUMNS does not."""
     lower, upper = column.lower, column.upper
     if column.kind == "semi":
         forms = [("SC", upper)]
@@ -259,7 +259,7 @@ class Tokens:
         self.operator(self.source.choice(SENSES[kind]))
 
     def side(self, value):
-        """A right or a left side: a number, or None and the sign of its infinity."""
+        """The value on either side of a relation: a number, or "-" or "+" for an infinity of that sign."""
         if isinstance(value, Number):
             if value.mantissa < 0:
                 self.operator("-")
@@ -336,7 +336,7 @@ def lp_row_sides(source, tokens, row, terms):
 
 
 def lp_bound_forms(source, name, column, is_binary):
-    """Senses and sides of the bounds of a column."""
+    """Relations and values of the bounds of a column."""
     lower, upper = column.lower, column.upper
     low, high = lower if lower is not None else "-", upper if upper is not None else "+"
     if is_binary:

@@ -1,11 +1,11 @@
 #!/usr/bin/env python3
-"""Check the built program on the files of vectors/, whose README says what they are.
+"""Check the built program on the files of vectors/, which its README explains.
 
-Each input has to give its canonical text in both formats, or its fault. Each
-canonical text has to be a fixed point, and to come back from the other format.
-`same` has to tell apart what declares different models, and nothing else.
+Each input must have its canonical text in both formats, or its error. Each canonical
+text must be a fixed point, and come back from the other format. `same` must
+distinguish files if and only if they declare different models.
 
-Exits with 1 where an answer is another one, and names the input.
+Exits with 1 if a result differs, and names the input.
 """
 
 import argparse
@@ -52,7 +52,7 @@ def with_long_line(first, further, length, end, name):
 
 
 class Checker:
-    """Runs of the program, and the answers that were other ones."""
+    """Runs of the program, and the unexpected results."""
 
     def __init__(self, program, shows):
         self.program = program
@@ -70,7 +70,7 @@ class Checker:
             self.wrong.append(f"{place}: {found!r} in place of {expected!r}")
 
     def converts(self, place, form, to, text, answer):
-        """`answer` is the bytes of the text, or the line of a fault."""
+        """`answer` is the bytes of the text, or the line of an error."""
         if isinstance(answer, bytes):
             expected = (0, answer, b"")
         else:
@@ -78,7 +78,7 @@ class Checker:
         self.wants(f"{place} to {to}", self.run("canon", form, to, "-", text=text), expected)
 
     def answers(self, place, form, text, entry):
-        """A text has the canonical texts of an entry, or its fault."""
+        """A text has the canonical texts of an entry, or its error."""
         if entry.answer != "model":
             for to in ("mps", "lp"):
                 self.converts(place, form, to, text, entry.answer)
@@ -96,7 +96,7 @@ def refused(answer):
 
 
 def check_folder(checker, entries):
-    """Each file is described, and each input stands in the index once."""
+    """Each file is described, and each input is in the index once."""
     inputs = [entry.input for entry in entries]
     checker.wants("inputs that stand twice", sorted({name for name in inputs if inputs.count(name) > 1}), [])
     named = DESCRIBED.union(*(entry[1:] for entry in entries))
@@ -146,7 +146,7 @@ def check_same(checker, models):
 
 
 def check_same_faults(checker, entries, canonical):
-    """A fault of the first input is told before one of the second."""
+    """An error of the first input is reported before one of the second."""
     refusals = [entry for entry in entries if entry.answer != "model"]
     for entry, other in zip(refusals, refusals[1:] + refusals[:1]):
         fault = entry.answer.encode()

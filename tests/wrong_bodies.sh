@@ -1,6 +1,6 @@
 #!/bin/sh
-# tests/wrong_bodies.sh [CRATE ..]: tries the wrong bodies of tests/wrong-bodies/, which the gate leaves out, on a copy of the crates.
-# Most say more of a function that a must-fail edit of its crate turns already. Fails where the prover takes one of them.
+# tests/wrong_bodies.sh [CRATE ..]: tests the mutants of tests/wrong-bodies/, which the gate leaves out, on a copy of the crates.
+# Most are additional mutants of functions that have one in must-fail/. Fails if the prover accepts one of them.
 set -eu
 cd "$(dirname "$0")/.."
 names=${*:-$(ls tests/wrong-bodies)}

@@ -1,7 +1,7 @@
 //! Measures how fast number literals are read and printed.
 //!
-//! Standard input has one literal a line. How many numbers there are is told on standard output, and
-//! the speeds on standard error, in millions of numbers a second: the best of several rounds.
+//! Reads one literal per line from standard input. Prints the number of literals on standard output, and the best speed of
+//! several rounds, in millions of numbers a second, on standard error.
 #![tactic(auto)]
 
 use bstr::ByteSlice;
@@ -14,7 +14,7 @@ use std::time::Instant;
 
 const ROUNDS: usize = 5;
 
-/// The decimals of the lines that are literals, pushed behind those that are there.
+/// Appends the decimals of the lines that are literals.
 fn parse_lines(text: &[u8], numbers: &mut Vec<Decimal>) -> Result<(), AllocError> {
     for line in text.lines() {
         if let Ok(number) = Decimal::parse(line) {
@@ -24,7 +24,7 @@ fn parse_lines(text: &[u8], numbers: &mut Vec<Decimal>) -> Result<(), AllocError
     Ok(())
 }
 
-/// How many bytes the texts of the numbers have.
+/// Prints all numbers, and returns the total length of their texts in bytes.
 fn put_all(numbers: &[Decimal]) -> usize {
     let mut text = DecimalText::new();
     let mut bytes = 0usize;
@@ -38,7 +38,7 @@ fn micros(rt: &impl Clock, start: Instant) -> io::Result<u128> {
     Ok(start.elapsed(rt)?.as_micros().max(1))
 }
 
-/// Tells a speed with one place after the point.
+/// Prints a speed with one decimal place.
 fn report(rt: &impl Eprint, name: &str, count: usize, micros: u128) -> io::Result<()> {
     let tenths = (count as u128).saturating_mul(10) / micros.max(1);
     eprintln!(rt; "{name} {}.{} million/s", tenths / 10, tenths % 10)

@@ -1,7 +1,7 @@
-//! Measures how fast the text of a model is read: MPS, or LP where the only argument is `lp`.
+//! Measures how fast the text of a model is read: MPS, or LP if the only argument is `lp`.
 //!
-//! Standard input has the text. Its model's counts, or why it has none, are told on standard output, and the time of
-//! the reader alone, without that of the input, on standard error.
+//! Reads the text from standard input. Prints the counts of its model, or its error, on standard output, and the time of the
+//! reader, without that of the input, on standard error.
 #![tactic(auto)]
 
 use mpslp_lp::read_lp;
@@ -13,7 +13,7 @@ use std::rt::Clock;
 use std::time::Instant;
 use std::{env, io};
 
-/// Tells a fault as the program does: its line, or the file, its kind, and the row or column where there is one.
+/// Prints an error like the program: the line or the file, the kind, and the row or column if it has one.
 fn tell(rt: &impl Print, alloc: Global, fault: &Fault) -> io::Result<()> {
     if fault.line == 0 {
         print!(rt; "file: {}", fault.kind.text())?;

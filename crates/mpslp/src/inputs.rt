@@ -1,4 +1,4 @@
-//! The inputs of a job: files, standard input, and what stands in the place of one that is neither.
+//! The inputs of a job: files, standard input, and stand-ins for missing ones.
 
 use mpslp_convert::{Job, JobFault, perform};
 use mpslp_model::{FromRead, Sink, Source};
@@ -6,15 +6,15 @@ use std::io::{Error, ErrorKind, Read};
 use std::rt::Files;
 use std::{fs, io};
 
-/// The most bytes that an input may have.
+/// The maximum length of an input in bytes.
 const MAX_BYTES: u64 = 1_073_741_824;
 
-/// An input without a file.
+/// The stand-in for an input without a file.
 #[derive(Drop)]
 enum NoFile {
     /// The job has no such input: there are no bytes.
     Empty,
-    /// The file did not open: each read fails.
+    /// The file could not be opened: each read fails.
     Missing,
 }
 
@@ -27,7 +27,7 @@ impl Read for NoFile {
     }
 }
 
-/// The paths of a job's first and second input, as far as it has them.
+/// The paths of a job's first and second input, if it has them.
 fn paths(job: &Result<Job, JobFault>) -> (Option<&str>, Option<&str>) {
     match job {
         Ok(Job::Canon { path, .. }) => (Some(path.as_str()), None),
@@ -37,7 +37,7 @@ fn paths(job: &Result<Job, JobFault>) -> (Option<&str>, Option<&str>) {
     }
 }
 
-/// Opens the first input and then the second, does the job, and answers the exit status.
+/// Opens the first input and then the second, does the job, and returns the exit status.
 pub(crate) fn perform_on_inputs<R: Input + Files + AllocGlobal, W: Sink, E: Sink>(
     rt: &R,
     job: &Result<Job, JobFault>,
@@ -54,7 +54,7 @@ pub(crate) fn perform_on_inputs<R: Input + Files + AllocGlobal, W: Sink, E: Sink
     }
 }
 
-/// Opens the second input, does the job, and answers the exit status.
+/// Opens the second input, does the job, and returns the exit status.
 fn perform_from_first<R: Input + Files + AllocGlobal, I: Source, W: Sink, E: Sink>(
     rt: &R,
     job: &Result<Job, JobFault>,

@@ -12,7 +12,7 @@ use std::process::ExitCode;
 use std::rt::Env;
 use std::{env, io};
 
-/// The job that the command line asks for.
+/// The job that the command line requests.
 fn requested_job<R: Env + AllocGlobal>(rt: &R) -> Result<Job, JobFault> {
     match env::args(rt) {
         Ok(words) => match words.skip(1).collect::<Vec<String>>(rt.alloc()) {

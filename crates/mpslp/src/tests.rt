@@ -1,4 +1,4 @@
-//! The program's jobs on files.
+//! Tests of the program's jobs on files.
 
 mod command_line;
 
@@ -24,7 +24,7 @@ rows 0 columns 1 elements 0
 column 0 X continuous 0 inf objective 1
 ";
 
-/// The files of these tests, in the folder where they run.
+/// The files of these tests, in the working directory.
 const FILES: [(&str, &str); 6] = [
     ("test-small.mps", SMALL),
     ("test-small.lp", SMALL_LP),
@@ -34,7 +34,7 @@ const FILES: [(&str, &str); 6] = [
     ("test-cut.mps", "ROWS\n"),
 ];
 
-/// Words of a command line, the exit status, and what is written to standard output and standard error.
+/// Arguments, the exit status, and what is written to standard output and standard error.
 const RUNS: [(&str, u8, &str, &str); 17] = [
     ("canon mps mps test-small.mps", 0, SMALL_CANONICAL, ""),
     ("canon mps lp test-small.mps", 0, SMALL_CANONICAL_LP, ""),
@@ -109,7 +109,7 @@ fn remove_files(rt: &impl Files) -> io::Result<()> {
     Ok(())
 }
 
-/// The words of a line, between blanks.
+/// The arguments in a line, separated by spaces.
 fn words_of(alloc: Global, line: &str) -> Result<Vec<String>, AllocError> {
     let mut words = Vec::new(alloc);
     for word in line.split_ascii_whitespace() {

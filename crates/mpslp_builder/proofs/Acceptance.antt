@@ -12,12 +12,12 @@ use Rattle.mpslp_builder.proofs.RefusalLemmas.{are_known_in_turn, consistent-fro
 use Rattle.mpslp_builder.proofs.MeaningFromNoFault.{means-from_no_fault}
 use Rattle.mpslp_builder.proofs.NoFaultFromMeaning.{no_fault-from_means}
 
--- Legal declarations of which none is refused, with an objective and without a fault of the whole, mean the model of their draft.
+-- Legal declarations, none of which is rejected, with an objective and without a whole-file error mean the model of their draft.
 pub means-from_none : (declarations : Declarations) → has_objective declarations ≡ true → list_all is_legal declarations ≡ true
     → refusals_in_turn empty_draft declarations ≡ [] → file_fault (draft_of declarations) ≡ None → Means declarations (model_of (draft_of declarations))
 means-from_none declarations objective legal refused fault = means-from_no_fault declarations (consistent-from_none declarations objective refused) legal fault
 
--- Legal declarations that mean a model, each name declared before it is used, are not refused and have no fault of the whole.
+-- Legal declarations that mean a model and use each name after its declaration are not rejected and have no whole-file error.
 pub none-from_means : (declarations : Declarations) (m : LinearModel) → list_all is_legal declarations ≡ true → are_known_in_turn empty_draft declarations ≡ true
     → Means declarations m → (refusals_in_turn empty_draft declarations ≡ []) × (file_fault (draft_of declarations) ≡ None)
 none-from_means declarations m legal known means =

@@ -1,4 +1,4 @@
--- What a call answers, from its first refusal, and what stands where it is not refused.
+-- The result of a call by its first error, and what is known if it has none.
 use Rattle.std.proofs.Common.{◌≡◌, refl, sym, ap, subst, ◌∙◌, ℕ, Bool, true, false, cond, not, List, [], ◌∷◌}
 use Rattle.std.specs.Prelude.{◌||◌, ◌&&◌, IsTrue, Option, Some, None, is_some, Ok, Err}
 use Rattle.std.specs.List.{list_all}
@@ -37,23 +37,23 @@ pub none_refused : (faults : List BuildFault) → Ok tt ≡ first_refusal faults
 none_refused [] h = refl
 none_refused (fault ∷ later) h = cc
 
--- the first refusal is answered
+-- the first error is returned
 pub first_answered : (faults : List BuildFault) (fault : BuildFault) (P Q : Type 0) → Err fault ≡ first_refusal faults → Q → Answers faults (Err fault) P Q
 first_answered [] fault P Q h q = cc
 first_answered (first ∷ later) fault P Q h q = (h, q)
 
--- what a question answers is handed on
+-- the result of a query is passed on
 pub handed_on : (faults : List BuildFault) (answer : Answer) (fault : BuildFault) (P Q : Type 0)
     → IsErrAnd answer (λ told. told ≡ fault) → Err fault ≡ first_refusal faults → Q → Answers faults answer P Q
 handed_on faults (Ok x) fault P Q told first q = absurd told
 handed_on faults (Err e) fault P Q told first q = first_answered faults e P Q (cc) q
 
--- nothing is refused, and it is declared
+-- there is no error, and the declaration is made
 pub declared : (faults : List BuildFault) (P Q : Type 0) → faults ≡ [] → P → Answers faults (Ok tt) P Q
 declared [] P Q h p = p
 declared (first ∷ later) P Q h p = cc
 
--- nothing is refused, but there is no memory
+-- there is no error, but no memory
 pub no_memory : (faults : List BuildFault) (P Q : Type 0) → faults ≡ [] → Q → Answers faults (Err OutOfMemory) P Q
 no_memory [] P Q h q = (refl, q)
 no_memory (first ∷ later) P Q h q = cc
@@ -63,22 +63,22 @@ pub want_of_memory : (faults : List BuildFault) (answer : Answer) (P Q : Type 0)
 want_of_memory faults (Ok x) P Q told none q = absurd told
 want_of_memory faults (Err e) P Q told none q = subst (λ (t : BuildFault). Answers faults (Err t) P Q) (sym told) (no_memory faults P Q none q)
 
--- ---- what stands where a call is not refused
+-- ---- what is known if a call has no error
 
 -- one more declaration is made
 pub made_next : {inner all : Draft} (d : Declaration) → inner ≡ all → IsMade inner → is_legal d ≡ true → refusals all d ≡ [] → IsMade (with_declaration inner d)
 made_next {inner} {all} d seen made legal none = made-with_declaration inner d made legal (ap (λ (before : Draft). refusals before d) seen ∙ none)
 
--- a draft that is one with one more declaration is made too
+-- a draft that equals one with one more declaration is made too
 pub made_after : {inner later : Draft} (d : Declaration) → later ≡ with_declaration inner d → IsMade inner → is_legal d ≡ true → refusals inner d ≡ [] → IsMade later
 made_after d after made legal none = subst IsMade (sym after) (made_next d refl made legal none)
 
--- and that is what is answered for
+-- which proves the contract of the call
 pub answered : {inner all later : Draft} (d : Declaration) → inner ≡ all → later ≡ with_declaration inner d → refusals inner d ≡ [] → Answers (refusals all d) (Ok tt) (later ≡ with_declaration all d) (later ≡ all)
 answered {inner} {all} {later} d seen after none =
     declared (refusals all d) (later ≡ with_declaration all d) (later ≡ all) (ap (λ (before : Draft). refusals before d) (sym seen) ∙ none) (after ∙ ap (λ (before : Draft). with_declaration before d) seen)
 
--- what holds of each name holds of one that is there
+-- a property of all names is one of each
 named_so : {X : Type 0} (p : List ℕ → Bool) (name : List ℕ) (es : List (List ℕ × X)) → list_all (λ e. p e.0) es ≡ true → has_name es name ≡ true → p name ≡ true
 named_so p name [] all h = cc
 named_so {X} p name (e ∷ es) all h =
@@ -99,7 +99,7 @@ row_is_legal all name made =
 pub column_is_legal : (all : Draft) (name : List ℕ) → IsMade all → has_column all name ≡ true → is_mps_name name ≡ true
 column_is_legal all name made h = named_so is_mps_name name all.columns (good-from_made all made).columns h
 
--- ---- what is known where no test holds
+-- ---- what is known if no test is true
 
 so_from : (b : Bool) → not b ≡ false → b ≡ true
 so_from true h = refl
@@ -111,7 +111,7 @@ known_row all name more h = so_from (has_row all name) (first_none (not (has_row
 pub known_column : (all : Draft) (name : List ℕ) (more : List (Bool × BuildFault)) → those_of ((not (has_column all name), UnknownColumn) ∷ more) ≡ [] → has_column all name ≡ true
 known_column all name more h = so_from (has_column all name) (first_none (not (has_column all name)) UnknownColumn more h)
 
--- ---- a set that has a name already
+-- ---- a set that already has the name
 
 one_unit : (o : Option (Unit {0})) → is_some o ≡ true → o ≡ Some tt
 one_unit None h = cc
@@ -123,13 +123,13 @@ put_again name names sorted there = sym (put-again bytes_cmp bytes_total name tt
 pub made_now : {inner all : Draft} → inner ≡ all → IsMade inner → IsMade all
 made_now seen made = subst IsMade seen made
 
--- ---- the sides of a column
+-- ---- the bounds of a column
 
 none_there : {X : Type 0} (o : Option X) → is_some o ≡ false → o ≡ None
 none_there None h = refl
 none_there (Some x) h = cc
 
--- neither side that is given is declared
+-- neither of the given bounds is declared
 pub no_side : (all : Draft) (column : List ℕ) (lower upper : Option Limit) → bounds_refusals all column lower upper ≡ []
     → ((is_some lower && has_name all.lowers column) ≡ false) × ((is_some upper && has_name all.uppers column) ≡ false)
 no_side all column lower upper h =
@@ -143,7 +143,7 @@ given : (side : Option Limit) → ForSome side (λ s. IsTrue (is_given s)) → o
 given None h = refl
 given (Some limit) h = h limit refl
 
--- the sides that one call gives are declared
+-- the bounds of one call are declared
 pub made_sides : {inner all : Draft} (column : List ℕ) (lower upper : Option Limit) → inner ≡ all → IsMade inner → ForSome lower (λ s. IsTrue (is_given s))
     → ForSome upper (λ s. IsTrue (is_given s)) → bounds_refusals all column lower upper ≡ [] → IsMade (with_declarations inner (bounds_declared column lower upper))
 made_sides {inner} {all} column lower upper seen made l u none =
@@ -151,7 +151,7 @@ made_sides {inner} {all} column lower upper seen made l u none =
 
 -- ---- coefficients
 
--- what holds of each key holds of one that is there
+-- a property of all keys is one of each
 keyed_so : (p : CoefficientKey → Bool) (key : CoefficientKey) (es : List (CoefficientKey × Number)) → list_all (λ e. p e.0) es ≡ true → is_some (find key_cmp key es) ≡ true → p key ≡ true
 keyed_so p key [] all h = cc
 keyed_so p key (e ∷ es) all h =
@@ -160,7 +160,7 @@ keyed_so p key (e ∷ es) all h =
       | false ↦ λ _ there. keyed_so p key es (second_so (p e.0) (list_all (λ (e : CoefficientKey × Number). p e.0) es) all) there
     ] refl h
 
--- a coefficient that is declared is of a row, or the objective, and a column that are declared
+-- the row (or objective) and the column of a declared coefficient are declared
 pub coefficients_known : (all : Draft) → IsMade all → CoefficientsAreKnown all
 coefficients_known all made key there =
     keyed_so (λ key. has_row all key.row && has_column all key.column) key all.coefficients

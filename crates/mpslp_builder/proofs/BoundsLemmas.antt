@@ -1,4 +1,4 @@
--- Bounds are given back by the sides that are told and the defaults.
+-- The bounds of a column follow from the printed ones and the defaults.
 use Rattle.std.proofs.Common.{◌≡◌, refl, sym, ap, ◌∙◌, List, ℕ, Bool, true, false, cond}
 use Rattle.std.specs.Prelude.{Option, Some, None, is_none, unwrap_or, ◌&&◌, ◌||◌, if◌then◌else◌}
 use Rattle.mpslp_decimal.specs.Decimal.{Number, is_zero, zero_number}
@@ -21,11 +21,11 @@ is_semi_kind Semi = true
 is_semi_kind Continuous = false
 is_semi_kind Integer = false
 
--- a lower bound that is told unless it is the default
+-- a lower bound, printed unless it is the default
 abbrev pub unless_zero : Number → Option Limit
 unless_zero d = if is_zero d then None else Some (Finite d)
 
--- the sides that the canonical lines declare: FR and FX both, MI and LO the lower, UP, PL and SC the upper. A semi-continuous
+-- the bounds that the canonical lines declare: FR and FX both, MI and LO the lower, UP, PL and SC the upper. A semi-continuous
 -- column has no FX
 abbrev pub fixed : Kind → (Number → Number → Bool) → Number → Number → Bool
 fixed Semi same l u = false
@@ -37,7 +37,7 @@ lower_told kind (Finite l) (Finite u) same = if fixed kind same l u then Some (F
 lower_told kind (Finite l) _ same = unless_zero l
 lower_told kind PlusInf _ same = None
 
--- an upper bound: plus infinity is told where both sides are infinite, and of integer columns
+-- an upper bound: plus infinity is printed if both bounds are infinite, and for integer columns
 abbrev pub upper_told : Kind → Limit → Limit → Option Limit
 upper_told kind _ (Finite u) = Some (Finite u)
 upper_told kind MinusInf PlusInf = Some PlusInf
@@ -46,7 +46,7 @@ upper_told Continuous _ PlusInf = None
 upper_told Semi _ PlusInf = None
 upper_told kind _ MinusInf = None
 
--- a column is given back by its kind and bounds
+-- the column follows from its type and bounds
 pub column_of-is : (all : Draft) (name : List ℕ) (column : Column) → is_integer all name ≡ is_integer_kind column.kind → is_semi all name ≡ is_semi_kind column.kind → lower_bound all name ≡ column.lower
     → upper_bound all name ≡ column.upper → column_of all name ≡ column
 column_of-is all name column integer semi lower upper =
@@ -58,7 +58,7 @@ column_of-is all name column integer semi lower upper =
     kinds Continuous = refl
     kinds Semi = refl
 
--- ---- what canonical MPS text tells of a column
+-- ---- what canonical MPS text says about a column
 
 module _ (same : Number → Number → Bool) where
   lower_unless : (l : Number) (b : Bool) → is_zero l ≡ b → (is_zero l ≡ true → l ≡ zero_number) → unwrap_or (cond b None (Some (Finite l))) zero_limit ≡ Finite l
@@ -75,7 +75,7 @@ module _ (same : Number → Number → Bool) where
   lower_either kind l u true e s z = ap (λ (x : Number). Finite x) (sym (s (same_fixed kind l u e)))
   lower_either kind l u false e s z = lower_unless l (is_zero l) refl z
 
-  -- a lower bound comes back from what is told and the default
+  -- a lower bound follows from what is printed and the default
   pub lower_back : (kind : Kind) (l u : Limit) → is_lower_side l ≡ true → ((a b : Number) → l ≡ Finite a → u ≡ Finite b → same a b ≡ true → a ≡ b)
       → ((a : Number) → l ≡ Finite a → is_zero a ≡ true → a ≡ zero_number) → unwrap_or (lower_told kind l u same) zero_limit ≡ l
   lower_back kind MinusInf u h s z = refl
@@ -84,7 +84,7 @@ module _ (same : Number → Number → Bool) where
   lower_back kind (Finite l) PlusInf h s z = lower_unless l (is_zero l) refl (z l refl)
   lower_back kind PlusInf u h s z = cc
 
-  -- the default is 1 only for a marked column of which no side is told
+  -- the default is 1 only for a marked column without a printed bound
   pub upper_back : (kind : Kind) (l u : Limit) → is_upper_side u ≡ true
       → unwrap_or (upper_told kind l u) (if is_integer_kind kind && (is_none (lower_told kind l u same) && is_none (upper_told kind l u)) then one_limit else PlusInf) ≡ u
   upper_back kind l MinusInf h = cc
@@ -99,7 +99,7 @@ module _ (same : Number → Number → Bool) where
   upper_back Integer PlusInf PlusInf h = refl
   upper_back Semi PlusInf PlusInf h = refl
 
-  -- a draft that tells these sides of a column, and whether it is marked or semi-continuous, gives the column back
+  -- a draft with these bounds of a column, and its mark or its semi-continuous type, gives the column back
   pub column_back : (all : Draft) (name : List ℕ) (column : Column) → at_name all.lowers name ≡ lower_told column.kind column.lower column.upper same
       → at_name all.uppers name ≡ upper_told column.kind column.lower column.upper → has_name all.marked name ≡ is_integer_kind column.kind
       → has_name all.integers name ≡ false → has_name all.binaries name ≡ false → has_name all.semis name ≡ is_semi_kind column.kind → is_lower_side column.lower ≡ true → is_upper_side column.upper ≡ true

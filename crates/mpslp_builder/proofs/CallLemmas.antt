@@ -1,4 +1,4 @@
--- What tables stand for after each call.
+-- The drafts that tables represent after each call.
 use Rattle.std.proofs.Common.{◌≡◌, refl, sym, ap, subst, ◌∙◌, ℕ, zero, suc, List, [], ◌∷◌, ◌++◌, Bool, true, false}
 use Rattle.std.specs.Prelude.{None, Some, Option, is_some, slice_get, length, ◌<◌, ◌||◌}
 use Rattle.std.specs.Option.{option_map, option_map_or}
@@ -35,7 +35,7 @@ entry_named {V} (Some e) k v name is named =
     let own : bytes e.0 ≡ name = cc in
     ap (λ (x : Vec ℕ × V). bytes x.0) (sym here) ∙ own
 
--- tables that are the same stand for the same
+-- equal tables represent equal drafts
 pub same_tables : (sense : Option Sense) (constant : Option Number) (t u : Tables) → IsSameTables t u → draft sense constant u ≡ draft sense constant t
 same_tables sense constant t u h = λ i. draft_from sense constant (h.objective i) (h.rows i) (h.columns i)
 
@@ -115,7 +115,7 @@ module _ (sense : Option Sense) (constant : Option Number) (t u : Tables) where
   no_rhs None b h = refl
   no_rhs (Some x) b h = cc
 
-  -- a right side that was not there
+  -- a right-hand side that was not declared
   pub rhs_added : IsNumbered t → IsOnceEach t → (p : RowRef) (r : List ℕ) (x : Number) (b : Bool) → row_name t (row_key_of p) ≡ Some r
       → row_tells t p (λ o. is_some o.rhs || b) (λ row. is_some row.rhs || is_definition_by_limits row.definition) ≡ false → HasRhsPut t p x u
       → draft sense constant u ≡ with_declaration (draft sense constant t) (declare_rhs r x)
@@ -147,7 +147,7 @@ module _ (sense : Option Sense) (constant : Option Number) (t u : Tables) where
     numbered_written = numbered_as (u.objective, u.rows.entries, u.columns.entries) (t.objective, t.rows.entries, set_value_at t.columns.entries i (change h.parts))
         (λ j. (h.written.objective j, h.written.rows j, h.written.columns j))
 
-    -- what keeps the coefficients keeps their numbers
+    -- a change that keeps the coefficients keeps their numbers
     pub column_changed_numbered : cells_of (change h.parts) ≡ cells_of h.parts → IsNumbered t → IsNumbered u
     column_changed_numbered kept numbered =
         numbered_written (kept_numbered sense constant t.objective t.rows.entries t.columns.entries i h.key h.parts h.was (change h.parts) kept numbered)

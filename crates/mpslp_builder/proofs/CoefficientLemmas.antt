@@ -1,4 +1,4 @@
--- Zero coefficients that are declared leave the others as they are; and lists made in parts.
+-- Declared zero coefficients do not change the others; and lists that are made in parts.
 use Rattle.std.proofs.Common.{◌≡◌, refl, ap, ◌∙◌, List, [], ◌∷◌, ◌++◌, ℕ, Bool, true, false, cond}
 use Rattle.std.specs.Prelude.{Some, None, filter, nat_eq}
 use Rattle.std.specs.List.{flat_map}
@@ -12,7 +12,7 @@ use Rattle.std.proofs.lemmas.Bool.{eqb-true}
 use Rattle.std.proofs.lemmas.List.Concat.{flat_map-append}
 use Rattle.mpslp_types.specs.Name.{same_bytes}
 
--- an entry that the filter drops, at a key that is not there, leaves what is kept as it is
+-- an entry with a new key that the filter drops does not change the result
 pub filter-put : {K X : Type 0} (R : K → K → Ordering) (p : K × X → Bool) (k : K) (v : X) (es : List (K × X)) → p (k, v) ≡ false → find R k es ≡ None
     → filter p (put R k v es) ≡ filter p es
 filter-put R p k v [] h none = rw h refl
@@ -24,7 +24,7 @@ filter-put {K} {X} R p k v (e ∷ es) h none =
       | Greater ↦ λ rest. ap (λ (xs : List (K × X)). cond (p e) (e ∷ xs) xs) (filter-put R p k v es h rest)
     ] none
 
--- bytes that are the same are equal
+-- bytes that compare as equal are equal
 pub same_bytes-true : (a b : List ℕ) → same_bytes a b ≡ true → a ≡ b
 same_bytes-true [] [] h = refl
 same_bytes-true [] (y ∷ ys) h = cc

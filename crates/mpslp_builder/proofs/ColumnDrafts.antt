@@ -41,7 +41,7 @@ named-empty name c (col ∷ cols) h =
     let test : ℕ × Number → Bool = λ e. is_some (name e.0) in
     both_so (list_all test col.1) (all_named name (cols ++ (c, []) ∷ [])) (first_so (list_all test col.1) (all_named name cols) h) (named-empty name c cols (second_so (list_all test col.1) (all_named name cols) h))
 
--- what holds of all, and of what is put
+-- a property of all entries, and of the new one
 put_all : {X : Type 0} (R : ℕ → ℕ → Ordering) (p : ℕ × X → Bool) (k : ℕ) (v : X) (es : List (ℕ × X)) → ((j : ℕ) → R k j ≡ Equal → p (j, v) ≡ true) → p (k, v) ≡ true
     → list_all p es ≡ true → list_all p (put R k v es) ≡ true
 put_all R p k v [] tied h all = both_so (p (k, v)) true h refl
@@ -56,7 +56,7 @@ module _ (sense : Option Sense) (constant : Option Number) (objective : Option O
   -- ---- a column
 
   module _ (k : Vec ℕ) where
-    -- nothing is given of a new column
+    -- nothing is declared of a new column
     none_more : {X : Type 0} (f : ColumnParts → Option X) → f new_column ≡ None
         → sorted_of bytes_cmp (given_parts bytes f (columns ++ (k, new_column) ∷ [])) ≡ sorted_of bytes_cmp (given_parts bytes f columns)
     none_more f none = ap (sorted_of bytes_cmp) (given_parts-without bytes f columns k new_column none)
@@ -91,12 +91,12 @@ module _ (sense : Option Sense) (constant : Option Number) (objective : Option O
   -- ---- a column that is written
 
   module _ (i : ℕ) (k : Vec ℕ) (v : ColumnParts) (column : slice_get columns i ≡ Some (k, v)) where
-    -- a part that is kept
+    -- a part that is unchanged
     kept : {X : Type 0} (f : ColumnParts → Option X) (w : ColumnParts) → f w ≡ f v
         → sorted_of bytes_cmp (given_parts bytes f (set_value_at columns i w)) ≡ sorted_of bytes_cmp (given_parts bytes f columns)
     kept f w same = ap (sorted_of bytes_cmp) (given_parts-kept bytes f columns i k v w column same)
 
-    -- a part that is given
+    -- a part that is added
     given : {X : Type 0} (f : ColumnParts → Option X) (w : ColumnParts) (x : X) → IsOnce (cells_by_name columns) → f w ≡ Some x
         → sorted_of bytes_cmp (given_parts bytes f (set_value_at columns i w)) ≡ put bytes_cmp (bytes k) x (sorted_of bytes_cmp (given_parts bytes f columns))
     given f w x once is =
@@ -180,9 +180,9 @@ module _ (sense : Option Sense) (constant : Option Number) (objective : Option O
           semis = given semi_of w tt once refl j;
         }
 
-    -- ---- sides
+    -- ---- bounds
 
-    -- the sides of a kind, with one more where it is given
+    -- the declared lower or upper bounds, with one more if it is given
     abbrev limits_put : Option Limit → List (List ℕ × Limit) → List (List ℕ × Limit)
     limits_put side sides = option_map_or (λ limit. put bytes_cmp (bytes k) limit sides) side sides
 
@@ -219,7 +219,7 @@ module _ (sense : Option Sense) (constant : Option Number) (objective : Option O
     -- ---- a coefficient
 
     module _ (numbered : AreNumbered objective rows columns) (n : ℕ) (r : List ℕ) (row : name_of_row_key objective rows n ≡ Some r) where
-      -- it is declared exactly if its column has it
+      -- it is declared if and only if its column has it
       pub cell_found : IsOnce (cells_by_name columns) → is_some (find nat_cmp n (cells_of v)) ≡ has_coefficient (draft_from sense constant objective rows columns) (at r (bytes k))
       cell_found once =
           sym (ap is_some (find-sorted_of key_cmp key_total (at r (bytes k)) (all_cells (name_of_row_key objective rows) (cells_by_name columns))

@@ -1,4 +1,4 @@
--- The coefficients of a column stand together, since all stand by column first; and one of them at most is the objective's.
+-- The coefficients of a column are adjacent, because all are sorted by column first; and at most one is the objective's.
 use Rattle.std.proofs.Common.{◌≡◌, refl, sym, ap, subst, ◌∙◌, ℕ, suc, zero, ◌+◌, ◌-◌, ◌<◌, ◌≤◌, List, [], ◌∷◌, ◌++◌, Bool, true, false, cond, not, length, take, drop, get_or, arith}
 use Rattle.std.specs.Prelude.{◌&&◌, filter, slice_get, Some, None, position, nat_lt}
 use Rattle.std.specs.List.{position_or_len, remove, AllWithin}
@@ -23,9 +23,9 @@ use Rattle.mpslp_maps.proofs.SearchLemmas.{less_from, suc_of}
 use Rattle.mpslp_builder.proofs.SlotLemmas.{key_ties}
 use Rattle.mpslp_builder.proofs.MeaningFromNoFault.{sorted-filtered}
 
--- ---- a part of a list, by a test
+-- ---- the part of a list that passes a test
 
--- where none of the first ones passes, the others decide
+-- if none of the first ones passes, the result is that of the others
 filter_behind : {X : Type 0} (q : X → Bool) (xs : List X) (i : ℕ) → i ≤ length xs
     → AllWithin (λ x. q x ≡ false) xs 0 i → filter q xs ≡ filter q (drop i xs)
 filter_behind q xs zero le none = refl
@@ -40,7 +40,7 @@ filter_none {X} q (x ∷ xs) none =
     ap (λ (b : Bool). cond b (x ∷ filter q xs) (filter q xs)) (none 0 x (omega arith) (omega arith))
     ∙ filter_none q xs (λ k d low high. none (suc k) d (omega arith) (omega arith))
 
--- where the first ones pass and no other does, they are what is kept
+-- if the first ones pass and no other does, the result is the first ones
 filter_front : {X : Type 0} (q : X → Bool) (xs : List X) (n : ℕ) → n ≤ length xs
     → IsPartitionPoint (λ x. q x ≡ true) (λ x. q x ≡ false) xs n → filter q xs ≡ take n xs
 filter_front q xs zero le point = filter_none q xs point.1
@@ -50,7 +50,7 @@ filter_front {X} q (x ∷ xs) (suc n) le point =
     ∙ ap (λ (ys : List X). x ∷ ys) (filter_front q xs n (omega arith)
     ((λ k d low high. point.0 (suc k) d (omega arith) (omega arith)), (λ k d low high. point.1 (suc k) d (omega arith) (omega arith))))
 
--- what is kept of an entry and those behind it: a test of two parts, where the first is left to the entries that pass the second
+-- what is kept of an entry and those after it: a test of two parts, where the first is left to the entries that pass the second
 keep_step : {X : Type 0} (test : X → Bool) (e : X) (kept own : List X) (o c : Bool) → test e ≡ not (o && c) → kept ≡ filter test own
     → cond (not o && c) (e ∷ kept) kept ≡ filter test (cond c (e ∷ own) own)
 keep_step {X} test e kept own true true is more = more ∙ sym (ap (λ (b : Bool). cond b (e ∷ filter test own) (filter test own)) is)
@@ -105,7 +105,7 @@ module _ {K : Type 0} (R : K → K → Ordering) (o : IsTotalOrder R) where
       by Equal Less p q _ h = absurd cc
       by Equal Equal p q _ h = absurd cc
 
-  -- what is at most a key, and not below it, ties with it
+  -- what is at most a key, and not below it, is equal to it
   ties_too : (k x y : K) → is_le (R x y) ≡ true → is_gt (R k x) ≡ false → is_eq (R k y) ≡ true → is_eq (R k x) ≡ true
   ties_too k x y le above tie = by (R x y) (R k y) refl refl le tie
     where
@@ -124,7 +124,7 @@ module _ {K : Type 0} (R : K → K → Ordering) (o : IsTotalOrder R) where
   -- ---- entries without the one that has the key
 
   module _ {X : Type 0} where
-    -- what stands above an entry that has the key has it not
+    -- the entries after one that has the key do not have it
     above_kept : (k x : K) (es : List (K × X)) → is_eq (R k x) ≡ true → below_all R x es ≡ true → filter (λ e. not (is_eq (R k e.0))) es ≡ es
     above_kept k x [] tie above = refl
     above_kept k x (e ∷ es) tie above =
@@ -132,7 +132,7 @@ module _ {K : Type 0} (R : K → K → Ordering) (o : IsTotalOrder R) where
         ap (λ (r : Ordering). cond (not (is_eq r)) (e ∷ filter (λ (y : K × X). not (is_eq (R k y.0))) es) (filter (λ (y : K × X). not (is_eq (R k y.0))) es)) here
         ∙ ap (λ (ys : List (K × X)). e ∷ ys) (above_kept k x es tie (second_so (is_lt (R x e.0)) (below_all R x es) above))
 
-    -- without the entries that have the key: one is left out at most
+    -- without the entries that have the key: at most one is left out
     without_key : (k : K) (es : List (K × X)) → is_sorted R es ≡ true
         → filter (λ e. not (is_eq (R k e.0))) es ≡ remove es (position_or_len (λ e. is_eq (R k e.0)) es)
     without_key k [] sorted = refl
@@ -145,7 +145,7 @@ module _ {K : Type 0} (R : K → K → Ordering) (o : IsTotalOrder R) where
               ∙ ap (λ (i : ℕ). remove (e ∷ es) i) (sym (suc_of n))
         ] refl
 
--- where an entry has the key, it is the one that is left out
+-- if an entry has the key, it is the one that is left out
 without_found : {K X : Type 0} (R : K → K → Ordering) (o : IsTotalOrder R) (k : K) (es : List (K × X)) (i : ℕ) → is_sorted R es ≡ true
     → position (λ e. is_eq (R k e.0)) es ≡ Some i
     → (i < length es) × (filter (λ e. not (is_eq (R k e.0))) es ≡ remove es i)
@@ -153,7 +153,7 @@ without_found {K} {X} R o k es i sorted at =
     let first = position_is (λ (e : K × X). is_eq (R k e.0)) es i at in
     (first.0, without_key R o k es sorted ∙ ap (remove es) first.1)
 
--- where none has it, all stay
+-- if none has it, all are kept
 without_none : {K X : Type 0} (R : K → K → Ordering) (o : IsTotalOrder R) (k : K) (es : List (K × X)) → is_sorted R es ≡ true
     → position (λ e. is_eq (R k e.0)) es ≡ None
     → filter (λ e. not (is_eq (R k e.0))) es ≡ es
@@ -176,7 +176,7 @@ by_first Equal b h = refl
 by_first Greater b h = cc
 
 module _ {X : Type 0} where
-  -- the columns of coefficients that stand behind are not lower
+  -- the columns of later coefficients are not lower
   below_columns : (x : CoefficientKey) (es : List (CoefficientKey × X)) (i : ℕ) (d : CoefficientKey × X) → below_all key_cmp x es ≡ true → i < length es
       → is_le (bytes_cmp x.column (get_or es i d).0.column) ≡ true
   below_columns x [] i d h in' = absurd (omega arith)
@@ -194,12 +194,12 @@ module _ {X : Type 0} where
   columns_rise (e ∷ es) (suc i) (suc j) d sorted le in' =
       columns_rise es i j d (second_so (below_all key_cmp e.0 es) (is_sorted key_cmp es) sorted) (omega arith) (omega arith)
 
-  -- coefficients of lower columns stand in front
+  -- coefficients of lower columns come first
   pub lower_parted : (column : List ℕ) (es : List (CoefficientKey × X)) → is_sorted key_cmp es ≡ true → IsPartitionedBy (λ e. is_gt (bytes_cmp column e.0.column)) es
   lower_parted column es sorted i j d le in' above =
       below_too bytes_cmp nat_list_cmp_total column (get_or es i d).0.column (get_or es j d).0.column (columns_rise es i j d sorted le in') above
 
-  -- behind them those of the column stand in front
+  -- those of the column come next
   pub own_parted : (column : List ℕ) (es : List (CoefficientKey × X)) (start : ℕ) → is_sorted key_cmp es ≡ true
       → AllWithin (λ e. is_gt (bytes_cmp column e.0.column) ≡ false) es start (length es) → IsPartitionedBy (λ e. same_bytes column e.0.column) (drop start es)
   own_parted column es start sorted behind i j d le in' own =
@@ -217,7 +217,7 @@ module _ {X : Type 0} where
   lower_fails : (column : List ℕ) (e : CoefficientKey × X) → is_gt (bytes_cmp column e.0.column) ≡ true → same_bytes column e.0.column ≡ false
   lower_fails column e above = texts_ties column e.0.column ∙ greater_untied (bytes_cmp column e.0.column) above
 
-  -- The coefficients of a column are the part between the first that is not of a lower column and the first of a higher one.
+  -- The coefficients of a column are the part from the first that is not of a lower column up to the first of a higher one.
   pub own_part : (column : List ℕ) (es : List (CoefficientKey × X)) (start count : ℕ) → start ≤ length es → count ≤ length (drop start es)
       → IsPartitionPoint (λ e. is_gt (bytes_cmp column e.0.column) ≡ true) (λ e. is_gt (bytes_cmp column e.0.column) ≡ false) es start
       → IsPartitionPoint (λ e. same_bytes column e.0.column ≡ true) (λ e. same_bytes column e.0.column ≡ false) (drop start es) count
@@ -227,7 +227,7 @@ module _ {X : Type 0} where
       sym (filter_behind same es start le (λ k d low high. lower_fails column (get_or es k d) (lower.0 k d low high))
       ∙ filter_front same (drop start es) count few own)
 
-  -- they stand in order
+  -- they are sorted
   pub own_sorted : (column : List ℕ) (es : List (CoefficientKey × X)) → is_sorted key_cmp es ≡ true
       → is_sorted key_cmp (filter (λ e. same_bytes column e.0.column) es) ≡ true
   own_sorted column es sorted =
@@ -248,7 +248,7 @@ module _ {X : Type 0} where
   abbrev pub elements : List ℕ → List ℕ → List (CoefficientKey × X) → List (CoefficientKey × X)
   elements objective column es = filter (λ e. not (same_bytes objective e.0.row) && same_bytes column e.0.column) es
 
-  -- The elements of a column are its part without the objective's coefficient, where it has one of number i.
+  -- The nonzeros of a column are its part without the objective's coefficient, if it has one of number i.
   pub elements_beside : (objective column : List ℕ) (es part : List (CoefficientKey × X)) (i : ℕ)
       → part ≡ filter (λ e. same_bytes column e.0.column) es → is_sorted key_cmp part ≡ true
       → position (λ e. is_eq (key_cmp (record { row = objective; column = column }) e.0)) part ≡ Some i

@@ -1,4 +1,4 @@
--- Lists without two alike: joined, made by a flat_map, and the keys of sorted entries.
+-- Lists without duplicates: joined, made by a flat_map, and the keys of sorted entries.
 use Rattle.std.proofs.Common.{◌≡◌, refl, sym, ap, ◌∙◌, List, [], ◌∷◌, ◌++◌, Bool, true, false, map}
 use Rattle.std.specs.Prelude.{◌&&◌, ◌||◌, not}
 use Rattle.std.specs.List.{list_any, flat_map}
@@ -21,7 +21,7 @@ not_of true h = cc
 not_of false h = refl
 
 module _ {K : Type 0} (same : K → K → Bool) where
-  -- none of the keys is the same as this one
+  -- no key equals this one
   abbrev pub IsNew : K → List K → Type 0
   IsNew k keys = list_any (λ later. same later k) keys ≡ false
 
@@ -41,12 +41,12 @@ module _ {K : Type 0} (same : K → K → Bool) where
   new_flat f k [] h = refl
   new_flat f k (x ∷ xs) h = new_append k (f x) (flat_map f xs) h.0 (new_flat f k xs h.1)
 
-  -- the keys of each element are none of a later one's
+  -- the keys of each element differ from those of later elements
   abbrev pub Apart : {X : Type 0} → (X → List K) → List X → Type 0
   Apart f [] = Unit {0}
   Apart f (x ∷ xs) = Each (λ k. Each (λ y. IsNew k (f y)) xs) (f x) × Apart f xs
 
-  -- made of elements that are pairwise apart, each without two alike
+  -- made of elements whose keys differ, each without duplicates
   pub distinct-flat_map : {X : Type 0} (f : X → List K) (xs : List X) → Each (λ x. are_distinct same (f x) ≡ true) xs → Apart f xs → are_distinct same (flat_map f xs) ≡ true
   distinct-flat_map f [] h apart = refl
   distinct-flat_map f (x ∷ xs) h apart =

@@ -1,4 +1,4 @@
--- What holds of each declaration holds of each entry of the draft.
+-- A property of all declarations is one of all entries of the draft.
 use Rattle.std.proofs.Common.{◌≡◌, refl, sym, ap, ◌∙◌, ℕ, List, [], ◌∷◌, Bool, true, not}
 use Rattle.std.specs.Prelude.{◌&&◌}
 use Rattle.std.specs.List.{list_all}
@@ -22,7 +22,7 @@ use Rattle.mpslp_builder.specs.Consistency.{is_known, is_allowed}
 use Rattle.mpslp_types.specs.declared.kinds.Limit.{Limit}
 use Rattle.mpslp_types.proofs.BoolLemmas.{both_so}
 
--- ---- one entry more
+-- ---- one more entry
 
 put_all : {K X : Type 0} (R : K → K → Ordering) (p : K × X → Bool) (k : K) (v : X) (es : List (K × X)) → ((j : K) → R k j ≡ orders.Equal → p (j, v) ≡ true) → p (k, v) ≡ true
     → list_all p es ≡ true → list_all p (put R k v es) ≡ true
@@ -40,9 +40,9 @@ put_names p k v es h all = put_all bytes_cmp p k v es (λ j tie. ap (λ (n : Lis
 put_keys : {X : Type 0} (p : CoefficientKey × X → Bool) (k : CoefficientKey) (v : X) (es : List (CoefficientKey × X)) → p (k, v) ≡ true → list_all p es ≡ true → list_all p (put key_cmp k v es) ≡ true
 put_keys p k v es h all = put_all key_cmp p k v es (λ j tie. ap (λ (n : CoefficientKey). p (n, v)) (sym (same_key k j tie)) ∙ h) h all
 
--- ---- a draft whose entries are good, beside the draft of all
+-- ---- a draft whose entries are valid in the draft of all declarations
 
--- the entries of a draft: names are legal, values are decimals, sides are given ones, coefficients are of what is declared; and sorted
+-- the entries of a draft: names are legal, values are decimals, limits are valid, coefficients have declared names; all sorted
 pub record IsGood (all draft : Draft) : Type 0 where
   pub objective : option_map_or is_mps_name draft.objective true ≡ true
   pub constant : option_map_or is_decimal draft.constant true ≡ true

@@ -1,4 +1,4 @@
--- What the end of tables asks of its steps.
+-- What the steps of `finish` require of tables.
 use Rattle.std.proofs.Common.{◌≡◌, refl, sym, ap, subst, ◌∙◌, ℕ, zero, suc, ◌+◌, ◌<◌, List, [], ◌∷◌, ◌++◌, length, arith, Bool, true, false, cond, IsPermutation}
 use Rattle.std.specs.Prelude.{◌≢◌, Option, Some, None, is_some, unwrap_or, slice_get, slice_index}
 use Rattle.std.specs.Option.{option_map, option_map_or}
@@ -34,7 +34,7 @@ use Rattle.mpslp_builder.proofs.OrderedParts.{ordered_parts, no_part-found}
 use Rattle.mpslp_builder_parts.proofs.RankLemmas.{order_length, order_within, order_apart}
 use Rattle.mpslp_builder.proofs.ModelOfTables.{within-all}
 
--- entries, their indices in the order of their names, and they in that order
+-- entries, their indices in the order of their names, and the entries in that order
 pub record AreOrdered {V : Type 0} (entries : List (Vec ℕ × V)) (order : List ℕ) (ordered : List (Vec ℕ × V)) : Type 0 where
   pub permuted : IsPermutation (range_with_len 0 (length entries)) order
   pub sorted : IsSortedBy (λ n k. is_lt (bytes_cmp (name_at entries n) (name_at entries k))) order
@@ -57,7 +57,7 @@ module _ (sense : Option Sense) (constant : Option Number) (objective : Option O
       (legal-each definition_of _ (entries_at rows order) (λ e h. first_so (is_mps_name e.0) _ h)
       (ap (list_all _) (ordered_parts definition_of rows order once o.permuted o.sorted) ∙ good.rows)))
 
--- what holds of each name that stands at an index
+-- a property of the name at each index
 named_each : {V : Type 0} (P : List ℕ → Type 0) (es : List (Vec ℕ × V)) → ((i : ℕ) (name : List ℕ) → entry_name es i ≡ Some name → P name) → Each (λ e. P e.0.items) es
 named_each P [] h = tt
 named_each P (e ∷ es) h = (h zero e.0.items refl, named_each P es (λ i name is. h (suc i) name is))
@@ -75,7 +75,7 @@ cells_within objective rows columns bound n is =
     (Each-weaker (λ e. Each (λ cell. cell.0 < length rows + 1) (cells_of e.1)) (λ column. All (λ cell. cell.0 < bound) column.1.cells)
     (λ e h. all-from_each (λ cell. cell.0 < bound) (cells_of e.1) (subst (λ (bound : ℕ). Each (λ cell. cell.0 < bound) (cells_of e.1)) (sym is) h)) columns (within-all objective rows columns n.named))
 
--- ---- the right side of the objective
+-- ---- the right-hand side of the objective
 
 apart_rows : (o : ObjectiveParts) (rows : List (Vec ℕ × RowParts)) → ((i : ℕ) (e : Vec ℕ × RowParts) → slice_get rows i ≡ Some e → e.0.items ≡ o.name → ⊥) → Each (λ e. eq_by_cmp bytes_cmp e.0.items o.name ≡ false) rows
 apart_rows o [] h = tt
@@ -103,7 +103,7 @@ pub constant_is : (sense : Option Sense) (constant : Option Number) (objective :
 constant_is sense constant None rows columns there apart = cc
 constant_is sense constant (Some o) rows columns there apart = ap (λ (r : Option Number). unwrap_or constant (negated (unwrap_or r zero_number))) (sym (objective_says o rows apart))
 
--- ---- the order of entries, as it is told
+-- ---- the order of entries, as the contracts state it
 
 pub ordered_from : {V : Type 0} (told entries : List (Vec ℕ × V)) (order : List ℕ) (ordered : List (Vec ℕ × V)) → told ≡ entries → IsPermutation (range_with_len 0 (length told)) order
     → IsSortedBy (λ n k. is_lt (bytes_cmp (name_at told n) (name_at told k))) order → ordered ≡ entries_at told order → AreOrdered entries order ordered
@@ -119,7 +119,7 @@ module _ (rows : List (Vec ℕ × RowParts)) (order : List ℕ) (ordered : List 
   pub apart_of : (p q : ℕ) → p < q → q < length order → slice_index order p ≢ slice_index order q
   apart_of = order_apart (length rows) order o.permuted
 
--- an objective that is there has a name
+-- an objective that is declared has a name
 pub named_there : (objective : Option ObjectiveParts) → is_some objective ≡ true → is_some (name_of_objective objective) ≡ true
 named_there None h = cc
 named_there (Some o) h = refl

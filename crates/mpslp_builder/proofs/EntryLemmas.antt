@@ -12,7 +12,7 @@ use Rattle.mpslp_types.proofs.BoolLemmas.{both_so, or_left, or_right, T_from, tr
 use Rattle.mpslp_types.proofs.EachLemmas.{Each, Each-weaker}
 use Rattle.mpslp_model_core.proofs.PutsLemmas.{equal_from, puts, is_sorted-puts, puts-give, finds_own, some_append_left, some_append_right}
 
--- the first if it is there, else the second
+-- the first if there is one, otherwise the second
 abbrev pub first_there : {X : Type 0} → Option X → Option X → Option X
 first_there (Some x) other = Some x
 first_there None other = other
@@ -41,7 +41,7 @@ module _ {K X : Type 0} (R : K → K → Ordering) where
         | false ↦ find-join q xs ys
       ]
 
-  -- a key that is below all is not found
+  -- a key below all keys is not found
   none-later : (x : K) (es : List (K × X)) → below_all R x es ≡ true → find R x es ≡ None
   none-later x [] h = refl
   none-later x (e ∷ es) h =
@@ -67,11 +67,11 @@ module _ {K X : Type 0} (R : K → K → Ordering) where
       ]
 
   module _ (o : IsTotalOrder R) (same : (x y : K) → R x y ≡ Equal → x ≡ y) where
-    -- a key that ties with one that is below all is not found
+    -- a key equal to one below all keys is not found
     none-tied : (q x : K) (es : List (K × X)) → eq_by_cmp R q x ≡ true → below_all R x es ≡ true → find R q es ≡ None
     none-tied q x es tie below = ap (λ (k : K). find R k es) (same q x (equal_from (R q x) tie)) ∙ none-later x es below
 
-    -- what is found after entries in order were put
+    -- what is found after sorted entries are put
     pub find-puts : (q : K) (es base : List (K × X)) → is_sorted R es ≡ true → find R q (puts R es base) ≡ first_there (find R q es) (find R q base)
     find-puts q [] base h = refl
     find-puts q (e ∷ es) base h =
@@ -83,14 +83,14 @@ module _ {K X : Type 0} (R : K → K → Ordering) where
         by true tie = ap (λ (f : Option X). first_there f (Some e.1)) (none-tied q e.0 es tie (first_so (below_all R e.0 es) (is_sorted R es) h))
         by false tie = refl
 
-    -- entries in order, put, stay as they are
+    -- putting sorted entries leaves them unchanged
     pub puts-own : (es : List (K × X)) → is_sorted R es ≡ true → puts R es [] ≡ es
     puts-own es h =
         let own = finds_own R o same es (T_from (is_sorted R es) h) in
         puts-give R o same es es (T_from (is_sorted R es) h) own
         (Each-weaker (λ e. find R e.0 es ≡ Some e.1) (λ e. is_some (find R e.0 es) ≡ true) (λ e is. ap is_some is) es own)
 
-    -- what holds of all entries that are put holds of each that is found
+    -- a property of all entries that are put is one of each that is found
     pub found-puts : (Q : K → X → Type 0) (es base : List (K × X)) → Each (λ e. Q e.0 e.1) es → ((q : K) (x : X) → find R q base ≡ Some x → Q q x)
         → (q : K) (x : X) → find R q (puts R es base) ≡ Some x → Q q x
     found-puts Q [] base h was q x is = was q x is
@@ -108,7 +108,7 @@ module _ {K X : Type 0} (R : K → K → Ordering) where
                 subst (λ (j : K). Q j y) key (subst (λ (v : X). Q e.0 v) (unwrap e.1 y at) h.0)
             by false tie at = was k y at
 
-    -- what holds of each entry holds of each that is found
+    -- a property of all entries is one of each that is found
     pub found-each : (P : K → X → Type 0) (es : List (K × X)) → Each (λ e. P e.0 e.1) es → (q : K) (v : X) → find R q es ≡ Some v → P q v
     found-each P [] h q v is = absurd (nothing v is)
       where
@@ -184,7 +184,7 @@ module _ {K X : Type 0} (R : K → K → Ordering) where
         alike q (Some x) is = sym (found-puts (λ k v. find R k target ≡ cond (keep v) (Some v) None) es [] own (λ k y none. absurd (never y none)) q x is)
         alike q None is = none_of (find R q target) (λ there. no_none (sym (ap is_some is) ∙ some-puts q es [] (all q there)))
 
--- what some of the entries make
+-- the entries that some elements make
 abbrev pub all_told : {K X V : Type 0} → (X → Option V) → List (K × X) → List (K × V)
 all_told f xs = flat_map (λ x. told x.0 (f x.1)) xs
 
@@ -248,7 +248,7 @@ module _ {K X Y : Type 0} (R : K → K → Ordering) (o : IsTotalOrder R) (same 
       by true e k = or_left (is_some (find R q left)) (is_some (find R q (own ++ right))) e
       by false e k = or_right (is_some (find R q left)) (is_some (find R q (own ++ right))) (some_append_right R o same q own right k)
 
-  -- what is found among an element's own is found in one of the two parts
+  -- what is found among an element's own entries is found in one of the two parts
   pub found-either : (p hit : Y → Bool) (q : K) (xs : List Y) → list_any hit xs ≡ true → ((y : Y) → hit y ≡ true → is_some (find R q (f y)) ≡ true)
       → SomeIn q (flat_map f (filter p xs)) (flat_map f (filter (λ y. not (p y)) xs))
   found-either p hit q [] h some = cc

@@ -1,4 +1,4 @@
--- A file has no fault of the whole exactly where no row and no column passes a test of one.
+-- A file has no whole-file error if and only if no row and no column passes a test of one.
 use Rattle.std.proofs.Common.{◌≡◌, refl, ap, ◌∙◌, ℕ, List, [], ◌∷◌, Bool, true, false, not, cond, map}
 use Rattle.std.specs.Prelude.{◌&&◌, Option, Some, None, filter, filter_map}
 use Rattle.std.specs.List.{list_all, cons_option}
@@ -25,7 +25,7 @@ passes_rows all test = list_all (λ row. not (row_passes all test row)) all.rows
 abbrev pub passes_columns : Draft → (Draft → List ℕ → Bool) → Bool
 passes_columns all test = list_all (λ name. not (test all name)) (names_in all.columns)
 
--- No row and no column passes a test of a fault, and there is a column.
+-- No row and no column passes a test of an error, and there is a column.
 pub record HasNoFault (all : Draft) : Type 0 where
   pub column : is_nonempty all.columns ≡ true
   pub rhs_values : passes_rows all has_infinite_rhs ≡ true
@@ -105,7 +105,7 @@ branch_of : {X : Type 0} (b : Bool) (x : X) (o : Option X) → cond b o (Some x)
 branch_of true x o h = h
 branch_of false x o h = cc
 
--- No fault is told, so there is none.
+-- No error is reported, so there is none.
 pub no_fault-from_none : (all : Draft) → file_fault all ≡ None → HasNoFault all
 no_fault-from_none all h =
     let there = is_nonempty all.columns in
@@ -137,7 +137,7 @@ no_fault-from_none all h =
       semi = none_filtered (has_semi_bounds all) (names_in all.columns) (here all SemiBounds [] h8);
     }
 
--- There is none, so none is told.
+-- There is none, so none is reported.
 pub none-from_no_fault : (all : Draft) → HasNoFault all → file_fault all ≡ None
 none-from_no_fault all f =
     let k8 = SemiBounds ∷ [] in
@@ -157,7 +157,7 @@ none-from_no_fault all f =
     (add all BinaryBounds k8 (filtered_none (has_binary_bounds all) (names_in all.columns) f.binary)
     (add all SemiBounds [] (filtered_none (has_semi_bounds all) (names_in all.columns) f.semi) refl)))))))
 
--- what holds of all values of entries holds of the one that is found
+-- a property of all values of entries is one of the value that is found
 pub found_all : {X : Type 0} (p : X → Bool) (name : List ℕ) (es : List (List ℕ × X)) → list_all (λ e. p e.1) es ≡ true → option_map_or p (at_name es name) true ≡ true
 found_all p name [] h = refl
 found_all {X} p name (e ∷ es) h =

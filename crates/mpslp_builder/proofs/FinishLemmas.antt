@@ -1,4 +1,4 @@
--- The model that tables end in, from its parts.
+-- The model that `finish` makes of tables, from its parts.
 use Rattle.std.proofs.Common.{◌≡◌, refl, sym, ap, subst, ◌∙◌, ℕ, List, [], ◌∷◌, map, Bool, true}
 use Rattle.std.specs.Prelude.{Option, Some, None, filter, is_some, slice_index, unwrap_or}
 use Rattle.std.specs.Ordering.{nat_cmp}
@@ -61,7 +61,7 @@ meant_model all m p = λ i. record {
   coefficients = maps.from_sorted (p.coefficients i);
 }
 
--- The cells of a model stand in the order of numbers, and each number is a row's.
+-- The cells of a model are in the order of their numbers, and each number is that of a row.
 pub record AreCells (m : ModelParts) : Type 0 where
   pub sorted : list_all (λ c. is_sorted nat_cmp c.1) (parts.cells_by_name m) ≡ true
   pub named : all_named (parts.name_of_row_key m) (parts.cells_by_name m) ≡ true
@@ -147,7 +147,7 @@ module _ (objective : Option ObjectiveParts) (rows : List (Vec ℕ × RowParts))
         (each-ordered (λ c. list_all (λ e. is_some (parts.name_of_row_key m e.0)) (moved_in f.ranks c.1) ≡ true) columns f.column_order f.columns_permuted (each_named columns n.named));
   }
 
-  -- what tables that are put into order are in the model
+  -- what sorted tables become in the model
   pub finished_parts : (sense : Option Sense) (constant : Option Number) → AreNumbered objective rows columns → IsOnce (each_part bytes definition_of rows) → IsOnce (each_part bytes no_part columns)
       → m.sense ≡ unwrap_or sense Minimize → m.constant ≡ constant_of (draft_from sense constant objective rows columns) → AreMeantParts (draft_from sense constant objective rows columns) m
   finished_parts sense constant n rows_once columns_once is_sense is_constant =

@@ -1,4 +1,4 @@
--- What meets the contract of `finish` answers the model that the declarations mean.
+-- A result that meets the contract of `finish` is the model that the declarations mean.
 use Rattle.std.proofs.Common.{◌≡◌, refl, sym, subst, ◌∙◌, true}
 use Rattle.std.specs.Prelude.{IsTrue, Option, Some, None, is_some, Result, Ok, Err, IfOk, MatchResult}
 use Rattle.mpslp_model_core.specs.Model.{LinearModel}

@@ -1,4 +1,4 @@
--- The fault that is found first is the one that is told: of a kind, the least name that has it.
+-- The error that is found first is the one that is reported: of each kind, the one with the least name.
 use Rattle.std.proofs.Common.{◌≡◌, refl, sym, ap, ◌∙◌, ℕ, zero, suc, drop, ◌<◌, ◌+◌, ◌-◌, List, [], ◌∷◌, length, map, Bool, true, false, cond, arith}
 use Rattle.std.specs.Prelude.{◌||◌, Option, Some, None, is_some, filter, filter_map, slice_get, slice_index_or, unwrap_or}
 use Rattle.std.specs.Option.{option_map}
@@ -51,7 +51,7 @@ abbrev first_of : {X : Type 0} → (List ℕ × X → Bool) → List (List ℕ �
 first_of p es = head_of (names_in (filter p es))
 
 module _ {X : Type 0} (p : List ℕ × X → Bool) where
-  -- a name below all is the lesser one
+  -- a name below all names is the lesser one
   below_first : (k : List ℕ) (es : List (List ℕ × X)) → below_all bytes_cmp k es ≡ true → lesser k (first_of p es) ≡ k
   below_first k [] h = refl
   below_first k (e ∷ es) h =
@@ -65,7 +65,7 @@ module _ {X : Type 0} (p : List ℕ × X → Bool) where
   less_from Equal h = cc
   less_from Greater h = cc
 
-  -- what lies below one name lies below all that this one lies below
+  -- a name below another one is below all names that are above that one
   below_through : (k m : List ℕ) (es : List (List ℕ × X)) → bytes_cmp k m ≡ Less → below_all bytes_cmp m es ≡ true → below_all bytes_cmp k es ≡ true
   below_through k m [] less h = refl
   below_through k m (e ∷ es) less h =
@@ -105,7 +105,7 @@ module _ {X : Type 0} (p : List ℕ × X → Bool) where
             ]
       ] refl none
 
--- The least of entries that stand once is the first of their map.
+-- The least of entries with distinct names is the first of their map.
 module _ {V X : Type 0} (f : V → X) (p : List ℕ × X → Bool) (test : V → Bool) where
   pub least_is_first : (es : List (Vec ℕ × V)) → IsOnce (each_part bytes f es) → ((i : ℕ) (k : Vec ℕ) (v : V) → slice_get es i ≡ Some (k, v) → p (bytes k, f v) ≡ test v)
       → head_of (names_in (filter p (sorted_of bytes_cmp (each_part bytes f es)))) ≡ least_name test es
@@ -125,7 +125,7 @@ module _ {V : Type 0} (test : V → Bool) where
   drop_at (x ∷ es) zero e is = let same : ◌≡◌ {A = Vec ℕ × V} x e = cc in ap (λ (y : Vec ℕ × V). y ∷ es) same
   drop_at (x ∷ es) (suc i) e is = drop_at es i e is
 
-  -- where none passes, none is the least
+  -- if none passes, there is no least one
   pub none_least : (wrong : V → Bool) → ((v : V) → wrong v ≡ false → test v ≡ false) → (es : List (Vec ℕ × V)) → list_any (λ e. wrong e.1) es ≡ false → least_name test es ≡ None
   none_least wrong harder [] h = refl
   none_least wrong harder (e ∷ es) h =
@@ -159,7 +159,7 @@ there [] i h none = omega (arith, h)
 there (e ∷ es) zero h none = cc
 there (e ∷ es) (suc i) h none = there es i (omega (arith, h)) none
 
--- the index before
+-- the previous index
 pub before : (n : ℕ) → 0 < n → n ≡ suc (n - 1)
 before n h = omega (arith, h)
 
@@ -176,14 +176,14 @@ module _ {V : Type 0} (test : V → Bool) (es : List (Vec ℕ × V)) (i : ℕ) (
   with_entry : least_name test (drop i es) ≡ cond (test v) (Some (lesser (bytes k) o)) o
   with_entry = ap (least_name test) (drop_at test es i (k, v) is) ∙ ap (λ (m : Option (List ℕ)). cond (test v) (Some (lesser (bytes k) m)) m) (sym so_far)
 
-  -- an entry that passes and lies below is the least
+  -- an entry that passes and is below is the least
   pub least_put : test v ≡ true → is_below (bytes k) o ≡ true → entry_name es i ≡ least_name test (drop i es)
   least_put passes below =
       ap (option_map (λ (e : Vec ℕ × V). bytes e.0)) is
       ∙ ap Some (sym (new_least (bytes k) o below))
       ∙ sym (with_entry ∙ ap (λ (b : Bool). cond b (Some (lesser (bytes k) o)) o) passes)
 
-  -- one that does not pass, or does not lie below, leaves the least as it is
+  -- one that does not pass, or is not below, does not change the least
   pub least_failing : test v ≡ false → o ≡ least_name test (drop i es)
   least_failing fails = sym (with_entry ∙ ap (λ (b : Bool). cond b (Some (lesser (bytes k) o)) o) fails)
 
@@ -192,7 +192,7 @@ module _ {V : Type 0} (test : V → Bool) (es : List (Vec ℕ × V)) (i : ℕ) (
 
 -- ---- rows
 
--- a row with which nothing is wrong
+-- a row without an error
 pub faultless_row : (fault : RowFault) (row : RowParts) → is_wrong_row row ≡ false → row_fails fault row ≡ false
 faultless_row fault row h = faultless fault row.definition (unwrap_or row.rhs zero_number) row.range h
   where
@@ -271,7 +271,7 @@ column_named t once fault =
     column_once : (t : Tables) → IsOnceEach t → IsOnce (each_part bytes no_part t.columns.entries)
     column_once t once = once_too bytes cells_of no_part t.columns.entries once.columns
 
--- ---- the first of several that there is
+-- ---- the first of several options
 
 pub first_left : {X Y : Type 0} (f : X → Option Y) (xs : List X) (i : ℕ) (d : X) (y : Y) → i < length xs → f (slice_index_or xs i d) ≡ Some y → head_of (filter_map f (drop i xs)) ≡ Some y
 first_left {Y = Y} f xs i d y l h =
@@ -286,7 +286,7 @@ pub none_left : {X Y : Type 0} (f : X → Option Y) → ((x : X) → f x ≡ Non
 none_left f none [] = refl
 none_left {Y = Y} f none (x ∷ xs) = ap (λ (o : Option Y). head_of (cons_option o (filter_map f xs))) (none x) ∙ none_left f none xs
 
--- the name at an index, and the fault that is told of it
+-- the name at an index, and the error that is reported for it
 pub told : (kind : FaultKind) (name : Option (List ℕ)) (least : Option (List ℕ)) → name ≡ least → is_some name ≡ true → option_map (λ n. whole_fault kind (Some n)) least ≡ Some (whole_fault kind name)
 told kind None least same h = cc
 told kind (Some n) least same h = ap (option_map (λ (n : List ℕ). whole_fault kind (Some n))) (sym same)
@@ -296,7 +296,7 @@ entry_named [] i h = absurd (omega (arith, h))
 entry_named (e ∷ es) zero h = refl
 entry_named (e ∷ es) (suc i) h = entry_named es i (omega (arith, h))
 
--- ---- the whole
+-- ---- all rows and columns
 
 nonempty_put : {K X : Type 0} (R : K → K → Ordering) (k : K) (v : X) (es : List (K × X)) → is_nonempty (put R k v es) ≡ true
 nonempty_put R k v [] = refl
@@ -320,7 +320,7 @@ pub empty_from : {X : Type 0} (es : List X) → length es ≡ 0 → is_nonempty 
 empty_from [] h = refl
 empty_from (e ∷ es) h = absurd (omega (arith, h))
 
--- four that may be there, in front of others
+-- four options before others
 pub in_front : {X : Type 0} (a b c d : Option X) (rest : List X)
     → head_of (cons_option a (cons_option b (cons_option c (cons_option d rest)))) ≡ or_else (head_of (cons_option a (cons_option b (cons_option c (cons_option d []))))) (head_of rest)
 in_front (Some x) b c d rest = refl
@@ -340,7 +340,7 @@ of_the_whole all some =
 pub of_none : (all : Draft) → is_nonempty all.columns ≡ false → file_fault all ≡ Some (whole_fault kinds.NoColumns None)
 of_none all none = ap (λ (b : Bool). cond b (head_of (named_faults all)) (Some (whole_fault kinds.NoColumns None))) none
 
--- the first is there, and decides; or it is not, and what follows decides
+-- the first is there and is the result; or it is not, and the result is that of the others
 pub first_decides : {X Y : Type 0} (f : X → Y) (o : Option X) (a b : Option Y) → option_map f o ≡ a → true ≡ is_some o → option_map f o ≡ or_else a b
 first_decides f None a b same h = cc
 first_decides f (Some x) a b same h = ap (λ (z : Option _). or_else z b) same
@@ -352,7 +352,7 @@ later_decides f (Some x) a b same h = cc
 -- ---- names
 
 module _ {V X : Type 0} (f : V → X) where
-  -- a name that stands at an index is one of the map's
+  -- a name at an index is one of the map's
   pub name_there : (es : List (Vec ℕ × V)) (i : ℕ) (name : List ℕ) → entry_name es i ≡ Some name → has_name (sorted_of bytes_cmp (each_part bytes f es)) name ≡ true
   name_there es i name is =
       elim (has_name (sorted_of bytes_cmp (each_part bytes f es)) name) as (λ b. has_name (sorted_of bytes_cmp (each_part bytes f es)) name ≡ b → b ≡ true) [

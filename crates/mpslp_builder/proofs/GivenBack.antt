@@ -1,4 +1,4 @@
--- A draft that gives back the parts of a sound model gives the model.
+-- A draft that gives back the parts of a well-formed model gives back the model.
 use Rattle.std.proofs.Common.{◌≡◌, refl, sym, ap, subst, ◌∙◌, List, [], ◌∷◌, ℕ, Bool, true, false, not, map}
 use Rattle.std.specs.Prelude.{Option, Some, None, is_none, unwrap_or, filter, ◌&&◌}
 use Rattle.std.specs.List.{list_all}
@@ -71,13 +71,13 @@ module _ (all : Draft) (columns : List (List ℕ × Column)) (declared : all.col
           ap (λ (o : Option Limit). not (is_none o && not (is_at_most zero_limit (upper_bound all column.0)))) e
           ∙ fine (is_at_most zero_limit (upper_bound all column.0)) (ap (λ (o : Option Limit). is_at_most (unwrap_or o zero_limit) (upper_bound all column.0)) (sym e) ∙ ordered)
 
-  -- their bounds do not cross, so none of those without a declared lower one ends below 0
+  -- bounds are not crossed, so no column without a declared lower bound has an upper bound below 0
   pub no-negative_upper : Each (λ column. is_sound_column column ≡ true) columns → list_all (λ name. not (has_negative_upper all name)) (names_in all.columns) ≡ true
   no-negative_upper sound =
       names-pass (λ name. not (has_negative_upper all name))
       (Each-both (λ column. is_sound_column column ≡ true) (λ column. column_of all column.0 ≡ column.1) (λ column. not (has_negative_upper all column.0) ≡ true) nonnegative-upper columns sound back)
 
-  -- where none is declared binary, all of these lie within 0 and 1
+  -- if none is declared binary, all binary columns have bounds within 0 and 1
   pub binary-within : all.binaries ≡ [] → list_all (λ name. not (has_binary_bounds all name)) (names_in all.columns) ≡ true
   binary-within none =
       names-pass (λ name. not (has_binary_bounds all name))

@@ -1,4 +1,4 @@
--- What declarations leave as it is in a draft.
+-- The parts of a draft that declarations leave unchanged.
 use Rattle.std.proofs.Common.{◌≡◌, refl, ◌∙◌, [], ◌∷◌}
 use Rattle.mpslp_builder.specs.Declaration.{Declaration, Declarations, Draft, with_declaration, with_declarations}
 use Rattle.mpslp_types.proofs.EachLemmas.{Each}

@@ -1,4 +1,4 @@
--- What a later draft keeps of an earlier one: where no slot is filled twice, what was declared stays declared.
+-- What a later draft keeps of an earlier one: if no slot is filled twice, what was declared stays declared.
 use Rattle.std.proofs.Common.{◌≡◌, refl, sym, ap, ◌∙◌, ℕ, List, [], ◌∷◌, Bool, true, false, not, cond}
 use Rattle.std.specs.Prelude.{◌&&◌, ◌||◌, Option, Some, None, is_some}
 use Rattle.std.specs.Option.{option_map_or}
@@ -44,7 +44,7 @@ none_before (Some x) name rest h e = cc
 pub more_entries : {X : Type 0} (q k : List ℕ) (v : X) (es : List (List ℕ × X)) → has_name es q ≡ true → has_name (put bytes_cmp k v es) q ≡ true
 more_entries q k v es h = has-put q k v es ∙ or_right (same_bytes q k) (has_name es q) h
 
--- a row more, of a new name
+-- one more row, of a new name
 kept_row : (b : Bool) (new : RowDefinition) (o : Option RowDefinition) (definition : RowDefinition) → (b ≡ true → o ≡ Some definition → ⊥) → o ≡ Some definition → cond b (Some new) o ≡ Some definition
 kept_row true new o definition apart h = absurd (apart refl h)
 kept_row false new o definition apart h = h

@@ -1,5 +1,5 @@
--- Drafts that a builder can hold: each call that is not refused keeps them so, and at the end they mean a model exactly
--- where they have no fault of the whole file.
+-- Drafts that a builder can hold: each call that is not rejected makes another such draft, and at the end a draft means a
+-- model if and only if it has no whole-file error.
 use Rattle.std.proofs.Common.{◌≡◌, refl, sym, ap, subst, ◌∙◌, ℕ, List, [], ◌∷◌, ◌++◌, Bool, true, false, not, cond}
 use Rattle.std.specs.Prelude.{◌&&◌, ◌||◌, Option, Some, None, is_some}
 use Rattle.std.specs.List.{list_all}
@@ -27,7 +27,7 @@ use Rattle.mpslp_builder.proofs.NoFaultFromMeaning.{no_fault-from_meant}
 
 -- ---- several declarations after several
 
--- the draft, and the refusals, of declarations after others
+-- the draft, and the errors, of declarations after others
 pub with_declarations-append : (xs ys : Declarations) (before : Draft) → with_declarations before (xs ++ ys) ≡ with_declarations (with_declarations before xs) ys
 with_declarations-append [] ys before = refl
 with_declarations-append (x ∷ xs) ys before = with_declarations-append xs ys (with_declaration before x)
@@ -39,13 +39,13 @@ refusals_in_turn-append (x ∷ xs) ys before =
     ap (λ (faults : List _). refusals before x ++ faults) (refusals_in_turn-append xs ys (with_declaration before x))
     ∙ sym (append_assoc (refusals before x) (refusals_in_turn (with_declaration before x) xs) (refusals_in_turn (with_declarations (with_declaration before x) xs) ys))
 
--- ---- what keeps a draft one that a builder can hold
+-- ---- what makes a draft that a builder can hold
 
--- a builder begins with nothing declared
+-- a builder starts without declarations
 pub empty_made : IsMade empty_draft
 empty_made = record { declarations = []; legal = refl; unrefused = refl; draft = refl }
 
--- several legal declarations, none of them refused
+-- several legal declarations, none of them rejected
 pub made-with_declarations : (all : Draft) (more : Declarations) → IsMade all → list_all is_legal more ≡ true → refusals_in_turn all more ≡ []
     → IsMade (with_declarations all more)
 made-with_declarations all more made legal unrefused = record {
@@ -57,11 +57,11 @@ made-with_declarations all more made legal unrefused = record {
   draft = ap (λ (before : Draft). with_declarations before more) made.draft ∙ sym (with_declarations-append made.declarations more empty_draft);
 }
 
--- one legal declaration that is not refused
+-- one legal declaration that is not rejected
 pub made-with_declaration : (all : Draft) (d : Declaration) → IsMade all → is_legal d ≡ true → refusals all d ≡ [] → IsMade (with_declaration all d)
 made-with_declaration all d made legal unrefused = made-with_declarations all (d ∷ []) made (both_so (is_legal d) true legal refl) (append-nil (refusals all d) ∙ unrefused)
 
--- a right side, which of a row of type N declares nothing
+-- a right-hand side, which declares nothing on a row of type N
 pub made-right_side : (all : Draft) (row : List ℕ) (value : Number) → IsMade all → is_decimal value ≡ true → refusals all (declare_rhs row value) ≡ []
     → IsMade (with_declarations all (rhs_declared all row value))
 made-right_side all row value made legal unrefused =
@@ -87,7 +87,7 @@ none_passes a b c p q r =
     let rest : List (Bool × BuildFault) = (b, DuplicateBound) ∷ last in
     pass a UnknownColumn rest p (pass b DuplicateBound last q (pass c InfiniteValue [] r refl))
 
--- the sides of a column that one call gives are not refused one after another
+-- the bounds of a column from one call are not rejected one after another
 pub bounds-in_turn : (all : Draft) (column : List ℕ) (lower upper : Option Limit) → bounds_refusals all column lower upper ≡ []
     → refusals_in_turn all (bounds_declared column lower upper) ≡ []
 bounds-in_turn all column None None h = refl
@@ -123,7 +123,7 @@ pub made-bounds : (all : Draft) (column : List ℕ) (lower upper : Option Limit)
 made-bounds all column lower upper made h k unrefused =
     made-with_declarations all (bounds_declared column lower upper) made (legal_bounds column lower upper h k) (bounds-in_turn all column lower upper unrefused)
 
--- ---- what such a draft is
+-- ---- properties of such a draft
 
 objective-declared : (declarations : Declarations) (before : Draft) → is_some before.objective ≡ false → is_some (with_declarations before declarations).objective ≡ true
     → has_objective declarations ≡ true
@@ -131,7 +131,7 @@ objective-declared [] before none there = absurd cc
 objective-declared (declare_objective name ∷ more) before none there = refl
 objective-declared (d ∷ more) before none there = objective-declared more (with_declaration before d) none there
 
--- what it names is declared
+-- the names that it uses are declared
 pub declared_names-from_made : (all : Draft) → IsMade all → HasDeclaredNames all
 declared_names-from_made all made =
     let fine = none-fine made.declarations empty_draft empty_declared_names empty_kinds_apart refl made.unrefused in
@@ -143,7 +143,7 @@ consistent-from_made all made there =
     consistent-from_none made.declarations
     (objective-declared made.declarations empty_draft refl (ap (λ (draft : Draft). is_some draft.objective) (sym made.draft) ∙ there)) made.unrefused
 
--- each entry of it is good, also before the objective has its name
+-- each entry of it is valid, also before the objective is named
 pub good-from_made : (all : Draft) → IsMade all → IsGood all all
 good-from_made all made =
     let drafted = draft_of made.declarations in
@@ -151,17 +151,17 @@ good-from_made all made =
     subst (λ (draft : Draft). IsGood draft draft) (sym made.draft)
     (good-with_declarations drafted made.declarations empty_draft (empty_good drafted) made.legal fine.known fine.allowed)
 
--- with an objective, it is well formed
+-- with an objective, it is well-formed
 pub well_formed-from_made : (all : Draft) → IsMade all → is_some all.objective ≡ true → IsWellFormed all
 well_formed-from_made all made there =
     subst IsWellFormed (sym made.draft) (well_formed-from_consistent made.declarations (consistent-from_made all made there) made.legal)
 
--- ---- the end: a model is meant exactly where there is no fault of the whole
+-- ---- the end: a model is meant if and only if there is no whole-file error
 
--- no fault is told: the model of the draft is meant
+-- no error is reported: the model of the draft is meant
 pub meant-from_made : (all : Draft) → IsMade all → is_some all.objective ≡ true → file_fault all ≡ None → DraftMeans all (model_of all)
 meant-from_made all made there none = meant-from_no_fault all (well_formed-from_made all made there) none
 
--- a model is meant: no fault is told
+-- a model is meant: no error is reported
 pub no_fault-from_made : (all : Draft) (m : LinearModel) → IsMade all → is_some all.objective ≡ true → DraftMeans all m → file_fault all ≡ None
 no_fault-from_made all m made there meant = no_fault-from_meant all m (well_formed-from_made all made there) meant

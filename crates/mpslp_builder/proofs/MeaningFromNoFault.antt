@@ -1,4 +1,4 @@
--- What has no fault of the whole file means its model.
+-- Declarations without a whole-file error mean their model.
 use Rattle.std.proofs.Common.{◌≡◌, ◌<◌, refl, sym, ap, subst, ◌∙◌, ℕ, zero, suc, List, [], ◌∷◌, length, Bool, true, false, not, cond, map, arith}
 use Rattle.std.specs.Prelude.{◌&&◌, ◌||◌, ℤ, Option, Some, None, is_some, unwrap_or, filter, pos, negsuc}
 use Rattle.std.specs.List.{list_all}
@@ -58,7 +58,7 @@ below-mapped : {X Y : Type 0} (g : List ℕ × X → Y) (x : List ℕ) (es : Lis
 below-mapped g x [] = refl
 below-mapped g x (e ∷ es) = ap (λ (b : Bool). is_lt (bytes_cmp x e.0) && b) (below-mapped g x es)
 
--- entries with other values at the same names are sorted alike, and have the same names
+-- entries with other values for the same names are in the same order, and have the same names
 pub sorted-mapped : {X Y : Type 0} (g : List ℕ × X → Y) (es : List (List ℕ × X)) → is_sorted bytes_cmp (map (λ e. (e.0, g e)) es) ≡ is_sorted bytes_cmp es
 sorted-mapped g [] = refl
 sorted-mapped g (e ∷ es) = λ i. below-mapped g e.0 es i && sorted-mapped g es i
@@ -220,9 +220,9 @@ some_columns : {X Y : Type 0} (f : X → Y) (xs : List X) → is_nonempty xs ≡
 some_columns f [] h = absurd cc
 some_columns f (x ∷ xs) h = omega arith
 
--- ---- no fault, so the model is meant
+-- ---- without an error the model is meant
 
--- A well formed draft without a fault of the whole means its model.
+-- A well-formed draft without a whole-file error means its model.
 pub meant-from_no_fault : (all : Draft) → IsWellFormed all → file_fault all ≡ None → DraftMeans all (model_of all)
 meant-from_no_fault all w none =
     let m = model_of all in
@@ -282,7 +282,7 @@ meant-from_no_fault all w none =
         (second_so (is_decimal e.1 && known) (not (is_zero e.1)) h)
         (both_so (is_one_of (maps.keys m.columns) key.column) (is_one_of (m.objective ∷ maps.keys m.rows) key.row) column row))
 
--- Consistent declarations with legal names and values, without a fault of the whole, mean the model of their draft.
+-- Consistent declarations with legal names and values, without a whole-file error, mean the model of their draft.
 pub means-from_no_fault : (declarations : Declarations) → AreConsistent declarations → list_all is_legal declarations ≡ true → file_fault (draft_of declarations) ≡ None → Means declarations (model_of (draft_of declarations))
 means-from_no_fault declarations c legal none = record {
   consistent = c;

@@ -1,4 +1,4 @@
--- Tables whose rows and columns are put into the order of their names make the model that their draft means.
+-- Tables whose rows and columns are sorted by name make the model that their draft means.
 use Rattle.std.proofs.Common.{◌≡◌, refl, sym, ap, subst, ◌∙◌, ℕ, zero, suc, ◌+◌, ◌<◌, List, [], ◌∷◌, length, get_or, arith, Bool, true, false, cond, IsPermutation}
 use Rattle.std.proofs.Common.{inl, inr}
 use Rattle.std.specs.Prelude.{Option, Some, None, is_some, ◌⊎◌, filter, slice_get, slice_index}
@@ -33,7 +33,7 @@ use Rattle.mpslp_builder.proofs.PartLemmas.{find-each_part}
 use Rattle.mpslp_builder.proofs.OrderedParts.{taken-permutation, parts-permutation, once-part}
 use Rattle.mpslp_builder_parts.proofs.RankLemmas.{order_within, AreRanks, rank_at, ranks_length, ranks_apart, get-taken, place_below, length-taken}
 
--- ---- which rows there are
+-- ---- names of rows
 
 -- a name is that of a row, or of none
 row_named : (rows : List (Vec ℕ × RowParts)) (r : List ℕ) → ((i : ℕ) × (option_map (λ e. e.0.items) (slice_get rows i) ≡ Some r)) ⊎ ((i : ℕ) → option_map (λ e. e.0.items) (slice_get rows i) ≡ Some r → ⊥)
@@ -102,7 +102,7 @@ module _ (objective : Option ObjectiveParts) (rows : List (Vec ℕ × RowParts))
       let rest = all_named (name_of_row_key objective rows) (cells_by_name cs) in
       (within-column (cells_of c.1) (first_so here rest h), within-all cs (second_so here rest h))
 
--- ---- tables that are put into order
+-- ---- sorted tables
 
 pub record AreFinished (objective : Option ObjectiveParts) (rows : List (Vec ℕ × RowParts)) (columns : List (Vec ℕ × ColumnParts)) (m : ModelParts) : Type 0 where
   pub row_order : List ℕ
@@ -189,7 +189,7 @@ module _ (objective : Option ObjectiveParts) (rows : List (Vec ℕ × RowParts))
         ] refl
         ∙ ap (λ o. unless_zero (option_and_then (find nat_cmp k) o)) (sym (find-each_part bytes cells_of c columns))
 
-    -- the coefficients of the model are those of the draft, without those of value 0
+    -- the coefficients of the model are the nonzero ones of the draft
     pub coefficients_are : sorted_of key_cmp (all_cells (parts.name_of_row_key m) (parts.cells_by_name m)) ≡ filter is_kept (sorted_of key_cmp (all_cells (name_of_row_key objective rows) (cells_by_name columns)))
     coefficients_are =
         renumbered (name_of_row_key objective rows) (parts.name_of_row_key m) (λ k. slice_index f.ranks k) (cells_by_name columns) (parts.cells_by_name m)

@@ -1,4 +1,4 @@
--- Names of entries that stand once: what is found by them.
+-- Entries with distinct names, and what is found by a name.
 use Rattle.std.proofs.Common.{◌≡◌, refl, sym, ap, ◌∙◌, ℕ, zero, suc, List, [], ◌∷◌, ◌++◌, Bool, true, false, cond, length}
 use Rattle.std.specs.Prelude.{Option, Some, None, is_some, slice_get, ◌⊎◌}
 use Rattle.std.proofs.Common.{inl, inr}
@@ -25,13 +25,13 @@ module _ {K V X : Type 0} (key : K → List ℕ) (f : V → X) where
   none_of q [] h = refl
   none_of q (e ∷ es) h = ap (λ (b : Bool). cond b (Some (f e.1)) (find bytes_cmp q (each_part key f es))) (sym (texts_ties q (key e.0)) ∙ h.0) ∙ none_of q es h.1
 
-  -- keys that are distinct are names that stand once
+  -- distinct keys give distinct names
   pub once-from_distinct : (es : List (K × V)) → IsDistinct (λ x y. same_bytes (key x) (key y)) (keys_of es) → IsOnce (each_part key f es)
   unfolding IsDistinct
   once-from_distinct [] h = tt
   once-from_distinct (e ∷ es) h = (none_of (key e.0) es h.0, once-from_distinct es h.1)
 
-  -- a name that stands among the entries is found
+  -- a name among the entries is found
   pub there_found : (es : List (K × V)) (i : ℕ) (q : List ℕ) → option_map (λ e. key e.0) (slice_get es i) ≡ Some q → find bytes_cmp q (each_part key f es) ≡ None → ⊥
   there_found [] i q h none = cc
   there_found (e ∷ es) zero q h none =
@@ -44,7 +44,7 @@ module _ {K V X : Type 0} (key : K → List ℕ) (f : V → X) where
         | false ↦ λ is. there_found es i q h is
       ] none
 
-  -- what is found stands among the entries
+  -- what is found is among the entries
   pub found_there : (es : List (K × V)) (q : List ℕ) → is_some (find bytes_cmp q (each_part key f es)) ≡ true → (i : ℕ) × (option_map (λ e. key e.0) (slice_get es i) ≡ Some q)
   found_there [] q h = cc
   found_there (e ∷ es) q h =
@@ -71,7 +71,7 @@ module _ {K V X : Type 0} (key : K → List ℕ) (f : V → X) where
       ] refl
 
 module _ {K V X Y : Type 0} (key : K → List ℕ) (f : V → X) (g : V → Y) where
-  -- a name that is not there is there in no part
+  -- a missing name is missing in each part
   pub none_too : (q : List ℕ) (es : List (K × V)) → find bytes_cmp q (each_part key f es) ≡ None → find bytes_cmp q (each_part key g es) ≡ None
   none_too q [] h = refl
   none_too q (e ∷ es) h =
@@ -85,7 +85,7 @@ module _ {K V X Y : Type 0} (key : K → List ℕ) (f : V → X) (g : V → Y) w
   once_too (e ∷ es) h = (none_too (key e.0) es h.0, once_too es h.1)
 
 module _ {K V X Y : Type 0} (key : K → List ℕ) (f : V → X) (g : V → Option Y) where
-  -- what is not there is not given
+  -- a missing part is not given
   pub none_given : (q : List ℕ) (es : List (K × V)) → find bytes_cmp q (each_part key f es) ≡ None → find bytes_cmp q (given_parts key g es) ≡ None
   none_given q [] none = refl
   none_given q (e ∷ es) none =
@@ -120,7 +120,7 @@ module _ {K V X Y : Type 0} (key : K → List ℕ) (f : V → X) (g : V → Opti
         ] refl
       ]
 
--- ---- an entry more, or another value
+-- ---- one more entry, or another value
 
 pub names-more : {K V : Type 0} (g : K → List ℕ) (xs ys : List (K × V)) (i : ℕ) (r : List ℕ) → option_map (λ e. g e.0) (slice_get xs i) ≡ Some r → option_map (λ e. g e.0) (slice_get (xs ++ ys) i) ≡ Some r
 names-more g [] ys i r h = cc

@@ -14,7 +14,7 @@ use Rattle.mpslp_builder.proofs.EntryLemmas.{then_told}
 use Rattle.mpslp_builder.proofs.MeaningFromNoFault.{sorted-mapped}
 use Rattle.mpslp_builder.proofs.SortedDrafts.{bytes_total, tied_names}
 
--- an entry's name, with nothing
+-- an entry's name, without a value
 abbrev pub named : {X : Type 0} → List ℕ × X → List ℕ × Unit {0}
 named entry = (entry.0, tt)
 
@@ -29,7 +29,7 @@ pub any-name : {X : Type 0} (q : List ℕ) (es : List (List ℕ × X)) → is_on
 any-name q [] = refl
 any-name q (e ∷ es) = ap (λ (b : Bool). same_bytes q e.0 || b) (any-name q es)
 
--- an entry that is found stands there
+-- an entry that is found is in the list
 pub found-any : {X : Type 0} (q : List ℕ) (x : X) (es : List (List ℕ × X)) → at_name es q ≡ Some x → list_any (λ e. same_bytes q e.0) es ≡ true
 found-any {X} q x [] is = absurd (never is)
   where

@@ -1,4 +1,4 @@
--- What means a model has no fault of the whole file.
+-- Declarations that mean a model have no whole-file error.
 use Rattle.std.proofs.Common.{◌≡◌, ◌<◌, refl, sym, ap, subst, ◌∙◌, ℕ, List, [], ◌∷◌, length, Bool, true, false, not, cond, map, arith}
 use Rattle.std.specs.Prelude.{◌&&◌, ◌||◌, Option, Some, None, is_some, is_none, unwrap_or}
 use Rattle.std.specs.List.{list_all}
@@ -110,7 +110,7 @@ near MinusInf (Finite b) h k d = (refl, both_false (is_infinite_size b) false (f
 near MinusInf PlusInf h k d = (refl, refl)
 near PlusInf u h k d = absurd cc
 
--- a row that has no fault
+-- a row without an error
 pub record PassesTests (definition : RowDefinition) (b : Number) (r : Option Number) : Type 0 where
   pub finite : not (has_infinite_rhs definition b r) ≡ true
   pub exact : not (is_inexact (limits_of definition b r)) ≡ true
@@ -156,7 +156,7 @@ has_columns : {X Y : Type 0} (f : X → Y) (xs : List X) → 0 < length (map f x
 has_columns f [] h = absurd (omega arith)
 has_columns f (x ∷ xs) h = refl
 
--- A well formed draft that means a model has no fault of the whole.
+-- A well-formed draft that means a model has no whole-file error.
 pub no_fault-from_meant : (all : Draft) (m : LinearModel) → IsWellFormed all → DraftMeans all m → file_fault all ≡ None
 no_fault-from_meant all m w meant =
     let n = model_of all in
@@ -188,7 +188,7 @@ no_fault-from_meant all m w meant =
           ∙ imp_all (λ column. is_sound_column (column.0, column_of all column.0)) (λ column. not (has_semi_bounds all column.0)) all.columns (λ column h. column_suited all column.0 h) columns;
     })
 
--- Legal declarations that mean a model have no fault of the whole.
+-- Legal declarations that mean a model have no whole-file error.
 pub no_fault-from_means : (declarations : Declarations) (m : LinearModel) → Means declarations m → list_all is_legal declarations ≡ true → file_fault (draft_of declarations) ≡ None
 no_fault-from_means declarations m means legal =
     no_fault-from_meant (draft_of declarations) m (well_formed-from_consistent declarations means.consistent legal) means.meant

@@ -1,4 +1,4 @@
--- The order of declarations is of no account: consistent ones make the same draft in any order.
+-- The order of declarations does not matter: consistent declarations make the same draft in any order.
 use Rattle.std.proofs.Common.{◌≡◌, refl, sym, ap, subst, ◌∙◌, ℕ, List, [], ◌∷◌, ◌++◌, Bool, true, false, not, IsPermutation}
 use Rattle.std.specs.Prelude.{◌&&◌, ◌||◌, if◌then◌else◌}
 use Rattle.std.specs.List.{list_any, list_all}
@@ -46,7 +46,7 @@ heads_apart a b more others h =
 abbrev limit_slots : List ℕ → RowDefinition → List Slot
 limit_slots name definition = if is_definition_by_limits definition then rhs_slot name ∷ range_slot name ∷ [] else []
 
--- Two declarations that fill no slot both make the same draft in either order.
+-- Two declarations that share no slot make the same draft in either order.
 pub with_declaration-with_declaration : (all : Draft) (x y : Declaration) → are_apart (slots_of x) (slots_of y) ≡ true → with_declaration (with_declaration all x) y ≡ with_declaration (with_declaration all y) x
 with_declaration-with_declaration all (declare_sense a) (declare_sense b) h = absurd cc
 with_declaration-with_declaration all (declare_objective a) (declare_objective b) h = absurd cc
@@ -70,7 +70,7 @@ with_declaration-with_declaration all (declare_binary j) (declare_binary k) h = 
 with_declaration-with_declaration all (declare_semi j) (declare_semi k) h = ap (λ (semis : List (List ℕ × Unit {0})). record all { semis = semis }) (units_turn j k all.semis)
 with_declaration-with_declaration all _ _ h = refl
 
--- ---- slots, whichever come first
+-- ---- slots, in either order
 
 same_slot_turn : (a b : Slot) → same_slot a b ≡ same_slot b a
 same_slot_turn (row_slot a) (row_slot b) = nat_list_eq_equiv.symm a b
@@ -126,8 +126,8 @@ distinct_turn xs ys zs =
 
 -- ---- declarations in another order
 
--- The second has the declarations of the first: tests of them all and of their slots answer alike, and where no slot is
--- filled twice they make the same draft.
+-- The second list has the declarations of the first: tests of all declarations and of their slots have the same results, and if
+-- no slot is filled twice, both lists make the same draft.
 record Reorders (xs ys : Declarations) : Type 0 where
   pub any : (p : Declaration → Bool) → list_any p xs ≡ list_any p ys
   pub all : (p : Declaration → Bool) → list_all p xs ≡ list_all p ys

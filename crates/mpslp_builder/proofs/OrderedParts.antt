@@ -1,4 +1,4 @@
--- Entries that are put into the order of their names: what each says stands as in the maps of a draft.
+-- Entries that are sorted by name: the part of each is in the order of the maps of a draft.
 use Rattle.std.proofs.Common.{◌≡◌, refl, sym, ap, subst, ◌∙◌, ℕ, zero, suc, ◌+◌, ◌<◌, List, [], ◌∷◌, length, map, arith, Bool, true, false, cond, IsPermutation}
 use Rattle.std.specs.Prelude.{Option, Some, None, slice_get, filter_map}
 use Rattle.std.specs.Option.{option_map_or}
@@ -21,9 +21,9 @@ use Rattle.mpslp_model_core.proofs.MovingLemmas.{each-from_all, all-from_each}
 use Rattle.mpslp_builder.specs.Tables.{bytes}
 use Rattle.mpslp_builder_parts.specs.Ordered.{name_at, entries_at}
 
--- ---- the items of numbers in another order
+-- ---- what numbers refer to, in another order
 
--- one more in front, where it is there
+-- one more in front, if there is one
 front_kept : {Y : Type 0} (o : Option Y) (xs ys : List Y) → IsPermutation xs ys → IsPermutation (cons_option o xs) (cons_option o ys)
 front_kept None xs ys h = h
 front_kept (Some x) xs ys h = IsPermutation-cons x xs ys h
@@ -55,7 +55,7 @@ pub taken-permutation : {X : Type 0} (xs : List X) (order : List ℕ) → IsPerm
 taken-permutation xs order p =
     subst (λ (ys : List _). IsPermutation ys (entries_at xs order)) (taken-all xs) (filter_map-permutation (slice_get xs) (range_with_len 0 (length xs)) order p)
 
--- ---- their names do not fall
+-- ---- their names do not descend
 
 name_at-get : {V : Type 0} (entries : List (Vec ℕ × V)) (n : ℕ) (e : Vec ℕ × V) → slice_get entries n ≡ Some e → name_at entries n ≡ e.0.items
 name_at-get entries n e is = ap (λ (o : Option (Vec ℕ × _)). option_map_or (λ e. e.0.items) o []) is
@@ -94,7 +94,7 @@ module _ {V X : Type 0} (f : V → X) where
   part-never_falls [] h = tt
   part-never_falls (e ∷ es) h = (part-each (λ name. is_lt (bytes_cmp name e.0.items) ≡ false) es h.0, part-never_falls es h.1)
 
-  -- whether a name stands among the entries does not hang on what they say
+  -- whether a name is among the entries does not depend on their parts
   none-part : {Y : Type 0} (g : V → Y) (q : List ℕ) (es : List (Vec ℕ × V)) → find bytes_cmp q (each_part bytes g es) ≡ None → find bytes_cmp q (each_part bytes f es) ≡ None
   none-part g q [] h = refl
   none-part g q (e ∷ es) h =
@@ -112,7 +112,7 @@ module _ {V X : Type 0} (f : V → X) where
       subst (λ (xs : List (List ℕ × X)). IsPermutation xs (each_part bytes f ordered)) (sym (part-map es))
       (subst (IsPermutation (map (λ (e : Vec ℕ × V). (e.0.items, f e.1)) es)) (sym (part-map ordered)) (IsPermutation-map (λ (e : Vec ℕ × V). (e.0.items, f e.1)) es ordered p))
 
-  -- what entries say stands in the order of their names as in the map of it
+  -- the parts of the entries, in the order of their names, are those of the map
   pub ordered_parts : (es : List (Vec ℕ × V)) (order : List ℕ) → IsOnce (each_part bytes f es) → IsPermutation (range_with_len 0 (length es)) order
       → IsSortedBy (λ n m. is_lt (bytes_cmp (name_at es n) (name_at es m))) order → each_part bytes f (entries_at es order) ≡ sorted_of bytes_cmp (each_part bytes f es)
   ordered_parts es order once p sorted =
@@ -154,7 +154,7 @@ module _ {V X : Type 0} (f : V → Option X) where
         )
       ] refl
 
--- what holds of each entry holds of each in another order
+-- a property of all entries is one of all entries in another order
 pub each-ordered : {V : Type 0} (P : Vec ℕ × V → Type 0) (es : List (Vec ℕ × V)) (order : List ℕ) → IsPermutation (range_with_len 0 (length es)) order → Each P es → Each P (entries_at es order)
 each-ordered P es order p h = each-from_all P (entries_at es order) (All-permutation P es (entries_at es order) (taken-permutation es order p) (all-from_each P es h))
 
@@ -164,7 +164,7 @@ distinct-none : {V X : Type 0} (f : V → X) (k : Vec ℕ) (es : List (Vec ℕ �
 distinct-none f k [] h = refl
 distinct-none f k (e ∷ es) h = ap (λ (b : Bool). cond b (Some (f e.1)) (find bytes_cmp k.items (each_part bytes f es))) (sym (texts_ties k.items e.0.items) ∙ h.0) ∙ distinct-none f k es h.1
 
--- keys that are distinct are names that stand once
+-- distinct keys give distinct names
 pub once-from_distinct : {V X : Type 0} (f : V → X) (es : List (Vec ℕ × V)) → IsDistinct (λ x y. same_bytes x.items y.items) (keys_of es) → IsOnce (each_part bytes f es)
 unfolding IsDistinct
 once-from_distinct f [] h = tt

@@ -1,4 +1,4 @@
--- What a draft says of a row or a column by its name is what stands beside this name.
+-- What a draft says of a row or a column by its name is the part stored with that name.
 use Rattle.std.proofs.Common.{◌≡◌, refl, ◌∙◌, ℕ, Bool}
 use Rattle.std.specs.Prelude.{Option, Some, slice_get}
 use Rattle.std.specs.Global.{Vec}
@@ -16,7 +16,7 @@ use Rattle.mpslp_builder.specs.declared.tables.Tables.{Tables}
 use Rattle.mpslp_builder.proofs.ReadingLemmas.{Stands, given_at, flag_at, told_at, rhs_at, range_at}
 
 module _ (sense : Option Sense) (constant : Option Number) (t : Tables) (once : IsOnceEach t) where
-  -- what is asked of a row's form, right side and range
+  -- a test of a row's definition, right-hand side and range
   pub row_parts_at : IsNumbered t → (i : ℕ) (k : Vec ℕ) (row : RowParts) → slice_get t.rows.entries i ≡ Some (k, row) → {X : Type 0} (ask : RowDefinition → Option Number → Option Number → X)
       → ask (definition_of row) (at_name (draft sense constant t).rhs_values (bytes k)) (at_name (draft sense constant t).ranges (bytes k)) ≡ ask (definition_of row) (rhs_of row) (range_of row)
   row_parts_at numbered i k row is ask =

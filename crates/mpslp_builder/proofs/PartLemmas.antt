@@ -1,4 +1,4 @@
--- What entries of a map say of their names, and what of it changes as an entry is added or written.
+-- The parts of a map's entries by their names, and how they change if an entry is added or written.
 use Rattle.std.proofs.Common.{◌≡◌, refl, sym, ap, ◌∙◌, ℕ, zero, suc, List, [], ◌∷◌, ◌++◌, Bool, true, false, cond}
 use Rattle.std.specs.Prelude.{Option, Some, None, is_some, slice_get, ◌||◌, Result, Ok, Err, OnOk, OnErr}
 use Rattle.std.specs.Option.{option_map, option_map_or}
@@ -42,7 +42,7 @@ module _ {K V X : Type 0} (key : K → List ℕ) (f : V → X) where
   some_mapped None = refl
   some_mapped (Some v) = refl
 
-  -- a name is one of the map's exactly if it is a key
+  -- a name is one of the map's if and only if it is a key
   pub has_name-each_part : (q : List ℕ) (es : List (K × V)) → is_some (lookup (λ k. same_bytes q (key k)) es) ≡ has_name (sorted_of bytes_cmp (each_part key f es)) q
   has_name-each_part q es =
       sym (ap is_some (find-sorted_of bytes_cmp bytes_total q (each_part key f es) ∙ find-each_part q es) ∙ some_mapped (lookup (λ k. same_bytes q (key k)) es))
@@ -62,7 +62,7 @@ module _ {K V X : Type 0} (key : K → List ℕ) (f : V → X) where
 -- ---- coefficients
 
 module _ {K V : Type 0} (key : K → List ℕ) (f : V → List (ℕ × Number)) (name : ℕ → Option (List ℕ)) (apart : TellsApart name) where
-  -- a coefficient that was not there is put
+  -- a coefficient is put at a free place
   pub find-put_in_column : (q : CoefficientKey) (n : ℕ) (x : Number) (r : List ℕ) (es : List (K × V)) (i : ℕ) (k : K) (v w : V) → name n ≡ Some r → slice_get es i ≡ Some (k, v)
       → f w ≡ put nat_cmp n x (f v) → find key_cmp (at r (key k)) (all_cells name (each_part key f es)) ≡ None
       → find key_cmp q (all_cells name (each_part key f (set_value_at es i w))) ≡ cond (eq_by_cmp key_cmp q (at r (key k))) (Some x) (find key_cmp q (all_cells name (each_part key f es)))
@@ -96,7 +96,7 @@ module _ {K V : Type 0} (key : K → List ℕ) (f : V → List (ℕ × Number)) 
       ] refl
       ∙ ap (cond (eq_by_cmp key_cmp q (at r (key k))) (Some x)) (sym (find-two key_cmp q front rest))
 
--- ---- parts that are there
+-- ---- parts that are declared
 
 module _ {K V X : Type 0} (key : K → List ℕ) (f : V → Option X) where
   pub given_parts-without : (es : List (K × V)) (k : K) (v : V) → f v ≡ None → given_parts key f (es ++ (k, v) ∷ []) ≡ given_parts key f es
@@ -124,7 +124,7 @@ module _ {K V X : Type 0} (key : K → List ℕ) (f : V → Option X) where
             ]
       ] refl none
 
-  -- a part that was not there is given
+  -- a part that was not declared is added
   pub find-given : (q : List ℕ) (x : X) (es : List (K × V)) (i : ℕ) (k : K) (v w : V) → slice_get es i ≡ Some (k, v) → f v ≡ None → f w ≡ Some x
       → find bytes_cmp (key k) (given_parts key f es) ≡ None
       → find bytes_cmp q (given_parts key f (set_value_at es i w)) ≡ cond (eq_by_cmp bytes_cmp q (key k)) (Some x) (find bytes_cmp q (given_parts key f es))
@@ -151,7 +151,7 @@ module _ {K V X : Type 0} (key : K → List ℕ) (f : V → Option X) where
             ] refl none
       ] absent
 
--- ---- what a look-up tells
+-- ---- what a look-up shows
 
 key_found : {K X : Type 0} (t : K → Bool) (es : List (K × X)) (k : K) → Some k ≡ lookup_key t es → t k ≡ true
 key_found t [] k h = cc
@@ -167,7 +167,7 @@ pub found_name : {K X : Type 0} (key : K → List ℕ) (q : List ℕ) (es : List
 found_name {K} {X} key q es i k x at h =
     ap (option_map (λ (e : K × X). key e.0)) at ∙ ap Some (sym ((bytes_decides q (key k)).0 (key_found (λ k. same_bytes q (key k)) es k h)))
 
--- to write what is there changes nothing
+-- writing what is already there changes nothing
 pub set_same : {K X : Type 0} (es : List (K × X)) (i : ℕ) (k : K) (x y : X) → slice_get es i ≡ Some (k, x) → y ≡ x → set_value_at es i y ≡ es
 set_same [] i k x y at same = refl
 set_same {K} {X} (e ∷ es) zero k x y at same =
@@ -191,7 +191,7 @@ or_right false b r h e = e
 pub absent_key : {K V X : Type 0} (key : K → List ℕ) (f : V → X) (q : List ℕ) (es : List (K × V)) → has_name (sorted_of bytes_cmp (each_part key f es)) q ≡ false → lookup (λ k. same_bytes q (key k)) es ≡ None
 absent_key key f q es h = none_there (lookup (λ k. same_bytes q (key k)) es) (has_name-each_part key f q es ∙ h)
 
--- ---- a part that is given, whether it was there or not
+-- ---- a part that is put, whether it was declared or not
 
 module _ {K V X : Type 0} (key : K → List ℕ) (f : V → Option X) where
   pub find-given_any : (q : List ℕ) (x : X) (es : List (K × V)) (i : ℕ) (k : K) (v w : V) → slice_get es i ≡ Some (k, v) → f w ≡ Some x → IsOnce (each_part key (λ (y : V). y) es)

@@ -1,4 +1,4 @@
--- Entries of a list that is declared in two parts, each element perhaps several times: they come into order again.
+-- Entries of a list that is declared in two parts, with some elements in both: they are sorted again.
 use Rattle.std.proofs.Common.{◌≡◌, refl, sym, ap, subst, List, [], ◌∷◌, ◌++◌, Bool, true, false, cond, map}
 use Rattle.std.specs.Prelude.{Some, is_some, filter, not}
 use Rattle.std.specs.List.{flat_map}
@@ -11,7 +11,7 @@ use Rattle.mpslp_types.proofs.EachLemmas.{Each, Each-weaker, Each-both, Each-app
 use Rattle.mpslp_model_core.proofs.PutsLemmas.{puts, puts-give, finds_own, some_append_left, some_append_right}
 
 module _ {K X Y : Type 0} (R : K → K → Ordering) (o : IsTotalOrder R) (same : (x y : K) → R x y ≡ Equal → x ≡ y) (entry : Y → K × X) (f : Y → List (K × X)) where
-  -- what is found of an element's own is found in the whole
+  -- what is found among an element's own entries is found in the whole
   found : (p : Y → Bool) (xs : List Y) → Each (λ x. is_some (find R (entry x).0 (f x)) ≡ true) xs
       → Each (λ x. p x ≡ true → is_some (find R (entry x).0 (flat_map f (filter p xs))) ≡ true) xs
   found p [] h = tt

@@ -1,4 +1,4 @@
--- Entries at different keys are put in either order, and an entry that is there is put without effect.
+-- Entries with different keys can be put in either order, and putting an entry that is already there has no effect.
 use Rattle.std.proofs.Common.{◌≡◌, refl, sym, ap, ◌∙◌, List, [], ◌∷◌, false, cond}
 use Rattle.std.specs.Prelude.{Bool, true, Some}
 use Rattle.std.specs.Ordering.{eq_by_cmp, is_eq, ordering_reverse}
@@ -51,7 +51,7 @@ module _ {K X : Type 0} (R : K → K → Ordering) (o : IsTotalOrder R) where
       by Equal is a = absurd cc
       by Greater is a = sym (put_below k j v w (o.antisymm k j ∙ ap ordering_reverse is) es)
 
-  -- an entry that stands in sorted entries
+  -- an entry that is in sorted entries
   pub put-again : (k : K) (v : X) (es : List (K × X)) → ((x y : K) → R x y ≡ Equal → x ≡ y) → T (is_sorted R es) → find R k es ≡ Some v → put R k v es ≡ es
   put-again k v es same sorted there =
       same_entries R o same (put R k v es) es (is_sorted-put R o k v es sorted) sorted

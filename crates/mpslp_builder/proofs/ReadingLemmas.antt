@@ -1,4 +1,4 @@
--- What tables tell at a number is what their draft says of the name.
+-- What tables state of a number is what their draft states of the name.
 use Rattle.std.proofs.Common.{◌≡◌, refl, sym, ap, ◌∙◌, ℕ, zero, suc, List, [], ◌∷◌, ◌++◌, Bool, true, false, cond}
 use Rattle.std.proofs.Common.{◌<◌, arith}
 use Rattle.std.proofs.lemmas.Option.{slice_get_within}
@@ -31,7 +31,7 @@ use Rattle.mpslp_builder.proofs.NameLemmas.{there_found, found_there, find_own, 
 use Rattle.mpslp_builder.proofs.ColumnDrafts.{cell_found}
 use Rattle.mpslp_builder.proofs.RowDrafts.{other_rhs}
 
--- a row or a column that has a number is declared
+-- a row or a column with a number is declared
 pub number_there : {V X : Type 0} (part : V → X) (es : List (Vec ℕ × V)) (i : ℕ) (name : List ℕ) → option_map (λ e. bytes e.0) (slice_get es i) ≡ Some name
     → true ≡ has_name (sorted_of bytes_cmp (each_part bytes part es)) name
 number_there part es i name is =
@@ -60,7 +60,7 @@ stands (e ∷ es) (suc i) name h =
 pub within : {V : Type 0} (es : List (Vec ℕ × V)) (i : ℕ) (name : List ℕ) → Stands es i name → i < length es
 within es i name s = slice_get_within es i (s.key, s.parts) s.at
 
--- the entry that is there
+-- the entry at the number
 pub own_parts : {V : Type 0} (es : List (Vec ℕ × V)) (i : ℕ) (name : List ℕ) (s : Stands es i name) (key : Vec ℕ) (parts : V) → slice_get es i ≡ Some (key, parts) → (bytes key ≡ name) × (parts ≡ s.parts)
 own_parts {V} es i name s key parts is =
     let same : ◌≡◌ {A = Vec ℕ × V} (key, parts) (s.key, s.parts) = let both : ◌≡◌ {A = Option (Vec ℕ × V)} (Some (key, parts)) (Some (s.key, s.parts)) = sym is ∙ s.at in cc in
@@ -93,11 +93,11 @@ module _ (sense : Option Sense) (constant : Option Number) (t : Tables) (once : 
     pub told_at : (f : ColumnParts → Bool) → column_tells t i f ≡ f s.parts
     told_at f = ap (λ (o : Option (Vec ℕ × ColumnParts)). option_map_or (λ e. f e.1) o false) s.at
 
-    -- whether a part is there
+    -- whether a part is declared
     pub part_at : {X : Type 0} (f : ColumnParts → Option X) → has_name (sorted_of bytes_cmp (given_parts bytes f t.columns.entries)) c ≡ column_tells t i (λ parts. is_some (f parts))
     part_at f = ap is_some (given_at f) ∙ sym (told_at (λ parts. is_some (f parts)))
 
-    -- whether it is so
+    -- whether the column passes a test
     pub flag_at : (f : ColumnParts → Bool) → has_name (sorted_of bytes_cmp (given_parts bytes (λ parts. as_part (f parts)) t.columns.entries)) c ≡ column_tells t i f
     flag_at f = ap is_some (given_at (λ parts. as_part (f parts))) ∙ part_there (f s.parts) ∙ sym (told_at f)
 
@@ -110,7 +110,7 @@ module _ (sense : Option Sense) (constant : Option Number) (t : Tables) (once : 
     pub own_cells : cells_at t i ≡ cells_of s.parts
     own_cells = ap (λ (o : Option (Vec ℕ × ColumnParts)). option_map_or (λ e. cells_of e.1) o []) s.at
 
-    -- whether a coefficient is there
+    -- whether a coefficient is declared
     pub cell_at : (n : ℕ) (r : List ℕ) → IsNumbered t → row_name t n ≡ Some r → has_coefficient (draft sense constant t) (at r c) ≡ is_some (find nat_cmp n (cells_at t i))
     cell_at n r numbered row =
         sym (ap (λ (es : List (ℕ × Number)). is_some (find nat_cmp n es)) own_cells
@@ -198,7 +198,7 @@ module _ (sense : Option Sense) (constant : Option Number) (t : Tables) (once : 
       own_name : is_objective (draft sense constant t) o.name ≡ true
       own_name = ap (λ (parts : Option ObjectiveParts). option_map_or (same_bytes o.name) (name_of_objective parts) false) there ∙ nat_list_eq_equiv.refl o.name
 
-    -- the objective has a right side
+    -- the objective has a right-hand side
     pub has_objective_rhs_at : has_objective_rhs (draft sense constant t) ≡ option_map_or (λ o. is_some o.rhs) t.objective false
     has_objective_rhs_at =
         let all = draft sense constant t in
@@ -208,7 +208,7 @@ module _ (sense : Option Sense) (constant : Option Number) (t : Tables) (once : 
           | Some o ↦ λ there. ap of_parts there ∙ ap is_some (objective_rhs_at o there)
         ] refl
 
-    -- ---- at a place
+    -- ---- the objective or a row
 
     objective_there : (parts : Option ObjectiveParts) (r : List ℕ) → name_of_objective parts ≡ Some r → (o : ObjectiveParts) × ((parts ≡ Some o) × (o.name ≡ r))
     objective_there None r h = cc

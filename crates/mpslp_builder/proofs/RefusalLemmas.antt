@@ -1,4 +1,4 @@
--- Declarations of which none is refused after those before it are consistent; and the converse.
+-- Declarations, none of which is rejected after those before it, are consistent; and the converse.
 use Rattle.std.proofs.Common.{◌≡◌, refl, sym, ap, ◌∙◌, ℕ, List, [], ◌∷◌, ◌++◌, Bool, true, false, not}
 use Rattle.std.specs.Prelude.{◌&&◌, ◌||◌, Option, Some, None, is_some}
 use Rattle.std.specs.Option.{option_map_or}
@@ -19,9 +19,9 @@ use Rattle.mpslp_types.proofs.BoolLemmas.{both_so, or_left, or_right, either, no
 use Rattle.mpslp_builder.proofs.LaterDrafts.{Extends, more_entries, extends-with_declaration, extends-in_turn, value_in, itself_named, is_objective-after, has_row-after, known-after}
 use Rattle.mpslp_builder.proofs.SlotLemmas.{limits_need_row, has-put, are_fresh, is_filled, are_fresh_in_turn, fresh_in_turn-is, same_name}
 
--- ---- drafts that are made of declarations none of which is refused
+-- ---- drafts of declarations that are not rejected
 
--- The objective's name is no row's, and right sides, ranges and kinds are of rows and columns that are declared.
+-- The objective's name is not that of a row; right-hand sides, ranges and types are those of declared rows and columns.
 pub record HasDeclaredNames (all : Draft) : Type 0 where
   pub apart : (name : List ℕ) → is_objective all name ≡ true → has_name all.rows name ≡ false
   pub rhs_values : (name : List ℕ) → has_name all.rhs_values name ≡ true → has_row all name ≡ true
@@ -33,7 +33,7 @@ none_there : (o : Option (List ℕ)) (q : List ℕ) (b r rest : Bool) → (not (
 none_there None q b r rest h k = or_right b r k
 none_there (Some x) q b r rest h k = cc
 
--- one entry more, of a name that passes a test as those before it
+-- one more entry, of a name that passes the same test
 more_named : {X : Type 0} (test : List ℕ → Bool) (q k : List ℕ) (v : X) (es : List (List ℕ × X)) → test k ≡ true → (has_name es q ≡ true → test q ≡ true) → has_name (put bytes_cmp k v es) q ≡ true → test q ≡ true
 more_named {X} test q k v es known was h =
     elim (same_bytes q k) as (λ b. same_bytes q k ≡ b → (b || has_name es q) ≡ true → test q ≡ true) [
@@ -116,7 +116,7 @@ declared_names-with_declaration all _ w h k = record { apart = w.apart; rhs_valu
 abbrev pub HasKindsApart : Draft → Type 0
 HasKindsApart all = (name : List ℕ) → is_semi all name ≡ true → is_integer all name ≡ false
 
--- a name more, which is not the one that is looked for
+-- one more name, which is not the one that is looked up
 other_named : (q k : List ℕ) (es : List (List ℕ × Unit {0})) → same_bytes q k ≡ false → has_name (put bytes_cmp k tt es) q ≡ has_name es q
 other_named q k es apart = has-put q k tt es ∙ ap (λ (b : Bool). b || has_name es q) apart
 
@@ -139,7 +139,7 @@ kinds_apart-with_declaration all (declare_semi c) w h = λ q is.
     ] refl (sym (has-put q c tt all.semis) ∙ is)
 kinds_apart-with_declaration all _ w h = w
 
--- ---- a declaration that is not refused
+-- ---- a declaration that is not rejected
 
 pub first_none : (b : Bool) (x : BuildFault) (more : List (Bool × BuildFault)) → those_of ((b, x) ∷ more) ≡ [] → b ≡ false
 first_none true x more h = cc
@@ -176,7 +176,7 @@ no_limits all name h = limits_need_row (at_name all.rows name) (nor (is_objectiv
 abbrev Tests : Type 0
 Tests = List (Bool × BuildFault)
 
--- a column has this kind, and not the other
+-- a column has this type, and not the other
 abbrev kind_tests : Draft → List ℕ → Bool → Tests
 kind_tests all c other = (not (has_column all c), builds.UnknownColumn) ∷ (other, builds.SemiContinuous) ∷ []
 
@@ -303,7 +303,7 @@ no_side : (a b : Bool) → b ≡ false → not (a && b) ≡ true
 no_side true b h = so_not b h
 no_side false b h = refl
 
--- a right side more, of a row that is no objective beside a constant
+-- one more right-hand side; with a constant, it is not that of the objective
 side_more : (all : Draft) (row : List ℕ) (v : Number) (o : Option (List ℕ)) → (option_map_or (same_bytes row) o false && is_some all.constant) ≡ false
     → not (is_some all.constant && option_map_or (has_name all.rhs_values) o false) ≡ true
     → not (is_some all.constant && option_map_or (has_name (put bytes_cmp row v all.rhs_values)) o false) ≡ true
@@ -343,7 +343,7 @@ one-before before after e one =
     side_after : has_objective_rhs before ≡ true → has_objective_rhs after ≡ true
     side_after h = side_from before.objective refl h
 
--- a right side of the objective leaves no room for a constant
+-- a right-hand side of the objective excludes a constant
 free_of_constant : (all : Draft) (row : List ℕ) (v : Number) → has_one_constant (with_declaration all (declare_rhs row v)) ≡ true → (is_objective all row && is_some all.constant) ≡ false
 free_of_constant all row v one = from all.objective one
   where
@@ -447,7 +447,7 @@ pub record AreFineInTurn (before : Draft) (declarations : Declarations) : Type 0
   pub declared_names : HasDeclaredNames (with_declarations before declarations)
   pub kinds_apart : HasKindsApart (with_declarations before declarations)
 
--- what a declaration says of a column's kind is said by the draft
+-- what a declaration says of a column's type is in the draft
 abbrev pub says_kind : Draft → Declaration → Bool
 says_kind all (declare_marked c) = is_integer all c
 says_kind all (declare_integer c) = is_integer all c
@@ -521,7 +521,7 @@ none-fine (d ∷ more) before w apart one h =
 pub empty_declared_names : HasDeclaredNames empty_draft
 empty_declared_names = record { apart = λ q h. refl; rhs_values = λ q h. h; ranges = λ q h. h; integers = λ q h. h; semis = λ q h. h }
 
--- nothing is of any kind
+-- no column has any type
 pub empty_kinds_apart : HasKindsApart empty_draft
 empty_kinds_apart = λ q h. refl
 
@@ -529,7 +529,7 @@ pub all_fresh : (slots : List Slot) → are_fresh empty_draft slots ≡ true
 all_fresh [] = refl
 all_fresh (slot ∷ slots) = both_so (not (is_filled empty_draft slot)) (are_fresh empty_draft slots) (empty_slot slot) (all_fresh slots)
 
--- What is not refused in turn is consistent.
+-- Declarations that are not rejected in turn are consistent.
 pub consistent-from_none : (declarations : Declarations) → has_objective declarations ≡ true → refusals_in_turn empty_draft declarations ≡ [] → AreConsistent declarations
 consistent-from_none declarations objective h =
     let f = none-fine declarations empty_draft empty_declared_names empty_kinds_apart refl h in
@@ -558,7 +558,7 @@ none-from_fine_in_turn (d ∷ more) before fresh known allowed one =
     (none-from_fine before d f (one-before (with_declaration before d) after (extends-in_turn more (with_declaration before d) fresh_then) one))
     (none-from_fine_in_turn more (with_declaration before d) fresh_then (second_so (is_known before d) (are_known_in_turn (with_declaration before d) more) known) (second_so (is_allowed after d) (list_all (is_allowed after) more) allowed) one)
 
--- What is consistent is not refused in turn, where nothing is named before it is declared.
+-- Consistent declarations are not rejected in turn, if each name is used after its declaration.
 pub none-from_consistent : (declarations : Declarations) → AreConsistent declarations → are_known_in_turn empty_draft declarations ≡ true → refusals_in_turn empty_draft declarations ≡ []
 none-from_consistent declarations c known =
     none-from_fine_in_turn declarations empty_draft

@@ -29,7 +29,7 @@ use Rattle.mpslp_builder_parts.specs.declared.parts.ColumnParts.{ColumnParts}
 use Rattle.mpslp_builder.proofs.NameLemmas.{there_found, once_too, names-more, old_or_last}
 use Rattle.mpslp_builder.proofs.PartLemmas.{each_part-append, each_part-kept, given_parts-without, given_parts-kept, find-given_any, absent-each_part}
 
--- ---- numbers that name at least what they named
+-- ---- numbers that still name what they named
 
 module _ (name later : ℕ → Option (List ℕ)) (more : (n : ℕ) (r : List ℕ) → name n ≡ Some r → later n ≡ Some r) where
   named_later : (n : ℕ) → is_some (name n) ≡ true → later n ≡ name n
@@ -71,7 +71,7 @@ right_false : (a b : Bool) → (a || b) ≡ false → b ≡ false
 right_false true b h = cc
 right_false false b h = h
 
--- an entry more in front of others
+-- one more entry in front of others
 pub find-behind : {X : Type 0} (q k : List ℕ) (x : X) (front back more : List (List ℕ × X)) → find bytes_cmp k front ≡ None
     → find bytes_cmp q more ≡ cond (eq_by_cmp bytes_cmp q k) (Some x) (find bytes_cmp q back)
     → find bytes_cmp q (front ++ more) ≡ cond (eq_by_cmp bytes_cmp q k) (Some x) (find bytes_cmp q (front ++ back))
@@ -269,7 +269,7 @@ module _ (sense : Option Sense) (constant : Option Number) (name : List ℕ) (ro
         apart (suc i) zero r p q = absurd (no_row absent i r p q)
         apart (suc i) (suc j) r p q = numbered.apart (suc i) (suc j) r p q
 
--- the right side of the objective
+-- the right-hand side of the objective
 module _ (sense : Option Sense) (constant : Option Number) (o : ObjectiveParts) (x : Number) (rows : List (Vec ℕ × RowParts)) (columns : List (Vec ℕ × ColumnParts)) where
   pub objective_rhs_draft : o.rhs ≡ None → draft_from sense constant (Some (record o { rhs = Some x })) rows columns ≡ with_declaration (draft_from sense constant (Some o) rows columns) (declare_rhs o.name x)
   objective_rhs_draft none =

@@ -1,4 +1,4 @@
--- The limits of a row are given back by its type, right side and range.
+-- The limits of a row follow from its type, right-hand side and range.
 use Rattle.std.proofs.Common.{◌≡◌, refl, sym, ap, ◌∙◌, Bool, true, false, cond}
 use Rattle.std.specs.Prelude.{Option, Some, None, unwrap_or, ◌&&◌, not, if◌then◌else◌}
 use Rattle.std.specs.Option.{option_map_or}
@@ -36,7 +36,7 @@ limit-finite d h = by (is_infinite_size d) refl (second_so (is_decimal d) (not (
     by true e n = cc
     by false e n = rw e refl
 
--- a value that is told unless it is 0
+-- a value that is printed unless it is 0
 pub side-told : (d : Number) → (is_zero d ≡ true → d ≡ zero_number) → unwrap_or (if is_zero d then None else Some d) zero_number ≡ d
 side-told d h = by (is_zero d) refl
   where
@@ -52,7 +52,7 @@ apart_values : (a b : Number) (distance : Option Number) → difference_of b a �
 apart_values a b None e h p q s = cc
 apart_values a b (Some d) e h p q s = ap (λ (x : Number). sides (Some a) (sum_of a x)) (s d e) ∙ ap (sides (Some a)) (sum-difference a b d p q e)
 
--- A row's limits, where they are sound, are those of the type, right side and range that are told of it.
+-- The limits of a row, if they are well-formed, are those of the printed type, right-hand side and range.
 pub row_back : (lower upper : Limit) → are_sides lower upper ≡ true → has_bounded_distance lower upper ≡ true
     → limits_of (by_type (printed_type lower upper)) (printed_side lower upper) (printed_range lower upper) ≡ Some (record { lower = lower; upper = upper })
 row_back MinusInf MinusInf h w = cc

@@ -1,4 +1,4 @@
--- A row has no fault of the whole file exactly where its limits are sound.
+-- A row has no whole-file error if and only if its limits are well-formed.
 use Rattle.std.proofs.Common.{◌≡◌, refl, sym, subst, Bool, true, false, not, cond}
 use Rattle.std.specs.Prelude.{◌&&◌, ◌||◌, ◌+ℤ◌, Option, Some, None, is_none}
 use Rattle.std.specs.Option.{option_map_or}
@@ -13,12 +13,12 @@ use Rattle.mpslp_types.specs.declared.kinds.Limit.TheVariants.{MinusInf, Finite,
 use Rattle.mpslp_types.specs.declared.kinds.RowType.TheVariants.{Free, AtMost, AtLeast, Equal}
 use Rattle.mpslp_types.proofs.BoolLemmas.{both_so, not_so, so_not, nor}
 
--- a form whose limits are given ones, neither of which excludes all
+-- a definition with valid limits, neither of which excludes all values
 abbrev pub is_legal_form : RowDefinition → Bool
 is_legal_form (by_type type) = true
 is_legal_form (by_limits l u) = (is_given l && is_given u) && not (have_infinite_side (by_limits l u))
 
--- a lower or upper side, but for its size
+-- a lower or upper limit, apart from its magnitude
 abbrev may_be_lower : Limit → Bool
 may_be_lower MinusInf = true
 may_be_lower (Finite a) = is_decimal a
@@ -37,7 +37,7 @@ kept_decimal false x c h e = cc
 pub decimal_of-is : (d c : Number) → decimal_of d ≡ Some c → is_decimal c ≡ true
 decimal_of-is d c e = kept_decimal (is_decimal (normal d)) (normal d) c (λ h. h) e
 
--- the distance
+-- the distance between the limits
 bounded_from : (o : Option Number) → ((c : Number) → o ≡ Some c → is_decimal c ≡ true) → is_none o ≡ false → option_map_or is_infinite_size o false ≡ false → option_map_or is_bounded_decimal o false ≡ true
 bounded_from None f h k = cc
 bounded_from (Some c) f h k = both_so (is_decimal c) (not (is_infinite_size c)) (f c refl) (so_not (is_infinite_size c) k)
@@ -52,7 +52,7 @@ at_most_so a b h = flip (is_at_most a b) h
     flip true h = refl
     flip false h = sym h
 
--- a row that was computed
+-- a row whose limits were computed
 pub record HasSoundLimits (row : Row) : Type 0 where
   pub sides : are_sides row.lower row.upper ≡ true
   pub distance : has_bounded_distance row.lower row.upper ≡ true
@@ -86,7 +86,7 @@ limits-from_tests l u lo up exact small straight =
       distance = distance_so l u exact small;
     }
 
--- the sides that a form gives
+-- the limits that a definition gives
 abbrev may_have_sides : Option Row → Bool
 may_have_sides None = true
 may_have_sides (Some row) = may_be_lower row.lower && may_be_upper row.upper
@@ -150,7 +150,7 @@ sides-of_form (by_limits l u) b r f h k =
     let finite = nor (is_plus_infinite l) (is_minus_infinite u) (not_so (have_infinite_side (by_limits l u)) (second_so (is_given l && is_given u) (not (have_infinite_side (by_limits l u))) f)) in
     both_so (may_be_lower l) (may_be_upper u) (may_be_lower-given l (first_so (is_given l) (is_given u) given) finite.0) (may_be_upper-given u (second_so (is_given l) (is_given u) given) finite.1)
 
--- no fault, so sound
+-- without an error, the limits are well-formed
 pub record IsSoundForm (limits : Option Row) : Type 0 where
   pub row : Row
   pub is : limits ≡ Some row
@@ -167,7 +167,7 @@ pub sound-from_no_fault : (definition : RowDefinition) (b : Number) (r : Option 
     → is_inexact (limits_of definition b r) ≡ false → is_too_large (limits_of definition b r) ≡ false → is_crossed (limits_of definition b r) ≡ false → IsSoundForm (limits_of definition b r)
 sound-from_no_fault definition b r f h k = from_limits (limits_of definition b r) (sides-of_form definition b r f h k)
 
--- the side that a given value makes may be declared
+-- the limit that a given value makes may be declared
 pub given-limit_of : (d : Number) → is_decimal d ≡ true → is_given (limit_of d) ≡ true
 given-limit_of d h = by (is_infinite_size d) refl
   where

@@ -1,4 +1,4 @@
--- Slots that are filled, one declaration after another, are filled once.
+-- Slots that are free before each declaration are filled only once.
 use Rattle.std.proofs.Common.{◌≡◌, refl, sym, ap, ◌∙◌, ℕ, List, [], ◌∷◌, ◌++◌, Bool, true, false, not, cond}
 use Rattle.std.proofs.Math.Bool.{and_comm}
 use Rattle.std.specs.Prelude.{◌&&◌, ◌||◌, Option, Some, None, is_some}
@@ -17,7 +17,7 @@ use Rattle.mpslp_model_core.specs.Lists.{are_distinct}
 use Rattle.mpslp_builder.specs.Consistency.{Slot, sense_slot, objective_slot, constant_slot, row_slot, rhs_slot, range_slot, coefficient_slot, lower_slot, upper_slot, same_slot, slots_of, all_slots}
 use Rattle.mpslp_types.proofs.BoolLemmas.{or_end, all_true, mixed, mixed_more}
 
--- ---- one entry more
+-- ---- one more entry
 
 pub at-put : {X : Type 0} (q k : List ℕ) (v : X) (es : List (List ℕ × X)) → at_name (put bytes_cmp k v es) q ≡ cond (same_bytes q k) (Some v) (at_name es q)
 at-put {X} q k v es = find-put bytes_cmp nat_list_cmp_total q k v es ∙ ap (λ (b : Bool). cond b (Some v) (find bytes_cmp q es)) (sym (texts_ties q k))
@@ -59,7 +59,7 @@ are_fresh all slots = list_all (λ slot. not (is_filled all slot)) slots
 abbrev pub fills : Declaration → Slot → Bool
 fills d slot = list_any (same_slot slot) (slots_of d)
 
--- the objective was none
+-- there was no objective
 row_by_objective : (o : Option (List ℕ)) (name n : List ℕ) (r : Bool) → (not (is_some o)) ≡ true
     → (same_bytes n name || r) ≡ ((same_bytes n name || false) || (option_map_or (same_bytes n) o false || r))
 row_by_objective None name n r h = or_end (same_bytes n name) r
@@ -87,7 +87,7 @@ fresh_row true b rest h = cc
 fresh_row false true rest h = cc
 fresh_row false false rest h = refl
 
--- a slot of a row by limits, after a row more: `here` says that the row is of this name
+-- a slot of a row by limits, after one more row: `here` says that the row has this name
 by_type_after : (here r was : Bool) → (here ≡ true → was ≡ false) → (r || cond here false was) ≡ (r || was)
 by_type_after true true was h = refl
 by_type_after true false was h = sym (h refl)
@@ -112,7 +112,7 @@ was_no_limits all n name rest h same =
     limits_need_row (at_name all.rows n)
     (ap (λ (k : List ℕ). has_name all.rows k) (same_name n name same) ∙ fresh_row (is_objective all name) (has_name all.rows name) rest h)
 
--- A declaration whose slots were free fills these and no more.
+-- A declaration whose slots were free fills these and no others.
 pub filled-with_declaration : (all : Draft) (d : Declaration) (slot : Slot) → are_fresh all (slots_of d) ≡ true
     → is_filled (with_declaration all d) slot ≡ (fills d slot || is_filled all slot)
 filled-with_declaration all (declare_objective name) (row_slot n) h =
@@ -153,7 +153,7 @@ filled-with_declaration all _ _ h = refl
 
 -- ---- distinct slots
 
--- none of the later slots is one of the earlier
+-- none of the later slots is one of the earlier ones
 abbrev pub are_apart : List Slot → List Slot → Bool
 are_apart earlier later = list_all (λ slot. not (list_any (same_slot slot) earlier)) later
 
@@ -193,12 +193,12 @@ fresh-with_declaration all d (slot ∷ later) h =
 
 -- ---- in turn
 
--- each declaration's slots are free when it comes
+-- the slots of each declaration are free before it
 abbrev pub are_fresh_in_turn : Draft → Declarations → Bool
 are_fresh_in_turn before [] = true
 are_fresh_in_turn before (d ∷ more) = are_fresh before (slots_of d) && are_fresh_in_turn (with_declaration before d) more
 
--- That is: no slot was filled before, and none is filled twice, in whatever order.
+-- So no slot was filled before, and none is filled twice, in any order.
 pub fresh_in_turn-is : (declarations : Declarations) (before : Draft)
     → are_fresh_in_turn before declarations ≡ (are_fresh before (all_slots declarations) && are_distinct same_slot (all_slots declarations))
 fresh_in_turn-is [] before = refl

@@ -1,4 +1,4 @@
--- What the soundness of a row and of a column says of its name and its sides, and names that differ.
+-- What a well-formed row or column implies for its name and its limits, and names that differ.
 use Rattle.std.proofs.Common.{◌≡◌, refl, sym, ap, ◌∙◌, List, [], ◌∷◌, ℕ, Bool, true, false, not}
 use Rattle.std.specs.Prelude.{◌&&◌}
 use Rattle.std.specs.List.{list_all}

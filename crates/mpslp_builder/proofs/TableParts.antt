@@ -1,4 +1,4 @@
--- What tables say of a row or of a column is what their draft says of its name.
+-- What tables state of a row or of a column is what their draft states of its name.
 use Rattle.std.proofs.Common.{◌≡◌, refl, sym, ap, ◌∙◌, ℕ, zero, suc, List, [], ◌∷◌, ◌++◌, map, Bool, true, false, cond}
 use Rattle.std.specs.Prelude.{Option, Some, None, is_some, unwrap_or, slice_get}
 use Rattle.std.specs.Option.{option_map, option_map_or}
@@ -27,14 +27,14 @@ use Rattle.mpslp_builder_parts.specs.declared.parts.RowParts.{RowParts}
 use Rattle.mpslp_builder_parts.specs.declared.parts.ColumnParts.{ColumnParts}
 use Rattle.mpslp_builder.proofs.OrderedParts.{own_parts}
 
--- what holds at each place holds of each
+-- a property at each index is one of each entry
 each-from_get : {X : Type 0} (P : X → Type 0) (xs : List X) → ((i : ℕ) (x : X) → slice_get xs i ≡ Some x → P x) → Each P xs
 each-from_get P [] h = tt
 each-from_get P (x ∷ xs) h = (h zero x refl, each-from_get P xs (λ i y is. h (suc i) y is))
 
 -- ---- rows
 
--- what a draft says of a row's name
+-- what a draft states of a row's name
 abbrev pub SaysRow : Draft → Vec ℕ × RowParts → Type 0
 SaysRow d e = (at_name d.rhs_values e.0.items ≡ e.1.rhs) × (at_name d.ranges e.0.items ≡ e.1.range)
 
@@ -69,7 +69,7 @@ rows_say sense constant objective rows columns apart once =
     (Each-weaker (λ e. find bytes_cmp e.0.items (given_parts bytes range_of rows) ≡ e.1.range) (λ e. at_name (sorted_of bytes_cmp (given_parts bytes range_of rows)) e.0.items ≡ e.1.range)
     (λ e own. find-sorted_of bytes_cmp bytes_total e.0.items (given_parts bytes range_of rows) ∙ own) rows (own_parts range_of definition_of rows once))
 
--- rows of which the draft says what they say have the limits that are meant
+-- rows with the same parts as in the draft have the limits that are meant
 pub rows_meant : (d : Draft) (rows : List (Vec ℕ × RowParts)) → Each (SaysRow d) rows → each_part bytes limits_in rows ≡ map (row_entry d) (each_part bytes definition_of rows)
 rows_meant d [] h = refl
 rows_meant d (e ∷ rows) h =

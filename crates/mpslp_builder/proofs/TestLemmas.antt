@@ -1,4 +1,4 @@
--- What a question of tables answers is the first refusal of the declaration.
+-- The result of a query of tables is the first error of the declaration.
 use Rattle.std.proofs.Common.{◌≡◌, sym, ap, ◌∙◌, ℕ, List, [], ◌∷◌, Bool, true, false, not}
 use Rattle.std.specs.Prelude.{Option, Some, None, is_some, ◌||◌, ◌&&◌}
 use Rattle.std.specs.Option.{option_map_or}

@@ -1,4 +1,4 @@
--- The draft of consistent, legal declarations is well formed.
+-- The draft of consistent, legal declarations is well-formed.
 use Rattle.std.proofs.Common.{◌≡◌, refl, sym, ap, ◌∙◌, ℕ, List, [], ◌∷◌, true, false, not}
 use Rattle.std.specs.Prelude.{◌&&◌, ◌||◌, is_some}
 use Rattle.std.specs.List.{list_all}
@@ -48,9 +48,9 @@ apart-in_turn (d ∷ more) b w h =
 pub fresh-from_once : (declarations : Declarations) → are_distinct same_slot (all_slots declarations) ≡ true → are_fresh_in_turn empty_draft declarations ≡ true
 fresh-from_once declarations h = fresh_in_turn-is declarations empty_draft ∙ both_so (are_fresh empty_draft (all_slots declarations)) (are_distinct same_slot (all_slots declarations)) (all_fresh (all_slots declarations)) h
 
--- ---- well formed drafts
+-- ---- well-formed drafts
 
--- The objective has a name, which is no row's, and each entry is good.
+-- The objective has a name, which is not that of a row, and each entry is valid.
 pub record IsWellFormed (all : Draft) : Type 0 where
   pub named : is_some all.objective ≡ true
   pub apart : IsApart all

@@ -1,4 +1,4 @@
--- Worked declarations, the calls of a builder and the models that they mean, by computation.
+-- Worked examples: declarations, the calls of a builder, and the models that they mean, by computation.
 use Rattle.std.proofs.Common.{◌≡◌, refl, cond}
 use Rattle.std.specs.Prelude.{ℕ, pos, negsuc, Option, Some, None, List, [], ◌∷◌, codes}
 use Rattle.std.specs.FinMap as maps
@@ -21,12 +21,12 @@ use Rattle.mpslp_types.specs.declared.faults.BuildFault.TheVariants as builds
 use Rattle.mpslp_types.specs.declared.faults.FaultKind.TheVariants as kinds
 use Rattle.mpslp_builder.proofs.WorkedRows.{number, whole}
 
--- what each call answers, one after another: nothing, or its first refusal, and then nothing is declared
+-- the result of each call in turn: success, or its first error, and then nothing is declared
 abbrev answers : Draft → Declarations → List (Option BuildFault)
 answers before [] = []
 answers before (d ∷ more) = head_of (refusals before d) ∷ answers (cond (is_nonempty (refusals before d)) before (with_declaration before d)) more
 
--- what stands after these calls
+-- what is declared after these calls
 abbrev after : Draft → Declarations → Draft
 after before [] = before
 after before (d ∷ more) = after (cond (is_nonempty (refusals before d)) before (with_declaration before d)) more
@@ -52,7 +52,7 @@ at row column = record { row = row; column = column }
 abbrev one : Number
 one = whole (pos 1)
 
--- ---- a builder's calls, in order
+-- ---- the calls of a builder in turn
 
 abbrev first_calls : Declarations
 first_calls =
@@ -82,14 +82,14 @@ bounded = with_declarations ranged (bounds_declared x (Some MinusInf) None)
 a_side_again : bounds_refusals bounded x (Some zero_limit) (Some one_limit) ≡ builds.DuplicateBound ∷ []
 a_side_again = refl
 
--- no side is given: the column is looked for all the same
+-- no bound is given, but the column is still looked up
 no_side : bounds_refusals bounded x None None ≡ []
 no_side = refl
 
 no_side_of_no_column : bounds_refusals bounded y None None ≡ builds.UnknownColumn ∷ []
 no_side_of_no_column = refl
 
--- the refusals of a call are tried over both sides: the second side's duplicate comes before the first one's infinity
+-- each error of a call is checked for both bounds: the duplicate upper bound comes before the infinite lower one
 both_sides : bounds_refusals (with_declaration ranged (declare_upper x one_limit)) x (Some PlusInf) (Some one_limit) ≡ builds.DuplicateBound ∷ builds.InfiniteValue ∷ []
 both_sides = refl
 
@@ -126,7 +126,7 @@ its_constant = refl
 its_sense : (model_of finished).sense ≡ Maximize
 its_sense = refl
 
--- a right side of the objective is the negative of its constant
+-- a right-hand side of the objective is its negated constant
 constant_by_rhs : answers empty_draft (declare_objective f ∷ declare_rhs f (whole (negsuc 4)) ∷ declare_rhs f (whole (negsuc 4)) ∷ declare_constant one ∷ [])
     ≡ None ∷ None ∷ Some builds.DuplicateRhs ∷ Some builds.DuplicateRhs ∷ []
 constant_by_rhs = refl
@@ -134,7 +134,7 @@ constant_by_rhs = refl
 negated_constant : (model_of (draft_of (declare_objective f ∷ declare_rhs f (whole (negsuc 4)) ∷ []))).constant ≡ whole (pos 5)
 negated_constant = refl
 
--- of a row of type N a right side declares nothing, and no range may be given
+-- on a row of type N a right-hand side declares nothing, and a range is an error
 abbrev with_free_row : Draft
 with_free_row = draft_of (declare_objective f ∷ declare_row r (by_type Free) ∷ [])
 
@@ -144,7 +144,7 @@ rhs_of_free_row = refl
 range_of_free_row : refusals with_free_row (declare_range r one) ≡ builds.RangeOnFree ∷ []
 range_of_free_row = refl
 
--- a second range of a row is a duplicate, also where the first is refused
+-- a second range of a row is a duplicate, even if the first is rejected
 ranges_in_turn : refusals_in_turn with_free_row (declare_range r one ∷ declare_range r one ∷ [])
     ≡ builds.RangeOnFree ∷ builds.DuplicateRange ∷ builds.RangeOnFree ∷ []
 ranges_in_turn = refl
@@ -215,7 +215,7 @@ semi_after_binary = refl
 abbrev four : Limit
 four = Finite (whole (pos 4))
 
--- the bounds are declared before or after, and the lower one is 0 where none is declared
+-- the bounds are declared before or after, and the lower one is 0 if none is declared
 semi_target : column_of (bounded_by (declare_semi x ∷ declare_upper x four ∷ [])) x ≡ record { kind = Semi; lower = zero_limit; upper = four }
 semi_target = refl
 
@@ -249,12 +249,12 @@ semi_from_minus_infinity = refl
 semi_crossed : file_fault (bounded_by (declare_semi x ∷ declare_upper x one_limit ∷ declare_lower x four ∷ [])) ≡ Some (whole_fault kinds.BoundsCrossed (Some x))
 semi_crossed = refl
 
--- a kind that comes before is told of whichever column has it
+-- an error of an earlier kind is reported, whichever column has it
 semi_and_binary : file_fault (bounded_by (declare_semi x ∷ declare_column y ∷ declare_upper y (Finite (whole (pos 5))) ∷ declare_binary y ∷ []))
     ≡ Some (whole_fault kinds.BinaryBounds (Some y))
 semi_and_binary = refl
 
--- ---- faults of the whole file
+-- ---- whole-file errors
 
 nothing : file_fault empty_draft ≡ Some (whole_fault kinds.NoColumns None)
 nothing = refl
@@ -262,7 +262,7 @@ nothing = refl
 objective_alone : file_fault (draft_of (declare_objective f ∷ [])) ≡ Some (whole_fault kinds.NoColumns None)
 objective_alone = refl
 
--- the first kind, and its least name in byte order: a row's fault comes before a column's
+-- the first kind, with its least name in byte order: an error of a row comes before one of a column
 abbrev crossed : List ℕ → Declaration
 crossed name = declare_row name (by_limits one_limit zero_limit)
 
@@ -270,7 +270,7 @@ least_name : file_fault (bounded_by (declare_upper x minus_one ∷ crossed (code
 unfolding trailing_zeros
 least_name = refl
 
--- an infinite right side comes before the range that is no decimal beside it
+-- an infinite right-hand side comes before its inexact range
 least_of_two : file_fault (bounded_by (declare_row r (by_type AtLeast) ∷ declare_rhs r (number (pos 1) (pos 30)) ∷ declare_range r one ∷ []))
     ≡ Some (whole_fault kinds.InfiniteLimit (Some r))
 unfolding trailing_zeros

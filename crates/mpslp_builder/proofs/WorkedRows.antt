@@ -1,4 +1,4 @@
--- Worked limits of rows, by computation.
+-- Worked examples: limits of rows, by computation.
 use Rattle.std.proofs.Common.{◌≡◌, refl, true, false}
 use Rattle.std.specs.Prelude.{ℤ, pos, negsuc, Option, Some, None}
 use Rattle.mpslp_decimal.specs.Decimal.{Number, trailing_zeros}
@@ -32,7 +32,7 @@ at_least = refl
 equal : limits_of (by_type Equal) (whole (pos 7)) None ≡ row (Finite (whole (pos 7))) (Finite (whole (pos 7)))
 equal = refl
 
--- ---- with a range: the right side is 1, and 10 is one with exponent 1
+-- ---- with a range: the right-hand side is 1, and 10 is one with exponent 1
 
 equal_more : limits_of (by_type Equal) (number (pos 1) (pos 1)) (Some (whole (pos 3))) ≡ row (Finite (number (pos 1) (pos 1))) (Finite (whole (pos 13)))
 unfolding trailing_zeros
@@ -54,7 +54,7 @@ at_most_range : limits_of (by_type AtMost) (number (pos 1) (pos 1)) (Some (whole
 unfolding trailing_zeros
 at_most_range = refl
 
--- ---- right sides of infinite size
+-- ---- right-hand sides of infinite magnitude
 
 least_infinite : limits_of (by_type AtMost) (number (pos 1) (pos 20)) None ≡ row MinusInf PlusInf
 least_infinite = refl

@@ -1,4 +1,4 @@
--- The kind and bounds of a column of a draft.
+-- The type and bounds of a column of a draft.
 use Rattle.std.specs.Prelude.{ℕ, Bool, List}
 pub use Rattle.mpslp_model_core.specs.Columns.{zero_limit, one_limit}
 use Rattle.mpslp_model_core.specs.Columns.{no_side_declared, upper_by_default, declared_lower, declared_upper, declared_kind, declared_column, is_negative_upper, are_crossed_bounds, are_no_binary_bounds, are_no_semi_bounds}

@@ -1,4 +1,4 @@
--- What tables tell by numbers, and what a call leaves of them.
+-- What tables state by number, and what each call changes in them.
 use Rattle.std.specs.Prelude.{◌≡◌, ℕ, zero, suc, Bool, true, false, ◌&&◌, List, [], ◌∷◌, ◌++◌, Option, None, Some, slice_get, Result, Ok, Err}
 use Rattle.std.specs.Option.{option_map, option_map_or}
 use Rattle.std.specs.Global.{Vec}
@@ -20,7 +20,7 @@ use Rattle.mpslp_builder.specs.declared.tables.RowRef.{RowRef}
 use Rattle.mpslp_builder.specs.declared.tables.RowRef.TheVariants.{Objective, Row}
 use Rattle.mpslp_builder.specs.declared.tables.Tables.{Tables}
 
--- ---- what stands at a number
+-- ---- rows and columns by number
 
 abbrev pub row_key_of : RowRef → ℕ
 row_key_of Objective = zero
@@ -36,12 +36,12 @@ row_name t = name_of_row_key t.objective t.rows.entries
 abbrev pub column_name : Tables → ℕ → Option (List ℕ)
 column_name t i = option_map (λ e. bytes e.0) (slice_get t.columns.entries i)
 
--- what the objective tells, or the row of an index
+-- whether the objective, or the row at an index, passes its test
 abbrev pub row_tells : Tables → RowRef → (ObjectiveParts → Bool) → (RowParts → Bool) → Bool
 row_tells t Objective of_objective of_row = option_map_or of_objective t.objective false
 row_tells t (Row i) of_objective of_row = option_map_or (λ e. of_row e.1) (slice_get t.rows.entries i) false
 
--- what the column of a number tells
+-- whether the column of a number passes a test
 abbrev pub column_tells : Tables → ℕ → (ColumnParts → Bool) → Bool
 column_tells t i test = option_map_or (λ e. test e.1) (slice_get t.columns.entries i) false
 
@@ -49,14 +49,14 @@ column_tells t i test = option_map_or (λ e. test e.1) (slice_get t.columns.entr
 abbrev pub cells_at : Tables → ℕ → List (ℕ × Number)
 cells_at t i = option_map_or (λ e. cells_of e.1) (slice_get t.columns.entries i) []
 
--- what is answered where something is found or refused
+-- success if something is found, otherwise the error
 abbrev pub answer_of : {X : Type 0} → Result X BuildFault → Answer
 answer_of (Ok found) = Ok tt
 answer_of (Err fault) = Err fault
 
--- ---- what is known of all tables
+-- ---- properties of all tables
 
--- no name of a row stands twice, and none of a column
+-- no two rows have the same name, and no two columns
 pub record IsOnceEach (t : Tables) : Type 0 where
   pub rows : IsOnce (each_part bytes definition_of t.rows.entries)
   pub columns : IsOnce (cells_by_name t.columns.entries)
@@ -66,65 +66,65 @@ pub record IsEmptyTables (t : Tables) : Type 0 where
   pub rows : t.rows.entries ≡ []
   pub columns : t.columns.entries ≡ []
 
--- ---- what a call leaves
+-- ---- changes
 
--- nothing that is declared has changed
+-- no declaration has changed
 pub record IsSameTables (old new : Tables) : Type 0 where
   pub objective : new.objective ≡ old.objective
   pub rows : new.rows.entries ≡ old.rows.entries
   pub columns : new.columns.entries ≡ old.columns.entries
 
--- the objective is this
+-- only the objective is changed, to these parts
 pub record HasObjective (old : Tables) (parts : ObjectiveParts) (new : Tables) : Type 0 where
   pub objective : new.objective ≡ Some parts
   pub rows : new.rows.entries ≡ old.rows.entries
   pub columns : new.columns.entries ≡ old.columns.entries
 
--- one row more
+-- one more row
 pub record HasRowAdded (old : Tables) (name : Vec ℕ) (parts : RowParts) (new : Tables) : Type 0 where
   pub objective : new.objective ≡ old.objective
   pub rows : new.rows.entries ≡ old.rows.entries ++ (name, parts) ∷ []
   pub columns : new.columns.entries ≡ old.columns.entries
 
--- the row of an index is this
+-- only the row at an index is changed, to these parts
 pub record HasRowWritten (old : Tables) (i : ℕ) (parts : RowParts) (new : Tables) : Type 0 where
   pub objective : new.objective ≡ old.objective
   pub rows : new.rows.entries ≡ set_value_at old.rows.entries i parts
   pub columns : new.columns.entries ≡ old.columns.entries
 
--- one column more
+-- one more column
 pub record HasColumnAdded (old : Tables) (name : Vec ℕ) (parts : ColumnParts) (new : Tables) : Type 0 where
   pub objective : new.objective ≡ old.objective
   pub rows : new.rows.entries ≡ old.rows.entries
   pub columns : new.columns.entries ≡ old.columns.entries ++ (name, parts) ∷ []
 
--- the column of a number is this
+-- only the column of a number is changed, to these parts
 pub record HasColumnWritten (old : Tables) (i : ℕ) (parts : ColumnParts) (new : Tables) : Type 0 where
   pub objective : new.objective ≡ old.objective
   pub rows : new.rows.entries ≡ old.rows.entries
   pub columns : new.columns.entries ≡ set_value_at old.columns.entries i parts
 
--- the column of a number, changed so
+-- only the column of a number is changed, in this way
 pub record HasColumnChanged (old : Tables) (i : ℕ) (change : ColumnParts → ColumnParts) (new : Tables) : Type 0 where
   pub key : Vec ℕ
   pub parts : ColumnParts
   pub was : slice_get old.columns.entries i ≡ Some (key, parts)
   pub written : HasColumnWritten old i (change parts) new
 
--- the row of an index, changed so
+-- only the row at an index is changed, in this way
 pub record HasRowChanged (old : Tables) (i : ℕ) (change : RowParts → RowParts) (new : Tables) : Type 0 where
   pub key : Vec ℕ
   pub parts : RowParts
   pub was : slice_get old.rows.entries i ≡ Some (key, parts)
   pub written : HasRowWritten old i (change parts) new
 
--- the objective, changed so
+-- only the objective is changed, in this way
 pub record HasObjectiveChanged (old : Tables) (change : ObjectiveParts → ObjectiveParts) (new : Tables) : Type 0 where
   pub parts : ObjectiveParts
   pub was : old.objective ≡ Some parts
   pub written : HasObjective old (change parts) new
 
--- a right side is put
+-- a right-hand side is stored
 abbrev pub HasRhsPut : Tables → RowRef → Number → Tables → Type 0
 HasRhsPut old Objective value new = HasObjectiveChanged old (λ o. record o { rhs = Some value }) new
 HasRhsPut old (Row i) value new = HasRowChanged old i (λ row. record row { rhs = Some value }) new
@@ -132,6 +132,6 @@ HasRhsPut old (Row i) value new = HasRowChanged old i (λ row. record row { rhs 
 abbrev pub with_cell : ℕ → Number → ColumnParts → ColumnParts
 with_cell row value column = record column { cells = put nat_cmp row value column.cells }
 
--- each coefficient is of a row, or the objective, and a column that are declared
+-- the row (or objective) and the column of each coefficient are declared
 abbrev pub CoefficientsAreKnown : Draft → Type 0
 CoefficientsAreKnown all = (key : CoefficientKey) → has_coefficient all key ≡ true → (has_row all key.row && has_column all key.column) ≡ true

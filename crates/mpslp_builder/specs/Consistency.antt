@@ -1,4 +1,4 @@
--- Which declarations go together, in whatever order they are made.
+-- Which declarations are consistent, regardless of their order.
 use Rattle.std.specs.Prelude.{ℕ, Bool, true, false, ◌&&◌, ◌||◌, not, IsTrue, List, [], ◌∷◌, ◌++◌, is_some, if◌then◌else◌}
 use Rattle.std.specs.List.{list_any, list_all}
 use Rattle.std.specs.Option.{option_map_or}
@@ -9,7 +9,7 @@ use Rattle.mpslp_builder.specs.Declaration.{Declaration, declare_sense, declare_
 use Rattle.mpslp_model_core.specs.Lists.{are_distinct}
 use Rattle.mpslp_types.specs.Limit.{is_plus_infinite, is_minus_infinite}
 
--- what only one declaration may fill: columns and their kinds may be declared again, all else may not
+-- what at most one declaration may fill; only columns and their types may be declared repeatedly
 pub data Slot : Type 0 where
   sense_slot : Slot
   objective_slot : Slot
@@ -33,8 +33,8 @@ same_slot (lower_slot a) (lower_slot b) = same_bytes a b
 same_slot (upper_slot a) (upper_slot b) = same_bytes a b
 same_slot _ _ = false
 
--- the slots that a declaration fills. No row has the objective's name, and a row by its limits has no right side and
--- no range to be declared
+-- the slots that a declaration fills. The objective and a row cannot share a name, and no right-hand side or range can be
+-- declared for a row by limits
 abbrev pub slots_of : Declaration → List Slot
 slots_of (declare_sense _) = sense_slot ∷ []
 slots_of (declare_objective name) = objective_slot ∷ row_slot name ∷ []
@@ -51,7 +51,7 @@ abbrev pub all_slots : Declarations → List Slot
 all_slots [] = []
 all_slots (declaration ∷ more) = slots_of declaration ++ all_slots more
 
--- what a declaration names is declared
+-- the names that a declaration uses are declared
 abbrev pub is_known : Draft → Declaration → Bool
 is_known all (declare_rhs row _) = has_row all row
 is_known all (declare_range row _) = has_row all row
@@ -64,8 +64,8 @@ is_known all (declare_binary column) = has_column all column
 is_known all (declare_semi column) = has_column all column
 is_known all _ = true
 
--- no range on the objective or on a row of type N, none of infinite size, no side that no value meets, and no column that
--- is both integer and semi-continuous
+-- no range on the objective or on a row of type N, no range of infinite magnitude, no limit or bound that no value meets, and
+-- no column that is both integer and semi-continuous
 abbrev pub is_allowed : Draft → Declaration → Bool
 is_allowed all (declare_row name definition) = not (have_infinite_side definition)
 is_allowed all (declare_range row value) = not (is_objective all row || is_free_row all row) && not (is_infinite_size value)
@@ -77,11 +77,11 @@ is_allowed all (declare_binary column) = not (is_semi all column)
 is_allowed all (declare_semi column) = not (is_integer all column)
 is_allowed all _ = true
 
--- the objective has a right side, which is a constant too
+-- the objective has a right-hand side, which is its negated constant
 abbrev pub has_objective_rhs : Draft → Bool
 has_objective_rhs all = option_map_or (has_name all.rhs_values) all.objective false
 
--- the constant is declared, or the objective has a right side: not both
+-- the constant is declared, or the objective has a right-hand side, but not both
 abbrev pub has_one_constant : Draft → Bool
 has_one_constant all = not (is_some all.constant && has_objective_rhs all)
 
@@ -92,7 +92,7 @@ declares_objective _ = false
 abbrev pub has_objective : Declarations → Bool
 has_objective declarations = list_any declares_objective declarations
 
--- Each slot is filled once at most, the objective's is filled, and all that is named is declared somewhere.
+-- Each slot is filled at most once, the objective's slot is filled, and every name that is used is declared somewhere.
 pub record AreConsistent (declarations : Declarations) : Type 0 where
   pub objective : IsTrue (has_objective declarations)
   pub once : IsTrue (are_distinct same_slot (all_slots declarations))

@@ -9,8 +9,8 @@ pub use Rattle.mpslp_model_core.specs.Limits.{RowDefinition, by_type, by_limits,
 use Rattle.mpslp_types.specs.declared.kinds.Sense.{Sense}
 use Rattle.mpslp_types.specs.declared.kinds.Limit.{Limit}
 
--- A right side of the objective is the negative of its constant. `marked` is said of a column in an integer part of
--- an MPS file, `semi` of a semi-continuous one: it is 0 or lies within its bounds.
+-- A right-hand side of the objective is its negated constant. `marked` applies to a column in an integer block of an MPS
+-- file, `semi` to a semi-continuous column, which is 0 or within its bounds.
 pub data Declaration : Type 0 where
   declare_sense : Sense → Declaration
   declare_objective : List ℕ → Declaration
@@ -27,11 +27,11 @@ pub data Declaration : Type 0 where
   declare_binary : List ℕ → Declaration
   declare_semi : List ℕ → Declaration
 
--- One that is made twice stands twice.
+-- Repeated declarations are listed each time.
 abbrev pub Declarations : Type 0
 Declarations = List Declaration
 
--- What has been declared, in whatever order: each map by its entries in the order of its keys.
+-- What has been declared, in any order. Each map is the list of its entries in the order of their keys.
 pub record Draft : Type 0 where
   pub sense : Option Sense
   pub objective : Option (List ℕ)
@@ -66,7 +66,8 @@ empty_draft = record {
   semis = [];
 }
 
--- the draft with one more declaration; of two at one key the later one stays, but no two are consistent
+-- the draft with one more declaration. Of two with the same key the later one replaces the earlier, but then they are not
+-- consistent
 abbrev pub with_declaration : Draft → Declaration → Draft
 with_declaration all (declare_sense sense) = record all { sense = Some sense }
 with_declaration all (declare_objective name) = record all { objective = Some name }
@@ -90,7 +91,7 @@ with_declarations all (declaration ∷ more) = with_declarations (with_declarati
 abbrev pub draft_of : Declarations → Draft
 draft_of declarations = with_declarations empty_draft declarations
 
--- ---- what a draft says of a name
+-- ---- what is declared for a name
 
 abbrev pub at_name : {X : Type 0} → List (List ℕ × X) → List ℕ → Option X
 at_name entries name = find bytes_cmp name entries
@@ -104,14 +105,14 @@ names_in entries = map (λ entry. entry.0) entries
 abbrev pub is_objective : Draft → List ℕ → Bool
 is_objective all name = option_map_or (same_bytes name) all.objective false
 
--- whether a row of this name is declared; the objective is one
+-- whether a row, or the objective, has this name
 abbrev pub has_row : Draft → List ℕ → Bool
 has_row all name = is_objective all name || has_name all.rows name
 
 abbrev pub has_column : Draft → List ℕ → Bool
 has_column all name = has_name all.columns name
 
--- whether a coefficient is declared there, 0 or not
+-- whether this coefficient is declared, even as 0
 abbrev pub has_coefficient : Draft → CoefficientKey → Bool
 has_coefficient all key = is_some (find key_cmp key all.coefficients)
 
@@ -127,13 +128,13 @@ is_free_row all name = option_map_or is_free_definition (at_name all.rows name) 
 abbrev pub is_row_by_limits : Draft → List ℕ → Bool
 is_row_by_limits all name = option_map_or is_definition_by_limits (at_name all.rows name) false
 
--- ---- what declares by cases
+-- ---- declarations that depend on the case
 
--- a right side: of a row of type N nothing, however often it is given
+-- a right-hand side; on a row of type N it declares nothing and may be repeated
 abbrev pub rhs_declared : Draft → List ℕ → Number → Declarations
 rhs_declared all row value = if is_free_row all row then [] else declare_rhs row value ∷ []
 
--- the sides of a column that are given, both, one or none
+-- the given bounds of a column: both, one or none
 abbrev pub bounds_declared : List ℕ → Option Limit → Option Limit → Declarations
 bounds_declared column lower upper =
     option_map_or (λ side. declare_lower column side ∷ []) lower [] ++ option_map_or (λ side. declare_upper column side ∷ []) upper []

@@ -1,4 +1,4 @@
--- What is found wrong with tables as a whole: what it is, and where.
+-- The whole-file error of tables: its kind and its place.
 use Rattle.std.specs.Prelude.{◌≡◌, ℕ, ◌<◌, Bool, true, List, [], ◌∷◌, length, Option, Some, None, slice_get, unwrap_or, if◌then◌else◌}
 use Rattle.std.specs.Option.{option_map}
 use Rattle.std.specs.Global.{Vec}
@@ -22,7 +22,7 @@ use Rattle.mpslp_builder.specs.declared.tables.Tables.{Tables}
 use Rattle.mpslp_builder.specs.declared.tables.file_faults.FoundFault.{FoundFault}
 use Rattle.mpslp_builder.specs.declared.tables.file_faults.FoundFault.TheVariants as found
 
--- ---- what is wrong with a row, or a column, by what is declared of it
+-- ---- the errors of a row or a column, from what is declared of it
 
 abbrev pub row_fails : RowFault → RowParts → Bool
 row_fails fault row = row_test fault (definition_of row) (unwrap_or (rhs_of row) zero_number) (range_of row)
@@ -38,17 +38,17 @@ is_wrong_column column = are_faulty_bounds (declared_in column)
 
 -- ---- the least name
 
--- the lesser of two names, where the second may be missing
+-- the lesser of two names; the second is optional
 abbrev pub lesser : List ℕ → Option (List ℕ) → List ℕ
 lesser name None = name
 lesser name (Some other) = if is_lt (bytes_cmp name other) then name else other
 
--- whether it is the first of them
+-- whether the first name is the lesser
 abbrev pub is_below : List ℕ → Option (List ℕ) → Bool
 is_below name None = true
 is_below name (Some other) = is_lt (bytes_cmp name other)
 
--- the least name of the entries that pass a test, in whatever order they stand
+-- the least name of the entries that pass a test; the entries may be in any order
 abbrev pub least_name : {V : Type 0} → (V → Bool) → List (Vec ℕ × V) → Option (List ℕ)
 least_name test [] = None
 least_name test (e ∷ es) = if test e.1 then Some (lesser (bytes e.0) (least_name test es)) else least_name test es
@@ -57,9 +57,9 @@ least_name test (e ∷ es) = if test e.1 then Some (lesser (bytes e.0) (least_na
 abbrev pub entry_name : {V : Type 0} → List (Vec ℕ × V) → ℕ → Option (List ℕ)
 entry_name es i = option_map (λ e. bytes e.0) (slice_get es i)
 
--- ---- what is found
+-- ---- the error that is found
 
--- a kind of fault, told of its least name
+-- an error of a kind, reported for the least name that has it
 abbrev pub named_fault : Draft → FaultKind → Option Fault
 named_fault all kind = option_map (λ name. whole_fault kind (Some name)) (head_of (names_with all kind))
 
@@ -68,13 +68,13 @@ fault_found t found.NoColumns = whole_fault kinds.NoColumns None
 fault_found t (found.Row fault i) = whole_fault (kind_of_row_fault fault) (entry_name t.rows.entries i)
 fault_found t (found.Column fault j) = whole_fault (kind_of_column_fault fault) (entry_name t.columns.entries j)
 
--- the row or the column of this index is there
+-- the tables have a row, or a column, at this index
 abbrev pub IsThere : Tables → FoundFault → Type 0
 IsThere t found.NoColumns = Unit {0}
 IsThere t (found.Row fault i) = i < length t.rows.entries
 IsThere t (found.Column fault j) = j < length t.columns.entries
 
--- what stands at an index has a legal name
+-- the entries at all indices have legal names
 pub record HaveLegalNames (t : Tables) : Type 0 where
   pub rows : (i : ℕ) (name : List ℕ) → entry_name t.rows.entries i ≡ Some name → IsMpsName name
   pub columns : (i : ℕ) (name : List ℕ) → entry_name t.columns.entries i ≡ Some name → IsMpsName name

@@ -8,7 +8,7 @@ pub mod Meaning
 pub mod Answer
 pub mod Finish
 pub mod Laws
--- ---- what the code keeps
+-- ---- what the code stores
 pub mod Tables
 pub mod Calls
 pub mod FaultFound

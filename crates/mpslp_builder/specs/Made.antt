@@ -11,7 +11,7 @@ abbrev pub are_given : RowDefinition → Bool
 are_given (by_type type) = true
 are_given (by_limits lower upper) = is_given lower && is_given upper
 
--- what is declared anew has a legal name, and values are decimals. No other declaration comes of a file or a call
+-- new names are legal, and values are decimals. Files and calls make only such declarations
 abbrev pub is_legal : Declaration → Bool
 is_legal (declare_sense _) = true
 is_legal (declare_objective name) = is_mps_name name
@@ -25,7 +25,7 @@ is_legal (declare_lower column limit) = is_given limit
 is_legal (declare_upper column limit) = is_given limit
 is_legal _ = true
 
--- Legal declarations make the draft, one after another, and none of them is refused.
+-- Legal declarations make the draft, one after another, and none of them is rejected.
 pub record IsMade (all : Draft) : Type 0 where
   pub declarations : Declarations
   pub legal : IsTrue (list_all is_legal declarations)

@@ -1,4 +1,4 @@
--- The model that declarations mean, and the faults of the whole file.
+-- The model that declarations mean, and the whole-file errors.
 use Rattle.std.specs.Prelude.{◌≡◌, ℕ, Bool, not, IsTrue, List, [], ◌∷◌, map, filter, filter_map, Option, Some, None, is_some, unwrap_or, if◌then◌else◌}
 use Rattle.std.specs.Option.{option_map}
 use Rattle.std.specs.FinMap as maps
@@ -21,18 +21,18 @@ use Rattle.mpslp_types.specs.declared.faults.FaultKind.TheVariants.{NoColumns, I
 abbrev pub objective_name : Draft → List ℕ
 objective_name all = unwrap_or all.objective []
 
--- the constant, or the negated right side of the objective, or 0
+-- the constant, or the negated right-hand side of the objective, or 0
 abbrev pub constant_of : Draft → Number
 constant_of all = unwrap_or all.constant (negated (unwrap_or (at_name all.rhs_values (objective_name all)) zero_number))
 
 abbrev pub rhs_or_zero : Draft → List ℕ → Number
 rhs_or_zero all name = unwrap_or (at_name all.rhs_values name) zero_number
 
--- the limits of a row, where they are decimals
+-- the limits of a row, if they are decimals
 abbrev pub row_limits : Draft → List ℕ × RowDefinition → Option Row
 row_limits all row = limits_of row.1 (rhs_or_zero all row.0) (at_name all.ranges row.0)
 
--- a row whose limits are no decimals is in no model: what stands here for it is of no account
+-- a row whose limits are not decimals is in no model, so its value here does not matter
 abbrev pub row_entry : Draft → List ℕ × RowDefinition → List ℕ × Row
 row_entry all row = (row.0, unwrap_or (row_limits all row) (plain_limits Free zero_number))
 
@@ -46,9 +46,9 @@ model_of all = record {
   coefficients = maps.from_sorted (filter (λ entry. not (is_zero entry.1)) all.coefficients);
 }
 
--- ---- the faults of the whole file
+-- ---- whole-file errors
 
--- a test of a row's form, right side and range
+-- a test of a row's definition, right-hand side and range
 abbrev pub row_passes : Draft → (RowDefinition → Number → Option Number → Bool) → List ℕ × RowDefinition → Bool
 row_passes all test row = test row.1 (rhs_or_zero all row.0) (at_name all.ranges row.0)
 
@@ -59,7 +59,7 @@ rows_where all test = names_in (filter (row_passes all test) all.rows)
 abbrev pub columns_where : Draft → (Draft → List ℕ → Bool) → List (List ℕ)
 columns_where all test = filter (test all) (names_in all.columns)
 
--- the rows or columns that have a kind of fault
+-- the rows or columns that have an error of this kind
 abbrev pub names_with : Draft → FaultKind → List (List ℕ)
 names_with all InfiniteLimit = rows_where all has_infinite_rhs
 names_with all RangeInexact = rows_where all (λ definition b r. is_inexact (limits_of definition b r))
@@ -71,26 +71,26 @@ names_with all BinaryBounds = columns_where all has_binary_bounds
 names_with all SemiBounds = columns_where all has_semi_bounds
 names_with all _ = []
 
--- the kinds that are told of a row or a column, in the order of kinds
+-- the kinds that name a row or a column, in the order of kinds
 abbrev pub named_kinds : List FaultKind
 named_kinds = InfiniteLimit ∷ RangeInexact ∷ LimitTooLarge ∷ LimitsCrossed ∷ NegativeUpper ∷ BoundsCrossed ∷ BinaryBounds ∷ SemiBounds ∷ []
 
--- a fault of the whole file stands on no line, which is said by line 0
+-- a whole-file error has no line, which is represented by line 0
 abbrev pub whole_fault : FaultKind → Option (List ℕ) → Fault
 whole_fault kind name = record { kind = kind; line = 0; name = name }
 
--- each kind that there is, told of its least name
+-- one error of each kind that occurs, with the least name that has it
 abbrev pub named_faults : Draft → List Fault
 named_faults all = filter_map (λ kind. option_map (λ name. whole_fault kind (Some name)) (head_of (names_with all kind))) named_kinds
 
--- the fault of the whole, if there is one: the first kind, with its least name
+-- the whole-file error, if there is one: the first kind, with its least name
 abbrev pub file_fault : Draft → Option Fault
 file_fault all = if is_nonempty all.columns then head_of (named_faults all) else Some (whole_fault NoColumns None)
 
 -- ---- the meaning
 
--- A draft means a model: its rows have finite right sides where they need them, and limits that are decimals; the
--- model is sound; an upper bound below 0 has a declared lower bound, and binary columns lie within 0 and 1.
+-- A draft means a model: no row has the error `InfiniteLimit`; all limits are decimals; the model is well-formed; each upper
+-- bound below 0 has a declared lower bound; binary columns have bounds within 0 and 1.
 pub record DraftMeans (all : Draft) (m : LinearModel) : Type 0 where
   pub finite_rhs_values : IsTrue (list_all (λ row. not (row_passes all has_infinite_rhs row)) all.rows)
   pub exact_limits : IsTrue (list_all (λ row. is_some (row_limits all row)) all.rows)

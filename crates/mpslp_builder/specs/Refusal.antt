@@ -1,4 +1,4 @@
--- When a declaration is refused after those made before it.
+-- When a declaration is rejected, given the declarations before it.
 use Rattle.std.specs.Prelude.{ℕ, Bool, false, ◌&&◌, ◌||◌, not, List, [], ◌∷◌, ◌++◌, Option, is_some}
 use Rattle.std.specs.Option.{option_map_or}
 use Rattle.mpslp_decimal.specs.Decimal.{is_infinite_size}
@@ -11,36 +11,36 @@ use Rattle.mpslp_types.specs.declared.kinds.Limit.{Limit}
 use Rattle.mpslp_types.specs.declared.faults.BuildFault.{BuildFault}
 use Rattle.mpslp_types.specs.declared.faults.BuildFault.TheVariants.{DuplicateSense, SecondObjective, UnknownRow, UnknownColumn, DuplicateRow, DuplicateEntry, DuplicateRhs, DuplicateRange, DuplicateBound, RangeOnFree, SemiContinuous, InfiniteValue}
 
--- a constant, or a right side of the objective
+-- a constant, or a right-hand side of the objective
 abbrev pub has_constant : Draft → Bool
 has_constant all = is_some all.constant || has_objective_rhs all
 
--- ---- the faults of a declaration after those made before it, each with its test, in the order in which they are told
+-- ---- the errors of a declaration, each with its test, in the order in which they are reported
 
--- whatever sense is declared
+-- for either sense
 abbrev pub sense_tests : Draft → List (Bool × BuildFault)
 sense_tests all = (is_some all.sense, DuplicateSense) ∷ []
 
--- whatever the value is
+-- for any value
 abbrev pub constant_tests : Draft → List (Bool × BuildFault)
 constant_tests all = (has_constant all, DuplicateRhs) ∷ []
 
--- of a row by its type, whichever it is
+-- for a row of any type
 abbrev pub row_tests : Draft → List ℕ → List (Bool × BuildFault)
 row_tests all name = (has_row all name, DuplicateRow) ∷ []
 
--- whatever the value is
+-- for any value
 abbrev pub rhs_tests : Draft → List ℕ → List (Bool × BuildFault)
 rhs_tests all row =
     (not (has_row all row), UnknownRow)
     ∷ (has_name all.rhs_values row || (is_row_by_limits all row || (is_objective all row && is_some all.constant)), DuplicateRhs) ∷ []
 
--- whatever the value is
+-- for any value
 abbrev pub coefficient_tests : Draft → CoefficientKey → List (Bool × BuildFault)
 coefficient_tests all key =
     (not (has_row all key.row), UnknownRow) ∷ (not (has_column all key.column), UnknownColumn) ∷ (has_coefficient all key, DuplicateEntry) ∷ []
 
--- of a column that is declared to be marked, integer or binary
+-- for a column that is declared marked, integer or binary
 abbrev pub integer_tests : Draft → List ℕ → List (Bool × BuildFault)
 integer_tests all column = (not (has_column all column), UnknownColumn) ∷ (is_semi all column, SemiContinuous) ∷ []
 
@@ -68,12 +68,12 @@ refusal_tests all (declare_integer column) = integer_tests all column
 refusal_tests all (declare_binary column) = integer_tests all column
 refusal_tests all (declare_semi column) = semi_tests all column
 
--- the refusals of a declaration, the first one first
+-- the errors of a declaration, in order
 abbrev pub refusals : Draft → Declaration → List BuildFault
 refusals all declaration = those_of (refusal_tests all declaration)
 
--- the refusals of several, each after all before it. A declaration counts as made also where it is refused: so a
--- second range of a row is a duplicate whatever the first one's fault is
+-- the errors of several declarations in turn. A rejected declaration still counts: a second range of a row is a duplicate,
+-- whatever the error of the first
 abbrev pub refusals_in_turn : Draft → Declarations → List BuildFault
 refusals_in_turn before [] = []
 refusals_in_turn before (declaration ∷ more) = refusals before declaration ++ refusals_in_turn (with_declaration before declaration) more
@@ -86,6 +86,6 @@ bounds_tests all column lower upper =
     ∷ ((is_some lower && has_name all.lowers column) || (is_some upper && has_name all.uppers column), DuplicateBound)
     ∷ (option_map_or is_plus_infinite lower false || option_map_or is_minus_infinite upper false, InfiniteValue) ∷ []
 
--- the refusals of the sides that are given, over both
+-- the errors of the given bounds; each is checked for both bounds before the next
 abbrev pub bounds_refusals : Draft → List ℕ → Option Limit → Option Limit → List BuildFault
 bounds_refusals all column lower upper = those_of (bounds_tests all column lower upper)

@@ -1,4 +1,4 @@
--- What tables of numbered names say: the draft that they stand for.
+-- The draft that tables of numbered names represent.
 use Rattle.std.specs.Prelude.{◌≡◌, ◌<◌, ℕ, true, List, [], ◌∷◌, ◌++◌, Option, length}
 use Rattle.std.specs.Option.{option_map, option_map_or}
 use Rattle.std.specs.Global.{Vec}
@@ -19,11 +19,11 @@ use Rattle.mpslp_builder.specs.declared.tables.Tables.{Tables}
 abbrev pub name_of_objective : Option ObjectiveParts → Option (List ℕ)
 name_of_objective objective = option_map (λ o. o.name) objective
 
--- the right side of the objective, which stands in front of those of rows
+-- the right-hand side of the objective, which comes before those of the rows
 abbrev pub objective_rhs : Option ObjectiveParts → List (List ℕ × Number)
 objective_rhs objective = option_map_or (λ o. option_map_or (λ value. (o.name, value) ∷ []) o.rhs []) objective []
 
--- the name of the row of a number
+-- the name of the row, or of the objective, with a number
 abbrev pub name_of_row_key : Option ObjectiveParts → List (Vec ℕ × RowParts) → ℕ → Option (List ℕ)
 name_of_row_key objective rows = name_of bytes (name_of_objective objective) rows
 
@@ -52,9 +52,9 @@ draft_from sense constant objective rows columns = record {
 abbrev pub draft : Option Sense → Option Number → Tables → Draft
 draft sense constant t = draft_from sense constant t.objective t.rows.entries t.columns.entries
 
--- ---- what is known of all tables of a builder
+-- ---- properties of all tables of a builder
 
--- Rows are few enough for numbers of 32 bits, no two numbers have one name, and the number of each coefficient has one.
+-- The rows fit numbers of 32 bits, different numbers have different names, and the number of each coefficient has a name.
 pub record AreNumbered (objective : Option ObjectiveParts) (rows : List (Vec ℕ × RowParts)) (columns : List (Vec ℕ × ColumnParts)) : Type 0 where
   pub few : length rows < 4294967295
   pub apart : TellsApart (name_of_row_key objective rows)

@@ -1,4 +1,4 @@
-//! A builder, to which the parts of a model are declared in any order.
+//! The builder: the parts of a model are declared in any order.
 
 mod finish;
 
@@ -17,15 +17,14 @@ use mpslp_types::{BuildFault, Limit, Name, RowType, Sense};
 use std::alloc::Global;
 use std::marker::Model;
 
-/// The parts of a model, declared one by one and in any order in which each row and column is there before it is
-/// named. Contracts see what has been declared.
+/// A model in the making. Its parts are declared one by one, in any order in which rows and columns are declared before
+/// they are used. Contracts see what has been declared.
 ///
-/// A call that is refused answers the first of its refusals, in the order in which they are listed at the call, and
-/// the builder stays as it was. Only a call that has no refusal may answer
-/// [`OutOfMemory`](BuildFault::OutOfMemory), and then too the builder stays as it was.
+/// A call that is rejected returns the first error that applies, in the order in which the call lists them. Only a call
+/// without such an error may return [`OutOfMemory`](BuildFault::OutOfMemory). In both cases the builder is unchanged.
 ///
-/// Each call that has refusals has a question, as [`check_rhs`](Self::check_rhs) of [`rhs`](Self::rhs): it tells the first
-/// of them, takes no memory, and changes nothing.
+/// Each declaring call has a query, such as [`check_rhs`](Self::check_rhs) for [`rhs`](Self::rhs). It returns the error
+/// that the call would return, allocates nothing and changes nothing.
 #[derive(Debug, Drop)]
 pub struct Builder {
     pub(crate) alloc: Global,
@@ -48,7 +47,7 @@ impl Model for Builder {
 }
 
 impl Builder {
-    /// A builder to which nothing is declared.
+    /// A builder without declarations.
     pub fn new(alloc: Global) -> Builder
         ensures { result ≡ empty_draft }
     {
@@ -64,7 +63,7 @@ impl Builder {
     ///
     /// # Errors
     ///
-    /// `DuplicateSense` where the sense is declared already. This call takes no memory.
+    /// `DuplicateSense` if the sense is already declared. This call allocates nothing.
     pub fn sense(&mut self, sense: Sense) -> Result<(), BuildFault>
         ensures answers { Answers (refusals self.old (declare_sense sense)) result (self.new ≡ with_declaration self.old (declare_sense sense)) (self.new ≡ self.old) }
         ensures memory { IsNotOutOfMemory result }
@@ -74,11 +73,12 @@ impl Builder {
         Ok(())
     }
 
-    /// Names the objective. No row has its name.
+    /// Names the objective. No row may have the same name.
     ///
     /// # Errors
     ///
-    /// `SecondObjective` where the objective has a name, `DuplicateRow` where a row has this one. The name is dropped then. This call takes no memory.
+    /// `SecondObjective` if the objective already has a name, `DuplicateRow` if a row has this one. The name is then dropped.
+    /// This call allocates nothing.
     pub fn objective(&mut self, name: Name) -> Result<(), BuildFault>
         ensures answers { Answers (refusals self.old (declare_objective name)) result (self.new ≡ with_declaration self.old (declare_objective name)) (self.new ≡ self.old) }
         ensures memory { IsNotOutOfMemory result }
@@ -88,11 +88,12 @@ impl Builder {
         Ok(())
     }
 
-    /// Declares the constant of the objective. It is 0 if none is declared, also as a [right side](Self::rhs).
+    /// Declares the constant of the objective. It is 0 if it is declared neither here nor as a [right-hand side](Self::rhs).
     ///
     /// # Errors
     ///
-    /// `DuplicateRhs` where the constant is declared already, as such or as a right side of the objective. This call takes no memory.
+    /// `DuplicateRhs` if the constant is already declared, here or as a right-hand side of the objective. This call allocates
+    /// nothing.
     pub fn constant(&mut self, value: Decimal) -> Result<(), BuildFault>
         ensures answers { Answers (refusals self.old (declare_constant value)) result (self.new ≡ with_declaration self.old (declare_constant value)) (self.new ≡ self.old) }
         ensures memory { IsNotOutOfMemory result }
@@ -103,12 +104,12 @@ impl Builder {
         Ok(())
     }
 
-    /// Declares a row by its type. Its right side is 0 if none is declared.
+    /// Declares a row by its type. Its right-hand side is 0 if none is declared.
     ///
     /// # Errors
     ///
-    /// `DuplicateRow` where a row or the objective has the name, `OutOfMemory`, also if there are 4,294,967,294 rows. The
-    /// name is dropped then.
+    /// `DuplicateRow` if a row or the objective has the name; `OutOfMemory`, also if there are already 4,294,967,294 rows. The
+    /// name is then dropped.
     pub fn row(&mut self, name: Name, row_type: RowType) -> Result<(), BuildFault>
         ensures { Answers (refusals self.old (declare_row name (by_type row_type))) result (self.new ≡ with_declaration self.old (declare_row name (by_type row_type))) (self.new ≡ self.old) }
     {
@@ -121,13 +122,13 @@ impl Builder {
         Ok(())
     }
 
-    /// Declares a row by its limits. A number among them is of size below 10^20. The row has no right side and no range to be
-    /// declared.
+    /// Declares a row by its limits. A finite limit must have a magnitude below 10^20. No right-hand side and no range can be
+    /// declared for this row.
     ///
     /// # Errors
     ///
-    /// `DuplicateRow` where a row or the objective has the name, `InfiniteValue` for a lower limit of plus infinity or an upper
-    /// one of minus infinity, `OutOfMemory`, also if there are 4,294,967,294 rows. The name is dropped then.
+    /// `DuplicateRow` if a row or the objective has the name; `InfiniteValue` if the lower limit is plus infinity or the upper
+    /// one is minus infinity; `OutOfMemory`, also if there are already 4,294,967,294 rows. The name is then dropped.
     pub fn row_limits(&mut self, name: Name, lower: Limit, upper: Limit) -> Result<(), BuildFault>
         requires lower { IsTrue (is_given lower) }
         requires upper { IsTrue (is_given upper) }
@@ -142,12 +143,13 @@ impl Builder {
         Ok(())
     }
 
-    /// Declares the right side of a row. On the objective it is the negative of the constant; on a row of type
-    /// [`Free`](RowType::Free) it declares nothing, however often it is given.
+    /// Declares the right-hand side of a row. For the objective it is the negated constant. For a row of type
+    /// [`Free`](RowType::Free) it declares nothing and may be repeated.
     ///
     /// # Errors
     ///
-    /// `UnknownRow` where neither a row nor the objective has the name, `DuplicateRhs` where the right side is declared already. This call takes no memory.
+    /// `UnknownRow` if neither a row nor the objective has the name, `DuplicateRhs` if the right-hand side is already declared.
+    /// This call allocates nothing.
     pub fn rhs(&mut self, row: &[u8], value: Decimal) -> Result<(), BuildFault>
         ensures answers { Answers (refusals self.old (declare_rhs row.now value)) result (self.new ≡ with_declarations self.old (rhs_declared self.old row.now value)) (self.new ≡ self.old) }
         ensures memory { IsNotOutOfMemory result }
@@ -161,13 +163,14 @@ impl Builder {
         Ok(())
     }
 
-    /// Declares the range value of a row: the row's other side lies so far from its right side. Which side, and in
-    /// which direction, hangs on the row's type and, on a row of type [`Equal`](RowType::Equal), on the sign.
+    /// Declares the range value of a row. Its magnitude is the distance between the row's other limit and its right-hand side.
+    /// The row's type determines the direction; for type [`Equal`](RowType::Equal) the sign of the value does.
     ///
     /// # Errors
     ///
-    /// `UnknownRow` where neither a row nor the objective has the name, `DuplicateRange` where the range is declared already, `RangeOnFree` on the objective or a row of type [`Free`](RowType::Free), `InfiniteValue` where
-    /// the size is 10^20 or more. This call takes no memory.
+    /// `UnknownRow` if neither a row nor the objective has the name, `DuplicateRange` if the range is already declared,
+    /// `RangeOnFree` for the objective or a row of type [`Free`](RowType::Free), `InfiniteValue` if the magnitude is 10^20 or
+    /// more. This call allocates nothing.
     pub fn range(&mut self, row: &[u8], value: Decimal) -> Result<(), BuildFault>
         ensures answers { Answers (refusals self.old (declare_range row.now value)) result (self.new ≡ with_declaration self.old (declare_range row.now value)) (self.new ≡ self.old) }
         ensures memory { IsNotOutOfMemory result }
@@ -178,11 +181,11 @@ impl Builder {
         Ok(())
     }
 
-    /// Declares a column. One that is declared already stays as it is.
+    /// Declares a column. If it is already declared, nothing changes.
     ///
     /// # Errors
     ///
-    /// `OutOfMemory` alone. The name is dropped then.
+    /// Only `OutOfMemory`. The name is then dropped.
     pub fn column(&mut self, name: Name) -> Result<(), BuildFault>
         ensures { Answers (refusals self.old (declare_column name)) result (self.new ≡ with_declaration self.old (declare_column name)) (self.new ≡ self.old) }
     {
@@ -193,12 +196,12 @@ impl Builder {
         Ok(())
     }
 
-    /// Declares a coefficient of a row, or of the objective. Zero is declared like any other number, and is no element of
-    /// the model.
+    /// Declares a coefficient of a row, or of the objective. A zero counts as a declaration, but it is not part of the model.
     ///
     /// # Errors
     ///
-    /// `UnknownRow` where neither a row nor the objective has the name, `UnknownColumn` where no column has the other name, `DuplicateEntry` where a coefficient is declared there, `OutOfMemory`.
+    /// `UnknownRow` if neither a row nor the objective has the name of the row, `UnknownColumn` if no column has that of the
+    /// column, `DuplicateEntry` if this coefficient is already declared, `OutOfMemory`.
     pub fn coefficient(
         &mut self,
         row: &[u8],
@@ -213,14 +216,16 @@ impl Builder {
         Ok(())
     }
 
-    /// Declares the sides of a column that are given: both, one or none. A number among them is of size below 10^20.
+    /// Declares the given bounds of a column: both, one or none. A finite bound must have a magnitude below 10^20.
     ///
-    /// If none is ever declared, the lower bound is 0. The upper one is then plus infinity, but 1 of a column that is
-    /// [marked](Self::marked) and has no side declared.
+    /// Without a declaration the lower bound is 0. The upper bound is then plus infinity, except that it is 1 if the column is
+    /// [marked](Self::marked) and has no declared bound at all.
     ///
     /// # Errors
     ///
-    /// Over both sides: `UnknownColumn` where no column has the name, `DuplicateBound` where a side that is given is declared already, `InfiniteValue` for a lower side of plus infinity or an upper one of minus infinity, `OutOfMemory`.
+    /// Each is checked for both bounds before the next: `UnknownColumn` if no column has the name, `DuplicateBound` if a given
+    /// bound is already declared, `InfiniteValue` if the lower bound is plus infinity or the upper one is minus infinity,
+    /// `OutOfMemory`.
     pub fn bounds(
         &mut self,
         column: &[u8],
@@ -236,12 +241,12 @@ impl Builder {
         Ok(())
     }
 
-    /// Declares that a column stands in an integer part of an MPS file. It takes whole numbers alone, and its upper
-    /// bound is 1 if no side is declared. It may be declared again.
+    /// Declares that a column is in an integer block of an MPS file. It is integer, and its upper bound is 1 if it has no
+    /// declared bound. The call may be repeated.
     ///
     /// # Errors
     ///
-    /// `UnknownColumn` where no column has the name, `SemiContinuous` where the column is semi-continuous. This call takes no memory.
+    /// `UnknownColumn` if no column has the name, `SemiContinuous` if the column is semi-continuous. This call allocates nothing.
     pub fn marked(&mut self, column: &[u8]) -> Result<(), BuildFault>
         ensures answers { Answers (refusals self.old (declare_marked column.now)) result (self.new ≡ with_declaration self.old (declare_marked column.now)) (self.new ≡ self.old) }
         ensures memory { IsNotOutOfMemory result }
@@ -251,11 +256,11 @@ impl Builder {
         Ok(())
     }
 
-    /// Declares that a column takes whole numbers alone. It may be declared again.
+    /// Declares that a column is integer. The call may be repeated.
     ///
     /// # Errors
     ///
-    /// `UnknownColumn` where no column has the name, `SemiContinuous` where the column is semi-continuous. This call takes no memory.
+    /// `UnknownColumn` if no column has the name, `SemiContinuous` if the column is semi-continuous. This call allocates nothing.
     pub fn integer(&mut self, column: &[u8]) -> Result<(), BuildFault>
         ensures answers { Answers (refusals self.old (declare_integer column.now)) result (self.new ≡ with_declaration self.old (declare_integer column.now)) (self.new ≡ self.old) }
         ensures memory { IsNotOutOfMemory result }
@@ -265,12 +270,12 @@ impl Builder {
         Ok(())
     }
 
-    /// Declares that a column takes 0 and 1 alone: its upper bound is 1 if none is declared, and its bounds lie within 0 and
-    /// 1. It may be declared again.
+    /// Declares that a column is binary: it is integer, its upper bound is 1 if none is declared, and its bounds must be within
+    /// 0 and 1. The call may be repeated.
     ///
     /// # Errors
     ///
-    /// `UnknownColumn` where no column has the name, `SemiContinuous` where the column is semi-continuous. This call takes no memory.
+    /// `UnknownColumn` if no column has the name, `SemiContinuous` if the column is semi-continuous. This call allocates nothing.
     pub fn binary(&mut self, column: &[u8]) -> Result<(), BuildFault>
         ensures answers { Answers (refusals self.old (declare_binary column.now)) result (self.new ≡ with_declaration self.old (declare_binary column.now)) (self.new ≡ self.old) }
         ensures memory { IsNotOutOfMemory result }
@@ -280,13 +285,13 @@ impl Builder {
         Ok(())
     }
 
-    /// Declares that a column is semi-continuous: it is 0 or lies within its bounds. Its upper bound has to be declared, finite
-    /// and above 0, in whatever order; its lower one is at least 0. It may be declared again.
+    /// Declares that a column is semi-continuous: it is 0 or within its bounds. Before or after this call its upper bound must be
+    /// declared, finite and above 0; its lower bound must be at least 0. The call may be repeated.
     ///
     /// # Errors
     ///
-    /// `UnknownColumn` where no column has the name, `SemiContinuous` where the column is [marked](Self::marked),
-    /// [integer](Self::integer) or [binary](Self::binary). This call takes no memory.
+    /// `UnknownColumn` if no column has the name, `SemiContinuous` if the column is [marked](Self::marked),
+    /// [integer](Self::integer) or [binary](Self::binary). This call allocates nothing.
     pub fn semi(&mut self, column: &[u8]) -> Result<(), BuildFault>
         ensures answers { Answers (refusals self.old (declare_semi column.now)) result (self.new ≡ with_declaration self.old (declare_semi column.now)) (self.new ≡ self.old) }
         ensures memory { IsNotOutOfMemory result }

@@ -1,4 +1,4 @@
-//! A builder of models: what is declared, by names, and when that is refused.
+//! The builder of models: what is declared, by names, and when a declaration is rejected.
 #![tactic(auto)]
 
 mod builder;

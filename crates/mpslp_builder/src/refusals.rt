@@ -1,7 +1,7 @@
-//! What a builder has declared, and by what a declaration would be refused.
+//! What a builder has declared, and with which error a declaration would be rejected.
 //!
-//! A question of the tables answers the number at which something may be declared, or the first refusal. So a call that
-//! declares asks once, and looks each name up once.
+//! A query of the tables returns the number at which something may be declared, or the first error. So a declaring call makes
+//! one query, which looks each name up once.
 
 ghost use Rattle.std.specs.Prelude.{◌≡◌, ◌&&◌, ◌||◌, IfOk, Some, None, false, suc, is_some};
 ghost use Rattle.std.specs.Option.{option_map_or};
@@ -20,7 +20,7 @@ use crate::tables::{RowRef, Tables};
 use mpslp_decimal::Decimal;
 use mpslp_types::{BuildFault, Limit};
 
-/// Answers the first fault whose test holds, if there is one.
+/// Returns the first error whose test is true, if there is one.
 fn refuse(tests: &[(bool, BuildFault)]) -> Result<(), BuildFault>
     ensures { result ≡ first_refusal (those_of tests.now) }
 {
@@ -32,7 +32,7 @@ fn refuse(tests: &[(bool, BuildFault)]) -> Result<(), BuildFault>
     Ok(())
 }
 
-/// Whether the lower side is plus infinity, or the upper one minus infinity.
+/// Whether the lower bound is plus infinity, or the upper one is minus infinity.
 fn have_infinite_side(lower: &Option<Limit>, upper: &Option<Limit>) -> bool
     ensures { result ≡ (option_map_or is_plus_infinite lower.now false || option_map_or is_minus_infinite upper.now false) }
 {
@@ -43,7 +43,7 @@ fn have_infinite_side(lower: &Option<Limit>, upper: &Option<Limit>) -> bool
     }
 }
 
-/// Whether no value meets the limits: the lower one is plus infinity, or the upper one minus infinity.
+/// Whether no value meets the limits: the lower one is plus infinity, or the upper one is minus infinity.
 fn have_infinite_limit(lower: &Limit, upper: &Limit) -> bool
     ensures { result ≡ have_infinite_side (by_limits lower.now upper.now) }
 {
@@ -54,7 +54,7 @@ fn have_infinite_limit(lower: &Limit, upper: &Limit) -> bool
     }
 }
 
-/// Where a coefficient stands, by numbers.
+/// The place of a coefficient, by numbers.
 #[derive(Clone, Copy)]
 pub(crate) struct CoefficientTarget {
     pub(crate) row: u32,
@@ -62,7 +62,7 @@ pub(crate) struct CoefficientTarget {
 }
 
 impl Tables {
-    /// Where this right side may be put.
+    /// The place where this right-hand side may be stored.
     pub(crate) fn rhs_target(
         &self,
         row: &[u8],
@@ -84,7 +84,7 @@ impl Tables {
         Ok(place)
     }
 
-    /// The index of the row whose range this may be.
+    /// The index of the row that may get this range.
     pub(crate) fn range_target(&self, row: &[u8], value: Decimal) -> Result<usize, BuildFault>
         requires { IsNumbered self.now }
         ensures place { IfOk result (λ i. row_name self.now (suc i) ≡ Some row.now) }
@@ -126,7 +126,7 @@ impl Tables {
         self.has_cell(number, place.number())
     }
 
-    /// Where this coefficient may be put.
+    /// The place where this coefficient may be stored.
     pub(crate) fn coefficient_target(
         &self,
         row: &[u8],
@@ -153,14 +153,14 @@ impl Tables {
         Ok(CoefficientTarget { row, column })
     }
 
-    /// Whether a side that is given is declared of the column of a number.
+    /// Whether the column of a number already has a declaration of a given bound.
     fn has_side(&self, column: usize, lower: &Option<Limit>, upper: &Option<Limit>) -> bool
         ensures { result ≡ ((is_some lower.now && column_tells self.now column (λ parts. is_some parts.sides.lower)) || (is_some upper.now && column_tells self.now column (λ parts. is_some parts.sides.upper))) }
     {
         (lower.is_some() && self.has_lower(column)) || (upper.is_some() && self.has_upper(column))
     }
 
-    /// The number of the column whose sides these may be.
+    /// The number of the column that may get these bounds.
     pub(crate) fn bounds_target(
         &self,
         column: &[u8],
@@ -184,7 +184,7 @@ impl Tables {
         Ok(number)
     }
 
-    /// The number of the column that may be declared to be marked, integer or binary.
+    /// The number of the column that may be declared marked, integer or binary.
     pub(crate) fn integer_target(&self, column: &[u8]) -> Result<usize, BuildFault>
         ensures number { IfOk result (λ i. column_name self.now i ≡ Some column.now) }
         ensures once { IsOnceEach self.now }
@@ -200,7 +200,7 @@ impl Tables {
         Ok(number)
     }
 
-    /// The number of the column that may be declared to be semi-continuous.
+    /// The number of the column that may be declared semi-continuous.
     pub(crate) fn semi_target(&self, column: &[u8]) -> Result<usize, BuildFault>
         ensures number { IfOk result (λ i. column_name self.now i ≡ Some column.now) }
         ensures once { IsOnceEach self.now }
@@ -218,35 +218,35 @@ impl Tables {
 }
 
 impl Builder {
-    /// Whether the objective has its name.
+    /// Whether the objective has been named.
     pub fn has_objective(&self) -> bool
         ensures { result ≡ is_some self.now.objective }
     {
         self.tables.has_objective()
     }
 
-    /// Whether the constant is declared, as such or by the right side of the objective.
+    /// Whether the constant is declared, as such or as the right-hand side of the objective.
     fn has_constant(&self) -> bool
         ensures { result ≡ has_constant self.now }
     {
         self.constant.is_some() || self.tables.has_objective_rhs()
     }
 
-    /// Whether a row of this name is declared; the objective counts.
+    /// Whether a row, or the objective, has this name.
     pub fn has_row(&self, name: &[u8]) -> bool
         ensures { result ≡ has_row self.now name.now }
     {
         self.tables.has_row(name)
     }
 
-    /// Whether a column of this name is declared.
+    /// Whether a column has this name.
     pub fn has_column(&self, name: &[u8]) -> bool
         ensures { result ≡ has_column self.now name.now }
     {
         self.tables.has_column(name)
     }
 
-    /// Whether a row of this name is declared by type N. The objective is not.
+    /// Whether a row of this name is declared with type N. The objective does not count.
     pub fn is_free_row(&self, name: &[u8]) -> bool
         ensures { result ≡ is_free_row self.now name.now }
     {
@@ -260,22 +260,22 @@ impl Builder {
         self.tables.has_coefficient(row, column)
     }
 
-    /// The refusal that [`sense`](Self::sense) would have now.
+    /// Returns the error that [`sense`](Self::sense) would return now.
     ///
     /// # Errors
     ///
-    /// `DuplicateSense`. No question here takes memory or answers `OutOfMemory`.
+    /// `DuplicateSense`. No query allocates or returns `OutOfMemory`.
     pub fn check_sense(&self) -> Result<(), BuildFault>
         ensures { result ≡ first_refusal (those_of (sense_tests self.now)) }
     {
         refuse(&[(self.sense.is_some(), BuildFault::DuplicateSense)])
     }
 
-    /// The refusal that [`objective`](Self::objective) would have now.
+    /// Returns the error that [`objective`](Self::objective) would return now.
     ///
     /// # Errors
     ///
-    /// `SecondObjective`, `DuplicateRow`, as of the call.
+    /// `SecondObjective`, `DuplicateRow`, as from the call.
     pub fn check_objective(&self, name: &[u8]) -> Result<(), BuildFault>
         ensures { result ≡ first_refusal (refusals self.now (declare_objective name.now)) }
     {
@@ -285,33 +285,33 @@ impl Builder {
         ])
     }
 
-    /// The refusal that [`constant`](Self::constant) would have now, of whatever value.
+    /// Returns the error that [`constant`](Self::constant) would return now, whatever the value.
     ///
     /// # Errors
     ///
-    /// `DuplicateRhs`, as of the call.
+    /// `DuplicateRhs`, as from the call.
     pub fn check_constant(&self) -> Result<(), BuildFault>
         ensures { result ≡ first_refusal (those_of (constant_tests self.now)) }
     {
         refuse(&[(self.has_constant(), BuildFault::DuplicateRhs)])
     }
 
-    /// The refusal that [`row`](Self::row) would have now, of whatever type the row is.
+    /// Returns the error that [`row`](Self::row) would return now, whatever the type.
     ///
     /// # Errors
     ///
-    /// `DuplicateRow`, as of the call.
+    /// `DuplicateRow`, as from the call.
     pub fn check_row(&self, name: &[u8]) -> Result<(), BuildFault>
         ensures { result ≡ first_refusal (those_of (row_tests self.now name.now)) }
     {
         refuse(&[(self.has_row(name), BuildFault::DuplicateRow)])
     }
 
-    /// The refusal that [`row_limits`](Self::row_limits) would have now.
+    /// Returns the error that [`row_limits`](Self::row_limits) would return now.
     ///
     /// # Errors
     ///
-    /// `DuplicateRow`, `InfiniteValue`, as of the call.
+    /// `DuplicateRow`, `InfiniteValue`, as from the call.
     pub fn check_row_limits(
         &self,
         name: &[u8],
@@ -326,11 +326,11 @@ impl Builder {
         ])
     }
 
-    /// The refusal that [`rhs`](Self::rhs) would have now, of whatever value.
+    /// Returns the error that [`rhs`](Self::rhs) would return now, whatever the value.
     ///
     /// # Errors
     ///
-    /// `UnknownRow`, `DuplicateRhs`, as of the call.
+    /// `UnknownRow`, `DuplicateRhs`, as from the call.
     pub fn check_rhs(&self, row: &[u8]) -> Result<(), BuildFault>
         ensures { result ≡ first_refusal (those_of (rhs_tests self.now row.now)) }
     {
@@ -338,11 +338,11 @@ impl Builder {
         Ok(())
     }
 
-    /// The refusal that [`range`](Self::range) would have now.
+    /// Returns the error that [`range`](Self::range) would return now.
     ///
     /// # Errors
     ///
-    /// `UnknownRow`, `DuplicateRange`, `RangeOnFree`, `InfiniteValue`, as of the call.
+    /// `UnknownRow`, `DuplicateRange`, `RangeOnFree`, `InfiniteValue`, as from the call.
     pub fn check_range(&self, row: &[u8], value: Decimal) -> Result<(), BuildFault>
         ensures { result ≡ first_refusal (refusals self.now (declare_range row.now value)) }
     {
@@ -350,11 +350,11 @@ impl Builder {
         Ok(())
     }
 
-    /// The refusal that [`coefficient`](Self::coefficient) would have now, of whatever value.
+    /// Returns the error that [`coefficient`](Self::coefficient) would return now, whatever the value.
     ///
     /// # Errors
     ///
-    /// `UnknownRow`, `UnknownColumn`, `DuplicateEntry`, as of the call.
+    /// `UnknownRow`, `UnknownColumn`, `DuplicateEntry`, as from the call.
     pub fn check_coefficient(&self, row: &[u8], column: &[u8]) -> Result<(), BuildFault>
         ensures { result ≡ first_refusal (those_of (coefficient_tests self.now (record { row = row.now; column = column.now }))) }
     {
@@ -362,11 +362,11 @@ impl Builder {
         Ok(())
     }
 
-    /// The refusal that [`bounds`](Self::bounds) would have now.
+    /// Returns the error that [`bounds`](Self::bounds) would return now.
     ///
     /// # Errors
     ///
-    /// `UnknownColumn`, `DuplicateBound`, `InfiniteValue`, as of the call.
+    /// `UnknownColumn`, `DuplicateBound`, `InfiniteValue`, as from the call.
     pub fn check_bounds(
         &self,
         column: &[u8],
@@ -379,11 +379,11 @@ impl Builder {
         Ok(())
     }
 
-    /// The refusal that [`marked`](Self::marked) would have now.
+    /// Returns the error that [`marked`](Self::marked) would return now.
     ///
     /// # Errors
     ///
-    /// `UnknownColumn`, `SemiContinuous`, as of the call.
+    /// `UnknownColumn`, `SemiContinuous`, as from the call.
     pub fn check_marked(&self, column: &[u8]) -> Result<(), BuildFault>
         ensures { result ≡ first_refusal (refusals self.now (declare_marked column.now)) }
     {
@@ -391,11 +391,11 @@ impl Builder {
         Ok(())
     }
 
-    /// The refusal that [`integer`](Self::integer) would have now.
+    /// Returns the error that [`integer`](Self::integer) would return now.
     ///
     /// # Errors
     ///
-    /// `UnknownColumn`, `SemiContinuous`, as of the call.
+    /// `UnknownColumn`, `SemiContinuous`, as from the call.
     pub fn check_integer(&self, column: &[u8]) -> Result<(), BuildFault>
         ensures { result ≡ first_refusal (refusals self.now (declare_integer column.now)) }
     {
@@ -403,11 +403,11 @@ impl Builder {
         Ok(())
     }
 
-    /// The refusal that [`binary`](Self::binary) would have now.
+    /// Returns the error that [`binary`](Self::binary) would return now.
     ///
     /// # Errors
     ///
-    /// `UnknownColumn`, `SemiContinuous`, as of the call.
+    /// `UnknownColumn`, `SemiContinuous`, as from the call.
     pub fn check_binary(&self, column: &[u8]) -> Result<(), BuildFault>
         ensures { result ≡ first_refusal (refusals self.now (declare_binary column.now)) }
     {
@@ -415,11 +415,11 @@ impl Builder {
         Ok(())
     }
 
-    /// The refusal that [`semi`](Self::semi) would have now.
+    /// Returns the error that [`semi`](Self::semi) would return now.
     ///
     /// # Errors
     ///
-    /// `UnknownColumn`, `SemiContinuous`, as of the call.
+    /// `UnknownColumn`, `SemiContinuous`, as from the call.
     pub fn check_semi(&self, column: &[u8]) -> Result<(), BuildFault>
         ensures { result ≡ first_refusal (refusals self.now (declare_semi column.now)) }
     {

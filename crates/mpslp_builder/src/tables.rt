@@ -1,4 +1,4 @@
-//! Rows and columns by numbers, in the order in which they were declared, with the coefficients of each column.
+//! Rows and columns by number, in the order of their declarations, with the coefficients of each column.
 
 pub(crate) mod file_faults;
 
@@ -20,7 +20,7 @@ use mpslp_model_core::PackedRowDefinition;
 use mpslp_types::{Limit, Name};
 use std::alloc::{AllocError, Global};
 
-/// The most rows: beside them the objective has a number of 32 bits too.
+/// The maximum number of rows: they and the objective have numbers of 32 bits.
 const MOST_ROWS: usize = 4_294_967_294;
 
 /// The objective, rows and columns.
@@ -29,21 +29,21 @@ pub(crate) struct Tables {
     pub(crate) objective: Option<ObjectiveParts>,
     pub(crate) rows: IndexMap<Vec<u8>, RowParts>,
     pub(crate) columns: IndexMap<Vec<u8>, ColumnParts>,
-    /// The number of the column that was named last, as a guess: any number serves.
+    /// The number of the column that was used last. It only speeds up look-ups, so any number is correct.
     pub(crate) recent: usize,
 }
 
-/// Where something that is named like a row stands.
+/// The objective or a row, which share one set of names.
 #[derive(Clone, Copy)]
 pub(crate) enum RowRef {
-    /// It is the objective.
+    /// The objective.
     Objective,
-    /// It is the row of this index.
+    /// The row at this index.
     Row(usize),
 }
 
 impl RowRef {
-    /// The number by which coefficients name it.
+    /// The number by which coefficients refer to it.
     pub(crate) fn number(self) -> u32
         requires { row_key_of self < 4294967296 }
         ensures { result ≡ row_key_of self }
@@ -56,7 +56,7 @@ impl RowRef {
 }
 
 impl Tables {
-    /// Tables to which nothing is declared.
+    /// Tables without declarations.
     pub(crate) fn new(alloc: Global) -> Tables
         ensures { IsEmptyTables result }
     {
@@ -68,7 +68,7 @@ impl Tables {
         }
     }
 
-    /// No name stands twice in a map. That is known of every map, so it needs no test.
+    /// No map has two entries of one name. Every `IndexMap` guarantees that, so nothing is tested.
     pub(crate) fn each_name_stands_once(&self)
         ensures { IsOnceEach self.now }
     {
@@ -76,14 +76,14 @@ impl Tables {
         let _columns = self.columns.len();
     }
 
-    /// Whether the objective has its name.
+    /// Whether the objective has been named.
     pub(crate) fn has_objective(&self) -> bool
         ensures { result ≡ is_some self.now.objective }
     {
         self.objective.is_some()
     }
 
-    /// Whether the objective has a right side, which is a constant too.
+    /// Whether the objective has a right-hand side, which is its negated constant.
     pub(crate) fn has_objective_rhs(&self) -> bool
         requires { IsNumbered self.now }
         ensures { result ≡ has_objective_rhs (draft None None self.now) }
@@ -105,21 +105,21 @@ impl Tables {
         }
     }
 
-    /// Whether a row of this name is declared; the objective does not count.
+    /// Whether a row has this name; the objective does not count.
     fn is_row(&self, name: &[u8]) -> bool
         ensures { result ≡ has_name (draft None None self.now).rows name.now }
     {
         self.rows.contains_key(name)
     }
 
-    /// Whether a row of this name is declared; the objective counts.
+    /// Whether a row, or the objective, has this name.
     pub(crate) fn has_row(&self, name: &[u8]) -> bool
         ensures { result ≡ has_row (draft None None self.now) name.now }
     {
         self.is_objective(name) || self.is_row(name)
     }
 
-    /// Whether a row of this name is declared by type N. The objective is not.
+    /// Whether a row of this name is declared with type N. The objective does not count.
     pub(crate) fn is_free_row(&self, name: &[u8]) -> bool
         ensures { result ≡ is_free_row (draft None None self.now) name.now }
     {
@@ -129,14 +129,14 @@ impl Tables {
         }
     }
 
-    /// Whether a column of this name is declared.
+    /// Whether a column has this name.
     pub(crate) fn has_column(&self, name: &[u8]) -> bool
         ensures { result ≡ has_column (draft None None self.now) name.now }
     {
         self.column_number(name).is_some()
     }
 
-    /// Whether the row of an index has this name.
+    /// Whether the row at an index has this name.
     fn is_row_at(&self, index: usize, name: &[u8]) -> bool
         ensures { IsTrue result → row_name self.now (suc index) ≡ Some name.now }
     {
@@ -146,8 +146,8 @@ impl Tables {
         }
     }
 
-    /// Where the row of this name stands, or the objective. The row that was declared last is tried first, without a look-up: its
-    /// coefficients may come right behind it.
+    /// The row of this name, or the objective. The row that was declared last is compared first, which saves a look-up if its
+    /// coefficients are declared right after it.
     pub(crate) fn row_ref(&self, name: &[u8]) -> Option<RowRef>
         ensures place { IfSome result (λ place. row_name self.now (row_key_of place) ≡ Some name.now) }
         ensures found { is_some result ≡ has_row (draft None None self.now) name.now }
@@ -175,7 +175,7 @@ impl Tables {
         }
     }
 
-    /// The number of the column of this name. The one that was named last is tried first, without a look-up.
+    /// The number of the column of this name. The column that was used last is compared first, which saves a look-up.
     pub(crate) fn column_number(&self, name: &[u8]) -> Option<usize>
         ensures number { IfSome result (λ i. column_name self.now i ≡ Some name.now) }
         ensures found { is_some result ≡ has_column (draft None None self.now) name.now }
@@ -189,7 +189,7 @@ impl Tables {
         }
     }
 
-    /// Whether the right side is declared, as such, by the limits of the row or by the constant of the objective.
+    /// Whether the right-hand side is declared, as such, by the limits of the row, or by the constant of the objective.
     pub(crate) fn has_rhs(&self, place: RowRef, has_constant: bool) -> bool
         ensures { result ≡ row_tells self.now place (λ objective. is_some objective.rhs || has_constant) (λ row. is_some row.rhs || is_definition_by_limits row.definition) }
     {
@@ -218,7 +218,7 @@ impl Tables {
         }
     }
 
-    /// Whether this is a row of type N. The objective is not.
+    /// Whether this is a row of type N. The objective does not count.
     pub(crate) fn is_free(&self, place: RowRef) -> bool
         ensures { result ≡ row_tells self.now place (λ objective. false) (λ row. is_free_definition row.definition) }
     {
@@ -231,7 +231,7 @@ impl Tables {
         }
     }
 
-    /// Whether the column of a number has a coefficient of the row of a number.
+    /// Whether the column of a number has a coefficient in the row of a number.
     pub(crate) fn has_cell(&self, column: usize, row: u32) -> bool
         ensures { result ≡ is_some (find nat_cmp row (cells_at self.now column)) }
     {
@@ -241,7 +241,7 @@ impl Tables {
         }
     }
 
-    /// Whether the lower side of the column of a number is declared.
+    /// Whether the lower bound of the column of a number is declared.
     pub(crate) fn has_lower(&self, column: usize) -> bool
         ensures { result ≡ column_tells self.now column (λ parts. is_some parts.sides.lower) }
     {
@@ -251,7 +251,7 @@ impl Tables {
         }
     }
 
-    /// Whether the upper side of the column of a number is declared.
+    /// Whether the upper bound of the column of a number is declared.
     pub(crate) fn has_upper(&self, column: usize) -> bool
         ensures { result ≡ column_tells self.now column (λ parts. is_some parts.sides.upper) }
     {
@@ -261,7 +261,7 @@ impl Tables {
         }
     }
 
-    /// Whether the column of a number is declared to be marked, integer or binary.
+    /// Whether the column of a number is declared marked, integer or binary.
     pub(crate) fn is_integer(&self, column: usize) -> bool
         ensures { result ≡ column_tells self.now column (λ parts. parts.marked || (parts.integer || parts.binary)) }
     {
@@ -271,7 +271,7 @@ impl Tables {
         }
     }
 
-    /// Whether the column of a number is declared to be semi-continuous.
+    /// Whether the column of a number is declared semi-continuous.
     pub(crate) fn is_semi(&self, column: usize) -> bool
         ensures { result ≡ column_tells self.now column (λ parts. parts.semi) }
     {
@@ -288,14 +288,14 @@ impl Tables {
         self.objective = Some(ObjectiveParts { name, rhs: None });
     }
 
-    /// Whether another row has a number.
+    /// Whether one more row can be numbered.
     pub(crate) fn has_room(&self) -> bool
         ensures { IsTrue result → index_map_len self.now.rows < MOST_ROWS }
     {
         self.rows.len() < MOST_ROWS
     }
 
-    /// Adds a row without a right side and a range. None has its name.
+    /// Adds a row without right-hand side and range. Its name must be new.
     pub(crate) fn add_row(
         &mut self,
         name: Vec<u8>,
@@ -316,7 +316,7 @@ impl Tables {
         Ok(())
     }
 
-    /// Adds a column without coefficients. None has its name.
+    /// Adds a column without coefficients. Its name must be new.
     pub(crate) fn add_column(&mut self, alloc: Global, name: Vec<u8>) -> Result<(), AllocError>
         requires { has_name (draft None None self.old).columns name.items ≡ false }
         ensures ok { OnOk result (HasColumnAdded self.old name new_column self.new) }
@@ -328,7 +328,7 @@ impl Tables {
         Ok(())
     }
 
-    /// Puts a coefficient where there is none.
+    /// Stores a coefficient at a free place.
     pub(crate) fn put_cell(
         &mut self,
         column: usize,
@@ -345,7 +345,7 @@ impl Tables {
         parts.cells.put(row, value)
     }
 
-    /// Puts the right side of the row of an index.
+    /// Stores the right-hand side of the row at an index.
     fn put_row_rhs(&mut self, index: usize, value: Decimal)
         requires { is_some (row_name self.old (suc index)) ≡ true }
         ensures { HasRowChanged self.old index (λ row. record row { rhs = Some value }) self.new }
@@ -354,7 +354,7 @@ impl Tables {
         row.rhs = Some(PackedDecimal::of(value));
     }
 
-    /// Puts the right side of the objective.
+    /// Stores the right-hand side of the objective.
     fn put_objective_rhs(&mut self, value: Decimal)
         requires { is_some self.old.objective ≡ true }
         ensures { HasRhsPut self.old RowRef.Objective value self.new }
@@ -364,7 +364,7 @@ impl Tables {
         }
     }
 
-    /// Puts the right side of a row or of the objective.
+    /// Stores the right-hand side of a row or of the objective.
     pub(crate) fn put_rhs(&mut self, place: RowRef, value: Decimal)
         requires { is_some (row_name self.old (row_key_of place)) ≡ true }
         ensures { HasRhsPut self.old place value self.new }
@@ -375,7 +375,7 @@ impl Tables {
         }
     }
 
-    /// Puts the range of the row of an index.
+    /// Stores the range of the row at an index.
     pub(crate) fn put_range(&mut self, index: usize, value: Decimal)
         requires { is_some (row_name self.old (suc index)) ≡ true }
         ensures { HasRowChanged self.old index (λ row. record row { range = Some value }) self.new }
@@ -424,7 +424,7 @@ impl Tables {
         parts.semi = true;
     }
 
-    /// Puts the sides of a column that are given.
+    /// Stores the given bounds of a column.
     pub(crate) fn put_bounds(
         &mut self,
         alloc: Global,

@@ -1,4 +1,4 @@
--- Names in order: the first bytes, and then the whole.
+-- The order of names: by their first bytes, then by all bytes.
 use Rattle.std.proofs.Common.{◌≡◌, refl, sym, ap, subst, ◌∙◌, ℕ, zero, suc, ◌+◌, ◌-◌, ◌*◌, ◌^◌, ◌<◌, ◌≤◌, List, [], ◌∷◌, get_or, arith}
 use Rattle.std.specs.Ordering.{nat_cmp, ordering_then, ordering_reverse}
 use Rattle.std.specs.Cmp.{nat_cmp_total, ranked, tied_itself}
@@ -9,7 +9,7 @@ use Rattle.mpslp_types.specs.Name.{bytes_cmp}
 use Rattle.mpslp_model_core.proofs.KeyLemmas.{bytes_total, tied_names}
 use Rattle.mpslp_builder_parts.specs.Ordered.{front_value}
 
--- what a byte in front of so many others is worth
+-- the weight of a byte that is followed by so many others
 abbrev pub worth : ℕ → ℕ
 worth zero = 1
 worth (suc n) = worth n * 256
@@ -28,7 +28,7 @@ worth-below (suc k) n e = omega (arith, worth-below k (suc n) (omega (arith, e))
 pub front-fits : (n : ℕ) (name : List ℕ) → AreBytes name → n < 8 → front_value n name < 2 ^ 56
 front-fits n name bytes h = let left : (7 - n) + n ≡ 7 = omega (arith, h) in omega (arith, front-below n name bytes, worth-below (7 - n) n left)
 
--- ---- the value, from the first byte on
+-- ---- the key, from the first byte on
 
 front-none : (n : ℕ) → front_value n [] ≡ 0
 front-none zero = refl
@@ -50,7 +50,7 @@ below a b w f g h i = grind (arith, h, i)
 tail_bytes : (x : ℕ) (xs : List ℕ) → AreBytes (x ∷ xs) → AreBytes xs
 tail_bytes x xs h i = h (suc i)
 
--- the lesser name has no greater front
+-- the key of the lesser name is not greater
 front-rises : (n : ℕ) (a b : List ℕ) → AreBytes a → AreBytes b → bytes_cmp a b ≡ Less → front_value n a ≤ front_value n b
 front-rises zero a b h k less = omega arith
 front-rises (suc n) [] b h k less = omega (arith, front-none (suc n))
@@ -66,7 +66,7 @@ front-rises (suc n) (x ∷ xs) (y ∷ ys) h k less =
       | Greater ↦ λ _ never. cc
     ] refl less
 
--- names by their fronts, and then as a whole, stand as they stand by their bytes
+-- comparison by key and then by name is comparison by bytes
 pub front-then : (n : ℕ) (a b : List ℕ) → AreBytes a → AreBytes b → ordering_then (nat_cmp (front_value n a) (front_value n b)) (bytes_cmp a b) ≡ bytes_cmp a b
 front-then n a b h k =
     elim (bytes_cmp a b) as (λ r. bytes_cmp a b ≡ r → ordering_then (nat_cmp (front_value n a) (front_value n b)) r ≡ r) [

@@ -25,9 +25,9 @@ name_at-entry (x ∷ entries) (suc n) e h is = name_at-entry entries n e (omega 
 pub front_total : {V : Type 0} (entries : List (Vec ℕ × V)) → IsTotalOrder (front_cmp entries)
 front_total entries = then_total (on_total (λ (f : Front). f.bytes) nat_cmp_total) (on_total (λ (f : Front). name_at entries f.number) bytes_total)
 
--- ---- fronts that are sorted, and their numbers
+-- ---- sorted keys, and their numbers
 
--- what a front says is what stands in front of the name
+-- a key has the first bytes of the name
 abbrev pub IsFrontOf : {V : Type 0} → List (Vec ℕ × V) → Front → Type 0
 IsFrontOf entries f = f.bytes ≡ front_value 8 (name_at entries f.number)
 
@@ -51,7 +51,7 @@ sorted_numbers entries bytes (f ∷ fronts) own sorted k d l h =
     ∙ ap is_lt (sym (as_names entries bytes (get_or all (k + 1) f) (get_or all k f) (own (k + 1) f there) (own k f here)))
     ∙ sorted k f l there
 
--- what holds below a number and at it
+-- a property below a number and at it
 pub at_next : (P : ℕ → Type 0) (number n : ℕ) → n < number + 1 → (n < number → P n) → P number → P n
 at_next P number n h under here =
     elim (nat_lt n number) as (λ b. nat_lt n number ≡ b → P n) [
@@ -61,12 +61,12 @@ at_next P number n h under here =
 
 -- ---- the numbers in that order
 
--- what follows where there is a result
+-- an implication for a result, if there is one
 pub if_ok : {A B : Type 0} {P Q : A → Type 0} (r : Result A B) → ((a : A) → P a → Q a) → IfOk r P → IfOk r Q
 if_ok (Ok a) f h = f a h
 if_ok (Err e) f h = tt
 
--- a name that is not there has no bytes
+-- a missing entry has no bytes in its name
 name_bytes : {V : Type 0} (entries : List (Vec ℕ × V)) (n i : ℕ) → (n < length entries → get_or (name_at entries n) i 0 < 256) → get_or (name_at entries n) i 0 < 256
 name_bytes [] n i h = omega arith
 name_bytes (x ∷ entries) zero i h = h (omega arith)

@@ -3,7 +3,7 @@ use Rattle.std.proofs.Common.{◌≡◌, refl, ap, subst, ◌∙◌, ℕ, zero, 
 use Rattle.std.specs.List.{All}
 use Rattle.mpslp_model_core.specs.Numbered.{each_part}
 
--- the first of what is left goes behind what is done
+-- the first remaining item is appended to those that are done
 pub passed_on : {X : Type 0} (done later left all : List X) (x : X) → later ≡ done ++ x ∷ [] → done ++ x ∷ left ≡ all → later ++ left ≡ all
 passed_on {X} done later left all x is before = ap (λ (xs : List X). xs ++ left) is ∙ behind done ∙ before
   where
@@ -11,14 +11,14 @@ passed_on {X} done later left all x is before = ap (λ (xs : List X). xs ++ left
     behind [] = refl
     behind (y ∷ ys) = ap (λ (more : List X). y ∷ more) (behind ys)
 
--- what holds of all that is left holds of the first, and of the others
+-- a property of all remaining items is one of the first, and of the others
 pub holds_first : {X : Type 0} (P : X → Type 0) (xs ys : List X) (x : X) → xs ≡ x ∷ ys → All P xs → P x
 holds_first P xs ys x is h = subst (All P) is h zero x (omega arith)
 
 pub holds_later : {X : Type 0} (P : X → Type 0) (xs ys : List X) (x : X) → xs ≡ x ∷ ys → All P xs → All P ys
 holds_later P xs ys x is h k d l = subst (All P) is h (suc k) d (omega (arith, l))
 
--- a part of each, with one more behind them
+-- a part of each entry, with one more at the end
 pub each_part-append : {K V X : Type 0} (key : K → List ℕ) (f : V → X) (es : List (K × V)) (k : K) (v : V) → each_part key f (es ++ (k, v) ∷ []) ≡ each_part key f es ++ (key k, f v) ∷ []
 each_part-append key f [] k v = refl
 each_part-append {K} {V} {X} key f (e ∷ es) k v = ap (λ (more : List (List ℕ × X)). (key e.0, f e.1) ∷ more) (each_part-append key f es k v)

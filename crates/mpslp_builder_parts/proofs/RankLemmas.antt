@@ -1,4 +1,4 @@
--- The numbers of rows before and after they are put into order.
+-- The numbers of rows before and after they are sorted.
 use Rattle.std.proofs.Common.{◌≡◌, refl, sym, ap, subst, ◌∙◌, ℕ, zero, suc, ◌+◌, ◌<◌, List, [], ◌∷◌, length, map, get_or, arith, Bool, true, false, cond, IsPermutation}
 use Rattle.std.specs.Prelude.{◌≢◌, Option, Some, None, slice_get, slice_index}
 use Rattle.std.specs.Ordering.{eq_by_cmp, nat_cmp}
@@ -14,7 +14,7 @@ use Rattle.mpslp_model_core.proofs.CellLemmas.{number_tied}
 use Rattle.mpslp_model_core.proofs.OnceLemmas.{once-permutation, once-from_rising}
 use Rattle.mpslp_builder_parts.specs.Ordered.{entries_at}
 
--- ---- a list of numbers, each once
+-- ---- a list in which each number occurs once
 
 abbrev marked : List ℕ → List (ℕ × Unit {0})
 marked ns = map (λ n. (n, tt)) ns
@@ -76,14 +76,14 @@ module _ (n : ℕ) (order : List ℕ) (p : IsPermutation (range_with_len 0 n) or
       same_place (m ∷ ns) zero i l is = is
       same_place (m ∷ ns) (suc k) i l is = same_place ns k i (omega (arith, l)) is
 
--- what the later numbers are, as `ranks_of` answers them
+-- the final numbers, as `ranks_of` returns them
 pub record AreRanks (order ranks : List ℕ) : Type 0 where
   pub objective : slice_index ranks 0 ≡ 0
   pub places : (p : ℕ) → p < length order → slice_index ranks (slice_index order p + 1) ≡ p + 1
   pub len : length ranks ≡ length order + 1
 
 module _ (n : ℕ) (order ranks : List ℕ) (p : IsPermutation (range_with_len 0 n) order) (r : AreRanks order ranks) where
-  -- the later number of a row, and where it comes to stand
+  -- the final number of a row, and its index in the order
   pub rank_at : (i : ℕ) → i < n → (k : ℕ) × (k < length order) × (get_or order k 0 ≡ i) × (get_or ranks (suc i) 0 ≡ suc k)
   rank_at i h =
       let at = order_reaches n order p i h in
@@ -109,7 +109,7 @@ module _ (n : ℕ) (order ranks : List ℕ) (p : IsPermutation (range_with_len 0
       let rows : i ≡ j = sym a.2 ∙ ap (λ (k : ℕ). get_or order k 0) same ∙ b.2 in
       ap suc rows
 
--- ---- what is taken at a place
+-- ---- what is taken at an index
 
 pub get-taken : {X : Type 0} (items : List X) (ns : List ℕ) (p : ℕ) → ((k : ℕ) → k < length ns → get_or ns k 0 < length items) → p < length ns → slice_get (entries_at items ns) p ≡ slice_get items (get_or ns p 0)
 get-taken items [] p within h = absurd (omega (arith, h))
@@ -132,7 +132,7 @@ get-taken {X} items (n ∷ ns) (suc p) within h =
     never (x ∷ items) zero l is = cc
     never (x ∷ items) (suc n) l is = never items n (omega (arith, l)) is
 
--- an item that is there has a place
+-- an item that is found has an index below the length
 pub place_below : {X : Type 0} (items : List X) (n : ℕ) (x : X) → slice_get items n ≡ Some x → n < length items
 place_below [] n x is = cc
 place_below (y ∷ items) zero x is = omega arith

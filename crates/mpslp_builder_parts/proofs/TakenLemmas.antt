@@ -27,12 +27,12 @@ module _ {K V X : Type 0} (key : K → List ℕ) (f : V → X) where
   length-each_part [] = refl
   length-each_part (e ∷ es) = ap suc (length-each_part es)
 
--- entries of the same parts have the same parts in any order
+-- entries with the same parts have the same parts in any order
 pub taken-alike : {K V L W X : Type 0} (key : K → List ℕ) (f : V → X) (name : L → List ℕ) (g : W → X) (es : List (K × V)) (ds : List (L × W))
     → each_part key f es ≡ each_part name g ds → (ns : List ℕ) → each_part key f (entries_at es ns) ≡ each_part name g (entries_at ds ns)
 taken-alike key f name g es ds same ns = each_part-taken key f es ns ∙ ap (λ (parts : List (List ℕ × _)). entries_at parts ns) same ∙ sym (each_part-taken name g ds ns)
 
--- and are as many
+-- and they have the same length
 pub as_many : {K V L W X : Type 0} (key : K → List ℕ) (f : V → X) (name : L → List ℕ) (g : W → X) (es : List (K × V)) (ds : List (L × W))
     → each_part key f es ≡ each_part name g ds → length es ≡ length ds
 as_many key f name g es ds same = sym (length-each_part key f es) ∙ ap length same ∙ length-each_part name g ds

@@ -1,4 +1,4 @@
--- The sides of a column that are declared.
+-- The declared bounds of a column.
 use Rattle.std.specs.Prelude.{Option, None, Some}
 use Rattle.mpslp_types.specs.declared.kinds.Limit.{Limit}
 
@@ -9,7 +9,7 @@ pub record LowerAndUpper : Type 0 where
 abbrev pub no_sides : LowerAndUpper
 no_sides = record { lower = None; upper = None }
 
--- a side that is given is put
+-- a given bound replaces the declared one
 abbrev pub side_put : Option Limit → Option Limit → Option Limit
 side_put None old = old
 side_put (Some side) old = Some side

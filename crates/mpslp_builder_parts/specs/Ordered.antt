@@ -1,4 +1,4 @@
--- Entries by their numbers, in an order that is given, and what stands in front of their names.
+-- Entries by number in a given order, and the first bytes of their names.
 use Rattle.std.specs.Prelude.{ℕ, zero, suc, ◌+◌, ◌*◌, List, [], slice_get, slice_index, filter_map}
 use Rattle.std.specs.Option.{option_map_or}
 use Rattle.std.specs.Ordering.{nat_cmp, ordering_then}
@@ -15,7 +15,7 @@ entries_at items numbers = filter_map (slice_get items) numbers
 abbrev pub name_at : {V : Type 0} → List (Vec ℕ × V) → ℕ → List ℕ
 name_at entries number = option_map_or (λ e. e.0.items) (slice_get entries number) []
 
--- the first bytes as one number, with 0 for each behind the end
+-- the first bytes as one number, with 0 for each byte after the end
 abbrev pub front_value : ℕ → List ℕ → ℕ
 front_value zero name = 0
 front_value (suc n) name = front_value n name * 256 + slice_index name n

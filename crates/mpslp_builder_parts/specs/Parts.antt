@@ -1,4 +1,4 @@
--- What is declared of the objective, of a row and of a column, and what that is in a model.
+-- What is declared of the objective, of a row and of a column, and what it becomes in a model.
 use Rattle.std.specs.Prelude.{ℕ, Bool, false, List, [], Option, Some, None, unwrap_or, if◌then◌else◌}
 use Rattle.std.specs.Global.{Vec}
 use Rattle.mpslp_decimal.specs.Decimal.{Number, zero_number}
@@ -41,7 +41,7 @@ lower_of column = column.sides.lower
 abbrev pub upper_of : ColumnParts → Option Limit
 upper_of column = column.sides.upper
 
--- whether it is so, as a part that is there or not
+-- a truth value as an optional part
 abbrev pub as_part : Bool → Option (Unit {0})
 as_part b = if b then Some tt else None
 
@@ -60,11 +60,11 @@ semi_of column = as_part column.semi
 abbrev pub new_column : ColumnParts
 new_column = record { cells = []; sides = no_sides; marked = false; integer = false; binary = false; semi = false }
 
--- with the sides that are given
+-- with the given bounds
 abbrev pub with_bounds : Option Limit → Option Limit → ColumnParts → ColumnParts
 with_bounds lower upper column = record column { sides = sides_put lower upper column.sides }
 
--- what is declared beside the coefficients
+-- what is declared, apart from the coefficients
 abbrev pub declared_in : ColumnParts → DeclaredColumn
 declared_in column = record {
   lower = lower_of column;
@@ -77,18 +77,18 @@ declared_in column = record {
 
 -- ---- in a model
 
--- the limits of a row; where they are no decimals, those of a row without limits
+-- the limits of a row; if they are not decimals, those of a row without limits
 abbrev pub limits_in : RowParts → Row
 limits_in row = unwrap_or (limits_of row.definition (unwrap_or row.rhs zero_number) row.range) (plain_limits Free zero_number)
 
 abbrev pub bounds_of : ColumnParts → Column
 bounds_of column = declared_column (declared_in column)
 
--- its coefficients under the later numbers of their rows
+-- its coefficients with the final numbers of their rows
 abbrev pub moved_in : List ℕ → ColumnParts → List (ℕ × Number)
 moved_in ranks column = moved_cells ranks column.cells
 
--- the right side of the objective
+-- the right-hand side of the objective
 abbrev pub rhs_in : Option ObjectiveParts → Option Number
 rhs_in None = None
 rhs_in (Some objective) = objective.rhs

@@ -1,4 +1,4 @@
--- Sides as they are kept.
+-- Stored bounds.
 use Rattle.std.specs.Prelude.{Option, None, Some}
 use Rattle.std.specs.Global.{Box}
 use Rattle.mpslp_builder_parts.specs.DeclaredBounds.{LowerAndUpper, no_sides}

@@ -1,4 +1,4 @@
-//! The coefficients of a column by the numbers of rows.
+//! The coefficients of a column by row number.
 
 ghost use Rattle.std.specs.Prelude.{◌≡◌, ◌<◌, ℕ, [], IfOk, OnOk, OnErr, None, is_some, length, slice_index};
 ghost use Rattle.std.specs.List.{All};
@@ -13,13 +13,13 @@ use std::alloc::{AllocError, Global};
 use std::collections::BTreeMap;
 use std::marker::Model;
 
-/// The longest vector into whose middle a coefficient is put.
+/// The length up to which a coefficient is inserted into the middle of the vector.
 const SHORT: usize = 64;
 
-/// The coefficients of a column by the numbers of their rows. Contracts see them in the order of numbers.
+/// The coefficients of a column by row number. Contracts see them in the order of these numbers.
 ///
-/// Those that come in rising order are appended to a vector, and so are put the first few in any order. What else
-/// comes out of order stands in a tree, so that no order of calls takes quadratic time.
+/// Coefficients in rising order of rows are appended to a vector; the first few are inserted into it in any order. Any others
+/// go into a tree, so that no order of calls takes quadratic time.
 #[derive(Debug, Drop)]
 pub struct Cells {
     near: SortedMap<u32, PackedDecimal>,
@@ -39,8 +39,8 @@ impl Model for Cells {
     ghost invariant = { λ c. IsOnceBy nat_cmp (c.near ++ c.far.entries) };
 }
 
-/// Puts a coefficient into the vector. There is none of its row. Many columns have one coefficient alone, so the first
-/// takes no more room than it needs.
+/// Puts a coefficient of a new row into the vector. Many columns have only one coefficient, so the first one allocates no
+/// spare capacity.
 fn put_near(
     near: &mut SortedMap<u32, PackedDecimal>,
     row: u32,
@@ -57,7 +57,7 @@ fn put_near(
 }
 
 impl Cells {
-    /// No coefficients. It takes no memory.
+    /// No coefficients. Allocates nothing.
     pub fn new(alloc: Global) -> Cells
         ensures { result ≡ [] }
     {
@@ -67,23 +67,23 @@ impl Cells {
         }
     }
 
-    /// Whether there is a coefficient of the row of this number.
+    /// Whether the row of this number has a coefficient.
     pub fn has(&self, row: u32) -> bool
         ensures { result ≡ is_some (find nat_cmp row self.now) }
     {
         self.near.has(&row) || self.far.contains_key(&row)
     }
 
-    /// Whether the coefficient is put into the vector.
+    /// Whether a coefficient of this row goes into the vector.
     fn is_near(&self, row: u32) -> bool {
         self.near.len() < SHORT || self.near.ends_below(&row)
     }
 
-    /// Puts a coefficient. There is none of its row.
+    /// Puts a coefficient. Its row must not have one yet.
     ///
     /// # Errors
     ///
-    /// [`AllocError`] where there is no memory for it. Nothing has changed then.
+    /// [`AllocError`] if the allocation fails. Then nothing changes.
     pub fn put(&mut self, row: u32, value: Decimal) -> Result<(), AllocError>
         requires { find nat_cmp row self.old ≡ None }
         ensures ok { OnOk result (self.new ≡ put nat_cmp row value self.old) }
@@ -97,11 +97,11 @@ impl Cells {
         Ok(())
     }
 
-    /// The coefficients under the later numbers of their rows, in the order of these, without those of value 0.
+    /// Returns the coefficients with the final numbers of their rows, in the order of these, without zeros.
     ///
     /// # Errors
     ///
-    /// [`AllocError`] where there is no memory to put all into one vector. It takes none where all are in one.
+    /// [`AllocError`] if there is no memory for one vector of all coefficients. Nothing is allocated if they are already in one.
     pub fn into_moved(self, ranks: &[u32]) -> Result<Vec<(u32, PackedDecimal)>, AllocError>
         requires within { All (λ cell. cell.0 < length ranks.now) self }
         requires apart { (n m : ℕ) → n < length ranks.now → m < length ranks.now → slice_index ranks.now n ≡ slice_index ranks.now m → n ≡ m }

@@ -1,4 +1,4 @@
-//! The sides of a column that are declared.
+//! The declared bounds of a column.
 
 ghost use Rattle.std.specs.Prelude.{◌≡◌, OnOk, OnErr, is_some};
 ghost use Rattle.mpslp_builder_parts.specs.DeclaredBounds.{no_sides, side_put, sides_put};
@@ -8,15 +8,15 @@ use mpslp_types::Limit;
 use std::alloc::{AllocError, Global};
 use std::marker::Model;
 
-/// The sides of a column that are declared. Contracts see them as `LowerAndUpper`.
+/// The declared bounds of a column. Contracts see them as `LowerAndUpper`.
 ///
-/// Most columns have none, and take no room for any.
+/// Most columns have none and take no memory for bounds.
 #[derive(Debug, Drop)]
 pub struct DeclaredBounds {
     stored: Option<Box<StoredBounds>>,
 }
 
-/// Both sides, of which one may be missing.
+/// Both bounds, of which one may be absent.
 #[derive(Debug, Drop)]
 struct StoredBounds {
     lower: Option<PackedLimit>,
@@ -34,7 +34,7 @@ impl Model for DeclaredBounds {
     ghost view = { λ sides. sides_stored sides.stored };
 }
 
-/// The side, if there is one.
+/// The bound, if there is one.
 fn limit_in(side: &Option<PackedLimit>) -> Option<Limit>
     ensures { result ≡ side.now }
 {
@@ -44,7 +44,7 @@ fn limit_in(side: &Option<PackedLimit>) -> Option<Limit>
     }
 }
 
-/// The side as it is kept, if there is one.
+/// The stored form of the bound, if there is one.
 fn packed(side: Option<Limit>) -> Option<PackedLimit>
     ensures { result ≡ side }
 {
@@ -54,7 +54,7 @@ fn packed(side: Option<Limit>) -> Option<PackedLimit>
     }
 }
 
-/// Puts the side, if there is one.
+/// Stores the bound, if one is given.
 fn put_side(kept: &mut Option<PackedLimit>, side: Option<Limit>)
     ensures { kept.new ≡ side_put side kept.old }
 {
@@ -64,14 +64,14 @@ fn put_side(kept: &mut Option<PackedLimit>, side: Option<Limit>)
 }
 
 impl DeclaredBounds {
-    /// No sides. It takes no memory.
+    /// No bounds. Allocates nothing.
     pub fn none() -> DeclaredBounds
         ensures { result ≡ no_sides }
     {
         DeclaredBounds { stored: None }
     }
 
-    /// The lower side, if it is declared.
+    /// The lower bound, if it is declared.
     pub fn lower(&self) -> Option<Limit>
         ensures { result ≡ self.now.lower }
     {
@@ -81,7 +81,7 @@ impl DeclaredBounds {
         }
     }
 
-    /// The upper side, if it is declared.
+    /// The upper bound, if it is declared.
     pub fn upper(&self) -> Option<Limit>
         ensures { result ≡ self.now.upper }
     {
@@ -91,7 +91,7 @@ impl DeclaredBounds {
         }
     }
 
-    /// Whether the lower side is declared.
+    /// Whether the lower bound is declared.
     pub fn has_lower(&self) -> bool
         ensures { result ≡ is_some self.now.lower }
     {
@@ -101,7 +101,7 @@ impl DeclaredBounds {
         }
     }
 
-    /// Whether the upper side is declared.
+    /// Whether the upper bound is declared.
     pub fn has_upper(&self) -> bool
         ensures { result ≡ is_some self.now.upper }
     {
@@ -111,12 +111,12 @@ impl DeclaredBounds {
         }
     }
 
-    /// Puts the sides that are given.
+    /// Stores the given bounds.
     ///
     /// # Errors
     ///
-    /// [`AllocError`] where there is no memory for the first side. Nothing has changed then. It takes none where no side is given,
-    /// or one is there.
+    /// [`AllocError`] if there is no memory for the first bound. Then nothing changes. Nothing is allocated if no bound is given,
+    /// or if the column already has one.
     pub fn put(
         &mut self,
         alloc: Global,

@@ -1,7 +1,7 @@
-//! What a builder keeps by numbers: what is declared of each row and column, the coefficients of a column by the numbers
-//! of rows, and the byte order of names, which gives rows their later numbers.
+//! What a builder stores by number: what is declared of each row and column, the coefficients of a column by row number, and
+//! the byte order of names, which determines the final numbers of the rows.
 //!
-//! Entries are put into the order of their names by small keys, and then moved, so that no name is copied.
+//! Entries are sorted by small keys of their names and then moved, so no name is copied.
 #![tactic(auto)]
 
 mod cells;

@@ -1,4 +1,4 @@
-//! The rows and the columns of a model, from what is declared of them in the order of their names.
+//! The rows and the columns of a model, from what is declared of them, in the order of their names.
 
 ghost use Rattle.std.specs.Prelude.{◌≡◌, ◌<◌, ℕ, IfOk, length, slice_index, unwrap_or};
 ghost use Rattle.std.specs.List.{All, range_with_len};
@@ -21,7 +21,7 @@ use mpslp_model_core::{
 use mpslp_types::{Name, RowType};
 use std::alloc::{AllocError, Global};
 
-/// The limits of a row; where they are no decimals, those of a row without limits.
+/// The limits of a row; if they are not decimals, those of a row without limits.
 fn limits_or_none(
     definition: &UnpackedRowDefinition,
     rhs: Decimal,
@@ -46,11 +46,11 @@ fn limits_in(row: &RowParts) -> RowLimits
     )
 }
 
-/// The rows of a model, under their names.
+/// The rows of a model, with their names.
 ///
 /// # Errors
 ///
-/// [`AllocError`] where there is no memory for them.
+/// [`AllocError`] if the allocation fails.
 pub fn rows_of(
     alloc: Global,
     rows: Vec<(Vec<u8>, RowParts)>,
@@ -65,7 +65,7 @@ pub fn rows_of(
     Ok(made)
 }
 
-/// A column of a model, with the later numbers of rows.
+/// A column of a model, with the final row numbers.
 fn column_of(column: ColumnParts, ranks: &[u32]) -> Result<ModelColumn, AllocError>
     requires within { All (λ cell. cell.0 < length ranks.now) column.cells }
     requires apart { (n m : ℕ) → n < length ranks.now → m < length ranks.now → slice_index ranks.now n ≡ slice_index ranks.now m → n ≡ m }
@@ -77,7 +77,7 @@ fn column_of(column: ColumnParts, ranks: &[u32]) -> Result<ModelColumn, AllocErr
     Ok(ModelColumn { bounds, cells })
 }
 
-/// The columns of a model, under their names, with the later numbers of rows.
+/// The columns of a model, with their names and the final row numbers.
 fn columns_of(
     alloc: Global,
     columns: Vec<(Vec<u8>, ColumnParts)>,
@@ -96,15 +96,15 @@ fn columns_of(
     Ok(made)
 }
 
-/// The columns of a model in the byte order of their names, with the later numbers of rows, behind their indices in that
-/// order.
+/// Returns the former indices of the columns in byte order of their names, and the columns of the model in that order, with the
+/// final row numbers.
 ///
-/// Coefficients are moved before the columns are, while they lie in memory as they were declared: in the other order each
-/// would be far from the one before it.
+/// Coefficients are renumbered before the columns are sorted, while they are in memory in the order of their declarations. In
+/// the other order each access would be far from the one before it.
 ///
 /// # Errors
 ///
-/// [`AllocError`] where there is no memory for them.
+/// [`AllocError`] if the allocation fails.
 pub fn ordered_columns(
     alloc: Global,
     entries: Vec<(Vec<u8>, ColumnParts)>,

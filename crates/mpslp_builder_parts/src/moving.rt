@@ -1,4 +1,4 @@
-//! Coefficients under other numbers of their rows.
+//! Coefficients with new row numbers.
 
 ghost use Rattle.std.specs.Prelude.{◌≡◌, ◌<◌, ◌++◌, IfOk, map, filter, not, length, slice_index};
 ghost use Rattle.std.specs.List.{All};
@@ -10,7 +10,7 @@ use mpslp_decimal::PackedDecimal;
 use std::alloc::AllocError;
 use std::collections::BTreeMap;
 
-/// All in one vector.
+/// All coefficients in one vector.
 pub(crate) fn joined(
     near: Vec<(u32, PackedDecimal)>,
     far: BTreeMap<u32, PackedDecimal>,
@@ -25,7 +25,7 @@ pub(crate) fn joined(
     Ok(cells)
 }
 
-/// The coefficients under the later numbers of their rows.
+/// The coefficients with the final numbers of their rows.
 pub(crate) fn renumbered(
     cells: Vec<(u32, PackedDecimal)>,
     ranks: &[u32],
@@ -40,7 +40,7 @@ pub(crate) fn renumbered(
     cells
 }
 
-/// The coefficients that are not 0.
+/// The nonzero coefficients.
 pub(crate) fn without_zeros(cells: Vec<(u32, PackedDecimal)>) -> Vec<(u32, PackedDecimal)>
     ensures { result.items ≡ filter (λ cell. not (is_zero cell.1)) cells.items }
 {
@@ -49,7 +49,7 @@ pub(crate) fn without_zeros(cells: Vec<(u32, PackedDecimal)>) -> Vec<(u32, Packe
     kept
 }
 
-/// The coefficients in the order of numbers.
+/// The coefficients in the order of their row numbers.
 pub(crate) fn in_order_of_numbers(cells: Vec<(u32, PackedDecimal)>) -> Vec<(u32, PackedDecimal)>
     ensures permutation { IsPermutation cells.items result.items }
     ensures sorted { IsSortedByKey (λ cell. cell.0) nat_cmp result.items }

@@ -11,17 +11,17 @@ ghost use Rattle.mpslp_builder_parts.specs.Ordered.{name_at, front_value, front_
 use std::alloc::{AllocError, Global};
 use std::cmp::Ordering;
 
-/// How many bytes of a name are compared at once.
+/// How many bytes of a name are compared as one number.
 const FRONT: usize = 8;
 
-/// The number of an entry, with the first bytes of its name as one number. Names are compared only where these tie.
+/// The number of an entry, with the first bytes of its name as one number. Names are compared only if these are equal.
 #[derive(Clone, Copy, Drop)]
 struct Front {
     bytes: u64,
     number: usize,
 }
 
-/// The number, with one more byte behind it.
+/// The number with one more byte at its end.
 fn with_byte(bytes: u64, byte: u8) -> u64
     requires { bytes < 2 ^ 56 }
     ensures { result ≡ bytes * 256 + byte }
@@ -29,7 +29,7 @@ fn with_byte(bytes: u64, byte: u8) -> u64
     bytes * 256 + byte as u64
 }
 
-/// The byte at this place, and 0 behind the end.
+/// The byte at this place, or 0 after the end.
 fn byte_at(name: &[u8], at: usize) -> u8
     ensures { result ≡ slice_index name.now at }
 {
@@ -61,7 +61,7 @@ fn name_at<V>(entries: &[(Vec<u8>, V)], number: usize) -> &[u8]
     }
 }
 
-/// How the names of two entries stand to each other.
+/// The order of the names of two entries.
 fn compare<V>(entries: &[(Vec<u8>, V)], a: &Front, b: &Front) -> Ordering
     ensures { result ≡ front_cmp entries.now a.now b.now }
 {
@@ -71,7 +71,7 @@ fn compare<V>(entries: &[(Vec<u8>, V)], a: &Front, b: &Front) -> Ordering
     }
 }
 
-/// The numbers of all entries with the fronts of their names, in the order of the entries.
+/// The numbers of all entries with the first bytes of their names, in the order of the entries.
 fn fronts_of<V>(alloc: Global, entries: &[(Vec<u8>, V)]) -> Result<Vec<Front>, AllocError>
     ensures fronts { IfOk result (λ fronts. fronts.items ≡ map (front_at entries.now) (range_with_len 0 (length entries.now))) }
     ensures bytes { IfOk result (λ _. (n i : ℕ) → n < length entries.now → slice_index (name_at entries.now n) i < 256) }
@@ -84,7 +84,7 @@ fn fronts_of<V>(alloc: Global, entries: &[(Vec<u8>, V)]) -> Result<Vec<Front>, A
     Ok(fronts)
 }
 
-/// Puts the entries into the byte order of their names.
+/// Sorts the keys, so that the names are in byte order.
 fn sort_fronts<V>(fronts: Vec<Front>, entries: &[(Vec<u8>, V)]) -> Vec<Front>
     ensures permutation { IsPermutation fronts.items result.items }
     ensures sorted { IsSortedBy (λ a b. is_lt (front_cmp entries.now a b)) result.items }
@@ -94,21 +94,21 @@ fn sort_fronts<V>(fronts: Vec<Front>, entries: &[(Vec<u8>, V)]) -> Vec<Front>
     fronts
 }
 
-/// The numbers beside the fronts.
+/// The numbers, without the first bytes of the names.
 fn numbers_of(alloc: Global, fronts: &[Front]) -> Result<Vec<usize>, AllocError>
     ensures { IfOk result (λ numbers. numbers.items ≡ map (λ front. front.number) fronts.now) }
 {
     fronts.iter().map(|front| front.number).collect(alloc)
 }
 
-/// The numbers of the entries in the byte order of their names.
+/// Returns the numbers of the entries in byte order of their names.
 ///
-/// Each name is turned into a small key, its first eight bytes as one number; names are compared only where these tie.
-/// Entries of one name come in any order.
+/// Each name becomes a small key, its first eight bytes as one number; names are compared only if these are equal. The order
+/// of entries with the same name is unspecified.
 ///
 /// # Errors
 ///
-/// [`AllocError`] where there is no memory for the keys or the numbers.
+/// [`AllocError`] if there is no memory for the keys or the numbers.
 pub fn order_of<V>(alloc: Global, entries: &[(Vec<u8>, V)]) -> Result<Vec<usize>, AllocError>
     ensures permutation { IfOk result (λ order. IsPermutation (range_with_len 0 (length entries.now)) order.items) }
     ensures sorted { IfOk result (λ order. IsSortedByKey (name_at entries.now) bytes_cmp order.items) }
@@ -117,14 +117,14 @@ pub fn order_of<V>(alloc: Global, entries: &[(Vec<u8>, V)]) -> Result<Vec<usize>
     numbers_of(alloc, &fronts)
 }
 
-/// Each item, as one that can be taken out.
+/// The items as options, so that each can be taken out.
 fn given<T: Drop>(alloc: Global, items: Vec<T>) -> Result<Vec<Option<T>>, AllocError>
     ensures { IfOk result (λ given. given.items ≡ map Some items.items) }
 {
     items.into_iter().map(|item| Some(item)).collect(alloc)
 }
 
-/// Puts the item behind the others, if there is one.
+/// Appends the item, if there is one.
 fn push_given<T: Drop>(items: &mut Vec<T>, item: Option<T>) -> Result<(), AllocError>
     ensures { OnOk result (items.new.items ≡ items.old.items ++ option_to_list item) }
 {
@@ -134,11 +134,12 @@ fn push_given<T: Drop>(items: &mut Vec<T>, item: Option<T>) -> Result<(), AllocE
     Ok(())
 }
 
-/// The items of these numbers, in this order; the others are dropped. No item is copied, and none is named twice.
+/// Returns the items of these numbers, in this order; the others are dropped. No item is copied, and each number may occur at
+/// most once.
 ///
 /// # Errors
 ///
-/// [`AllocError`] where there is no memory for as many items. They are dropped then.
+/// [`AllocError`] if there is no memory for as many items. The items are then dropped.
 pub fn in_order<T: Drop>(
     alloc: Global,
     items: Vec<T>,

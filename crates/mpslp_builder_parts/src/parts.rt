@@ -11,7 +11,7 @@ use mpslp_model_core::{DeclaredColumn, PackedRowDefinition};
 use mpslp_types::Name;
 use std::alloc::Global;
 
-/// The objective, and its right side if one is declared.
+/// The objective, with its right-hand side if one is declared.
 #[derive(Debug, Drop)]
 pub struct ObjectiveParts {
     pub name: Name,
@@ -38,7 +38,7 @@ pub struct ColumnParts {
 }
 
 impl RowParts {
-    /// The right side, and 0 where none is declared.
+    /// The right-hand side, or 0 if none is declared.
     pub fn rhs_or_zero(&self) -> Decimal
         ensures { result ≡ unwrap_or (rhs_of self.now) zero_number }
     {
@@ -60,7 +60,7 @@ impl RowParts {
 }
 
 impl ColumnParts {
-    /// A column of which nothing is declared but its name. It takes no memory.
+    /// A column of which only the name is declared. Allocates nothing.
     pub fn new(alloc: Global) -> ColumnParts
         ensures { result ≡ new_column }
     {
@@ -74,7 +74,7 @@ impl ColumnParts {
         }
     }
 
-    /// What is declared of the column beside its coefficients.
+    /// What is declared of the column, apart from its coefficients.
     pub fn declared(&self) -> DeclaredColumn
         ensures { result ≡ declared_in self.now }
     {

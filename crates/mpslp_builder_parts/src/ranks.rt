@@ -1,15 +1,15 @@
-//! The later numbers of rows.
+//! The final numbers of rows.
 
 ghost use Rattle.std.specs.Prelude.{◌≡◌, ◌≢◌, ◌<◌, ◌+◌, ℕ, IfOk, length, slice_index};
 
 use std::alloc::{AllocError, Global};
 
-/// The later number of each row by its earlier one, from the indices of the rows in the order in which they come to
-/// stand. A row has the number behind its index, since 0 is that of the objective, which keeps it.
+/// Returns the final number of each row by its earlier number, from the indices of the rows in byte order of their names. The
+/// number of a row is its index plus 1, because the objective always has the number 0.
 ///
 /// # Errors
 ///
-/// [`AllocError`] where there is no memory for the numbers.
+/// [`AllocError`] if there is no memory for the numbers.
 pub fn ranks_of(alloc: Global, order: &[usize]) -> Result<Vec<u32>, AllocError>
     requires few { length order.now < 4294967295 }
     requires within { (p : ℕ) → p < length order.now → slice_index order.now p < length order.now }

@@ -1,4 +1,4 @@
--- Lists that are known by their elements.
+-- Lists that are determined by their items.
 use Rattle.std.proofs.Common.{◌≡◌, ℕ, List, [], ◌∷◌, Some, length, map, arith, refl, zero, suc, get_or, ◌<◌}
 use Rattle.std.specs.Prelude.{slice_get, String, string_bytes}
 use Rattle.std.proofs.lemmas.List.{length-map}

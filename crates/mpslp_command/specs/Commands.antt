@@ -1,4 +1,4 @@
--- The commands, as words.
+-- The commands, as arguments.
 use Rattle.std.specs.Prelude.{◌≡◌, ℕ, Bool, false, not, ◌||◌, ◌&&◌, ◌==◌, if◌then◌else◌, List, [], ◌∷◌, Option, Some, None, codes}
 use Rattle.std.specs.Str.{bytes_eq}
 use Rattle.mpslp_jobs.specs.declared.jobs.Form.{Form}
@@ -8,16 +8,16 @@ use Rattle.mpslp_jobs.specs.declared.jobs.Job.TheVariants.{Canon, Same, Show}
 use Rattle.mpslp_jobs.specs.declared.jobs.JobFault.{JobFault}
 use Rattle.mpslp_jobs.specs.declared.jobs.JobFault.TheVariants.{Help, Usage, UnknownFormat, BothInputs, OutOfMemory}
 
--- the word that names a format
+-- the name of a format
 abbrev pub form_text : Form → List ℕ
 form_text Mps = codes "mps"
 form_text Lp = codes "lp"
 
--- the format that a word names
+-- the format with this name
 abbrev pub form_of : List ℕ → Option Form
 form_of word = if bytes_eq word (codes "mps") then Some Mps else (if bytes_eq word (codes "lp") then Some Lp else None)
 
--- the command that a job holds
+-- the command of a job
 abbrev pub words_of : Job → List (List ℕ)
 words_of (Canon from to path) = codes "canon" ∷ form_text from ∷ form_text to ∷ path ∷ []
 words_of (Same first_form first second_form second) = codes "same" ∷ form_text first_form ∷ first ∷ form_text second_form ∷ second ∷ []
@@ -27,7 +27,7 @@ abbrev pub starts_with_hyphen : List ℕ → Bool
 starts_with_hyphen [] = false
 starts_with_hyphen (x ∷ xs) = x == 45
 
--- `-` itself, or a word that does not begin with it
+-- `-` itself, or an argument that does not begin with it
 abbrev pub is_plain : List ℕ → Bool
 is_plain word = bytes_eq word (codes "-") || not (starts_with_hyphen word)
 
@@ -37,7 +37,7 @@ reads_input_twice (Canon from to path) = false
 reads_input_twice (Same first_form first second_form second) = bytes_eq first (codes "-") && bytes_eq second (codes "-")
 reads_input_twice (Show from path) = false
 
--- A word that is told as no format is none.
+-- An argument that is reported as an unknown format is not a format.
 abbrev pub IsNamedRightly : JobFault → Type 0
 IsNamedRightly (Help text) = Unit {0}
 IsNamedRightly (Usage text) = Unit {0}

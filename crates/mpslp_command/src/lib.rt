@@ -1,7 +1,7 @@
-//! The command line: its words, and the job that they ask for.
+//! The command line: its arguments, and the job that they request.
 //!
-//! [`job`] reads the words behind the program's name, and answers a [`Job`](mpslp_jobs::Job) or why they ask for none, a
-//! [`JobFault`](mpslp_jobs::JobFault). What is done of a job stands elsewhere: this crate knows no models.
+//! [`job`] reads the arguments after the program's name, and returns a [`Job`](mpslp_jobs::Job), or a
+//! [`JobFault`](mpslp_jobs::JobFault) that says why there is none. Jobs are done elsewhere: this crate knows no models.
 #![tactic(auto)]
 
 mod parsing;

@@ -1,4 +1,4 @@
-//! The words of the command line as a job.
+//! The arguments of the command line as a job.
 
 ghost use Rattle.std.specs.Prelude.{◌≡◌, map, IfOk, IfErr, Some, None, true, false, string_bytes, slice_get};
 ghost use Rattle.std.specs.List.{list_all};
@@ -10,17 +10,17 @@ use clap::{ArgMatches, Error};
 use mpslp_jobs::{Form, Job, JobFault, Word};
 use std::alloc::Global;
 
-/// The job of the words behind the program's name.
+/// Returns the job of the arguments after the program's name.
 ///
-/// `canon FROM TO PATH`, `same FROM PATH FROM PATH` and `show FROM PATH` ask for jobs; FROM and TO are `mps` or `lp`, in
-/// small letters, and a PATH of `-` is standard input. `--help`, `help`, `--version` and `canon --help` ask for a
-/// text. Behind `--` a word that begins with `-` is a path too.
+/// `canon FROM TO PATH`, `same FROM PATH FROM PATH` and `show FROM PATH` are jobs. FROM and TO are `mps` or `lp`, in lower
+/// case; a PATH of `-` is standard input. `--help`, `help`, `--version` and `canon --help` request a text. After `--` an
+/// argument that begins with `-` is a path too.
 ///
 /// # Errors
 ///
-/// What clap refuses ([`Usage`](JobFault::Usage)) or prints ([`Help`](JobFault::Help)), with clap's text; then
-/// [`UnknownFormat`](JobFault::UnknownFormat) with the first word that should name a format and names none; then
-/// [`BothInputs`](JobFault::BothInputs). [`OutOfMemory`](JobFault::OutOfMemory) where memory was refused.
+/// What clap rejects ([`Usage`](JobFault::Usage)) or prints ([`Help`](JobFault::Help)), with clap's text; then
+/// [`UnknownFormat`](JobFault::UnknownFormat) with the first argument that should be a format but is not; then
+/// [`BothInputs`](JobFault::BothInputs). [`OutOfMemory`](JobFault::OutOfMemory) if an allocation fails.
 pub fn job(alloc: Global, words: &[String]) -> Result<Job, JobFault>
     ensures words { IfOk result (λ job. list_all (λ word. is_plain (string_bytes word)) words.now ≡ true → map string_bytes words.now ≡ words_of job) }
     ensures one_input { IfOk result (λ job. reads_input_twice job ≡ false) }
@@ -34,8 +34,8 @@ pub fn job(alloc: Global, words: &[String]) -> Result<Job, JobFault>
         Err(error) => return Err(refusal(alloc, error)),
     };
     let found = job_of(alloc, &matches)?;
-    // What clap says of its matches does not tell which word became which argument. Words with no `-` in
-    // front can only stand in their places, and that is tried here.
+    // The contract of clap's matches does not say which argument has which value. Arguments without a leading `-` can only be in
+    // their positions, which is checked here.
     if are_words_of(words, &found) || !are_plain(words) {
         Ok(found)
     } else {
@@ -43,7 +43,7 @@ pub fn job(alloc: Global, words: &[String]) -> Result<Job, JobFault>
     }
 }
 
-/// What clap tells of words that it does not take.
+/// The error for arguments that clap does not accept.
 fn refusal(alloc: Global, error: Error) -> JobFault
     ensures { IsNamedRightly result }
 {
@@ -61,7 +61,7 @@ fn refusal(alloc: Global, error: Error) -> JobFault
     }
 }
 
-/// What is told of words that clap takes and that are no command. There are none such, but it is not proved.
+/// The error for arguments that clap accepts and that are not a command. This cannot happen, but that is not proved.
 fn unlike(alloc: Global) -> JobFault
     ensures { IsNamedRightly result }
 {
@@ -71,7 +71,7 @@ fn unlike(alloc: Global) -> JobFault
     }
 }
 
-/// The job that clap's matches hold.
+/// The job in clap's matches.
 fn job_of(alloc: Global, matches: &ArgMatches<'_>) -> Result<Job, JobFault>
     ensures one_input { IfOk result (λ job. reads_input_twice job ≡ false) }
     ensures unknown { IfErr result IsNamedRightly }
@@ -94,7 +94,7 @@ fn job_of(alloc: Global, matches: &ArgMatches<'_>) -> Result<Job, JobFault>
     }
 }
 
-/// The comparison that clap's matches hold.
+/// The comparison in clap's matches.
 fn same_of(alloc: Global, words: &ArgMatches<'_>) -> Result<Job, JobFault>
     ensures one_input { IfOk result (λ job. reads_input_twice job ≡ false) }
     ensures unknown { IfErr result IsNamedRightly }
@@ -134,7 +134,7 @@ fn form_at(alloc: Global, words: &ArgMatches<'_>, id: &str) -> Result<Form, JobF
     }
 }
 
-/// The format that a word names.
+/// The format with this name.
 fn form_named(word: &str) -> Option<Form>
     ensures { result ≡ form_of word.now }
 {
@@ -147,7 +147,7 @@ fn form_named(word: &str) -> Option<Form>
     }
 }
 
-/// The word that names a format.
+/// The name of a format.
 fn name_of(form: Form) -> &'static str
     ensures { result.now ≡ form_text form }
 {
@@ -157,7 +157,7 @@ fn name_of(form: Form) -> &'static str
     }
 }
 
-/// Whether no word but `-` itself begins with `-`.
+/// Whether no argument except `-` begins with `-`.
 fn are_plain(words: &[String]) -> bool
     ensures { result ≡ list_all (λ word. is_plain (string_bytes word)) words.now }
 {
@@ -170,7 +170,7 @@ fn is_plain_word(word: &str) -> bool
     word == "-" || !word.starts_with('-')
 }
 
-/// Whether the words are the command that a job holds.
+/// Whether the arguments are the command of a job.
 #[tactic(auto, using(crate::proofs::Words::three_words, crate::proofs::Words::four_words, crate::proofs::Words::five_words, crate::proofs::Words::map_len))]
 fn are_words_of(words: &[String], job: &Job) -> bool
     ensures { result ≡ true → map string_bytes words.now ≡ words_of job.now }
@@ -208,7 +208,7 @@ fn are_words_of(words: &[String], job: &Job) -> bool
     }
 }
 
-/// Whether the word at an index is this text.
+/// Whether the argument at an index is this text.
 fn is_at(words: &[String], i: usize, text: &str) -> bool
     ensures { result ≡ true → slice_get (map string_bytes words.now) i ≡ Some text.now }
 {

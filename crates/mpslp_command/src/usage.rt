@@ -1,4 +1,4 @@
-//! The command line as clap has it: subcommands, their arguments, and the texts of help.
+//! The command line for clap: subcommands, their arguments, and the texts of help.
 
 use clap::{Arg, Command};
 use std::alloc::{AllocError, Global};
@@ -49,7 +49,7 @@ column with its coefficients. Rows and columns are numbered from 0 in the byte o
 Example:
   mpslp show mps model.mps";
 
-/// An argument that has its place among the words and has to be there.
+/// A required positional argument.
 fn argument<'a>(alloc: Global, id: &'a str, name: &'a str, help: &'a str) -> Arg<'a> {
     Arg::new(alloc, id)
         .required(true)
@@ -104,7 +104,7 @@ fn show<'a>(alloc: Global) -> Result<Command<'a>, AllocError> {
         .arg(argument(alloc, "path", "PATH", "The file, or - for standard input"))
 }
 
-/// The whole command line. Words are read without the program's name in front.
+/// The whole command line. Its arguments do not include the program's name.
 pub(crate) fn command<'a>(alloc: Global) -> Result<Command<'a>, AllocError> {
     Command::new(alloc, "mpslp")
         .bin_name("mpslp")?

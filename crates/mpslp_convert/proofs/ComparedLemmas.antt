@@ -1,4 +1,4 @@
--- What a sink that compares has found, piece by piece.
+-- The state of a comparing sink, piece by piece.
 use Rattle.std.proofs.Common.{◌≡◌, ℕ, List, [], ◌∷◌, ◌++◌, length, take, drop, Bool, true, false, not, refl, sym, ap, ◌∙◌, subst, append_assoc, append-nil, arith}
 use Rattle.std.specs.Prelude.{◌≢◌, ◌==◌, nat_eq}
 use Rattle.std.specs.Bool.{Decides}
@@ -17,12 +17,12 @@ Compared-new wanted = record {
   front = refl;
 }
 
--- what is no front stays none
+-- what is not a prefix stays so
 stays_other : (rest wanted written piece : List ℕ) → ((more : List ℕ) → wanted ≢ written ++ more)
     → (more : List ℕ) → wanted ≢ (written ++ piece) ++ more
 stays_other rest wanted written piece h = λ more e. h (piece ++ more) (e ∙ append_assoc written piece more)
 
--- the next piece is wanted
+-- the next piece is as expected
 IsFront-more : (differs : Bool) (rest wanted written piece : List ℕ) → pointwise nat_eq (take (length piece) rest) piece ≡ true
     → IsFront differs rest wanted written → IsFront differs (drop (length piece) rest) wanted (written ++ piece)
 IsFront-more false rest wanted written piece same h =
@@ -32,7 +32,7 @@ IsFront-more false rest wanted written piece same h =
     h ∙ ap (λ l. written ++ l) (sym parts) ∙ sym (append_assoc written piece (drop (length piece) rest))
 IsFront-more true rest wanted written piece same h = stays_other rest wanted written piece h
 
--- the next piece is another
+-- the next piece differs
 IsFront-other : (differs : Bool) (rest wanted written piece : List ℕ) → pointwise nat_eq (take (length piece) rest) piece ≡ false
     → IsFront differs rest wanted written → IsFront true rest wanted (written ++ piece)
 IsFront-other false rest wanted written piece other h = λ more e.
@@ -63,7 +63,7 @@ Compared-other differs rest held piece other h = record {
   front = IsFront-other differs rest h.wanted h.written piece other h.front;
 }
 
--- the same of a write that takes its whole piece
+-- the same for a write that takes its whole piece
 pub took-more : (differs : Bool) (rest after held piece : List ℕ) → pointwise nat_eq (take (length piece) rest) piece ≡ true
     → after ≡ drop (length piece) rest → Compared differs rest held → Compared differs after (held ++ take (length piece) piece)
 took-more differs rest after held piece same left h =
@@ -75,7 +75,7 @@ pub took-other : (differs : Bool) (rest held piece : List ℕ) → pointwise nat
 took-other differs rest held piece other h =
     subst (λ l. Compared true rest (held ++ l)) (sym (take-length piece)) (Compared-other differs rest held piece other h)
 
--- two texts that are told with the length of the first are told apart
+-- two texts with the length of the first in front are equal only if both parts are
 front_of_told : (a b : List ℕ) (n m : ℕ) (c d : List ℕ) → n ≡ length a → m ≡ length c → n ∷ (a ++ b) ≡ m ∷ (c ++ d) → a ≡ c
 front_of_told a b n m c d is is' e =
     let same : take (length a) (a ++ b) ≡ take (length c) (c ++ d) = cc in
@@ -86,7 +86,7 @@ rest_of_told a b n m c d is is' e =
     let same : drop (length a) (a ++ b) ≡ drop (length c) (c ++ d) = cc in
     sym (drop-append_seam a b) ∙ same ∙ drop-append_seam c d
 
--- what was found of the text that was written
+-- the state after the text was written
 pub front_of : (differs : Bool) (rest wanted text : List ℕ) → Compared differs rest (length wanted ∷ (wanted ++ text)) → IsFront differs rest wanted text
 front_of differs rest wanted text h =
     let wanted_is : h.wanted ≡ wanted = sym (front_of_told wanted text _ _ h.wanted h.written refl refl h.held_is) in
@@ -97,7 +97,7 @@ none_of : (rest : List ℕ) → length rest ≡ 0 → rest ≡ []
 none_of [] e = refl
 none_of (byte ∷ rest) e = absurd (omega arith)
 
--- the state tells whether the text is the wanted one
+-- the state shows whether the text is the expected one
 pub told_by_rest : (differs : Bool) (rest wanted text : List ℕ) (result : Bool) → differs ≡ false → result ≡ (length rest == 0)
     → Compared differs rest (length wanted ∷ (wanted ++ text)) → Decides result (wanted ≡ text)
 told_by_rest differs rest wanted text result e is h =

@@ -1,4 +1,4 @@
--- What the parts of a conversion answer together.
+-- The result of a conversion from the results of its parts.
 use Rattle.std.proofs.Common.{◌≡◌, ℕ, List, Bool, true, false, refl, sym, ◌∙◌, subst, inl, inr, None, Some, Result, Ok, Err, Vec}
 use Rattle.std.specs.Prelude.{IfOk}
 use Rattle.std.specs.Bool.{Decides}
@@ -19,7 +19,7 @@ conversion_of declares first_fault unfit text bytes m (Err (Second fault)) decla
 conversion_of declares first_fault unfit text bytes m (Err (NotLp name_at)) declared h = (m, declared, h)
 conversion_of declares first_fault unfit text bytes m (Err OutOfMemory) declared h = tt
 
--- a model that cannot be told has no text
+-- a model with a name that is not legal in the format has no text
 pub place_is_told : (unfit : Unfit) (text : TextOf) (m : LinearModel) (name_at : NameAt) (result : Result (Vec ℕ Global) ConvertFault)
     → unfit m ≡ Some name_at → IsText unfit text m result → IsErrUnless result (NotLp name_at) OutOfMemory
 place_is_told unfit text m name_at (Ok out) e h = let bad : None ≡ Some name_at = sym h.0 ∙ e in absurd (cc)
@@ -34,7 +34,7 @@ pub text_keeps : (declares : Declares) (unfit : Unfit) (text : TextOf) (m : Line
 text_keeps declares unfit text m (Ok out) law h = subst (λ bytes. declares bytes m) (sym h.1) (law h.0)
 text_keeps declares unfit text m (Err fault) law h = tt
 
--- two texts that declare models are compared by these
+-- two texts that declare models are compared by their models
 pub comparison_of : (declares : Declares) (first_fault : HasFirstFault) (declares' : Declares) (first_fault' : HasFirstFault) (first second : List ℕ)
     (m n : LinearModel) (same : Bool) → Decides same (m ≡ n) → declares first m → declares' second n
     → IsComparison declares first_fault declares' first_fault' first second (Ok same)
@@ -43,7 +43,7 @@ comparison_of declares first_fault declares' first_fault' first second m n true 
 comparison_of declares first_fault declares' first_fault' first second m n false told one other =
     (m, n, one, other, not_from_Decides false told refl)
 
--- a text that declares a model is compared with that of the model
+-- a text that declares a model is compared with the text of the model
 pub test_of : (declares : Declares) (first_fault : HasFirstFault) (text : TextOf) (bytes : List ℕ) (m : LinearModel) (same : Bool)
     → declares bytes m → Decides same (bytes ≡ text m) → IsTestOfText declares first_fault text bytes (Ok same)
 test_of declares first_fault text bytes m true declared told = (m, declared, told.0 refl)

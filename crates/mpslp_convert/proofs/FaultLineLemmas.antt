@@ -1,4 +1,4 @@
--- How long the line of a fault and its parts are, and what a sink took of it.
+-- The length of the line of an error and of its parts, and what a sink took of the line.
 use Rattle.std.proofs.Common.{◌≡◌, ℕ, ◌+◌, ◌<◌, ◌≤◌, subst, List, [], ◌∷◌, ◌++◌, length, true, not, ap, ◌∙◌, lit≤, arith}
 use Rattle.std.specs.Prelude.{nat_le, ◌&&◌}
 use Rattle.std.specs.Cmp.{first_so, second_so}
@@ -66,7 +66,7 @@ name-short name legal =
     let most : nat_le (length name) 255 ≡ true = second_so (nat_le 1 (length name)) (nat_le (length name) 255) fits in
     grind (arith, nat_tests)
 
--- a blank and a name
+-- a space and a name
 pub named-bound : (before name after all : List ℕ) → IsMpsName name → after ≡ before ++ 32 ∷ [] → all ≡ after ++ name
     → length all ≤ length before + 256
 named-bound before name after all legal one two =
@@ -75,11 +75,11 @@ named-bound before name after all legal one two =
     let two_len = ap length two ∙ length-append after name in
     omega (arith, short, one_len, two_len)
 
--- a line ends
+-- a line has a line feed, so it is not empty
 pub fault_line-some : (fault : RunFault) → 0 < length (fault_line fault)
 fault_line-some fault = let len = length-append (fault_text fault) (10 ∷ []) in omega (arith, len)
 
--- what a sink took of a piece, told of a text that is the piece
+-- what a sink took of a piece, stated for a text that equals the piece
 pub TookFirst-of : {S : Type 0} (holds : S → List ℕ → Type 0) (old new : S) (piece text : List ℕ) (tally : ℕ) → piece ≡ text
     → TookMore holds old new piece 0 tally → TookFirst holds old new text tally
 TookFirst-of holds old new piece text tally same h =

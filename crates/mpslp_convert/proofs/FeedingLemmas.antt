@@ -10,7 +10,7 @@ use Rattle.mpslp_convert.specs.Feeding.{IsFoundIn, IsFedOn, IsModelOf, IsReading
 use Rattle.mpslp_convert.specs.declared.faults.RunFault.{RunFault}
 use Rattle.mpslp_convert.specs.declared.faults.RunFault.TheVariants.{Read, TooLong, File, NotLp, Write, OutOfMemory}
 
--- the source gave some bytes so far, and they were fed
+-- the source gave these bytes so far, and they were fed to the reader
 pub record Feeding {S P : Type 0} (left : S → Option (List ℕ)) (count : S → ℕ) (after : P → List ℕ → Type 0) (early_fault : List ℕ → Fault → Type 0)
     (first now : S) (reader : P) (fault : Option Fault) (room limit : ℕ) : Type 0 where
   pub bytes : List ℕ
@@ -21,7 +21,7 @@ pub record Feeding {S P : Type 0} (left : S → Option (List ℕ)) (count : S �
 
 -- ---- a piece
 
--- a fault that was found stays found
+-- an error that was found is kept
 pub found-before : {P : Type 0} (after : P → List ℕ → Type 0) (early_fault : List ℕ → Fault → Type 0) (old new : P) (fault : Option Fault) (bytes piece : List ℕ)
     → is_some fault ≡ true → IsFedOn after early_fault old fault bytes → IsFedOn after early_fault new fault (bytes ++ piece)
 found-before after early_fault old new None bytes piece e h = cc
@@ -33,7 +33,7 @@ pub fed-none : {P : Type 0} (after : P → List ℕ → Type 0) (early_fault : L
 fed-none after early_fault old new None bytes piece e f h = f h
 fed-none after early_fault old new (Some fault) bytes piece e f h = cc
 
--- the first fault comes with this piece
+-- the first error comes with this piece
 pub found-now : {P : Type 0} (after : P → List ℕ → Type 0) (early_fault : List ℕ → Fault → Type 0) (old : P) (fault : Option Fault) (found : Fault) (bytes piece : List ℕ)
     → is_some fault ≡ false → (after old bytes → early_fault (bytes ++ piece) found) → IsFedOn after early_fault old fault bytes → IsFoundIn early_fault found (bytes ++ piece)
 found-now after early_fault old None found bytes piece e f h =
@@ -42,12 +42,12 @@ found-now after early_fault old (Some fault) found bytes piece e f h = absurd (c
 
 -- ---- the end
 
--- a fault that was found is the first one
+-- an error that was found is the first one
 pub found-first : (early_fault first_fault : List ℕ → Fault → Type 0) (fault : Fault) (bytes : List ℕ)
     → ((front more : List ℕ) (f : Fault) → early_fault front f → first_fault (front ++ more) f) → IsFoundIn early_fault fault bytes → first_fault bytes fault
 found-first early_fault first_fault fault bytes is_first h = subst (λ l. first_fault l fault) (sym h.whole) (is_first h.front h.more fault h.found)
 
--- what a reader answers at the end of a source
+-- the result of a reader at the end of a source
 pub reading-of : (declares declares' : Declares) (first_fault first_fault' : HasFirstFault) (left left_now : Option (List ℕ)) (failed : Bool) (limit : ℕ) (bytes : List ℕ)
     (result : Result LinearModel RunFault) → ((m : LinearModel) → declares bytes m → declares' bytes m) → ((f : Fault) → first_fault bytes f → first_fault' bytes f)
     → SourceGave left left_now failed limit bytes → IsModelOf declares first_fault bytes result → IsReading declares' first_fault' left left_now failed limit result

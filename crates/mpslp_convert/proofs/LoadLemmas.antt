@@ -1,4 +1,4 @@
--- Bytes that a source gave, one piece after another.
+-- The bytes that a source gave, one piece after another.
 use Rattle.std.proofs.Common.{ℕ, ◌+◌, ◌≤◌, List, ◌++◌, Option, length, arith}
 use Rattle.std.proofs.lemmas.List.{length-append}
 use Rattle.std.proofs.KnownBytes.{Consumes-trans}

@@ -1,4 +1,4 @@
--- What the parts of a run answer together.
+-- The result of a run from the results of its parts.
 use Rattle.std.proofs.Common.{◌≡◌, sym, ap, ◌∙◌, ℕ, List, Bool, true, false, Option, Some, None, Result, Ok, Err, inl}
 use Rattle.std.specs.Prelude.{IsOkUnless}
 use Rattle.mpslp_types.specs.declared.faults.NameAt.{NameAt}
@@ -8,7 +8,7 @@ use Rattle.mpslp_convert.specs.Runs.{SourceGave, SourceHeld, IsPut, IsRun}
 use Rattle.mpslp_convert.specs.declared.faults.RunFault.{RunFault}
 use Rattle.mpslp_convert.specs.declared.faults.RunFault.TheVariants.{Read, TooLong, File, NotLp, Write, OutOfMemory}
 
--- what a source gave declares a model, and its text was put
+-- the bytes of a source declare a model, and its text was written
 pub run_of : {S : Type 0} (declares : Declares) (first_fault : HasFirstFault) (unfit : Unfit) (text : TextOf) (holds : S → List ℕ → Type 0)
     (failed : S → Bool) (count : S → ℕ) (left left_now : Option (List ℕ)) (source_failed : Bool) (limit : ℕ) (bytes : List ℕ) (m : LinearModel) (old new : S)
     (result : Result (Unit {0}) RunFault) → SourceGave left left_now source_failed limit bytes → declares bytes m
@@ -43,7 +43,7 @@ same_place name_at other e = cc
 not_both : {b : Bool} → b ≡ true → b ≡ false → ⊥
 not_both p q = absurd cc
 
--- a model that the format can tell is put where the sink works
+-- a model whose names are legal in the format is written if the sink works
 pub put_of_fit : {S : Type 0} (unfit : Unfit) (text : TextOf) (holds : S → List ℕ → Type 0) (failed : S → Bool) (count : S → ℕ) (m : LinearModel) (old new : S)
     (result : Result (Unit {0}) RunFault) → unfit m ≡ None → failed new ≡ false → IsPut unfit text holds failed count m old new result → IsOkUnless result OutOfMemory
 put_of_fit unfit text holds failed count m old new (Ok _) fits works put = tt
@@ -54,7 +54,7 @@ put_of_fit unfit text holds failed count m old new (Err (NotLp name_at)) fits wo
 put_of_fit unfit text holds failed count m old new (Err (Write written)) fits works put = absurd (not_both put.1.fails works)
 put_of_fit unfit text holds failed count m old new (Err OutOfMemory) fits works put = absurd put
 
--- of one that it cannot tell, the first name that it cannot is told
+-- for any other model the first name that is not legal is reported
 pub put_of_unfit : {S : Type 0} (unfit : Unfit) (text : TextOf) (holds : S → List ℕ → Type 0) (failed : S → Bool) (count : S → ℕ) (m : LinearModel) (old new : S)
     (result : Result (Unit {0}) RunFault) (name_at : NameAt) → unfit m ≡ Some name_at → IsPut unfit text holds failed count m old new result → IsErrUnless result (NotLp name_at) OutOfMemory
 put_of_unfit unfit text holds failed count m old new (Ok _) name_at not_fit put = apart name_at (sym put.0 ∙ not_fit)

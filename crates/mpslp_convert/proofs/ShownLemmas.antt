@@ -1,4 +1,4 @@
--- Rows and columns by their numbers, and a line of one as it is seen through a model's views.
+-- Rows and columns by number, and the line of one by the results of a model's accessors.
 use Rattle.std.proofs.Common.{◌≡◌, refl, sym, ap, ◌∙◌, ℕ, zero, suc, ◌≤◌, ◌+◌, List, [], ◌∷◌, ◌++◌, length, map, take, arith}
 use Rattle.std.specs.Prelude.{Option, Some, None, slice_get}
 use Rattle.std.specs.List.{flat_map, enumerate_from}
@@ -19,7 +19,7 @@ use Rattle.mpslp_convert.specs.ShownText.{row_line, row_text, column_line, colum
 no_value : {X : Type 0} (x : X) → ◌≡◌ {A = Option X} None (Some x) → ⊥
 no_value x e = cc
 
--- the entry of a number, with that number
+-- the entry at an index, with its number
 numbered-at : {X : Type 0} (n : ℕ) (xs : List X) (i : ℕ) → slice_get (enumerate_from n xs) i ≡ option_map (λ (x : X). (n + i, x)) (slice_get xs i)
 numbered-at n [] zero = refl
 numbered-at n [] (suc i) = refl
@@ -36,7 +36,7 @@ all-numbered {X} f es n h =
     let same = length-enumerate_from 0 es in
     flat_map-all f (enumerate_from 0 es) n (omega (arith, named, same, h))
 
--- the number of coefficients of rows in a column
+-- the number of nonzeros of a column
 pub all-elements : {L : Type 0} (m : LinearModel) (name : List ℕ) (f : Option ℕ × Number → List L) (n : ℕ) → length (column_elements m name) ≤ n
     → flat_map f (take n (numbered_elements m name)) ≡ flat_map f (numbered_elements m name)
 all-elements m name f n h =

@@ -1,4 +1,4 @@
--- How the fault of a run is told: its line, and the exit status of a program that it ends.
+-- The line that reports the error of a run, and the exit status of a program that ends with it.
 use Rattle.std.specs.Prelude.{ℕ, List, [], ◌++◌, Option, None, Some, ◌==◌, if◌then◌else◌, codes, decimal}
 use Rattle.mpslp_types.specs.FaultName.{kind_name}
 use Rattle.mpslp_types.specs.declared.faults.Fault.{Fault}
@@ -7,11 +7,11 @@ use Rattle.mpslp_types.specs.declared.faults.NameAt.TheVariants.{Objective, Row,
 use Rattle.mpslp_convert.specs.declared.faults.RunFault.{RunFault}
 use Rattle.mpslp_convert.specs.declared.faults.RunFault.TheVariants.{Read, TooLong, File, NotLp, Write, OutOfMemory}
 
--- where a fault of a file stands; line 0 is the file as a whole
+-- the place of an error of a file; line 0 is the whole file
 abbrev pub line_text : ℕ → List ℕ
 line_text line = if line == 0 then codes "file" else codes "line " ++ decimal line
 
--- behind a blank the row or column that a fault is told of
+-- a space and the row or column that has the error
 abbrev pub name_text : Option (List ℕ) → List ℕ
 name_text None = []
 name_text (Some name) = codes " " ++ name
@@ -21,11 +21,11 @@ place_text Objective = codes "objective"
 place_text (Row i) = codes "row " ++ decimal i
 place_text (Column j) = codes "column " ++ decimal j
 
--- what is told of the fault of a file
+-- the text that reports an error of a file
 abbrev pub file_text : Fault → List ℕ
 file_text fault = line_text fault.line ++ codes ": " ++ kind_name fault.kind ++ name_text fault.name
 
--- what is told of a fault, without the end of the line
+-- the text that reports an error, without the line feed
 abbrev pub fault_text : RunFault → List ℕ
 fault_text Read = codes "read failed"
 fault_text TooLong = codes "file: TooLong"

@@ -1,4 +1,4 @@
--- What is known of a source whose bytes are fed to a reader.
+-- Properties of a source whose bytes are fed to a reader.
 use Rattle.std.specs.Prelude.{◌≡◌, ℕ, List, ◌++◌, Bool, false, true, Option, None, Some, Result, Ok, Err}
 use Rattle.mpslp_model_core.specs.Model.{LinearModel}
 use Rattle.mpslp_types.specs.declared.faults.Fault.{Fault}
@@ -7,19 +7,19 @@ use Rattle.mpslp_convert.specs.Runs.{IsLonger, SourceGave}
 use Rattle.mpslp_convert.specs.declared.faults.RunFault.{RunFault}
 use Rattle.mpslp_convert.specs.declared.faults.RunFault.TheVariants.{Read, TooLong, File, NotLp, Write, OutOfMemory}
 
--- The fault was found in the front of the bytes.
+-- The error was found in a prefix of the bytes.
 pub record IsFoundIn (early_fault : List ℕ → Fault → Type 0) (fault : Fault) (bytes : List ℕ) : Type 0 where
   pub front : List ℕ
   pub more : List ℕ
   pub whole : bytes ≡ front ++ more
   pub found : early_fault front fault
 
--- The reader was fed these bytes; or a fault was found in the front of them.
+-- The reader was fed these bytes; or an error was found in a prefix of them.
 abbrev pub IsFedOn : {P : Type 0} → (P → List ℕ → Type 0) → (List ℕ → Fault → Type 0) → P → Option Fault → List ℕ → Type 0
 IsFedOn after early_fault reader None bytes = after reader bytes
 IsFedOn after early_fault reader (Some fault) bytes = IsFoundIn early_fault fault bytes
 
--- The model that the bytes declare, or their first fault; or there was no memory.
+-- The model that the bytes declare, or their first error; or out of memory.
 abbrev pub IsModelOf : Declares → HasFirstFault → List ℕ → Result LinearModel RunFault → Type 0
 IsModelOf declares first_fault bytes (Ok m) = declares bytes m
 IsModelOf declares first_fault bytes (Err Read) = ⊥
@@ -29,8 +29,7 @@ IsModelOf declares first_fault bytes (Err (NotLp name_at)) = ⊥
 IsModelOf declares first_fault bytes (Err (Write written)) = ⊥
 IsModelOf declares first_fault bytes (Err OutOfMemory) = Unit {0}
 
--- The model that all that was left in a source declares, or why there is none. `failed` is whether the source has failed
--- in the end.
+-- The model that all remaining bytes of a source declare, or the error. `failed` is whether the source has failed in the end.
 abbrev pub IsReading : Declares → HasFirstFault → Option (List ℕ) → Option (List ℕ) → Bool → ℕ → Result LinearModel RunFault → Type 0
 IsReading declares first_fault left left_now failed limit (Ok m) = (bytes : List ℕ) × SourceGave left left_now failed limit bytes × declares bytes m
 IsReading declares first_fault left left_now failed limit (Err Read) = failed ≡ true

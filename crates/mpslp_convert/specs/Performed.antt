@@ -1,4 +1,4 @@
--- What is done of a job, what is told of it, and the status that ends it.
+-- What is done for a job, what is reported, and the exit status.
 use Rattle.std.specs.Prelude.{◌≡◌, ℕ, ◌+◌, ◌≤◌, List, [], ◌++◌, length, Bool, true, false, Option, None, Result, Ok, Err, Vec, codes, if◌then◌else◌}
 use Rattle.std.specs.declared.alloc.Global.{Global}
 use Rattle.mpslp_types.specs.declared.faults.NameAt.{NameAt}
@@ -48,9 +48,9 @@ abbrev pub text_in : Form → TextOf
 text_in Mps = canonical_mps
 text_in Lp = canonical_lp
 
--- ---- what is told
+-- ---- what is reported
 
--- a fault of the job's only input, or of one of two
+-- an error of the job's only input, or of one of two
 abbrev pub failure_of : Input → RunFault → Failure
 failure_of input fault = record { input = input; fault = fault }
 
@@ -59,7 +59,7 @@ input_text Only = []
 input_text First = codes "first: "
 input_text Second = codes "second: "
 
--- which input it is goes before faults of inputs alone
+-- errors that belong to an input, whose lines name it
 abbrev pub is_of_input : RunFault → Bool
 is_of_input Read = true
 is_of_input TooLong = true
@@ -85,17 +85,17 @@ refusal_status (refused.UnknownFormat word) = 3
 refusal_status refused.BothInputs = 3
 refusal_status refused.OutOfMemory = 5
 
--- A sink took the line, or its first bytes before it failed, in no more calls than the line has bytes.
+-- A sink took the line, or a prefix of it before it failed, in at most as many calls as the line has bytes.
 abbrev pub IsTold : {E : Type 0} → (E → List ℕ → Type 0) → (E → Bool) → (E → ℕ) → E → E → List ℕ → Type 0
 IsTold holds failed count old new line =
     (answer : Result (Unit {0}) WriteFault) × IsTaken holds failed old new line answer × (count new ≤ count old + length line)
 
--- The status of what was done, with nothing told; or the failure's, with its line told.
+-- The status of a job that is done, and nothing is reported; or that of its failure, whose line is reported.
 abbrev pub IsEnded : {E : Type 0} → (E → List ℕ → Type 0) → (E → Bool) → (E → ℕ) → E → E → Result ℕ Failure → ℕ → Type 0
 IsEnded holds failed count old new (Ok do_job) status = (status ≡ do_job) × (new ≡ old)
 IsEnded holds failed count old new (Err failure) status = (status ≡ status_of failure.fault) × IsTold holds failed count old new (failure_line failure)
 
--- A text was handed on, or the sink failed.
+-- A text was written and flushed, or the sink failed.
 abbrev pub IsPrinted : {W : Type 0} → (W → List ℕ → Type 0) → (W → Bool) → (W → ℕ) → W → W → List ℕ → Result (Unit {0}) RunFault → Type 0
 IsPrinted holds failed count old new text (Ok _) = IsHandedOn holds failed count old new text
 IsPrinted holds failed count old new text (Err Read) = ⊥
@@ -107,12 +107,12 @@ IsPrinted holds failed count old new text (Err OutOfMemory) = ⊥
 
 -- ---- what is done
 
--- how a job ends that had this answer: by this status, or by the failure
+-- the end of a job with this result: this status, or the failure
 abbrev pub ended_by : ℕ → Result (Unit {0}) RunFault → Result ℕ Failure
 ended_by status (Ok _) = Ok status
 ended_by status (Err fault) = Err (failure_of Only fault)
 
--- A run between a source and a sink had an answer, and the job ends by it.
+-- A run between a source and a sink had a result, and the job ends with it.
 abbrev pub IsRunDone : {W : Type 0} → Declares → HasFirstFault → Unfit → TextOf → (W → List ℕ → Type 0) → (W → Bool) → (W → ℕ)
     → Option (List ℕ) → Option (List ℕ) → Bool → ℕ → W → W → Result ℕ Failure → Type 0
 IsRunDone declares first_fault unfit text holds failed count left left_now source_failed limit old new do_job =
@@ -136,7 +136,7 @@ comparison_failure (compared.Second fault) = failure_of Second (File fault)
 comparison_failure (compared.NotLp name_at) = failure_of Only (NotLp name_at)
 comparison_failure compared.OutOfMemory = failure_of Only OutOfMemory
 
--- What a comparison answered is printed, or its failure ends the job.
+-- The result of a comparison is printed, or its failure ends the job.
 abbrev pub IsSaid : {W : Type 0} → (W → List ℕ → Type 0) → (W → Bool) → (W → ℕ) → W → W → Result Bool ConvertFault → Result ℕ Failure → Type 0
 IsSaid holds failed count old new (Ok same) do_job =
     (answer : Result (Unit {0}) RunFault) × IsPrinted holds failed count old new (same_line same) answer × (do_job ≡ ended_by (same_status same) answer)
@@ -149,7 +149,7 @@ IsSecondDone declares first_fault declares' first_fault' holds failed count old 
     (same : Result Bool ConvertFault) × IsComparison declares first_fault declares' first_fault' one other.items same × IsSaid holds failed count old new same do_job
 IsSecondDone declares first_fault declares' first_fault' holds failed count old new one (Err fault) do_job = (do_job ≡ Err (failure_of Second fault)) × (new ≡ old)
 
--- The first input was loaded, and then the second; where the first one was not, the second was not read.
+-- The first input was loaded, and then the second; if the first one was not, the second was not read.
 abbrev pub IsFirstDone : {W S : Type 0} → Declares → HasFirstFault → Declares → HasFirstFault → (W → List ℕ → Type 0) → (W → Bool) → (W → ℕ)
     → (S → Option (List ℕ)) → (S → Bool) → ℕ → S → S → W → W → Result (Vec ℕ Global) RunFault → Result ℕ Failure → Type 0
 IsFirstDone declares first_fault declares' first_fault' holds failed count left source_failed limit second second' old new (Ok one) do_job =
@@ -165,7 +165,7 @@ IsSameDone declares first_fault declares' first_fault' holds failed count left s
     (one : Result (Vec ℕ Global) RunFault) × IsLoad (left first) (left first') (source_failed first') limit one
     × IsFirstDone declares first_fault declares' first_fault' holds failed count left' source_failed' limit second second' old new one do_job
 
--- A job was done. The second source is read by a comparison alone.
+-- A job was done. Only a comparison reads the second source.
 abbrev pub IsDone : {W R S : Type 0} → (W → List ℕ → Type 0) → (W → Bool) → (W → ℕ)
     → (R → Option (List ℕ)) → (R → Bool) → (S → Option (List ℕ)) → (S → Bool) → ℕ → R → R → S → S → W → W → Job → Result ℕ Failure → Type 0
 IsDone holds failed count left source_failed left' source_failed' limit first first' second second' old new (Canon from to path) do_job =
@@ -178,7 +178,7 @@ IsDone holds failed count left source_failed left' source_failed' limit first fi
     IsRunDone (declares_in from) (first_fault_in from) (λ m. None) shown_text holds failed count (left first) (left first') (source_failed first') limit old new do_job
     × (second' ≡ second)
 
--- Why words are no job was told: a text that was asked for is printed, and all else goes where faults go.
+-- It was reported why the arguments are not a job: a requested text is printed, everything else goes to the error output.
 abbrev pub IsRefused : {W E : Type 0} → (W → List ℕ → Type 0) → (W → Bool) → (W → ℕ) → (E → List ℕ → Type 0) → (E → Bool) → (E → ℕ) → W → W → E → E → JobFault → ℕ → Type 0
 IsRefused holds failed count holds_err failed_err count_err old new err err' (refused.Help text) status =
     (answer : Result (Unit {0}) RunFault) × IsPrinted holds failed count old new text answer × IsEnded holds_err failed_err count_err err err' (ended_by (refusal_status (refused.Help text)) answer) status
@@ -191,7 +191,7 @@ IsRefused holds failed count holds_err failed_err count_err old new err err' ref
 IsRefused holds failed count holds_err failed_err count_err old new err err' refused.OutOfMemory status =
     (status ≡ refusal_status refused.OutOfMemory) × (new ≡ old) × IsTold holds_err failed_err count_err err err' (refusal_line refused.OutOfMemory)
 
--- A job was done, or why there is none was told, and the status answered. Of words that are no job nothing is read.
+-- A job was done, or it was reported why there is none, and the status was returned. Without a job no source is read.
 abbrev pub IsPerformed : {W E R S : Type 0} → (W → List ℕ → Type 0) → (W → Bool) → (W → ℕ) → (E → List ℕ → Type 0) → (E → Bool) → (E → ℕ)
     → (R → Option (List ℕ)) → (R → Bool) → (S → Option (List ℕ)) → (S → Bool) → ℕ → R → R → S → S → W → W → E → E → Result Job JobFault → ℕ → Type 0
 IsPerformed holds failed count holds_err failed_err count_err left source_failed left' source_failed' limit first first' second second' old new err err' (Ok job) status =

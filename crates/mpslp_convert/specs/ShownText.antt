@@ -1,4 +1,4 @@
--- The text that shows a model: what is asked of it, a line each.
+-- The text that shows a model, line by line.
 use Rattle.std.specs.Prelude.{ℕ, List, [], ◌∷◌, ◌++◌, Option, codes, decimal}
 use Rattle.std.specs.List.{flat_map, enumerate_from}
 use Rattle.std.specs.Option.{option_map_or}
@@ -14,7 +14,7 @@ use Rattle.mpslp_types.specs.declared.kinds.Kind.TheVariants.{Continuous, Intege
 use Rattle.mpslp_types.specs.declared.kinds.Limit.{Limit}
 use Rattle.mpslp_types.specs.declared.kinds.Limit.TheVariants.{MinusInf, Finite, PlusInf}
 
--- words behind a blank each, to the end of the line
+-- words with a space before each, and the line feed
 abbrev pub words_after_blanks : List (List ℕ) → List ℕ
 words_after_blanks [] = codes "\n"
 words_after_blanks (word ∷ words) = codes " " ++ (word ++ words_after_blanks words)
@@ -51,7 +51,7 @@ counts_line m =
 
 -- ---- rows
 
--- a row by its number, name, letter, limits, right side and range
+-- a row with its number, name, letter, limits, right-hand side and range
 abbrev pub row_line : ℕ → List ℕ → ℕ → Limit → Limit → Number → Number → List ℕ
 row_line i name letter lower upper rhs range =
     line_of (codes "row")
@@ -68,25 +68,25 @@ rows_text m = flat_map row_text (enumerate_from 0 (entries m.rows))
 
 -- ---- columns
 
--- a column by its number, name, kind, bounds and coefficient of the objective
+-- a column with its number, name, type, bounds and objective coefficient
 abbrev pub column_line : ℕ → List ℕ → Kind → Limit → Limit → Number → List ℕ
 column_line j name kind lower upper value =
     line_of (codes "column")
     (decimal j ∷ name ∷ kind_word kind ∷ limit_text lower ∷ limit_text upper ∷ codes "objective" ∷ number_text value ∷ [])
 
--- a coefficient by the numbers of its column and row
+-- a nonzero with the numbers of its column and row
 abbrev pub entry_line : ℕ → ℕ → Number → List ℕ
 entry_line j i value = line_of (codes "entry") (decimal j ∷ decimal i ∷ number_text value ∷ [])
 
--- each coefficient is of a row that has a number
+-- each nonzero is in a row with a number
 abbrev pub entry_text : ℕ → Option ℕ × Number → List ℕ
 entry_text j entry = option_map_or (λ i. entry_line j i entry.1) entry.0 []
 
--- the coefficients of rows in a column that are not 0, in the order of rows
+-- the nonzeros of a column, in the order of rows
 abbrev pub entries_text : LinearModel → ℕ → List ℕ → List ℕ
 entries_text m j name = flat_map (entry_text j) (numbered_elements m name)
 
--- a column, and below it its coefficients
+-- a column, followed by its nonzeros
 abbrev pub column_text : LinearModel → ℕ × (List ℕ × Column) → List ℕ
 column_text m column =
     let name = column.1.0 in

@@ -1,11 +1,11 @@
-//! A sink that keeps what it takes.
+//! A sink that stores what is written to it.
 
 ghost use Rattle.std.specs.Prelude.{◌≡◌, [], false};
 
 use mpslp_model::{IoFailed, Sink};
 use std::alloc::Global;
 
-/// Takes whole pieces, and fails where there is no memory for one.
+/// Takes whole pieces, and fails if there is no memory for one.
 #[derive(Drop)]
 pub(crate) struct Collected {
     bytes: Vec<u8>,

@@ -1,4 +1,4 @@
-//! A sink that compares what it takes.
+//! A sink that compares what is written to it with a text.
 
 ghost use Rattle.std.specs.Prelude.{◌≡◌, ◌∷◌, ◌++◌, ℕ, List, false, length};
 ghost use Rattle.std.specs.Bool.{Decides};
@@ -6,18 +6,18 @@ ghost use Rattle.mpslp_convert.specs.Compared.{Compared};
 
 use mpslp_model::{IoFailed, Sink};
 
-/// Compares what it takes with a wanted text. It never fails, and takes no memory.
+/// Compares what is written with an expected text. It never fails and allocates nothing.
 #[derive(Drop)]
 pub(crate) struct Comparison<'a> {
-    /// What is still wanted, unless something else was taken.
+    /// The rest of the expected text, unless something else was written.
     rest: &'a [u8],
-    /// Something else was taken.
+    /// Something else was written.
     differs: bool,
     calls: u64,
 }
 
 impl<'a> Comparison<'a> {
-    /// Nothing was taken yet.
+    /// A comparison with this text, before anything is written.
     pub(crate) fn with(wanted: &'a [u8]) -> Comparison<'a>
         ensures { Compared result.differs result.rest.now (length wanted.now ∷ wanted.now) }
     {
@@ -28,7 +28,7 @@ impl<'a> Comparison<'a> {
         }
     }
 
-    /// Whether exactly the wanted text was taken.
+    /// Whether exactly the expected text was written.
     pub(crate) fn is_same(&self) -> bool
         ensures { (wanted text : List ℕ) → Compared self.now.differs self.now.rest.now (length wanted ∷ (wanted ++ text))
             → Decides result (wanted ≡ text) }

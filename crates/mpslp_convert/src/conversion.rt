@@ -12,12 +12,12 @@ use crate::faults::ConvertFault;
 use mpslp_model::{Format, Model, ReadFault, WriteFault};
 use std::alloc::Global;
 
-/// The model that the bytes declare in A.
+/// Returns the model that the bytes declare in A.
 ///
 /// # Errors
 ///
-/// [`First`](ConvertFault::First) with the first fault of bytes that declare no model;
-/// [`OutOfMemory`](ConvertFault::OutOfMemory) if memory was refused. The others are never returned.
+/// [`First`](ConvertFault::First) with the first error of bytes that declare no model;
+/// [`OutOfMemory`](ConvertFault::OutOfMemory). The others are never returned.
 pub fn model_of<A: Format>(alloc: Global, bytes: &[u8]) -> Result<Model, ConvertFault>
     ensures { IsReadingOfFirst A.declares A.first_fault bytes.now result }
 {
@@ -29,12 +29,12 @@ pub fn model_of<A: Format>(alloc: Global, bytes: &[u8]) -> Result<Model, Convert
     }
 }
 
-/// The canonical text in B of a model.
+/// Returns the canonical text of a model in B.
 ///
 /// # Errors
 ///
-/// [`NotLp`](ConvertFault::NotLp) with the first place of the model that B cannot tell;
-/// [`OutOfMemory`](ConvertFault::OutOfMemory) if memory was refused. The others are never returned.
+/// [`NotLp`](ConvertFault::NotLp) with the first name of the model that is not legal in B;
+/// [`OutOfMemory`](ConvertFault::OutOfMemory). The others are never returned.
 pub fn text_of<B: Format>(alloc: Global, model: &Model) -> Result<Vec<u8>, ConvertFault>
     ensures { IsText B.unfit B.text model.now result }
 {
@@ -46,14 +46,13 @@ pub fn text_of<B: Format>(alloc: Global, model: &Model) -> Result<Vec<u8>, Conve
     }
 }
 
-/// The canonical text in B of the model that the bytes declare in A.
+/// Returns the canonical text in B of the model that the bytes declare in A.
 ///
 /// # Errors
 ///
-/// [`First`](ConvertFault::First) with the first fault of bytes that declare no model, and else
-/// [`NotLp`](ConvertFault::NotLp) with the first place of the model that B cannot tell;
-/// [`OutOfMemory`](ConvertFault::OutOfMemory) where memory was refused. [`Second`](ConvertFault::Second)
-/// is never answered.
+/// [`First`](ConvertFault::First) with the first error of bytes that declare no model; otherwise
+/// [`NotLp`](ConvertFault::NotLp) with the first name of the model that is not legal in B;
+/// [`OutOfMemory`](ConvertFault::OutOfMemory) if an allocation fails. [`Second`](ConvertFault::Second) is never returned.
 pub fn canonical<A: Format, B: Format>(alloc: Global, bytes: &[u8]) -> Result<Vec<u8>, ConvertFault>
     ensures answer { IsConversion A.declares A.first_fault B.unfit B.text bytes.now result }
     ensures accepts { (m : LinearModel) → A.declares bytes.now m → B.unfit m ≡ None
@@ -68,14 +67,13 @@ pub fn canonical<A: Format, B: Format>(alloc: Global, bytes: &[u8]) -> Result<Ve
     text_of::<B>(alloc, &model)
 }
 
-/// Whether the first text declares in A the model that the second declares in B.
+/// Returns whether the first text declares in A the model that the second one declares in B.
 ///
 /// # Errors
 ///
-/// [`First`](ConvertFault::First) with the first fault of a first text that declares no model, and else
-/// [`Second`](ConvertFault::Second) with that of the second text;
-/// [`OutOfMemory`](ConvertFault::OutOfMemory) where memory was refused. [`NotLp`](ConvertFault::NotLp) is
-/// never answered.
+/// [`First`](ConvertFault::First) with the first error of a first text that declares no model; otherwise
+/// [`Second`](ConvertFault::Second) with that of the second text; [`OutOfMemory`](ConvertFault::OutOfMemory) if an
+/// allocation fails. [`NotLp`](ConvertFault::NotLp) is never returned.
 pub fn same_model<A: Format, B: Format>(
     alloc: Global,
     first: &[u8],
@@ -98,13 +96,13 @@ pub fn same_model<A: Format, B: Format>(
     }
 }
 
-/// Whether the bytes are the canonical text in A of the model that they declare in A. The text is
-/// compared as it is written, and no copy of it is made.
+/// Returns whether the bytes are the canonical text in A of the model that they declare in A. The text is compared while it
+/// is written, without a copy.
 ///
 /// # Errors
 ///
-/// [`First`](ConvertFault::First) with the first fault of bytes that declare no model;
-/// [`OutOfMemory`](ConvertFault::OutOfMemory) where memory was refused. The others are never answered.
+/// [`First`](ConvertFault::First) with the first error of bytes that declare no model;
+/// [`OutOfMemory`](ConvertFault::OutOfMemory) if an allocation fails. The others are never returned.
 pub fn is_canonical<A: Format>(alloc: Global, bytes: &[u8]) -> Result<bool, ConvertFault>
     ensures answer { IsTestOfText A.declares A.first_fault A.text bytes.now result }
     ensures accepts { (m : LinearModel) → A.declares bytes.now m → IsOkUnless result ConvertFault.OutOfMemory }

@@ -1,13 +1,13 @@
-//! A sink that counts what it takes.
+//! A sink that counts the bytes written to it.
 
 ghost use Rattle.std.specs.Prelude.{◌≡◌, ◌-◌, ◌^◌, false, min, length};
 
 use mpslp_model::{IoFailed, Sink};
 
-/// Keeps only how many bytes it took, never fails, and takes no memory.
+/// Stores only how many bytes were written. It never fails and allocates nothing.
 #[derive(Drop)]
 pub(crate) struct Counter {
-    /// The number stays at 2^64 - 1.
+    /// The count saturates at 2^64 - 1.
     taken: u64,
     calls: u64,
 }

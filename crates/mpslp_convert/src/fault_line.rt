@@ -1,4 +1,4 @@
-//! How the fault of a run is told.
+//! The line that reports the error of a run.
 
 ghost use Rattle.std.specs.Prelude.{◌≡◌, ◌+◌, ◌≤◌, ◌++◌, ℕ, List, [], true, false, Option, length, IsOk, decimal};
 ghost use Rattle.mpslp_convert.specs.FaultLine.{line_text, name_text, place_text, file_text, fault_text, fault_line, status_of};
@@ -11,11 +11,10 @@ use mpslp_model::laws::each_name_is_legal;
 use mpslp_model::{Fault, Name, NameAt, Sink, WriteFault, put_all};
 use std::marker::Model;
 
-/// Room for any line: a place of at most 47 bytes, a kind of at most 16, a name of at most 255, and what
-/// stands between them.
+/// Enough for every line: a place of at most 47 bytes, a kind of at most 16, a name of at most 255, and separators.
 const CAPACITY: usize = 384;
 
-/// A line that is being put together, in a place that takes no memory.
+/// A line under construction, in a buffer on the stack.
 #[derive(Drop)]
 pub(crate) struct Line {
     bytes: ArrayVec<u8, CAPACITY>,
@@ -70,7 +69,7 @@ impl Line {
         }
     }
 
-    /// A text, and behind it a number.
+    /// A text followed by a number.
     fn numbered(text: &[u8], number: u64) -> Line
         requires { length text.now ≤ 7 }
         ensures text { result ≡ text.now ++ decimal number }
@@ -92,7 +91,7 @@ impl Line {
         line
     }
 
-    /// Where a fault of a file stands.
+    /// The place of an error in a file: its line, or the whole file.
     fn of_line(line: u64) -> Line
         ensures text { result ≡ line_text line }
         ensures bound { length result ≤ 47 }
@@ -104,7 +103,7 @@ impl Line {
         }
     }
 
-    /// A place in a model.
+    /// A name in a model, by its number.
     fn of_place(name_at: NameAt) -> Line
         ensures text { result ≡ place_text name_at }
         ensures bound { length result ≤ 47 }
@@ -116,7 +115,7 @@ impl Line {
         }
     }
 
-    /// What is told of a fault of a file.
+    /// The text that reports an error of a file.
     fn of_file(fault: &Fault) -> Line
         ensures text { result ≡ file_text fault.now }
         ensures bound { length result ≤ 321 }
@@ -128,7 +127,7 @@ impl Line {
         line
     }
 
-    /// What is told of a place that a format cannot tell.
+    /// The text that reports a name that is not legal in the format.
     fn of_not_lp(name_at: NameAt) -> Line
         ensures text { result ≡ fault_text (RunFault.NotLp name_at) }
         ensures bound { length result ≤ 321 }
@@ -138,7 +137,7 @@ impl Line {
         line
     }
 
-    /// What is told of a fault.
+    /// The text that reports an error.
     fn of_fault(fault: &RunFault) -> Line
         ensures text { result ≡ fault_text fault.now }
         ensures bound { length result ≤ 321 }
@@ -155,8 +154,8 @@ impl Line {
 }
 
 impl RunFault {
-    /// The exit status of a program that the fault ends: 2 where the file is refused, 4 where a device
-    /// failed, 5 where there was no memory.
+    /// The exit status of a program that ends with this error: 2 if the file is rejected, 4 if a device failed, 5 if memory ran
+    /// out.
     pub fn status(&self) -> u8
         ensures { result ≡ status_of self.now }
     {
@@ -179,13 +178,12 @@ pub(crate) fn line_of(fault: &RunFault) -> Line
     line
 }
 
-/// Writes the line of a fault, in as many calls as it has bytes at most, and does not flush. No memory is
-/// taken.
+/// Writes the line of an error. Makes at most as many calls as the line has bytes, does not flush and allocates nothing.
 ///
 /// # Errors
 ///
-/// [`Write`](WriteFault::Write) exactly where the sink has failed when the call ends: it has taken that
-/// many first bytes of the line, and nothing else. [`NotLp`](WriteFault::NotLp) is never answered.
+/// [`Write`](WriteFault::Write) if and only if the sink has failed when the call ends; it has then taken only the reported
+/// number of bytes from the start of the line. [`NotLp`](WriteFault::NotLp) is never returned.
 pub fn report<W: Sink>(fault: &RunFault, sink: &mut W) -> Result<(), WriteFault>
     ensures answer { IsTaken W.holds W.failed sink.old sink.new (fault_line fault.now) result }
     ensures succeeds { W.failed sink.new ≡ false → IsOk result }

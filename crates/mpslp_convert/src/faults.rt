@@ -1,37 +1,37 @@
-//! Why a conversion or a run gives no text.
+//! Why a conversion or a run produces no text.
 
 use mpslp_model::{Fault, NameAt};
 
 /// Why bytes are not converted or compared.
 #[derive(Debug, Drop)]
 pub enum ConvertFault {
-    /// The first text declares no model, and has this first fault.
+    /// The first text declares no model, and this is its first error.
     First(Fault),
-    /// The second text declares no model, and has this first fault.
+    /// The second text declares no model, and this is its first error.
     Second(Fault),
-    /// The model has a name that the format of the result cannot tell, at this place.
+    /// The model has a name that is not legal in the format of the result. This is the first one.
     NotLp(NameAt),
-    /// There was no memory.
+    /// Out of memory.
     OutOfMemory,
 }
 
-/// Why a run between a source and a sink wrote no whole text. The first that applies is told, and want
-/// of memory where it happens.
+/// Why a run between a source and a sink wrote no complete text. The variants are in the order in which they are checked;
+/// out of memory is reported where it occurs.
 #[derive(Debug, Drop)]
 pub enum RunFault {
     /// The source has failed.
     Read,
-    /// The source had more bytes than were allowed.
+    /// The source had more bytes than the limit.
     TooLong,
-    /// The bytes declare no model, and have this first fault.
+    /// The bytes declare no model, and this is their first error.
     File(Fault),
-    /// The model has a name that the format of the result cannot tell, at this place.
+    /// The model has a name that is not legal in the format of the result. This is the first one.
     NotLp(NameAt),
     /// The sink has failed.
     Write {
-        /// How many first bytes of the text the sink took. The number stays at 2^64 - 1.
+        /// How many bytes of the text the sink took before it failed. The count saturates at 2^64 - 1.
         written: u64,
     },
-    /// There was no memory.
+    /// Out of memory.
     OutOfMemory,
 }

@@ -1,4 +1,4 @@
-//! Reading a model from a source that is fed to a reader piece by piece.
+//! Reading a model from a source whose bytes are fed to a reader piece by piece.
 
 ghost use Rattle.std.specs.Prelude.{◌≡◌, ◌+◌, ◌≤◌, ◌++◌, ℕ, List, true, OnOk};
 ghost use Rattle.mpslp_convert.specs.Feeding.{IsFedOn, IsModelOf, IsReading};
@@ -9,7 +9,7 @@ use crate::source_to_sink::PIECE;
 use mpslp_model::{Fault, Format, Model, ModelReader, ReadFault, Source};
 use std::alloc::{AllocError, Global};
 
-/// Feeds a piece to the reader, unless a fault was found before; the first fault is kept.
+/// Feeds a piece to the reader, unless an error was found before; the first error is kept.
 fn feed_on<P: ModelReader>(
     reader: &mut P,
     fault: &mut Option<Fault>,
@@ -31,7 +31,7 @@ fn feed_on<P: ModelReader>(
     }
 }
 
-/// The model that all bytes together declare, or the fault that was found.
+/// The model that all bytes together declare, or the error that was found.
 fn finish_fed<P: ModelReader>(reader: P, fault: Option<Fault>) -> Result<Model, RunFault>
     ensures { (bytes : List ℕ) → IsFedOn P.after P.early_fault reader fault bytes → IsModelOf P.declares P.first_fault bytes result }
 {
@@ -45,8 +45,8 @@ fn finish_fed<P: ModelReader>(reader: P, fault: Option<Fault>) -> Result<Model, 
     }
 }
 
-/// The model that the bytes of a source declare. They are read as by [`load`](crate::load), but not kept. A fault of them is
-/// told only where the source has ended.
+/// Reads the model that the bytes of a source declare. Reads like [`load`](crate::load), but does not keep the bytes. An error
+/// in them is reported only after the source has ended.
 pub(crate) fn read_model<A: Format, R: Source>(
     alloc: Global,
     max_bytes: u64,

@@ -1,4 +1,4 @@
-//! How jobs end: what is told, and the exit status.
+//! How jobs end: the line of an error, and the exit status.
 
 ghost use Rattle.std.specs.Prelude.{◌≡◌, ◌++◌, [], ℕ, List, true, Result, if◌then◌else◌};
 ghost use Rattle.mpslp_convert.specs.FaultLine.{fault_line};
@@ -10,13 +10,13 @@ use mpslp_jobs::JobFault;
 use mpslp_model::{Sink, put_all};
 use mpslp_write::Buffer;
 
-/// The exit status of words that are no job.
+/// The exit status of arguments that are not a job.
 const WRONG_WORDS: u8 = 3;
 
-/// The exit status where there was no memory to take the words.
+/// The exit status if there was no memory for the arguments.
 const NO_MEMORY: u8 = 5;
 
-/// Which input a fault is told of.
+/// The input that an error belongs to.
 #[derive(Clone, Copy)]
 pub(crate) enum Input {
     Only,
@@ -63,7 +63,7 @@ impl Failure {
     }
 }
 
-/// Whether a fault is told of an input, so that it matters which one that is.
+/// Whether an error belongs to an input, so that its line names the input.
 fn is_of_input(fault: &RunFault) -> bool
     ensures { result ≡ is_of_input fault.now }
 {
@@ -85,7 +85,7 @@ fn tell<E: Sink>(err: &mut E, front: &[u8], middle: &[u8], end: &[u8])
     let _ = buffer.finish(err);
 }
 
-/// Tells the line of a failure.
+/// Writes the line of a failure.
 fn tell_failure<E: Sink>(failure: &Failure, err: &mut E)
     ensures answer { IsTold E.holds E.failed E.count err.old err.new (failure_line failure.now) }
     ensures err_stays { E.failed err.old ≡ true → E.failed err.new ≡ true }
@@ -99,7 +99,7 @@ fn tell_failure<E: Sink>(failure: &Failure, err: &mut E)
     tell(err, input, line.as_bytes(), b"");
 }
 
-/// The exit status of a job that ended so. A failure is told.
+/// Returns the exit status of a job, and reports its failure if there is one.
 pub(crate) fn status_of_end<E: Sink>(end: &Result<u8, Failure>, err: &mut E) -> u8
     ensures answer { IsEnded E.holds E.failed E.count err.old err.new end.now result }
     ensures err_stays { E.failed err.old ≡ true → E.failed err.new ≡ true }
@@ -128,7 +128,7 @@ pub(crate) fn print<W: Sink>(text: &[u8], out: &mut W) -> Result<(), RunFault>
     }
 }
 
-/// How a job ends whose last step had this answer.
+/// The end of a job whose last step had this result.
 pub(crate) fn ended_by(status: u8, answer: Result<(), RunFault>) -> Result<u8, Failure>
     ensures { result ≡ ended_by status answer }
 {
@@ -138,7 +138,7 @@ pub(crate) fn ended_by(status: u8, answer: Result<(), RunFault>) -> Result<u8, F
     }
 }
 
-/// Tells why there is no job, and answers the exit status.
+/// Reports why there is no job, and returns the exit status.
 pub(crate) fn refuse<W: Sink, E: Sink>(fault: &JobFault, out: &mut W, err: &mut E) -> u8
     ensures answer { IsRefused W.holds W.failed W.count E.holds E.failed E.count out.old out.new err.old err.new fault.now result }
     ensures out_stays { W.failed out.old ≡ true → W.failed out.new ≡ true }

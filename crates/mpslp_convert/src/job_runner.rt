@@ -1,4 +1,4 @@
-//! The jobs of a program, done between sources and sinks.
+//! The jobs of the program, between sources and sinks.
 
 ghost use Rattle.std.specs.Prelude.{◌≡◌, None, true};
 ghost use Rattle.mpslp_convert.specs.Runs.{ReadsWithin};
@@ -15,7 +15,7 @@ use mpslp_model::{Format, Sink, Source};
 use mpslp_write::{Lp, Mps};
 use std::alloc::Global;
 
-/// Writes the canonical text of what a source gives.
+/// Writes the canonical text of the model that a source declares.
 fn canon<R: Source, W: Sink>(
     alloc: Global,
     max_bytes: u64,
@@ -37,7 +37,7 @@ fn canon<R: Source, W: Sink>(
     }
 }
 
-/// Writes what is asked of the model that a source declares.
+/// Writes the text that shows the model that a source declares.
 fn show_in<R: Source, W: Sink>(
     alloc: Global,
     max_bytes: u64,
@@ -56,7 +56,7 @@ fn show_in<R: Source, W: Sink>(
     }
 }
 
-/// Prints what a comparison answered.
+/// Prints the result of a comparison.
 fn say<W: Sink>(same: Result<bool, ConvertFault>, out: &mut W) -> Result<u8, Failure>
     ensures answer { IsSaid W.holds W.failed W.count out.old out.new same result }
     ensures out_stays { W.failed out.old ≡ true → W.failed out.new ≡ true }
@@ -68,7 +68,7 @@ fn say<W: Sink>(same: Result<bool, ConvertFault>, out: &mut W) -> Result<u8, Fai
     }
 }
 
-/// Prints whether two sources give texts of the same model.
+/// Prints whether two sources declare the same model.
 fn compare<A: Format, B: Format, R: Source, S: Source, W: Sink>(
     alloc: Global,
     max_bytes: u64,
@@ -93,7 +93,7 @@ fn compare<A: Format, B: Format, R: Source, S: Source, W: Sink>(
     say(same_model::<A, B>(alloc, &one, &other), out)
 }
 
-/// Prints whether two sources give texts of the same model, each in a format of its own.
+/// Prints whether two sources, each in its own format, declare the same model.
 fn same<R: Source, S: Source, W: Sink>(
     alloc: Global,
     max_bytes: u64,
@@ -153,28 +153,29 @@ fn do_job<R: Source, S: Source, W: Sink>(
     }
 }
 
-/// Does a job, or tells why the words ask for none, and answers the exit status of the program.
+/// Does a job, or reports why the arguments are not a job, and returns the exit status of the program.
 ///
 /// `canon` is [`run`] and `show` is [`show`], from the first source to `out`. `same` loads the first source and then the
-/// second, compares them by [`same_model`], and writes `same` or `not the same` to `out`. A text that was asked for
-/// (`--help`) goes to `out` as well. `out` is flushed once where all was written. What went wrong is told on `err`, a line each, which is
-/// not flushed; without a fault nothing is. No path is looked at: the caller opens the inputs.
+/// second, compares them by [`same_model`], and writes `same` or `not the same` to `out`. A requested text (`--help`) is also
+/// written to `out`. `out` is flushed once after everything is written. An error is reported on `err` in one line, which is
+/// not flushed; without an error nothing is written there. Paths are ignored: the caller opens the inputs.
 ///
-/// | status | when | told on `err` |
+/// | status | when | written to `err` |
 /// |---|---|---|
-/// | 0 | done; the same model; a text was asked for | |
+/// | 0 | done; the same model; a requested text | |
 /// | 1 | not the same model | |
-/// | 2 | a file was refused | `line 7: DuplicateEntry`, `file: TooLong`, `row 3: NotLp`, .. |
-/// | 3 | the words are no job | clap's text, `unknown format: WORD`, `both inputs are -` |
+/// | 2 | a file was rejected | `line 7: DuplicateEntry`, `file: TooLong`, `row 3: NotLp`, .. |
+/// | 3 | the arguments are not a job | clap's text, `unknown format: WORD`, `both inputs are -` |
 /// | 4 | a read, a write or a flush failed | `read failed`, `write failed` |
-/// | 5 | memory was refused | `out of memory` |
+/// | 5 | an allocation failed | `out of memory` |
 ///
-/// Of two inputs `first: ` or `second: ` goes before the line of a fault that is one input's: a refused file, one that is
-/// too long, a read that failed. The second source is read by `same` alone, after the first was read to its end; of words that are no job neither is.
-/// A fault of `err` changes no status.
+/// If there are two inputs, the line of an error that belongs to one of them (a rejected file, one that is too long, a failed
+/// read) starts with `first: ` or `second: `. The second source is read only by `same`, after the end of the first. No source
+/// is read if the arguments are not a job. A failure of `err` does not change the status.
 ///
-/// Each source is asked for at most `max_bytes + 1` bytes, in at most so many calls. `out` is called at most once for each byte of
-/// its text, and once to flush it; `err` at most once for each byte of its line. A device that has failed stays failed.
+/// From each source at most `max_bytes + 1` bytes are requested, in at most as many calls. `out` is called at most once for
+/// each byte of its text, and once to flush it; `err` at most once for each byte of its line. A device that has failed stays
+/// failed.
 pub fn perform<R: Source, S: Source, W: Sink, E: Sink>(
     alloc: Global,
     max_bytes: u64,

@@ -1,9 +1,8 @@
 //! Conversions between any two formats of model files.
 //!
-//! The conversions are written over the trait [`Format`](mpslp_model::Format), and proved once of all
-//! formats that keep its contract: [`canonical`], [`same_model`] and [`is_canonical`] on bytes in
-//! memory; [`load`], [`run`] and [`show`] between a source and a sink, and [`report`] of what went wrong.
-//! [`perform`] does the program's jobs by them, on MPS and LP.
+//! The conversions are generic over the trait [`Format`](mpslp_model::Format), and proved once for all formats that meet its
+//! contract: [`canonical`], [`same_model`] and [`is_canonical`] for bytes in memory; [`load`], [`run`] and [`show`] between a
+//! source and a sink, with [`report`] for errors. [`perform`] uses them to do the program's jobs for MPS and LP.
 #![tactic(auto)]
 
 mod collecting_sink;

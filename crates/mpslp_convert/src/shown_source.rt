@@ -1,4 +1,4 @@
-//! The views of a model, written between a source and a sink.
+//! The text that shows a model, written between a source and a sink.
 
 ghost use Rattle.std.specs.Prelude.{◌≡◌, ◌+◌, ◌-◌, ◌^◌, ◌≤◌, ℕ, List, true, false, None, min, length, IsOkUnless};
 ghost use Rattle.mpslp_model_core.specs.Model.{LinearModel};
@@ -14,7 +14,7 @@ use crate::shown_text::write_shown;
 use mpslp_model::{Format, Model, Sink, Source, WriteFault};
 use std::alloc::Global;
 
-/// The length of the text that shows a model, as a number that stays at 2^64 - 1.
+/// The length of the text that shows a model, saturated at 2^64 - 1.
 fn shown_len(model: &Model) -> u64
     ensures { result ≡ min (length (shown_text model.now)) (2 ^ 64 - 1) }
 {
@@ -43,9 +43,9 @@ fn show_model<W: Sink>(model: &Model, sink: &mut W) -> Result<(), RunFault>
     Ok(())
 }
 
-/// Reads a source to its end, and writes to the sink what is asked of the model that its bytes declare in A, a line each,
-/// flushed once: the sense, the objective, how many rows, columns and coefficients there are, then each row, then each column with
-/// its coefficients.
+/// Reads a source to its end, and writes to the sink the text that shows the model that its bytes declare in A, flushed once.
+/// Its lines are the sense, the objective, the numbers of rows, columns and nonzeros, then each row, then each column with
+/// its nonzeros.
 ///
 /// ```text
 /// sense minimize
@@ -56,14 +56,15 @@ fn show_model<W: Sink>(model: &Model, sink: &mut W) -> Result<(), RunFault>
 /// entry 0 0 1
 /// ```
 ///
-/// The source is read, and the sink is called, as by [`run`](crate::run): nothing is written before all bytes were read and
-/// accepted, and no whole file is kept.
+/// The source is read, and the sink is called, as by [`run`](crate::run): nothing is written before all bytes are read and
+/// accepted, and the file is not kept in memory.
 ///
 /// # Errors
 ///
-/// The first [`RunFault`] that applies, in the order in which they are listed there, and want of memory where it happens;
-/// [`NotLp`](RunFault::NotLp) is never answered. After [`Write`](RunFault::Write) the sink has taken exactly the first bytes of the
-/// text that are told, all of them where the flush failed; after any other fault it is as it was, and was not called.
+/// The first [`RunFault`] that applies, in the order of its variants, but out of memory where it occurs.
+/// [`NotLp`](RunFault::NotLp) is never returned. After [`Write`](RunFault::Write) the sink has taken exactly the reported
+/// number of bytes from the start of the text, all of them if only the flush failed. After any other error the sink is
+/// unchanged and was not called.
 pub fn show<A: Format, R: Source, W: Sink>(
     alloc: Global,
     max_bytes: u64,

@@ -35,7 +35,7 @@ fn put_objective<W: Sink>(model: &Model, sink: &mut W, buffer: &mut Buffer)
     buffer.put(sink, b"\n");
 }
 
-/// Puts the line of how many rows, columns and coefficients there are.
+/// Puts the line of the numbers of rows, columns and nonzeros.
 fn put_counts<W: Sink>(model: &Model, sink: &mut W, buffer: &mut Buffer)
     ensures { Emits W.holds W.failed W.count sink.old sink.new buffer.old buffer.new (counts_line model.now) }
 {
@@ -81,7 +81,7 @@ fn put_rows<W: Sink>(model: &Model, sink: &mut W, buffer: &mut Buffer)
     }
 }
 
-/// Puts the line of the coefficient of number `k` among those of rows in the column of number `j`.
+/// Puts the line of nonzero number `k` of the column of number `j`.
 fn put_entry<W: Sink>(model: &Model, j: usize, k: usize, sink: &mut W, buffer: &mut Buffer)
     requires column { j < num_columns model.now }
     requires entry { k < length (column_elements model.now (column_name model.now j)) }
@@ -95,7 +95,7 @@ fn put_entry<W: Sink>(model: &Model, j: usize, k: usize, sink: &mut W, buffer: &
     buffer.put(sink, b"\n");
 }
 
-/// Puts the lines of the coefficients of rows in the column of number `j`.
+/// Puts the lines of the nonzeros of the column of number `j`.
 fn put_entries<W: Sink>(model: &Model, j: usize, sink: &mut W, buffer: &mut Buffer)
     requires { j < num_columns model.now }
     ensures { Emits W.holds W.failed W.count sink.old sink.new buffer.old buffer.new (entries_text model.now j (column_name model.now j)) }
@@ -105,7 +105,7 @@ fn put_entries<W: Sink>(model: &Model, j: usize, sink: &mut W, buffer: &mut Buff
     }
 }
 
-/// Puts the line of the column of number `j`, and below it those of its coefficients.
+/// Puts the line of the column of number `j`, followed by those of its nonzeros.
 fn put_column<W: Sink>(model: &Model, j: usize, sink: &mut W, buffer: &mut Buffer)
     requires { j < num_columns model.now }
     ensures { Emits W.holds W.failed W.count sink.old sink.new buffer.old buffer.new (lines_at (column_text model.now) (enumerate_from 0 (entries model.now.columns)) j) }
@@ -147,13 +147,13 @@ fn put_shown<W: Sink>(model: &Model, sink: &mut W, buffer: &mut Buffer)
     put_columns(model, sink, buffer);
 }
 
-/// Writes the text that shows a model to a sink, in as many calls as it has bytes at most, and does not flush. The text waits in
-/// a buffer between calls; no memory is taken.
+/// Writes the text that shows a model to a sink. Makes at most as many calls as the text has bytes, does not flush and
+/// allocates nothing; the text is buffered between calls.
 ///
 /// # Errors
 ///
-/// [`Write`](WriteFault::Write) exactly where the sink has failed when the call ends: it has taken that many first bytes of the
-/// text, and nothing else. [`NotLp`](WriteFault::NotLp) is never answered.
+/// [`Write`](WriteFault::Write) if and only if the sink has failed when the call ends; it has then taken only the reported
+/// number of bytes from the start of the text. [`NotLp`](WriteFault::NotLp) is never returned.
 pub(crate) fn write_shown<W: Sink>(model: &Model, sink: &mut W) -> Result<(), WriteFault>
     ensures answer { IsWritten (λ _. None) shown_text W.holds W.failed model.now sink.old sink.new result }
     ensures succeeds { W.failed sink.new ≡ false → IsOk result }

@@ -1,4 +1,4 @@
-//! The words of the lines that show a model, on their way to a sink.
+//! The words of the lines that show a model, written to a sink.
 
 ghost use Rattle.std.specs.Prelude.{◌≡◌, ◌++◌, codes, decimal};
 ghost use Rattle.mpslp_decimal.specs.NumberText.{number_text};
@@ -9,7 +9,7 @@ use mpslp_decimal::{Decimal, DecimalText};
 use mpslp_model::{Kind, Limit, Sense, Sink};
 use mpslp_write::Buffer;
 
-/// Puts a word behind a blank.
+/// Puts a space and a word.
 pub(crate) fn put_word<W: Sink>(sink: &mut W, buffer: &mut Buffer, word: &[u8])
     ensures { Emits W.holds W.failed W.count sink.old sink.new buffer.old buffer.new (codes " " ++ word.now) }
 {
@@ -17,7 +17,7 @@ pub(crate) fn put_word<W: Sink>(sink: &mut W, buffer: &mut Buffer, word: &[u8])
     buffer.put(sink, word);
 }
 
-/// Puts how many there are, or the number of one, behind a blank.
+/// Puts a space and a count or an index.
 pub(crate) fn put_count<W: Sink>(sink: &mut W, buffer: &mut Buffer, count: u128)
     ensures { Emits W.holds W.failed W.count sink.old sink.new buffer.old buffer.new (codes " " ++ decimal count) }
 {
@@ -25,7 +25,7 @@ pub(crate) fn put_count<W: Sink>(sink: &mut W, buffer: &mut Buffer, count: u128)
     put_word(sink, buffer, digits.format(count).as_bytes());
 }
 
-/// Puts a number behind a blank.
+/// Puts a space and a number.
 pub(crate) fn put_number<W: Sink>(sink: &mut W, buffer: &mut Buffer, value: Decimal)
     ensures { Emits W.holds W.failed W.count sink.old sink.new buffer.old buffer.new (codes " " ++ number_text value) }
 {
@@ -33,7 +33,7 @@ pub(crate) fn put_number<W: Sink>(sink: &mut W, buffer: &mut Buffer, value: Deci
     put_word(sink, buffer, text.put(value));
 }
 
-/// Puts a limit of a row or a bound of a column behind a blank.
+/// Puts a space and a limit of a row or a bound of a column.
 pub(crate) fn put_limit<W: Sink>(sink: &mut W, buffer: &mut Buffer, limit: &Limit)
     ensures { Emits W.holds W.failed W.count sink.old sink.new buffer.old buffer.new (codes " " ++ limit_text limit.now) }
 {
@@ -54,7 +54,7 @@ pub(crate) fn sense_word(sense: Sense) -> &'static [u8]
     }
 }
 
-/// The word for a kind of columns.
+/// The word for a variable type.
 pub(crate) fn kind_word(kind: Kind) -> &'static [u8]
     ensures { result.now ≡ kind_word kind }
 {

@@ -14,19 +14,19 @@ use crate::fed_model::read_model;
 use mpslp_model::{Format, Model, Sink, Source, WriteFault};
 use std::alloc::Global;
 
-/// The most bytes that are asked for in one read.
+/// The maximum number of bytes that one read requests.
 pub(crate) const PIECE: usize = 65_536;
 
-/// All bytes of a source.
+/// Returns all bytes of a source.
 ///
-/// No more than `max_bytes + 1` bytes are read, in at most `max_bytes + 1` calls. A read of 0 bytes is
-/// the end, and no other one follows it. A source that has failed stays failed.
+/// Reads at most `max_bytes + 1` bytes, in at most `max_bytes + 1` calls. A read of 0 bytes is the end, after which the source
+/// is not read again. A source that has failed stays failed.
 ///
 /// # Errors
 ///
-/// [`Read`](RunFault::Read) exactly where the source has failed when the call ends, and else
-/// [`TooLong`](RunFault::TooLong) where it had more than `max_bytes` bytes left;
-/// [`OutOfMemory`](RunFault::OutOfMemory) where memory was refused. The others are never answered.
+/// [`Read`](RunFault::Read) if and only if the source has failed when the call ends; otherwise
+/// [`TooLong`](RunFault::TooLong) if it had more than `max_bytes` bytes left;
+/// [`OutOfMemory`](RunFault::OutOfMemory) if an allocation fails. The others are never returned.
 pub fn load<R: Source>(alloc: Global, max_bytes: u64, source: &mut R) -> Result<Vec<u8>, RunFault>
     ensures answer { IsLoad (R.left source.old) (R.left source.new) (R.failed source.new) max_bytes result }
     ensures accepts { (bytes : List ℕ) → SourceHeld (R.left source.old) (R.failed source.new) max_bytes bytes → IsOkUnless result RunFault.OutOfMemory }
@@ -62,7 +62,7 @@ pub fn load<R: Source>(alloc: Global, max_bytes: u64, source: &mut R) -> Result<
     }
 }
 
-/// The length of a model's text, as a number that stays at 2^64 - 1.
+/// The length of a model's text, saturated at 2^64 - 1.
 fn text_len<B: Format>(model: &Model) -> u64
     requires { B.unfit model.now ≡ None }
     ensures { result ≡ min (length (B.text model.now)) (2 ^ 64 - 1) }
@@ -92,16 +92,16 @@ fn put_model<B: Format, W: Sink>(model: &Model, sink: &mut W) -> Result<(), RunF
     Ok(())
 }
 
-/// Reads a source to its end, and writes to the sink the canonical text in B of the model that its bytes
-/// declare in A, flushed once.
+/// Reads a source to its end, and writes to the sink the canonical text in B of the model that its bytes declare in A, flushed
+/// once.
 ///
-/// The source is read as by [`load`], but no whole file is kept: each piece is fed to the reader of A. The first fault of
-/// the bytes is told only where the source has ended, so nothing is written before all bytes were read and accepted. The
-/// source is at its end after `Ok` and after each fault but [`Read`](RunFault::Read), [`TooLong`](RunFault::TooLong) and
-/// [`OutOfMemory`](RunFault::OutOfMemory). The sink is called at most once for each byte of the text, and once to flush it.
-/// Either device stays failed once it has failed.
+/// The source is read as by [`load`], but the file is not kept in memory: each piece is fed to the reader of A. The first
+/// error of the bytes is reported only at the end of the source, so nothing is written before all bytes are read and accepted.
+/// The source is at its end after `Ok` and after each error except [`Read`](RunFault::Read), [`TooLong`](RunFault::TooLong)
+/// and [`OutOfMemory`](RunFault::OutOfMemory). The sink is called at most once for each byte of the text, and once to flush
+/// it. A device that has failed stays failed.
 ///
-/// What is written is known where the sink's writer tells what it holds, as a `Vec` does:
+/// The contract says what was written if the sink's writer shows its content, as a `Vec` does:
 ///
 /// ```
 /// let mut source = FromRead::new(bytes);
@@ -112,10 +112,9 @@ fn put_model<B: Format, W: Sink>(model: &Model, sink: &mut W) -> Result<(), RunF
 ///
 /// # Errors
 ///
-/// The first [`RunFault`] that applies, in the order in which they are listed there, and want of memory
-/// where it happens. After [`Write`](RunFault::Write) the sink has taken exactly the first bytes of the
-/// text that are told, all of them where the flush failed; after any other fault it is as it was, and
-/// was not called.
+/// The first [`RunFault`] that applies, in the order of its variants, but out of memory where it occurs. After
+/// [`Write`](RunFault::Write) the sink has taken exactly the reported number of bytes from the start of the text, all of them
+/// if only the flush failed. After any other error the sink is unchanged and was not called.
 pub fn run<A: Format, B: Format, R: Source, W: Sink>(
     alloc: Global,
     max_bytes: u64,

@@ -1,4 +1,4 @@
--- Lines that are complete, and the bytes behind them, where a text is cut into pieces.
+-- Complete lines, and the bytes after them, if a text is cut into pieces.
 use Rattle.std.proofs.Common.{◌≡◌, refl, sym, ap, subst, ◌∙◌, ℕ, List, [], ◌∷◌, ◌++◌, true, false, append-nil, append_assoc}
 use Rattle.std.specs.List.{slice_split, onto_first}
 use Rattle.std.specs.Str.Lines.{lines, lines_of_parts, strip_carriage_return}
@@ -25,14 +25,14 @@ begins (x ∷ xs) =
       | false ↦ λ h. subst Begins (sym (slice_split-cons_no is_feed x xs h)) (begins-onto x (slice_split is_feed xs) (begins xs))
     ] refl
 
--- a part with others behind it
+-- a part that is followed by others
 ended-behind : (part : List ℕ) (parts : List (List ℕ)) → Begins parts → ended_parts (part ∷ parts) ≡ strip_carriage_return part ∷ ended_parts parts
 ended-behind part parts b = ap (λ p. ended_parts (part ∷ p)) b.is ∙ ap (λ p. strip_carriage_return part ∷ ended_parts p) (sym b.is)
 
 last-behind : (part : List ℕ) (parts : List (List ℕ)) → Begins parts → last_part (part ∷ parts) ≡ last_part parts
 last-behind part parts b = ap (λ p. last_part (part ∷ p)) b.is ∙ ap last_part (sym b.is)
 
--- the parts, where the last one goes on as these bytes
+-- the parts, if the last one is continued by these bytes
 abbrev going_on : List (List ℕ) → List ℕ → List (List ℕ)
 going_on [] bytes = slice_split is_feed bytes
 going_on (part ∷ []) bytes = slice_split is_feed (part ++ bytes)
@@ -78,7 +78,7 @@ last-going (part ∷ []) bytes = refl
 last-going (part ∷ next ∷ more) bytes =
     last-behind part (going_on (next ∷ more) bytes) (begins-going (next ∷ more) bytes) ∙ last-going (next ∷ more) bytes
 
--- ---- one piece more
+-- ---- one more piece
 
 pub complete-more : (xs ys : List ℕ) → complete_lines (xs ++ ys) ≡ complete_lines xs ++ complete_lines (open_tail xs ++ ys)
 complete-more xs ys = ap ended_parts (parts-more xs ys) ∙ ended-going (slice_split is_feed xs) ys
@@ -88,7 +88,7 @@ open_tail-more xs ys = ap last_part (parts-more xs ys) ∙ last-going (slice_spl
 
 -- ---- all lines
 
--- the bytes behind the last line feed are a line, unless there are none
+-- the bytes after the last line feed are a line, unless there are none
 abbrev pub last_line : List ℕ → List (List ℕ)
 last_line bytes = lines_of_parts (bytes ∷ [])
 
@@ -134,7 +134,7 @@ open_tail-all bytes h = ap last_part (slice_split_none is_feed bytes h)
 on-no_feed : (bytes part : List ℕ) → HasNoFeed part → HasNoFeed (open_tail bytes ++ part)
 on-no_feed bytes part h = All-append (λ b. is_feed b ≡ false) (open_tail bytes) part (open_tail-no_feed bytes) h
 
--- behind other bytes
+-- after other bytes
 pub complete-same : (bytes part : List ℕ) → HasNoFeed part → complete_lines (bytes ++ part) ≡ complete_lines bytes
 complete-same bytes part h =
     complete-more bytes part ∙ ap (λ l. complete_lines bytes ++ l) (complete-no_feed (open_tail bytes ++ part) (on-no_feed bytes part h)) ∙ append-nil (complete_lines bytes)
@@ -153,7 +153,7 @@ complete-ended bytes =
 pub open_tail-ended : (bytes : List ℕ) → open_tail (bytes ++ 10 ∷ []) ≡ []
 open_tail-ended bytes = open_tail-more bytes (10 ∷ []) ∙ ap last_part (slice_split_at is_feed (open_tail bytes) 10 [] (open_tail-no_feed bytes) refl)
 
--- ---- bytes behind a line feed
+-- ---- bytes after a line feed
 
 pub complete-from : (bytes part : List ℕ) → open_tail bytes ≡ [] → open_tail part ≡ [] → complete_lines (bytes ++ part) ≡ complete_lines bytes ++ lines part
 complete-from bytes part start whole =

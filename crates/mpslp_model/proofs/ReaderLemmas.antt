@@ -1,4 +1,4 @@
--- What a reader answers that is fed a whole text as one piece.
+-- The result of a reader that is given a whole text as one piece.
 use Rattle.std.proofs.Common.{◌≡◌, sym, subst, ◌∙◌, ◌++◌, ℕ, List, [], Bool, true, false, append-nil}
 use Rattle.std.specs.Prelude.{Result, Ok, Err, IsErrAnd}
 use Rattle.mpslp_model_core.specs.Model.{LinearModel}
@@ -8,7 +8,7 @@ use Rattle.mpslp_types.specs.declared.faults.Fault.{Fault}
 use Rattle.mpslp_types.specs.declared.faults.ReadFault.{ReadFault}
 use Rattle.mpslp_types.specs.declared.faults.ReadFault.TheVariants.{File, Failed, OutOfMemory}
 
--- a refusal of the one piece is that of the text
+-- an error of the one piece is one of the text
 refused_piece : {R : Type 0} (after : R → List ℕ → Type 0) (early_fault : List ℕ → Fault → Type 0) (refused : R → Bool)
     (declares : List ℕ → LinearModel → Type 0) (first_fault : List ℕ → Fault → Type 0) (old new : R) (bytes : List ℕ) (error : ReadFault)
     → ((more : List ℕ) (fault : Fault) → early_fault bytes fault → first_fault (bytes ++ more) fault) → after old [] → refused old ≡ false
@@ -19,7 +19,7 @@ refused_piece after early_fault refused declares first_fault old new bytes Faile
     let both : true ≡ false = sym h ∙ works in cc
 refused_piece after early_fault refused declares first_fault old new bytes OutOfMemory is_first start works h = tt
 
--- the same of a call that ends by this error
+-- the same for a call that ends with this error
 pub ends_refused : {R : Type 0} (after : R → List ℕ → Type 0) (early_fault : List ℕ → Fault → Type 0) (refused : R → Bool)
     (declares : List ℕ → LinearModel → Type 0) (first_fault : List ℕ → Fault → Type 0) (old new : R) (bytes : List ℕ) (error : ReadFault) (answer : Result LinearModel ReadFault)
     → ((more : List ℕ) (fault : Fault) → early_fault bytes fault → first_fault (bytes ++ more) fault) → after old [] → refused old ≡ false

@@ -1,4 +1,4 @@
--- Worked texts: which lines are complete, and what stands behind them.
+-- Worked examples: which lines of a text are complete, and the bytes after them.
 use Rattle.std.proofs.Common.{◌≡◌, refl, [], ◌∷◌, codes}
 use Rattle.mpslp_model.specs.CompleteLines.{complete_lines, open_tail}
 
@@ -8,7 +8,7 @@ complete-none = refl
 open_tail-none : open_tail (codes "ROWS") ≡ codes "ROWS"
 open_tail-none = refl
 
--- a carriage return is no end until its line feed comes
+-- a carriage return without its line feed ends no line
 complete-return : complete_lines (codes "NAME\r\nROWS\r") ≡ codes "NAME" ∷ []
 complete-return = refl
 

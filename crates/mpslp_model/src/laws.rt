@@ -1,7 +1,7 @@
-//! Laws of names, of declarations and of the models that they mean. Each is the contract of a function that does
-//! nothing: to call it is to cite the law.
+//! Laws of names, of declarations and of the models that they mean. Each law is the contract of a function that does nothing:
+//! call the function to use the law.
 //!
-//! A law of every builder or model reads a field of it, and that brings what is known of all its parts.
+//! The laws of every builder or model read a field of it, which makes its invariant available to the proof.
 
 pub use mpslp_builder::laws::{
     declarations_mean_one_model, each_builder_is_made, finish_is_exact, order_is_of_no_account,

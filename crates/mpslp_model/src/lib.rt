@@ -1,12 +1,11 @@
 //! Models of linear and mixed-integer programs, and the declarations that mean them.
 //!
-//! A reader of either format, like a caller who builds a model by hand, makes declarations to a [`Builder`]: rows,
-//! columns, coefficients, bounds. Its [`finish`](Builder::finish) gives the [`Model`] that they mean, or tells the fault where
-//! they mean none. This crate passes on what the crates below it have, so that a user names it alone.
+//! Readers of both formats, and callers who build a model by hand, make declarations to a [`Builder`]: rows, columns,
+//! coefficients, bounds. Its [`finish`](Builder::finish) returns the [`Model`] that they mean, or the error if they mean none.
+//! This crate re-exports what users need of the crates below it, so a user names only this crate.
 //!
-//! What a format of model files is held to stands here, as the trait [`Format`]. The devices that
-//! a format is written to are those of `mpslp_io`, and are to be had here as well: [`Source`], [`Sink`],
-//! [`put_all`] and what goes with them.
+//! The trait [`Format`] states what a format of model files guarantees. The devices that formats are written to are those of
+//! `mpslp_io`, and are re-exported here: [`Source`], [`Sink`], [`put_all`] and related types.
 #![tactic(auto)]
 
 mod formats;

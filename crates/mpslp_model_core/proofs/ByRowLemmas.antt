@@ -30,7 +30,7 @@ empty_more (l ∷ lists) list none all (suc i) = empty_more lists list none (λ 
 
 -- ---- the coefficients of one column
 
--- the first that is left, and those behind it: no number stands twice
+-- the first remaining coefficient and those after it: no number occurs again
 first_noted : (n column : ℕ) (cell : ℕ × Number) (rest : List (ℕ × Number)) → IsOnceBy nat_cmp (cell ∷ rest)
     → column_if (eq_by_cmp nat_cmp n cell.0) column ++ column_if (has_number n rest) column ≡ column_if (has_number n (cell ∷ rest)) column
 first_noted n column cell rest once = by (eq_by_cmp nat_cmp n cell.0) refl
@@ -42,7 +42,7 @@ first_noted n column cell rest once = by (eq_by_cmp nat_cmp n cell.0) refl
         ap (λ (o : Option Number). column ∷ column_if (is_some o) column) none
     by false tie = refl
 
--- with a coefficient that is noted, what is in a list and what is left to come stay the same
+-- noting a coefficient does not change the list together with what is still to come
 pub noted_more : (old new : List (Vec ℕ)) (column : ℕ) (cells : List (ℕ × Number)) (k : ℕ) (d : ℕ × Number) → k < length cells → IsOnceBy nat_cmp (drop k cells)
     → HasNoted (get_or cells k d).0 column old new
     → (i : ℕ) → list_at new i ++ column_if (has_number (suc i) (drop (k + 1) cells)) column ≡ list_at old i ++ column_if (has_number (suc i) (drop k cells)) column
@@ -80,7 +80,7 @@ columns_more columns n count =
     ∙ filter-append has (range_with_len 0 count) (count ∷ [])
     ∙ ap (λ (l : List ℕ). columns_with columns n count ++ l) (one_filtered has count)
 
--- ---- the lists, seen from the model
+-- ---- the lists and the model
 
 cells_there : (columns : List (List ℕ × ModelColumn)) (j : ℕ) → j < length columns
     → option_map (λ (column : List ℕ × ModelColumn). column.1.cells.items) (slice_get columns j) ≡ Some (cells_of columns j)
@@ -95,7 +95,7 @@ filter_alike p q (j ∷ js) alike =
     let rest = filter_alike p q js (λ k d below. alike (suc k) d (omega arith)) in
     λ i. cond (first i) (j ∷ rest i) (rest i)
 
--- what holds of each number below is so of each of the range
+-- a property of each number below is one of each number of the range
 all_below : (P : ℕ → Type 0) (n : ℕ) → ((j : ℕ) → j < n → P j) → All P (range_with_len 0 n)
 all_below P n each =
     All-from_get_or P (range_with_len 0 n) 0 (λ i below.
@@ -133,7 +133,7 @@ row_seen {m} {v} lists seen are i below =
     ∙ ap (columns_with columns (suc i)) as_many
     ∙ filter_alike (λ j. has_number (suc i) (cells_of columns j)) (λ j. has_coefficient v row (column_name v j)) (range_with_len 0 n) (all_below _ n alike)
 
--- ---- what is asked of parts
+-- ---- what accessors find in the parts
 
 named_within : {X : Type 0} (objective : List ℕ) (rows : List (List ℕ × X)) (n : ℕ) → is_some (name_of own (Some objective) rows n) ≡ true → n ≤ length rows
 named_within objective rows zero named = omega arith

@@ -1,4 +1,4 @@
--- Coefficients by the numbers of rows: what is found at a place.
+-- Coefficients by row number: what is found at a place.
 use Rattle.std.proofs.Common.{◌≡◌, refl, sym, ap, ◌∙◌, ℕ, List, [], ◌∷◌, ◌++◌, Bool, true, false, cond}
 use Rattle.std.specs.Prelude.{Option, Some, None}
 use Rattle.std.specs.Option.{option_map_or, option_and_then}
@@ -15,12 +15,12 @@ use Rattle.mpslp_model_core.proofs.PutsLemmas.{equal_from}
 use Rattle.mpslp_model_core.proofs.KeyLemmas.{bytes_total, tied_names, key_total}
 use Rattle.mpslp_model_core.specs.Numbered.{column_cells, all_cells, TellsApart, IsOnce}
 
--- ---- ties
+-- ---- equal keys
 
 abbrev pub at : List ℕ → List ℕ → CoefficientKey
 at row column = record { row = row; column = column }
 
--- the first that is there
+-- the first if there is one, otherwise the second
 abbrev pub or_else : {X : Type 0} → Option X → Option X → Option X
 or_else None b = b
 or_else (Some x) b = Some x
@@ -47,7 +47,7 @@ then_apart Less b h = refl
 then_apart Equal b h = cc
 then_apart Greater b h = refl
 
--- places in one column tie as their rows do
+-- places in one column are equal if and only if their rows are
 in_column : (r s c : List ℕ) → eq_by_cmp key_cmp (at r c) (at s c) ≡ eq_by_cmp bytes_cmp r s
 in_column r s c = then_eq (bytes_cmp c c) (bytes_cmp r s) (ap is_eq (tied_itself bytes_total c))
 
@@ -85,7 +85,7 @@ pub clear : {X : Type 0} (a b : Option X) → or_else a b ≡ None → b ≡ Non
 clear None b h = h
 clear (Some x) b h = cc
 
--- ---- numbers that tell rows apart
+-- ---- numbers that identify rows
 
 module _ (name : ℕ → Option (List ℕ)) (apart : TellsApart name) where
   same_row : (n m : ℕ) (r s : List ℕ) → name n ≡ Some r → name m ≡ Some s → eq_by_cmp bytes_cmp r s ≡ eq_by_cmp nat_cmp n m
@@ -101,7 +101,7 @@ module _ (name : ℕ → Option (List ℕ)) (apart : TellsApart name) where
         | false ↦ λ _. refl
       ] refl
 
-  -- what is found at a row of the column is what stands at its number
+  -- what is found at a row of the column is the value at its number
   pub find-column_cells : (n : ℕ) (r c : List ℕ) (es : List (ℕ × Number)) → name n ≡ Some r → find key_cmp (at r c) (column_cells name c es) ≡ find nat_cmp n es
   find-column_cells n r c [] p = refl
   find-column_cells n r c (e ∷ es) p =
@@ -110,7 +110,7 @@ module _ (name : ℕ → Option (List ℕ)) (apart : TellsApart name) where
         | Some s ↦ λ q. λ i. cond ((in_column r s c ∙ same_row n e.0 r s p q) i) (Some e.1) (find-column_cells n r c es p i)
       ] refl
 
-  -- in another column nothing is found
+  -- nothing is found in another column
   pub find-other_column : (q : CoefficientKey) (c : List ℕ) (es : List (ℕ × Number)) → eq_by_cmp bytes_cmp q.column c ≡ false → find key_cmp q (column_cells name c es) ≡ None
   find-other_column q c [] h = refl
   find-other_column q c (e ∷ es) h =
@@ -151,7 +151,7 @@ module _ (name : ℕ → Option (List ℕ)) (apart : TellsApart name) where
 
   -- ---- all columns
 
-  -- at a row of a column that is there once
+  -- at a row of a column that occurs only once
   pub find-all_cells : (n : ℕ) (r c : List ℕ) (cols : List (List ℕ × List (ℕ × Number))) → name n ≡ Some r → IsOnce cols
       → find key_cmp (at r c) (all_cells name cols) ≡ option_and_then (find nat_cmp n) (find bytes_cmp c cols)
   find-all_cells n r c [] p once = refl

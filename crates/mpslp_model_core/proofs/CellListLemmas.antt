@@ -1,4 +1,4 @@
--- The coefficients of a column in the order of their numbers: the first is the objective's, or the objective has none.
+-- The coefficients of a column by row number: the first is the objective's, or the objective has none.
 use Rattle.std.proofs.Common.{◌≡◌, refl, sym, ap, ◌∙◌, ℕ, zero, suc, ◌≤◌, ◌<◌, ◌-◌, List, [], ◌∷◌, length, take, drop, true, cond, arith}
 use Rattle.std.specs.Prelude.{Some, None, slice_get}
 use Rattle.std.specs.Prelude.{get_or}
@@ -23,7 +23,7 @@ is_below n m h =
 pub less_than : (n m : ℕ) → n < m → nat_cmp n m ≡ Less
 less_than n m below = sym (nat_cmp_is n m Less below)
 
--- what lies above a number is a row's
+-- coefficients above a number are those of rows
 pub all_above : (n : ℕ) (es : List (ℕ × Number)) → below_all nat_cmp n es ≡ true → row_cells es ≡ es
 all_above n [] h = refl
 all_above n ((zero, x) ∷ es) h = let below : n < zero = is_below n zero (first_so (is_lt (nat_cmp n zero)) (below_all nat_cmp n es) h) in absurd (omega arith)
@@ -37,20 +37,20 @@ none_above n [] h = refl
 none_above n ((zero, x) ∷ es) h = let below : n < zero = is_below n zero (first_so (is_lt (nat_cmp n zero)) (below_all nat_cmp n es) h) in absurd (omega arith)
 none_above n ((suc m, x) ∷ es) h = row_first m x es ∙ none_above n es (second_so (is_lt (nat_cmp n (suc m))) (below_all nat_cmp n es) h)
 
--- without the first, where that is the objective's
+-- without the first, if that is the objective's
 pub behind_first : (cells : List (ℕ × Number)) (first : ℕ × Number) → is_sorted nat_cmp cells ≡ true → 1 ≤ length cells → first ≡ get_or cells 0 first → first.0 ≡ 0
     → take (length cells - 1) (drop 1 cells) ≡ row_cells cells
 behind_first [] first h some is zeroth = absurd (omega arith)
 behind_first ((zero, x) ∷ es) first h some is zeroth = take_all (suc (length es) - 1) es (omega arith) ∙ sym (all_above zero es (first_so (below_all nat_cmp zero es) (is_sorted nat_cmp es) h))
 behind_first ((suc m, x) ∷ es) first h some is zeroth = let no : suc m ≡ 0 = sym (ap (λ (e : ℕ × Number). e.0) is) ∙ zeroth in absurd cc
 
--- all, where the first is a row's
+-- all, if the first is that of a row
 pub all_rows : (cells : List (ℕ × Number)) (first : ℕ × Number) → is_sorted nat_cmp cells ≡ true → 1 ≤ length cells → first ≡ get_or cells 0 first → (first.0 ≡ 0 → ⊥) → cells ≡ row_cells cells
 all_rows [] first h some is other = refl
 all_rows ((zero, x) ∷ es) first h some is other = absurd (other (ap (λ (e : ℕ × Number). e.0) is))
 all_rows ((suc m, x) ∷ es) first h some is other = ap (λ (rest : List (ℕ × Number)). (suc m, x) ∷ rest) (sym (all_above (suc m) es (first_so (below_all nat_cmp (suc m) es) (is_sorted nat_cmp es) h)))
 
--- the objective has no coefficient where the first is a row's
+-- the objective has no coefficient if the first is that of a row
 pub none_first : (cells : List (ℕ × Number)) (first : ℕ × Number) → is_sorted nat_cmp cells ≡ true → 1 ≤ length cells → first ≡ get_or cells 0 first → (first.0 ≡ 0 → ⊥) → find nat_cmp 0 cells ≡ None
 none_first [] first h some is other = refl
 none_first ((zero, x) ∷ es) first h some is other = absurd (other (ap (λ (e : ℕ × Number). e.0) is))

@@ -26,7 +26,7 @@ abbrev pub rows_alone : List (List ℕ × List (ℕ × Number)) → List (List �
 rows_alone [] = []
 rows_alone (col ∷ cols) = (col.0, row_cells col.1) ∷ rows_alone cols
 
--- ---- sorted lists one after another
+-- ---- concatenated sorted lists
 
 module _ {K X : Type 0} (R : K → K → Ordering) where
   below_all-append : (k : K) (xs ys : List (K × X)) → below_all R k xs ≡ true → below_all R k ys ≡ true → below_all R k (xs ++ ys) ≡ true
@@ -59,7 +59,7 @@ joined true a b = refl
 joined false a b = refl
 
 module _ (name : ℕ → Option (List ℕ)) where
-  -- cells of a later column lie above
+  -- cells of a later column are above
   below_column : (r c d : List ℕ) (es : List (ℕ × Number)) → is_lt (bytes_cmp c d) ≡ true → below_all key_cmp (at r c) (column_cells name d es) ≡ true
   below_column r c d [] h = refl
   below_column r c d (e ∷ es) h =
@@ -128,7 +128,7 @@ module _ (name : ℕ → Option (List ℕ)) where
           ∙ joined row (find key_cmp q (column_cells name col.0 col.1)) (find key_cmp q (all_cells name cols))
           ∙ ap (λ (o : Option Number). cond row o None) (sym (find-two key_cmp q (column_cells name col.0 col.1) (all_cells name cols)))
 
-      -- the elements are the cells of rows, column after column
+      -- the nonzeros are the cells of rows, column after column
       pub elements_are_rows : (cols : List (List ℕ × List (ℕ × Number))) → is_sorted bytes_cmp cols ≡ true → list_all (λ c. is_sorted nat_cmp c.1) cols ≡ true
           → filter (λ e. not (same_bytes objective e.0.row)) (sorted_of key_cmp (all_cells name cols)) ≡ all_cells name (rows_alone cols)
       elements_are_rows cols g h =
@@ -144,7 +144,7 @@ module _ (name : ℕ → Option (List ℕ)) where
 
   -- ---- how many
 
-  -- each of those that have names is there
+  -- a coefficient is found for each number that has a name
   pub length-named : (c : List ℕ) (es : List (ℕ × Number)) → list_all (λ e. is_some (name e.0)) es ≡ true → length (column_cells name c es) ≡ length es
   length-named c [] h = refl
   length-named c (e ∷ es) h =

@@ -1,4 +1,4 @@
--- The coefficients of rows in a column of a model are its cells in the order of numbers, without that of the objective.
+-- The nonzeros of a column of a model are its cells in the order of row numbers, without that of the objective.
 use Rattle.std.proofs.Common.{◌≡◌, refl, sym, ap, ◌∙◌, ℕ, zero, suc, List, [], ◌∷◌, ◌++◌, Bool, true, false, cond, not, filter}
 use Rattle.std.specs.Prelude.{Option, Some, None, ◌&&◌}
 use Rattle.std.specs.Option.{option_map_or}
@@ -22,7 +22,7 @@ use Rattle.mpslp_model_core.specs.Columned.{row_cells}
 use Rattle.mpslp_model_core.proofs.SortedLemmas.{find-sorted_of, is_sorted-sorted_of}
 use Rattle.mpslp_model_core.proofs.CellLemmas.{at, or_else, find-two, find-other_column}
 
--- what is asked of a place in the model's view of a column
+-- whether a place is that of a nonzero of a column
 abbrev pub is_element_of : List ℕ → List ℕ → CoefficientKey → Bool
 is_element_of objective column place = not (same_bytes objective place.row) && same_bytes column place.column
 
@@ -62,14 +62,14 @@ module _ (name : ℕ → Option (List ℕ)) (apart : TellsApart name) (rise : Ri
       ] refl
 
   module _ (objective : List ℕ) (named : name zero ≡ Some objective) where
-    -- the objective's own place is no element's
+    -- the place of the objective is not that of a nonzero
     no_element : (q : CoefficientKey) → eq_by_cmp key_cmp q (at objective c) ≡ true → is_element_of objective c q ≡ false
     no_element q tie =
         let same : q ≡ at objective c = same_key q (at objective c) (equal_from (key_cmp q (at objective c)) tie) in
         let own : same_bytes objective objective ≡ true = nat_list_eq_equiv.refl objective in
         ap (is_element_of objective c) same ∙ ap (λ (b : Bool). not b && same_bytes c c) own
 
-    -- that of a row is
+    -- the place of a row is
     an_element : (q : CoefficientKey) (m : ℕ) (s : List ℕ) → name (suc m) ≡ Some s → eq_by_cmp key_cmp q (at s c) ≡ true → is_element_of objective c q ≡ true
     an_element q m s p tie =
         let same : q ≡ at s c = same_key q (at s c) (equal_from (key_cmp q (at s c)) tie) in
@@ -108,7 +108,7 @@ module _ (name : ℕ → Option (List ℕ)) (apart : TellsApart name) (rise : Ri
               ] refl
         ] refl
 
-    -- among all cells, those of the column decide
+    -- among all cells, those of the column are found
     find-in_column : (q : CoefficientKey) (es : List (ℕ × Number)) (cols : List (List ℕ × List (ℕ × Number))) → same_bytes c q.column ≡ true → IsOnce cols → find bytes_cmp c cols ≡ Some es
         → find key_cmp q (all_cells name cols) ≡ find key_cmp q (column_cells name c es)
     find-in_column q es [] own once is = cc
@@ -144,7 +144,7 @@ module _ (name : ℕ → Option (List ℕ)) (apart : TellsApart name) (rise : Ri
                   ∙ none_later q cols is
             ] refl h
 
-    -- the elements of the column are its cells of rows, in the order of numbers
+    -- the nonzeros of the column are its cells of rows, in the order of their numbers
     pub elements_are_cells : (es : List (ℕ × Number)) (cols : List (List ℕ × List (ℕ × Number))) → IsOnce cols → find bytes_cmp c cols ≡ Some es → is_sorted nat_cmp es ≡ true
         → filter (λ e. is_element_of objective c e.0) (sorted_of key_cmp (all_cells name cols)) ≡ column_cells name c (row_cells es)
     elements_are_cells es cols once is sorted =

@@ -13,7 +13,7 @@ pub use Rattle.mpslp_model_core.specs.Model.{key_total}
 pub bytes_total : IsTotalOrder bytes_cmp
 bytes_total = nat_list_cmp_total
 
--- names that tie are the same
+-- names that compare as equal are the same
 pub tied_names : (a b : List ℕ) → bytes_cmp a b ≡ orders.Equal → a ≡ b
 tied_names = slice_cmp-IsAntisymmetric nat_cmp-IsAntisymmetric
 
@@ -27,7 +27,7 @@ then_second orders.Less b h = cc
 then_second orders.Equal b h = h
 then_second orders.Greater b h = cc
 
--- keys that tie are the same
+-- keys that compare as equal are the same
 pub same_key : (a b : CoefficientKey) → key_cmp a b ≡ orders.Equal → a ≡ b
 same_key a b h =
     let columns = tied_names a.column b.column (then_first (bytes_cmp a.column b.column) (bytes_cmp a.row b.row) h) in

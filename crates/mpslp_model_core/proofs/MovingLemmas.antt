@@ -1,4 +1,4 @@
--- Coefficients under the later numbers of their rows.
+-- Coefficients with the final numbers of their rows.
 use Rattle.std.proofs.Common.{◌≡◌, refl, sym, ap, subst, ◌∙◌, ℕ, zero, suc, ◌<◌, List, [], ◌∷◌, true, false, cond, map, not, arith, IsPermutation}
 use Rattle.std.specs.Prelude.{Option, Some, None, filter}
 use Rattle.std.specs.Cmp.{nat_cmp_total, both_ways}
@@ -15,7 +15,7 @@ use Rattle.mpslp_model_core.proofs.CellLemmas.{number_same, number_tied}
 use Rattle.mpslp_model_core.proofs.SortedLemmas.{sorted_of-alike, sorted_of-sorted, find-sorted_of, is_sorted-sorted_of}
 use Rattle.mpslp_model_core.proofs.OnceLemmas.{NeverFalls, find-filter, once-sorted, is_sorted-filter, filter-permutation, once-filter, once-permutation, find-permutation, sorted_of-permutation, permuted-is_map}
 
--- what holds at each place holds of each element
+-- a property at each index is one of each item
 pub each-from_all : {X : Type 0} (P : X → Type 0) (xs : List X) → All P xs → Each P xs
 each-from_all P [] h = tt
 each-from_all P (x ∷ xs) h = (h zero x (omega arith), each-from_all P xs (λ k d l. h (suc k) d (omega arith)))
@@ -32,11 +32,11 @@ unless_zero o = option_and_then (λ v. cond (not (is_zero v)) (Some v) None) o
 abbrev pub renamed : (ℕ → ℕ) → List (ℕ × Number) → List (ℕ × Number)
 renamed rank es = map (λ e. (rank e.0, e.1)) es
 
--- no two numbers within a bound get one later number
+-- different numbers within a bound get different final numbers
 abbrev pub KeepsApart : ℕ → (ℕ → ℕ) → Type 0
 KeepsApart bound rank = (n m : ℕ) → n < bound → m < bound → rank n ≡ rank m → n ≡ m
 
--- what holds of each entry of a map holds of the entries that it is made of
+-- a property of each entry of a map is one of the entries from which it is made
 pub each-of_map : (P : ℕ × Number → Type 0) (es : List (ℕ × Number)) → IsOnceBy nat_cmp es → All P (sorted_of nat_cmp es) → Each P es
 each-of_map P es once h =
     each-from_all P es (All-permutation P (sorted_of nat_cmp es) es (IsPermutation-sym es (sorted_of nat_cmp es) (sorted_of-permutation nat_cmp nat_cmp_total es once)) h)
@@ -45,7 +45,7 @@ pub each-kept : (P : ℕ × Number → Type 0) (es : List (ℕ × Number)) → E
 each-kept P es h = Each-filter P is_kept es (Each-weaker P (λ e. is_kept e ≡ true → P e) (λ e p _. p) es h)
 
 module _ (bound : ℕ) (rank : ℕ → ℕ) (apart : KeepsApart bound rank) where
-  -- what is found at a later number stood at the earlier one
+  -- what is found at a final number is the value of the earlier number
   pub find-renamed : (n : ℕ) (es : List (ℕ × Number)) → n < bound → Each (λ e. e.0 < bound) es → find nat_cmp (rank n) (renamed rank es) ≡ find nat_cmp n es
   find-renamed n [] h within = refl
   find-renamed n (e ∷ es) h within =
@@ -66,7 +66,7 @@ module _ (bound : ℕ) (rank : ℕ → ℕ) (apart : KeepsApart bound rank) wher
         | false ↦ renamed-kept es
       ]
 
-  -- The coefficients, in whatever order they come, give those of the map that are moved.
+  -- The coefficients in any order give the renumbered ones of the map.
   pub moved-from_any_order : (es ys : List (ℕ × Number)) → IsOnceBy nat_cmp es → Each (λ e. e.0 < bound) es → IsPermutation (renamed rank (filter is_kept es)) ys
       → NeverFalls (λ e d. is_lt (nat_cmp e.0 d.0)) ys → ys ≡ filter is_kept (sorted_of nat_cmp (renamed rank (sorted_of nat_cmp es)))
   moved-from_any_order es ys once within p rises =
@@ -84,7 +84,7 @@ module _ (bound : ℕ) (rank : ℕ → ℕ) (apart : KeepsApart bound rank) wher
       ∙ sorted_of-sorted nat_cmp nat_cmp_total nat_cmp-IsAntisymmetric target (T_from (is_sorted nat_cmp target)
       (is_sorted-filter nat_cmp nat_cmp_total is_kept (sorted_of nat_cmp map_of) (true_from (is_sorted nat_cmp (sorted_of nat_cmp map_of)) (is_sorted-sorted_of nat_cmp nat_cmp_total map_of))))
 
-  -- what is found among those that are moved
+  -- what is found among renumbered coefficients
   pub find-moved : (n : ℕ) (es : List (ℕ × Number)) → n < bound → Each (λ e. e.0 < bound) es
       → find nat_cmp (rank n) (filter is_kept (sorted_of nat_cmp (renamed rank es))) ≡ unless_zero (find nat_cmp n es)
   find-moved n es h within =

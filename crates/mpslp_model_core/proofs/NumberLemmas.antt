@@ -1,4 +1,4 @@
--- Rows that stand in the order of their names: their numbers tell them apart, and rise as the names do.
+-- Rows in the order of their names: their numbers identify them, and are in the same order as the names.
 use Rattle.std.proofs.Common.{◌≡◌, refl, sym, ap, ◌∙◌, ℕ, zero, suc, ◌<◌, List, [], ◌∷◌, map, Bool, true, false, cond, arith}
 use Rattle.std.specs.Prelude.{Option, Some, None, slice_get, ◌||◌, ◌&&◌}
 use Rattle.std.specs.Option.{option_map}
@@ -23,7 +23,7 @@ less_from Less h = refl
 less_from Equal h = cc
 less_from Greater h = cc
 
--- a later entry lies above
+-- a later entry is above
 pub above_at : {X : Type 0} (k : List ℕ) (es : List (List ℕ × X)) (i : ℕ) (e : List ℕ × X) → below_all bytes_cmp k es ≡ true → slice_get es i ≡ Some e → bytes_cmp k e.0 ≡ Less
 above_at k [] i e h at = cc
 above_at {X} k (d ∷ es) zero e h at =
@@ -51,7 +51,7 @@ apart_names a b less =
       | false ↦ λ _. refl
     ] refl
 
--- of a name that is there
+-- the entry of a name that is found
 pub named_entry : {X : Type 0} (es : List (List ℕ × X)) (i : ℕ) (r : List ℕ) → option_map (λ (e : List ℕ × X). own e.0) (slice_get es i) ≡ Some r → (e : List ℕ × X) × (slice_get es i ≡ Some e) × (e.0 ≡ r)
 named_entry {X} es i r named =
     elim (slice_get es i) as (λ o. option_map (λ (e : List ℕ × X). own e.0) o ≡ Some r → (e : List ℕ × X) × (o ≡ Some e) × (e.0 ≡ r)) [
@@ -59,7 +59,7 @@ named_entry {X} es i r named =
       | Some e ↦ λ is. (e, refl, cc)
     ] named
 
--- a name that stands at a number is one of the names
+-- the name at a number is one of the names
 pub is_there : {X : Type 0} (es : List (List ℕ × X)) (i : ℕ) (e : List ℕ × X) → slice_get es i ≡ Some e → is_one_of (map (λ (d : List ℕ × X). d.0) es) e.0 ≡ true
 is_there [] i e at = absurd cc
 is_there {X} (d ∷ es) zero e at =
@@ -73,7 +73,7 @@ is_there {X} (d ∷ es) (suc i) e at =
     ]
 
 module _ {X : Type 0} (objective : List ℕ) (es : List (List ℕ × X)) (sorted : is_sorted bytes_cmp es ≡ true) where
-  -- names rise with their numbers
+  -- names ascend with their numbers
   pub rise_by_name : RiseByName (name_of own (Some objective) es)
   rise_by_name n m r s p q below =
       let e = named_entry es n r p in
@@ -98,7 +98,7 @@ module _ {X : Type 0} (objective : List ℕ) (es : List (List ℕ × X)) (sorted
         let no : false ≡ true = sym no_row ∙ ap (is_one_of (map (λ (e : List ℕ × X). e.0) es)) (is ∙ sym f.2) ∙ is_there es m f.0 f.1 in
         cc
 
-    -- no two numbers are of one row
+    -- different numbers are those of different rows
     pub tells_apart : TellsApart (name_of own (Some objective) es)
     tells_apart zero zero r p q = refl
     tells_apart zero (suc m) r p q = absurd (not_objective m r (cc) q)
@@ -125,14 +125,14 @@ module _ {V X : Type 0} (f : V → X) where
   names-part [] = refl
   names-part (e ∷ es) = ap (λ (ns : List (List ℕ)). e.0 ∷ ns) (names-part es)
 
--- a name that lies below all is not found
+-- a name below all names is not found
 none_below : {X : Type 0} (k : List ℕ) (es : List (List ℕ × X)) → below_all bytes_cmp k es ≡ true → find bytes_cmp k es ≡ None
 none_below k [] h = refl
 none_below k (e ∷ es) h =
     ap (λ (r : Ordering). cond (is_eq r) (Some e.1) (find bytes_cmp k es)) (less_from (bytes_cmp k e.0) (first_so (is_lt (bytes_cmp k e.0)) (below_all bytes_cmp k es) h))
     ∙ none_below k es (second_so (is_lt (bytes_cmp k e.0)) (below_all bytes_cmp k es) h)
 
--- names that rise stand once
+-- ascending names are distinct
 pub once_sorted : {X : Type 0} (es : List (List ℕ × X)) → is_sorted bytes_cmp es ≡ true → IsOnce es
 once_sorted [] h = tt
 once_sorted (e ∷ es) h = (none_below e.0 es (first_so (below_all bytes_cmp e.0 es) (is_sorted bytes_cmp es) h), once_sorted es (second_so (below_all bytes_cmp e.0 es) (is_sorted bytes_cmp es) h))
@@ -152,7 +152,7 @@ found_at {X} (d ∷ es) (suc i) e once at =
       | false ↦ λ _. later
     ] refl
 
--- what holds of all holds of the one of a number
+-- a property of all entries is one of the entry at a number
 pub all_at : {X : Type 0} (p : X → Bool) (es : List X) (i : ℕ) (e : X) → list_all p es ≡ true → slice_get es i ≡ Some e → p e ≡ true
 all_at p [] i e h at = absurd cc
 all_at {X} p (d ∷ es) zero e h at = let same : d ≡ e = cc in ap p (sym same) ∙ first_so (p d) (list_all p es) h

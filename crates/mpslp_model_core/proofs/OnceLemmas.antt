@@ -1,4 +1,4 @@
--- Entries no two of which have one key: in whatever order they stand, the same is found.
+-- Entries with distinct keys: what is found does not depend on their order.
 use Rattle.std.proofs.Common.{◌≡◌, refl, sym, ap, subst, ◌∙◌, ℕ, zero, suc, ◌<◌, ◌≤◌, List, [], ◌∷◌, ◌++◌, length, get_or, Bool, true, false, cond, arith, IsPermutation}
 use Rattle.std.specs.Prelude.{Option, Some, None, is_some, filter, map}
 use Rattle.std.specs.Map.{lookup}
@@ -53,7 +53,7 @@ filter-permutation {X} p =
           | false ↦ IsPermutation-refl (cond (p y) (y ∷ rest) rest)
         ]
 
--- ---- keys that strictly rise
+-- ---- keys that strictly ascend
 
 rising_once : {K X : Type 0} (R : K → K → Ordering) (k : K) (es : List (K × X)) → AllByRecursion (λ q. R k q ≡ Less) (map (λ e. e.0) es) → find R k es ≡ None
 rising_once R k [] h = refl
@@ -64,9 +64,9 @@ unfolding IsStrictlySortedBy
 once-from_rising R [] h = tt
 once-from_rising R (e ∷ es) h = (rising_once R e.0 es h.0, once-from_rising R es h.1)
 
--- ---- lists without a step down
+-- ---- lists that do not descend
 
--- none is below one before it
+-- no item is below an earlier one
 abbrev pub NeverFalls : {X : Type 0} → (X → X → Bool) → List X → Type 0
 NeverFalls lt [] = Unit {0}
 NeverFalls lt (x ∷ xs) = Each (λ y. lt y x ≡ false) xs × NeverFalls lt xs
@@ -79,7 +79,7 @@ never_falls : {X : Type 0} (lt : X → X → Bool) (xs : List X) → ((i j : ℕ
 never_falls lt [] h = tt
 never_falls lt (x ∷ xs) h = (never_below lt x xs (λ j d l. h zero (suc j) d (omega arith) (omega arith)), never_falls lt xs (λ i j d w l. h (suc i) (suc j) d (omega arith) (omega arith)))
 
--- what a sort by keys leaves
+-- the result of a sort by keys
 pub never_falls-from_sort : {K X : Type 0} {R : K → K → Ordering} (o : IsTotalOrder R) (key : X → K) (xs : List X) → IsSortedBy (λ x y. is_lt (R (key x) (key y))) xs → NeverFalls (λ x y. is_lt (R (key x) (key y))) xs
 never_falls-from_sort {R = R} o key xs h = never_falls (λ x y. is_lt (R (key x) (key y))) xs (sorted_far (λ x y. is_lt (R (key x) (key y))) (ranks_by o key) xs h)
 
@@ -150,18 +150,18 @@ module _ {K X : Type 0} (R : K → K → Ordering) (o : IsTotalOrder R) where
       let first = passed (eq_by_cmp R k e.0) e.1 (find R k es) none in
       both_so (is_lt (R k e.0)) (below_all R k es) (below-from o k e.0 first.0 h.0) (all_above k es first.1 h.1)
 
-  -- entries that never fall and stand once rise
+  -- entries with distinct keys that do not descend are sorted
   pub is_sorted-once : (es : List (K × X)) → IsOnceBy R es → NeverFalls (λ e d. is_lt (R e.0 d.0)) es → is_sorted R es ≡ true
   is_sorted-once [] once h = refl
   is_sorted-once (e ∷ es) once h = both_so (below_all R e.0 es) (is_sorted R es) (all_above e.0 es once.0 h.0) (is_sorted-once es once.1 h.1)
 
-  -- entries in the order of their keys are the map of them in any order
+  -- entries sorted by key are the map of these entries in any order
   pub permuted-is_map : ((x y : K) → R x y ≡ Equal → x ≡ y) → (es fs : List (K × X)) → IsOnceBy R es → IsPermutation es fs → NeverFalls (λ e d. is_lt (R e.0 d.0)) fs → fs ≡ sorted_of R es
   permuted-is_map same es fs once p h =
       sym (sorted_of-sorted R o same fs (T_from (is_sorted R fs) (is_sorted-once fs (once-permutation es fs p once) h)))
       ∙ sorted_of-alike R o same fs es (λ q. sym (find-permutation es fs p once q))
 
-  -- what has strictly rising keys has each once
+  -- strictly ascending keys are distinct
   none_below : (k : K) (es : List (K × X)) → below_all R k es ≡ true → find R k es ≡ None
   none_below k [] h = refl
   none_below k (e ∷ es) h =
@@ -229,7 +229,7 @@ module _ {K X : Type 0} (R : K → K → Ordering) (o : IsTotalOrder R) where
         | false ↦ rest
       ]
 
-  -- what is found is what was found, where it passes
+  -- the value that is found is the same, if it passes
   pub find-filter : (p : X → Bool) (q : K) (es : List (K × X)) → IsOnceBy R es → find R q (filter (λ e. p e.1) es) ≡ option_and_then (λ x. cond (p x) (Some x) None) (find R q es)
   find-filter p q [] h = refl
   find-filter p q (e ∷ es) h =
@@ -263,7 +263,7 @@ module _ {K X : Type 0} (R : K → K → Ordering) (o : IsTotalOrder R) where
         | false ↦ λ _. once-apart xs ys h.1 q there
       ] refl
 
-  -- ---- two parts, each of which may get an entry
+  -- ---- two parts, to either of which an entry may be added
 
   pub once-put_first : (k : K) (v : X) (xs zs ys : List (K × X)) → zs ≡ put R k v xs → find R k (sorted_of R (xs ++ ys)) ≡ None → IsOnceBy R (xs ++ ys) → IsOnceBy R (zs ++ ys)
   once-put_first k v xs zs ys is absent h =

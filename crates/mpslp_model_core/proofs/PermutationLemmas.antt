@@ -1,9 +1,9 @@
--- What exchanges of neighbours keep, permutations keep.
+-- A property that exchanges of neighbours keep is kept by permutations.
 use Rattle.std.proofs.Common.{ℕ, zero, suc, ◌<◌, List, [], ◌∷◌, length, get_or, set, swap, arith, IsPermutation}
 use Rattle.std.proofs.lemmas.List.Sorted.{IsPermutation-keeps}
 
--- A relation holds along each permutation if it is reflexive and transitive, and goes under a head and over an exchange
--- of two heads.
+-- A relation holds for each permutation if it is reflexive and transitive, and if it is kept under a common head and under an
+-- exchange of the first two items.
 module _ {X : Type 0} (R : List X → List X → Type 0) (same : (xs : List X) → R xs xs)
     (skip : (x : X) (xs ys : List X) → R xs ys → R (x ∷ xs) (x ∷ ys))
     (turn : (x y : X) (xs : List X) → R (x ∷ y ∷ xs) (y ∷ x ∷ xs))
@@ -25,6 +25,6 @@ module _ {X : Type 0} (R : List X → List X → Type 0) (same : (xs : List X) �
   swapped [] i j p q = same []
   swapped (x ∷ xs) i j p q = exchanged (x ∷ xs) i j x p q
 
-  -- what holds over one exchange holds along a permutation
+  -- a relation that is kept by one exchange is kept by a permutation
   pub along_permutation : (xs ys : List X) → IsPermutation xs ys → R xs ys
   along_permutation xs = IsPermutation-keeps xs (R xs) (same xs) (λ l i j p q h. chain xs l _ h (swapped l i j p q))

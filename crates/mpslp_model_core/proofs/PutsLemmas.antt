@@ -1,4 +1,4 @@
--- Entries put one after another, in whatever order and however often.
+-- Entries put one after another, in any order and any number of times.
 use Rattle.std.proofs.Common.{◌≡◌, refl, sym, ap, ◌∙◌, List, [], ◌∷◌, ◌++◌, Bool, true, false, cond}
 use Rattle.std.specs.Prelude.{Option, Some, None, is_some, ◌&&◌}
 use Rattle.std.specs.Ordering.{is_eq, is_lt, eq_by_cmp}
@@ -11,7 +11,7 @@ use Rattle.std.proofs.Math.Dec.{T}
 use Rattle.mpslp_types.proofs.BoolLemmas.{true_from, T_from}
 use Rattle.mpslp_types.proofs.EachLemmas.{Each}
 
--- a tie, by its test
+-- equality, by its test
 pub equal_from : (r : Ordering) → is_eq r ≡ true → r ≡ Equal
 equal_from Less h = cc
 equal_from Equal h = refl
@@ -40,7 +40,7 @@ module _ {K X : Type 0} (R : K → K → Ordering) where
   puts-append [] ys base = refl
   puts-append (x ∷ xs) ys base = puts-append xs ys (put R x.0 x.1 base)
 
-  -- what the first finds, the second finds too
+  -- what is found in the first is found in the second too
   abbrev pub IsPartOf : List (K × X) → List (K × X) → Type 0
   IsPartOf base target = (q : K) (x : X) → find R q base ≡ Some x → find R q target ≡ Some x
 
@@ -98,7 +98,7 @@ module _ {K X : Type 0} (R : K → K → Ordering) where
     alike None (Some y) f g = absurd (none_is (g refl))
     alike None None f g = refl
 
-    -- Entries that are all the target's, and leave none of its keys out, make the target.
+    -- Entries that all are those of the target, and have all of its keys, make the target.
     pub puts-give : (target es : List (K × X)) → T (is_sorted R target) → Each (λ e. find R e.0 target ≡ Some e.1) es
         → Each (λ e. is_some (find R e.0 es) ≡ true) target → puts es [] ≡ target
     puts-give target es sorted own all =
@@ -110,7 +110,7 @@ module _ {K X : Type 0} (R : K → K → Ordering) where
         no_some : (y : X) → None ≡ Some y → ⊥
         no_some y e = cc
 
-    -- an entry that stands in a list has its key found there
+    -- the key of an entry in a list is found there
     pub find-front : (k : K) (v : X) (es : List (K × X)) → is_some (find R k ((k, v) ∷ es)) ≡ true
     find-front k v es = ap (λ (b : Bool). is_some (cond b (Some v) (find R k es))) (tied R o same k)
 

@@ -1,4 +1,4 @@
--- Rows that get other numbers, and columns that are put into order, have the same coefficients, without those of value 0.
+-- Renumbering rows and sorting columns does not change the nonzero coefficients.
 use Rattle.std.proofs.Common.{◌≡◌, refl, sym, ap, ◌∙◌, ℕ, List, [], ◌∷◌, true, false, cond}
 use Rattle.std.proofs.Common.{inl, inr}
 use Rattle.std.specs.Prelude.{Option, Some, None, ◌⊎◌, filter, not}
@@ -19,7 +19,7 @@ use Rattle.mpslp_model_core.proofs.OnceLemmas.{find-filter, once-sorted, is_sort
 use Rattle.mpslp_model_core.proofs.MovingLemmas.{unless_zero}
 use Rattle.mpslp_model_core.proofs.CellLemmas.{at, or_else, find-two, find-all_cells}
 
--- a row that no number names has no coefficient
+-- a row without a number has no coefficient
 module _ (name : ℕ → Option (List ℕ)) (r : List ℕ) (nameless : (n : ℕ) → name n ≡ Some r → ⊥) where
   none_in_column : (c d : List ℕ) (es : List (ℕ × Number)) → find key_cmp (at r c) (column_cells name d es) ≡ None
   none_in_column c d [] = refl
@@ -41,8 +41,8 @@ module _ (name : ℕ → Option (List ℕ)) (r : List ℕ) (nameless : (n : ℕ)
       ∙ ap (λ (o : Option Number). or_else o (find key_cmp (at r c) (all_cells name cols))) (none_in_column c col.0 col.1)
       ∙ none_in_all c cols
 
--- Each row keeps its name under its later number, and no other row has one. Each column keeps its coefficients under
--- the later numbers.
+-- Each row keeps its name under its final number, and no other row has a name. Each column keeps its coefficients under the
+-- final numbers.
 pub record AreRenumbered (name later : ℕ → Option (List ℕ)) (rank : ℕ → ℕ) (cols moved : List (List ℕ × List (ℕ × Number))) : Type 0 where
   pub apart : TellsApart name
   pub apart_later : TellsApart later

@@ -1,4 +1,4 @@
--- Models are the same where their parts are.
+-- Models are the same if and only if their parts are.
 use Rattle.std.proofs.Common.{◌≡◌, refl, sym, ap, ◌∙◌, ℕ, List, [], ◌∷◌, map, true, false, cond}
 use Rattle.std.specs.Prelude.{Option, Some, None, is_some}
 use Rattle.std.specs.Option.{option_and_then}
@@ -36,7 +36,7 @@ cells_of columns = each_part own cells_in columns
 abbrev bounds_of : List (List ℕ × ModelColumn) → List (List ℕ × Column)
 bounds_of columns = each_part own bounds_in columns
 
--- ---- the model from what is told of its columns
+-- ---- the model from its columns
 
 bounds_told : (columns : List (List ℕ × ModelColumn)) → map (λ (t : List ℕ × (Column × List (ℕ × Number))). (t.0, t.1.0)) (columns_told columns) ≡ bounds_of columns
 bounds_told [] = refl
@@ -65,9 +65,9 @@ same-parts {m} {n} {v} {w} see seen p =
     } in
     sym see ∙ inside ∙ seen
 
--- ---- what is told of columns from the model
+-- ---- the columns from the model
 
--- at a number that no row has nothing is found
+-- nothing is found at a number without a row
 unnamed_cells : (name : ℕ → Option (List ℕ)) (n : ℕ) (es : List (ℕ × Number)) → name n ≡ None → list_all (λ e. is_some (name e.0)) es ≡ true → find nat_cmp n es ≡ None
 unnamed_cells name n [] none h = refl
 unnamed_cells name n (e ∷ es) none h =

@@ -11,7 +11,7 @@ use Rattle.std.proofs.Math.Dec.{T}
 use Rattle.mpslp_model_core.specs.Numbered.{sorted_of}
 
 module _ {K X : Type 0} (R : K → K → Ordering) (o : IsTotalOrder R) where
-  -- what is found in the map is what is found first among the entries
+  -- what is found in the map is the first such entry
   pub find-sorted_of : (q : K) (es : List (K × X)) → find R q (sorted_of R es) ≡ find R q es
   find-sorted_of q [] = refl
   find-sorted_of q (e ∷ es) = find-put R o q e.0 e.1 (sorted_of R es) ∙ ap (cond (eq_by_cmp R q e.0) (Some e.1)) (find-sorted_of q es)
@@ -21,13 +21,13 @@ module _ {K X : Type 0} (R : K → K → Ordering) (o : IsTotalOrder R) where
   is_sorted-sorted_of (e ∷ es) = is_sorted-put R o e.0 e.1 (sorted_of R es) (is_sorted-sorted_of es)
 
   module _ (same : (x y : K) → R x y ≡ Equal → x ≡ y) where
-    -- entries in which the same is found make the same map
+    -- lists in which the same entries are found make the same map
     pub sorted_of-alike : (es fs : List (K × X)) → ((q : K) → find R q es ≡ find R q fs) → sorted_of R es ≡ sorted_of R fs
     sorted_of-alike es fs h =
         same_entries R o same (sorted_of R es) (sorted_of R fs) (is_sorted-sorted_of es) (is_sorted-sorted_of fs)
         (λ q. find-sorted_of q es ∙ h q ∙ sym (find-sorted_of q fs))
 
-    -- entries in which one more is found make the map with that one put
+    -- a list in which one more entry is found makes the map with that entry
     pub sorted_of-put : (k : K) (v : X) (es fs : List (K × X)) → ((q : K) → find R q es ≡ cond (eq_by_cmp R q k) (Some v) (find R q fs)) → sorted_of R es ≡ put R k v (sorted_of R fs)
     sorted_of-put k v es fs h =
         same_entries R o same (sorted_of R es) (put R k v (sorted_of R fs)) (is_sorted-sorted_of es) (is_sorted-put R o k v (sorted_of R fs) (is_sorted-sorted_of fs))

@@ -1,4 +1,4 @@
--- What is asked of a model, read off its parts.
+-- The results of a model's accessors, from its parts.
 use Rattle.std.proofs.Common.{◌≡◌, refl, sym, ap, ◌∙◌, ℕ, zero, suc, ◌<◌, ◌+◌, List, [], ◌∷◌, length, map, Bool, true, false, cond, not, arith}
 use Rattle.std.specs.Prelude.{Option, Some, None, slice_get, position, nat_lt, ◌&&◌, is_some, unwrap_or, filter}
 use Rattle.std.specs.Option.{option_map, option_map_or, option_and_then}
@@ -40,7 +40,7 @@ coefficients_seen m {v} seen =
     ap (λ (w : LinearModel). maps.entries w.coefficients) (sym seen)
     ∙ maps.entries-from_sorted key_cmp (sorted_of key_cmp (all_cells (name_of_row_key m) (cells_by_name m))) (is_sorted-sorted_of key_cmp key_total (all_cells (name_of_row_key m) (cells_by_name m)))
 
--- the entry of a number, in a list that is the same
+-- the entry of a number, in an equal list
 pub at_index : {X : Type 0} {xs ys : List X} (i : ℕ) {e : X} → xs ≡ ys → slice_get ys i ≡ Some e → slice_get xs i ≡ Some e
 at_index {X} i same at = ap (λ (es : List X). slice_get es i) same ∙ at
 
@@ -55,7 +55,7 @@ column_names_seen {m} seen parts = ap (map (λ (e : List ℕ × Column). e.0)) (
 pub count_columns : {m : ModelParts} {v : LinearModel} → linear_model m ≡ v → AreModelParts m → length m.columns.items ≡ length (column_names v)
 count_columns {m} seen parts = sym (ap length (column_names_seen seen parts) ∙ length-map m.columns.items (λ (e : List ℕ × ModelColumn). e.0))
 
--- the entry of a number, seen through a function
+-- the entry of a number, through a function
 pub entry_seen : {X Y : Type 0} {es items : List (List ℕ × X)} (f : List ℕ × X → Y) (i : ℕ) {e : List ℕ × X} → es ≡ items → slice_get items i ≡ Some e
     → slice_get (map f es) i ≡ Some (f e)
 entry_seen {X} {Y} {es} {items} f i same at = slice_get-map f es i ∙ ap (option_map f) (ap (λ (xs : List (List ℕ × X)). slice_get xs i) same ∙ at)
@@ -107,11 +107,11 @@ row_numbered {m} {v} seen parts i below =
     ∙ ap (λ (es : List (List ℕ × Row)). slice_get (map (λ (e : List ℕ × Row). e.0) es) i) (sym (rows_seen seen parts))
     ∙ slice_get-get_or (row_names v) i [] below
 
--- an element by the number of its row
+-- a nonzero with the number of its row
 abbrev pub numbered_in : LinearModel → CoefficientKey × Number → Option ℕ × Number
 numbered_in v coefficient = (row_index v coefficient.0.row, coefficient.1)
 
--- ---- what holds of the parts
+-- ---- properties of the parts
 
 module _ (m : ModelParts) (parts : AreModelParts m) where
   pub apart_in : TellsApart (name_of_row_key m)
@@ -152,7 +152,7 @@ module _ (m : ModelParts) (parts : AreModelParts m) where
             }
       ] refl at
 
-  -- the same of a slice of the columns
+  -- the same for a slice of the columns
   pub cells_here : (v : LinearModel) → linear_model m ≡ v → (j : ℕ) (columns : List (List ℕ × ModelColumn)) (cells : List (ℕ × Number)) → columns ≡ m.columns.items
       → option_map (λ (column : List ℕ × ModelColumn). column.1.cells.items) (slice_get columns j) ≡ Some cells → AreCellsAt v j cells
   cells_here v seen j columns cells same at =
@@ -173,7 +173,7 @@ module _ (m : ModelParts) (parts : AreModelParts m) where
       → unwrap_or (find nat_cmp n cells) zero_number ≡ coefficient_at v r (column_name v j)
   value_seen v seen j cells are n r named = ap (λ (o : Option Number). unwrap_or o zero_number) (sym (found_seen v seen j cells are n r named))
 
-  -- the elements of a column
+  -- the nonzeros of a column
   pub elements_seen : (v : LinearModel) → linear_model m ≡ v → (j : ℕ) (cells : List (ℕ × Number)) → AreCellsAt v j cells
       → column_elements v (column_name v j) ≡ column_cells (name_of_row_key m) (column_name v j) (row_cells cells)
   elements_seen v seen j cells are =
@@ -210,7 +210,7 @@ module _ (m : ModelParts) (parts : AreModelParts m) where
   length_seen v seen j cells are =
       sym (ap length (elements_seen v seen j cells are) ∙ length-named (name_of_row_key m) (column_name v j) (row_cells cells) (rows_named (name_of_row_key m) cells are.named))
 
-  -- how many there are in all columns
+  -- the number of nonzeros in all columns
   count_named : (columns : List (List ℕ × ModelColumn)) → list_all (λ c. list_all (λ e. is_some (name_of_row_key m e.0)) c.1) (each_part own cells_in columns) ≡ true
       → length (all_cells (name_of_row_key m) (rows_alone (each_part own cells_in columns))) ≡ count_row_cells columns
   count_named [] h = refl
@@ -229,7 +229,7 @@ module _ (m : ModelParts) (parts : AreModelParts m) where
       ∙ count_named m.columns.items parts.named
       )
 
--- each column's coefficients stand in the order of numbers
+-- the coefficients of each column are in the order of their numbers
 pub all_sorted : (columns : List (List ℕ × ModelColumn)) → list_all (λ c. is_sorted nat_cmp c.1) (each_part own cells_in columns) ≡ true → list_all (λ (column : List ℕ × ModelColumn). is_sorted nat_cmp column.1.cells.items) columns ≡ true
 all_sorted [] h = refl
 all_sorted (c ∷ cs) h = λ i. first_so (is_sorted nat_cmp c.1.cells.items) (list_all (λ d. is_sorted nat_cmp d.1) (each_part own cells_in cs)) h i && all_sorted cs (second_so (is_sorted nat_cmp c.1.cells.items) (list_all (λ d. is_sorted nat_cmp d.1) (each_part own cells_in cs)) h) i

@@ -10,19 +10,19 @@ use Rattle.mpslp_model_core.specs.ModelParts.{AreModelParts}
 use Rattle.mpslp_model_core.specs.declared.model.ModelColumn.{ModelColumn}
 use Rattle.mpslp_model_core.specs.declared.model.ModelParts.{ModelParts}
 
--- the list of an index, and none behind the last
+-- the list at an index, empty after the last one
 abbrev pub list_at : List (Vec ℕ) → ℕ → List ℕ
 list_at lists i = option_map_or (λ (list : Vec ℕ). list.items) (slice_get lists i) []
 
--- a column that has a coefficient
+-- the column, if it has a coefficient
 abbrev pub column_if : Bool → ℕ → List ℕ
 column_if has column = if has then column ∷ [] else []
 
--- a coefficient of this number puts its column to the list of its row
+-- a coefficient of this number adds its column to the list of its row
 abbrev pub HasNoted : ℕ → ℕ → List (Vec ℕ) → List (Vec ℕ) → Type 0
 HasNoted number column old new = (i : ℕ) → list_at new i ≡ list_at old i ++ column_if (eq_by_cmp nat_cmp (suc i) number) column
 
--- each number is the objective's, which is 0, or one of so many rows'
+-- each number is 0, the objective's, or that of one of so many rows
 abbrev pub AreWithin : ℕ → List (ℕ × Number) → Type 0
 AreWithin rows cells = All (λ (cell : ℕ × Number). cell.0 ≤ rows) cells
 

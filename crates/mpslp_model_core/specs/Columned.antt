@@ -1,15 +1,15 @@
--- Columns as they are kept: their names, kinds and bounds, and their coefficients by the numbers of rows.
+-- Stored columns: their names, types and bounds, and their coefficients by row number.
 use Rattle.std.specs.Prelude.{ℕ, zero, suc, Bool, true, false, List, [], ◌∷◌, ◌+◌, length, map, filter}
 use Rattle.mpslp_decimal.specs.Decimal.{Number}
 use Rattle.mpslp_model_core.specs.Model.{Column}
 use Rattle.mpslp_model_core.specs.declared.model.ModelColumn.{ModelColumn}
 
--- the number of a row, and not that of the objective
+-- whether it is the number of a row, and not of the objective
 abbrev pub is_row_number : ℕ → Bool
 is_row_number zero = false
 is_row_number (suc n) = true
 
--- the coefficients of rows
+-- the coefficients without that of the objective
 abbrev pub row_cells : List (ℕ × Number) → List (ℕ × Number)
 row_cells es = filter (λ e. is_row_number e.0) es
 
@@ -17,7 +17,7 @@ abbrev pub count_row_cells : List (List ℕ × ModelColumn) → ℕ
 count_row_cells [] = 0
 count_row_cells (column ∷ columns) = length (row_cells column.1.cells.items) + count_row_cells columns
 
--- what is told of a column
+-- the name of a column with its type, bounds and coefficients
 abbrev pub column_told : List ℕ × ModelColumn → List ℕ × (Column × List (ℕ × Number))
 column_told column = (column.0, (column.1.bounds, column.1.cells.items))
 

@@ -1,4 +1,4 @@
--- The kind and bounds of a column, from what is declared of it.
+-- The type and bounds of a column, from what is declared of it.
 use Rattle.std.specs.Prelude.{Bool, ◌&&◌, ◌||◌, not, is_none, unwrap_or, if◌then◌else◌}
 use Rattle.mpslp_decimal.specs.Decimal.{one_number}
 pub use Rattle.mpslp_types.specs.Limit.{zero_limit}
@@ -13,22 +13,22 @@ use Rattle.mpslp_types.specs.declared.kinds.Limit.TheVariants.{Finite, PlusInf}
 abbrev pub one_limit : Limit
 one_limit = Finite one_number
 
--- neither side is declared
+-- neither bound is declared
 abbrev pub no_side_declared : DeclaredColumn → Bool
 no_side_declared d = is_none d.lower && is_none d.upper
 
--- the upper bound where none is declared: 1 of a binary column, and of a marked one with no side declared
+-- the upper bound if none is declared: 1 for a binary column, and for a marked one without any declared bound
 abbrev pub upper_by_default : DeclaredColumn → Limit
 upper_by_default d = if d.binary || (d.marked && no_side_declared d) then one_limit else PlusInf
 
--- 0 where none is declared
+-- 0 if none is declared
 abbrev pub declared_lower : DeclaredColumn → Limit
 declared_lower d = unwrap_or d.lower zero_limit
 
 abbrev pub declared_upper : DeclaredColumn → Limit
 declared_upper d = unwrap_or d.upper (upper_by_default d)
 
--- it takes whole numbers alone
+-- whether the column is integer
 abbrev pub is_declared_integer : DeclaredColumn → Bool
 is_declared_integer d = d.marked || (d.integer || d.binary)
 
@@ -45,7 +45,7 @@ declared_column d = record {
 
 -- ---- columns that no model has
 
--- an upper bound below 0, and no lower one declared
+-- an upper bound below 0, without a declared lower bound
 abbrev pub is_negative_upper : DeclaredColumn → Bool
 is_negative_upper d = is_none d.lower && not (is_at_most zero_limit (declared_upper d))
 
@@ -53,11 +53,11 @@ is_negative_upper d = is_none d.lower && not (is_at_most zero_limit (declared_up
 abbrev pub are_crossed_bounds : DeclaredColumn → Bool
 are_crossed_bounds d = not (is_at_most (declared_lower d) (declared_upper d))
 
--- binary, and the bounds not within 0 and 1
+-- binary, and the bounds are not within 0 and 1
 abbrev pub are_no_binary_bounds : DeclaredColumn → Bool
 are_no_binary_bounds d = d.binary
     && not (is_at_most zero_limit (declared_lower d) && is_at_most (declared_upper d) one_limit)
 
--- semi-continuous, and the lower bound below 0, or the upper one infinite or not above 0
+-- semi-continuous, and the lower bound is below 0, or the upper bound is infinite or not above 0
 abbrev pub are_no_semi_bounds : DeclaredColumn → Bool
 are_no_semi_bounds d = not (suits (declared_kind d) (declared_lower d) (declared_upper d))

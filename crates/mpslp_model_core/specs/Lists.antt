@@ -1,4 +1,4 @@
--- Lists: what a test keeps, what comes first, and whether all are different.
+-- Lists: what passes a test, the first item, and whether all items differ.
 use Rattle.std.specs.Prelude.{Bool, true, false, ◌&&◌, not, List, [], ◌∷◌, Option, Some, None, if◌then◌else◌}
 use Rattle.std.specs.List.{list_any}
 
@@ -10,16 +10,16 @@ abbrev pub head_of : {X : Type 0} → List X → Option X
 head_of [] = None
 head_of (x ∷ xs) = Some x
 
--- one element, or none
+-- a list of one item, or an empty list
 abbrev pub when : {X : Type 0} → Bool → X → List X
 when test x = if test then x ∷ [] else []
 
--- those whose tests hold, in order
+-- the items whose tests are true, in order
 abbrev pub those_of : {X : Type 0} → List (Bool × X) → List X
 those_of [] = []
 those_of (tested ∷ more) = if tested.0 then tested.1 ∷ those_of more else those_of more
 
--- no two are alike
+-- no two items are the same
 abbrev pub are_distinct : {K : Type 0} → (K → K → Bool) → List K → Bool
 are_distinct same [] = true
 are_distinct same (x ∷ xs) = not (list_any (λ later. same later x) xs) && are_distinct same xs

@@ -15,19 +15,19 @@ use Rattle.mpslp_types.specs.declared.kinds.Kind.{Kind}
 use Rattle.mpslp_types.specs.declared.kinds.Kind.TheVariants.{Continuous, Integer, Semi}
 use Rattle.mpslp_types.specs.declared.kinds.Limit.{Limit}
 
--- where a coefficient stands: a row, or the objective, and a column
+-- the place of a coefficient: a row, or the objective, and a column
 pub record CoefficientKey : Type 0 where
   pub row : List ℕ
   pub column : List ℕ
 
--- By column, then by row. So the coefficients of a column stand together, in the order of their rows.
+-- By column, then by row. So the coefficients of a column are adjacent, in the order of their rows.
 abbrev pub key_cmp : CoefficientKey → CoefficientKey → Ordering
 key_cmp a b = ordering_then (bytes_cmp a.column b.column) (bytes_cmp a.row b.row)
 
 pub key_total : IsTotalOrder key_cmp
 key_total = then_total (on_total (λ (p : CoefficientKey). p.column) nat_list_cmp_total) (on_total (λ (p : CoefficientKey). p.row) nat_list_cmp_total)
 
--- ---- a model: what rows, columns and coefficients there are, by their names
+-- ---- a model: its rows, columns and coefficients, by their names
 
 pub record Row : Type 0 where
   pub lower : Limit
@@ -38,7 +38,7 @@ pub record Column : Type 0 where
   pub lower : Limit
   pub upper : Limit
 
--- The objective is no row. A coefficient that is not there is 0.
+-- The objective is not a row. A missing coefficient is 0.
 pub record LinearModel : Type 0 where
   pub sense : Sense
   pub objective : List ℕ
@@ -47,9 +47,9 @@ pub record LinearModel : Type 0 where
   pub columns : FinMap bytes_cmp Column
   pub coefficients : FinMap key_cmp Number
 
--- ---- sound models
+-- ---- well-formed models
 
--- a semi-continuous column, which is 0 or lies within its bounds, wants such bounds
+-- a semi-continuous column, which is 0 or within its bounds, requires such bounds
 abbrev pub suits : Kind → Limit → Limit → Bool
 suits Continuous lower upper = true
 suits Integer lower upper = true
@@ -61,14 +61,14 @@ is_sound_row row = is_mps_name row.0 && (are_sides row.1.lower row.1.upper && ha
 abbrev pub is_sound_column : List ℕ × Column → Bool
 is_sound_column column = is_mps_name column.0 && (are_sides column.1.lower column.1.upper && suits column.1.kind column.1.lower column.1.upper)
 
--- a decimal that is not 0, of a row or the objective and of a column that are there
+-- a nonzero decimal, of an existing column and an existing row or the objective
 abbrev pub is_sound_coefficient : LinearModel → CoefficientKey × Number → Bool
 is_sound_coefficient m coefficient =
     let key = coefficient.0 in
     is_decimal coefficient.1 && (not (is_zero coefficient.1)
     && (is_one_of (maps.keys m.columns) key.column && is_one_of (m.objective ∷ maps.keys m.rows) key.row))
 
--- What holds of every model.
+-- Properties of every model.
 pub record IsSound (m : LinearModel) : Type 0 where
   pub objective : IsMpsName m.objective
   pub objective_is_no_row : is_one_of (maps.keys m.rows) m.objective ≡ false

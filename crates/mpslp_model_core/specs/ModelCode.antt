@@ -1,4 +1,4 @@
--- A model is stored as its parts, one after another.
+-- A model is encoded as its parts, one after another.
 use Rattle.std.specs.Prelude.{ℕ, List, refl}
 use Rattle.std.specs.Coded.{Coded, code_by, coded×, coded_list, coded_ℕ}
 use Rattle.std.specs.FinMap as maps

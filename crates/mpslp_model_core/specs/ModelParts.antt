@@ -1,4 +1,4 @@
--- A model from its parts, and what holds of these. Rows are numbered in byte order of their names, from 1 on; the
+-- A model from its parts, and the properties of these. Rows are numbered in byte order of their names, starting at 1; the
 -- objective has the number 0.
 use Rattle.std.specs.Prelude.{◌≡◌, ℕ, true, IsTrue, List, Option, Some}
 use Rattle.std.specs.Ordering.{nat_cmp}
@@ -42,8 +42,8 @@ linear_model m = record {
   coefficients = maps.from_sorted (sorted_of key_cmp (all_cells (name_of_row_key m) (cells_by_name m)));
 }
 
--- Rows and columns stand in the order of their names, the coefficients of a column in the order of their rows' numbers, each
--- number is a row's, and the model is sound.
+-- Rows and columns are in the order of their names, the coefficients of a column in the order of their row numbers, each
+-- number is that of a row or of the objective, and the model is well-formed.
 pub record AreModelParts (m : ModelParts) : Type 0 where
   pub rows : IsTrue (maps.is_sorted bytes_cmp m.rows.items)
   pub columns : IsTrue (maps.is_sorted bytes_cmp (columns_in m))

@@ -1,4 +1,4 @@
--- Rows and columns by numbers, in whatever order they stand, and the coefficients of each column by the numbers of rows.
+-- Rows and columns by number, in any order, and the coefficients of each column by row number.
 use Rattle.std.specs.Prelude.{◌≡◌, ℕ, zero, suc, Bool, List, [], ◌∷◌, ◌++◌, Option, Some, None, is_some, slice_get, slice_index, map, filter, not}
 use Rattle.std.specs.List.{list_all}
 use Rattle.std.specs.Option.{option_map, option_map_or}
@@ -9,12 +9,12 @@ use Rattle.mpslp_decimal.specs.Decimal.{Number, is_zero}
 use Rattle.mpslp_types.specs.Name.{bytes_cmp}
 use Rattle.mpslp_model_core.specs.Model.{CoefficientKey}
 
--- the entries, each put in its place; of two at one key the earlier one stays
+-- the entries, sorted by key; of two with the same key the earlier one is kept
 abbrev pub sorted_of : {K X : Type 0} → (K → K → Ordering) → List (K × X) → List (K × X)
 sorted_of R [] = []
 sorted_of R (e ∷ es) = put R e.0 e.1 (sorted_of R es)
 
--- ---- what entries of a map say of their names
+-- ---- the parts of a map's entries by name
 
 module _ {K V X : Type 0} (key : K → List ℕ) where
   -- a part of each
@@ -22,42 +22,42 @@ module _ {K V X : Type 0} (key : K → List ℕ) where
   each_part f [] = []
   each_part f (e ∷ es) = (key e.0, f e.1) ∷ each_part f es
 
-  -- the parts that are there
+  -- the parts that are given
   abbrev pub given_parts : (V → Option X) → List (K × V) → List (List ℕ × X)
   given_parts f [] = []
   given_parts f (e ∷ es) = option_map_or (λ x. (key e.0, x) ∷ given_parts f es) (f e.1) (given_parts f es)
 
 -- ---- rows by numbers
 
--- the objective has the number 0, and the rows have those from 1 on
+-- the objective has the number 0, and the rows have the numbers from 1
 abbrev pub name_of : {K V : Type 0} → (K → List ℕ) → Option (List ℕ) → List (K × V) → ℕ → Option (List ℕ)
 name_of key objective rows zero = objective
 name_of key objective rows (suc i) = option_map (λ e. key e.0) (slice_get rows i)
 
--- no two numbers are of one row
+-- different numbers are those of different rows
 abbrev pub TellsApart : (ℕ → Option (List ℕ)) → Type 0
 TellsApart name = (n m : ℕ) (r : List ℕ) → name n ≡ Some r → name m ≡ Some r → n ≡ m
 
--- no key stands again
+-- all keys are distinct
 abbrev pub IsOnceBy : {K X : Type 0} → (K → K → Ordering) → List (K × X) → Type 0
 IsOnceBy R [] = Unit {0}
 IsOnceBy R (e ∷ es) = (find R e.0 es ≡ None) × IsOnceBy R es
 
--- no name stands again
+-- all names are distinct
 abbrev pub IsOnce : {X : Type 0} → List (List ℕ × X) → Type 0
 IsOnce es = IsOnceBy bytes_cmp es
 
--- ---- coefficients by the numbers of rows
+-- ---- coefficients by row number
 
--- whether it is no zero
+-- whether it is nonzero
 abbrev pub is_kept : {K : Type 0} → K × Number → Bool
 is_kept e = not (is_zero e.1)
 
--- The coefficients of a column under the later numbers of their rows, in the order of these; those of value 0 are left out.
+-- The coefficients of a column with the final numbers of their rows, in the order of these; zeros are left out.
 abbrev pub moved_cells : List ℕ → List (ℕ × Number) → List (ℕ × Number)
 moved_cells ranks cells = filter is_kept (sorted_of nat_cmp (map (λ e. (slice_index ranks e.0, e.1)) cells))
 
--- the coefficients of a column, those whose row has a name
+-- the coefficients of a column whose rows have names
 abbrev pub column_cells : (ℕ → Option (List ℕ)) → List ℕ → List (ℕ × Number) → List (CoefficientKey × Number)
 column_cells name column [] = []
 column_cells name column (e ∷ es) =
@@ -67,6 +67,6 @@ abbrev pub all_cells : (ℕ → Option (List ℕ)) → List (List ℕ × List (�
 all_cells name [] = []
 all_cells name (c ∷ cs) = column_cells name c.0 c.1 ++ all_cells name cs
 
--- each number of a coefficient is a row's
+-- the number of each coefficient is that of a row or of the objective
 abbrev pub all_named : (ℕ → Option (List ℕ)) → List (List ℕ × List (ℕ × Number)) → Bool
 all_named name cols = list_all (λ c. list_all (λ e. is_some (name e.0)) c.1) cols

@@ -1,4 +1,4 @@
--- Sides as they are kept.
+-- Limits in packed form.
 use Rattle.mpslp_types.specs.declared.kinds.Limit.{Limit}
 use Rattle.mpslp_types.specs.declared.kinds.Limit.TheVariants as limits
 use Rattle.mpslp_model_core.specs.declared.packed.StoredLimit.{StoredLimit}

@@ -1,4 +1,4 @@
--- How a row was declared, as it is kept.
+-- The packed declaration of a row.
 use Rattle.mpslp_model_core.specs.Limits.{RowDefinition, by_type, by_limits}
 use Rattle.mpslp_model_core.specs.declared.packed_row_definition.StoredDefinition.{StoredDefinition}
 use Rattle.mpslp_model_core.specs.declared.packed_row_definition.StoredDefinition.TheVariants as stored

@@ -1,4 +1,4 @@
--- When two sides, rows, columns or objectives are the same.
+-- When two limits, rows, columns or objectives are the same.
 use Rattle.std.specs.Prelude.{◌≡◌, ℕ, Bool, true, false, ◌&&◌, List}
 use Rattle.std.specs.Ordering.{int_eq}
 use Rattle.std.specs.Bool.{nat_eq}
@@ -53,6 +53,6 @@ same_column_with a b = same_column a.0 b.0 && pointwise same_cell a.1 b.1
 abbrev pub same_named_column : List ℕ × (Column × List (ℕ × Number)) → List ℕ × (Column × List (ℕ × Number)) → Bool
 same_named_column a b = same_bytes a.0 b.0 && same_column_with a.1 b.1
 
--- the parts of two models beside rows, columns and coefficients are the same
+-- sense, objective name and constant of two models are the same
 abbrev pub IsSameObjective : LinearModel → LinearModel → Type 0
 IsSameObjective m n = (m.sense ≡ n.sense) × (m.objective ≡ n.objective) × (m.constant ≡ n.constant)

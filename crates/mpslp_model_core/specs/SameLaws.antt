@@ -1,4 +1,4 @@
--- The tests of sameness tell whether two things are the same.
+-- The tests of equality decide whether two values are equal.
 use Rattle.std.proofs.Common.{◌≡◌, refl, sym, ap, ◌∙◌, List, Bool}
 use Rattle.std.specs.Prelude.{◌&&◌, ℕ}
 use Rattle.std.specs.Bool.{nat_eq}
@@ -16,25 +16,25 @@ use Rattle.mpslp_types.specs.declared.kinds.Kind.TheVariants.{Continuous, Intege
 use Rattle.mpslp_types.specs.declared.kinds.Limit.{Limit}
 use Rattle.mpslp_types.specs.declared.kinds.Limit.TheVariants.{MinusInf, Finite, PlusInf}
 
--- the test tells whether two things are the same
+-- the test decides whether two values are equal
 abbrev pub Tells : {X : Type 0} → (X → X → Bool) → Type 0
 Tells {X} test = (x y : X) → Decides (test x y) (x ≡ y)
 
 pub tells-lists : {X : Type 0} (test : X → X → Bool) → Tells test → Tells (pointwise test)
 tells-lists test tells = pointwise_decides tells
 
--- the answer of a test is that of what it tells
+-- a result that equals that of the test decides it too
 pub answered : {X : Type 0} (test : X → X → Bool) → Tells test → (x y : X) (b : Bool) → b ≡ test x y → Decides b (x ≡ y)
 answered test tells x y b e = (λ h. (tells x y).0 (sym e ∙ h), λ same. e ∙ (tells x y).1 same)
 
--- a test that tells is symmetric and transitive
+-- such a test is symmetric and transitive
 pub lawful : {X : Type 0} (test : X → X → Bool) → Tells test → IsPartialEquivalence test
 lawful test tells = record {
   symm = λ x y. one_answer (test x y) (test y x) (tells x y) ((λ h. sym ((tells y x).0 h)), (λ same. (tells y x).1 (sym same)));
   trans = λ x y z h k. (tells x z).1 ((tells x y).0 h ∙ (tells y z).0 k);
 }
 
--- ---- sides, rows and columns
+-- ---- limits, rows and columns
 
 pub tells-number : Tells same_number
 tells-number a b =

@@ -1,4 +1,4 @@
--- What is asked of a model. Rows and columns are numbered from 0, in byte order of their names.
+-- The results of a model's accessors. Rows and columns are numbered from 0, in byte order of their names.
 use Rattle.std.specs.Prelude.{ℕ, Bool, true, false, ◌&&◌, not, List, [], length, map, filter, position, Option, is_some, unwrap_or, slice_index_or, if◌then◌else◌}
 use Rattle.std.specs.List.{range_with_len}
 use Rattle.std.specs.Ordering.{is_eq}
@@ -11,7 +11,7 @@ use Rattle.mpslp_types.specs.declared.kinds.Kind.TheVariants.{Continuous, Intege
 use Rattle.mpslp_types.specs.declared.kinds.Limit.{Limit}
 use Rattle.mpslp_types.specs.declared.kinds.Limit.TheVariants.{MinusInf, Finite, PlusInf}
 
--- ---- rows and columns by their numbers
+-- ---- rows and columns by number
 
 abbrev pub row_names : LinearModel → List (List ℕ)
 row_names m = maps.keys m.rows
@@ -37,7 +37,7 @@ row_name m i = slice_index_or (row_names m) i []
 abbrev pub column_name : LinearModel → ℕ → List ℕ
 column_name m j = slice_index_or (column_names m) j []
 
--- the number of the row of this name; the objective is no row
+-- the number of the row with this name; the objective is not a row
 abbrev pub row_index : LinearModel → List ℕ → Option ℕ
 row_index m name = position (same_bytes name) (row_names m)
 
@@ -52,7 +52,7 @@ is_integer_column column = is_integer_kind column.kind
     is_integer_kind Integer = true
     is_integer_kind Semi = false
 
--- ---- a row by its sense, right side and range
+-- ---- the sense, right-hand side and range of a row
 
 -- the letters of rows, in ASCII
 abbrev pub letter_N : ℕ
@@ -70,7 +70,7 @@ letter_E = 69
 abbrev pub letter_R : ℕ
 letter_R = 82
 
--- the letter of a row. A side that no value meets is in no model
+-- the letter of a row. No model has limits that no value meets
 abbrev pub row_sense : Row → ℕ
 row_sense row = letter row.lower row.upper
   where
@@ -80,7 +80,7 @@ row_sense row = letter row.lower row.upper
     letter (Finite a) (Finite b) = if is_eq (decimal_cmp a b) then letter_E else letter_R
     letter _ _ = letter_N
 
--- the upper limit, or else the lower one, or else 0
+-- the upper limit, otherwise the lower one, otherwise 0
 abbrev pub right_hand_side : Row → Number
 right_hand_side row = finite row.upper (finite row.lower zero_number)
   where
@@ -88,7 +88,7 @@ right_hand_side row = finite row.upper (finite row.lower zero_number)
     finite (Finite a) other = a
     finite _ other = other
 
--- upper minus lower where both are finite, and else 0
+-- upper minus lower if both are finite, otherwise 0
 abbrev pub row_range : Row → Number
 row_range row = distance row.lower row.upper
   where
@@ -98,29 +98,29 @@ row_range row = distance row.lower row.upper
 
 -- ---- coefficients
 
--- the coefficient of this row and column; one that is not there is 0
+-- the coefficient of this row and column; a missing one is 0
 abbrev pub coefficient_at : LinearModel → List ℕ → List ℕ → Number
 coefficient_at m row column = unwrap_or (maps.find key_cmp (record { row = row; column = column }) (maps.entries m.coefficients)) zero_number
 
--- of a row, and not of the objective
+-- of a row, not of the objective
 abbrev pub is_element : LinearModel → CoefficientKey × Number → Bool
 is_element m coefficient = not (same_bytes m.objective coefficient.0.row)
 
 abbrev pub num_elements : LinearModel → ℕ
 num_elements m = length (filter (is_element m) (maps.entries m.coefficients))
 
--- the coefficients of rows in a column, in the order of rows
+-- the nonzeros of a column, in the order of rows
 abbrev pub column_elements : LinearModel → List ℕ → List (CoefficientKey × Number)
 column_elements m column = filter (λ coefficient. is_element m coefficient && same_bytes column coefficient.0.column) (maps.entries m.coefficients)
 
--- each of them by the number of its row
+-- each with the number of its row
 abbrev pub numbered_elements : LinearModel → List ℕ → List (Option ℕ × Number)
 numbered_elements m column = map (λ coefficient. (row_index m coefficient.0.row, coefficient.1)) (column_elements m column)
 
--- whether this row has a coefficient in this column; none is 0
+-- whether this row has a nonzero coefficient in this column
 abbrev pub has_coefficient : LinearModel → List ℕ → List ℕ → Bool
 has_coefficient m row column = is_some (maps.find key_cmp (record { row = row; column = column }) (maps.entries m.coefficients))
 
--- the numbers of the columns in which this row has a coefficient, in their order
+-- the numbers of the columns in which this row has a coefficient, ascending
 abbrev pub row_columns : LinearModel → List ℕ → List ℕ
 row_columns m row = filter (λ j. has_coefficient m row (column_name m j)) (range_with_len 0 (num_columns m))

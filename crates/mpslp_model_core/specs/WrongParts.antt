@@ -1,4 +1,4 @@
--- What may be wrong with a row, or with a column, in a file as a whole.
+-- The errors that a row or a column may have in the file as a whole.
 use Rattle.std.specs.Prelude.{◌||◌, Bool, Option}
 use Rattle.mpslp_decimal.specs.Decimal.{Number}
 use Rattle.mpslp_model_core.specs.Limits.{RowDefinition, limits_of, has_infinite_rhs, is_inexact, is_too_large, is_crossed}
@@ -17,7 +17,7 @@ row_test rows.RangeInexact definition b r = is_inexact (limits_of definition b r
 row_test rows.LimitTooLarge definition b r = is_too_large (limits_of definition b r)
 row_test rows.LimitsCrossed definition b r = is_crossed (limits_of definition b r)
 
--- whether anything is wrong with a row
+-- whether a row has any error
 abbrev pub is_faulty_row : RowDefinition → Number → Option Number → Bool
 is_faulty_row definition b r =
     let limits = limits_of definition b r in
@@ -29,7 +29,7 @@ bounds_test columns.BoundsCrossed d = are_crossed_bounds d
 bounds_test columns.BinaryBounds d = are_no_binary_bounds d
 bounds_test columns.SemiBounds d = are_no_semi_bounds d
 
--- whether anything is wrong with a column
+-- whether a column has any error
 abbrev pub are_faulty_bounds : DeclaredColumn → Bool
 are_faulty_bounds d = is_negative_upper d || (are_crossed_bounds d || (are_no_binary_bounds d || are_no_semi_bounds d))
 

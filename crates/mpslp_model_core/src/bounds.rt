@@ -1,4 +1,4 @@
-//! The kind and bounds of a column, from what is declared of it, and what may be wrong with them.
+//! The type and bounds of a column, from what is declared of it, and what may be wrong with them.
 
 ghost use Rattle.std.specs.Prelude.{◌≡◌};
 ghost use Rattle.mpslp_types.specs.Limit.{is_finite_above_zero, are_semi_bounds};
@@ -10,20 +10,20 @@ use crate::sides::ColumnBounds;
 use mpslp_decimal::Decimal;
 use mpslp_types::{FaultKind, Kind, Limit};
 
-/// What may be wrong with the bounds of a column, in the order in which it is told.
+/// An error in the bounds of a column. The variants are in the order in which errors are reported.
 #[derive(Clone, Copy)]
 pub enum ColumnFault {
-    /// The upper bound is below 0 and no lower one is declared.
+    /// The upper bound is below 0 and no lower bound is declared.
     NegativeUpper,
     /// The lower bound is above the upper one.
     BoundsCrossed,
-    /// The column is binary and its bounds do not lie within 0 and 1.
+    /// The column is binary and its bounds are not within 0 and 1.
     BinaryBounds,
-    /// The column is semi-continuous, and its lower bound is below 0, or its upper one infinite or not above 0.
+    /// The column is semi-continuous, and its lower bound is below 0, or its upper bound is infinite or not above 0.
     SemiBounds,
 }
 
-/// Whether the side is a number above 0.
+/// Whether the bound is a number above 0.
 fn is_finite_above_zero(side: Limit) -> bool
     ensures { result ≡ is_finite_above_zero side }
 {
@@ -33,14 +33,14 @@ fn is_finite_above_zero(side: Limit) -> bool
     }
 }
 
-/// Whether the bounds are those of a semi-continuous column: the lower one at least 0, the upper one finite and above 0.
+/// Whether a semi-continuous column may have these bounds: the lower at least 0, the upper finite and above 0.
 fn are_semi_bounds(lower: Limit, upper: Limit) -> bool
     ensures { result ≡ are_semi_bounds lower upper }
 {
     Limit::Finite(Decimal::zero()).is_at_most(lower) && is_finite_above_zero(upper)
 }
 
-/// Whether a column of this kind may have these bounds.
+/// Whether a column of this type may have these bounds.
 fn suits(kind: Kind, lower: Limit, upper: Limit) -> bool
     ensures { result ≡ suits kind lower upper }
 {
@@ -53,11 +53,11 @@ fn suits(kind: Kind, lower: Limit, upper: Limit) -> bool
 /// What is declared of a column.
 #[derive(Clone, Copy, Debug)]
 pub struct DeclaredColumn {
-    /// Its lower side, if one is declared.
+    /// Its lower bound, if one is declared.
     pub lower: Option<Limit>,
-    /// Its upper side, if one is declared.
+    /// Its upper bound, if one is declared.
     pub upper: Option<Limit>,
-    /// Whether it stands in an integer part of an MPS file.
+    /// Whether it is in an integer block of an MPS file.
     pub marked: bool,
     /// Whether it is declared integer.
     pub integer: bool,
@@ -68,21 +68,21 @@ pub struct DeclaredColumn {
 }
 
 impl DeclaredColumn {
-    /// Whether neither side is declared.
+    /// Whether neither bound is declared.
     fn has_no_side(&self) -> bool
         ensures { result ≡ no_side_declared self.now }
     {
         self.lower.is_none() && self.upper.is_none()
     }
 
-    /// Whether the column takes whole numbers alone.
+    /// Whether the column is integer.
     pub fn is_integer(&self) -> bool
         ensures { result ≡ is_declared_integer self.now }
     {
         self.marked || (self.integer || self.binary)
     }
 
-    /// The kind of the column.
+    /// The type of the column.
     fn kind(&self) -> Kind
         ensures { result ≡ declared_kind self.now }
     {
@@ -95,7 +95,7 @@ impl DeclaredColumn {
         }
     }
 
-    /// The upper bound where none is declared.
+    /// The upper bound if none is declared.
     fn default_upper(&self) -> Limit
         ensures { result ≡ upper_by_default self.now }
     {
@@ -126,8 +126,8 @@ impl DeclaredColumn {
         }
     }
 
-    /// The kind and bounds of the column: the lower one 0 where none is declared, the upper one plus infinity, but 1 of a
-    /// binary column and of a marked one of which no side is declared.
+    /// The type and bounds of the column. Without a declaration the lower bound is 0, and the upper bound is plus infinity, or 1
+    /// for a binary column and for a marked one without any declared bound.
     pub fn bounds(&self) -> ColumnBounds
         ensures { result ≡ declared_column self.now }
     {
@@ -138,7 +138,7 @@ impl DeclaredColumn {
         }
     }
 
-    /// Whether the upper bound is below 0 and no lower one is declared.
+    /// Whether the upper bound is below 0 and no lower bound is declared.
     fn has_negative_upper(&self) -> bool
         ensures { result ≡ is_negative_upper self.now }
     {
@@ -152,7 +152,7 @@ impl DeclaredColumn {
         !self.lower_bound().is_at_most(self.upper_bound())
     }
 
-    /// Whether the column is binary and its bounds do not lie within 0 and 1.
+    /// Whether the column is binary and its bounds are not within 0 and 1.
     fn has_binary_bounds(&self) -> bool
         ensures { result ≡ are_no_binary_bounds self.now }
     {
@@ -161,14 +161,14 @@ impl DeclaredColumn {
                 && self.upper_bound().is_at_most(Limit::Finite(Decimal::one())))
     }
 
-    /// Whether the column is semi-continuous, and its lower bound is below 0, or its upper one infinite or not above 0.
+    /// Whether the column is semi-continuous, and its lower bound is below 0, or its upper bound is infinite or not above 0.
     fn has_semi_bounds(&self) -> bool
         ensures { result ≡ are_no_semi_bounds self.now }
     {
         !suits(self.kind(), self.lower_bound(), self.upper_bound())
     }
 
-    /// Whether this is wrong with the column.
+    /// Whether the column has this error.
     pub fn has_fault(&self, fault: ColumnFault) -> bool
         ensures { result ≡ bounds_test fault self.now }
     {
@@ -180,7 +180,7 @@ impl DeclaredColumn {
         }
     }
 
-    /// Whether anything is wrong with the column.
+    /// Whether the column has any error.
     pub fn is_faulty(&self) -> bool
         ensures { result ≡ are_faulty_bounds self.now }
     {
@@ -189,7 +189,7 @@ impl DeclaredColumn {
     }
 }
 
-/// The kind of a fault of a column.
+/// The kind under which an error of a column is reported.
 pub fn kind_of_column_fault(fault: ColumnFault) -> FaultKind
     ensures { result ≡ kind_of_column_fault fault }
 {

@@ -1,7 +1,7 @@
 //! Which columns have a coefficient in each row.
 //!
-//! A model keeps its coefficients with the columns. What is asked by rows is found by these lists alone, without a search
-//! in the columns that have none there.
+//! A model stores its coefficients by columns. Queries by row use these lists, so they do not search in columns that have no
+//! coefficient there.
 
 ghost use Rattle.std.specs.Prelude.{◌≡◌, ◌≤◌, ◌<◌, ◌++◌, ℕ, IfOk, IsTrue, OnOk, [], length, suc};
 ghost use Rattle.std.specs.List.{All, list_all};
@@ -15,7 +15,7 @@ use mpslp_decimal::PackedDecimal;
 use mpslp_types::Name;
 use std::alloc::{AllocError, Global};
 
-/// How many columns have numbers of 32 bits.
+/// The maximum number of columns: their numbers have 32 bits.
 const MOST_COLUMNS: usize = 4_294_967_296;
 
 /// An empty list for each row.
@@ -30,7 +30,7 @@ fn empty_lists(alloc: Global, rows: usize) -> Result<Vec<Vec<u32>>, AllocError>
     Ok(lists)
 }
 
-/// Puts a column to the list of the row of a coefficient. The objective has no list.
+/// Adds a column to the list of a coefficient's row. The objective has no list.
 fn note_cell(lists: &mut Vec<Vec<u32>>, number: u32, column: u32) -> Result<(), AllocError>
     requires { number ≤ length lists.old.items }
     ensures len { OnOk result (length lists.new.items ≡ length lists.old.items) }
@@ -42,7 +42,7 @@ fn note_cell(lists: &mut Vec<Vec<u32>>, number: u32, column: u32) -> Result<(), 
     Ok(())
 }
 
-/// Puts a column to the lists of the rows in which it has a coefficient.
+/// Adds a column to the lists of the rows in which it has a coefficient.
 fn note_column(
     lists: &mut Vec<Vec<u32>>,
     cells: &[(u32, PackedDecimal)],
@@ -59,12 +59,12 @@ fn note_column(
     Ok(())
 }
 
-/// The numbers of the columns that have a coefficient in each row, rising, by the number of the row.
+/// Returns the numbers of the columns with a coefficient in each row, ascending, by row number.
 ///
 /// # Errors
 ///
-/// [`AllocError`] where there is no memory for the lists, or there are more than 4,294,967,296 columns, whose numbers they
-/// cannot hold.
+/// [`AllocError`] if there is no memory for the lists, or there are more than 4,294,967,296 columns: their numbers would not
+/// fit.
 pub(crate) fn columns_by_row(
     alloc: Global,
     rows: usize,

@@ -1,7 +1,7 @@
-//! Columns with their coefficients by the numbers of rows.
+//! Columns with their coefficients by row number.
 //!
-//! The objective has the number 0, so its coefficient, where a column has one, is the first. The row of number `i` has
-//! the number `i + 1` here.
+//! The objective has the number 0, so its coefficient comes first, if a column has one. The row at index `i` has the number
+//! `i + 1` here.
 
 ghost use Rattle.std.specs.Prelude.{◌≡◌, ◌<◌, ◌&&◌, ◌+◌, IsTrue, Some, length, suc, unwrap_or, slice_get};
 ghost use Rattle.std.specs.List.{list_all};
@@ -20,7 +20,7 @@ use mpslp_maps::{Query, entry_at, find_entry};
 use mpslp_types::Name;
 use std::cmp::Ordering;
 
-/// The number of a row in the model, which may be greater than those that coefficients have.
+/// The index of a row in the model. It may exceed the row numbers of all coefficients.
 #[derive(Clone, Copy)]
 struct RowIndex {
     row: usize,
@@ -42,7 +42,7 @@ pub(crate) fn cells_at(columns: &[(Name, ModelColumn)], j: usize) -> &[(u32, Pac
     &entry_at(columns, j).1.cells
 }
 
-/// The coefficients of rows, without that of the objective.
+/// The coefficients without that of the objective.
 pub(crate) fn row_cells(cells: &[(u32, PackedDecimal)]) -> &[(u32, PackedDecimal)]
     requires { IsTrue (is_sorted nat_cmp cells.now) }
     ensures { result.now ≡ row_cells cells.now }
@@ -54,7 +54,7 @@ pub(crate) fn row_cells(cells: &[(u32, PackedDecimal)]) -> &[(u32, PackedDecimal
     }
 }
 
-/// The coefficient of the objective, and 0 where there is none.
+/// The coefficient of the objective, or 0 if there is none.
 pub(crate) fn first_value(cells: &[(u32, PackedDecimal)]) -> Decimal
     requires { IsTrue (is_sorted nat_cmp cells.now) }
     ensures { result ≡ unwrap_or (find nat_cmp 0 cells.now) zero_number }
@@ -66,7 +66,7 @@ pub(crate) fn first_value(cells: &[(u32, PackedDecimal)]) -> Decimal
     }
 }
 
-/// The coefficient of the row of this number in the model, and 0 where there is none.
+/// The coefficient of the row at this index in the model, or 0 if there is none.
 pub(crate) fn value_at(cells: &[(u32, PackedDecimal)], row: usize) -> Decimal
     requires { IsTrue (is_sorted nat_cmp cells.now) }
     ensures { result ≡ unwrap_or (find nat_cmp (suc row) cells.now) zero_number }
@@ -77,7 +77,7 @@ pub(crate) fn value_at(cells: &[(u32, PackedDecimal)], row: usize) -> Decimal
     }
 }
 
-/// How many coefficients of rows the columns have.
+/// The number of coefficients in all columns, without those of the objective.
 pub(crate) fn count_elements(columns: &[(Name, ModelColumn)]) -> u128
     requires { IsTrue (list_all (λ column. is_sorted nat_cmp column.1.cells.items) columns.now) }
     ensures { result ≡ count_row_cells columns.now }
@@ -108,7 +108,7 @@ fn are_same_cells(own: &[(u32, PackedDecimal)], other: &[(u32, PackedDecimal)]) 
     own.len() == other.len()
 }
 
-/// Whether two columns have the same name, kind, bounds and coefficients.
+/// Whether two columns have the same name, type, bounds and coefficients.
 fn is_same_column(own: &(Name, ModelColumn), other: &(Name, ModelColumn)) -> bool
     ensures { result ≡ same_named_column (column_told own.now) (column_told other.now) }
 {
@@ -129,7 +129,7 @@ pub(crate) fn same_columns(own: &[(Name, ModelColumn)], other: &[(Name, ModelCol
     own.len() == other.len()
 }
 
-/// The number of the row that a coefficient's number stands for.
+/// The index of the row to which a coefficient's number refers.
 pub(crate) fn row_of(number: u32) -> usize
     requires { 0 < number }
     ensures { result + 1 ≡ number }

@@ -1,11 +1,11 @@
-//! Models, what limits their rows and columns, and what is asked of them.
+//! Models with their accessors, and the limits of rows and bounds of columns.
 //!
-//! A [`Model`] is made of [`ModelParts`]: rows and columns in byte order of their names, and in each column the
-//! coefficients in the order of their rows' numbers. So what is asked by numbers is an index, and what is asked by a
-//! name is a search by halves. Sides and numbers are packed ([`PackedLimit`]), since a model has many.
+//! A [`Model`] stores its [`ModelParts`]: rows and columns in byte order of their names, and in each column the coefficients
+//! in the order of their row numbers. So access by number is an index, and access by name is a binary search. Limits and
+//! numbers are packed ([`PackedLimit`]), because a model has many.
 //!
-//! What a row or a column is declared by ([`UnpackedRowDefinition`], [`DeclaredColumn`]) is told here too, with the limits and
-//! bounds that it means, and with what may be wrong with them.
+//! What is declared of a row or a column ([`UnpackedRowDefinition`], [`DeclaredColumn`]) is here too, with the limits and
+//! bounds that it means, and with its errors.
 #![tactic(auto)]
 
 mod bounds;

@@ -1,4 +1,4 @@
-//! The limits of a row, from its type, right side and range, and what may be wrong with them.
+//! The limits of a row, from its type, right-hand side and range, and what may be wrong with them.
 
 ghost use Rattle.std.specs.Prelude.{◌≡◌, Some, not, is_none, false};
 ghost use Rattle.std.specs.Ordering.{is_lt};
@@ -12,7 +12,7 @@ use crate::sides::RowLimits;
 use mpslp_decimal::Decimal;
 use mpslp_types::{FaultKind, Limit, RowType};
 
-/// What a row is declared by. Contracts see it as a `RowDefinition`.
+/// The declaration of a row. Contracts see it as a `RowDefinition`.
 #[derive(Clone, Copy, Debug)]
 pub enum UnpackedRowDefinition {
     /// Its type.
@@ -21,20 +21,20 @@ pub enum UnpackedRowDefinition {
     ByLimits(Limit, Limit),
 }
 
-/// What may be wrong with the limits of a row, in the order in which it is told.
+/// An error in the limits of a row. The variants are in the order in which errors are reported.
 #[derive(Clone, Copy)]
 pub enum RowFault {
-    /// The right side is infinite where it may not be.
+    /// The right-hand side is infinite: plus infinity on G, minus infinity on L, either on E or with a range.
     InfiniteLimit,
-    /// A computed limit, or the distance of both, is no decimal.
+    /// A computed limit, or the distance between both limits, is not a decimal.
     RangeInexact,
-    /// A computed limit, or the distance of both, has size 10^20 or more.
+    /// A computed limit, or the distance between both limits, has a magnitude of 10^20 or more.
     LimitTooLarge,
     /// The lower limit is above the upper one.
     LimitsCrossed,
 }
 
-/// Finite limits, where both are there.
+/// The limits, if both are given.
 fn sides(lower: Option<Decimal>, upper: Option<Decimal>) -> Option<RowLimits>
     ensures { result ≡ sides lower upper }
 {
@@ -47,7 +47,7 @@ fn sides(lower: Option<Decimal>, upper: Option<Decimal>) -> Option<RowLimits>
     }
 }
 
-/// The limits by type and right side, without a range.
+/// The limits by type and right-hand side, without a range.
 pub fn plain_limits(row_type: RowType, rhs: Decimal) -> RowLimits
     ensures { result ≡ plain_limits row_type rhs }
 {
@@ -60,21 +60,21 @@ pub fn plain_limits(row_type: RowType, rhs: Decimal) -> RowLimits
     RowLimits { lower, upper }
 }
 
-/// The limits so far below and above the right side: the range counts downwards.
+/// The limits if the range extends downwards from the right-hand side.
 fn below(rhs: Decimal, range: Decimal) -> Option<RowLimits>
     ensures { result ≡ sides (difference_of rhs (size_of range)) (Some rhs) }
 {
     sides(rhs.checked_sub(range.abs()), Some(rhs))
 }
 
-/// The limits where the range counts upwards.
+/// The limits if the range extends upwards from the right-hand side.
 fn above(rhs: Decimal, range: Decimal) -> Option<RowLimits>
     ensures { result ≡ sides (Some rhs) (sum_of rhs (size_of range)) }
 {
     sides(Some(rhs), rhs.checked_add(range.abs()))
 }
 
-/// The limits by type, right side and range, where the computed one is a decimal.
+/// The limits by type, right-hand side and range, if the computed one is a decimal.
 fn ranged_limits(row_type: RowType, rhs: Decimal, range: Decimal) -> Option<RowLimits>
     ensures { result ≡ ranged_limits row_type rhs range }
 {
@@ -90,7 +90,7 @@ fn ranged_limits(row_type: RowType, rhs: Decimal, range: Decimal) -> Option<RowL
     }
 }
 
-/// The limits of a row, where they are decimals.
+/// The limits of a row, if they are decimals.
 pub fn limits_of(
     definition: &UnpackedRowDefinition,
     rhs: Decimal,
@@ -110,8 +110,8 @@ pub fn limits_of(
     }
 }
 
-/// Whether the right side is infinite where it may not be: it lies on the far side of its type, or a range or an equation
-/// needs it.
+/// Whether the right-hand side is infinite in a row that cannot have it: plus infinity on G, minus infinity on L, either on E
+/// or with a range.
 fn has_infinite_rhs(
     definition: &UnpackedRowDefinition,
     rhs: Decimal,
@@ -132,7 +132,7 @@ fn has_infinite_rhs(
     }
 }
 
-/// Whether the limit is finite and of size 10^20 or more.
+/// Whether the limit is finite with a magnitude of 10^20 or more.
 fn is_large_limit(limit: Limit) -> bool
     ensures { result ≡ is_large_limit limit }
 {
@@ -142,7 +142,7 @@ fn is_large_limit(limit: Limit) -> bool
     }
 }
 
-/// Whether the limits are finite and their distance is no decimal.
+/// Whether the limits are finite and their distance is not a decimal.
 fn is_inexact_distance(limits: RowLimits) -> bool
     ensures { result ≡ distance_passes is_none limits }
 {
@@ -155,7 +155,7 @@ fn is_inexact_distance(limits: RowLimits) -> bool
     }
 }
 
-/// Whether there is a number and it has size 10^20 or more.
+/// Whether there is a number and its magnitude is 10^20 or more.
 fn is_large(value: Option<Decimal>) -> bool
     ensures { result ≡ option_map_or is_infinite_size value false }
 {
@@ -165,7 +165,7 @@ fn is_large(value: Option<Decimal>) -> bool
     }
 }
 
-/// Whether the limits are finite and their distance has size 10^20 or more.
+/// Whether the limits are finite and their distance is 10^20 or more.
 fn is_large_distance(limits: RowLimits) -> bool
     ensures { result ≡ distance_passes (λ d. option_map_or is_infinite_size d false) limits }
 {
@@ -178,7 +178,7 @@ fn is_large_distance(limits: RowLimits) -> bool
     }
 }
 
-/// Whether a computed limit or the distance is no decimal.
+/// Whether a computed limit, or the distance, is not a decimal.
 fn is_inexact(limits: &Option<RowLimits>) -> bool
     ensures { result ≡ is_inexact limits.now }
 {
@@ -188,7 +188,7 @@ fn is_inexact(limits: &Option<RowLimits>) -> bool
     }
 }
 
-/// Whether a computed limit or the distance has size 10^20 or more.
+/// Whether a computed limit, or the distance, has a magnitude of 10^20 or more.
 fn is_too_large(limits: &Option<RowLimits>) -> bool
     ensures { result ≡ is_too_large limits.now }
 {
@@ -211,7 +211,7 @@ fn is_crossed(limits: &Option<RowLimits>) -> bool
     }
 }
 
-/// Whether anything is wrong with a row of this form, right side and range. Its limits are built once.
+/// Whether a row with this definition, right-hand side and range has any error. Its limits are computed only once.
 pub fn is_faulty_row(
     definition: &UnpackedRowDefinition,
     rhs: Decimal,
@@ -224,7 +224,7 @@ pub fn is_faulty_row(
         || (is_inexact(&limits) || (is_too_large(&limits) || is_crossed(&limits)))
 }
 
-/// Whether this is wrong with a row of this form, right side and range.
+/// Whether a row with this definition, right-hand side and range has this error.
 pub fn row_has(
     fault: RowFault,
     definition: &UnpackedRowDefinition,
@@ -241,7 +241,7 @@ pub fn row_has(
     }
 }
 
-/// The kind of a fault of a row.
+/// The kind under which an error of a row is reported.
 pub fn kind_of_row_fault(fault: RowFault) -> FaultKind
     ensures { result ≡ kind_of_row_fault fault }
 {

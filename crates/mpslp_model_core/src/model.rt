@@ -1,4 +1,4 @@
-//! Models, and what is asked of them.
+//! Models and their accessors.
 
 ghost use Rattle.std.specs.Prelude.{◌≡◌, ◌<◌, IfOk, IsTrue, Some, length, position, slice_get, unwrap_or, if◌then◌else◌};
 ghost use Rattle.std.specs.Option.{option_map};
@@ -32,20 +32,20 @@ fn same_rows(a: &[(Name, PackedRow)], b: &[(Name, PackedRow)]) -> bool
     a == b
 }
 
-/// A column of a model: its kind and bounds, and its coefficients by the numbers of rows, in their order. The objective has
-/// the number 0, and the row of number `i` has `i + 1` here.
+/// A column of a model: its type and bounds, and its coefficients in the order of their row numbers. The objective has the
+/// number 0, and the row at index `i` has `i + 1` here.
 #[derive(Debug, Drop)]
 pub struct ModelColumn {
-    /// Its kind and bounds.
+    /// Its type and bounds.
     pub bounds: PackedColumn,
-    /// Its coefficients, none of which is 0.
+    /// Its nonzero coefficients.
     pub cells: Vec<(u32, PackedDecimal)>,
 }
 
 /// What a [`Model`] is made of.
 #[derive(Debug, Drop)]
 pub struct ModelParts {
-    /// Whether the least or the greatest value is wanted.
+    /// Whether the objective is minimized or maximized.
     pub sense: Sense,
     /// The name of the objective.
     pub objective: Name,
@@ -57,15 +57,15 @@ pub struct ModelParts {
     pub columns: Vec<(Name, ModelColumn)>,
 }
 
-/// A linear or mixed-integer model. Contracts see it as the value that it is, and it is always sound: sides that values
-/// meet, bounds that suit a column's kind, a column at least, and each coefficient not 0 and of a row, or the objective, and
-/// a column that are there.
+/// A linear or mixed-integer model. Contracts see it as a value, and it is always well-formed: it has at least one column,
+/// some value meets the limits of each row and the bounds of each column, the bounds suit the column's type, and each
+/// coefficient is nonzero and has an existing column and an existing row or the objective.
 ///
-/// Rows and columns are numbered from 0, in byte order of their names. The objective is no row.
+/// Rows and columns are numbered from 0, in byte order of their names. The objective is not a row.
 #[derive(Debug, Drop)]
 pub struct Model {
     pub(crate) parts: ModelParts,
-    /// The numbers of the columns that have a coefficient in each row, rising.
+    /// The numbers of the columns with a coefficient in each row, ascending.
     by_row: Vec<Vec<u32>>,
 }
 
@@ -85,7 +85,7 @@ impl marker::Model for Model {
     ghost invariant = { λ m. AreIndexed m.parts m.by_row.items };
 }
 
-/// The number of the entry of this name. Entries stand in the order of their names.
+/// The index of the entry of this name. The entries must be in the order of their names.
 fn index_of<X>(entries: &[(Name, X)], name: &[u8]) -> Option<usize>
     requires { IsTrue (is_sorted bytes_cmp entries.now) }
     ensures { result ≡ position (λ entry. same_bytes name.now entry.0) entries.now }
@@ -93,7 +93,7 @@ fn index_of<X>(entries: &[(Name, X)], name: &[u8]) -> Option<usize>
     index_of_entry(entries, &name)
 }
 
-/// The letter of a row whose limits are both finite.
+/// The letter of a row with two finite limits.
 fn letter_between(lower: &Decimal, upper: &Decimal) -> u8
     ensures { result ≡ (if is_eq (decimal_cmp lower.now upper.now) then letter_E else letter_R) }
 {
@@ -124,7 +124,7 @@ fn sense_letter(row: RowLimits) -> u8
     }
 }
 
-/// The upper limit of a row, or else the lower one, or else 0.
+/// The upper limit of a row if it is finite, otherwise the lower one, otherwise 0.
 fn rhs_of(row: RowLimits) -> Decimal
     ensures { result ≡ right_hand_side row }
 {
@@ -135,14 +135,14 @@ fn rhs_of(row: RowLimits) -> Decimal
     }
 }
 
-/// Upper minus lower; 0 where that is no decimal, as in no row of a model.
+/// Upper minus lower; 0 if that is not a decimal, which occurs in no model.
 fn distance(lower: &Decimal, upper: &Decimal) -> Decimal
     ensures { result ≡ unwrap_or (difference_of upper.now lower.now) zero_number }
 {
     upper.checked_sub(*lower).unwrap_or(Decimal::zero())
 }
 
-/// Upper minus lower where both are finite, and else 0.
+/// Upper minus lower if both are finite, otherwise 0.
 fn range_between(row: RowLimits) -> Decimal
     ensures { result ≡ row_range row }
 {
@@ -156,11 +156,11 @@ fn range_between(row: RowLimits) -> Decimal
 }
 
 impl Model {
-    /// The model of these parts, with lists of the columns that have a coefficient in each row.
+    /// Makes a model of its parts, and the lists of the columns that have a coefficient in each row.
     ///
     /// # Errors
     ///
-    /// [`AllocError`] where there is no memory for the lists, or there are more than 4,294,967,296 columns.
+    /// [`AllocError`] if there is no memory for the lists, or there are more than 4,294,967,296 columns.
     pub fn of_parts(alloc: Global, parts: ModelParts) -> Result<Model, AllocError>
         requires { AreModelParts parts }
         ensures { IfOk result (λ model. model ≡ linear_model parts) }
@@ -169,21 +169,21 @@ impl Model {
         Ok(Model { parts, by_row })
     }
 
-    /// How many rows there are; the objective is none.
+    /// The number of rows, without the objective.
     pub fn num_rows(&self) -> usize
         ensures { result ≡ num_rows self.now }
     {
         self.parts.rows.as_slice().len()
     }
 
-    /// How many columns there are.
+    /// The number of columns.
     pub fn num_cols(&self) -> usize
         ensures { result ≡ num_columns self.now }
     {
         self.parts.columns.as_slice().len()
     }
 
-    /// How many coefficients of rows are not 0; the objective's are not counted.
+    /// The number of nonzero coefficients, without those of the objective.
     pub fn num_elements(&self) -> u128
         ensures { result ≡ num_elements self.now }
     {
@@ -197,7 +197,7 @@ impl Model {
         &self.parts.objective
     }
 
-    /// Whether the least or the greatest value is wanted.
+    /// Whether the objective is minimized or maximized.
     pub fn objective_sense(&self) -> Sense
         ensures { result ≡ self.now.sense }
     {
@@ -211,7 +211,7 @@ impl Model {
         self.parts.constant
     }
 
-    /// The negative of the constant.
+    /// The negated constant of the objective.
     pub fn objective_offset(&self) -> Decimal
         ensures { result ≡ negated self.now.constant }
     {
@@ -234,14 +234,14 @@ impl Model {
         &entry_at(&self.parts.columns, j).0
     }
 
-    /// The number of the row of this name. The objective has none.
+    /// The number of the row with this name. The objective has none.
     pub fn row_index(&self, name: &[u8]) -> Option<usize>
         ensures { result ≡ row_index self.now name.now }
     {
         index_of(&self.parts.rows, name)
     }
 
-    /// The number of the column of this name.
+    /// The number of the column with this name.
     pub fn column_index(&self, name: &[u8]) -> Option<usize>
         ensures { result ≡ column_index self.now name.now }
     {
@@ -256,7 +256,7 @@ impl Model {
         entry_at(&self.parts.rows, i).1.limits()
     }
 
-    /// The kind and bounds of the column of number `j`.
+    /// The type and bounds of the column of number `j`.
     fn column_bounds(&self, j: usize) -> ColumnBounds
         requires { j < num_columns self.now }
         ensures { slice_get (columns_of self.now) j ≡ Some result }
@@ -280,8 +280,8 @@ impl Model {
         self.row_limits(i).upper
     }
 
-    /// How the row of number `i` is limited, by a letter: `N` not at all, `L` from above, `G` from below, `E` to one value,
-    /// `R` to the values between two.
+    /// The limits of the row of number `i` as a letter: `N` no limit, `L` only an upper limit, `G` only a lower limit, `E` both
+    /// limits equal, `R` two different limits.
     pub fn row_sense(&self, i: usize) -> u8
         requires { i < num_rows self.now }
         ensures { option_map row_sense (slice_get (rows_of self.now) i) ≡ Some result }
@@ -289,7 +289,7 @@ impl Model {
         sense_letter(self.row_limits(i))
     }
 
-    /// The upper limit of the row of number `i` if it is finite, or else the lower one, or else 0.
+    /// The upper limit of the row of number `i` if it is finite, otherwise the lower one, otherwise 0.
     pub fn right_hand_side(&self, i: usize) -> Decimal
         requires { i < num_rows self.now }
         ensures { option_map right_hand_side (slice_get (rows_of self.now) i) ≡ Some result }
@@ -297,7 +297,7 @@ impl Model {
         rhs_of(self.row_limits(i))
     }
 
-    /// How far the limits of the row of number `i` lie apart, and 0 where not both are finite.
+    /// The distance between the limits of the row of number `i`, or 0 if one is infinite.
     pub fn row_range(&self, i: usize) -> Decimal
         requires { i < num_rows self.now }
         ensures { option_map row_range (slice_get (rows_of self.now) i) ≡ Some result }
@@ -321,7 +321,7 @@ impl Model {
         self.column_bounds(j).upper
     }
 
-    /// Which values the column of number `j` may take within its bounds.
+    /// The type of the column of number `j`.
     pub fn column_kind(&self, j: usize) -> Kind
         requires { j < num_columns self.now }
         ensures { option_map (λ column. column.kind) (slice_get (columns_of self.now) j) ≡ Some result }
@@ -329,7 +329,7 @@ impl Model {
         self.column_bounds(j).kind
     }
 
-    /// Whether the column of number `j` takes whole numbers alone.
+    /// Whether the column of number `j` is integer.
     pub fn is_integer(&self, j: usize) -> bool
         requires { j < num_columns self.now }
         ensures { option_map is_integer_column (slice_get (columns_of self.now) j) ≡ Some result }
@@ -340,7 +340,7 @@ impl Model {
         }
     }
 
-    /// The coefficient of the objective in the column of number `j`.
+    /// The objective coefficient of the column of number `j`; 0 if it has none.
     pub fn objective_coefficient(&self, j: usize) -> Decimal
         requires { j < num_columns self.now }
         ensures { result ≡ coefficient_at self.now self.now.objective (column_name self.now j) }
@@ -348,7 +348,7 @@ impl Model {
         first_value(cells_at(&self.parts.columns, j))
     }
 
-    /// The coefficient of the row of number `i` in the column of number `j`.
+    /// The coefficient of the row of number `i` in the column of number `j`; 0 if there is none.
     pub fn coefficient(&self, i: usize, j: usize) -> Decimal
         requires row { i < num_rows self.now }
         requires column { j < num_columns self.now }
@@ -357,7 +357,7 @@ impl Model {
         value_at(cells_at(&self.parts.columns, j), i)
     }
 
-    /// Whether the parts beside rows, columns and coefficients are the same.
+    /// Whether sense, objective name and constant are the same.
     fn has_same_objective(&self, other: &Model) -> bool
         ensures { Decides result (IsSameObjective self.now other.now) }
     {
@@ -366,8 +366,8 @@ impl Model {
             && self.parts.constant == other.parts.constant
     }
 
-    /// Whether this is the same model: its sense, the objective's name and constant, the names of rows and columns, their
-    /// limits, bounds and kinds, and each coefficient. Numbers are compared by value.
+    /// Whether both models are the same: the sense, the name and the constant of the objective, the names of rows and columns,
+    /// their limits, bounds and types, and all coefficients. Numbers are compared by value.
     pub fn same(&self, other: &Model) -> bool
         ensures { Decides result (self.now ≡ other.now) }
     {
@@ -376,7 +376,7 @@ impl Model {
                 && same_columns(&self.parts.columns, &other.parts.columns))
     }
 
-    /// How many coefficients of rows in the column of number `j` are not 0. It takes constant time and no memory.
+    /// The number of nonzero coefficients in the column of number `j`, without the objective's. Takes constant time.
     pub fn column_len(&self, j: usize) -> usize
         requires { j < num_columns self.now }
         ensures { result ≡ length (column_elements self.now (column_name self.now j)) }
@@ -384,8 +384,8 @@ impl Model {
         row_cells(cells_at(&self.parts.columns, j)).len()
     }
 
-    /// The coefficient of number `k` among those of rows that are not 0 in the column of number `j`, in the order of rows: the
-    /// row's number, and the value. It takes constant time and no memory.
+    /// Nonzero coefficient number `k` of the column of number `j`, in the order of rows, without the objective's: the number of
+    /// the row, and the value. Takes constant time.
     pub fn entry(&self, j: usize, k: usize) -> (usize, Decimal)
         requires column { j < num_columns self.now }
         requires entry { k < length (column_elements self.now (column_name self.now j)) }
@@ -394,7 +394,7 @@ impl Model {
         let cell = entry_at(row_cells(cells_at(&self.parts.columns, j)), k);
         (row_of(cell.0), cell.1.value())
     }
-    /// The columns that have a coefficient in the row of number `i`.
+    /// The columns with a coefficient in the row of number `i`.
     fn columns_of_row(&self, i: usize) -> &[u32]
         requires { i < num_rows self.now }
         ensures { result.now ≡ row_columns self.now (row_name self.now i) }
@@ -402,7 +402,7 @@ impl Model {
         list_of(&self.by_row, i)
     }
 
-    /// In how many columns the row of number `i` has a coefficient that is not 0. It takes constant time and no memory.
+    /// The number of nonzero coefficients in the row of number `i`. Takes constant time.
     pub fn row_len(&self, i: usize) -> usize
         requires { i < num_rows self.now }
         ensures { result ≡ length (row_columns self.now (row_name self.now i)) }
@@ -410,8 +410,8 @@ impl Model {
         self.columns_of_row(i).len()
     }
 
-    /// The coefficient of number `k` among those of the row of number `i` that are not 0, in the order of columns: the
-    /// column's number, and the value. It takes no memory, and a search by halves in that column.
+    /// Nonzero coefficient number `k` of the row of number `i`, in the order of columns: the number of the column, and the value.
+    /// Allocates nothing, and takes a binary search in that column.
     pub fn row_entry(&self, i: usize, k: usize) -> (usize, Decimal)
         requires row { i < num_rows self.now }
         requires entry { k < length (row_columns self.now (row_name self.now i)) }

@@ -1,4 +1,4 @@
-//! Sides, rows and columns as they are kept where there are many: a side takes 24 bytes.
+//! Limits, rows and columns in packed form, of which a model stores many. A limit takes 24 bytes.
 
 ghost use Rattle.std.specs.Prelude.{◌≡◌};
 
@@ -7,13 +7,13 @@ use mpslp_decimal::PackedDecimal;
 use mpslp_types::{Kind, Limit};
 use std::marker::Model;
 
-/// A side as it is kept. Contracts see it as a `Limit`.
+/// A limit or a bound in packed form. Contracts see it as a `Limit`.
 #[derive(Debug, Drop)]
 pub struct PackedLimit {
     stored: StoredLimit,
 }
 
-/// A side, without the room that alignment would take.
+/// A limit without padding for alignment.
 #[derive(Debug, Drop)]
 enum StoredLimit {
     /// Minus infinity.
@@ -36,7 +36,7 @@ impl Model for PackedLimit {
 }
 
 impl PackedLimit {
-    /// The side, packed.
+    /// Packs a limit.
     pub fn of(limit: Limit) -> PackedLimit
         ensures { result ≡ limit }
     {
@@ -48,7 +48,7 @@ impl PackedLimit {
         PackedLimit { stored }
     }
 
-    /// The side.
+    /// The limit.
     pub fn limit(&self) -> Limit
         ensures { result ≡ self.now }
     {
@@ -60,7 +60,7 @@ impl PackedLimit {
     }
 }
 
-/// The limits of a row as they are kept. Contracts see them as a `Row`.
+/// The limits of a row in packed form. Contracts see them as a `Row`.
 #[derive(Debug, Drop)]
 pub struct PackedRow {
     lower: PackedLimit,
@@ -76,7 +76,7 @@ impl Model for PackedRow {
 }
 
 impl PackedRow {
-    /// The limits, packed.
+    /// Packs the limits.
     pub fn of(limits: RowLimits) -> PackedRow
         ensures { result ≡ limits }
     {
@@ -97,7 +97,7 @@ impl PackedRow {
     }
 }
 
-/// The kind and bounds of a column as they are kept. Contracts see them as a `Column`.
+/// The type and bounds of a column in packed form. Contracts see them as a `Column`.
 #[derive(Debug, Drop)]
 pub struct PackedColumn {
     lower: PackedLimit,
@@ -114,7 +114,7 @@ impl Model for PackedColumn {
 }
 
 impl PackedColumn {
-    /// The kind and bounds, packed.
+    /// Packs the type and bounds.
     pub fn of(bounds: ColumnBounds) -> PackedColumn
         ensures { result ≡ bounds }
     {
@@ -125,7 +125,7 @@ impl PackedColumn {
         }
     }
 
-    /// The kind and bounds.
+    /// The type and bounds.
     pub fn bounds(&self) -> ColumnBounds
         ensures { result ≡ self.now }
     {

@@ -1,4 +1,4 @@
-//! How a row was declared, kept small.
+//! The declaration of a row, in a small form.
 
 ghost use Rattle.std.specs.Prelude.{◌≡◌, IfOk};
 ghost use Rattle.mpslp_model_core.specs.Limits.{row_definition, by_type, by_limits, is_free_definition, is_definition_by_limits};
@@ -10,13 +10,13 @@ use mpslp_types::RowType;
 use std::alloc::{AllocError, Global};
 use std::marker::Model;
 
-/// How a row was declared. Contracts see it as a `RowDefinition`.
+/// The declaration of a row. Contracts see it as a `RowDefinition`.
 #[derive(Debug, Drop)]
 pub struct PackedRowDefinition {
     stored: StoredDefinition,
 }
 
-/// What a row is declared by. Its limits stand apart, since most rows have a type.
+/// A row by its type or by its limits. The limits are boxed, because most rows are declared by type.
 #[derive(Debug, Drop)]
 enum StoredDefinition {
     /// Its type.
@@ -50,7 +50,7 @@ impl PackedRowDefinition {
     ///
     /// # Errors
     ///
-    /// `AllocError` where there is no memory for the limits.
+    /// `AllocError` if there is no memory for the limits.
     pub fn of_limits(alloc: Global, limits: RowLimits) -> Result<PackedRowDefinition, AllocError>
         ensures { IfOk result (λ definition. definition ≡ by_limits limits.lower limits.upper) }
     {
@@ -59,7 +59,7 @@ impl PackedRowDefinition {
         })
     }
 
-    /// How the row was declared.
+    /// The declaration of the row.
     pub fn kind(&self) -> UnpackedRowDefinition
         ensures { row_definition result ≡ self.now }
     {

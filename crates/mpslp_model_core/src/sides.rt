@@ -1,4 +1,4 @@
-//! The limits of a row, and the kind and bounds of a column.
+//! The limits of a row, and the type and bounds of a column.
 
 ghost use Rattle.std.specs.Prelude.{◌≡◌};
 ghost use Rattle.mpslp_model_core.specs.Same.{same_number, same_limit, same_kind};
@@ -37,7 +37,7 @@ impl PartialEq for RowLimits {
     }
 }
 
-/// The kind and bounds of a column. Contracts see them as a `Column`.
+/// The type and bounds of a column. Contracts see them as a `Column`.
 #[derive(Clone, Copy, Debug)]
 pub struct ColumnBounds {
     pub kind: Kind,
@@ -76,7 +76,7 @@ pub(crate) fn is_same_number(a: Decimal, b: Decimal) -> bool
     a == b
 }
 
-/// Whether the sides are the same.
+/// Whether the limits are the same.
 fn is_same_limit(a: Limit, b: Limit) -> bool
     ensures { result ≡ same_limit a b }
 {
@@ -96,7 +96,7 @@ fn is_same_limit(a: Limit, b: Limit) -> bool
     }
 }
 
-/// Whether the kinds are the same.
+/// Whether the types are the same.
 fn is_same_kind(a: Kind, b: Kind) -> bool
     ensures { result ≡ same_kind a b }
 {

@@ -1,4 +1,4 @@
-//! Each public call with ample memory, on worked examples.
+//! Tests of the builder's calls and of the accessors of its models, on worked examples.
 
 mod lp;
 mod rows;
@@ -14,7 +14,7 @@ use std::alloc::{AllocError, Global};
 use std::cmp::Ordering;
 use std::test::Fail;
 
-/// The decimal that a text spells.
+/// The number of a literal.
 fn number(text: &str) -> Decimal {
     match Decimal::parse(text.as_bytes()) {
         Ok(value) => value,
@@ -22,14 +22,14 @@ fn number(text: &str) -> Decimal {
     }
 }
 
-/// The side that a text spells.
+/// The limit of a literal.
 fn side(text: &str) -> Limit
     ensures { IsTrue (is_given result) }
 {
     Limit::of(number(text))
 }
 
-/// A name that is one.
+/// A legal name.
 fn named(alloc: Global, text: &str) -> Result<Name, BuildFault> {
     match Name::new(alloc, text.as_bytes()) {
         Ok(name) => Ok(name),
@@ -37,7 +37,7 @@ fn named(alloc: Global, text: &str) -> Result<Name, BuildFault> {
     }
 }
 
-/// A call of the builder, with names and numbers by their texts.
+/// A call of the builder, with names and numbers as texts.
 #[derive(Clone, Copy)]
 enum Call<'a> {
     Sense(Sense),
@@ -59,7 +59,7 @@ enum Call<'a> {
     Semi(&'a str),
 }
 
-/// Makes a call that names a row.
+/// Makes a call that takes the name of a row.
 fn call_of_row(builder: &mut Builder, alloc: Global, call: Call<'_>) -> Result<(), BuildFault> {
     match call {
         Call::Objective(name) => builder.objective(named(alloc, name)?),
@@ -76,7 +76,7 @@ fn call_of_row(builder: &mut Builder, alloc: Global, call: Call<'_>) -> Result<(
     }
 }
 
-/// Makes a call of bounds.
+/// Makes a call for bounds.
 fn call_of_bounds(builder: &mut Builder, call: Call<'_>) -> Result<(), BuildFault> {
     match call {
         Call::NoBounds(column) => builder.bounds(column.as_bytes(), None, None),
@@ -106,7 +106,7 @@ fn call_of(builder: &mut Builder, alloc: Global, call: Call<'_>) -> Result<(), B
     }
 }
 
-/// The refusal that a call would have.
+/// The result of a call's query.
 fn check_of(builder: &Builder, call: Call<'_>) -> Result<(), BuildFault> {
     match call {
         Call::Sense(_) => builder.check_sense(),
@@ -141,7 +141,7 @@ fn check_of(builder: &Builder, call: Call<'_>) -> Result<(), BuildFault> {
     }
 }
 
-/// The builder after these calls, of which none is refused.
+/// The builder after these calls, all of which succeed.
 fn built(alloc: Global, calls: &[Call<'_>]) -> Result<Builder, BuildFault> {
     let mut builder = Builder::new(alloc);
     for call in calls {
@@ -150,7 +150,7 @@ fn built(alloc: Global, calls: &[Call<'_>]) -> Result<Builder, BuildFault> {
     Ok(builder)
 }
 
-/// What a builder answers at its end.
+/// The result of `finish`, if the objective has a name.
 fn finished(builder: Builder) -> Option<Result<Model, ReadFault>> {
     if builder.has_objective() {
         Some(builder.finish())
@@ -159,7 +159,7 @@ fn finished(builder: Builder) -> Option<Result<Model, ReadFault>> {
     }
 }
 
-/// The model of these calls.
+/// The model of these calls, if they mean one.
 fn model_of(alloc: Global, calls: &[Call<'_>]) -> Result<Option<Model>, BuildFault> {
     match finished(built(alloc, calls)?) {
         Some(Ok(model)) => Ok(Some(model)),
@@ -167,7 +167,7 @@ fn model_of(alloc: Global, calls: &[Call<'_>]) -> Result<Option<Model>, BuildFau
     }
 }
 
-/// The views of a model as lines of words.
+/// The results of a model's accessors as lines of words.
 #[derive(Drop)]
 struct Shown {
     text: Vec<u8>,
@@ -212,7 +212,7 @@ impl Shown {
         self.put_terms(model, i)
     }
 
-    /// The terms of a row: which of its coefficients are told by rows.
+    /// The terms of a row: its nonzeros by the accessors of rows.
     fn put_terms(&mut self, model: &Model, i: usize) -> Result<(), AllocError> {
         if i >= model.num_rows() {
             return Ok(());
@@ -263,7 +263,7 @@ impl Shown {
     }
 }
 
-/// The views of a model as lines of words: the objective, then rows, then columns with their coefficients.
+/// The results of a model's accessors as lines of words: the objective, the rows, then the columns with their nonzeros.
 fn views_of(alloc: Global, model: &Model) -> Result<Vec<u8>, AllocError> {
     let mut shown = Shown {
         text: Vec::new(alloc),
@@ -289,7 +289,7 @@ fn views_of(alloc: Global, model: &Model) -> Result<Vec<u8>, AllocError> {
     Ok(shown.text)
 }
 
-/// The views of the model of these calls; of calls without one the name of the fault, and the name that it is told of.
+/// The accessors' results for the model of these calls; without a model the kind of the error, and the name that it reports.
 fn outcome(alloc: Global, calls: &[Call<'_>]) -> Result<Vec<u8>, BuildFault> {
     match finished(built(alloc, calls)?) {
         Some(Ok(model)) => Ok(views_of(alloc, &model)?),
@@ -311,7 +311,7 @@ fn tells(text: &[u8], line: &str) -> bool {
         .any(|own| own == line.as_bytes())
 }
 
-/// Calls of one builder, one after another, and what each answers.
+/// Calls of one builder in turn, and the result of each.
 const ANSWERS: [(Call<'static>, Result<(), BuildFault>); 34] = [
     (Call::Objective("f"), Ok(())),
     (Call::Objective("g"), Err(BuildFault::SecondObjective)),
@@ -364,7 +364,7 @@ const ANSWERS: [(Call<'static>, Result<(), BuildFault>); 34] = [
     (Call::Range("n", "1"), Err(BuildFault::RangeOnFree)),
 ];
 
-/// Calls of kinds of columns, one after another, and what each answers.
+/// Calls for the types of columns in turn, and the result of each.
 const KINDS: [(Call<'static>, Result<(), BuildFault>); 11] = [
     (Call::Column("x"), Ok(())),
     (Call::Semi("y"), Err(BuildFault::UnknownColumn)),
@@ -379,7 +379,7 @@ const KINDS: [(Call<'static>, Result<(), BuildFault>); 11] = [
     (Call::Marked("z"), Ok(())),
 ];
 
-/// The first of these calls that is not answered so, or whose question is not, counted from 0.
+/// The index of the first of these calls with another result, or whose query has another one.
 fn first_other_answer(
     builder: &mut Builder,
     alloc: Global,
@@ -439,7 +439,7 @@ fn tells_kinds_by_name(rt: HostRuntime) {
     assert_eq!(rt; FaultKind::SemiBounds.text(), "SemiBounds");
 }
 
-/// Cost, a limit and a demand.
+/// A model with an objective, a limit and a demand.
 const SMALL: [Call<'static>; 11] = [
     Call::Objective("COST"),
     Call::Row("LIM1", RowType::AtMost),
@@ -454,7 +454,7 @@ const SMALL: [Call<'static>; 11] = [
     Call::Rhs("MYG", "1"),
 ];
 
-/// The same in another order, with other spellings and a zero.
+/// The same model in another order, with other spellings and a zero.
 const TURNED: [Call<'static>; 13] = [
     Call::Column("Y"),
     Call::Column("X"),
@@ -526,7 +526,7 @@ fn models_of_two_senses_differ(rt: HostRuntime) -> Result<(), Fail> {
     Ok(())
 }
 
-/// Two calls of the bounds or the kind of a column, and what its views tell.
+/// Two calls for the bounds or the type of a column, and the line that the accessors give.
 const COLUMNS: [(Call<'static>, Call<'static>, &str); 21] = [
     (
         Call::NoBounds("X"),
@@ -621,7 +621,7 @@ fn bounds_columns_by_their_sides(rt: HostRuntime) -> Result<(), Fail> {
     Ok(())
 }
 
-/// Two rows with infinite right sides, and a column with a negative upper bound.
+/// Two rows with infinite right-hand sides, and a column with a negative upper bound.
 const FAULTY: [Call<'static>; 7] = [
     Call::Objective("C"),
     Call::Row("R2", RowType::Equal),

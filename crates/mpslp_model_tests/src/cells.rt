@@ -1,4 +1,4 @@
-//! The coefficients of a column while it is built.
+//! Tests of the coefficients of a column during building.
 
 use mpslp_builder_parts::Cells;
 use mpslp_decimal::Decimal;

@@ -1,9 +1,9 @@
-//! Worked literals, texts and questions, through the public calls.
+//! Tests of literals, texts and queries of decimals, through the public calls.
 
 use mpslp_decimal::{Decimal, DecimalText, NumberFault, PackedDecimal, laws};
 use std::test::Fail;
 
-/// A literal, and its canonical text.
+/// Literals and their canonical texts.
 const ACCEPTED: [(&str, &str); 28] = [
     ("-0.0", "0"),
     ("0e999", "0"),
@@ -132,7 +132,7 @@ fn answers_what_is_asked_of_a_decimal(rt: HostRuntime) -> Result<(), Fail> {
     Ok(())
 }
 
-/// A sum of two literals: the third, or none.
+/// Two literals, and their sum if it is a decimal.
 const SUMS: [(&str, &str, Option<&str>); 15] = [
     ("0.1", "0.2", Some("0.3")),
     ("999999999999999999", "1", Some("1e18")),

@@ -1,4 +1,4 @@
-//! Public calls with ample memory, on worked examples. Models are made by the builder, whose crate tests their views.
+//! Tests of the limits of rows and the bounds of columns, on worked examples. `building.rt` tests models and their accessors.
 
 use mpslp_decimal::Decimal;
 use mpslp_model_core::{
@@ -9,7 +9,7 @@ use mpslp_model_core::{
 use mpslp_types::{FaultKind, Kind, Limit, RowType};
 use std::test::Fail;
 
-/// The decimal that a text spells.
+/// The number of a literal.
 fn number(text: &str) -> Decimal {
     match Decimal::parse(text.as_bytes()) {
         Ok(value) => value,
@@ -17,7 +17,7 @@ fn number(text: &str) -> Decimal {
     }
 }
 
-/// The decimal that a text spells, if there is a text.
+/// The number of a literal, if there is one.
 fn number_if_told(text: &str) -> Option<Decimal> {
     if text.is_empty() {
         None
@@ -26,12 +26,12 @@ fn number_if_told(text: &str) -> Option<Decimal> {
     }
 }
 
-/// The side that a text spells, an infinite one from 10^20 on.
+/// The limit of a literal, which is infinite from 10^20 on.
 fn side(text: &str) -> Limit {
     Limit::of(number(text))
 }
 
-/// The side that a text spells, if there is a text.
+/// The limit of a literal, if there is one.
 fn side_if_told(text: &str) -> Option<Limit> {
     if text.is_empty() {
         None
@@ -40,7 +40,7 @@ fn side_if_told(text: &str) -> Option<Limit> {
     }
 }
 
-/// Types of rows with a right side and a range, if there is one: the limits.
+/// Rows by type, right-hand side and optional range, and their limits.
 const LIMITED: [(RowType, &str, &str, &str, &str); 9] = [
     (RowType::Free, "7", "", "-1e20", "1e20"),
     (RowType::AtMost, "4", "", "-1e20", "4"),
@@ -78,7 +78,7 @@ fn limits_a_row_by_both_limits(rt: HostRuntime) {
     assert!(rt; limits.upper == Limit::PlusInf);
 }
 
-/// The first fault of a row.
+/// The first error of a row.
 fn row_fault(
     definition: &UnpackedRowDefinition,
     rhs: Decimal,
@@ -98,7 +98,7 @@ fn row_fault(
     None
 }
 
-/// Types of rows with a right side and a range, if there is one: the first fault.
+/// Rows by type, right-hand side and optional range, and their first error.
 const FAULTY_ROWS: [(RowType, &str, &str, Option<FaultKind>); 8] = [
     (RowType::AtMost, "4", "2", None),
     (RowType::AtMost, "1e20", "", None),
@@ -143,7 +143,7 @@ fn tells_what_is_wrong_with_a_row(rt: HostRuntime) {
     );
 }
 
-/// A column of which nothing is declared but its sides.
+/// A column of which only these bounds are declared.
 fn sided(lower: &str, upper: &str) -> DeclaredColumn {
     DeclaredColumn {
         lower: side_if_told(lower),
@@ -176,7 +176,7 @@ fn bounds_columns_by_what_is_declared(rt: HostRuntime) {
     assert!(rt; binary.bounds().upper == side("1"));
 }
 
-/// The first fault of a column.
+/// The first error of a column.
 fn column_fault(column: &DeclaredColumn) -> Option<FaultKind> {
     let faults = [
         ColumnFault::NegativeUpper,

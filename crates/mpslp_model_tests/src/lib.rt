@@ -1,6 +1,6 @@
-//! Tests of the public calls of the crates up to the builder, each with ample memory.
+//! Tests of the public calls of the crates up to the builder, which succeed with ample memory.
 //!
-//! Nothing but tests is here: the tests of a crate are proved together with all of it once more.
+//! This crate has only tests: a crate that has tests is proved twice, the second time together with them.
 #![tactic(auto)]
 
 #[cfg(test)]

@@ -1,4 +1,4 @@
-//! The order of limits.
+//! Tests of the order of limits.
 
 use mpslp_decimal::Decimal;
 use mpslp_types::Limit;

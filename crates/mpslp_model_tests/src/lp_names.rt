@@ -1,4 +1,4 @@
-//! Names that are legal in LP, and names that are not.
+//! Tests of names that are legal in LP, and of others.
 
 use mpslp_types::Name;
 use std::test::Fail;

@@ -1,11 +1,11 @@
-//! Sorted maps by names and by numbers.
+//! Tests of sorted maps by names and by numbers.
 
 use mpslp_maps::{SortedMap, find_entry, index_of_entry};
 use mpslp_types::Name;
 use std::alloc::Global;
 use std::test::Fail;
 
-/// A map of three names that were not put in their order.
+/// A map of three names that were not put in order.
 fn three_names(alloc: Global) -> Result<SortedMap<Name, u8>, Fail> {
     let mut map = SortedMap::new(alloc);
     map.put(Name::new(alloc, b"x2".as_slice())?, 2)?;

@@ -1,4 +1,4 @@
-//! Names, legal and not.
+//! Tests of legal and illegal names.
 
 use mpslp_types::{Name, NameFault};
 use std::test::Fail;

@@ -1,4 +1,4 @@
-//! The byte order of names, and the numbers that rows get by it.
+//! Tests of the byte order of names, and of the numbers that it gives to rows.
 
 use mpslp_builder_parts::{order_of, ranks_of};
 use std::alloc::Global;

@@ -1,10 +1,10 @@
-//! A piece that is written in several calls.
+//! Tests of a piece that is written in several calls.
 
 use mpslp_io::{IoFailed, Sink, ToWrite, put_all};
 use std::io;
 use std::io::Write;
 
-/// Takes two bytes in each write while it has room, and then none.
+/// Takes two bytes in each write while it has room, then none.
 #[derive(Drop)]
 struct SmallWriter {
     room: usize,

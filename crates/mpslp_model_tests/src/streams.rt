@@ -1,4 +1,4 @@
-//! Readers and writers of std as sources and sinks, with failures and without.
+//! Tests of std's readers and writers as sources and sinks, with and without failures.
 
 use mpslp_io::{FromRead, IoFailed, Sink, Source, ToWrite};
 use std::alloc::Global;
@@ -6,7 +6,7 @@ use std::io;
 use std::io::{Error, ErrorKind, Read, Write};
 use std::test::Fail;
 
-/// Gives two bytes in each read, but fails in one of them: in the first one, at 1.
+/// Returns two bytes from each read, but fails in one read, counted from 1.
 #[derive(Drop)]
 struct FailingReader {
     fails_in: u64,
@@ -25,7 +25,7 @@ impl Read for FailingReader {
     }
 }
 
-/// How a writer refuses a write for which it has no room.
+/// How a writer rejects a write for which it has no room.
 #[derive(Clone, Copy, Debug, PartialEq, Eq)]
 enum Refusal {
     TakesNothing,
@@ -33,7 +33,7 @@ enum Refusal {
     HasError,
 }
 
-/// Takes as many bytes as it has room for, and then none. Its flush fails where it has no room.
+/// Takes as many bytes as it has room for, then none. Its flush fails if it has no room.
 #[derive(Drop)]
 struct FailingWriter {
     held: Vec<u8>,

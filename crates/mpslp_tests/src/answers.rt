@@ -1,11 +1,11 @@
-//! A small model in both formats, and what is told of an answer.
+//! A small model in both formats, and texts of results.
 
 use mpslp_convert::{RunFault, report};
 use mpslp_model::{Format, Model, ReadFault, Sink, ToWrite};
 use mpslp_write::Mps;
 use std::alloc::Global;
 
-/// Room for every input here.
+/// A limit above the length of every input here.
 pub(crate) const MUCH: u64 = 4_000_000;
 
 pub(crate) const SMALL: &str = "NAME          SMALL
@@ -61,7 +61,7 @@ Subject To
 End
 ";
 
-/// What was written of a run, and behind it the line of its fault.
+/// What a run has written, followed by the line of its error.
 pub(crate) fn told_of_run(answer: Result<(), RunFault>, written: Vec<u8>) -> Vec<u8> {
     let mut sink = ToWrite::new(written);
     if let Err(fault) = answer {
@@ -70,7 +70,7 @@ pub(crate) fn told_of_run(answer: Result<(), RunFault>, written: Vec<u8>) -> Vec
     sink.into_inner()
 }
 
-/// What is written of a model.
+/// The canonical MPS text of a model.
 fn written(alloc: Global, model: &Model) -> Vec<u8> {
     let mut sink = ToWrite::new(Vec::new(alloc));
     match Mps::write(model, &mut sink) {
@@ -79,7 +79,7 @@ fn written(alloc: Global, model: &Model) -> Vec<u8> {
     }
 }
 
-/// The canonical MPS text of what was read, or the line of its fault.
+/// The canonical MPS text of a model, or the line of the error.
 pub(crate) fn told(alloc: Global, answer: Result<Model, ReadFault>) -> Vec<u8> {
     match answer {
         Ok(model) => written(alloc, &model),

@@ -1,4 +1,4 @@
-//! Conversions and what shows a model: worked texts, devices and how often they are called, and the laws.
+//! Tests of conversions and of the text that shows a model: worked texts, devices and how often they are called, and the laws.
 
 ghost use Rattle.std.specs.Prelude.{◌≡◌, IfOk};
 ghost use Rattle.mpslp_model_core.specs.Model.{LinearModel};
@@ -15,7 +15,7 @@ use std::io;
 use std::io::Read;
 use std::test::Fail;
 
-/// A run into a `Vec`: what it holds then is what the caller of a run knows by contracts alone.
+/// A run into a `Vec`. Its contract shows that callers of `run` know the content of the `Vec` from contracts.
 fn run_in_memory<A: Format, B: Format>(
     alloc: Global,
     max_bytes: u64,
@@ -29,7 +29,7 @@ fn run_in_memory<A: Format, B: Format>(
     Ok(sink.into_inner())
 }
 
-/// Whether a text is converted to this one, in memory and by a run.
+/// Whether a text is converted to the expected one, in memory and by a run.
 fn becomes<A: Format, B: Format>(alloc: Global, text: &str, wanted: &str) -> bool {
     let converted = canonical::<A, B>(alloc, text.as_bytes());
     let ran = run_in_memory::<A, B>(alloc, MUCH, text.as_bytes());
@@ -49,7 +49,7 @@ fn texts_are_converted(rt: HostRuntime) {
     assert!(rt; becomes::<Lp, Lp>(alloc, SMALL_LP, SMALL_CANONICAL_LP));
 }
 
-/// A text with a column's name that LP cannot tell.
+/// A text with a column whose name is not legal in LP.
 const UNFIT: &str = "ROWS\n N C\nCOLUMNS\n x-1 C 1\nENDATA\n";
 
 #[test]
@@ -137,7 +137,7 @@ fn an_input_has_at_most_so_many_bytes(rt: HostRuntime) {
     assert!(rt; matches!(&refused, Err(RunFault::TooLong)));
 }
 
-/// Gives a whole text, then 0 bytes, and then the text again.
+/// Returns a whole text, then 0 bytes, and then the text again.
 #[derive(Drop)]
 struct PausingReader<'a> {
     text: &'a [u8],
@@ -180,10 +180,10 @@ fn a_run_writes_once_and_flushes_once(rt: HostRuntime) -> Result<(), Fail> {
     Ok(())
 }
 
-/// A fault on line 3, and lines behind it.
+/// A text with an error on line 3, and lines after it.
 const FAULTY: &str = "NAME\nROWS\n X  C\n L  R\nCOLUMNS\n    X  C  1\nENDATA\n";
 
-/// What a run tells whose input comes byte by byte, and fails in this read; at 0 in none.
+/// The result of a run whose input comes byte by byte and fails in the given read, or never if that is 0.
 fn told_of_failing(alloc: Global, max_bytes: u64, text: &str, fail_at: u64) -> Vec<u8> {
     let mut source = FailingReader::new(text.as_bytes(), 1, fail_at);
     let mut sink = ToWrite::new(Vec::new(alloc));

@@ -1,4 +1,4 @@
-//! Jobs between memory and memory: what is printed, what is told, and the exit status.
+//! Tests of jobs between inputs and outputs in memory: what is printed, the line of the error, and the exit status.
 
 use crate::answers::{MUCH, SMALL, SMALL_CANONICAL, SMALL_CANONICAL_LP, SMALL_LP};
 use mpslp_convert::{Form, Job, JobFault, Word, perform};
@@ -25,7 +25,7 @@ rows 0 columns 1 elements 0
 column 0 x continuous 0 inf objective 1
 ";
 
-/// What a program prints, what it tells, and how it ends.
+/// The exit status, standard output and standard error of a job.
 #[derive(Drop)]
 struct Ended {
     status: u8,
@@ -41,7 +41,7 @@ impl Ended {
     }
 }
 
-/// Does a job, or tells its refusal, where the inputs have these texts.
+/// Does a job, or reports why there is none, with inputs of these texts.
 fn performed(alloc: Global, job: &Result<Job, JobFault>, first: &str, second: &str) -> Ended {
     let mut out = Vec::new(alloc);
     let mut err = Vec::new(alloc);
@@ -81,7 +81,7 @@ fn same(alloc: Global, first_form: Form, second_form: Form) -> Result<Job, JobFa
     })
 }
 
-/// Formats of a file and of its text, the file, the exit status, the text, and what is told.
+/// The formats of a file and of its text, the file, the exit status, the text, and the line of the error.
 const CONVERTED: [(Form, Form, &str, u8, &str, &str); 6] = [
     (Form::Mps, Form::Mps, SMALL, 0, SMALL_CANONICAL, ""),
     (Form::Mps, Form::Lp, SMALL, 0, SMALL_CANONICAL_LP, ""),
@@ -109,7 +109,7 @@ fn files_are_converted(rt: HostRuntime) {
     }
 }
 
-/// Two files with their formats, the exit status, the answer, and what is told.
+/// Two files with their formats, the exit status, the result, and the line of the error.
 const COMPARED: [(Form, &str, Form, &str, u8, &str, &str); 7] = [
     (Form::Mps, SMALL, Form::Lp, SMALL_LP, 0, "same\n", ""),
     (
@@ -210,7 +210,7 @@ fn word(alloc: Global, text: &str) -> Result<Word, AllocError> {
     }
 }
 
-/// How much the output takes before it fails, the exit status, and what is told. Where it takes all, its flush fails.
+/// How many bytes the output takes before it fails, the exit status, and the line of the error. If it takes all, its flush fails.
 const OUTPUTS: [(usize, u8, &str); 4] = [
     (6, 0, ""),
     (5, 4, "write failed\n"),

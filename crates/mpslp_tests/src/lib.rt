@@ -1,7 +1,8 @@
-//! Tests of the public calls of the readers, the writers and the conversions, each with ample memory, and of their laws.
+//! Tests of the public calls of the readers, the writers and the conversions, which succeed with ample memory, and of their
+//! laws.
 //!
-//! Nothing but tests is here: the tests of a crate are proved together with all of it, and the crates below are large. What is
-//! answered of each kind of line stands in `vectors/`, which the program `try_vectors` tries through the same calls.
+//! This crate has only tests: a crate that has tests is proved twice, and the crates below are large. The results for each kind
+//! of line are in `vectors/`, which the program `try_vectors` checks through the same calls.
 #![tactic(auto)]
 
 #[cfg(test)]

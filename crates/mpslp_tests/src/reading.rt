@@ -1,4 +1,4 @@
-//! Readers: a text at once, what follows the end, and where a fault is told.
+//! Tests of readers: whole texts, bytes after the end, and where an error is reported.
 
 use crate::answers::{SMALL, SMALL_CANONICAL, SMALL_LP, told};
 use mpslp_lp::{LpReader, read_lp};
@@ -6,7 +6,7 @@ use mpslp_model::{FaultKind, Model, ModelReader, ReadFault};
 use mpslp_mps::{MpsReader, read_mps};
 use std::alloc::Global;
 
-/// MPS texts, and the canonical text or the fault of each.
+/// MPS texts with their canonical text or the line of their error.
 const MPS: [(&str, &str); 4] = [
     (SMALL, SMALL_CANONICAL),
     (SMALL_CANONICAL, SMALL_CANONICAL),
@@ -14,7 +14,7 @@ const MPS: [(&str, &str); 4] = [
     ("", "file: MissingEnd\n"),
 ];
 
-/// LP texts, and the canonical text or the fault of each.
+/// LP texts with their canonical text or the line of their error.
 const LP: [(&str, &str); 4] = [
     (SMALL_LP, SMALL_CANONICAL),
     (
@@ -41,7 +41,7 @@ fn lp_is_read(rt: HostRuntime) {
     }
 }
 
-/// Feeds pieces until one is refused.
+/// Feeds pieces until one is rejected.
 fn feed_all<T: ModelReader>(reader: &mut T, pieces: &[&[u8]]) -> Result<(), ReadFault> {
     for piece in pieces {
         reader.feed(piece)?;
@@ -49,14 +49,14 @@ fn feed_all<T: ModelReader>(reader: &mut T, pieces: &[&[u8]]) -> Result<(), Read
     Ok(())
 }
 
-/// What a reader answers of these pieces together.
+/// The result of a reader for these pieces together.
 fn read_all<T: ModelReader>(alloc: Global, pieces: &[&[u8]]) -> Result<Model, ReadFault> {
     let mut reader = T::new(alloc);
     feed_all(&mut reader, pieces)?;
     reader.finish()
 }
 
-/// Bytes that no text of a model file has.
+/// Bytes that are in no text of a model file.
 const ANYTHING: &[u8] = b"\x80 [ x ^ 2 ] QUADOBJ \xff";
 
 #[test]
@@ -70,7 +70,7 @@ fn what_follows_the_end_is_taken(rt: HostRuntime) {
     assert_eq!(rt; found.as_slice(), SMALL_CANONICAL.as_bytes());
 }
 
-/// The number of the first byte that a reader refuses, which is fed byte by byte, and why.
+/// The index of the first byte that a reader rejects if it is fed byte by byte, and the error.
 fn first_refused<T: ModelReader>(reader: &mut T, text: &[u8]) -> Option<(usize, ReadFault)> {
     for (i, byte) in text.iter().enumerate() {
         if let Err(fault) = reader.feed(&[*byte]) {
@@ -80,8 +80,8 @@ fn first_refused<T: ModelReader>(reader: &mut T, text: &[u8]) -> Option<(usize, 
     None
 }
 
-/// What a reader answers that is fed a text byte by byte up to one that it refuses: which one and why; and what it answers
-/// of a further piece, and at the end.
+/// The results of a reader that is fed a text byte by byte up to one that it rejects: the index of that byte with the error,
+/// the result for a further piece, and the result at the end.
 #[derive(Drop)]
 struct Refused {
     first: Option<(usize, ReadFault)>,
@@ -101,7 +101,7 @@ fn answers_of<T: ModelReader>(alloc: Global, text: &[u8]) -> Refused {
 }
 
 impl Refused {
-    /// Whether the line of this number was refused for this fault at this byte, and nothing else is answered from then on.
+    /// Whether this byte was rejected with this error of this line, and all later calls returned `Failed`.
     fn is(&self, at: usize, kind: FaultKind, line: u64) -> bool {
         let is_first = matches!(&self.first, Some((found, ReadFault::File(fault)))
             if *found == at && fault.line == line && fault.kind == kind);

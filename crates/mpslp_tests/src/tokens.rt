@@ -1,9 +1,9 @@
-//! Tokens of worked lines of LP.
+//! Tests of the tokens of LP lines.
 
 use mpslp_lp::{TokenKind, next_token, tokens_of};
 use std::test::Fail;
 
-/// A line, and the texts of its tokens with a blank between two.
+/// A line, and the texts of its tokens, separated by spaces.
 const LINES: [(&str, &str); 18] = [
     ("", ""),
     (" \t ", ""),

@@ -1,4 +1,4 @@
-//! Writers: the canonical text of a worked file, a name that LP cannot tell, and a sink that fails.
+//! Tests of writers: the canonical text of a worked file, a name that is not legal in LP, and a sink that fails.
 
 use mpslp_model::{NameAt, Sink, ToWrite, WriteFault};
 use mpslp_mps::read_mps;
@@ -7,7 +7,7 @@ use mpslp_write::{first_unfit_name, write_lp, write_mps};
 use std::alloc::Global;
 use std::test::Fail;
 
-/// A file in which lines stand in another order and with other words than in the canonical text.
+/// A file whose lines are in another order and spelled differently from the canonical text.
 const FILE: &str = "* sample
 NAME  sample
 OBJSENSE  MAX
@@ -120,7 +120,7 @@ Semi-Continuous
 End
 ";
 
-/// A file with a row and columns whose names are no LP names.
+/// A file with a row and columns whose names are not legal in LP.
 const BRACKETS: &str = "ROWS
  N  C
  L  D
@@ -131,7 +131,7 @@ COLUMNS
 ENDATA
 ";
 
-/// A file with columns whose names are no LP names: the second is a reserved word.
+/// A file with columns whose names are not legal in LP: the second is a reserved word.
 const FREE: &str = "ROWS
  N  C
 COLUMNS
@@ -141,7 +141,7 @@ COLUMNS
 ENDATA
 ";
 
-/// What is answered where the model of a file is written; `None` where the file has none.
+/// The result of writing the model of a file, or `None` if the file has no model.
 fn write_file<W: Sink>(alloc: Global, file: &str, sink: &mut W) -> Option<Result<(), WriteFault>> {
     match read_mps(alloc, file.as_bytes()) {
         Ok(model) => Some(write_mps(&model, sink)),
@@ -149,7 +149,7 @@ fn write_file<W: Sink>(alloc: Global, file: &str, sink: &mut W) -> Option<Result
     }
 }
 
-/// What is answered where the model of a file is written as LP; `None` where the file has none.
+/// The result of writing the model of a file as LP, or `None` if the file has no model.
 fn write_lp_file<W: Sink>(
     alloc: Global,
     file: &str,
@@ -179,7 +179,7 @@ fn canonical_lp_texts_are_written_in_one_call(rt: HostRuntime) {
     assert_eq!(rt; held.as_slice(), LP_TEXT.as_bytes());
 }
 
-/// The place of the first name of a file's model that is no LP name.
+/// The place of the first name of a file's model that is not legal in LP.
 fn unfit_name_of(alloc: Global, file: &str) -> Option<NameAt> {
     match read_mps(alloc, file.as_bytes()) {
         Ok(model) => first_unfit_name(&model),

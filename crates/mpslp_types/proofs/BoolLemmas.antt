@@ -1,10 +1,10 @@
--- Small facts on tests.
+-- Simple facts about tests.
 use Rattle.std.proofs.Common.{◌≡◌, refl, sym, ◌∙◌, List, [], ◌∷◌, Bool, true, false, not}
 use Rattle.std.proofs.Math.Dec.{T}
 use Rattle.std.specs.Prelude.{◌&&◌, ◌||◌}
 use Rattle.std.specs.List.{list_all}
 
--- what `&&`, `||` and `not` say of their parts, and back
+-- what `&&`, `||` and `not` say about their operands, and back
 
 pub or_end : (a b : Bool) → (a || b) ≡ ((a || false) || b)
 or_end true b = refl
@@ -42,12 +42,12 @@ pub either_more : (a b c d : Bool) → (a ≡ true → c ≡ true) → (b ≡ tr
 either_more true b c d f g h = or_left c d (f refl)
 either_more false b c d f g h = or_right c d (g h)
 
--- (b implies a), told by b's falsehood
+-- contraposition
 pub back : (a b : Bool) → (a ≡ true → b ≡ true) → b ≡ false → a ≡ false
 back true b f p = sym (f refl) ∙ p
 back false b f p = refl
 
--- the tests of one head and of the rest, taken apart
+-- the tests of the first item and of the others, separated
 pub mixed : (a b c d : Bool) → (not (a || b) && (c && d)) ≡ ((not a && c) && (not b && d))
 mixed true b c d = refl
 mixed false true true d = refl

@@ -1,4 +1,4 @@
--- What holds of each element.
+-- Properties of each item of a list.
 use Rattle.std.proofs.Common.{◌≡◌, refl, ap, List, [], ◌∷◌, Bool, true, false, cond, map}
 use Rattle.std.specs.Prelude.{filter, ◌&&◌}
 use Rattle.std.specs.List.{list_all, flat_map}
@@ -6,7 +6,7 @@ use Rattle.std.specs.Cmp.{first_so, second_so}
 use Rattle.mpslp_types.proofs.BoolLemmas.{both_so}
 pub use Rattle.mpslp_decimal.proofs.CutLemmas.{Each, Each-weaker, Each-append}
 
--- two facts of each element give a third
+-- two properties of each item imply a third
 pub Each-both : {X : Type 0} (P Q R : X → Type 0) → ((x : X) → P x → Q x → R x) → (xs : List X) → Each P xs → Each Q xs → Each R xs
 Each-both P Q R f [] h k = tt
 Each-both P Q R f (x ∷ xs) h k = (f x h.0 k.0, Each-both P Q R f xs h.1 k.1)
@@ -21,7 +21,7 @@ pub Each-flat_map : {X Y : Type 0} (P : Y → Type 0) (f : X → List Y) (xs : L
 Each-flat_map P f [] h = tt
 Each-flat_map P f (x ∷ xs) h = Each-append P (f x) (flat_map f xs) h.0 (Each-flat_map P f xs h.1)
 
--- of those that pass the test too
+-- of those that also pass the test
 pub Each-filter : {X : Type 0} (P : X → Type 0) (p : X → Bool) (xs : List X) → Each (λ x. p x ≡ true → P x) xs → Each P (filter p xs)
 Each-filter P p [] h = tt
 Each-filter {X} P p (x ∷ xs) h =
@@ -30,12 +30,12 @@ Each-filter {X} P p (x ∷ xs) h =
       | false ↦ λ f. Each-filter P p xs h.1
     ] h.0
 
--- what holds of everything
+-- a property of everything
 pub Each-all : {X : Type 0} (P : X → Type 0) → ((x : X) → P x) → (xs : List X) → Each P xs
 Each-all P f [] = tt
 Each-all P f (x ∷ xs) = (f x, Each-all P f xs)
 
--- a test that all pass, and back
+-- a test that all items pass, and back
 pub Each-from_list_all : {X : Type 0} (p : X → Bool) (xs : List X) → list_all p xs ≡ true → Each (λ x. p x ≡ true) xs
 Each-from_list_all p [] h = tt
 Each-from_list_all p (x ∷ xs) h = (first_so (p x) (list_all p xs) h, Each-from_list_all p xs (second_so (p x) (list_all p xs) h))
@@ -44,7 +44,7 @@ pub list_all-from_Each : {X : Type 0} (p : X → Bool) (xs : List X) → Each (�
 list_all-from_Each p [] h = refl
 list_all-from_Each p (x ∷ xs) h = rw (h.0, list_all-from_Each p xs h.1) refl
 
--- ---- tests that all pass
+-- ---- tests that all items pass
 
 -- a test that implies another
 pub imp_all : {X : Type 0} (p q : X → Bool) (xs : List X) → ((x : X) → p x ≡ true → q x ≡ true) → list_all p xs ≡ true → list_all q xs ≡ true

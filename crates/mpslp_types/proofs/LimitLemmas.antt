@@ -11,7 +11,7 @@ use Rattle.mpslp_types.specs.Laws.{is_limit, limit_cmp}
 use Rattle.mpslp_types.specs.declared.kinds.Limit.{Limit}
 use Rattle.mpslp_types.specs.declared.kinds.Limit.TheVariants.{MinusInf, Finite, PlusInf}
 
--- not after: the other one is not before
+-- not after if and only if the other is not before
 not_before : (r : Ordering) → not (is_lt (ordering_reverse r)) ≡ is_le r
 not_before Less = refl
 not_before Equal = refl

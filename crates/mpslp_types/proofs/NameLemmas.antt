@@ -1,4 +1,4 @@
--- A name is refused exactly where it is no name in MPS, and every name in LP is one in MPS.
+-- A name is rejected if and only if it is not legal in MPS, and every name that is legal in LP is legal in MPS.
 use Rattle.std.proofs.Common.{◌≡◌, refl, sym, ap, ◌∙◌, ℕ, List, [], ◌∷◌, Bool, true, false, not, arith}
 use Rattle.std.specs.Prelude.{◌&&◌, ◌||◌, ◌==◌, nat_le, Some, None, is_none, codes, if◌then◌else◌}
 use Rattle.std.specs.List.{list_all, list_any}
@@ -11,7 +11,7 @@ use Rattle.mpslp_types.specs.declared.names.NameFault.TheVariants.{NameLength, N
 use Rattle.mpslp_types.proofs.BoolLemmas.{both_so}
 use Rattle.mpslp_types.proofs.EachLemmas.{imp_all}
 
--- bytes are refused exactly where they are no name
+-- bytes are rejected if and only if they are not a legal name
 pub is_none-name_refusal : (name : List ℕ) → is_none (name_refusal name) ≡ is_mps_name name
 is_none-name_refusal name = by (has_name_length name) (list_all is_visible name) (same_bytes name marker)
   where
@@ -46,7 +46,7 @@ visible_byte byte =
     (either (is_upper byte) (nat_le 97 byte && nat_le byte 122) (is_visible byte) (λ h. within 65 90 byte h refl refl) (λ h. within 97 122 byte h refl refl))
     (either (is_digit byte) (is_lp_symbol byte) (is_visible byte) (λ h. within 48 57 byte h refl refl) (λ h. visible_among (codes "!\"#$%&()/,.;?@_'{}|~`") byte refl h))
 
--- a name in LP is one in MPS
+-- a legal name in LP is legal in MPS
 pub mps_name-from_lp : (name : List ℕ) → is_lp_name name ≡ true → is_mps_name name ≡ true
 mps_name-from_lp name h =
     let no_marker = not (same_bytes name marker) in

@@ -1,4 +1,4 @@
--- Worked names, by computation.
+-- Worked examples: names, by computation.
 use Rattle.std.proofs.Common.{◌≡◌, refl, true, false}
 use Rattle.std.specs.Prelude.{Some, None, [], ◌∷◌, codes, replicate}
 use Rattle.mpslp_types.specs.Name.{marker, name_refusal, is_lp_name, is_mps_name}
@@ -18,7 +18,7 @@ bytes_255 = refl
 bytes_256 : name_refusal (replicate 256 97) ≡ Some NameLength
 bytes_256 = refl
 
--- the length comes first
+-- the length is checked first
 blanks_256 : name_refusal (replicate 256 32) ≡ Some NameLength
 blanks_256 = refl
 
@@ -97,13 +97,13 @@ a_reserved_word = refl
 with_periods : is_lp_name (codes "S.T.") ≡ false
 with_periods = refl
 
--- reserved only straight after `subject` and `such`
+-- reserved only directly after `subject` and `such`
 second_words : is_lp_name (codes "to") ≡ true
 second_words = refl
 
 past_a_reserved_word : is_lp_name (codes "sos3") ≡ true
 past_a_reserved_word = refl
 
--- the bytes that LP leaves out make names in MPS
+-- bytes that are legal in MPS names but not in LP names
 mps_alone : is_mps_name (codes "x[1]^*+-<>=:\\") ≡ true
 mps_alone = refl

@@ -1,9 +1,9 @@
--- The names of the kinds of faults.
+-- The names of the kinds of errors.
 use Rattle.std.specs.Prelude.{ℕ, List, codes}
 use Rattle.mpslp_types.specs.declared.faults.FaultKind.{FaultKind}
 use Rattle.mpslp_types.specs.declared.faults.FaultKind.TheVariants.{LineTooLong, BadByte, Quadratic, Sos, Indicator, SemiContinuous, UnknownSection, SectionOrder, SectionRepeated, FieldCount, BadToken, BadType, BadMarker, NameLength, NameByte, NameMarker, NameLikeExponent, BadNumber, LongNumber, TooManyDigits, ExponentRange, SecondSet, UnknownRow, UnknownColumn, ColumnSplit, DuplicateRow, DuplicateEntry, DuplicateRhs, DuplicateRange, DuplicateBound, RangeOnFree, ConstantInRow, MixedSenses, InfiniteValue, MissingEnd, NoColumns, InfiniteLimit, RangeInexact, LimitTooLarge, LimitsCrossed, NegativeUpper, BoundsCrossed, BinaryBounds, SemiBounds}
 
--- the name of a kind, as it is told of a file
+-- the reported name of a kind
 abbrev pub kind_name : FaultKind → List ℕ
 kind_name LineTooLong = codes "LineTooLong"
 kind_name BadByte = codes "BadByte"

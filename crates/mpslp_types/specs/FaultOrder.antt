@@ -1,4 +1,4 @@
--- The order of the kinds of faults, by which one of several is told.
+-- The order of the kinds of errors, which decides which of several is reported.
 use Rattle.std.specs.Prelude.{ℕ, nat_lt, if◌then◌else◌, List, [], ◌∷◌, Option, Some, None}
 use Rattle.mpslp_types.specs.declared.faults.FaultKind.{FaultKind}
 use Rattle.mpslp_types.specs.declared.faults.FaultKind.TheVariants.{LineTooLong, BadByte, Quadratic, Sos, Indicator, SemiContinuous, UnknownSection, SectionOrder, SectionRepeated, FieldCount, BadToken, BadType, BadMarker, NameLength, NameByte, NameMarker, NameLikeExponent, BadNumber, LongNumber, TooManyDigits, ExponentRange, SecondSet, UnknownRow, UnknownColumn, ColumnSplit, DuplicateRow, DuplicateEntry, DuplicateRhs, DuplicateRange, DuplicateBound, RangeOnFree, ConstantInRow, MixedSenses, InfiniteValue, MissingEnd, NoColumns, InfiniteLimit, RangeInexact, LimitTooLarge, LimitsCrossed, NegativeUpper, BoundsCrossed, BinaryBounds, SemiBounds}

@@ -9,15 +9,15 @@ use Rattle.mpslp_types.specs.contracts.kinds.LimitOrd.TheImpl as limit_ord
 use Rattle.mpslp_types.specs.declared.kinds.Limit.{Limit}
 use Rattle.mpslp_types.specs.declared.kinds.Limit.TheVariants.{Finite}
 
--- What is a name in LP is one in MPS.
+-- What is a legal name in LP is one in MPS.
 abbrev pub LpNamesAreMpsNames : Type 0
 LpNamesAreMpsNames = (name : List ℕ) → IsLpName name → IsMpsName name
 
--- what `cmp` of limits answers
+-- the result of `cmp` of limits
 abbrev pub limit_cmp : Limit → Limit → Ordering
 limit_cmp = (limit_ord.ghosts).cmp
 
--- an infinity, or a decimal, as each value of the type is
+-- an infinity or a decimal, like each value of the type `Limit`
 abbrev pub is_limit : Limit → Bool
 is_limit (Finite value) = is_decimal value
 is_limit _ = true

@@ -25,7 +25,7 @@ is_one_of words word = list_any (same_bytes word) words
 abbrev pub has_name_length : List ℕ → Bool
 has_name_length name = nat_le 1 (length name) && nat_le (length name) MAX_NAME_LEN
 
--- visible ASCII: no blank and no control character
+-- printable ASCII other than space
 abbrev pub is_visible : ℕ → Bool
 is_visible byte = nat_le 33 byte && nat_le byte 126
 
@@ -38,7 +38,7 @@ is_mps_name name = has_name_length name && (list_all is_visible name && not (sam
 abbrev pub IsMpsName : List ℕ → Type 0
 IsMpsName name = IsTrue (is_mps_name name)
 
--- the first refusal of bytes that are no such name
+-- the first error of bytes that are not a legal name
 abbrev pub name_refusal : List ℕ → Option NameFault
 name_refusal name =
     if not (has_name_length name) then Some NameLength
@@ -53,7 +53,7 @@ is_upper byte = nat_le 65 byte && nat_le byte 90
 abbrev pub is_letter : ℕ → Bool
 is_letter byte = is_upper byte || (nat_le 97 byte && nat_le byte 122)
 
--- what an LP name may hold beside letters and digits
+-- the characters of LP names other than letters and digits
 abbrev pub is_lp_symbol : ℕ → Bool
 is_lp_symbol byte = list_any (λ symbol. symbol == byte) (codes "!\"#$%&()/,.;?@_'{}|~`")
 
@@ -71,11 +71,11 @@ reserved_words =
     ∷ codes "binary" ∷ codes "binaries" ∷ codes "bin" ∷ codes "semi" ∷ codes "semis"
     ∷ codes "sos" ∷ codes "sos1" ∷ codes "sos2" ∷ codes "free" ∷ codes "inf" ∷ codes "infinity" ∷ codes "end" ∷ []
 
--- in upper case, lower case or both
+-- in any case of the letters
 abbrev pub is_reserved : List ℕ → Bool
 is_reserved word = is_one_of reserved_words (map lower_byte word)
 
--- `e` or `E`, alone or before a digit
+-- `e` or `E`, followed by nothing or by a digit
 abbrev pub is_like_exponent : List ℕ → Bool
 is_like_exponent [] = false
 is_like_exponent (byte ∷ []) = byte == 101 || byte == 69

@@ -1,4 +1,4 @@
-//! What is wrong with a file, with a call of the builder, or with a model that is to be written.
+//! The errors of files, of calls of the builder, and of models that are to be written.
 
 ghost use Rattle.std.specs.Prelude.{◌≡◌};
 ghost use Rattle.mpslp_types.specs.FaultName.{kind_name};
@@ -8,46 +8,46 @@ use crate::names::Name;
 use std::alloc::AllocError;
 use thiserror::Error;
 
-/// Why a declaration is refused by the builder. Where several hold, the call's own order decides.
+/// Why the builder rejects a declaration. If several apply, the call documents which one is returned.
 #[derive(Clone, Copy, Debug, PartialEq, Eq, Error)]
 pub enum BuildFault {
-    /// The sense is declared already.
+    /// The sense is already declared.
     #[error("the sense is declared twice")]
     DuplicateSense,
-    /// The objective has its name already.
+    /// The objective is already named.
     #[error("the objective is named twice")]
     SecondObjective,
-    /// No row and no objective of this name is declared.
+    /// Neither a row nor the objective has this name.
     #[error("no such row is declared")]
     UnknownRow,
-    /// No column of this name is declared.
+    /// No column has this name.
     #[error("no such column is declared")]
     UnknownColumn,
-    /// A row or the objective of this name is declared already.
+    /// A row or the objective already has this name.
     #[error("the row is declared twice")]
     DuplicateRow,
-    /// The coefficient of this row and column is declared already.
+    /// The coefficient of this row and column is already declared.
     #[error("the coefficient is declared twice")]
     DuplicateEntry,
-    /// The right side, or the objective's constant, is declared already.
+    /// The right-hand side, or the constant of the objective, is already declared.
     #[error("the right side is declared twice")]
     DuplicateRhs,
-    /// The range is declared already.
+    /// The range is already declared.
     #[error("the range is declared twice")]
     DuplicateRange,
-    /// The side of the column is declared already.
+    /// The bound is already declared.
     #[error("the bound is declared twice")]
     DuplicateBound,
     /// A range on the objective or on a row of type [`Free`](crate::RowType::Free).
     #[error("the objective or a free row has no range")]
     RangeOnFree,
-    /// A semi-continuous column that is integer too.
+    /// A column is both semi-continuous and integer.
     #[error("the column is both integer and semi-continuous")]
     SemiContinuous,
-    /// A side that no value meets, or a range value of infinite size.
+    /// A limit or bound that no value meets, or a range value of infinite magnitude.
     #[error("the value is infinite")]
     InfiniteValue,
-    /// There was no memory for the declaration.
+    /// Out of memory.
     #[error("out of memory")]
     OutOfMemory,
 }
@@ -63,12 +63,12 @@ impl From<AllocError> for BuildFault {
     }
 }
 
-/// What is wrong with a file. The kinds stand in the order in which one of several is told.
+/// The kind of an error in a file. The order of the kinds decides which of several errors is reported.
 #[derive(Clone, Copy, Debug, PartialEq, Eq)]
 pub enum FaultKind {
     /// The line is longer than 1,048,576 bytes.
     LineTooLong = 1,
-    /// A byte outside a comment is neither visible ASCII nor a blank or tab.
+    /// A byte outside comments that is neither printable ASCII nor a tab.
     BadByte,
     /// A quadratic objective or row.
     Quadratic,
@@ -76,88 +76,88 @@ pub enum FaultKind {
     Sos,
     /// An indicator row.
     Indicator,
-    /// A semi-continuous column that is integer too.
+    /// A column that is both semi-continuous and integer.
     SemiContinuous,
-    /// An MPS header that is not known.
+    /// An unknown MPS header.
     UnknownSection,
-    /// A section, or a data line, where it may not stand.
+    /// A section or a data line in a wrong place.
     SectionOrder,
-    /// A section that was seen before.
+    /// A section that already occurred.
     SectionRepeated,
-    /// A line has a wrong number of fields.
+    /// A wrong number of fields in a line.
     FieldCount,
-    /// An LP token that cannot stand here.
+    /// An LP token that is not allowed here.
     BadToken,
-    /// A row type, bound type or sense that is not known.
+    /// An unknown row type, bound type or sense.
     BadType,
-    /// A marker line that opens what is open, closes what is not, or is of no known kind.
+    /// A marker line that starts a block inside a block, ends one outside, or is of an unknown type.
     BadMarker,
-    /// A name has no bytes, or more than [`MAX_NAME_LEN`](crate::MAX_NAME_LEN).
+    /// A name without bytes, or with more than [`MAX_NAME_LEN`](crate::MAX_NAME_LEN).
     NameLength,
-    /// A name has a byte that no name has.
+    /// A byte that is not allowed in names.
     NameByte,
-    /// A name is `'MARKER'`.
+    /// The name `'MARKER'`.
     NameMarker,
-    /// An LP name reads as an exponent: an `e` or `E`, alone or before a digit.
+    /// An LP name that reads as an exponent: `e` or `E`, followed by nothing or by a digit.
     NameLikeExponent,
-    /// A field is no number literal.
+    /// A field that is not a number literal.
     BadNumber,
-    /// A number literal has more than 255 bytes.
+    /// A number literal of more than 255 bytes.
     LongNumber,
-    /// A number has too many digits.
+    /// A number with too many significant digits.
     TooManyDigits,
-    /// A number's exponent is out of range.
+    /// A number whose exponent is out of range.
     ExponentRange,
-    /// A second set of right sides, ranges or bounds.
+    /// A second set of right-hand sides, ranges or bounds.
     SecondSet,
     /// A row that is not declared.
     UnknownRow,
     /// A column that is not declared.
     UnknownColumn,
-    /// The lines of a column do not stand together.
+    /// A column whose lines are not contiguous.
     ColumnSplit,
-    /// A second row, or a row and the objective, of one name.
+    /// A second row with the same name, or a row with the name of the objective.
     DuplicateRow,
-    /// A second coefficient of one row and column.
+    /// A second coefficient of the same row and column.
     DuplicateEntry,
-    /// A second right side of one row, or a second constant.
+    /// A second right-hand side of the same row, or a second constant.
     DuplicateRhs,
-    /// A second range of one row.
+    /// A second range of the same row.
     DuplicateRange,
-    /// A second bound on one side of a column.
+    /// A second lower or upper bound of the same column.
     DuplicateBound,
     /// A range on the objective or on a row of type N.
     RangeOnFree,
     /// A constant among the terms of an LP row.
     ConstantInRow,
-    /// The two senses of an LP line do not belong together.
+    /// Two relations of one LP row or bound that point in different directions.
     MixedSenses,
-    /// A side that no value meets, or a range value of infinite size.
+    /// A limit or bound that no value meets, or a range value of infinite magnitude.
     InfiniteValue,
-    /// The file does not end as its format wants. A fault of the whole file, with no name.
+    /// The end that the format requires is missing. A whole-file error without a name.
     MissingEnd,
-    /// There is no column. A fault of the whole file, with no name.
+    /// There is no column. A whole-file error without a name.
     NoColumns,
-    /// A right side is infinite where it may not be; of a row.
+    /// A row with an infinite right-hand side: plus infinity on G, minus infinity on L, either on E or with a range.
     InfiniteLimit,
-    /// A computed limit, or the distance of both, is no decimal; of a row.
+    /// A row with a computed limit, or a distance between its limits, that is not a decimal.
     RangeInexact,
-    /// A computed limit, or the distance of both, has size 10^20 or more; of a row.
+    /// A row with a computed limit, or a distance between its limits, of magnitude 10^20 or more.
     LimitTooLarge,
-    /// The lower limit is above the upper one; of a row.
+    /// A row whose lower limit is above the upper one.
     LimitsCrossed,
-    /// The upper bound is below 0 and no lower one is declared; of a column.
+    /// A column whose upper bound is below 0, without a declared lower bound.
     NegativeUpper,
-    /// The lower bound is above the upper one; of a column.
+    /// A column whose lower bound is above the upper one.
     BoundsCrossed,
-    /// A binary column's bounds do not lie within 0 and 1; of a column.
+    /// A binary column whose bounds are not within 0 and 1.
     BinaryBounds,
-    /// A semi-continuous column's lower bound is below 0, or its upper one infinite or not above 0; of a column.
+    /// A semi-continuous column whose lower bound is below 0, or whose upper bound is infinite or not above 0.
     SemiBounds,
 }
 
 impl FaultKind {
-    /// The rank of the kind in the order of the kinds, counted from 1. Of several faults, that of the least rank is told.
+    /// The rank of the kind, counted from 1. Of several errors the one with the lowest rank is reported.
     pub fn rank(self) -> u8
         ensures { result ≡ kind_rank self }
     {
@@ -217,29 +217,29 @@ impl FaultKind {
     }
 }
 
-/// The fault that is told of a file.
+/// The error that is reported for a file.
 #[derive(Debug, Drop)]
 pub struct Fault {
-    /// What is wrong.
+    /// The kind of the error.
     pub kind: FaultKind,
-    /// The line, counted from 1; 0 for a fault of the whole file.
+    /// The line, counted from 1; 0 for a whole-file error.
     pub line: u64,
-    /// The row or column that a fault of the whole file is told of, the least in byte order.
+    /// The row or column with the whole-file error; of several, the first in byte order.
     pub name: Option<Name>,
 }
 
-/// Why no model comes of a file.
+/// Why a file gives no model.
 #[derive(Debug, Drop)]
 pub enum ReadFault {
-    /// The file has this fault.
+    /// The file has this error.
     File(Fault),
-    /// The reader refused an earlier piece of the file, and takes no more.
+    /// The reader rejected an earlier piece of the file and takes no more.
     Failed,
-    /// There was no memory.
+    /// Out of memory.
     OutOfMemory,
 }
 
-/// A place in a model that a format cannot tell.
+/// A name in a model that is not legal in a format.
 #[derive(Clone, Copy, Debug, PartialEq, Eq)]
 pub enum NameAt {
     /// The name of the objective.
@@ -251,15 +251,15 @@ pub enum NameAt {
     Column(usize),
 }
 
-/// Why the text of a model was not written, or not whole.
+/// Why the text of a model was not written, or not completely.
 #[derive(Clone, Copy, Debug, PartialEq, Eq)]
 pub enum WriteFault {
-    /// The sink has failed.
+    /// The sink failed.
     Write {
-        /// How many first bytes of the text the sink took. The number stays at 2^64 - 1.
+        /// How many bytes of the text the sink took before it failed. The count saturates at 2^64 - 1.
         written: u64,
     },
-    /// The model has a name that LP cannot tell, and nothing was written. This is the first such
-    /// name: that of the objective comes first, then those of rows, then those of columns.
+    /// The model has a name that is not legal in LP; nothing was written. This is the first such name: the objective comes
+    /// first, then the rows, then the columns.
     NotLp(NameAt),
 }

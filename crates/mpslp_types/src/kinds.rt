@@ -1,4 +1,4 @@
-//! The kinds of things in a model.
+//! The types of rows and columns, their limits and bounds, and the objective sense.
 
 ghost use Rattle.std.specs.Prelude.{◌≡◌, IsTrue, not};
 ghost use Rattle.std.specs.Ordering.{is_lt};
@@ -8,39 +8,39 @@ ghost use Rattle.mpslp_types.specs.Limit.{is_at_most, is_given, limit_of};
 use mpslp_decimal::Decimal;
 use mpslp_decimal::laws::each_value_is_a_decimal;
 
-/// What is done with the objective.
+/// The objective sense.
 #[derive(Clone, Copy, Debug, PartialEq, Eq)]
 pub enum Sense {
-    /// The least value is wanted.
+    /// The objective is minimized.
     Minimize,
-    /// The greatest value is wanted.
+    /// The objective is maximized.
     Maximize,
 }
 
-/// Which values a column may take within its bounds.
+/// The type of a column.
 #[derive(Clone, Copy, Debug, PartialEq, Eq)]
 pub enum Kind {
-    /// Any value.
+    /// Any value within the bounds.
     Continuous,
-    /// Whole numbers alone.
+    /// Only whole numbers within the bounds.
     Integer,
-    /// 0, or any value within the bounds: semi-continuous. The upper bound is finite and above 0, the lower one at least 0.
+    /// Semi-continuous: 0, or any value within the bounds. The upper bound is finite and above 0, the lower bound at least 0.
     Semi,
 }
 
-/// One side of a row or column: a limit of a row, or a bound of a column.
+/// A limit of a row, or a bound of a column.
 #[derive(Clone, Copy, Debug, PartialEq, Eq, PartialOrd, Ord)]
 pub enum Limit {
     /// Minus infinity: below every number.
     MinusInf,
-    /// A number of size below 10^20.
+    /// A number with a magnitude below 10^20.
     Finite(Decimal),
     /// Plus infinity: above every number.
     PlusInf,
 }
 
 impl Limit {
-    /// The side that a given value stands for: a size of 10^20 or more is the infinity of its sign.
+    /// The limit for a given value: a magnitude of 10^20 or more is the infinity of the value's sign.
     pub fn of(value: Decimal) -> Limit
         ensures value { result ≡ limit_of value }
         ensures given { IsTrue (is_given result) }
@@ -56,7 +56,7 @@ impl Limit {
         }
     }
 
-    /// Whether this side is at most the other one: minus infinity comes first, plus infinity last.
+    /// Whether this limit is at most the other one: minus infinity comes first, plus infinity last.
     pub fn is_at_most(self, other: Limit) -> bool
         ensures { result ≡ is_at_most self other }
     {
@@ -84,15 +84,15 @@ fn is_ordered(a: Decimal, b: Decimal) -> bool
     !b.cmp(&a).is_lt()
 }
 
-/// How a row's right side limits it.
+/// How the right-hand side of a row limits it.
 #[derive(Clone, Copy, Debug, PartialEq, Eq)]
 pub enum RowType {
     /// Not at all; letter N.
     Free,
-    /// The row is at most its right side; letter L.
+    /// The row is at most its right-hand side; letter L.
     AtMost,
-    /// The row is at least its right side; letter G.
+    /// The row is at least its right-hand side; letter G.
     AtLeast,
-    /// The row equals its right side; letter E.
+    /// The row equals its right-hand side; letter E.
     Equal,
 }

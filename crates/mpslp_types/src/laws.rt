@@ -1,6 +1,6 @@
-//! Laws of names and limits. Each is the contract of a function that does nothing: to call it is to cite the law.
+//! Laws of names and limits. Each law is the contract of a function that does nothing: call the function to use the law.
 //!
-//! A law of every name reads a field of it, and that brings what is known of its bytes.
+//! The law of every name reads a field of it, which makes its invariant available to the proof.
 
 ghost use Rattle.mpslp_types.specs.Name.{IsMpsName};
 ghost use Rattle.mpslp_types.specs.Laws.{LpNamesAreMpsNames, LimitsAreOrdered};
@@ -12,7 +12,7 @@ pub fn lp_names_are_mps_names()
     ensures { LpNamesAreMpsNames }
 {}
 
-/// The bytes of every name are an MPS name: 1 to 255 bytes of visible ASCII that are not `'MARKER'`.
+/// The bytes of every name are a legal MPS name: 1 to 255 bytes of printable ASCII without spaces, other than `'MARKER'`.
 pub fn each_name_is_legal(name: &Name)
     ensures { IsMpsName name.now }
 {

@@ -1,4 +1,4 @@
-//! What models are told in: names, the kinds of rows and columns and their sides, and the faults of files, calls and
+//! The vocabulary of models: names, the types of rows and columns, limits and bounds, and the errors of files, calls and
 //! texts.
 #![tactic(auto)]
 

@@ -18,28 +18,28 @@ use std::hash::{Hash, Hasher};
 use std::marker::Model;
 use thiserror::Error;
 
-/// The most bytes that a name has.
+/// The maximum length of a name in bytes.
 pub const MAX_NAME_LEN: usize = 255;
 
-/// Why bytes are not taken as a name. Where several hold, the first of this list is told.
+/// Why bytes are not a legal name. If several apply, the first in this list is returned.
 #[derive(Clone, Copy, Debug, PartialEq, Eq, Error)]
 pub enum NameFault {
-    /// There are no bytes, or more than [`MAX_NAME_LEN`].
+    /// No bytes, or more than [`MAX_NAME_LEN`].
     #[error("a name has 1 to 255 bytes")]
     NameLength,
-    /// A byte is a blank, a control character or not ASCII.
+    /// A byte that is a space, a control character or not ASCII.
     #[error("a name has a byte that is no visible ASCII character")]
     NameByte,
-    /// The text is `'MARKER'`, which stands for no name in MPS.
+    /// The text is `'MARKER'`, which is not a name in MPS.
     #[error("'MARKER' is no name")]
     NameMarker,
-    /// There was no memory for the name.
+    /// Out of memory.
     #[error("out of memory")]
     OutOfMemory,
 }
 
-/// The name of a row, a column or the objective: 1 to [`MAX_NAME_LEN`] bytes of visible ASCII that
-/// are not `'MARKER'`. Contracts see its bytes.
+/// The name of a row, a column or the objective: 1 to [`MAX_NAME_LEN`] bytes of printable ASCII without spaces, other than
+/// `'MARKER'`. Contracts see its bytes.
 #[derive(Debug, Drop)]
 pub struct Name {
     pub(crate) bytes: Vec<u8>,
@@ -56,7 +56,7 @@ impl Model for Name {
     ghost invariant = { λ n. IsMpsName n.bytes.items };
 }
 
-/// By bytes.
+/// Names are equal if their bytes are.
 impl PartialEq for Name {
     ghost eq = { same_bytes };
 
@@ -71,7 +71,7 @@ impl Eq for Name {
     ghost laws = { nat_list_eq_equiv };
 }
 
-/// By bytes: the first that differ decide, and else the shorter name comes first.
+/// Byte order: the first bytes that differ decide; a proper prefix comes first.
 impl PartialOrd for Name {
     ghost partial_cmp = { λ a b. Some (bytes_cmp a b) };
 
@@ -106,14 +106,14 @@ impl Hash for Name {
     }
 }
 
-/// Whether each byte is visible ASCII.
+/// Whether all bytes are printable ASCII other than space.
 fn has_visible_bytes(bytes: &[u8]) -> bool
     ensures { result ≡ list_all is_visible bytes.now }
 {
     bytes.iter().all(|byte| 33 <= *byte && *byte <= 126)
 }
 
-/// Whether the text is the one that no name may be.
+/// Whether the text is `'MARKER'`, which is not a name.
 fn is_marker(bytes: &[u8]) -> bool
     ensures { result ≡ same_bytes bytes.now marker }
 {
@@ -121,7 +121,7 @@ fn is_marker(bytes: &[u8]) -> bool
 }
 
 impl Name {
-    /// Whether the bytes are a name, and else the first refusal that they meet. It takes no memory, and never answers
+    /// Returns the first error of bytes that are not a legal name. Allocates nothing and never returns
     /// [`OutOfMemory`](NameFault::OutOfMemory).
     ///
     /// # Errors
@@ -142,11 +142,11 @@ impl Name {
         Ok(())
     }
 
-    /// The name of these bytes, or the first refusal that they meet.
+    /// Makes a name of these bytes, or returns their first error.
     ///
     /// # Errors
     ///
-    /// What [`check`](Self::check) answers, and only where that is no refusal, `OutOfMemory`.
+    /// Those of [`check`](Self::check); `OutOfMemory` only if there is none of them.
     pub fn new(alloc: Global, bytes: &[u8]) -> Result<Name, NameFault>
         ensures refused { IfSome (name_refusal bytes.now) (λ fault. result ≡ Err fault) }
         ensures taken { IfNone (name_refusal bytes.now) (MatchResult result (λ name. name ≡ bytes.now) (λ fault. fault ≡ NameFault.OutOfMemory)) }
@@ -158,7 +158,7 @@ impl Name {
         }
     }
 
-    /// The name of bytes that are known to be one. They are moved, and not looked at.
+    /// Makes a name of bytes that are known to be legal. The bytes are moved and not checked again.
     pub fn from_legal(bytes: Vec<u8>) -> Name
         requires { IsMpsName bytes.items }
         ensures { result ≡ bytes.items }

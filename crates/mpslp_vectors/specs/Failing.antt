@@ -1,8 +1,8 @@
--- What contracts see of the devices that fail at a chosen place.
+-- How contracts see the devices that fail at a chosen place.
 use Rattle.std.specs.Prelude.{ℕ, List, Bool}
 
--- A reader: the bytes that are left, the most that a read gives, the number of the read that fails (0 for none), whether it has
--- failed, and how often it was read.
+-- A reader: the remaining bytes, the maximum that a read returns, the number of the read that fails (0 for none), whether it
+-- has failed, and how often it was read.
 pub record Giving : Type 0 where
   pub left : List ℕ
   pub piece : ℕ

@@ -1,8 +1,8 @@
-//! Devices for the conformance suite: a reader that gives its bytes in small pieces and fails in a chosen read, and a writer that
-//! takes so many bytes and then fails.
+//! Devices for the conformance suite: a reader that returns its bytes in small pieces and fails in a chosen read, and a writer
+//! that takes a number of bytes and then fails.
 //!
-//! They keep the contracts of [`Source`](mpslp_io::Source) and [`Sink`](mpslp_io::Sink), and their own say in which call they
-//! fail. The program `try_vectors` tries the conversions with them on the files of `vectors/`.
+//! They meet the contracts of [`Source`](mpslp_io::Source) and [`Sink`](mpslp_io::Sink), and their own contracts say in which
+//! call they fail. The program `try_vectors` uses them to check the conversions on the files of `vectors/`.
 #![tactic(auto)]
 
 mod reader;

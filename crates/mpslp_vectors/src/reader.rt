@@ -1,4 +1,4 @@
-//! A source that gives its bytes in small pieces, and fails in a chosen read.
+//! A source that returns its bytes in small pieces and fails in a chosen read.
 
 ghost use Rattle.std.specs.Prelude.{◌≡◌, ◌==◌, ◌||◌, ◌≤◌, ◌↔◌, List, true, false, length, min, max, Some, IfOk, OnErr, IsErr};
 ghost use Rattle.std.specs.Io.KnownBytes.{ReadConsumes};
@@ -7,11 +7,11 @@ ghost use Rattle.mpslp_io.specs.Devices.{one_call_more};
 use mpslp_io::{IoFailed, Source};
 use std::marker::Model;
 
-/// Gives its bytes in pieces, and fails in the read of a chosen number and in all later ones.
+/// Returns its bytes in pieces, and fails in the chosen read and in all later ones.
 #[derive(Drop)]
 pub struct FailingReader<'a> {
     left: &'a [u8],
-    /// The most bytes that a read gives, at least 1.
+    /// The maximum number of bytes that a read returns, at least 1.
     piece: usize,
     /// The number of the read that fails, or 0 for none.
     fail_at: u64,
@@ -31,8 +31,8 @@ impl<'a> Model for FailingReader<'a> {
 }
 
 impl<'a> FailingReader<'a> {
-    /// A reader that was not read yet. It gives at most `piece` bytes in a read, or 1 where that is 0, and fails in read number
-    /// `fail_at`, counted from 1; at 0 it never fails.
+    /// A reader before its first read. A read returns at most `piece` bytes, or 1 if `piece` is 0. Read number `fail_at`, counted
+    /// from 1, fails; if it is 0, no read fails.
     pub fn new(bytes: &'a [u8], piece: usize, fail_at: u64) -> FailingReader<'a>
         ensures { result ≡ record { left = bytes.now; piece = max piece 1; fail_at = fail_at; has_failed = false; calls = 0 } }
     {
@@ -46,8 +46,8 @@ impl<'a> FailingReader<'a> {
     }
 }
 
-/// A read gives as many bytes as are left, as the buffer has room for, and as a piece has. Every read is counted, also those
-/// after the one that fails; a read that fails leaves the bytes and the buffer as they were.
+/// A read returns as many bytes as are left, fit the buffer, and are in a piece. Every read is counted, also those after the
+/// failing one. A failing read leaves the bytes and the buffer unchanged.
 impl Source for FailingReader<'_> {
     ghost left = { λ r. Some r.left };
 

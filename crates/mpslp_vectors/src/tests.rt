@@ -1,4 +1,4 @@
-//! What the devices give and take, call by call.
+//! Tests of what the devices return and take, call by call.
 
 use crate::{FailingReader, FailingWriter};
 use mpslp_io::{IoFailed, Sink, Source};

@@ -1,4 +1,4 @@
-//! A sink that takes so many bytes, and then fails.
+//! A sink that takes a number of bytes and then fails.
 
 ghost use Rattle.std.specs.Prelude.{◌≡◌, ◌==◌, ◌-◌, ◌++◌, ◌↔◌, [], true, false, length, min, take, IfOk, IsErr};
 ghost use Rattle.mpslp_io.specs.Devices.{one_call_more, Takes, KeepsHeld};
@@ -7,11 +7,11 @@ use mpslp_io::{IoFailed, Sink};
 use std::alloc::{AllocError, Global};
 use std::marker::Model;
 
-/// Takes a number of bytes in all, and keeps them; then each call fails, `flush` too.
+/// Takes and keeps a number of bytes in total; then each call fails, `flush` too.
 #[derive(Drop)]
 pub struct FailingWriter {
     taken: Vec<u8>,
-    /// How many bytes it still takes.
+    /// How many more bytes it takes.
     room: usize,
     failed: bool,
     calls: u64,
@@ -30,11 +30,11 @@ impl Model for FailingWriter {
 }
 
 impl FailingWriter {
-    /// A writer that was not called yet. Room for all `take` bytes is reserved at once: later calls take no memory.
+    /// A writer before its first call. Memory for all `take` bytes is allocated here: later calls allocate nothing.
     ///
     /// # Errors
     ///
-    /// [`AllocError`] where there is no memory for them.
+    /// [`AllocError`] if this allocation fails.
     pub fn new(alloc: Global, take: usize) -> Result<FailingWriter, AllocError>
         ensures { IfOk result (λ w. w ≡ record { taken = []; room = take; has_failed = false; calls = 0 }) }
     {
@@ -46,7 +46,7 @@ impl FailingWriter {
         })
     }
 
-    /// The bytes that it took, in their order.
+    /// The bytes that it took, in order.
     pub fn bytes(&self) -> &[u8]
         ensures { result.now ≡ self.now.taken }
     {
@@ -54,8 +54,8 @@ impl FailingWriter {
     }
 }
 
-/// A write takes as much of the piece as there is room for. Where no room is left each write fails, of the empty piece too, and
-/// each flush.
+/// A write takes as many bytes of the piece as there is room for. If no room is left, each write fails, even of an empty
+/// piece, and so does each flush.
 impl Sink for FailingWriter {
     ghost holds = { λ w bytes. w.taken ≡ bytes };
 

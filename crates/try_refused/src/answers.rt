@@ -1,4 +1,4 @@
-//! What a call answers, as text.
+//! The result of a call, as text.
 
 use mpslp_convert::{ConvertFault, RunFault, report};
 use mpslp_io::Sink;
@@ -7,27 +7,27 @@ use mpslp_vectors::FailingWriter;
 use mpslp_write::write_mps;
 use std::alloc::{AllocError, Global};
 
-/// Room for every text here. A sink with so much takes no memory while a call is made.
+/// Enough for every text here. A sink of this capacity allocates nothing during a call.
 const ROOM: usize = 1 << 16;
 
-/// A text, or the line of a fault, or both.
+/// A text, or the line of an error, or both.
 #[derive(Drop)]
 pub(crate) struct Answer {
     pub(crate) is_out_of_memory: bool,
     pub(crate) text: Vec<u8>,
 }
 
-/// A sink that has room for every text here, and does not grow.
+/// A sink with room for every text here, which does not grow.
 pub(crate) fn roomy(alloc: Global) -> Result<FailingWriter, AllocError> {
     FailingWriter::new(alloc, ROOM)
 }
 
-/// Puts a text into a sink that has room for it.
+/// Puts a text into a sink with enough room.
 pub(crate) fn put(sink: &mut FailingWriter, text: &str) {
     let _ = sink.write(text.as_bytes());
 }
 
-/// The same fault, of a run that has one input.
+/// The same error, of a run with one input.
 fn fault_of_run(fault: ConvertFault) -> RunFault {
     match fault {
         ConvertFault::First(fault) => RunFault::File(fault),
@@ -45,7 +45,7 @@ impl Answer {
         }
     }
 
-    /// What a sink holds.
+    /// The content of a sink.
     pub(crate) fn of_sink(
         alloc: Global,
         is_out_of_memory: bool,
@@ -57,7 +57,7 @@ impl Answer {
         })
     }
 
-    /// The line of a fault, behind what was written before it.
+    /// What was written, followed by the line of an error.
     pub(crate) fn of_fault(fault: &RunFault, written: Vec<u8>) -> Answer {
         let mut sink = ToWrite::new(written);
         let _ = report(fault, &mut sink);
@@ -67,7 +67,7 @@ impl Answer {
         }
     }
 
-    /// What a sink holds behind a run into it, and the line of the run's fault.
+    /// The content of a sink after a run into it, followed by the line of the run's error.
     pub(crate) fn of_run(
         alloc: Global,
         answer: Result<(), RunFault>,
@@ -105,7 +105,7 @@ impl Answer {
         }
     }
 
-    /// The canonical MPS text of a model that was read.
+    /// The canonical MPS text of a model.
     pub(crate) fn of_model(
         alloc: Global,
         answer: Result<Model, ReadFault>,

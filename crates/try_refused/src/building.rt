@@ -1,4 +1,4 @@
-//! Calls of a builder, each of which is made once more where there was no memory for it.
+//! Calls of a builder, each of which is repeated if there was no memory for it.
 
 ghost use Rattle.std.specs.Prelude.{IsTrue};
 ghost use Rattle.std.specs.Option.{ForSome};
@@ -13,7 +13,7 @@ use mpslp_vectors::FailingWriter;
 use mpslp_write::write_mps;
 use std::alloc::{AllocError, Global};
 
-/// Each call, with each of its refusals that the line of a file can have too. A call is its name and what it is made with.
+/// Each call, with each of its errors that a line of a file can cause too. A call is its name and its arguments.
 pub(crate) const EACH_CALL: &str = "objective f
 objective g
 row f L
@@ -43,7 +43,7 @@ sense
 sense
 ";
 
-/// A model with a row of each type and a column of each kind.
+/// A model with a row and a column of each type.
 pub(crate) const EACH_KIND: &str = "sense
 objective PROFIT
 row UP L
@@ -73,7 +73,7 @@ binary B
 rhs LOW 1
 ";
 
-/// How many rows one column has: they come in falling order, so that most stand in the column's tree.
+/// The number of rows in one column. They are declared in descending order, so that most go into the column's tree.
 const MANY: u16 = 150;
 
 /// The calls of a model of many rows.
@@ -88,7 +88,7 @@ pub(crate) fn calls_of_many_rows(alloc: Global) -> Result<String, AllocError> {
     Ok(calls)
 }
 
-/// A call with the number of a row, which has three digits.
+/// Appends a call with the number of a row, which has three digits.
 fn push_call(calls: &mut String, front: &str, number: u16, behind: &str) -> Result<(), AllocError> {
     calls.push_str(front)?;
     for digits in [number / 100, number / 10, number] {
@@ -105,12 +105,12 @@ fn named(alloc: Global, text: &str) -> Result<Name, BuildFault> {
     }
 }
 
-/// The number that a literal spells, and 0 where it spells none.
+/// The number of a literal, or 0 if it is not one.
 fn number(text: &str) -> Decimal {
     Decimal::parse(text.as_bytes()).unwrap_or(Decimal::zero())
 }
 
-/// The side that a literal spells; `-` spells none.
+/// The bound of a literal, or none for `-`.
 fn side(text: &str) -> Option<Limit>
     ensures { ForSome result (λ side. IsTrue (is_given side)) }
 {
@@ -159,7 +159,7 @@ fn made(builder: &mut Builder, alloc: Global, call: &str) -> Result<(), BuildFau
     }
 }
 
-/// What a call answers, in words.
+/// The result of a call, in words.
 fn text_of(answer: &Result<(), BuildFault>) -> &'static str {
     let Err(fault) = answer else {
         return "Ok";
@@ -188,7 +188,7 @@ fn tell(told: &mut FailingWriter, call: &str, answer: &Result<(), BuildFault>) {
     put(told, "\n");
 }
 
-/// Makes a call and, where there was no memory for it, makes it once more with memory. Whether there was none.
+/// Makes a call and, if there was no memory for it, makes it once more with memory. Returns whether there was none.
 fn is_made_again(
     builder: &mut Builder,
     alloc: Global,
@@ -206,7 +206,7 @@ fn is_made_again(
     true
 }
 
-/// The model of what was declared.
+/// The model of the declarations.
 fn finished(builder: Builder) -> Result<Model, ReadFault> {
     if builder.has_objective() {
         builder.finish()
@@ -215,7 +215,7 @@ fn finished(builder: Builder) -> Result<Model, ReadFault> {
     }
 }
 
-/// Tells the canonical text of a model, or its fault. Whether there was no memory for it.
+/// Puts the canonical text of a model, or its error. Returns whether there was no memory for it.
 fn tell_finished(told: &mut FailingWriter, answer: Result<Model, ReadFault>) -> bool {
     match answer {
         Ok(model) => {
@@ -237,7 +237,7 @@ fn tell_finished(told: &mut FailingWriter, answer: Result<Model, ReadFault>) -> 
     }
 }
 
-/// What calls of a builder answer, one a line, and then the model that they declare.
+/// The results of a builder's calls, one per line, and then the model that they declare.
 pub(crate) fn built(alloc: Global, calls: &str, growth: u32) -> Result<Answer, AllocError> {
     let mut told = roomy(alloc)?;
     let mut builder = Builder::new(alloc);

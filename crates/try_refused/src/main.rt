@@ -1,12 +1,13 @@
-//! Makes calls of the library again and again, so that each growth of memory can be refused in turn.
+//! Makes calls of the library repeatedly, so that each of their allocations can fail in turn.
 //!
-//! A call is made with its first growth refused, then with its second one, and so on, until it is not answered by want of
-//! memory. `tests/refuse.c`, loaded before this program, refuses them; without it nothing is refused, and each call is made once.
-//! Without words these are calls that need no file: names, words, jobs, and the calls of a builder. Else the words are a format
-//! and a path, twice, as `mps a.mps lp b.lp`, and these are the calls on the first text, and on both.
+//! A call is made with its first allocation failing, then with its second one, and so on, until its result is not out of
+//! memory. The library `tests/refuse.c`, loaded before this program, makes allocations fail; without it none fails, and each
+//! call is made once. Without arguments the calls are those that need no file: names, words, jobs, and the calls of a builder.
+//! Otherwise the arguments are two formats with paths, such as `mps a.mps lp b.lp`, and the calls are those on the first text,
+//! and on both.
 //!
-//! Printed are `call` and the name of each call, and for each time that it was made `answer`, how many bytes its answer has, and
-//! the answer. `tests/refused.py` compares them with what is to be answered.
+//! Prints `call` and the name of each call; then, each time that it is made, `answer`, the length of its result in bytes, and
+//! the result. `tests/refused.py` compares them with the expected results.
 #![tactic(auto)]
 
 mod answers;
@@ -25,10 +26,10 @@ use std::{env, fs, io};
 use texts::{TEXT_CALLS, Text, TextCall, answer_to};
 use words::{COMMAND_LINES, job_of, name, word};
 
-/// More growths than any call here makes.
+/// More allocations than any call here makes.
 const MOST: u32 = 10_000;
 
-/// A call, with what it is made on.
+/// A call with its arguments.
 #[derive(Clone, Copy)]
 enum Call<'a> {
     Name,
@@ -39,7 +40,7 @@ enum Call<'a> {
 }
 
 impl Call<'_> {
-    /// What the call answers while a growth is refused.
+    /// The result of the call while an allocation fails.
     fn answer(&self, alloc: Global, growth: u32) -> Result<Answer, AllocError> {
         match *self {
             Call::Name => name(alloc, growth),
@@ -51,7 +52,7 @@ impl Call<'_> {
     }
 }
 
-/// Tells what a call answers with each growth refused, until one answer is not that memory was wanted.
+/// Prints the results of a call with each allocation failing in turn, up to the first result that is not out of memory.
 fn tell_each<R: Print>(rt: &R, alloc: Global, name: &str, call: &Call<'_>) -> io::Result<()> {
     println!(rt; "call {name}")?;
     for growth in 1..=MOST {

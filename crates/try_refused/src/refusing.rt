@@ -1,17 +1,17 @@
-//! How a growth of memory is refused: what this program asks of the library `tests/refuse.c` that is loaded before it.
+//! How an allocation is made to fail: what this program asks of the library `tests/refuse.c` that is loaded before it.
 
 use std::alloc::Global;
 
-/// More bytes than any machine has: a request for so many and `n` more is refused, with that library or without it, and the
-/// library takes it as an order.
+/// More bytes than any machine has. A request for `n` more than this fails with or without that library; the library reads
+/// `n` from it.
 const ORDER: usize = 1 << 60;
 
-/// From here on growths are counted, and the one of this number is refused. Numbers count from 1.
+/// From now on allocations are counted from 1, and the one with this number fails.
 pub(crate) fn refuse(alloc: Global, growth: u32) {
     order(alloc, growth);
 }
 
-/// From here on no growth is counted or refused.
+/// From now on no allocation is counted or made to fail.
 pub(crate) fn refuse_none(alloc: Global) {
     order(alloc, 0);
 }

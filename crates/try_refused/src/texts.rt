@@ -11,13 +11,13 @@ use mpslp_vectors::FailingReader;
 use mpslp_write::{Lp, Mps};
 use std::alloc::{AllocError, Global};
 
-/// Room for every text here.
+/// A limit above the length of every text here.
 const MUCH: u64 = 4_000_000;
 
-/// How many bytes a reader is fed at once, and a source gives at most.
+/// How many bytes a reader is fed at once, and the maximum that a source returns.
 const PIECE: usize = 7;
 
-/// A call on the texts.
+/// A call on one or both texts.
 #[derive(Clone, Copy)]
 pub(crate) enum TextCall {
     Read,
@@ -35,7 +35,7 @@ pub(crate) enum TextCall {
     PerformShow,
 }
 
-/// All calls, and what they are named.
+/// All calls with their names.
 pub(crate) const TEXT_CALLS: [(&str, TextCall); 16] = [
     ("read", TextCall::Read),
     ("feed", TextCall::Feed),
@@ -75,7 +75,7 @@ fn read<A: Format>(alloc: Global, text: &[u8], growth: u32) -> Result<Answer, Al
     Answer::of_model(alloc, answer)
 }
 
-/// What a reader answers that is fed the text in pieces, and whether it answers `Failed` to all that follows a refusal.
+/// The result of a reader that is fed the text in pieces, and whether all calls after an error return `Failed`.
 fn fed<P: ModelReader>(
     alloc: Global,
     text: &[u8],
@@ -161,7 +161,7 @@ fn shown<A: Format>(alloc: Global, text: &Text<'_>, growth: u32) -> Result<Answe
     Answer::of_run(alloc, answer, &sink)
 }
 
-/// The exit status of a job, what it prints, and what it tells.
+/// The exit status of a job, its output, and its error output.
 fn performed(
     alloc: Global,
     job: &Result<Job, JobFault>,
@@ -222,7 +222,7 @@ fn show_job(alloc: Global, from: Form) -> Result<Job, JobFault> {
     })
 }
 
-/// What a call answers while a growth is refused, where the formats of the texts are `A` and `B`.
+/// The result of a call while an allocation fails, with texts in the formats `A` and `B`.
 fn answer_in<A: Format, B: Format>(
     alloc: Global,
     call: TextCall,
@@ -262,7 +262,7 @@ fn answer_in<A: Format, B: Format>(
     }
 }
 
-/// What a call on two texts answers while a growth is refused.
+/// The result of a call on two texts while an allocation fails.
 pub(crate) fn answer_to(
     alloc: Global,
     call: TextCall,

@@ -1,4 +1,4 @@
-//! Calls that make a name, a word, or a job of the words of a command line.
+//! Calls that make a name, a word, or a job of arguments.
 
 use crate::answers::{Answer, put, roomy};
 use crate::refusing::{refuse, refuse_none};
@@ -8,7 +8,7 @@ use mpslp_model::{Name, NameFault};
 use mpslp_vectors::FailingWriter;
 use std::alloc::{AllocError, Global};
 
-/// Words of a command line, with a blank between two: each job, and each way to ask for none.
+/// Arguments, separated by spaces: each job, and each error.
 pub(crate) const COMMAND_LINES: [&str; 8] = [
     "canon mps lp -",
     "same mps a lp -",
@@ -48,7 +48,7 @@ pub(crate) fn word(alloc: Global, growth: u32) -> Result<Answer, AllocError> {
     }
 }
 
-/// Puts a word behind another one.
+/// Puts a space and a word.
 fn put_word(told: &mut FailingWriter, word: &str) {
     put(told, " ");
     put(told, word);
@@ -61,7 +61,7 @@ fn put_form(told: &mut FailingWriter, form: Form) {
     }
 }
 
-/// Puts the words of a job.
+/// Puts the arguments of a job.
 fn put_job(told: &mut FailingWriter, job: &Job) {
     match job {
         Job::Canon { from, to, path } => {
@@ -90,7 +90,7 @@ fn put_job(told: &mut FailingWriter, job: &Job) {
     }
 }
 
-/// Puts why words ask for no job.
+/// Puts the error of arguments that are not a job.
 fn put_fault(told: &mut FailingWriter, fault: &JobFault) {
     match fault {
         JobFault::Help(_) => put(told, "Help"),
@@ -104,7 +104,7 @@ fn put_fault(told: &mut FailingWriter, fault: &JobFault) {
     }
 }
 
-/// What `job` answers: the words of the job, or why there is none.
+/// The result of `job`: the arguments of the job, or the error.
 pub(crate) fn job_of(alloc: Global, line: &str, growth: u32) -> Result<Answer, AllocError> {
     let mut words = Vec::new(alloc);
     for word in line.split(' ') {

@@ -1,4 +1,4 @@
-//! What the calls of the library answer of a text: another text, or the line of a fault.
+//! The results of library calls for a text: another text, or the line of an error.
 
 use mpslp_convert::{
     ConvertFault, Form, RunFault, canonical, is_canonical, report, run, same_model, show,
@@ -10,10 +10,10 @@ use mpslp_vectors::FailingReader;
 use mpslp_write::{Lp, Mps};
 use std::alloc::Global;
 
-/// Room for every text here.
+/// A limit above the length of every text here.
 pub(crate) const MUCH: u64 = 4_000_000;
 
-/// A text, or the line of a fault in its place.
+/// A text, or the line of an error instead.
 #[derive(Drop)]
 pub(crate) struct Answer {
     pub(crate) is_fault: bool,
@@ -25,7 +25,7 @@ impl Answer {
         self.is_fault == other.is_fault && self.text.as_slice() == other.text.as_slice()
     }
 
-    /// Of a run that has written so much.
+    /// The result of a run that has written this.
     fn of_run(answer: Result<(), RunFault>, written: Vec<u8>) -> Answer {
         let Err(fault) = answer else {
             return Answer {
@@ -42,7 +42,7 @@ impl Answer {
     }
 }
 
-/// The same fault, of a run that has one input.
+/// The same error, of a run with one input.
 fn fault_of_run(fault: ConvertFault) -> RunFault {
     match fault {
         ConvertFault::First(fault) => RunFault::File(fault),
@@ -52,7 +52,7 @@ fn fault_of_run(fault: ConvertFault) -> RunFault {
     }
 }
 
-/// The line of a fault.
+/// The line of an error.
 pub(crate) fn line_of(alloc: Global, fault: ConvertFault) -> Answer {
     Answer::of_run(Err(fault_of_run(fault)), Vec::new(alloc))
 }
@@ -67,7 +67,7 @@ fn canonical_of<A: Format, B: Format>(alloc: Global, text: &[u8]) -> Answer {
     }
 }
 
-/// What `canonical` answers.
+/// The result of `canonical`.
 pub(crate) fn canonical_in(alloc: Global, from: Form, to: Form, text: &[u8]) -> Answer {
     match (from, to) {
         (Form::Mps, Form::Mps) => canonical_of::<Mps, Mps>(alloc, text),
@@ -77,7 +77,7 @@ pub(crate) fn canonical_in(alloc: Global, from: Form, to: Form, text: &[u8]) -> 
     }
 }
 
-/// What `is_canonical` answers.
+/// The result of `is_canonical`.
 pub(crate) fn is_canonical_in(
     alloc: Global,
     form: Form,
@@ -89,7 +89,7 @@ pub(crate) fn is_canonical_in(
     }
 }
 
-/// What `same_model` answers.
+/// The result of `same_model`.
 pub(crate) fn same_in(
     alloc: Global,
     first_form: Form,
@@ -105,7 +105,7 @@ pub(crate) fn same_in(
     }
 }
 
-/// What `run` answers.
+/// The result of `run`.
 pub(crate) fn run_in<R: Source, W: Sink>(
     alloc: Global,
     max_bytes: u64,
@@ -122,7 +122,7 @@ pub(crate) fn run_in<R: Source, W: Sink>(
     }
 }
 
-/// What `show` answers.
+/// The result of `show`.
 pub(crate) fn show_in<R: Source, W: Sink>(
     alloc: Global,
     from: Form,
@@ -135,7 +135,7 @@ pub(crate) fn show_in<R: Source, W: Sink>(
     }
 }
 
-/// What a run gives whose input comes in pieces of so many bytes at most, and may have so many in all.
+/// The result of a run whose input comes in pieces of limited length, and has a limit in total.
 pub(crate) fn run_of(
     alloc: Global,
     max_bytes: u64,
@@ -150,7 +150,7 @@ pub(crate) fn run_of(
     Answer::of_run(answer, sink.into_inner())
 }
 
-/// What shows the model of an input that comes in pieces of so many bytes at most.
+/// The text that shows the model of an input that comes in pieces of limited length.
 pub(crate) fn shown_of(alloc: Global, from: Form, text: &[u8], piece: usize) -> Answer {
     let mut source = FailingReader::new(text, piece, 0);
     let mut sink = ToWrite::new(Vec::new(alloc));
@@ -158,7 +158,7 @@ pub(crate) fn shown_of(alloc: Global, from: Form, text: &[u8], piece: usize) -> 
     Answer::of_run(answer, sink.into_inner())
 }
 
-/// The model of a text whose reader is fed two pieces.
+/// The model of a text whose reader is fed in two pieces.
 fn fed<A: Format>(alloc: Global, first: &[u8], second: &[u8]) -> Result<Model, ReadFault> {
     let mut reader = <A::Reader as ModelReader>::new(alloc);
     reader.feed(first)?;
@@ -166,7 +166,7 @@ fn fed<A: Format>(alloc: Global, first: &[u8], second: &[u8]) -> Result<Model, R
     reader.finish()
 }
 
-/// The canonical MPS of what was read, or the line of its fault.
+/// The canonical MPS text of a model, or the line of the error.
 fn told(alloc: Global, answer: Result<Model, ReadFault>) -> Answer {
     let mut sink = ToWrite::new(Vec::new(alloc));
     let ended = match answer {
@@ -180,7 +180,7 @@ fn told(alloc: Global, answer: Result<Model, ReadFault>) -> Answer {
     Answer::of_run(ended, sink.into_inner())
 }
 
-/// The canonical MPS of a text whose reader is fed two pieces.
+/// The canonical MPS text of a text whose reader is fed in two pieces.
 pub(crate) fn fed_in(alloc: Global, form: Form, first: &[u8], second: &[u8]) -> Answer {
     let answer = match form {
         Form::Mps => fed::<Mps>(alloc, first, second),
@@ -189,7 +189,7 @@ pub(crate) fn fed_in(alloc: Global, form: Form, first: &[u8], second: &[u8]) -> 
     told(alloc, answer)
 }
 
-/// The model of a text that is read at once.
+/// The model of a text that is read as a whole.
 pub(crate) fn model_in(alloc: Global, form: Form, text: &[u8]) -> Result<Model, ReadFault> {
     match form {
         Form::Mps => read_mps(alloc, text),
@@ -197,7 +197,7 @@ pub(crate) fn model_in(alloc: Global, form: Form, text: &[u8]) -> Result<Model, 
     }
 }
 
-/// The canonical MPS of a text that is read at once.
+/// The canonical MPS text of a text that is read as a whole.
 pub(crate) fn read_in(alloc: Global, form: Form, text: &[u8]) -> Answer {
     told(alloc, model_in(alloc, form, text))
 }

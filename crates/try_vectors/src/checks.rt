@@ -10,7 +10,7 @@ use std::alloc::Global;
 /// Each format of model files.
 const FORMS: [Form; 2] = [Form::Mps, Form::Lp];
 
-/// Whether a text is read and converted as it should be: as a whole, in memory, and in pieces of 1 and of 7 bytes.
+/// Whether a text is read and converted as expected: as a whole, in memory, and in pieces of 1 and of 7 bytes.
 pub(crate) fn is_converted(alloc: Global, form: Form, text: &[u8], expected: &Expected) -> bool {
     if !read_in(alloc, form, text).is(&expected.mps) {
         return false;
@@ -29,7 +29,7 @@ pub(crate) fn is_converted(alloc: Global, form: Form, text: &[u8], expected: &Ex
     true
 }
 
-/// Whether a text is converted as it should be where its bytes come as a whole, and in pieces of 4,096 bytes.
+/// Whether a text is converted as expected if its bytes come as a whole, and in pieces of 4,096 bytes.
 pub(crate) fn is_converted_in_large_pieces(
     alloc: Global,
     form: Form,
@@ -47,7 +47,7 @@ pub(crate) fn is_converted_in_large_pieces(
     true
 }
 
-/// Whether the model of a text is shown as it should be, or its fault told.
+/// Whether the text that shows a model, or the error, is as expected.
 pub(crate) fn is_shown(alloc: Global, form: Form, text: &[u8], expected: &Expected) -> bool {
     let Some(wanted) = &expected.shown else {
         return true;
@@ -60,7 +60,7 @@ pub(crate) fn is_shown(alloc: Global, form: Form, text: &[u8], expected: &Expect
     true
 }
 
-/// Whether a reader that is fed the text in two pieces answers the same, wherever it is cut.
+/// Whether a reader that is fed in two pieces has the expected result, wherever the text is cut.
 pub(crate) fn is_read_in_two_pieces(
     alloc: Global,
     form: Form,
@@ -75,7 +75,7 @@ pub(crate) fn is_read_in_two_pieces(
     true
 }
 
-/// Whether an input may have as many bytes as it has, and no fewer.
+/// Whether a limit of exactly the input's length accepts it, and one byte less rejects it.
 pub(crate) fn is_too_long_by_one(alloc: Global, entry: &Entry) -> bool {
     let text = entry.text.as_slice();
     let len = text.len() as u64;
@@ -89,7 +89,7 @@ pub(crate) fn is_too_long_by_one(alloc: Global, entry: &Entry) -> bool {
     answer.is_fault && answer.text.as_slice() == b"file: TooLong\n".as_slice()
 }
 
-/// Whether the canonical texts of an entry's model are their own, and come back from the other format.
+/// Whether the canonical texts of an entry's model are their own, and are unchanged by a conversion to the other format and back.
 pub(crate) fn keeps_its_texts(alloc: Global, entry: &Entry) -> bool {
     for form in FORMS {
         let answer = entry.answer_in(form);
@@ -106,7 +106,7 @@ pub(crate) fn keeps_its_texts(alloc: Global, entry: &Entry) -> bool {
     true
 }
 
-/// Whether it is told if an input is its own canonical text, or its fault.
+/// Whether `is_canonical` says if an input is its own canonical text, or returns its error.
 pub(crate) fn is_judged(alloc: Global, entry: &Entry) -> bool {
     let wanted = entry.answer_in(entry.form);
     match is_canonical_in(alloc, entry.form, &entry.text) {
@@ -115,7 +115,7 @@ pub(crate) fn is_judged(alloc: Global, entry: &Entry) -> bool {
     }
 }
 
-/// Whether two inputs compare as their canonical texts do; a fault of the first is told before one of the second.
+/// Whether two inputs compare like their canonical texts. An error of the first comes before one of the second.
 pub(crate) fn compares(alloc: Global, first: &Entry, second: &Entry) -> bool {
     let one = &first.expected.mps;
     let other = &second.expected.mps;

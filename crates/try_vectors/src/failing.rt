@@ -1,4 +1,4 @@
-//! What is checked of an input and an output that fail.
+//! What is checked with an input or an output that fails.
 
 use crate::answers::{MUCH, model_in, run_in, show_in};
 use crate::tables::Entry;
@@ -9,12 +9,12 @@ use mpslp_vectors::{FailingReader, FailingWriter};
 use mpslp_write::{Lp, Mps, write_lp, write_mps};
 use std::alloc::Global;
 
-/// The source of a text that comes at once.
+/// A source that returns the text in one read.
 fn whole(text: &[u8]) -> FailingReader<'_> {
     FailingReader::new(text, usize::MAX, 0)
 }
 
-/// Whether a run writes nothing where a read of this number fails. It may read as many bytes as the input has, and no more.
+/// Whether a run writes nothing if this read fails. The limit is the length of the input.
 fn run_stops_in_read(alloc: Global, entry: &Entry, fail_at: u64) -> bool {
     let Ok(mut sink) = FailingWriter::new(alloc, 1) else {
         return false;
@@ -25,7 +25,7 @@ fn run_stops_in_read(alloc: Global, entry: &Entry, fail_at: u64) -> bool {
     matches!(&answer, Err(RunFault::Read)) && sink.calls() == 0 && source.calls() == fail_at
 }
 
-/// Whether what shows a model writes nothing where a read of this number fails.
+/// Whether showing a model writes nothing if this read fails.
 fn show_stops_in_read(alloc: Global, entry: &Entry, fail_at: u64) -> bool {
     let Ok(mut sink) = FailingWriter::new(alloc, 1) else {
         return false;
@@ -35,14 +35,14 @@ fn show_stops_in_read(alloc: Global, entry: &Entry, fail_at: u64) -> bool {
     matches!(&answer, Err(RunFault::Read)) && sink.calls() == 0 && source.calls() == fail_at
 }
 
-/// Whether nothing is loaded where a read of this number fails.
+/// Whether nothing is loaded if this read fails.
 fn load_stops_in_read(alloc: Global, entry: &Entry, fail_at: u64) -> bool {
     let mut source = FailingReader::new(&entry.text, 1, fail_at);
     let answer = load(alloc, MUCH, &mut source);
     matches!(&answer, Err(RunFault::Read)) && source.calls() == fail_at
 }
 
-/// Whether all is read where the reader of single bytes fails only behind the read that finds the end.
+/// Whether everything is loaded if the first failing read would come after the end of the input.
 fn is_loaded(alloc: Global, entry: &Entry, fail_at: u64) -> bool {
     let mut source = FailingReader::new(&entry.text, 1, fail_at);
     match load(alloc, MUCH, &mut source) {
@@ -51,7 +51,7 @@ fn is_loaded(alloc: Global, entry: &Entry, fail_at: u64) -> bool {
     }
 }
 
-/// Whether a reader that gives single bytes is told to have failed, in whichever read that is.
+/// Whether a failure is reported in whichever read, of one byte each, it occurs.
 pub(crate) fn stops_in_each_read(alloc: Global, entry: &Entry) -> bool {
     let reads = (entry.text.len() as u64).saturating_add(1);
     for fail_at in 1..=reads {
@@ -65,12 +65,12 @@ pub(crate) fn stops_in_each_read(alloc: Global, entry: &Entry) -> bool {
     is_loaded(alloc, entry, reads.saturating_add(1))
 }
 
-/// Whether a fault tells that this many bytes were written.
+/// Whether the error reports that this many bytes were written.
 fn tells_written(answer: &Result<(), RunFault>, len: usize) -> bool {
     matches!(answer, Err(RunFault::Write { written }) if *written == len as u64)
 }
 
-/// Whether a run tells how many bytes were taken where its sink takes so many and fails.
+/// Whether a run reports how many bytes its sink took before it failed.
 fn run_is_cut(alloc: Global, entry: &Entry, to: Form, take: usize) -> bool {
     let Ok(mut sink) = FailingWriter::new(alloc, take) else {
         return false;
@@ -87,7 +87,7 @@ fn run_is_cut(alloc: Global, entry: &Entry, to: Form, take: usize) -> bool {
     tells_written(&answer, take) && text.starts_with(sink.bytes()) && sink.bytes().len() == take
 }
 
-/// Whether a run goes well where its sink takes one byte more than the text has.
+/// Whether a run succeeds if its sink has room for one byte more than the text, so that the flush succeeds too.
 fn run_is_whole(alloc: Global, entry: &Entry, to: Form) -> bool {
     let text = entry.answer_in(to).text.as_slice();
     let Ok(mut sink) = FailingWriter::new(alloc, text.len().saturating_add(1)) else {
@@ -104,8 +104,8 @@ fn run_is_whole(alloc: Global, entry: &Entry, to: Form) -> bool {
     matches!(&answer, Ok(())) && sink.bytes() == text
 }
 
-/// Whether a run into a sink that fails tells how many bytes it took, after whichever byte that is. A sink that fails behind
-/// the last byte fails in the flush.
+/// Whether a run reports how many bytes its sink took, after whichever byte the sink fails. A sink that fails after the last
+/// byte fails in the flush.
 pub(crate) fn stops_after_each_byte(alloc: Global, entry: &Entry, to: Form) -> bool {
     let answer = entry.answer_in(to);
     if answer.is_fault {
@@ -119,7 +119,7 @@ pub(crate) fn stops_after_each_byte(alloc: Global, entry: &Entry, to: Form) -> b
     run_is_whole(alloc, entry, to)
 }
 
-/// Whether what shows a model tells how many bytes were taken where its sink takes so many and fails.
+/// Whether showing a model reports how many bytes the sink took before it failed.
 fn show_is_cut(alloc: Global, entry: &Entry, shown: &[u8], take: usize) -> bool {
     let Ok(mut sink) = FailingWriter::new(alloc, take) else {
         return false;
@@ -128,7 +128,7 @@ fn show_is_cut(alloc: Global, entry: &Entry, shown: &[u8], take: usize) -> bool 
     tells_written(&answer, take) && shown.starts_with(sink.bytes()) && sink.bytes().len() == take
 }
 
-/// Whether what shows a model into a sink that fails tells how many bytes it took, after whichever byte that is.
+/// Whether showing a model reports how many bytes the sink took, after whichever byte it fails.
 pub(crate) fn shows_after_each_byte(alloc: Global, entry: &Entry) -> bool {
     let Some(shown) = &entry.expected.shown else {
         return true;
@@ -144,7 +144,7 @@ pub(crate) fn shows_after_each_byte(alloc: Global, entry: &Entry) -> bool {
     true
 }
 
-/// What a writer of a format answers.
+/// The result of a format's writer.
 fn write_in<W: Sink>(model: &Model, form: Form, sink: &mut W) -> Result<(), WriteFault> {
     match form {
         Form::Mps => write_mps(model, sink),
@@ -152,7 +152,7 @@ fn write_in<W: Sink>(model: &Model, form: Form, sink: &mut W) -> Result<(), Writ
     }
 }
 
-/// Whether a writer tells how many bytes were taken where its sink takes so many and fails.
+/// Whether a writer reports how many bytes its sink took before it failed.
 fn write_is_cut(alloc: Global, model: &Model, form: Form, text: &[u8], take: usize) -> bool {
     let Ok(mut sink) = FailingWriter::new(alloc, take) else {
         return false;
@@ -162,7 +162,7 @@ fn write_is_cut(alloc: Global, model: &Model, form: Form, text: &[u8], take: usi
     is_told && text.starts_with(sink.bytes()) && sink.bytes().len() == take
 }
 
-/// Whether a writer writes all where its sink has just the room.
+/// Whether a writer succeeds if its sink has exactly enough room.
 fn write_is_whole(alloc: Global, model: &Model, form: Form, text: &[u8]) -> bool {
     let Ok(mut sink) = FailingWriter::new(alloc, text.len()) else {
         return false;
@@ -171,7 +171,7 @@ fn write_is_whole(alloc: Global, model: &Model, form: Form, text: &[u8]) -> bool
     matches!(answer, Ok(())) && sink.bytes() == text
 }
 
-/// Whether a writer into a sink that fails tells how many bytes it took, after whichever byte that is.
+/// Whether a writer reports how many bytes its sink took, after whichever byte the sink fails.
 fn writes_up_to_each_byte(alloc: Global, model: &Model, form: Form, text: &[u8]) -> bool {
     for take in 0..text.len() {
         if !write_is_cut(alloc, model, form, text, take) {
@@ -181,7 +181,7 @@ fn writes_up_to_each_byte(alloc: Global, model: &Model, form: Form, text: &[u8])
     write_is_whole(alloc, model, form, text)
 }
 
-/// Whether the model of an entry is expressible just where it has a text, and its writers tell what a sink took that fails.
+/// Whether the model of an entry is expressible if and only if it has a text, and failing sinks are reported by its writers.
 pub(crate) fn is_written_after_each_byte(alloc: Global, entry: &Entry) -> bool {
     let Ok(model) = model_in(alloc, entry.form, &entry.text) else {
         return !entry.is_model();

@@ -1,7 +1,7 @@
-//! Tries the calls of the library on the files of `vectors/`, whose README says what is to be answered of each.
+//! Checks the calls of the library on the files of `vectors/`, whose README says what the results are.
 //!
-//! It is run in that folder, and ends with 1 where the tables are not there. For each table it prints how many inputs were
-//! tried; each answer that is another one is told on standard error by the name of its input, and then it ends with 1.
+//! Run it in that directory; it exits with 1 if the tables are missing. For each table it prints the number of checks. Each
+//! unexpected result is reported on standard error with the name of its input, and the exit status is then 1.
 #![tactic(auto)]
 
 mod answers;
@@ -28,7 +28,7 @@ use tables::{
     table,
 };
 
-/// What was tried, and what was answered in another way.
+/// The number of checks, and of unexpected results.
 #[derive(Drop)]
 struct Tally {
     tried: u64,
@@ -40,7 +40,7 @@ impl Tally {
         Tally { tried: 0, wrong: 0 }
     }
 
-    /// Counts what was tried of an input, and tells it where it is wrong.
+    /// Counts a check of an input, and reports it if it failed.
     fn note<R: Eprint>(
         &mut self,
         rt: &R,
@@ -56,7 +56,7 @@ impl Tally {
         eprintln!(rt; "{place}: {what}")
     }
 
-    /// Tells how much was tried of a table, and whether all of it is right.
+    /// Prints the number of checks of a table, and returns whether all passed.
     fn end<R: Print>(&self, rt: &R, what: &str) -> io::Result<bool> {
         println!(rt;
             "{what}: {} tried, {} answered in another way",
@@ -66,7 +66,7 @@ impl Tally {
     }
 }
 
-/// Tries an input of the index.
+/// Checks an input of the index.
 fn try_entry<R: Eprint>(rt: &R, alloc: Global, tally: &mut Tally, entry: &Entry) -> io::Result<()> {
     let name = entry.name.as_str();
     let text = entry.text.as_slice();
@@ -99,7 +99,7 @@ fn try_entry<R: Eprint>(rt: &R, alloc: Global, tally: &mut Tally, entry: &Entry)
     )
 }
 
-/// Tries each input of the index.
+/// Checks each input of the index.
 fn try_index<R: Print + Eprint>(rt: &R, alloc: Global, entries: &[Entry]) -> io::Result<bool> {
     let mut tally = Tally::new();
     for entry in entries {
@@ -108,7 +108,7 @@ fn try_index<R: Print + Eprint>(rt: &R, alloc: Global, entries: &[Entry]) -> io:
     tally.end(rt, "inputs")
 }
 
-/// Tries each two inputs of the index.
+/// Checks each pair of inputs of the index.
 fn try_pairs<R: Print + Eprint>(rt: &R, alloc: Global, entries: &[Entry]) -> io::Result<bool> {
     let mut tally = Tally::new();
     for first in entries {
@@ -120,7 +120,7 @@ fn try_pairs<R: Print + Eprint>(rt: &R, alloc: Global, entries: &[Entry]) -> io:
     tally.end(rt, "comparisons")
 }
 
-/// Tries each input of the index with devices that fail.
+/// Checks each input of the index with devices that fail.
 fn try_failing<R: Print + Eprint>(rt: &R, alloc: Global, entries: &[Entry]) -> io::Result<bool> {
     let mut tally = Tally::new();
     for entry in entries {
@@ -154,7 +154,7 @@ fn try_failing<R: Print + Eprint>(rt: &R, alloc: Global, entries: &[Entry]) -> i
     tally.end(rt, "failing devices")
 }
 
-/// A text with these lines in place of the one of a number, counted from 1.
+/// A text in which these lines replace the one of a number, counted from 1.
 fn with_lines(
     alloc: Global,
     text: &[u8],
@@ -180,7 +180,7 @@ fn with_lines(
     Ok(changed)
 }
 
-/// Tries the input of a line of `changed-lines.tsv`.
+/// Checks the input of a line of `changed-lines.tsv`.
 fn try_changed_line<R: Eprint>(
     rt: &R,
     alloc: Global,
@@ -218,7 +218,7 @@ fn try_changed_lines<R: Files + Print + Eprint>(
     tally.end(rt, "changed lines")
 }
 
-/// Tries the inputs of a line of `cuts.tsv`.
+/// Checks the inputs of a line of `cuts.tsv`.
 fn try_cuts_of<R: Files + Eprint>(
     rt: &R,
     alloc: Global,
@@ -256,7 +256,7 @@ fn try_cuts<R: Files + Print + Eprint>(
     tally.end(rt, "cuts")
 }
 
-/// Tries the inputs of a line of `single-bytes.tsv`.
+/// Checks the inputs of a line of `single-bytes.tsv`.
 fn try_bytes_of<R: Eprint>(rt: &R, alloc: Global, tally: &mut Tally, line: &str) -> io::Result<()> {
     let fields = fields(alloc, line)?;
     let form = form_of(field(&fields, 0)?);
@@ -285,7 +285,7 @@ fn try_bytes<R: Files + Print + Eprint>(rt: &R, alloc: Global) -> io::Result<boo
     tally.end(rt, "single bytes")
 }
 
-/// The input of a line of `long-lines.tsv`: a comment, and the text behind it.
+/// The input of a line of `long-lines.tsv`: a comment, followed by the text.
 fn behind_comment(alloc: Global, fields: &[&str], text: &[u8]) -> io::Result<Vec<u8>> {
     let mut bytes = field(fields, 0)?.as_bytes().to_vec(alloc)?;
     let further = field(fields, 1)?.as_bytes();
@@ -302,7 +302,7 @@ fn behind_comment(alloc: Global, fields: &[&str], text: &[u8]) -> io::Result<Vec
     Ok(bytes)
 }
 
-/// Tries the input of a line of `long-lines.tsv`.
+/// Checks the input of a line of `long-lines.tsv`.
 fn try_long_line<R: Eprint>(
     rt: &R,
     alloc: Global,
@@ -340,7 +340,7 @@ fn try_long_lines<R: Files + Print + Eprint>(
     tally.end(rt, "long lines")
 }
 
-/// Tries each line of a table of numbers.
+/// Checks each line of the tables of numbers.
 fn try_numbers<R: Files + Print + Eprint>(rt: &R, alloc: Global) -> io::Result<bool> {
     let mut tally = Tally::new();
     for line in table(rt, alloc, "literals.tsv")?.as_str().lines().skip(1) {
@@ -354,7 +354,7 @@ fn try_numbers<R: Files + Print + Eprint>(rt: &R, alloc: Global) -> io::Result<b
     tally.end(rt, "numbers")
 }
 
-/// Whether all is answered as it should be.
+/// Whether all results are as expected.
 fn try_all<R: Files + Print + Eprint>(rt: &R, alloc: Global) -> io::Result<bool> {
     let entries = entries(rt, alloc)?;
     let parts = [

@@ -13,14 +13,14 @@ fn name_of(fault: NumberFault) -> &'static str {
     }
 }
 
-/// Whether a decimal is the pair of these two texts.
+/// Whether a decimal has this mantissa and this exponent.
 fn is_pair(value: Decimal, mantissa: &str, exponent: &str) -> bool {
     let is_mantissa = matches!(mantissa.parse::<i128>(), Ok(wanted) if wanted == value.mantissa());
     let is_exponent = matches!(exponent.parse::<i32>(), Ok(wanted) if wanted == value.exponent());
     is_mantissa && is_exponent
 }
 
-/// Whether the literal of a line of `literals.tsv` has the decimal, the text or the fault of the line.
+/// Whether the literal of a line of `literals.tsv` has the decimal and the text, or the error, of the line.
 pub(crate) fn is_read(fields: &[&str]) -> io::Result<bool> {
     match Decimal::parse(field(fields, 0)?.as_bytes()) {
         Ok(value) => {
@@ -35,7 +35,7 @@ pub(crate) fn is_read(fields: &[&str]) -> io::Result<bool> {
     }
 }
 
-/// The sum or the difference of two literals, where it is a decimal.
+/// The sum or the difference of two literals, if it is a decimal.
 fn sum_of(first: &str, sign: &str, second: &str) -> Result<Option<Decimal>, NumberFault> {
     let first = Decimal::parse(first.as_bytes())?;
     let second = Decimal::parse(second.as_bytes())?;

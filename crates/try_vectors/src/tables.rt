@@ -7,18 +7,18 @@ use std::io::{Error, ErrorKind, Read};
 use std::rt::Files;
 use std::{fs, io};
 
-/// What is to be answered of an input.
+/// The expected results of an input.
 #[derive(Drop)]
 pub(crate) struct Expected {
-    /// By a conversion to MPS.
+    /// Of a conversion to MPS.
     pub(crate) mps: Answer,
-    /// By a conversion to LP.
+    /// Of a conversion to LP.
     pub(crate) lp: Answer,
-    /// By what shows its model, where the tables tell that.
+    /// Of showing the model, if the tables have it.
     pub(crate) shown: Option<Answer>,
 }
 
-/// An input with what is to be answered of it.
+/// An input with its expected results.
 #[derive(Drop)]
 pub(crate) struct Entry {
     pub(crate) name: String,
@@ -66,7 +66,7 @@ pub(crate) fn number(fields: &[&str], number: usize) -> io::Result<usize> {
     }
 }
 
-/// The format of a file is the end of its name.
+/// The format of a file, by the end of its name.
 pub(crate) fn form_of(name: &str) -> Form {
     if name.ends_with("lp") {
         Form::Lp
@@ -75,7 +75,7 @@ pub(crate) fn form_of(name: &str) -> Form {
     }
 }
 
-/// The line of a fault.
+/// The line of an error.
 fn fault_line(alloc: Global, line: &str) -> Result<Answer, AllocError> {
     let mut text = line.as_bytes().to_vec(alloc)?;
     text.extend_from_slice(b"\n")?;
@@ -85,7 +85,7 @@ fn fault_line(alloc: Global, line: &str) -> Result<Answer, AllocError> {
     })
 }
 
-/// The text of a file, or the line of the fault that stands in the place of its name.
+/// The text of a file, or the line of the error that the table has instead of a name.
 fn named<R: Files>(rt: &R, alloc: Global, name: &str) -> io::Result<Answer> {
     if name.ends_with(": NotLp") {
         return Ok(fault_line(alloc, name)?);
@@ -97,7 +97,7 @@ fn named<R: Files>(rt: &R, alloc: Global, name: &str) -> io::Result<Answer> {
 }
 
 impl Expected {
-    /// Of an input that is refused.
+    /// The results of an input that is rejected.
     pub(crate) fn fault(alloc: Global, line: &str) -> Result<Expected, AllocError> {
         Ok(Expected {
             mps: fault_line(alloc, line)?,
@@ -154,14 +154,14 @@ impl Entry {
         !self.expected.mps.is_fault
     }
 
-    /// The text or the fault that a conversion answers.
+    /// The expected result of a conversion to this format.
     pub(crate) fn answer_in(&self, form: Form) -> &Answer {
         self.expected.answer_in(form)
     }
 }
 
 impl Expected {
-    /// What a conversion to this format answers.
+    /// The expected result of a conversion to this format.
     pub(crate) fn answer_in(&self, form: Form) -> &Answer {
         match form {
             Form::Mps => &self.mps,

@@ -1,9 +1,9 @@
 """One canonical text for each linear or mixed-integer model in an MPS or LP file.
 
-A text is bytes, in any object that has a buffer; or the path of its file, as ``str`` or ``os.PathLike``; or that file,
-open for reading bytes. Files may be compressed: ``plan.mps.gz``, ``.bz2``, ``.xz`` or ``.zst``. A format is ``"mps"`` or
-``"lp"``. If a path ends in ``.mps`` or ``.lp``, in letters of either case, perhaps before the ending of a compression,
-its format may be left out; of bytes, and of other paths, it has to be given. A format that is given goes before the ending.
+A text is given as bytes, in any object that has a buffer; as the path of its file, ``str`` or ``os.PathLike``; or as that
+file, open for reading bytes. Files may be compressed: ``plan.mps.gz``, ``.bz2``, ``.xz`` or ``.zst``. A format is ``"mps"``
+or ``"lp"``. It is optional for a path that ends in ``.mps`` or ``.lp``, in upper or lower case, before an optional ending of
+a compression. For bytes, and for other paths, it is required. A given format takes precedence over the ending.
 
 >>> import mpslp
 >>> mpslp.canonical(b"min 3.0 x + 2e0 y\\nend\\n", "lp")
@@ -15,8 +15,8 @@ b'Minimize\\n obj:\\n  + 3 x\\n  + 2 y\\nSubject To\\nEnd\\n'
 
 Texts that are rejected raise ModelFileError, which is a ValueError. Other exceptions: ValueError for a format that is
 unknown or missing, and for parts that make no model; TypeError for what is neither bytes, a path nor an open binary file;
-OSError if a file does not open or read; and MemoryError. Calls may run in many threads at once, and let the others go on
-meanwhile.
+OSError if a file cannot be opened or read; and MemoryError. Calls may run in many threads at once, and do not block the
+others.
 """
 
 from mpslp._mpslp import VERSION as __version__
@@ -50,7 +50,7 @@ __all__ = [
     "same",
 ]
 
-# Whatever module has them: they are shown, and pickled, by the names under which they are found.
+# In whatever module they are defined, they are shown and pickled by the names under which they are found.
 for _each in (Arrays, Column, Model, ModelFileError, Row, canonical, dump, dumps, fraction, from_arrays, is_canonical, load, same):
     _each.__module__ = __name__
 del _each

@@ -1,6 +1,6 @@
-"""A model as arrays of doubles, in the form in which solvers take it."""
+"""A model as arrays of doubles, in the form that solvers use."""
 
-# Annotations are evaluated here: the class says that it is of the package, whose names are fewer.
+# Annotations are evaluated here, because the class appears as one of the package, which has fewer names.
 
 from array import array
 from collections.abc import Sequence
@@ -11,16 +11,16 @@ from mpslp import _mpslp
 
 
 class Arrays(NamedTuple):
-    """A model as arrays: numpy's where numpy is installed, else those of the module ``array``.
+    """A model as arrays: numpy's if numpy is installed, otherwise those of the module ``array``.
 
     Rows and columns are numbered in the order of the arrays. :meth:`Model.arrays` gives them in byte order of names, with
     each number as the nearest double; :func:`from_arrays` takes any sequences.
     """
 
     c: Any
-    """The coefficient of each column in the objective."""
+    """The objective coefficient of each column."""
     indptr: Any
-    """Where the coefficients of each column begin in ``indices`` and ``data``, and at the end how many there are."""
+    """Where the coefficients of each column begin in ``indices`` and ``data``, followed by their total number."""
     indices: Any
     """The row of each nonzero coefficient, column after column."""
     data: Any
@@ -43,7 +43,7 @@ class Arrays(NamedTuple):
     objective: str = "obj"
     """The name of the objective."""
     constant: float = 0.0
-    """What is added to the objective."""
+    """The constant that is added to the objective."""
 
     @property
     def matrix(self) -> Any:
@@ -81,7 +81,7 @@ def listed(values: Any) -> list[Any]:
 
 
 def _maker() -> Any:
-    """What makes an array of a code of numbers, and of bytes."""
+    """A function that makes an array from a type code and bytes."""
     try:
         import numpy
     except ImportError:

@@ -9,11 +9,10 @@ from mpslp._sources import Format, Source, format_number, naming, read
 def canonical(source: Source, from_format: Format | None = None, to_format: Format | None = None) -> bytes:
     """Returns the one canonical text of the model that a text declares.
 
-    ``from_format`` is the format of the source; it may be left out for a path that ends in ``.mps`` or ``.lp``.
-    ``to_format`` is that of the canonical text; where it is left out, it is the format of the source.
+    ``from_format`` is the format of the source; it is optional for a path that ends in ``.mps`` or ``.lp``.
+    ``to_format`` is that of the canonical text; by default it is the format of the source.
 
-    Raises ModelFileError where the text declares no model, or where it has a name that LP cannot tell and
-    ``to_format`` is LP.
+    Raises ModelFileError if the text declares no model, or if a name is not legal in LP and ``to_format`` is LP.
 
     >>> mpslp.canonical(b"max 2.50 x\\nend\\n", "lp")
     b'Maximize\\n obj:\\n  + 2.5 x\\nSubject To\\nEnd\\n'
@@ -27,11 +26,11 @@ def canonical(source: Source, from_format: Format | None = None, to_format: Form
 def same(
     first: Source, second: Source, first_format: Format | None = None, second_format: Format | None = None
 ) -> bool:
-    """Tells whether two texts, each in its format, declare the same model.
+    """Returns whether two texts, each in its format, declare the same model.
 
-    A format may be left out for a path that ends in ``.mps`` or ``.lp``.
+    The format is optional for a path that ends in ``.mps`` or ``.lp``.
 
-    Raises ModelFileError where a text declares no model; ``which`` tells which one.
+    Raises ModelFileError if a text declares no model; ``which`` says which one.
 
     >>> mpslp.same(b"min x + 2 y\\nend\\n", b"min 2.0 y + x\\nend\\n", "lp", "lp")
     True
@@ -43,11 +42,11 @@ def same(
 
 
 def is_canonical(source: Source, format: Format | None = None) -> bool:
-    """Tells whether a text is the canonical text, in its own format, of the model that it declares.
+    """Returns whether a text is the canonical text, in its own format, of the model that it declares.
 
-    The format may be left out for a path that ends in ``.mps`` or ``.lp``.
+    The format is optional for a path that ends in ``.mps`` or ``.lp``.
 
-    Raises ModelFileError where the text declares no model.
+    Raises ModelFileError if the text declares no model.
 
     >>> mpslp.is_canonical(b"min x\\nend\\n", "lp")
     False

@@ -1,4 +1,4 @@
-"""Files that are compressed, by the ending of their path."""
+"""Compressed files, which are recognised by the ending of their path."""
 
 from __future__ import annotations
 
@@ -8,14 +8,14 @@ from typing import Any, NamedTuple
 
 
 class Compression(NamedTuple):
-    """How a file is compressed. Modules are imported when they are needed: a Python may lack some."""
+    """How a file is compressed. Modules are imported when they are needed, because some may be missing."""
 
     pack: Callable[[bytes], bytes]
     unpack: Callable[[bytes], bytes]
 
 
 def without_ending(name: str) -> tuple[str, str]:
-    """A path without the ending of a compression, and that ending; or the path and no ending."""
+    """A path without the ending of a compression, and that ending; or the path and an empty ending."""
     for ending in COMPRESSIONS:
         if name.lower().endswith(ending):
             return name[: -len(ending)], ending
@@ -23,13 +23,13 @@ def without_ending(name: str) -> tuple[str, str]:
 
 
 def pack(name: str, content: bytes) -> bytes:
-    """The bytes of a file whose path is ``name`` and whose text is ``content``."""
+    """The bytes of a file with the path ``name`` and the text ``content``."""
     _, ending = without_ending(name)
     return COMPRESSIONS[ending].pack(content) if ending else content
 
 
 def unpack(name: str, content: bytes) -> bytes:
-    """The text of a file whose path is ``name``, of its bytes; raises OSError if they are not compressed so."""
+    """The text of a file with the path ``name`` and the bytes ``content``; raises OSError if these are not so compressed."""
     _, ending = without_ending(name)
     if not ending:
         return content
@@ -92,7 +92,7 @@ def _unzstd(content: bytes) -> bytes:
 
 
 def _own_zstd() -> Any:
-    """Python's own module, which 3.14 brings; or None."""
+    """Python's own module, which exists from 3.14; or None."""
     try:
         return import_module("compression.zstd")
     except ImportError:
@@ -100,7 +100,7 @@ def _own_zstd() -> Any:
 
 
 def _unzstandard(content: bytes) -> bytes:
-    """Frame after frame; a frame that is cut off is an error, which the module's own readers pass over."""
+    """Frame by frame; a truncated frame is an error, which the readers of zstandard ignore."""
     import zstandard
 
     parts: list[bytes] = []

@@ -7,20 +7,20 @@ class ModelFileError(ValueError):
     """A text defines no model, or its model has a name that is not legal in LP.
 
     As text it is the line that the program mpslp prints: ``line 7: DuplicateEntry``, ``file: NegativeUpper X``,
-    ``row 3: NotLp``, and of two texts ``second: file: MissingEnd``. If the text is of a file, the path is its prefix:
-    ``plan.mps: line 7: DuplicateEntry``.
+    ``row 3: NotLp``, and for the second of two texts ``second: file: MissingEnd``. If the text is that of a file, the path is
+    its prefix: ``plan.mps: line 7: DuplicateEntry``.
 
     kind
-        The kind of the fault, as ``DuplicateEntry``; docs/FORMATS.md explains each. ``NotLp`` for a name that is not
+        The kind of the error, such as ``DuplicateEntry``; docs/ERRORS.md explains each. ``NotLp`` for a name that is not
         legal in LP.
     line
-        The line of the fault, counted from 1; None for a fault of the whole text.
+        The line of the error, counted from 1; None for an error of the whole text.
     name
-        The row or column that a fault of the whole text is reported of; names are ASCII.
+        The row or column for which an error of the whole text is reported; names are ASCII.
     place
-        What has the name that is not legal in LP: ``"objective"``, ``"row"`` or ``"column"``; else None.
+        What has the name that is not legal in LP: ``"objective"``, ``"row"`` or ``"column"``; otherwise None.
     number
-        The number of that row or column, counted from 0 in byte order of names; else None.
+        The number of that row or column, counted from 0 in byte order of names; otherwise None.
     which
         ``"first"`` or ``"second"``: which of the two texts of ``same`` is rejected; None for the other calls.
     filename
@@ -55,7 +55,7 @@ class ModelFileError(ValueError):
         self.filename = filename
 
     def __reduce__(self) -> tuple[Any, ...]:
-        # By its attributes: the path is found after the fault, and the arguments are those of the fault.
+        # By its attributes: the path is set after the error is raised, and the arguments are those of the error.
         parts = (self.kind, self.line, self.name, self.place, self.number, self.which, self.filename)
         return type(self), parts, self.__dict__
 

@@ -1,4 +1,4 @@
-"""Mappings from names that are only read, in byte order of names."""
+"""Read-only mappings from names, in byte order of names."""
 
 from __future__ import annotations
 
@@ -14,7 +14,7 @@ _MOST_SHOWN = 20
 
 
 class _Keys(KeysView[str]):
-    """Names, which can be had backwards, as those of a dict."""
+    """Names, which can be reversed like those of a dict."""
 
     _mapping: ReadOnly[Any]
 
@@ -47,7 +47,7 @@ class _Items(ItemsView[str, Value]):
 
 
 class ReadOnly(Mapping[str, Value]):
-    """What all of these mappings have. Their values do not change, so a copy is the mapping itself."""
+    """The common part of these mappings. Their values do not change, so a copy is the mapping itself."""
 
     __slots__ = ("__weakref__",)
 
@@ -87,7 +87,7 @@ class ReadOnly(Mapping[str, Value]):
 
 
 class Held(ReadOnly[Value]):
-    """A mapping of values that are there."""
+    """A mapping that stores its values."""
 
     __slots__ = ("_held",)
 
@@ -108,7 +108,7 @@ class Held(ReadOnly[Value]):
 
 
 class Numbered(ReadOnly[Value]):
-    """A mapping whose values are made of the arrays of a model when they are looked at."""
+    """A mapping whose values are made from the arrays of a model on access."""
 
     __slots__ = ("_arrays",)
 

@@ -1,6 +1,6 @@
 """Models, with exact numbers."""
 
-# Annotations are evaluated here: the classes say that they are of the package, whose names are fewer.
+# Annotations are evaluated here, because the classes appear as those of the package, which has fewer names.
 
 import dataclasses
 import re
@@ -17,12 +17,12 @@ from mpslp._sources import Format, Path, Source, format_number, naming, read, wr
 from mpslp._writing import ColumnParts, Parts, RowParts, _store, mps_text
 
 Sense: TypeAlias = Literal["minimize", "maximize"]
-"""What is done with the objective."""
+"""The objective sense."""
 
 Kind: TypeAlias = Literal["continuous", "integer", "semi-continuous"]
-"""What a column may be; a semi-continuous one is 0 or within its bounds."""
+"""The type of a column; a semi-continuous one is 0 or within its bounds."""
 
-# By their numbers in the library, and the other way round.
+# By their numbers in the library, and the numbers by these words.
 _SENSES: dict[int, Sense] = {_mpslp.MINIMIZE: "minimize", _mpslp.MAXIMIZE: "maximize"}
 _KINDS: dict[int, Kind] = {
     _mpslp.CONTINUOUS: "continuous",
@@ -37,7 +37,7 @@ _NAME = re.compile(f"[!-~]{{1,{_MOST_BYTES}}}")
 
 
 class _Part:
-    """What rows, columns and models have: they are frozen, and a copy is the part itself."""
+    """The common part of rows, columns and models: they are frozen, and a copy is the part itself."""
 
     __slots__ = ()
 
@@ -58,10 +58,10 @@ class _Part:
 
 @dataclass(frozen=True, init=False, repr=False)
 class Row(_Part):
-    """A row: what its sum has to keep to.
+    """A row: the limits of a linear expression.
 
-    Limits are given as any :data:`Number`; one of size 10^20 or more is infinite, by its sign. Raises ValueError for what
-    no model has: a wrong name, a number that is no decimal, or limits that cross.
+    Limits are given as any :data:`Number`; one of magnitude 10^20 or more is infinite, by its sign. Raises ValueError for
+    what no model has: an illegal name, a number outside the limits of decimals, or limits that cross.
 
     >>> mpslp.Row("hours", upper=40)
     mpslp.Row(name='hours', lower=Decimal('-Infinity'), upper=Decimal('40'))
@@ -108,10 +108,10 @@ class Row(_Part):
 
 @dataclass(frozen=True, init=False, repr=False)
 class Column(_Part):
-    """A column: one unknown of the model.
+    """A column: a variable of the model.
 
-    Numbers are given as any :data:`Number`; a bound of size 10^20 or more is infinite, by its sign. Raises ValueError for
-    what no model has: a wrong name or kind, a number that is no decimal, or bounds that cross.
+    Numbers are given as any :data:`Number`; a bound of magnitude 10^20 or more is infinite, by its sign. Raises ValueError
+    for what no model has: an illegal name or type, a number outside the limits of decimals, or bounds that cross.
 
     >>> mpslp.Column("x", "integer", upper=10, cost=2.5, entries={"hours": 1}).cost
     Decimal('2.5')
@@ -158,7 +158,7 @@ class Column(_Part):
 
 
 class _Rows(Numbered[Row]):
-    """The rows of a model that is loaded."""
+    """The rows of a loaded model."""
 
     __slots__ = ()
 
@@ -185,7 +185,7 @@ class _Rows(Numbered[Row]):
 
 
 class _Columns(Numbered[Column]):
-    """The columns of a model that is loaded."""
+    """The columns of a loaded model."""
 
     __slots__ = ()
 
@@ -266,15 +266,15 @@ class _ColumnEntries(Numbered[Decimal]):
 
 @dataclass(frozen=True, init=False, eq=False, repr=False)
 class Model(_Part):
-    """A model, with all defaults filled in. Two of them are equal exactly if they are the same model.
+    """A model, with all defaults filled in. Two models are equal if and only if they are the same model.
 
     Numbers are exactly those of the text. A Decimal keeps its digits, but sums and products of Decimals are rounded to
-    the 28 digits of Python's usual context; Fraction(number) is exact, and so is what is computed of it.
+    the 28 digits of Python's usual context; Fraction(number) is exact, and so are computations with it.
 
-    A model keeps the arrays of the library; rows, columns and entries are made of them when they are looked at.
+    A model keeps the arrays of the library; rows, columns and entries are made from them on access.
 
-    One may also be made: of rows and columns, in any order, or of mappings from their names. Raises ValueError where they
-    are no model: no column, a name twice, or entries in a row that is not there.
+    You can also make a model from rows and columns, in any order, or from mappings from their names. Raises ValueError if they
+    are not a model: no column, a repeated name, or entries in a row that does not exist.
 
     >>> model = mpslp.Model("maximize", rows=[mpslp.Row("hours", upper=40)], columns=[mpslp.Column("x", cost=3, entries={"hours": 2})])
     >>> model.rows["hours"].entries["x"]
@@ -351,7 +351,7 @@ class Model(_Part):
         return found
 
     def arrays(self) -> Arrays:
-        """Returns the model as arrays of doubles, in the form in which solvers take it.
+        """Returns the model as arrays of doubles, in the form that solvers use.
 
         Rows and columns are numbered in byte order of their names, and each number is the nearest double.
 
@@ -380,9 +380,9 @@ class Model(_Part):
 def load(source: Source, format: Format | None = None) -> Model:
     """Returns the model that a text declares.
 
-    The format may be left out for a path that ends in ``.mps`` or ``.lp``.
+    The format is optional for a path that ends in ``.mps`` or ``.lp``.
 
-    Raises ModelFileError where the text declares no model.
+    Raises ModelFileError if the text declares no model.
     """
     text = read(source, format)
     with naming(text):
@@ -392,7 +392,7 @@ def load(source: Source, format: Format | None = None) -> Model:
 def from_arrays(arrays: Arrays) -> Model:
     """Returns the model of arrays, with each double as the decimal of its shortest text.
 
-    Raises ValueError for arrays that do not fit each other, and for what no model has.
+    Raises ValueError for arrays that do not match each other, and for what no model has.
 
     >>> arrays = mpslp.Arrays(c=[3, 1], indptr=[0, 1, 2], indices=[0, 0], data=[0.5, 1], row_lower=[0], row_upper=[4])
     >>> mpslp.from_arrays(arrays).columns["x0"].entries
@@ -440,8 +440,8 @@ def dumps(model: Model, format: Format) -> bytes:
 def dump(model: Model, path: Path, format: Format | None = None) -> None:
     """Writes the canonical text of a model to a file.
 
-    The format may be left out for a path that ends in ``.mps`` or ``.lp``. A file that is there is replaced, after the
-    text is made: if the model has none in the format, the file stays as it is.
+    The format is optional for a path that ends in ``.mps`` or ``.lp``. An existing file is replaced after the text is made:
+    if the model has no text in the format, the file is unchanged.
 
     Raises ModelFileError if a name is not legal in LP and the format is LP.
     """
@@ -456,7 +456,7 @@ def model_of(arrays: _mpslp.Arrays) -> Model:
 
 
 def _names_of(names: Iterable[str] | None, letter: str, count: int) -> list[str]:
-    """The names of so many rows or columns. Those that are made have one length, so that their order is that of the arrays."""
+    """The names of so many rows or columns. Default names have the same length, so that their order is that of the arrays."""
     if names is None:
         width = len(str(max(count - 1, 0)))
         return [f"{letter}{number:0{width}}" for number in range(count)]
@@ -474,7 +474,7 @@ def _check_name(name: str, what: str) -> None:
 
 
 def _given(about: str, what: str, make: Callable[[Number], Decimal], number: Number, row: str = "") -> Decimal:
-    """A number as a decimal, or the exception with what it is of."""
+    """A number as a decimal, or an exception that says where the number is."""
     try:
         return make(number)
     except (TypeError, ValueError) as error:
@@ -505,7 +505,7 @@ def _check_sides(about: str, lower: Decimal, upper: Decimal) -> None:
 
 
 def _entries(about: str, given: Mapping[str, Number]) -> Mapping[str, Decimal]:
-    """The coefficients that are not 0."""
+    """The nonzero coefficients."""
     for row in given:
         _check_name(row, "row")
     values = ((row, _finite(about, "entry in row", number, row)) for row, number in given.items())

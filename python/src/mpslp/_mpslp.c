@@ -1,9 +1,9 @@
 /*
- * The calls of mpslp.h on bytes objects, for the package mpslp, whose modules turn paths and other buffers into bytes and
- * formats into numbers.
+ * The functions of mpslp.h on bytes objects, for the package mpslp, whose modules convert paths and other buffers to bytes
+ * and formats to numbers.
  *
- * Bytes objects cannot change, and the arguments of a call hold them, so the interpreter's lock is let go while the
- * library reads them. A model keeps the arrays that the library gave, and gives them back with its last reference.
+ * Bytes objects cannot change, and the arguments of a call hold references to them, so the interpreter's lock is released
+ * while the library reads them. A model keeps the arrays of the library, and frees them with its last reference.
  */
 #define PY_SSIZE_T_CLEAN
 #include <Python.h>
@@ -12,7 +12,7 @@
 
 #include <mpslp.h>
 
-/* What a module holds. */
+/* The state of a module. */
 typedef struct {
     PyObject *error;          /* the class ModelFileError */
     PyObject *arrays;         /* the class Arrays */
@@ -23,13 +23,13 @@ typedef struct {
 
 static state *state_of(PyObject *module) { return PyModule_GetState(module); }
 
-/* So many bytes of a bytes object. */
+/* The bytes of a bytes object. */
 typedef struct {
     const uint8_t *bytes;
     size_t len;
 } content;
 
-/* Whether the bytes of an object were found; they are, where it is a bytes object. */
+/* Returns whether an object is a bytes object, whose bytes are then found; otherwise it raises. */
 static int find_content(PyObject *source, content *found) {
     char *bytes;
     Py_ssize_t len;
@@ -52,11 +52,11 @@ static const char *place_word(mpslp_place place) {
     }
 }
 
-/* Raises a ModelFileError. `which` tells which of two texts has the fault, and is null where there is one text. */
+/* Raises a ModelFileError. `which` says which of two texts has the error, and is null if there is only one text. */
 static void raise_fault(PyObject *module, const mpslp_fault *fault, const char *which) {
     PyObject *class = state_of(module)->error;
     int is_numbered = fault->place == MPSLP_AT_ROW || fault->place == MPSLP_AT_COLUMN;
-    /* A null pointer becomes None. Objects behind N are given away, also where the call fails. */
+    /* A null pointer becomes None. The call takes the references of objects for N, even if it fails. */
     PyObject *error = PyObject_CallFunction(
         class, "s#Nz#zNz", (const char *)fault->kind.bytes, (Py_ssize_t)fault->kind.len,
         number_or_none(fault->line != 0, fault->line), fault->name_len ? fault->name : NULL, (Py_ssize_t)fault->name_len,
@@ -66,7 +66,7 @@ static void raise_fault(PyObject *module, const mpslp_fault *fault, const char *
     Py_DECREF(error);
 }
 
-/* Raises what a status tells that is no answer. It returns null, as a function of Python that raised does. */
+/* Raises the exception for a status that is an error, and returns null, as functions of Python do after raising. */
 static PyObject *refuse(PyObject *module, mpslp_status status, const mpslp_fault *fault, const char *which) {
     switch (status) {
     case MPSLP_REFUSED:
@@ -79,7 +79,7 @@ static PyObject *refuse(PyObject *module, mpslp_status status, const mpslp_fault
     return NULL;
 }
 
-/* The answer of a call that tells yes or no. */
+/* The result of a call that returns yes or no. */
 static PyObject *truth(PyObject *module, mpslp_status status, const mpslp_fault *fault, const char *which) {
     switch (status) {
     case MPSLP_OK: return Py_NewRef(Py_True);
@@ -134,17 +134,17 @@ static PyObject *is_canonical(PyObject *module, PyObject *arguments) {
 
 __extension__ typedef unsigned __int128 magnitude;
 
-/* Writes digits in front of `end`, and answers where they begin. */
+/* Writes digits before `end`, and returns where they begin. */
 static char *put_digits(char *end, magnitude size) {
     do *--end = (char)('0' + (int)(size % 10));
     while ((size /= 10) != 0);
     return end;
 }
 
-/* The most zeros that are written out behind digits: 40 is Decimal('40'), which prints so, and not Decimal('4E+1'). */
+/* The maximum number of zeros that are written out after digits: 40 is Decimal('40'), and not Decimal('4E+1'). */
 #define MOST_ZEROS 20
 
-/* The Decimal of a number, which has its value exactly. */
+/* The Decimal with exactly the value of a number. */
 static PyObject *decimal_of(const state *held, const mpslp_number *number) {
     char digits[40], text[sizeof digits + MOST_ZEROS + sizeof "-E-2147483648"];
     magnitude size = ((magnitude)(uint64_t)number->high << 64) | number->low;
@@ -162,32 +162,32 @@ static PyObject *name_of(const mpslp_model *model, mpslp_name name) {
     return PyUnicode_FromStringAndSize((const char *)model->names.bytes + name.at, (Py_ssize_t)name.len);
 }
 
-/* Puts a new object into a tuple that is being filled, which holds it from then on. Answers whether there was one. */
+/* Stores a new object in a tuple, which takes the reference. Returns whether there was an object. */
 static int put(PyObject *tuple, Py_ssize_t at, PyObject *item) { return item != NULL && PyTuple_SetItem(tuple, at, item) == 0; }
 
 /* The same for a list. */
 static int put_listed(PyObject *list, size_t at, PyObject *item) { return item != NULL && PyList_SetItem(list, (Py_ssize_t)at, item) == 0; }
 
-/* A list or a tuple, where it was filled; else null. No further object is made once one could not be. */
+/* A list or a tuple if all its items were made; otherwise null. After a failure no further item is made. */
 static PyObject *filled(PyObject *made, int is_filled) {
     if (is_filled) return made;
     Py_XDECREF(made);
     return NULL;
 }
 
-/* ---- models, which keep the arrays of the library: Python's objects are made when they are looked at */
+/* ---- models, which keep the arrays of the library: Python's objects are made on access */
 
 typedef struct {
     PyObject_HEAD
     mpslp_model model;
-    /* Of each row the place of its first element in `row_elements`, and how many there are; null until a row is asked. */
+    /* The index of each row's first nonzero in `row_elements`, and the total; null until a row is accessed. */
     size_t *row_starts;
-    size_t *row_elements; /* the elements by number, row after row, those of a row in the order of columns */
+    size_t *row_elements; /* the nonzeros by number, row after row, those of a row in the order of columns */
 } arrays;
 
 static const mpslp_model *model_of(PyObject *self) { return &((arrays *)self)->model; }
 
-/* The type cannot be derived from, so that it is the one of the module. */
+/* The type has no subclasses, so its module is this one. */
 static const state *state_at(PyObject *self) { return PyType_GetModuleState(Py_TYPE(self)); }
 
 static void arrays_dealloc(PyObject *self) {
@@ -200,7 +200,7 @@ static void arrays_dealloc(PyObject *self) {
     Py_DECREF(type);
 }
 
-/* Takes a model over, also where there is no memory for its object. */
+/* Takes ownership of a model, even if there is no memory for its object. */
 static PyObject *arrays_of(PyObject *module, mpslp_model *model) {
     arrays *made = PyObject_New(arrays, (PyTypeObject *)state_of(module)->arrays);
     if (made == NULL) {
@@ -214,11 +214,11 @@ static PyObject *arrays_of(PyObject *module, mpslp_model *model) {
 }
 
 static int is_same_column(const mpslp_column *one, const mpslp_column *other) {
-    /* Bytes of padding lie behind the kind. */
+    /* The kind is followed by bytes of padding. */
     return memcmp(one, other, offsetof(mpslp_column, kind) + sizeof one->kind) == 0;
 }
 
-/* Whether two models are one: numbers are in normal form, and names stand in the order of what has them. */
+/* Whether two models are the same: numbers are in normal form, and names are in the order of what has them. */
 static int is_same_model(const mpslp_model *one, const mpslp_model *other) {
     if (one->sense != other->sense || memcmp(&one->constant, &other->constant, sizeof one->constant) != 0) return 0;
     if (one->names.len != other->names.len || one->num_rows != other->num_rows || one->num_columns != other->num_columns ||
@@ -257,7 +257,7 @@ static PyObject *arrays_objective(PyObject *self, PyObject *Py_UNUSED(none)) {
                             put(made, 2, decimal_of(state_at(self), &model->constant)));
 }
 
-/* Whether an object is a number below a count; else it raises. */
+/* Whether an object is a number below a count; otherwise it raises. */
 static int find_number(PyObject *object, size_t count, size_t *number) {
     *number = PyLong_AsSize_t(object);
     if (*number == (size_t)-1 && PyErr_Occurred()) return 0;
@@ -301,7 +301,7 @@ static PyObject *arrays_column(PyObject *self, PyObject *number) {
                             put(made, 4, decimal_of(held, &column->cost)));
 }
 
-/* The number of what has a name, or None: also for what is no text, or cannot be a name. */
+/* The number of the row or column with a name, or None, also for what is not a text or cannot be a name. */
 static PyObject *number_of_name(PyObject *self, PyObject *name, bool (*find)(const mpslp_model *, const char *, size_t, size_t *)) {
     Py_ssize_t len;
     const char *bytes = PyUnicode_Check(name) ? PyUnicode_AsUTF8AndSize(name, &len) : NULL;
@@ -316,7 +316,7 @@ static PyObject *arrays_find_row(PyObject *self, PyObject *name) { return number
 
 static PyObject *arrays_find_column(PyObject *self, PyObject *name) { return number_of_name(self, name, mpslp_find_column); }
 
-/* Where the elements of a column end. */
+/* Where the nonzeros of a column end. */
 static size_t column_end(const mpslp_model *model, size_t j) {
     return j + 1 < model->num_columns ? model->columns[j + 1].first : model->num_elements;
 }
@@ -365,7 +365,7 @@ static PyObject *arrays_column_entries(PyObject *self, PyObject *number) {
     return filled(made, is_filled);
 }
 
-/* The elements row after row: how many there are of each, where those of each begin, and then each to its place. */
+/* Sorts the nonzeros by row: counts those of each row, computes where each row begins, then puts each into its place. */
 static void sort_by_rows(const mpslp_model *model, size_t *starts, size_t *elements) {
     size_t i, k, place = 0;
     memset(starts, 0, (model->num_rows + 1) * sizeof *starts);
@@ -376,12 +376,12 @@ static void sort_by_rows(const mpslp_model *model, size_t *starts, size_t *eleme
         place += count;
     }
     for (k = 0; k < model->num_elements; k++) elements[starts[model->elements[k].row]++] = k;
-    /* Each start is now the one of the next row. */
+    /* Each start is now that of the next row. */
     for (i = model->num_rows; i > 0; i--) starts[i] = starts[i - 1];
     starts[0] = 0;
 }
 
-/* Whether the elements are sorted by rows. Another thread may have done it meanwhile; its work is as good. */
+/* Sorts the nonzeros by row if they are not; returns whether they are. Another thread may have done it meanwhile. */
 static int is_sorted_by_rows(PyObject *self) {
     arrays *held = (arrays *)self;
     const mpslp_model *model = &held->model;
@@ -410,7 +410,7 @@ static PyObject *arrays_row_len(PyObject *self, PyObject *number) {
     return PyLong_FromSize_t(held->row_starts[i + 1] - held->row_starts[i]);
 }
 
-/* The column that an element is of: the last one that begins with it or before it. */
+/* The column of a nonzero: the last one that begins with it or before it. */
 static size_t column_of_element(const mpslp_model *model, size_t element) {
     size_t first = 0, end = model->num_columns;
     while (end - first > 1) {
@@ -439,7 +439,7 @@ static PyObject *arrays_row_entries(PyObject *self, PyObject *number) {
 
 enum { COSTS, STARTS, ROWS, VALUES, ROW_LOWER, ROW_UPPER, LOWER, UPPER, KINDS, PARTS };
 
-/* Writes the numbers of a model into memory that has room for them. */
+/* Writes the numbers of a model into memory that is large enough. */
 static void write_doubles(const mpslp_model *model, void *at[PARTS]) {
     mpslp_costs(model, at[COSTS]);
     mpslp_matrix(model, at[STARTS], at[ROWS], at[VALUES]);
@@ -465,19 +465,19 @@ static PyObject *arrays_doubles(PyObject *self, PyObject *Py_UNUSED(none)) {
     made = PyTuple_New(PARTS);
     if (made == NULL) return NULL;
     for (Py_ssize_t part = 0; part < PARTS; part++) {
-        /* It grows to its size, since CPython forgets to say that one without memory has no views. */
+        /* It is resized, because CPython does not initialise the count of views if it cannot allocate a new bytearray's bytes. */
         PyObject *room = PyByteArray_FromStringAndSize(NULL, 0);
         if (!put(made, part, room) || PyByteArray_Resize(room, (Py_ssize_t)sizes[part]) < 0) return filled(made, 0);
         at[part] = PyByteArray_AsString(room);
     }
-    /* Nothing else has these objects yet. */
+    /* Nothing else refers to these objects yet. */
     Py_BEGIN_ALLOW_THREADS
     write_doubles(model, at);
     Py_END_ALLOW_THREADS
     return made;
 }
 
-/* The names of so many rows or columns, of which `name_at` has the name of one. */
+/* The names of so many rows or columns; `name_at` returns the name of one. */
 static PyObject *names_of(const mpslp_model *model, size_t count, mpslp_text (*name_at)(const mpslp_model *, size_t)) {
     PyObject *made = PyList_New((Py_ssize_t)count);
     int is_filled = made != NULL;
@@ -555,7 +555,7 @@ static PyMethodDef calls[] = {
     { NULL, NULL, 0, NULL },
 };
 
-/* What `name` means in a module. */
+/* The object with this name in a module. */
 static PyObject *imported(const char *module_name, const char *name) {
     PyObject *module = PyImport_ImportModule(module_name), *found;
     if (module == NULL) return NULL;
@@ -564,7 +564,7 @@ static PyObject *imported(const char *module_name, const char *name) {
     return found;
 }
 
-/* The words of the library that the modules of the package use. */
+/* The constants of the library that the modules of the package use. */
 static const struct {
     const char *name;
     long number;
@@ -613,8 +613,8 @@ static int clear(PyObject *module) {
 }
 
 /*
- * The first slot, Py_mod_multiple_interpreters with Py_MOD_PER_INTERPRETER_GIL_SUPPORTED, is known from CPython 3.12 on: all
- * that the module holds is in its state.
+ * The first slot, Py_mod_multiple_interpreters with Py_MOD_PER_INTERPRETER_GIL_SUPPORTED, exists from CPython 3.12: the whole
+ * state of the module is per interpreter.
  */
 static PyModuleDef_Slot slots[] = {
     { 3, (void *)2 },
@@ -622,7 +622,7 @@ static PyModuleDef_Slot slots[] = {
     { 0, NULL },
 };
 
-/* Whether the Python that runs is 3.12 or later: the stable interface is that of 3.10. */
+/* Whether the running Python is 3.12 or later: the stable interface is that of 3.10. */
 static int knows_interpreters(void) {
     const char *version = Py_GetVersion();
     char *end;

@@ -1,4 +1,4 @@
-"""Exact decimals, of the numbers that Python has."""
+"""Exact decimals of Python's numbers."""
 
 import math
 from decimal import MAX_EMAX, MIN_EMIN, Context, Decimal
@@ -8,37 +8,37 @@ from numbers import Integral, Rational, Real
 from typing import TypeAlias, Union
 
 Number: TypeAlias = Union[int, float, Decimal, Fraction]
-"""What may be given as a number: a float is the decimal of its shortest text, as 0.1."""
+"""What may be given as a number: a float is the decimal of its shortest text, such as 0.1."""
 
 INFINITY = Decimal("Infinity")
 MOST_DIGITS = 36
 MOST_EXPONENT = 500
 LARGE = Decimal(10**20)
-"""From here on a limit or a bound is infinite."""
+"""A limit or a bound of this magnitude or more is infinite."""
 
-# The most zeros that are written out after digits, as the extension module does it.
+# The maximum number of zeros that are written out after digits, as in the extension module.
 _MOST_ZEROS = 20
 
-# Room for each difference of two numbers of a model.
+# Enough precision for each difference of two numbers of a model.
 _EXACT = Context(prec=4 * MOST_EXPONENT, Emax=MAX_EMAX, Emin=MIN_EMIN)
 
 
 def fraction(number: Number) -> Fraction | None:
-    """Returns a number as a Fraction, exactly, and None for one that is infinite."""
+    """Returns a number as a Fraction, exactly, and None for an infinite one."""
     is_finite = number.is_finite() if isinstance(number, Decimal) else not isinstance(number, float) or math.isfinite(number)
     return Fraction(number) if is_finite else None
 
 
 @lru_cache(maxsize=4096)
 def _of_float(number: float) -> Decimal:
-    """The same for a float: many of a model are alike."""
+    """The same for a float, cached because many floats of a model are equal."""
     return _checked(Decimal(float.__repr__(number)))
 
 
 def decimal_of(number: Number) -> Decimal:
-    """The decimal that a number is, in normal form; an infinite one as it is.
+    """The decimal that equals a number, in normal form; an infinite number is unchanged.
 
-    Raises ValueError where no decimal of a model is the number, and TypeError for what is no number.
+    Raises ValueError if no decimal of a model equals the number, and TypeError for what is not a number.
     """
     return _of_float(number) if type(number) is float else _checked(_decimal(number))
 
@@ -52,13 +52,13 @@ def _checked(found: Decimal) -> Decimal:
 
 
 def limit_of(number: Number) -> Decimal:
-    """The same for a limit or a bound, which is infinite, by its sign, from 10^20 on."""
+    """The same for a limit or a bound, which is infinite, by its sign, from a magnitude of 10^20."""
     found = decimal_of(number)
     return found if found.copy_abs() < LARGE else INFINITY.copy_sign(found)
 
 
 def difference(upper: Decimal, lower: Decimal) -> Decimal:
-    """The exact difference of two finite numbers; raises ValueError where it is no decimal of a model."""
+    """The exact difference of two finite numbers; raises ValueError if it is not a decimal of a model."""
     return _normal(_EXACT.subtract(upper, lower))
 
 
@@ -96,7 +96,7 @@ def _scaled(mantissa: int, exponent: int) -> Decimal:
 
 
 def _normal(number: Decimal) -> Decimal:
-    """A finite number without zeros at its end, or with no more than a whole number has."""
+    """A finite number without trailing zeros, except those that a whole number is printed with."""
     sign, digits, exponent = number.as_tuple()
     assert isinstance(exponent, int)
     if not number:

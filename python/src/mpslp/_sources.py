@@ -1,4 +1,4 @@
-"""Where the bytes of a text come from, and which format they have."""
+"""The bytes of a text, and its format."""
 
 import io
 import os
@@ -13,7 +13,7 @@ from mpslp._faults import ModelFileError
 if TYPE_CHECKING:
     from _typeshed import ReadableBuffer
 else:
-    # Checkers know each object that has a buffer; at run time there is no name for these before Python 3.12.
+    # Type checkers know each object that has a buffer; at run time there is no name for these before Python 3.12.
     ReadableBuffer = Union[bytes, bytearray, memoryview]
 
 Format: TypeAlias = Literal["mps", "lp"]
@@ -51,7 +51,7 @@ def format_number(format: Format | None) -> int:
 
 
 def read(source: Source, format: Format | None) -> Text:
-    """The text of a source. A format that is told goes before the ending of a path."""
+    """The text of a source. A given format takes precedence over the ending of a path."""
     if isinstance(source, (str, os.PathLike)):
         path = os.fspath(source)
         number = format_number(_format_of_path(path) if format is None else format)
@@ -66,7 +66,7 @@ def read(source: Source, format: Format | None) -> Text:
 
 
 def _read_file(source: object, format: Format | None) -> Text:
-    """The rest of an open file. Its path, where it has one, tells the format; it is read as it is, not decompressed."""
+    """The rest of an open file. Its path, if it has one, determines the format; its bytes are not decompressed."""
     read_all = getattr(source, "read", None)
     if not callable(read_all) or isinstance(source, io.TextIOBase):
         raise TypeError(f"a text is bytes, a path or an open binary file, not {type(source).__name__}")
@@ -82,7 +82,7 @@ def _read_file(source: object, format: Format | None) -> Text:
 
 
 def write(path: Path, format: Format | None, text: Callable[[Format], bytes]) -> None:
-    """Writes a text in a format to a file, which is opened once the text is made."""
+    """Writes a text in a format to a file, which is opened after the text is made."""
     if not isinstance(path, (str, os.PathLike)):
         raise TypeError(f"a path is a str or an os.PathLike, not {type(path).__name__}")
     name = os.fspath(path)
@@ -93,7 +93,7 @@ def write(path: Path, format: Format | None, text: Callable[[Format], bytes]) ->
 
 @contextmanager
 def naming(first: Text, second: Text | None = None) -> Iterator[None]:
-    """Within it, a ModelFileError gets the path of the text that has the fault."""
+    """Within it, a ModelFileError gets the path of the text that has the error."""
     try:
         yield
     except ModelFileError as error:
@@ -111,7 +111,7 @@ def _format_of_path(path: str | bytes) -> Format:
 
 
 def _view(source: ReadableBuffer | BinaryFile) -> bytes | memoryview | None:
-    """The bytes of an object as they are, or None if it has no buffer."""
+    """The bytes of an object without a copy, or None if it has no buffer."""
     if isinstance(source, bytes):
         return source
     try:
@@ -123,7 +123,7 @@ def _view(source: ReadableBuffer | BinaryFile) -> bytes | memoryview | None:
 def _frozen(view: bytes | memoryview) -> bytes:
     """Bytes that cannot change: the object itself, or a copy.
 
-    The library reads without the interpreter's lock, and what it reads has to stay as it is. Another thread may write to
-    a bytearray or a mapped file meanwhile, and a view that is read-only may be one of either, so all but bytes is copied.
+    The library reads without the interpreter's lock, and what it reads must not change. Another thread may write to a
+    bytearray or a mapped file meanwhile, and a read-only view may be one of either, so everything except bytes is copied.
     """
     return view if isinstance(view, bytes) else view.tobytes()

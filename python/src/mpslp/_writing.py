@@ -1,4 +1,4 @@
-"""The text of a model, which the library then makes canonical."""
+"""A text of a model, which the library then makes canonical."""
 
 from __future__ import annotations
 
@@ -28,7 +28,7 @@ class ColumnParts(NamedTuple):
 
 
 class Parts(NamedTuple):
-    """All of a model; the words of the library are its numbers."""
+    """All parts of a model; sense and type are the numbers of the library."""
 
     sense: int
     objective: str
@@ -38,7 +38,7 @@ class Parts(NamedTuple):
 
 
 def parts_of(arrays: _mpslp.Arrays) -> Parts:
-    """The parts of a model that is loaded."""
+    """The parts of a loaded model."""
     rows, columns, _ = arrays.counts()
     return Parts(
         *arrays.objective(),
@@ -53,7 +53,7 @@ def _store(arrays: _mpslp.Arrays, to: int) -> bytes:
 
 
 def mps_text(parts: Parts) -> bytes:
-    """MPS text that declares a model, with both bounds of each column; every name of a model is one in MPS."""
+    """MPS text that declares a model, with both bounds of each column; every name of a model is legal in MPS."""
     return "\n".join(_lines(parts)).encode("ascii")
 
 

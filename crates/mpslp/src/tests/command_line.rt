@@ -1,11 +1,11 @@
-//! Words, and the jobs that they ask for.
+//! Tests of arguments and the jobs that they request.
 
 use mpslp_command::job;
 use mpslp_jobs::{Form, Job, JobFault, Word};
 use std::alloc::{AllocError, Global};
 use std::test::Fail;
 
-/// Words behind the program's name, and the job that they ask for.
+/// Arguments, and the job that they request.
 const JOBS: [(&str, &str); 7] = [
     ("canon mps lp -", "canon mps lp -"),
     ("canon lp mps a.lp", "canon lp mps a.lp"),
@@ -16,7 +16,7 @@ const JOBS: [(&str, &str); 7] = [
     ("show lp -", "show lp -"),
 ];
 
-/// Words that ask for no job, and how the text that tells why begins.
+/// Arguments that are a usage error, and the beginning of its text.
 const USAGES: [(&str, &str); 9] = [
     ("", "Normalises "),
     (
@@ -53,7 +53,7 @@ const USAGES: [(&str, &str); 9] = [
     ),
 ];
 
-/// Words that ask for a text, and how it begins.
+/// Arguments that request a text, and its beginning.
 const HELPS: [(&str, &str); 6] = [
     ("--help", "Normalises "),
     ("-h", "Normalises "),
@@ -69,7 +69,7 @@ const HELPS: [(&str, &str); 6] = [
     ("--version", "mpslp 0.1.0\n"),
 ];
 
-/// Words with a format that there is not, and the first such word.
+/// Arguments with an unknown format, and the first such format.
 const UNKNOWN: [(&str, &str); 5] = [
     ("canon mps xml -", "xml"),
     ("canon MPS lp -", "MPS"),
@@ -78,7 +78,7 @@ const UNKNOWN: [(&str, &str); 5] = [
     ("show a b", "a"),
 ];
 
-/// The answer for the words of a line, between blanks.
+/// The job of the arguments in a line, which are separated by spaces.
 fn job_of_line(alloc: Global, line: &str) -> Result<Result<Job, JobFault>, AllocError> {
     let mut words = Vec::new(alloc);
     for word in line.split_ascii_whitespace() {
@@ -87,7 +87,7 @@ fn job_of_line(alloc: Global, line: &str) -> Result<Result<Job, JobFault>, Alloc
     Ok(job(alloc, &words))
 }
 
-/// The words of a job in one line.
+/// The arguments of a job as one line.
 fn line_of(alloc: Global, job: &Job) -> Result<String, AllocError> {
     match job {
         Job::Canon { from, to, path } => format!(in alloc;

@@ -1,4 +1,4 @@
-//! The end of a builder: its model.
+//! `finish`, which makes the model of a builder's declarations.
 
 ghost use Rattle.std.specs.Prelude.{◌≡◌, ℕ, IsTrue, IfOk, List, None, Some, is_some, length, unwrap_or};
 ghost use Rattle.std.specs.List.{range_with_len};
@@ -26,7 +26,7 @@ use mpslp_model_core::{
 use mpslp_types::{Fault, FaultKind, Name, ReadFault, Sense};
 use std::alloc::{AllocError, Global};
 
-/// The entries of a map, in the order in which they were put there.
+/// The entries of a map, in the order in which they were inserted.
 fn entries_of<V: Drop>(
     alloc: Global,
     map: IndexMap<Vec<u8>, V>,
@@ -36,7 +36,7 @@ fn entries_of<V: Drop>(
     map.into_iter().collect(alloc)
 }
 
-/// The entries in the byte order of their names, behind their indices in that order.
+/// The former indices of the entries in byte order of their names, and the entries in that order.
 fn ordered<V: Drop>(
     alloc: Global,
     entries: Vec<(Vec<u8>, V)>,
@@ -50,7 +50,7 @@ fn ordered<V: Drop>(
     Ok((order, ordered))
 }
 
-/// The constant of the objective, or else the negative of its right side.
+/// The constant of the objective: as declared, or else its negated right-hand side.
 fn constant_of(constant: Option<Decimal>, rhs: &Option<PackedDecimal>) -> Decimal
     ensures { result ≡ unwrap_or constant (negated (unwrap_or rhs.now zero_number)) }
 {
@@ -61,7 +61,7 @@ fn constant_of(constant: Option<Decimal>, rhs: &Option<PackedDecimal>) -> Decima
     }
 }
 
-/// The parts of a model. The objective is named.
+/// The parts of a model. The objective has a name.
 fn parts_of(
     sense: Option<Sense>,
     constant: Option<Decimal>,
@@ -86,7 +86,7 @@ fn parts_of(
     }
 }
 
-/// The model that is meant by tables with which nothing is wrong.
+/// The model of tables without a whole-file error.
 pub(crate) fn into_model(
     alloc: Global,
     sense: Option<Sense>,
@@ -113,7 +113,7 @@ pub(crate) fn into_model(
     Model::of_parts(alloc, parts_of(sense, constant, objective, rows, columns))
 }
 
-/// The name at an index, taken out and not copied.
+/// The name at an index, moved out of the map without a copy.
 fn name_out_of<V: Drop>(mut entries: IndexMap<Vec<u8>, V>, index: usize) -> Option<Name>
     requires { (name : List ℕ) → entry_name entries.entries index ≡ Some name → IsMpsName name }
     ensures { result ≡ entry_name entries.entries index }
@@ -124,7 +124,7 @@ fn name_out_of<V: Drop>(mut entries: IndexMap<Vec<u8>, V>, index: usize) -> Opti
     }
 }
 
-/// The fault that was found.
+/// The error that was found, with its name.
 fn into_fault(tables: Tables, found: FoundFault) -> Fault
     requires { HaveLegalNames tables }
     ensures { result ≡ fault_found tables found }
@@ -149,25 +149,24 @@ fn into_fault(tables: Tables, found: FoundFault) -> Fault
 }
 
 impl Builder {
-    /// The model that was declared, in whatever order; or the first fault of the declarations as a whole. The objective
-    /// is named.
+    /// Returns the model that was declared, or the first whole-file error. The objective must have a name.
     ///
     /// # Errors
     ///
-    /// `File` of a fault of line 0. The kinds are looked for in this order, each over all rows or columns, and the name told
-    /// is the least in byte order that has it:
+    /// `File` with an error of line 0. The kinds are checked in this order, each over all rows or columns, and the reported name
+    /// is the first one in byte order that has the error:
     ///
     /// - `NoColumns`: there is no column;
-    /// - `InfiniteLimit`: a row's right side is infinite on the far side of its type, of an equation or beside a range;
-    /// - `RangeInexact`: a computed limit of a row, or the distance of both, is no decimal;
-    /// - `LimitTooLarge`: a computed limit, or the distance, has size 10^20 or more;
+    /// - `InfiniteLimit`: a right-hand side is infinite so that its row cannot be met, or on an equation or with a range;
+    /// - `RangeInexact`: a computed limit of a row, or the distance between both limits, is not a decimal;
+    /// - `LimitTooLarge`: a computed limit, or the distance, has a magnitude of 10^20 or more;
     /// - `LimitsCrossed`: the lower limit is above the upper one;
-    /// - `NegativeUpper`: an upper bound of a column is below 0 and no lower one is declared;
+    /// - `NegativeUpper`: an upper bound of a column is below 0 and no lower bound is declared;
     /// - `BoundsCrossed`: the lower bound is above the upper one;
-    /// - `BinaryBounds`: a binary column's bounds do not lie within 0 and 1;
-    /// - `SemiBounds`: a semi-continuous column's lower bound is below 0, or its upper one infinite or not above 0.
+    /// - `BinaryBounds`: the bounds of a binary column are not within 0 and 1;
+    /// - `SemiBounds`: the lower bound of a semi-continuous column is below 0, or its upper bound is infinite or not above 0.
     ///
-    /// Only where there is none of these, `OutOfMemory`, also for more than 4,294,967,296 columns.
+    /// `OutOfMemory` only if there is none of these, also for more than 4,294,967,296 columns.
     pub fn finish(self) -> Result<Model, ReadFault>
         requires { IsTrue (is_some self.objective) }
         ensures { Finishes self result }

@@ -1,7 +1,7 @@
-//! What is wrong with a builder's declarations as a whole.
+//! Whole-file errors of a builder's declarations.
 //!
-//! Rows and columns stand in the order in which they were declared, and a fault is told of the least name that has it. So
-//! the least name so far is kept, which takes no memory.
+//! Rows and columns are in the order of their declarations, and an error is reported for the first name in byte order that
+//! has it. So the search keeps the least name so far, and allocates nothing.
 
 ghost use Rattle.std.specs.Prelude.{◌≡◌, ◌<◌, Bool, length, filter_map};
 ghost use Rattle.std.specs.List.{list_any};
@@ -16,17 +16,17 @@ use indexmap::IndexMap;
 use mpslp_builder_parts::{ColumnParts, RowParts};
 use mpslp_model_core::{ColumnFault, RowFault, is_faulty_row, row_has};
 
-/// What may have a fault.
+/// What may have errors of the kinds `F`.
 pub(crate) trait Faulty<F> {
     ghost fails: { F → Self → Bool };
 
     ghost is_wrong: { Self → Bool };
 
-    /// Whether it has this fault.
+    /// Whether it has this error.
     fn has_fault(&self, fault: F) -> bool
         ensures { result ≡ fails fault self.now };
 
-    /// Whether it has any.
+    /// Whether it has any of these errors.
     fn is_faulty(&self) -> bool
         ensures { result ≡ is_wrong self.now };
 }
@@ -68,7 +68,7 @@ impl Faulty<ColumnFault> for ColumnParts {
     }
 }
 
-/// Whether any entry has a fault. Of most files none has, and then no kind of fault is looked for apart.
+/// Whether any entry has an error. Most files have none, and then one scan of the entries is enough.
 fn has_faulty<F, V: Faulty<F>>(entries: &IndexMap<Vec<u8>, V>) -> bool
     ensures { result ≡ list_any (λ e. V.is_wrong e.1) entries.now.entries }
 {
@@ -84,7 +84,7 @@ fn has_faulty<F, V: Faulty<F>>(entries: &IndexMap<Vec<u8>, V>) -> bool
     false
 }
 
-/// Whether the name is below that of the entry at an index, where there is one.
+/// Whether a name is below that of the entry at an index, or there is no such index.
 fn is_below<V>(entries: &IndexMap<Vec<u8>, V>, name: &[u8], least: Option<usize>) -> bool
     ensures { result ≡ is_below name.now (option_and_then (entry_name entries.now.entries) least) }
 {
@@ -97,7 +97,7 @@ fn is_below<V>(entries: &IndexMap<Vec<u8>, V>, name: &[u8], least: Option<usize>
     }
 }
 
-/// The index of the entry of the least name that has this fault.
+/// The index of the entry that has this error and the least name.
 fn least_faulty<F: Copy, V: Faulty<F>>(entries: &IndexMap<Vec<u8>, V>, fault: F) -> Option<usize>
     ensures name { option_and_then (entry_name entries.now.entries) result ≡ least_name (V.fails fault) entries.now.entries }
     ensures there { ForSome result (λ i. i < length entries.now.entries) }
@@ -115,19 +115,19 @@ fn least_faulty<F: Copy, V: Faulty<F>>(entries: &IndexMap<Vec<u8>, V>, fault: F)
     least
 }
 
-/// What is found wrong, and where.
+/// A whole-file error and its place.
 #[derive(Clone, Copy)]
 pub(crate) enum FoundFault {
     /// There is no column.
     NoColumns,
-    /// The row at this index has this fault, and none of a lesser name.
+    /// The row at this index has this error, and no row of a lesser name has it.
     Row(RowFault, usize),
-    /// The column at this index has this fault, and none of a lesser name.
+    /// The column at this index has this error, and no column of a lesser name has it.
     Column(ColumnFault, usize),
 }
 
 impl Tables {
-    /// The first of these faults that a row has, with the row of the least name that has it.
+    /// The first of these errors that a row has, with the row of the least name that has it.
     fn first_fault_of_rows(&self, faults: &[RowFault]) -> Option<FoundFault>
         requires { IsNumbered self.now }
         ensures fault { option_map (fault_found self.now) result ≡ head_of (filter_map (λ fault. named_fault (draft None None self.now) (kind_of_row_fault fault)) faults.now) }
@@ -145,7 +145,7 @@ impl Tables {
         None
     }
 
-    /// The first of these faults that a column has, with the column of the least name that has it.
+    /// The first of these errors that a column has, with the column of the least name that has it.
     fn first_fault_of_columns(&self, faults: &[ColumnFault]) -> Option<FoundFault>
         ensures fault { option_map (fault_found self.now) result ≡ head_of (filter_map (λ fault. named_fault (draft None None self.now) (kind_of_column_fault fault)) faults.now) }
         ensures there { ForSome result (IsThere self.now) }
@@ -162,7 +162,7 @@ impl Tables {
         None
     }
 
-    /// The first fault of the whole.
+    /// The first whole-file error.
     pub(crate) fn first_fault(&self) -> Option<FoundFault>
         requires { IsNumbered self.now }
         ensures fault { option_map (fault_found self.now) result ≡ file_fault (draft None None self.now) }

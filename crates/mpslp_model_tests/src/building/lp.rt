@@ -1,11 +1,11 @@
-//! What files of LP declare, with ample memory.
+//! Tests of what LP files declare.
 
 use super::{Call, first_other_answer, outcome, tells};
 use mpslp_builder::Builder;
 use mpslp_types::{BuildFault, RowType};
 use std::test::Fail;
 
-/// Calls that files of LP make, one after another, and what each answers.
+/// Calls that LP files make in turn, and the result of each.
 const OF_LP: [(Call<'static>, Result<(), BuildFault>); 23] = [
     (Call::Objective("f"), Ok(())),
     (Call::Constant("5"), Ok(())),
@@ -50,7 +50,7 @@ const OF_LP: [(Call<'static>, Result<(), BuildFault>); 23] = [
     (Call::Binary("y"), Err(BuildFault::SemiContinuous)),
 ];
 
-/// Calls after which the constant is declared by the right side of the objective.
+/// Calls in turn, of which one declares the constant as the right-hand side of the objective.
 const CONSTANTS: [(Call<'static>, Result<(), BuildFault>); 4] = [
     (Call::Objective("f"), Ok(())),
     (Call::Rhs("f", "-5"), Ok(())),
@@ -72,7 +72,7 @@ fn takes_one_constant(rt: HostRuntime) {
     assert_eq!(rt; other_answer, None);
 }
 
-/// Rows by their limits, and what their views tell.
+/// Rows by their limits, and the lines that the accessors give.
 const LIMITED: [(&str, &str, &str); 11] = [
     ("-1e20", "4", "row R L -inf 4 rhs 4 range 0"),
     ("4.0", "1e20", "row R G 4 inf rhs 4 range 0"),

@@ -1,11 +1,11 @@
-//! Rows and what is told of them, with ample memory.
+//! Tests of rows and of their accessors.
 
 use super::{Call, outcome, tells};
 use mpslp_types::{BuildFault, RowType};
 use std::alloc::{AllocError, Global};
 use std::test::Fail;
 
-/// The views of a model with the row R of this type, right side and range, the range declared first.
+/// The accessors' results for a model with the row R of this type, right-hand side and range. The range is declared first.
 fn of_row<'a>(
     alloc: Global,
     row_type: RowType,
@@ -26,7 +26,7 @@ fn of_row<'a>(
     outcome(alloc, &calls)
 }
 
-/// Rows by type, right side and range, and what their views tell.
+/// Rows by type, right-hand side and range, and the line that the accessors give.
 const ROWS: [(RowType, &str, Option<&str>, &str); 13] = [
     (
         RowType::Equal,
@@ -87,7 +87,7 @@ fn limits_rows_by_type_right_side_and_range(rt: HostRuntime) -> Result<(), Fail>
     Ok(())
 }
 
-/// A row of the last and the first of three columns, one of all, and one of none.
+/// A model with one row of the last and the first of three columns, one row of all, and one of none.
 const ROWS_OF_COLUMNS: [Call<'static>; 12] = [
     Call::Objective("f"),
     Call::Row("s", RowType::AtMost),

@@ -8,10 +8,10 @@ ghost use Rattle.mpslp_decimal.specs.Literal.{is_digit};
 use crate::laws::each_name_is_legal;
 use crate::names::Name;
 
-/// What an LP name may hold beside letters and digits.
+/// The characters of LP names other than letters and digits.
 const LP_SYMBOLS: &[u8] = b"!\"#$%&()/,.;?@_'{}|~`";
 
-/// The words that LP keeps for itself, in lower case.
+/// The reserved words of LP, in lower case.
 const RESERVED_WORDS: [&[u8]; 31] = [
     b"min",
     b"minimize",
@@ -46,7 +46,7 @@ const RESERVED_WORDS: [&[u8]; 31] = [
     b"end",
 ];
 
-/// Whether the byte is a letter in upper case.
+/// Whether the byte is an upper-case letter.
 fn is_upper(byte: u8) -> bool
     ensures { result ≡ is_upper byte }
 {
@@ -74,21 +74,21 @@ fn is_lp_symbol(byte: u8) -> bool
     LP_SYMBOLS.iter().any(|symbol| *symbol == byte)
 }
 
-/// Whether an LP name may hold the byte.
+/// Whether the byte is allowed in LP names.
 fn is_lp_byte(byte: u8) -> bool
     ensures { result ≡ is_lp_byte byte }
 {
     is_letter(byte) || (is_digit(byte) || is_lp_symbol(byte))
 }
 
-/// Whether an LP name may hold each of the bytes.
+/// Whether all bytes are allowed in LP names.
 fn has_lp_bytes(bytes: &[u8]) -> bool
     ensures { result ≡ list_all is_lp_byte bytes.now }
 {
     bytes.iter().all(|byte| is_lp_byte(*byte))
 }
 
-/// Whether a number could begin so.
+/// Whether a number could begin with these bytes.
 fn begins_a_number(bytes: &[u8]) -> bool
     ensures { result ≡ begins_a_number bytes.now }
 {
@@ -98,7 +98,7 @@ fn begins_a_number(bytes: &[u8]) -> bool
     }
 }
 
-/// Whether a number that stands before the bytes would take their front as its exponent.
+/// Whether a number before the bytes would read their beginning as its exponent.
 fn is_like_exponent(bytes: &[u8]) -> bool
     ensures { result ≡ is_like_exponent bytes.now }
 {
@@ -136,7 +136,7 @@ fn is_one_of(words: &[&[u8]], text: &[u8]) -> bool
     words.iter().any(|word| is_word(text, word))
 }
 
-/// Whether the text is a reserved word, in upper case, lower case or both.
+/// Whether the text is a reserved word, in any case of its letters.
 fn is_reserved(text: &[u8]) -> bool
     ensures { result ≡ is_reserved text.now }
 {
@@ -144,9 +144,9 @@ fn is_reserved(text: &[u8]) -> bool
 }
 
 impl Name {
-    /// Whether the name is legal in LP too: it has only letters, digits and `!"#$%&()/,.;?@_'{}|~` and a back quote, begins
-    /// with no digit or period, is no reserved word in whatever case, and is not `e` or `E`, nor begins with one of these and a
-    /// digit.
+    /// Whether the name is also legal in LP: it has only letters, digits and `!"#$%&()/,.;?@_'{}|~` and a back quote, does not
+    /// begin with a digit or a period, is not a reserved word in any case, and is neither `e` or `E` nor begins with one of these
+    /// and a digit.
     pub fn is_lp(&self) -> bool
         ensures { result ≡ is_lp_name self.now }
     {

@@ -3,6 +3,6 @@ use Rattle.mpslp_model_core.specs.Lists.{those_of}
 use Rattle.mpslp_builder.specs.Answer.{first_refusal}
 use Rattle.mpslp_builder.proofs.refusals.refuse.Given as goal
 
--- what is left decides
+-- the result is that of the remaining tests
 abbrev pub invariant-loop-holds : goal.invariant-loop-holds
 invariant-loop-holds l = first_refusal (those_of (drop l.holds-index l.tests)) ≡ first_refusal (those_of l.tests)

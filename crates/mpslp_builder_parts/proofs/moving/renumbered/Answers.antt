@@ -2,7 +2,7 @@ use Rattle.std.proofs.Common.{◌≡◌, refl, sym, ap, subst, ◌∙◌, ℕ, z
 use Rattle.mpslp_decimal.specs.Decimal.{Number}
 use Rattle.mpslp_builder_parts.proofs.moving.renumbered.Goals as goal
 
--- the next place gets its new value
+-- the item at the next index gets its new value
 step : {X : Type 0} (f : X → X) (xs : List X) (i : ℕ) (d : X) → i < length xs
     → set (map f (take i xs) ++ drop i xs) i (f (get_or (map f (take i xs) ++ drop i xs) i d)) ≡ map f (take (suc i) xs) ++ drop (suc i) xs
 step f [] i d h = absurd (omega arith)

@@ -5,7 +5,7 @@ use Rattle.mpslp_write.specs.TextBuffer.{Emits}
 use Rattle.mpslp_convert.specs.ShownText.{entry_text}
 use Rattle.mpslp_convert.proofs.shown_text.put_entries.Given as goal
 
--- the lines of the coefficients so far were put
+-- the lines of the nonzeros before this one were put
 abbrev pub invariant-loop-k : goal.invariant-loop-k
 invariant-loop-k g l =
     Emits g.W.Sink.holds g.W.Sink.failed g.W.Sink.count l.fn.sink l.sink l.fn.buffer l.buffer

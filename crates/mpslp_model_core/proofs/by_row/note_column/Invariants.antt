@@ -4,7 +4,7 @@ use Rattle.mpslp_model_core.specs.Numbered.{IsOnceBy}
 use Rattle.mpslp_model_core.specs.ByRow.{list_at, column_if, has_number}
 use Rattle.mpslp_model_core.proofs.by_row.note_column.Given as goal
 
--- what is in a list and what is left to come is all
+-- a list and what is still to come give the whole list
 abbrev pub invariant-loop-cell : goal.invariant-loop-cell
 invariant-loop-cell l = record {
   len : length l.lists.items ≡ length l.fn.lists.items;

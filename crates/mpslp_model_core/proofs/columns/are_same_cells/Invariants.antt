@@ -3,7 +3,7 @@ use Rattle.std.specs.Cmp.Lexicographic.{pointwise}
 use Rattle.mpslp_model_core.specs.Same.{same_cell}
 use Rattle.mpslp_model_core.proofs.columns.are_same_cells.Given as goal
 
--- what is left decides
+-- the result is that of the remaining items
 abbrev pub invariant-loop-cell : goal.invariant-loop-cell
 invariant-loop-cell l = record {
   left : pointwise same_cell l.own l.other ≡ pointwise same_cell l.cell-iterator.a.rest.now l.cell-iterator.b.rest.now;

@@ -2,7 +2,7 @@ use Rattle.std.proofs.Common.{◌≡◌, ◌+◌, ◌*◌, ◌≤◌, drop}
 use Rattle.mpslp_model_core.specs.Columned.{count_row_cells}
 use Rattle.mpslp_model_core.proofs.columns.count_elements.Given as goal
 
--- those counted and those that are left are all
+-- the count so far and the remaining nonzeros give the result
 abbrev pub invariant-loop-column : goal.invariant-loop-column
 invariant-loop-column l = record {
   few : l.count ≤ l.column-index * 18446744073709551615;

@@ -4,7 +4,7 @@ use Rattle.mpslp_model_core.specs.Same.{same_named_column}
 use Rattle.mpslp_model_core.specs.Columned.{columns_told}
 use Rattle.mpslp_model_core.proofs.columns.same_columns.Given as goal
 
--- what is left decides
+-- the result is that of the remaining items
 abbrev pub invariant-loop-column : goal.invariant-loop-column
 invariant-loop-column l = record {
   left : pointwise same_named_column (columns_told l.own) (columns_told l.other) ≡ pointwise same_named_column (columns_told l.column-iterator.a.rest.now) (columns_told l.column-iterator.b.rest.now);

@@ -4,7 +4,7 @@ use Rattle.std.specs.List.{list_all}
 use Rattle.mpslp_types.specs.Name.{is_visible, is_lp_byte, same_bytes, marker, has_name_length, begins_a_number, is_like_exponent, is_reserved}
 use Rattle.mpslp_types.proofs.names.Name.is_lp.Goals as goal
 
--- a name has the length of a name and is not the marker; the rest was tested
+-- a `Name` has a legal length and is not the marker; the rest is tested by the code
 pub returns-then-not-is_like_exponent : goal.returns-then-not-is_like_exponent
 returns-then-not-is_like_exponent c =
     let name = c.args.self.now in
