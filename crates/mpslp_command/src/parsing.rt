@@ -65,7 +65,7 @@ fn refusal(alloc: Global, error: Error) -> JobFault
 fn unlike(alloc: Global) -> JobFault
     ensures { IsNamedRightly result }
 {
-    match Word::new(alloc, "error: these words are no command\n") {
+    match Word::new(alloc, "error: not a command of mpslp\n") {
         Ok(text) => JobFault::Usage(text),
         Err(fault) => fault,
     }

@@ -30,7 +30,7 @@ pub enum BuildFault {
     #[error("the coefficient is declared twice")]
     DuplicateEntry,
     /// The right-hand side, or the constant of the objective, is already declared.
-    #[error("the right side is declared twice")]
+    #[error("the RHS is declared twice")]
     DuplicateRhs,
     /// The range is already declared.
     #[error("the range is declared twice")]
