@@ -1,0 +1,59 @@
+//! The sides of rows and bounds, as they are given.
+
+ghost use Rattle.std.specs.Prelude.{◌≡◌, IsTrue};
+ghost use Rattle.mpslp_types.specs.Limit.{is_given, limit_of};
+ghost use Rattle.mpslp_lp_grammar.specs.Sides.{infinity};
+
+use mpslp_decimal::Decimal;
+use mpslp_model::Limit;
+use std::marker::Model;
+
+/// A limit that a text gives: a finite one is of size below 10^20. Contracts see the limit.
+#[derive(Drop)]
+pub struct GivenLimit {
+    limit: Limit,
+}
+
+impl Model for GivenLimit {
+    ghost use Rattle.std.specs.Prelude.{IsTrue};
+    ghost use Rattle.mpslp_types.specs.Limit.{is_given};
+    ghost use Rattle.mpslp_types.specs.declared.kinds.Limit.{Limit};
+
+    ghost Value = { Limit };
+
+    ghost view = { λ g. g.limit };
+
+    ghost invariant = { λ g. IsTrue (is_given g.limit) };
+}
+
+impl GivenLimit {
+    /// The limit that a value gives.
+    pub(crate) fn of(value: Decimal) -> GivenLimit
+        ensures { result ≡ limit_of value }
+    {
+        GivenLimit {
+            limit: Limit::of(value),
+        }
+    }
+
+    /// Minus or plus infinity.
+    pub(crate) fn infinity(minus: bool) -> GivenLimit
+        ensures { result ≡ infinity minus }
+    {
+        GivenLimit {
+            limit: if minus {
+                Limit::MinusInf
+            } else {
+                Limit::PlusInf
+            },
+        }
+    }
+
+    /// The limit.
+    pub(crate) fn limit(&self) -> Limit
+        ensures value { result ≡ self.now }
+        ensures given { IsTrue (is_given result) }
+    {
+        self.limit
+    }
+}
