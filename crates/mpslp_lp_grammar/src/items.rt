@@ -5,7 +5,7 @@ ghost use Rattle.mpslp_types.specs.Name.{IsMpsName};
 ghost use Rattle.mpslp_lp_grammar.specs.Items.{one};
 ghost use Rattle.mpslp_lp_grammar.specs.Sides.{apply_sign};
 ghost use Rattle.mpslp_lp_grammar.specs.TerminalToken.{HasLegalName, terminal_of_token};
-ghost use Rattle.mpslp_lp_grammar.specs.Declares.{AddsTerm, TakesToken};
+ghost use Rattle.mpslp_lp_grammar.specs.Declares.{TakesToken};
 ghost use Rattle.mpslp_lp_grammar.specs.Terminal.{Terminal};
 ghost use Rattle.mpslp_lp_grammar.specs.declared.states.ItemOwner.{ItemOwner};
 ghost use Rattle.mpslp_lp_grammar.specs.AfterToken.{take_term, take_after_signs, begin_item};
@@ -13,7 +13,6 @@ ghost use Rattle.mpslp_lp_grammar.specs.AfterToken.{take_term, take_after_signs,
 use crate::answers::{at_place, refuse};
 use crate::context::Context;
 use crate::states::{ItemOwner, PartialRow, Place, State};
-use crate::term_names::TermName;
 use crate::terminals::{TerminalKind, TerminalToken};
 use mpslp_decimal::Decimal;
 use mpslp_lines::LineError;
@@ -34,38 +33,6 @@ pub fn apply_sign(minus: bool, value: Decimal) -> Decimal
     ensures { result ≡ apply_sign minus value }
 {
     if minus { value.negate() } else { value }
-}
-
-impl PartialRow {
-    /// The row with one more term, of a column that has none in it.
-    fn with_owned_term(self, column: TermName, value: Decimal) -> Result<PartialRow, LineError>
-        ensures { AddsTerm self column value result }
-    {
-        let mut row = self;
-        match row.parts.terms.insert(column, value) {
-            Ok(None) => Ok(row),
-            Ok(Some(_)) => Err(LineError::Fault(FaultKind::DuplicateEntry)),
-            Err(_) => Err(LineError::OutOfMemory),
-        }
-    }
-
-    /// The row with one more term, of a column that has none in it. The name of the column is copied.
-    ///
-    /// # Errors
-    ///
-    /// `DuplicateEntry` of a column that has a term in the row; `OutOfMemory` where a growth was refused.
-    pub fn with_term(
-        self,
-        context: &Context,
-        column: &[u8],
-        value: Decimal,
-    ) -> Result<PartialRow, LineError>
-        requires { IsMpsName column.now }
-        ensures { AddsTerm self column.now value result }
-    {
-        let column = TermName::copied(context.earlier.alloc(), column)?;
-        self.with_owned_term(column, value)
-    }
 }
 
 /// Takes the name of a term of the objective.

@@ -1,14 +1,19 @@
 //! How far a phrase has come: all that a reader keeps of the tokens that it has taken, beside what is declared.
 
 ghost use Rattle.std.specs.Prelude.{◌≡◌};
+ghost use Rattle.mpslp_types.specs.Name.{IsMpsName};
+ghost use Rattle.mpslp_lp_grammar.specs.Declares.{AddsTerm};
+ghost use Rattle.mpslp_lp_grammar.specs.Grammar.{last_word_text, opened_by};
 ghost use Rattle.mpslp_lp_grammar.specs.TokenStep.{is_at_end};
 
+use crate::context::Context;
 use crate::given_limit::GivenLimit;
 use crate::relations::Relation;
 use crate::term_names::TermName;
 use indexmap::IndexMap;
 use mpslp_decimal::Decimal;
-use mpslp_model::{Name, Sense};
+use mpslp_lines::LineError;
+use mpslp_model::{FaultKind, Name, Sense};
 use std::marker::Model;
 
 /// A row whose last token is still to come. What is known of it stands in a box, since a state is moved with each token.
@@ -33,6 +38,38 @@ impl Model for PartialRow {
     ghost Value = { PartialRow };
 
     ghost view = { λ r. record { name = r.parts.value.name; left = r.parts.value.left; terms = r.parts.value.terms.entries } };
+}
+
+impl PartialRow {
+    /// The row with one more term, of a column that has none in it.
+    fn with_owned_term(self, column: TermName, value: Decimal) -> Result<PartialRow, LineError>
+        ensures { AddsTerm self column value result }
+    {
+        let mut row = self;
+        match row.parts.terms.insert(column, value) {
+            Ok(None) => Ok(row),
+            Ok(Some(_)) => Err(LineError::Fault(FaultKind::DuplicateEntry)),
+            Err(_) => Err(LineError::OutOfMemory),
+        }
+    }
+
+    /// The row with one more term, of a column that has none in it. The name of the column is copied.
+    ///
+    /// # Errors
+    ///
+    /// `DuplicateEntry` of a column that has a term in the row; `OutOfMemory` where a growth was refused.
+    pub fn with_term(
+        self,
+        context: &Context,
+        column: &[u8],
+        value: Decimal,
+    ) -> Result<PartialRow, LineError>
+        requires { IsMpsName column.now }
+        ensures { AddsTerm self column.now value result }
+    {
+        let column = TermName::copied(context.earlier.alloc(), column)?;
+        self.with_owned_term(column, value)
+    }
 }
 
 /// Where in the text a phrase begins.
@@ -85,6 +122,29 @@ pub enum LastWord {
     That,
     /// Of `semi-continuous`.
     Continuous,
+}
+
+impl LastWord {
+    /// The word in lower case.
+    pub(crate) fn text(self) -> &'static [u8]
+        ensures { result.now ≡ last_word_text self }
+    {
+        match self {
+            LastWord::To => b"to".as_slice(),
+            LastWord::That => b"that".as_slice(),
+            LastWord::Continuous => b"continuous".as_slice(),
+        }
+    }
+
+    /// Where it leads.
+    pub(crate) fn opens(self) -> Place
+        ensures { result ≡ opened_by self }
+    {
+        match self {
+            LastWord::To | LastWord::That => Place::BetweenRows,
+            LastWord::Continuous => Place::InSemis,
+        }
+    }
 }
 
 /// How far a phrase has come.

@@ -1,7 +1,6 @@
 //! The tokens of a text, taken one after another.
 
 ghost use Rattle.std.specs.Prelude.{◌≡◌, Some, None};
-ghost use Rattle.mpslp_lp_grammar.specs.Grammar.{last_word_text, opened_by};
 ghost use Rattle.mpslp_lp_grammar.specs.TerminalToken.{HasLegalName, terminal_of_token};
 ghost use Rattle.mpslp_lp_grammar.specs.Declares.{TakesToken};
 ghost use Rattle.mpslp_lp_grammar.specs.TokenStep.{refuse_constant, take_lone, take};
@@ -19,36 +18,12 @@ use crate::relations::Relation;
 use crate::rows::begin_row;
 use crate::sides::limit_of_terminal;
 use crate::states::{ItemOwner, LastWord, PartialRow, Place, SideOwner, State};
-use crate::term_names::TermName;
 use crate::terminals::{TerminalKind, TerminalToken};
 use mpslp_decimal::Decimal;
 use mpslp_lines::LineError;
 use mpslp_lp_tokens::is_word;
 use mpslp_model::laws::each_name_is_legal;
 use mpslp_model::{FaultKind, Name, Sense};
-
-impl LastWord {
-    /// The word in lower case.
-    fn text(self) -> &'static [u8]
-        ensures { result.now ≡ last_word_text self }
-    {
-        match self {
-            LastWord::To => b"to".as_slice(),
-            LastWord::That => b"that".as_slice(),
-            LastWord::Continuous => b"continuous".as_slice(),
-        }
-    }
-
-    /// Where it leads.
-    fn opens(self) -> Place
-        ensures { result ≡ opened_by self }
-    {
-        match self {
-            LastWord::To | LastWord::That => Place::BetweenRows,
-            LastWord::Continuous => Place::InSemis,
-        }
-    }
-}
 
 /// Takes a token after the word of the objective.
 fn take_at_objective(
@@ -215,8 +190,7 @@ fn take_after_row_name(
             let label = context.earlier.next_row()?;
             let empty = context.earlier.row_without_terms(label, None)?;
             each_name_is_legal(&name);
-            let column = TermName::copied(context.earlier.alloc(), name.as_bytes())?;
-            let row = empty.with_term(column, one())?;
+            let row = empty.with_term(context, name.as_bytes(), one())?;
             begin(context, Place::InRow(row), token)
         }
         _ => refuse(context, token, FaultKind::BadToken),
