@@ -1,5 +1,5 @@
 -- What a reader makes of one token.
-use Rattle.std.specs.Prelude.{ℕ, true, false, if◌then◌else◌, List, [], ◌∷◌, Some, None}
+use Rattle.std.specs.Prelude.{ℕ, Bool, true, false, if◌then◌else◌, List, [], ◌∷◌, Some, None}
 use Rattle.mpslp_decimal.specs.Decimal.{Number as Decimal}
 use Rattle.mpslp_types.specs.Limit.{limit_of}
 use Rattle.mpslp_builder.specs.Declaration.{declare_column, declare_constant, Declarations, Draft}
