@@ -9,7 +9,7 @@ ghost use Rattle.mpslp_lp_grammar.specs.AfterToken.{refuse};
 
 use crate::context::Context;
 use crate::states::{Place, State};
-use crate::terminals::TerminalToken;
+use crate::terminals::{TerminalKind, TerminalToken};
 use mpslp_lines::LineError;
 use mpslp_model::FaultKind;
 
@@ -23,7 +23,8 @@ pub(crate) fn at_place(answer: Result<(), LineError>, place: Place) -> Result<St
     }
 }
 
-/// A token that the grammar cannot take for this reason.
+/// A token that the grammar cannot take for this reason. A section's word that may not stand here has its own fault, which
+/// comes before.
 pub(crate) fn refuse(
     context: &Context,
     token: &TerminalToken<'_>,
@@ -31,5 +32,11 @@ pub(crate) fn refuse(
 ) -> Result<State, LineError>
     ensures { TakesToken (refuse context.now (terminal_of_token token.now) kind) result context.now }
 {
-    Err(context.refused(token, kind))
+    match token.kind {
+        TerminalKind::Opens(word) => match context.sections_seen.section_fault(word.section()) {
+            Some(own) => Err(LineError::Fault(own)),
+            None => Err(LineError::Fault(kind)),
+        },
+        _ => Err(LineError::Fault(kind)),
+    }
 }

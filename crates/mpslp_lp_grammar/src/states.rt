@@ -41,18 +41,6 @@ impl Model for PartialRow {
 }
 
 impl PartialRow {
-    /// The row with one more term, of a column that has none in it.
-    fn with_owned_term(self, column: TermName, value: Decimal) -> Result<PartialRow, LineError>
-        ensures { AddsTerm self column value result }
-    {
-        let mut row = self;
-        match row.parts.terms.insert(column, value) {
-            Ok(None) => Ok(row),
-            Ok(Some(_)) => Err(LineError::Fault(FaultKind::DuplicateEntry)),
-            Err(_) => Err(LineError::OutOfMemory),
-        }
-    }
-
     /// The row with one more term, of a column that has none in it. The name of the column is copied.
     ///
     /// # Errors
@@ -67,8 +55,13 @@ impl PartialRow {
         requires { IsMpsName column.now }
         ensures { AddsTerm self column.now value result }
     {
-        let column = TermName::copied(context.earlier.alloc(), column)?;
-        self.with_owned_term(column, value)
+        let name = TermName::copied(context.earlier.alloc(), column)?;
+        let mut row = self;
+        match row.parts.terms.insert(name, value) {
+            Ok(None) => Ok(row),
+            Ok(Some(_)) => Err(LineError::Fault(FaultKind::DuplicateEntry)),
+            Err(_) => Err(LineError::OutOfMemory),
+        }
     }
 }
 
